@@ -1,0 +1,20 @@
+-- Lemmas on bytes that are taken or given piece by piece.
+use Rattle.std.proofs.Common.{◌≡◌, ℕ, ◌-◌, List, ◌++◌, length, take, drop, Option, sym, ap, ◌∙◌, append_assoc, take-append-drop}
+use Rattle.std.proofs.lemmas.List.{take_rest}
+use Rattle.std.specs.Io.KnownBytes.{Appends}
+use Rattle.std.proofs.KnownBytes.{Appends-trans}
+
+-- known bytes grew by all of whole but rest
+abbrev pub Took : Option (List ℕ) → Option (List ℕ) → List ℕ → List ℕ → Type 0
+Took old now whole rest = (front : List ℕ) × (whole ≡ front ++ rest) × Appends old now front
+
+-- one more piece was taken from the rest
+pub Took-piece : (a b c : Option (List ℕ)) (whole rest : List ℕ) (n : ℕ) → Took a b whole rest → Appends b c (take n rest)
+    → Took a c whole (take (length rest - n) (drop n rest))
+Took-piece a b c whole rest n before piece =
+    let parts : rest ≡ take n rest ++ take (length rest - n) (drop n rest) =
+    sym (take-append-drop n rest) ∙ ap (λ l. take n rest ++ l) (sym (take_rest rest n)) in (
+      before.0 ++ take n rest,
+      before.1 ∙ ap (λ l. before.0 ++ l) parts ∙ sym (append_assoc before.0 (take n rest) _),
+      Appends-trans a b c before.0 (take n rest) before.2 piece,
+    )

@@ -1,0 +1,18 @@
+-- What was read so far and what is left make up the content.
+use Rattle.std.proofs.Common.{◌≡◌, ◌-◌, ◌≤◌, Some, vec_len}
+use Rattle.std.specs.Io.KnownBytes.{Consumes}
+use Rattle.scr_io.specs.Content.{IsPresentAnd, RisesOnlyIfAbsent}
+use Rattle.scr_io.proofs.reading.read_all.Given as goal
+
+abbrev pub invariant-reads : goal.invariant-reads
+invariant-reads g l =
+    let at_entry = g.F.Shelf.content l.fn.shelf l.name in
+    record {
+      read_so_far : IsPresentAnd at_entry (λ whole. Consumes (Some whole) (g.F.Shelf.left l.shelf) l.bytes.items);
+      faults : g.F.Shelf.faults l.fn.shelf ≤ g.F.Shelf.faults l.shelf;
+      strays : RisesOnlyIfAbsent at_entry (g.F.Shelf.strays l.fn.shelf) (g.F.Shelf.strays l.shelf);
+      content : g.F.Shelf.content l.shelf ≡ g.F.Shelf.content l.fn.shelf;
+    }
+
+abbrev pub decreases-reads : goal.decreases-reads
+decreases-reads g l = 67108865 - vec_len l.bytes
