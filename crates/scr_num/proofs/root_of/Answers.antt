@@ -1,0 +1,10 @@
+use Rattle.std.proofs.Common.{◌≤◌, arith, rules}
+use Rattle.std.proofs.lemmas.Int.{ints}
+use Rattle.scr_num.proofs.Roots.{floor_root-le-ceil_root}
+use Rattle.scr_num.proofs.root_of.Goals as goal
+
+pub invariant_of-result : goal.invariant_of-result
+invariant_of-result c =
+    let in_order : c.floor_root.result ≤ c.ceil_root.result =
+    rw (c.floor_root.ensures.value, c.ceil_root.ensures.value) (floor_root-le-ceil_root _ _ (search rules)) in
+    record { ordered = omega (arith, ints) }

@@ -1,0 +1,114 @@
+//! Spans of whole numbers, and the arithmetic that rounds them outward.
+#![tactic(auto)]
+
+ghost use Rattle.std.specs.Prelude.{◌≡◌, ◌*◌, ◌^◌, ◌<◌, ◌≤◌, ◌+◌, pos, ◌+ℤ◌, ◌*ℤ◌, ◌≤ℤ◌, unsigned_abs};
+ghost use Rattle.scr_num.specs.Rounding.{ends, exact_ends, add_ends, scale_ends, root_ends, floor_div, ceil_div, floor_root, ceil_root, or_zero};
+
+mod span;
+
+pub use span::Span;
+
+/// The span of one number, which both ends are.
+pub fn exact(v: i128) -> Span
+    ensures low { result.low ≡ v }
+    ensures high { result.high ≡ v }
+    ensures ends { ends result ≡ exact_ends v }
+{
+    Span { low: v, high: v }
+}
+
+/// The least span of all sums of a number of `a` and a number of `b`.
+pub fn add(a: Span, b: Span) -> Span
+    requires a_low { unsigned_abs a.low ≤ 2 ^ 125 }
+    requires a_high { unsigned_abs a.high ≤ 2 ^ 125 }
+    requires b_low { unsigned_abs b.low ≤ 2 ^ 125 }
+    requires b_high { unsigned_abs b.high ≤ 2 ^ 125 }
+    ensures low { result.low ≡ a.low +ℤ b.low }
+    ensures high { result.high ≡ a.high +ℤ b.high }
+    ensures ends { ends result ≡ add_ends (ends a) (ends b) }
+{
+    Span {
+        low: a.low + b.low,
+        high: a.high + b.high,
+    }
+}
+
+/// All products of a number of `a` with `num / den`: the floor at the low end, the ceiling at the high one.
+pub fn scale(a: Span, num: u128, den: u128) -> Span
+    requires positive { 0 < den }
+    requires low_fits { unsigned_abs a.low * num < 2 ^ 127 }
+    requires high_fits { unsigned_abs a.high * num < 2 ^ 127 }
+    ensures low { result.low ≡ floor_div (a.low *ℤ pos num) den }
+    ensures high { result.high ≡ ceil_div (a.high *ℤ pos num) den }
+    ensures ends { ends result ≡ scale_ends (ends a) num den }
+    ensures low_size { unsigned_abs result.low * den < unsigned_abs a.low * num + den }
+    ensures high_size { unsigned_abs result.high * den < unsigned_abs a.high * num + den }
+{
+    Span {
+        low: scaled_down(a.low, num, den),
+        high: scaled_up(a.high, num, den),
+    }
+}
+
+/// The floor of `v * num / den`.
+fn scaled_down(v: i128, num: u128, den: u128) -> i128
+    requires positive { 0 < den }
+    requires fits { unsigned_abs v * num < 2 ^ 127 }
+    ensures value { result ≡ floor_div (v *ℤ pos num) den }
+    ensures size { unsigned_abs result * den < unsigned_abs v * num + den }
+{
+    let product = v.unsigned_abs() * num;
+    if v < 0 {
+        -(product.div_ceil(den) as i128)
+    } else {
+        (product / den) as i128
+    }
+}
+
+/// The ceiling of `v * num / den`.
+fn scaled_up(v: i128, num: u128, den: u128) -> i128
+    requires positive { 0 < den }
+    requires fits { unsigned_abs v * num < 2 ^ 127 }
+    ensures value { result ≡ ceil_div (v *ℤ pos num) den }
+    ensures size { unsigned_abs result * den < unsigned_abs v * num + den }
+{
+    let product = v.unsigned_abs() * num;
+    if v < 0 {
+        -((product / den) as i128)
+    } else {
+        product.div_ceil(den) as i128
+    }
+}
+
+/// The greatest whole number whose square is at most `v`.
+pub fn floor_root(v: u128) -> u128
+    ensures value { result ≡ floor_root v }
+    ensures bound { result < 2 ^ 64 }
+{
+    v.isqrt()
+}
+
+/// The least whole number whose square is at least `v`.
+fn ceil_root(v: u128) -> u128
+    ensures value { result ≡ ceil_root v }
+    ensures bound { result ≤ 2 ^ 64 }
+{
+    let root = v.isqrt();
+    if root * root == v { root } else { root + 1 }
+}
+
+/// The square roots of the numbers of `a`: the greatest whole number whose square is at most the low end,
+/// and the least whose square is at least the high one.
+pub fn root_of(a: Span) -> Span
+    requires { pos 0 ≤ℤ a.low }
+    ensures low { result.low ≡ pos (floor_root (or_zero a.low)) }
+    ensures high { result.high ≡ pos (ceil_root (or_zero a.high)) }
+    ensures ends { ends result ≡ root_ends (ends a) }
+    ensures low_size { unsigned_abs result.low < 2 ^ 64 }
+    ensures high_size { unsigned_abs result.high ≤ 2 ^ 64 }
+{
+    Span {
+        low: floor_root(a.low as u128) as i128,
+        high: ceil_root(a.high as u128) as i128,
+    }
+}
