@@ -1,2 +1,5 @@
 pub mod Roots
 pub mod Quotients
+pub mod Fractions
+pub mod Forms
+pub mod Witnesses

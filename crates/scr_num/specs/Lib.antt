@@ -1,1 +1,4 @@
+pub mod Fraction
+pub mod Table
+pub mod Figure
 pub mod Rounding

@@ -1,7 +1,8 @@
 -- Outward rounding, this project's own: each operator answers the narrowest pair of whole ends that
 -- encloses what the ends handed in enclose. The arithmetic of the code and the model share these
 -- definitions, which speak of one operator at a time.
-use Rattle.std.specs.Prelude.{ℕ, zero, suc, ◌*◌, ◌/◌, ℤ, pos, negsuc, ◌+ℤ◌, ◌*ℤ◌, neg_ℤ, nat_le, if◌then◌else◌}
+use Rattle.std.specs.Prelude.{List, ℕ, zero, suc, ◌*◌, ◌/◌, ℤ, pos, negsuc, ◌+ℤ◌, ◌*ℤ◌, neg_ℤ, nat_le, if◌then◌else◌}
+use Rattle.scr_num.specs.Table.{Table, sum_over}
 use Rattle.scr_num.specs.declared.span.Span.{Span}
 
 -- the two ends of a span, as whole numbers of its unit
@@ -62,3 +63,27 @@ ceil_root n = ceil_root_from n n
 -- the square roots of all numbers of at least 0
 abbrev pub root_ends : Ends → Ends
 root_ends a = record { low = pos (floor_root (or_zero a.low)); high = pos (ceil_root (or_zero a.high)) }
+
+-- The least and the greatest value, within ends that are not negative, of the sum over all cells of a table of the
+-- cell times the part of its row times the part of its column: a product is least with both lows, and
+-- with both highs where its cell is negative.
+abbrev pub low_term : ℤ → Ends → Ends → ℤ
+low_term (pos c) x y = pos c *ℤ (x.low *ℤ y.low)
+low_term (negsuc c) x y = negsuc c *ℤ (x.high *ℤ y.high)
+
+abbrev pub high_term : ℤ → Ends → Ends → ℤ
+high_term (pos c) x y = pos c *ℤ (x.high *ℤ y.high)
+high_term (negsuc c) x y = negsuc c *ℤ (x.low *ℤ y.low)
+
+unfoldable pub low_form : Table → List Ends → ℤ
+low_form table parts = sum_over (pos 0) ◌+ℤ◌ low_term table.rows parts parts
+
+unfoldable pub high_form : Table → List Ends → ℤ
+high_form table parts = sum_over (pos 0) ◌+ℤ◌ high_term table.rows parts parts
+
+-- the root of that sum over the table's denominator; a sum below 0 counts as 0
+unfoldable pub quad_ends : List Ends → Table → Ends
+quad_ends parts table = root_ends (record {
+  low = floor_div (low_form table parts) table.den;
+  high = ceil_div (high_form table parts) table.den;
+})

@@ -1,0 +1,47 @@
+-- Fractions of any size, this project's own: the exact figures are made of them, and nothing of them is
+-- rounded. A fraction is a pair of whole numbers with a positive denominator; it need not be in lowest terms.
+use Rattle.std.specs.Prelude.{ℕ, ◌*◌, ◌<◌, ℤ, pos, ◌+ℤ◌, ◌-ℤ◌, ◌*ℤ◌, ◌≤ℤ◌}
+use Rattle.std.proofs.Common.{mul-pos, lit<}
+
+pub record Fraction : Type 0 where
+  pub num : ℤ
+  pub den : ℕ
+  pub positive : 0 < den
+
+-- a fraction of at least 0
+pub record Share : Type 0 where
+  pub num : ℕ
+  pub den : ℕ
+  pub positive : 0 < den
+
+infix 50 ◌≼◌
+
+-- p is at most q, by cross products
+pub record ◌≼◌ (p q : Fraction) : Type 0 where
+  pub cross : (p.num *ℤ pos q.den) ≤ℤ (q.num *ℤ pos p.den)
+
+-- z / den
+abbrev pub over : ℤ → (den : ℕ) → 0 < den → Fraction
+over z den positive = record { num = z; den = den; positive = positive }
+
+abbrev pub whole : ℤ → Fraction
+whole z = over z 1 (lit< tt)
+
+abbrev pub zero_fraction : Fraction
+zero_fraction = whole (pos 0)
+
+abbrev pub plus : Fraction → Fraction → Fraction
+plus p q = over (p.num *ℤ pos q.den +ℤ q.num *ℤ pos p.den) (p.den * q.den) (mul-pos p.positive q.positive)
+
+abbrev pub minus : Fraction → Fraction → Fraction
+minus p q = over (p.num *ℤ pos q.den -ℤ q.num *ℤ pos p.den) (p.den * q.den) (mul-pos p.positive q.positive)
+
+abbrev pub product : Fraction → Fraction → Fraction
+product p q = over (p.num *ℤ q.num) (p.den * q.den) (mul-pos p.positive q.positive)
+
+abbrev pub square : Fraction → Fraction
+square p = product p p
+
+-- that share of p
+abbrev pub times : Fraction → Share → Fraction
+times p share = over (p.num *ℤ pos share.num) (p.den * share.den) (mul-pos p.positive share.positive)

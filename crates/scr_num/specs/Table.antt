@@ -1,0 +1,22 @@
+-- Tables of correlations, and the sums of products over all their cells.
+use Rattle.std.specs.Prelude.{ℕ, ℤ, List, [], ◌∷◌}
+
+-- whole cells over one denominator, row by row
+pub record Table : Type 0 where
+  pub den : ℕ
+  pub rows : List (List ℤ)
+
+-- A sum with a term for each cell, made of the cell, the part of its row and the part of its column.
+-- `zero` and `add` say in which numbers.
+module _ {A B : Type 0} (zero : B) (add : B → B → B) (term : ℤ → A → A → B) where
+  -- along one row
+  unfoldable pub row_sum : A → List ℤ → List A → B
+  row_sum x [] ys = zero
+  row_sum x (cell ∷ cells) [] = zero
+  row_sum x (cell ∷ cells) (y ∷ ys) = add (term cell x y) (row_sum x cells ys)
+
+  -- over the rows of the parts `xs`, with a column for each of `all`
+  unfoldable pub sum_over : List (List ℤ) → List A → List A → B
+  sum_over [] xs all = zero
+  sum_over (row ∷ rows) [] all = zero
+  sum_over (row ∷ rows) (x ∷ xs) all = add (row_sum x row all) (sum_over rows xs all)
