@@ -1,0 +1,4 @@
+pub mod Names
+pub mod Positions
+pub mod Entries
+pub mod Sheets
