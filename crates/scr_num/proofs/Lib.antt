@@ -3,3 +3,5 @@ pub mod Quotients
 pub mod Fractions
 pub mod Forms
 pub mod Witnesses
+pub mod Enclosing
+pub mod Quadratic

@@ -1,5 +1,5 @@
 -- The two roots of a natural number: what each is, and that nothing else is.
-use Rattle.std.proofs.Common.{◌≡◌, ℕ, zero, suc, ◌+◌, ◌*◌, ◌<◌, ◌≤◌, nat_le, inl, inr, arith, leb-true, leb-false, mul-le-mul, le_refl}
+use Rattle.std.proofs.Common.{refl, ◌≡◌, ℕ, zero, suc, ◌+◌, ◌*◌, ◌<◌, ◌≤◌, nat_le, inl, inr, arith, leb-true, leb-false, mul-le-mul, le_refl}
 use Rattle.std.proofs.lemmas.Bool.{cond_both, cases_lt}
 use Rattle.scr_num.specs.Rounding.{floor_root_from, floor_root, ceil_root_from, ceil_root}
 
@@ -20,6 +20,13 @@ next_square_from n (suc k) h =
 pub floor_root-square : (n : ℕ) → floor_root n * floor_root n ≤ n
 unfolding floor_root
 floor_root-square n = square_from n n
+
+pub floor_root-zero : floor_root 0 ≡ 0
+floor_root-zero = none (floor_root 0) (floor_root-square 0)
+  where
+    none : (r : ℕ) → r * r ≤ 0 → r ≡ 0
+    none zero h = refl
+    none (suc r) h = absurd (omega arith)
 
 pub floor_root-next : (n : ℕ) → n < suc (floor_root n) * suc (floor_root n)
 unfolding floor_root

@@ -1,8 +1,8 @@
 -- Exact figures, and the two relations between a fraction and a figure, this project's own. A figure is
 -- written as the formula of the Regulation has it, with roots that no fraction need equal. What can be
 -- said of it in fractions is what lies at most at it and what lies at least at it.
-use Rattle.std.specs.Prelude.{ℕ, ◌<◌, ◌⊎◌, ℤ, pos, negsuc, List, [], ◌∷◌}
-use Rattle.scr_num.specs.Fraction.{Fraction, Share, ◌≼◌, over, whole, zero_fraction, plus, minus, product, square, times}
+use Rattle.std.specs.Prelude.{◌<◌, ◌⊎◌, ℤ, pos, negsuc, List, [], ◌∷◌}
+use Rattle.scr_num.specs.Fraction.{Fraction, Share, ◌≼◌, whole, zero_fraction, plus, minus, product, square, times}
 use Rattle.scr_num.specs.Table.{Table, sum_over}
 
 mutual
@@ -85,9 +85,3 @@ unfoldable mutual
   AreBounds (b ∷ bs) (more f fs) = (zero_fraction ≼ b.low) × AtMost b.low f × AtLeast b.high f × AreBounds bs fs
   AreBounds [] (more f fs) = ⊥
   AreBounds (b ∷ bs) none = ⊥
-
--- low and high, in a unit of which `unit` make one, enclose the figure
-pub record Encloses (unit : ℕ) (low high : ℤ) (figure : Figure) : Type 0 where
-  pub positive : 0 < unit
-  pub at_most : AtMost (over low unit positive) figure
-  pub at_least : AtLeast (over high unit positive) figure

@@ -15,7 +15,6 @@ pub record Share : Type 0 where
   pub positive : 0 < den
 
 infix 50 ◌≼◌
-
 -- p is at most q, by cross products
 pub record ◌≼◌ (p q : Fraction) : Type 0 where
   pub cross : (p.num *ℤ pos q.den) ≤ℤ (q.num *ℤ pos p.den)

@@ -1,9 +1,13 @@
 //! Spans of whole numbers, and the arithmetic that rounds them outward.
 #![tactic(auto)]
 
-ghost use Rattle.std.specs.Prelude.{◌≡◌, ◌*◌, ◌^◌, ◌<◌, ◌≤◌, ◌+◌, pos, ◌+ℤ◌, ◌*ℤ◌, ◌≤ℤ◌, unsigned_abs};
+ghost use Rattle.std.specs.Prelude.{◌≡◌, ℕ, ◌*◌, ◌^◌, ◌<◌, ◌≤◌, ◌+◌, pos, ◌+ℤ◌, ◌*ℤ◌, ◌≤ℤ◌, unsigned_abs};
+ghost use Rattle.scr_num.specs.Fraction.{Fraction, Share};
+ghost use Rattle.scr_num.specs.Figure.{Figure, Frac, Sum, Times, RootOf};
+ghost use Rattle.scr_num.specs.Enclosure.{Encloses, Measures, Converts};
 ghost use Rattle.scr_num.specs.Rounding.{ends, exact_ends, add_ends, scale_ends, root_ends, floor_div, ceil_div, floor_root, ceil_root, or_zero};
 
+pub mod laws;
 mod span;
 
 pub use span::Span;
@@ -13,6 +17,7 @@ pub fn exact(v: i128) -> Span
     ensures low { result.low ≡ v }
     ensures high { result.high ≡ v }
     ensures ends { ends result ≡ exact_ends v }
+    ensures encloses { (unit : ℕ) (p : Fraction) → Measures unit v p → Encloses unit result.low result.high (Frac p) }
 {
     Span { low: v, high: v }
 }
@@ -26,6 +31,8 @@ pub fn add(a: Span, b: Span) -> Span
     ensures low { result.low ≡ a.low +ℤ b.low }
     ensures high { result.high ≡ a.high +ℤ b.high }
     ensures ends { ends result ≡ add_ends (ends a) (ends b) }
+    ensures encloses { (unit : ℕ) (f g : Figure) → Encloses unit a.low a.high f → Encloses unit b.low b.high g
+        → Encloses unit result.low result.high (Sum f g) }
 {
     Span {
         low: a.low + b.low,
@@ -41,6 +48,8 @@ pub fn scale(a: Span, num: u128, den: u128) -> Span
     ensures low { result.low ≡ floor_div (a.low *ℤ pos num) den }
     ensures high { result.high ≡ ceil_div (a.high *ℤ pos num) den }
     ensures ends { ends result ≡ scale_ends (ends a) num den }
+    ensures encloses { (old new : ℕ) (f : Figure) (share : Share) → Converts old new num den share → Encloses old a.low a.high f
+        → Encloses new result.low result.high (Times f share) }
     ensures low_size { unsigned_abs result.low * den < unsigned_abs a.low * num + den }
     ensures high_size { unsigned_abs result.high * den < unsigned_abs a.high * num + den }
 {
@@ -104,6 +113,8 @@ pub fn root_of(a: Span) -> Span
     ensures low { result.low ≡ pos (floor_root (or_zero a.low)) }
     ensures high { result.high ≡ pos (ceil_root (or_zero a.high)) }
     ensures ends { ends result ≡ root_ends (ends a) }
+    ensures encloses { (unit : ℕ) (f : Figure) → Encloses (unit * unit) a.low a.high f
+        → Encloses unit result.low result.high (RootOf f) }
     ensures low_size { unsigned_abs result.low < 2 ^ 64 }
     ensures high_size { unsigned_abs result.high ≤ 2 ^ 64 }
 {

@@ -2,6 +2,7 @@ use Rattle.std.proofs.Common.{pos, ◌*ℤ◌, ◌≤ℤ◌, FitsSigned, to_z-of
 use Rattle.std.specs.Int.{w128}
 use Rattle.scr_num.specs.Rounding.{floor_div, ceil_div}
 use Rattle.scr_num.proofs.Quotients.{floor_div-le-ceil_div, times_le}
+use Rattle.scr_num.proofs.Enclosing.{Encloses-same, Encloses-scale}
 use Rattle.scr_num.proofs.scale.Goals as goal
 
 pub invariant_of-result : goal.invariant_of-result
@@ -16,3 +17,8 @@ invariant_of-result c =
     let down = simp to_z-of_z at c.scaled_down.ensures.value in
     let up = simp to_z-of_z at c.scaled_up.ensures.value in
     record { ordered = simp to_z-of_z (rw (down, up) in_order) }
+
+pub returns-clause-encloses : goal.returns-clause-encloses
+returns-clause-encloses c =
+    λ old new f share converts in_a. Encloses-same new _ _ _ _ _ (search rules) (search rules)
+    (Encloses-scale old new c.args.num c.args.den c.args.a.low c.args.a.high f share c.requires.positive converts in_a)
