@@ -5,3 +5,4 @@ pub mod Forms
 pub mod Witnesses
 pub mod Enclosing
 pub mod Quadratic
+mod Examples

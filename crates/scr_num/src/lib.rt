@@ -123,3 +123,6 @@ pub fn root_of(a: Span) -> Span
         high: ceil_root(a.high as u128) as i128,
     }
 }
+
+#[cfg(test)]
+mod tests;
