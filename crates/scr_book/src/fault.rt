@@ -4,7 +4,7 @@ use crate::Name;
 
 /// Why a record is refused. Where several faults stand together, the first in the order of the variants is told,
 /// and a refused record changes nothing.
-#[derive(Clone, Copy, Debug)]
+#[derive(Clone, Copy, Debug, PartialEq, Eq)]
 pub enum Fault {
     /// The field of this number is not of its form; 0 stands for the verb or for a byte that no record has.
     Syntax(u32),
@@ -17,7 +17,7 @@ pub enum Fault {
 }
 
 /// What a limit is set on, in the order in which the limits are tested.
-#[derive(Clone, Copy, Debug)]
+#[derive(Clone, Copy, Debug, PartialEq, Eq)]
 pub enum Quantity {
     /// The cents of a `hold` record: at least 0.
     Hold,

@@ -5,9 +5,12 @@ mod book;
 mod checks;
 mod edit;
 mod fault;
+pub mod laws;
 mod limits;
 mod name;
 mod rows;
+#[cfg(test)]
+mod tests;
 
 pub use book::Book;
 pub use checks::check;

@@ -1,5 +1,5 @@
 //! Names of securities.
-ghost use Rattle.std.specs.Prelude.{◌≡◌, ℕ, ◌≤◌, List, length, Some, None, if◌then◌else◌, nat_eq, refl};
+ghost use Rattle.std.specs.Prelude.{◌≡◌, ℕ, ◌≤◌, List, length, Some, None, IfSome, IsTrue, if◌then◌else◌, nat_eq, refl};
 ghost use Rattle.std.specs.Ordering.{nat_cmp};
 ghost use Rattle.std.specs.Cmp.{on_equiv, on_total, on_po, on_per, partial_equiv_from_equiv};
 ghost use Rattle.std.specs.Cmp.Lexicographic.{slice_cmp, nat_list_eq_equiv, nat_list_cmp_total, texts_po, texts_ties};
@@ -40,7 +40,8 @@ impl Name {
     /// The name that the text spells: 1 to 32 letters, digits, `_`, `.` and `-`, of which the first is a letter
     /// or a digit. None exactly where the text has another form.
     pub fn parse(text: &[u8]) -> Option<Name>
-        ensures { result ≡ (if is_name text.now then Some text.now else None) }
+        ensures cases { result ≡ (if is_name text.now then Some text.now else None) }
+        ensures formed { IfSome result (λ name. IsTrue (is_name name)) }
     {
         if is_name(text) {
             Some(Name::of_bytes(text))

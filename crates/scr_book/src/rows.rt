@@ -12,14 +12,14 @@ pub enum Class {
 }
 
 /// A security: a row that the verb `sec` makes or replaces.
-#[derive(Clone, Copy, Debug)]
+#[derive(Clone, Copy, Debug, PartialEq, Eq)]
 pub struct Security {
     pub name: Name,
     pub class: Class,
 }
 
 /// A security with the cents held directly of it, 0 where nothing is held.
-#[derive(Clone, Copy, Debug)]
+#[derive(Clone, Copy, Debug, PartialEq, Eq)]
 pub struct Position {
     pub security: Security,
     pub held: u64,

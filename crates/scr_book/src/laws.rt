@@ -1,0 +1,19 @@
+//! What the definitions of the book come to, whatever a program does.
+ghost use Rattle.std.specs.Prelude.{◌≡◌, None, sum_by};
+ghost use Rattle.scr_book.specs.BalanceSheet.{BalanceSheet, opening, applied, held_of, held_total};
+ghost use Rattle.scr_book.specs.Faults.{fault_of};
+ghost use Rattle.scr_book.specs.Forms.{Formed};
+ghost use Rattle.scr_book.specs.Validity.{Valid};
+ghost use Rattle.scr_book.specs.declared.edit.Edit.{Edit};
+
+/// The opening balance sheet is valid, and a record that has its form and no fault leads from a valid balance
+/// sheet to a valid one.
+pub fn validity()
+    ensures opening { Valid opening }
+    ensures applied { (edit : Edit) (sheet : BalanceSheet) → Formed edit → Valid sheet → fault_of edit sheet ≡ None → Valid (applied edit sheet) }
+{}
+
+/// What is held under the securities' names, each once, sums to all that is held directly.
+pub fn holds()
+    ensures { (sheet : BalanceSheet) → Valid sheet → sum_by (λ p. held_of sheet p.security.name) sheet.securities ≡ held_total sheet }
+{}
