@@ -1,3 +1,5 @@
 pub mod Cause
 pub mod Content
 pub mod Front
+pub mod MemShelf
+pub mod Memory

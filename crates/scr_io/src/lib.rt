@@ -5,10 +5,12 @@
 #![tactic(auto)]
 
 mod gate;
+mod memory;
 mod reading;
 mod writing;
 
 pub use gate::{Gate, OpenGate};
+pub use memory::MemShelf;
 pub use reading::{MAX_BYTES, ReadFault, Shelf, read_all};
 pub use writing::{Sink, write_all};
 
