@@ -1,6 +1,8 @@
 -- Lemmas on looking up a file by its name.
-use Rattle.std.proofs.Common.{◌≡◌, ℕ, ◌<◌, ◌≤◌, Bool, true, false, cond, List, [], ◌∷◌, length, map, Option, None, Some, MatchOption, slice_get, nat_eq, nat_lt, String, string_bytes, refl, ap, subst, ◌∙◌, arith, inl, inr}
+use Rattle.std.proofs.Common.{◌≡◌, ℕ, ◌+◌, ◌<◌, ◌≤◌, drop, Bool, true, false, cond, List, [], ◌∷◌, length, map, Option, None, Some, MatchOption, slice_get, nat_eq, nat_lt, String, string_bytes, refl, sym, ap, subst, ◌∙◌, arith, inl, inr}
 use Rattle.std.proofs.lemmas.List.Folds.{find_at}
+use Rattle.std.proofs.lemmas.List.{drop-drop}
+use Rattle.std.proofs.Math.Seq.{drop-nil}
 use Rattle.std.proofs.lemmas.Option.{slice_get_cases, gets}
 use Rattle.std.proofs.lemmas.Grind.{common_steps}
 use Rattle.std.proofs.lemmas.Bool.Decides.{nat_tests}
@@ -9,7 +11,7 @@ use Rattle.std.specs.Option.{option_map}
 use Rattle.std.specs.Cmp.Lexicographic.{pointwise}
 use Rattle.std.specs.Global.{Global, Vec}
 use Rattle.scr_io.specs.Memory.{ShelfState, file_of, bytes_under}
-use Rattle.scr_io.specs.MemShelf.{bytes_at, state_of}
+use Rattle.scr_io.specs.MemShelf.{bytes_at, left_of, state_of}
 use Rattle.scr_io.specs.declared.memory.MemShelf.TheInside.{Inside}
 
 -- the first that passes after a map is the image of the first whose image passes
@@ -67,3 +69,8 @@ pub bytes_under_some : (s : Inside) (state : ShelfState) (files : List (String G
 bytes_under_some s state files name place view same e =
     subst (λ (t : ShelfState). bytes_under t.files name ≡ Some (bytes_at s.files.items place)) view
     (subst (λ l. bytes_under (map file_of l) name ≡ Some (bytes_at l place)) same (bytes_under_position files name (Some place) e).1)
+
+-- n more bytes were read
+pub left_of-more : (files : List (String Global × Vec ℕ)) (place : Option ℕ) (offset n : ℕ) → left_of files place (offset + n) ≡ drop n (left_of files place offset)
+left_of-more files None offset n = sym (drop-nil n)
+left_of-more files (Some k) offset n = sym (drop-drop n offset (bytes_at files k))

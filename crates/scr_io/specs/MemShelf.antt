@@ -20,12 +20,12 @@ state_of s = record {
   fails = s.fails.items;
   piece = s.piece;
   calls = s.calls;
-  left = left_of s.files.items s.open s.offset;
+  left = left_of s.files.items s.place s.offset;
   faults = s.faults;
   strays = s.strays }
 
 -- the open file is one of the files, no more of it was read than it has, and a read can give a byte
 pub record IsPlaced (s : Inside) : Type 0 where
-  pub place : ForSome s.open (λ k. k < length s.files.items)
-  pub offset : ForSome s.open (λ k. s.offset ≤ length (bytes_at s.files.items k))
+  pub place : ForSome s.place (λ k. k < length s.files.items)
+  pub offset : ForSome s.place (λ k. s.offset ≤ length (bytes_at s.files.items k))
   pub piece : 1 ≤ s.piece
