@@ -1,5 +1,5 @@
 -- How the fields of a `MemShelf` stand for what it holds.
-use Rattle.std.specs.Prelude.{ℕ, ◌<◌, ◌≤◌, List, [], length, drop, Option, None, Some, String, string_bytes, slice_get, map}
+use Rattle.std.specs.Prelude.{ℕ, ◌<◌, ◌≤◌, List, [], length, drop, Option, None, Some, String, slice_get, map}
 use Rattle.std.specs.Option.{option_map_or, ForSome}
 use Rattle.std.specs.Global.{Global, Vec}
 use Rattle.scr_io.specs.Memory.{ShelfState, file_of}

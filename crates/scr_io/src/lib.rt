@@ -5,11 +5,13 @@
 #![tactic(auto)]
 
 mod gate;
+mod host;
 mod memory;
 mod reading;
 mod writing;
 
 pub use gate::{Gate, OpenGate};
+pub use host::{HostShelf, HostSink};
 pub use memory::{MemShelf, MemSink, RESERVE};
 pub use reading::{MAX_BYTES, ReadFault, Shelf, read_all};
 pub use std::alloc::AllocError as NoMemory;

@@ -85,6 +85,7 @@ impl From<AllocError> for ReadFault {
 pub fn read_all<F: Shelf>(alloc: Global, shelf: &mut F, name: &str) -> Result<Vec<u8>, ReadFault>
     ensures bytes { IfOk result (λ all. IsPresentAnd (F.content shelf.old name.now) (λ bytes. all.items ≡ bytes)) }
     ensures short { IfOk result (λ all. vec_len all ≤ MAX_BYTES) }
+    ensures end { OnOk result (IsAtEnd (F.left shelf.new)) }
     ensures too_long { IsErrOf result ReadFault.TooLong → IsPresentAnd (F.content shelf.old name.now) (λ bytes. MAX_BYTES < length bytes) }
     ensures failed { IsErrOf result ReadFault.Failed → Rose (F.faults shelf.old) (F.faults shelf.new) }
 
