@@ -23,6 +23,7 @@ Took-piece a b c whole rest n before piece =
 -- a read that gave the first n bytes of what was left, and none only at the end
 pub Consumes-front : (left next buf : List ℕ) (n : ℕ) → take n buf ≡ take n left → next ≡ drop n left → (n ≡ 0 → 0 < length buf → left ≡ [])
     → (left ≡ take n buf ++ next) × (n ≡ 0 → 0 < length buf → next ≡ [])
-Consumes-front left next buf n given rest end =
-    (sym (ap (λ l. take n buf ++ l) rest ∙ ap (λ l. l ++ drop n left) given ∙ take-append-drop n left),
-    λ none room. rest ∙ ap (drop n) (end none room) ∙ drop_of_length-le {A = ℕ} [] (omega arith))
+Consumes-front left next buf n given rest end = (
+  sym (ap (λ l. take n buf ++ l) rest ∙ ap (λ l. l ++ drop n left) given ∙ take-append-drop n left),
+  λ none room. rest ∙ ap (drop n) (end none room) ∙ drop_of_length-le {A = ℕ} [] (omega arith),
+)

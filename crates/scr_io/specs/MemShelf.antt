@@ -22,7 +22,8 @@ state_of s = record {
   calls = s.calls;
   left = left_of s.files.items s.place s.offset;
   faults = s.faults;
-  strays = s.strays }
+  strays = s.strays;
+}
 
 -- the open file is one of the files, no more of it was read than it has, and a read can give a byte
 pub record IsPlaced (s : Inside) : Type 0 where

@@ -8,6 +8,8 @@ mod gate;
 mod host;
 mod memory;
 mod reading;
+#[cfg(test)]
+mod tests;
 mod writing;
 
 pub use gate::{Gate, OpenGate};

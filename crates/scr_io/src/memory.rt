@@ -6,7 +6,7 @@ ghost use Rattle.std.specs.List.{position};
 ghost use Rattle.std.specs.Cmp.Lexicographic.{pointwise};
 ghost use Rattle.std.specs.Option.{ForSome};
 ghost use Rattle.scr_io.specs.MemShelf.{bytes_at, left_of};
-ghost use Rattle.scr_io.specs.Memory.{file_of, is_to_fail, given, opens, opened, read_on, taken, takes, written_on};
+ghost use Rattle.scr_io.specs.Memory.{file_of, is_to_fail, read_count, can_open, after_open, after_read, write_count, can_write, after_write};
 
 use crate::{Failed, NoMemory, Shelf, Sink};
 use std::alloc::Global;
@@ -43,7 +43,15 @@ impl MemShelf {
     /// at most `piece` bytes.
     pub fn new(files: Vec<(String, Vec<u8>)>, fails: Vec<u64>, piece: usize) -> MemShelf
         requires { 1 ≤ piece }
-        ensures { result ≡ record { files = map file_of files.items; fails = fails.items; piece = piece; calls = 0; left = []; faults = 0; strays = 0 } }
+        ensures { result ≡ record {
+          files = map file_of files.items;
+          fails = fails.items;
+          piece = piece;
+          calls = 0;
+          left = [];
+          faults = 0;
+          strays = 0;
+        } }
     {
         MemShelf {
             files,
@@ -85,8 +93,8 @@ impl Shelf for MemShelf {
     ghost strays = { λ s. s.strays };
 
     fn open(&mut self, name: &str) -> Result<(), Failed>
-        ensures outcome { is_ok result ≡ opens self.old name.now }
-        ensures state { self.new ≡ opened self.old name.now }
+        ensures outcome { is_ok result ≡ can_open self.old name.now }
+        ensures state { self.new ≡ after_open self.old name.now }
         ensures faults_stay { self.old.faults ≤ self.new.faults }
         ensures strays_stay { self.old.strays ≤ self.new.strays }
     {
@@ -108,9 +116,11 @@ impl Shelf for MemShelf {
 
     fn read(&mut self, buf: &mut [u8]) -> Result<usize, Failed>
         ensures outcome { is_ok result ≡ not (is_to_fail self.old.fails self.old.calls) }
-        ensures count { IfOk result (λ count. count ≡ given self.old (length buf.old)) }
-        ensures state { self.new ≡ read_on self.old (length buf.old) }
-        ensures buffer { MatchResult result (λ count. buf.new ≡ take count self.old.left ++ drop count buf.old) (λ _. buf.new ≡ buf.old) }
+        ensures count { IfOk result (λ count. count ≡ read_count self.old (length buf.old)) }
+        ensures state { self.new ≡ after_read self.old (length buf.old) }
+        ensures buffer { MatchResult result
+            (λ count. buf.new ≡ take count self.old.left ++ drop count buf.old)
+            (λ _. buf.new ≡ buf.old) }
 
         ensures bound { ReadsAtMost result buf.new }
         ensures bytes { ReadConsumes (Some self.old.left) (Some self.new.left) result buf.new }
@@ -157,7 +167,13 @@ impl MemSink {
     /// Holds nothing. The calls whose numbers are listed, counted from 1, fail, and a write takes at
     /// most `piece` bytes.
     pub fn new(alloc: Global, fails: Vec<u64>, piece: usize) -> Result<MemSink, NoMemory>
-        ensures { IfOk result (λ sink. sink ≡ record { written = []; fails = fails.items; piece = piece; calls = 0; faults = 0 }) }
+        ensures { IfOk result (λ sink. sink ≡ record {
+          written = [];
+          fails = fails.items;
+          piece = piece;
+          calls = 0;
+          faults = 0;
+        }) }
     {
         let bytes = Vec::with_capacity(alloc, RESERVE)?;
         Ok(MemSink {
@@ -192,9 +208,9 @@ impl Sink for MemSink {
     ghost faults = { λ s. s.faults };
 
     fn write(&mut self, bytes: &[u8]) -> Result<usize, Failed>
-        ensures outcome { is_ok result ≡ takes self.old bytes.now }
-        ensures count { IfOk result (λ count. count ≡ taken self.old bytes.now) }
-        ensures state { self.new ≡ written_on self.old bytes.now }
+        ensures outcome { is_ok result ≡ can_write self.old bytes.now }
+        ensures count { IfOk result (λ count. count ≡ write_count self.old bytes.now) }
+        ensures state { self.new ≡ after_write self.old bytes.now }
         ensures faults_stay { self.old.faults ≤ self.new.faults }
     {
         self.calls = self.calls.saturating_add(1);
@@ -212,7 +228,8 @@ impl Sink for MemSink {
 
 /// The place of the first file of that name.
 fn place_of(files: &[(String, Vec<u8>)], name: &str) -> Option<usize>
-    ensures { result ≡ position (λ file. pointwise nat_eq (string_bytes file.0) name.now) files.now }
+    ensures { result ≡
+        position (λ file. pointwise nat_eq (string_bytes file.0) name.now) files.now }
 {
     files.iter().position(|file| file.0.as_str() == name)
 }

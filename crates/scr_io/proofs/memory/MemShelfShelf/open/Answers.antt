@@ -6,7 +6,7 @@ use Rattle.scr_io.proofs.Files.{bytes_under_none, bytes_under_some}
 use Rattle.scr_io.proofs.memory.MemShelfShelf.open.Goals as goal
 
 pub returns-in_default-clause-outcome : goal.returns-in_default-clause-outcome
-returns-in_default-clause-outcome c = 
+returns-in_default-clause-outcome c =
     let absent : bytes_under c.args.self.now.files c.args.name.now ≡ None = bytes_under_none c.self.inside _ _ _ c.self.view_is c.deref.ensures.value c.in_default.ensures in
     rw absent refl
 
