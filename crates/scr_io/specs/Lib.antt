@@ -1,3 +1,6 @@
 pub mod Cause
 pub mod Content
 pub mod Front
+pub mod MemShelf
+pub mod MemSink
+pub mod Memory

@@ -5,11 +5,18 @@
 #![tactic(auto)]
 
 mod gate;
+mod host;
+mod memory;
 mod reading;
+#[cfg(test)]
+mod tests;
 mod writing;
 
 pub use gate::{Gate, OpenGate};
+pub use host::{HostShelf, HostSink};
+pub use memory::{MemShelf, MemSink, RESERVE};
 pub use reading::{MAX_BYTES, ReadFault, Shelf, read_all};
+pub use std::alloc::AllocError as NoMemory;
 pub use writing::{Sink, write_all};
 
 /// A read or a write did not happen. The count of faults of the shelf or the sink has risen.

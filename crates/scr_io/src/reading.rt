@@ -26,16 +26,19 @@ pub trait Shelf {
     // How often an absent name was opened.
     ghost strays: { Self → ℕ };
 
-    /// Places the reader at the first byte of the named content. Where this fails, no bytes are left.
+    /// Places the reader at the first byte of the named content. Where this fails, no bytes are
+    /// left.
     fn open(&mut self, name: &str) -> Result<(), Failed>
-        ensures placed { OnOk result (IsPresentAnd (content self.old name.now) (λ bytes. left self.new ≡ Some bytes)) }
+        ensures placed { OnOk result
+            (IsPresentAnd (content self.old name.now) (λ bytes. left self.new ≡ Some bytes)) }
         ensures closed { OnErr result (IsAtEnd (left self.new)) }
         ensures cause { HasCause (faults self.old) (faults self.new) result }
         ensures faults_stay { faults self.old ≤ faults self.new }
         ensures strays_stay { RisesOnlyIfAbsent (content self.old name.now) (strays self.old) (strays self.new) }
         ensures content_stays { content self.new ≡ content self.old };
 
-    /// Gives the next bytes that are left, one or more, or none exactly at the end or for an empty `buf`.
+    /// Gives the next bytes that are left and says how many: one or more, or none exactly at the
+    /// end or for an empty buffer. Where this fails, the same bytes are left.
     fn read(&mut self, buf: &mut [u8]) -> Result<usize, Failed>
         ensures bound { ReadsAtMost result buf.new }
         ensures bytes { ReadConsumes (left self.old) (left self.new) result buf.new }
@@ -83,10 +86,14 @@ impl From<AllocError> for ReadFault {
 
 /// Reads the named content to its end. After a refusal the shelf stands where it was left.
 pub fn read_all<F: Shelf>(alloc: Global, shelf: &mut F, name: &str) -> Result<Vec<u8>, ReadFault>
-    ensures bytes { IfOk result (λ all. IsPresentAnd (F.content shelf.old name.now) (λ bytes. all.items ≡ bytes)) }
+    ensures bytes { IfOk result (λ all.
+        IsPresentAnd (F.content shelf.old name.now) (λ bytes. all.items ≡ bytes)) }
     ensures short { IfOk result (λ all. vec_len all ≤ MAX_BYTES) }
-    ensures too_long { IsErrOf result ReadFault.TooLong → IsPresentAnd (F.content shelf.old name.now) (λ bytes. MAX_BYTES < length bytes) }
-    ensures failed { IsErrOf result ReadFault.Failed → Rose (F.faults shelf.old) (F.faults shelf.new) }
+    ensures end { OnOk result (IsAtEnd (F.left shelf.new)) }
+    ensures too_long { IsErrOf result ReadFault.TooLong →
+        IsPresentAnd (F.content shelf.old name.now) (λ bytes. MAX_BYTES < length bytes) }
+    ensures failed { IsErrOf result ReadFault.Failed →
+        Rose (F.faults shelf.old) (F.faults shelf.new) }
 
     ensures faults_stay { F.faults shelf.old ≤ F.faults shelf.new }
     ensures strays_stay { RisesOnlyIfAbsent (F.content shelf.old name.now) (F.strays shelf.old) (F.strays shelf.new) }

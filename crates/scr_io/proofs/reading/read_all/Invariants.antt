@@ -1,7 +1,8 @@
 -- What was read so far and what is left make up the content.
-use Rattle.std.proofs.Common.{◌≡◌, ◌-◌, ◌≤◌, Some, vec_len}
+use Rattle.std.proofs.Common.{◌≡◌, ◌+◌, ◌-◌, ◌≤◌, Some, vec_len}
 use Rattle.std.specs.Io.KnownBytes.{Consumes}
 use Rattle.scr_io.specs.Content.{IsPresentAnd, RisesOnlyIfAbsent}
+use Rattle.scr_io.specs.declared.reading.TheConstants.{MAX_BYTES}
 use Rattle.scr_io.proofs.reading.read_all.Given as goal
 
 abbrev pub invariant-reads : goal.invariant-reads
@@ -15,4 +16,4 @@ invariant-reads g l =
     }
 
 abbrev pub decreases-reads : goal.decreases-reads
-decreases-reads g l = 67108865 - vec_len l.bytes
+decreases-reads g l = MAX_BYTES + 1 - vec_len l.bytes
