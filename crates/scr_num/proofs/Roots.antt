@@ -40,6 +40,9 @@ root_below a b h = elim (cases_lt b a) [ inl k ↦ absurd (omega (arith, mul-le-
 pub root_above : (a b : ℕ) → a * a < b * b → a < b
 root_above a b h = elim (cases_lt a b) [ inl k ↦ k | inr k ↦ absurd (omega (arith, mul-le-mul k k)) ]
 
+pub floor_root-greatest : (n k : ℕ) → k * k ≤ n → k ≤ floor_root n
+floor_root-greatest n k h = root_below k (floor_root n) (omega (arith, floor_root-next n))
+
 pub floor_root-unique : (n r : ℕ) → r * r ≤ n → n < (r + 1) * (r + 1) → r ≡ floor_root n
 floor_root-unique n r low high =
     let a : r ≤ floor_root n = root_below r (floor_root n) (omega (arith, floor_root-next n)) in

@@ -4,8 +4,8 @@ use Rattle.scr_num.specs.Fraction.{Fraction, Share, over}
 use Rattle.scr_num.specs.Figure.{Figure, Figures, none, more, AtMost, AtLeast}
 use Rattle.scr_num.specs.Rounding.{Ends}
 
--- The low number is at most the figure, and the high one at least, both read in a unit of which `unit` make one
--- of the figure's: cents are enclosed in grains with a `unit` of 1000.
+-- The low number is at most the figure, and the high one at least, both counted in a unit of which `unit` make one
+-- of the figure's: a figure in cents is enclosed in grains with a `unit` of 1000.
 pub record Encloses (unit : ℕ) (low high : ℤ) (figure : Figure) : Type 0 where
   pub positive : 0 < unit
   pub at_most : AtMost (over low unit positive) figure
@@ -16,8 +16,8 @@ pub record Measures (unit : ℕ) (v : ℤ) (p : Fraction) : Type 0 where
   pub positive : 0 < unit
   pub equal : v *ℤ pos p.den ≡ p.num *ℤ pos unit
 
--- That share of a number, in the new unit, is num / den of the number in the old one. Where the two units are
--- one, the share is num / den itself.
+-- A number of old units times num / den is, in new units, that share of it. Where the two units are one, the share
+-- is num / den itself; from cents to grains, 390 / 1 is the share 39 / 100.
 pub record Converts (old new num den : ℕ) (share : Share) : Type 0 where
   pub positive : 0 < new
   pub equal : share.num * (den * new) ≡ share.den * (num * old)

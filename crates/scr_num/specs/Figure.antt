@@ -52,6 +52,7 @@ upper_form table parts = sum_over zero_fraction plus upper_term table.rows parts
 abbrev pub scaled_square : Table → Fraction → Fraction
 scaled_square table q = product (whole (pos table.den)) (square q)
 
+-- A root over a table is bounded only where the table has a denominator: its cells are correlations then.
 unfoldable mutual
   -- q is at most the figure
   pub AtMost : Fraction → Figure → Type 0

@@ -1,4 +1,4 @@
--- Tables of correlations, and the sums of products over all their cells.
+-- Tables of correlations, and sums over all their cells, this project's own.
 use Rattle.std.specs.Prelude.{ℕ, ℤ, List, [], ◌∷◌}
 
 -- whole cells over one denominator, row by row
@@ -7,7 +7,7 @@ pub record Table : Type 0 where
   pub rows : List (List ℤ)
 
 -- A sum with a term for each cell, made of the cell, the part of its row and the part of its column.
--- `zero` and `add` say in which numbers.
+-- `zero` and `add` say in which numbers. Where a cell or a part is missing, nothing is added.
 module _ {A B : Type 0} (zero : B) (add : B → B → B) (term : ℤ → A → A → B) where
   -- along one row
   unfoldable pub row_sum : A → List ℤ → List A → B

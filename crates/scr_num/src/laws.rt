@@ -1,12 +1,25 @@
 //! Laws of exact figures and of the numbers that enclose them. Each is a function that does nothing, whose contract is
 //! the law; a proof above cites it from here.
 
-ghost use Rattle.std.specs.Prelude.{ℕ, ◌*◌, ◌<◌, ℤ, pos, ◌*ℤ◌, ◌≤ℤ◌, List};
+ghost use Rattle.std.specs.Prelude.{ℕ, ◌*◌, ◌<◌, ◌≤◌, ℤ, pos, ◌+ℤ◌, ◌*ℤ◌, ◌≤ℤ◌, ◌<ℤ◌, List};
 ghost use Rattle.scr_num.specs.Fraction.{Fraction, ◌≼◌};
 ghost use Rattle.scr_num.specs.Table.{Table};
 ghost use Rattle.scr_num.specs.Figure.{Figure, Figures, Root, AtMost, AtLeast};
-ghost use Rattle.scr_num.specs.Rounding.{Ends, floor_div, ceil_div, quad_ends};
+ghost use Rattle.scr_num.specs.Rounding.{Ends, floor_div, ceil_div, floor_root, ceil_root, quad_ends};
 ghost use Rattle.scr_num.specs.Enclosure.{Encloses, EncloseAll};
+
+/// What the roundings are: the floor and the ceiling of a quotient lie less than one away from it, the floor root is
+/// the greatest number whose square is at most `n`, and the ceiling root the least whose square is at least `n`.
+pub fn roundings()
+    ensures floor_below { (z : ℤ) (d : ℕ) → 0 < d → (floor_div z d *ℤ pos d) ≤ℤ z }
+    ensures floor_greatest { (z : ℤ) (d : ℕ) → 0 < d → z <ℤ (floor_div z d *ℤ pos d +ℤ pos d) }
+    ensures ceil_above { (z : ℤ) (d : ℕ) → 0 < d → z ≤ℤ (ceil_div z d *ℤ pos d) }
+    ensures ceil_least { (z : ℤ) (d : ℕ) → 0 < d → (ceil_div z d *ℤ pos d) <ℤ (z +ℤ pos d) }
+    ensures floor_root_below { (n : ℕ) → floor_root n * floor_root n ≤ n }
+    ensures floor_root_greatest { (n k : ℕ) → k * k ≤ n → k ≤ floor_root n }
+    ensures ceil_root_above { (n : ℕ) → n ≤ ceil_root n * ceil_root n }
+    ensures ceil_root_least { (n k : ℕ) → n ≤ k * k → ceil_root n ≤ k }
+{}
 
 /// What is at most a figure is never above what is at least it. Below a lower witness lies another, and above
 /// an upper one.
