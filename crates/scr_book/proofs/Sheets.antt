@@ -1,5 +1,5 @@
 -- A balance sheet stays valid through each record that has no fault, and what the faults come to.
-use Rattle.std.proofs.Common.{◌≡◌, ℕ, ℤ, pos, negsuc, unsigned_abs, ◌+◌, ◌-◌, ◌≤◌, Bool, true, false, List, [], ◌∷◌, length, sum_by, Option, Some, None, is_some, IsTrue, if◌then◌else◌, nat_le, int_le, refl, sym, ap, subst, ◌∙◌, arith}
+use Rattle.std.proofs.Common.{◌≡◌, ℕ, ℤ, pos, negsuc, unsigned_abs, ◌+◌, ◌-◌, ◌≤◌, Bool, true, false, List, [], ◌∷◌, zero, suc, length, slice_get, sum_by, Option, Some, None, is_some, IsTrue, if◌then◌else◌, nat_le, int_le, refl, sym, ap, subst, ◌∙◌, arith}
 use Rattle.std.proofs.lemmas.Bool.{leb-true, le-leb}
 use Rattle.std.proofs.lemmas.Bool.Decides.{nat_tests}
 use Rattle.std.specs.Int.Signed.{lt_z}
@@ -77,6 +77,17 @@ sum-held_of sheet valid =
     own : (ps : List Position) → AllByRecursion (λ p. position_of p.security.name sheet.securities ≡ Some p) ps → AllByRecursion (λ p. held_of sheet p.security.name ≡ p.held) ps
     own [] all = tt
     own (p ∷ ps) all = (ap (λ o. option_map_or (λ q. q.held) o 0) all.0, own ps all.1)
+
+at_place : (P : Position → Type 0) (ps : List Position) (k : ℕ) (p : Position) → slice_get ps k ≡ Some p → AllByRecursion P ps → P p
+at_place P [] k p is all = absurd (cc)
+at_place P (q ∷ ps) zero p is all = let same : q ≡ p = cc in subst P same all.0
+at_place P (q ∷ ps) (suc k) p is all = at_place P ps k p is all.1
+
+-- what is held under the name of a row is what the row says
+pub held_of-row : (sheet : BalanceSheet) (k : ℕ) (p : Position) → Valid sheet → slice_get sheet.securities k ≡ Some p → held_of sheet p.security.name ≡ p.held
+held_of-row sheet k p valid is =
+    ap (λ o. option_map_or (λ q. q.held) o 0)
+    (at_place (λ q. position_of q.security.name sheet.securities ≡ Some q) sheet.securities k p is (position_of-own sheet.securities valid.named_once))
 
 -- ---- the faults
 

@@ -39,7 +39,7 @@ abbrev pub with_held : List ℕ → ℕ → List Position → List Position
 with_held name cents [] = []
 with_held name cents (p ∷ ps) = if same_name name p.security.name then record { security = p.security; held = cents } ∷ ps else p ∷ with_held name cents ps
 
--- an amount that is refused where it is below 0, and then changes nothing
+-- the cents of a `hold` record; a number below 0 is a fault, so what stands for it here is never held
 abbrev pub cents_of : ℤ → ℕ
 cents_of (pos n) = n
 cents_of (negsuc n) = 0

@@ -1,10 +1,11 @@
 //! What the definitions of the book come to, whatever a program does.
-ghost use Rattle.std.specs.Prelude.{◌≡◌, None, sum_by};
+ghost use Rattle.std.specs.Prelude.{◌≡◌, ℕ, None, slice_get, sum_by};
 ghost use Rattle.scr_book.specs.BalanceSheet.{BalanceSheet, opening, applied, held_of, held_total};
 ghost use Rattle.scr_book.specs.Faults.{fault_of};
 ghost use Rattle.scr_book.specs.Forms.{Formed};
 ghost use Rattle.scr_book.specs.Validity.{Valid};
 ghost use Rattle.scr_book.specs.declared.edit.Edit.{Edit};
+ghost use Rattle.scr_book.specs.declared.rows.Position.{Position};
 
 /// The opening balance sheet is valid, and a record that has its form and no fault leads from a valid balance
 /// sheet to a valid one.
@@ -13,7 +14,9 @@ pub fn validity()
     ensures applied { (edit : Edit) (sheet : BalanceSheet) → Formed edit → Valid sheet → fault_of edit sheet ≡ None → Valid (applied edit sheet) }
 {}
 
-/// What is held under the securities' names, each once, sums to all that is held directly.
+/// What is held under a security's name is what its row says, and over all securities it sums to all that is held
+/// directly.
 pub fn holds()
-    ensures { (sheet : BalanceSheet) → Valid sheet → sum_by (λ p. held_of sheet p.security.name) sheet.securities ≡ held_total sheet }
+    ensures row { (sheet : BalanceSheet) (k : ℕ) (p : Position) → Valid sheet → slice_get sheet.securities k ≡ Some p → held_of sheet p.security.name ≡ p.held }
+    ensures sum { (sheet : BalanceSheet) → Valid sheet → sum_by (λ p. held_of sheet p.security.name) sheet.securities ≡ held_total sheet }
 {}
