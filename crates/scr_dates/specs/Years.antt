@@ -1,0 +1,41 @@
+-- How many years it is to a payment: this project's own rule.
+use Rattle.std.specs.Prelude.{ℕ, zero, suc, ◌+◌, ◌<◌, ◌≤◌, nat_le, Bool, not, ◌&&◌, ◌==◌, int_le, if◌then◌else◌, ℤ, pos, ◌+ℤ◌, ◌-ℤ◌, unsigned_abs}
+use Rattle.jiff_core.specs.Calendar.{is_leap_year}
+use Rattle.scr_dates.specs.declared.term.Maturity.{Maturity}
+use Rattle.scr_dates.specs.declared.term.Maturity.TheVariants.{Past, Years, TooFar}
+use Rattle.scr_dates.specs.Civil.{CivilDate, day_number, date_of}
+
+-- the same day of the same month n years later, and 28 February for 29 February in a year that has none
+abbrev pub years_later : CivilDate → ℕ → CivilDate
+years_later date n =
+    let year = date.year +ℤ pos n in
+    let is_lost = (date.month == 2) && (date.day == 29) && not (is_leap_year year) in
+    record { year = year; month = date.month; day = if is_lost then 28 else date.day }
+
+-- the reference date plus n years is on or after the payment date
+abbrev pub is_reached : ℤ → ℤ → ℕ → Bool
+is_reached asof pay n = int_le pay (day_number (years_later (date_of asof) n))
+
+-- the least number from n on that passes the test, or n + more if none before that does
+unfoldable pub least_from : (ℕ → Bool) → ℕ → ℕ → ℕ
+least_from test zero n = n
+least_from test (suc more) n = if test n then n else least_from test more (n + 1)
+
+-- the least n of 1 or more for which the reference date plus n years is on or after the payment date
+-- (it is at most one more than the days between the two dates, since a year has more than a day)
+unfoldable pub years_to : ℤ → ℤ → ℕ
+years_to asof pay = least_from (is_reached asof pay) (unsigned_abs (pay -ℤ asof)) 1
+
+-- the maturity of a payment: past on or before the reference date, else that number of years, which is
+-- too far above 100
+abbrev pub maturity_of : ℤ → ℤ → Maturity
+maturity_of asof pay =
+    let years = years_to asof pay in
+    if int_le pay asof then Past
+    else (if nat_le years 100 then Years years else TooFar years)
+
+-- from 1 to 100 years, or more than 100
+abbrev pub HasBounds : Maturity → Type 0
+HasBounds Past = Unit {0}
+HasBounds (Years n) = (1 ≤ n) × (n ≤ 100)
+HasBounds (TooFar n) = 100 < n

@@ -1,0 +1,75 @@
+ghost use Rattle.std.specs.Prelude.{◌≡◌, ◌<◌, ◌≤◌, pos, neg_ℤ, ◌+ℤ◌, ◌<ℤ◌, ◌≤ℤ◌};
+ghost use Rattle.jiff_core.specs.Date.{epoch_day};
+ghost use Rattle.scr_dates.specs.Civil.{IsDay, civil_date, day_number};
+ghost use Rattle.scr_dates.specs.Years as spec;
+ghost use Rattle.scr_dates.specs.Years.{maturity_of, HasBounds};
+
+use crate::{Day, Maturity};
+use jiff::ToSpan;
+use jiff::civil::Date;
+use jiff_core::civil;
+
+/// The maturity of a payment: the least number of years, from 1 on, that takes the reference date to
+/// the payment or past it. 29 February plus some years is 28 February in a year without a 29 February.
+/// Both days lie in the years 1900 to 2200. The rule is this project's own.
+#[tactic(auto, using(crate::proofs::Anniversaries::years_to_low))]
+pub fn maturity(asof: Day, pay: Day) -> Maturity
+    requires asof_in { IsDay asof.number }
+    requires pay_in { IsDay pay.number }
+    ensures value { result ≡ maturity_of asof.number pay.number }
+    ensures bounds { HasBounds result }
+{
+    if pay <= asof {
+        return Maturity::Past;
+    }
+    let years = years_to(asof, pay);
+    if years <= 100 {
+        Maturity::Years(years as u8)
+    } else {
+        Maturity::TooFar(years)
+    }
+}
+
+fn years_to(asof: Day, pay: Day) -> u16
+    requires asof_in { IsDay asof.number }
+    requires pay_in { IsDay pay.number }
+    requires ahead { asof.number <ℤ pay.number }
+    ensures { result ≡ spec.years_to asof.number pay.number }
+{
+    let (start, end) = (date_of(asof), date_of(pay));
+    // In the years before that of the payment the anniversary is too early, and in the years after
+    // it late enough.
+    let years = years_between(start, end);
+    if years_later(start, years) < pay {
+        years + 1
+    } else {
+        years
+    }
+}
+
+// How many years the second date's year is after the first's.
+fn years_between(start: Date, end: Date) -> u16
+    requires { start.year ≤ℤ end.year }
+    ensures { start.year +ℤ pos result ≡ end.year }
+{
+    end.year().abs_diff(start.year())
+}
+
+fn date_of(day: Day) -> Date
+    requires { IsDay day.number }
+    ensures { epoch_day result ≡ day.number }
+{
+    let plain = civil::Date::from_unix_epoch_day(i64::from(day.number)).unwrap();
+    Date::from_plain(plain)
+}
+
+// The date so many years later.
+fn years_later(date: Date, years: u16) -> Day
+    requires { (date.year +ℤ pos years) ≤ℤ pos 9999 }
+    ensures { result.number ≡ day_number (spec.years_later (civil_date date) years) }
+{
+    let later = date.checked_add(i64::from(years).years()).unwrap();
+    Day {
+        number: later.to_plain().to_unix_epoch_day(),
+    }
+}
