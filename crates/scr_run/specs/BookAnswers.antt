@@ -1,0 +1,21 @@
+-- What the code answers where a balance sheet or a fault is due. Want of memory may come in place of either.
+use Rattle.std.specs.Prelude.{◌≡◌, ℕ, Result, Ok, Err, OnErr}
+use Rattle.scr_book.specs.BalanceSheet.{BalanceSheet}
+use Rattle.scr_book.specs.declared.fault.Fault.{Fault}
+use Rattle.scr_book.specs.declared.fault.Fault.TheVariants as faults
+use Rattle.scr_run.specs.declared.file.BookFault.{BookFault}
+use Rattle.scr_run.specs.declared.file.BookFault.TheVariants as book_faults
+
+-- The book changes to what is due, or the fault that is due is told and the book stays.
+abbrev pub Recorded : {A : Type 0} → Result BalanceSheet Fault → BalanceSheet → Result A Fault → BalanceSheet → Type 0
+Recorded due old (Ok a) new = due ≡ Ok new
+Recorded due old (Err (faults.Syntax k)) new = (due ≡ Err (faults.Syntax k)) × (new ≡ old)
+Recorded due old (Err (faults.UnknownName name)) new = (due ≡ Err (faults.UnknownName name)) × (new ≡ old)
+Recorded due old (Err (faults.Range quantity value limit)) new = (due ≡ Err (faults.Range quantity value limit)) × (new ≡ old)
+Recorded due old (Err faults.NoMemory) new = new ≡ old
+
+-- The book that is due, or the line and the fault.
+abbrev pub Read : Result BalanceSheet (ℕ × Fault) → Result BalanceSheet BookFault → Type 0
+Read due (Ok book) = due ≡ Ok book
+Read due (Err (book_faults.Record line fault)) = due ≡ Err (line, fault)
+Read due (Err book_faults.NoMemory) = Unit {0}

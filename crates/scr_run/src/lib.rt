@@ -1,0 +1,17 @@
+//! The top call: from the words and files to the report.
+#![tactic(auto)]
+
+mod equity;
+mod fields;
+mod file;
+mod lines;
+mod numbers;
+mod printing;
+mod records;
+mod report;
+mod running;
+mod status;
+mod words;
+
+pub use running::run;
+pub use status::{Status, Which};

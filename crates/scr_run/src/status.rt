@@ -1,0 +1,46 @@
+//! How a run ends.
+ghost use Rattle.std.specs.Prelude.{◌≡◌, ℕ};
+ghost use Rattle.scr_run.specs.Codes.{code_of};
+
+use scr_book::Fault;
+
+/// Which file is too long.
+#[derive(Clone, Copy, Debug, PartialEq, Eq)]
+pub enum Which {
+    Book,
+}
+
+/// How a run ended.
+#[derive(Clone, Copy, Debug)]
+pub enum Status {
+    /// All was read and written.
+    Done,
+    /// The words are not in their written form.
+    Usage,
+    /// The first record of the book that has a fault: the number of its line, and the fault, which is never want of memory.
+    Book(u32, Fault),
+    /// The file has more than 64 MiB.
+    TooLong(Which),
+    /// The file could not be read.
+    Read,
+    /// The report could not be written to its end.
+    Write,
+    /// Memory was refused.
+    NoMemory,
+}
+
+impl Status {
+    /// The exit code of the program: 0 where all went well, and from 2 to 7 by the cause.
+    pub fn code(&self) -> u8
+        ensures { result ≡ code_of self.now }
+    {
+        match self {
+            Status::Done => 0,
+            Status::Usage => 2,
+            Status::Book(..) | Status::TooLong(_) => 4,
+            Status::Read => 5,
+            Status::Write => 6,
+            Status::NoMemory => 7,
+        }
+    }
+}
