@@ -16,8 +16,10 @@ pub use gate::{Gate, OpenGate};
 pub use host::{HostShelf, HostSink};
 pub use memory::{MemShelf, MemSink, RESERVE};
 pub use reading::{MAX_BYTES, ReadFault, Shelf, read_all};
-pub use std::alloc::AllocError as NoMemory;
 pub use writing::{Sink, write_all};
+
+/// Want of memory.
+pub use std::alloc::AllocError as NoMemory;
 
 /// A read or a write did not happen. The count of faults of the shelf or the sink has risen.
 #[derive(Clone, Copy, Debug, PartialEq, Eq)]

@@ -5,8 +5,8 @@ ghost use Rattle.std.specs.Io.KnownBytes.{IsAtEnd, ReadConsumes};
 ghost use Rattle.scr_io.specs.Cause.{HasCause, Rose};
 ghost use Rattle.scr_io.specs.Content.{Content, IsPresentAnd, RisesOnlyIfAbsent};
 
-use crate::Failed;
-use std::alloc::{AllocError, Global};
+use crate::{Failed, NoMemory};
+use std::alloc::Global;
 use thiserror::Error;
 
 /// The most bytes that a file may have: 64 MiB.
@@ -14,13 +14,13 @@ pub const MAX_BYTES: usize = 67_108_864;
 
 /// Bytes by name. One name is open at a time, and is read from its first byte to its last.
 pub trait Shelf {
-    // What stands under the name with these bytes.
+    // By a name's bytes, what stands under that name.
     ghost content: { Self → List ℕ → Content };
 
     // The bytes of the open name that were not read yet, where they are told.
     ghost left: { Self → Option (List ℕ) };
 
-    // How many reads and opens have failed.
+    // How many opens and reads have failed.
     ghost faults: { Self → ℕ };
 
     // How often an absent name was opened.
@@ -73,13 +73,13 @@ impl From<Failed> for ReadFault {
     }
 }
 
-impl From<AllocError> for ReadFault {
+impl From<NoMemory> for ReadFault {
     ghost use Rattle.std.specs.Prelude.{◌≡◌};
     ghost use Rattle.scr_io.specs.declared.reading.ReadFault.TheVariants as faults;
 
     ghost from_gives = { λ _ fault. fault ≡ faults.NoMemory };
 
-    fn from(_error: AllocError) -> ReadFault {
+    fn from(_refused: NoMemory) -> ReadFault {
         ReadFault::NoMemory
     }
 }
