@@ -1,4 +1,4 @@
--- Each pair of printed bounds encloses the exact figure of its cell.
+-- Each figure as worked out, and each pair of printed bounds, encloses the exact figure of its cell.
 use Rattle.std.proofs.Common.{◌≡◌, ℕ, ◌*◌, ◌<◌, refl, ap, lit<, arith}
 use Rattle.std.specs.Prelude.{ℤ, pos, ◌*ℤ◌, ◌≤ℤ◌, List, [], ◌∷◌}
 use Rattle.std.proofs.lemmas.Int.{ints}
@@ -11,7 +11,7 @@ use Rattle.scr_num.proofs.Quadratic.{Encloses-quad}
 use Rattle.scr_book.specs.BalanceSheet.{BalanceSheet}
 use Rattle.scr_book.specs.declared.rows.Class.TheVariants.{Type1Equity, Type2Equity}
 use Rattle.scr_run.specs.Equity.{class_total, type1_figure, type2_figure, equity_figure, type1_stress, type2_stress, equity_correlations}
-use Rattle.scr_run.specs.Report.{BoundsEnclose, worked_type1, worked_type2}
+use Rattle.scr_run.specs.Report.{WorkedEncloses, BoundsEnclose, worked_type1, worked_type2}
 
 -- so many millionths of an amount of cents, in grains
 stressed : (cents millionths : ℕ) (share : Share) → 0 < millionths → Converts millionths 1000 1 1000 share
@@ -37,6 +37,9 @@ equity sheet =
 -- grains rounded outward to cents
 in_cents : (low high : ℤ) (f : Figure) → Encloses 1000 low high f → Encloses 1 (floor_div low 1000) (ceil_div high 1000) f
 in_cents low high f h = Encloses-coarser 1 1000 low high f (lit< tt) h
+
+pub worked_encloses : (sheet : BalanceSheet) → WorkedEncloses sheet
+worked_encloses sheet = (type1 sheet, (type2 sheet, (equity sheet, tt)))
 
 pub bounds_enclose : (sheet : BalanceSheet) → BoundsEnclose sheet
 bounds_enclose sheet = (in_cents _ _ _ (type1 sheet), (in_cents _ _ _ (type2 sheet), (in_cents _ _ _ (equity sheet), tt)))

@@ -3,6 +3,9 @@ pub mod TextLines
 pub mod Decimals
 pub mod EquityForm
 pub mod ClassTotals
-pub mod ReportText
+pub mod BlockText
 pub mod Bounds
 pub mod Outcomes
+pub mod Pieces
+pub mod Pushes
+pub mod ReplySteps

@@ -10,5 +10,7 @@ pub mod Equity
 pub mod Worked
 pub mod Report
 pub mod BookAnswers
-pub mod Outcome
 pub mod Codes
+pub mod FaultTexts
+pub mod FileNames
+pub mod Outcome

@@ -1,12 +1,17 @@
--- The report (this project's own): a line `# 0 book`, and a line for each cell with a lower and an upper bound of
--- its figure.
-use Rattle.std.specs.Prelude.{ℕ, ◌++◌, List, [], ◌∷◌, ℤ, codes, flat_map, map}
+-- The report (this project's own): a line `# 0 book` and a block of a line for each cell, with a lower and an upper
+-- bound of its figure; then for each record of the edits a line that says whether it was accepted, and the block
+-- that an accepted one leaves.
+use Rattle.std.specs.Prelude.{ℕ, ◌++◌, ◌||◌, Bool, false, List, [], ◌∷◌, ℤ, Result, Ok, Err, is_err, codes, decimal, flat_map}
 use Rattle.std.specs.List.{AllByRecursion}
 use Rattle.scr_num.specs.Rounding.{Ends, floor_div, ceil_div}
 use Rattle.scr_num.specs.Figure.{Figure}
 use Rattle.scr_num.specs.Enclosure.{Encloses}
 use Rattle.scr_book.specs.BalanceSheet.{BalanceSheet}
 use Rattle.scr_book.specs.declared.rows.Class.TheVariants.{Type1Equity, Type2Equity}
+use Rattle.scr_book.specs.declared.fault.Fault.{Fault}
+use Rattle.scr_run.specs.BookFile.{recorded}
+use Rattle.scr_run.specs.FaultTexts.{fault_number, fault_text}
+use Rattle.scr_run.specs.Lines.{records}
 use Rattle.scr_run.specs.Equity.{class_total, type1_figure, type2_figure, equity_figure}
 use Rattle.scr_run.specs.Worked.{type1_ends, type2_ends, equity_ends}
 use Rattle.scr_run.specs.Amounts.{amount}
@@ -52,9 +57,68 @@ ends_line name worked = bounds_line name (lower_bound worked) (upper_bound worke
 abbrev pub cell_line : Cell → List ℕ
 cell_line cell = ends_line cell.name cell.worked
 
-unfoldable pub report_text : BalanceSheet → List ℕ
-report_text sheet = codes "# 0 book\n" ++ flat_map cell_line (cells sheet)
+-- the lines of all cells
+unfoldable pub block_text : BalanceSheet → List ℕ
+block_text sheet = flat_map cell_line (cells sheet)
 
--- each pair of printed bounds encloses the exact figure of its cell
+-- the first lines, for the book as its file gives it
+unfoldable pub opening_text : BalanceSheet → List ℕ
+opening_text sheet = codes "# 0 book\n" ++ block_text sheet
+
+-- `# `, the number of the record's line and a blank
+unfoldable pub reply_start : ℕ → List ℕ
+reply_start number = (codes "# " ++ decimal number) ++ codes " "
+
+-- the block of the balance sheet that an accepted record leaves
+unfoldable pub accepted_text : ℕ → BalanceSheet → List ℕ
+accepted_text number sheet = (reply_start number ++ codes "ok\n") ++ block_text sheet
+
+-- the number and the text of the fault of a refused record
+unfoldable pub refused_text : ℕ → Fault → List ℕ
+refused_text number fault = ((((reply_start number ++ codes "refused ") ++ decimal (fault_number fault)) ++ codes " ") ++ fault_text fault) ++ codes "\n"
+
+-- the reply to a record of the edits
+abbrev pub reply_text : ℕ → Result BalanceSheet Fault → List ℕ
+reply_text number (Ok sheet) = accepted_text number sheet
+reply_text number (Err fault) = refused_text number fault
+
+-- a refused record leaves the balance sheet as it was
+abbrev pub after : Result BalanceSheet Fault → BalanceSheet → BalanceSheet
+after (Ok new) old = new
+after (Err fault) old = old
+
+-- the replies to the records of the edits, each on the balance sheet that those before it leave
+abbrev pub replies : List (ℕ × List ℕ) → BalanceSheet → List ℕ
+replies [] sheet = []
+replies (line ∷ lines) sheet = reply_text line.0 (recorded line.1 sheet) ++ replies lines (after (recorded line.1 sheet) sheet)
+
+-- some record is refused
+abbrev pub any_refused : List (ℕ × List ℕ) → BalanceSheet → Bool
+any_refused [] sheet = false
+any_refused (line ∷ lines) sheet = is_err (recorded line.1 sheet) || any_refused lines (after (recorded line.1 sheet) sheet)
+
+-- the report on a book and the bytes of its edits
+abbrev pub report_text : List ℕ → BalanceSheet → List ℕ
+report_text edits sheet = opening_text sheet ++ replies (records edits) sheet
+
+-- the balance sheet that an accepted record leaves, before those of later ones
+abbrev pub if_accepted : Result BalanceSheet Fault → List BalanceSheet → List BalanceSheet
+if_accepted (Ok sheet) later = sheet ∷ later
+if_accepted (Err fault) later = later
+
+-- the balance sheets that the accepted records leave, in order
+abbrev pub accepted : List (ℕ × List ℕ) → BalanceSheet → List BalanceSheet
+accepted [] sheet = []
+accepted (line ∷ lines) sheet = if_accepted (recorded line.1 sheet) (accepted lines (after (recorded line.1 sheet) sheet))
+
+-- the balance sheets whose blocks the report has
+abbrev pub printed : List ℕ → BalanceSheet → List BalanceSheet
+printed edits sheet = sheet ∷ accepted (records edits) sheet
+
+-- each figure as worked out, in grains, encloses the exact figure of its cell
+abbrev pub WorkedEncloses : BalanceSheet → Type 0
+WorkedEncloses sheet = AllByRecursion (λ cell. Encloses 1000 cell.worked.low cell.worked.high cell.exact) (cells sheet)
+
+-- each pair of printed bounds, in cents, encloses the exact figure of its cell
 abbrev pub BoundsEnclose : BalanceSheet → Type 0
 BoundsEnclose sheet = AllByRecursion (λ cell. Encloses 1 (lower_bound cell.worked) (upper_bound cell.worked) cell.exact) (cells sheet)

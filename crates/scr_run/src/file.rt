@@ -47,7 +47,7 @@ pub fn read_book(alloc: Global, bytes: &[u8]) -> Result<Book, BookFault>
 }
 
 /// Applies the record of a line to the book, which is as before where the record is refused.
-fn record(alloc: Global, book: &mut Book, text: &[u8]) -> Result<(), Fault>
+pub fn record(alloc: Global, book: &mut Book, text: &[u8]) -> Result<(), Fault>
     ensures { Recorded (recorded text.now book.old) book.old result book.new }
 {
     match read_record(text) {

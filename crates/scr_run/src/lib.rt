@@ -4,10 +4,12 @@
 mod equity;
 mod fields;
 mod file;
+pub mod laws;
 mod lines;
 mod numbers;
 mod printing;
 mod records;
+mod replies;
 mod report;
 mod running;
 mod status;
@@ -15,3 +17,6 @@ mod words;
 
 pub use running::run;
 pub use status::{Status, Which};
+
+#[cfg(test)]
+mod tests;

@@ -1,60 +1,146 @@
-//! How figures are printed.
-ghost use Rattle.std.specs.Prelude.{◌≡◌, ℕ, ◌++◌, ◌<◌, ◌^◌, unsigned_abs, OnOk, string_bytes};
+//! How figures and faults are printed.
+ghost use Rattle.std.specs.Prelude.{◌≡◌, ℕ, ◌++◌, ◌<◌, ◌^◌, decimal, unsigned_abs, OnOk};
+ghost use Rattle.std.specs.Fmt.{signed_decimal};
 ghost use Rattle.scr_num.specs.Rounding.{ends};
 ghost use Rattle.scr_run.specs.Amounts.{amount, euros};
+ghost use Rattle.scr_run.specs.FaultTexts.{fault_number, fault_text, syntax_text, unknown_text, range_text, quantity_name};
 ghost use Rattle.scr_run.specs.Report.{ends_line, bounds_line, bound};
 
+use scr_book::{Fault, Name, Quantity};
 use scr_num::{Span, scale};
-use std::alloc::AllocError;
+use std::alloc::{AllocError as NoMemory, Global};
 
 /// An amount of cents.
 #[derive(Clone, Copy, Debug)]
 pub struct Cents(pub i128);
 
-/// Appends the amount, in euros with two decimals.
-#[tactic(auto, unfolding(crate::specs::Amounts::amount))]
-pub fn push_amount(text: &mut String, cents: Cents) -> Result<(), AllocError>
-    ensures { OnOk result (string_bytes text.new ≡ string_bytes text.old ++ amount cents.0) }
+/// Appends a text.
+pub fn push(out: &mut Vec<u8>, text: &str) -> Result<(), NoMemory>
+    ensures { OnOk result (out.new.items ≡ out.old.items ++ text.now) }
 {
-    if cents.0 < 0 {
-        text.push('-')?;
-    }
-    push_euros(text, cents.0.unsigned_abs())
+    out.extend_from_slice(text.as_bytes())
 }
 
-#[tactic(auto, unfolding(crate::specs::Amounts::euros))]
-fn push_euros(text: &mut String, cents: u128) -> Result<(), AllocError>
-    ensures { OnOk result (string_bytes text.new ≡ string_bytes text.old ++ euros cents) }
+/// Appends a number.
+pub fn push_number(alloc: Global, out: &mut Vec<u8>, number: u32) -> Result<(), NoMemory>
+    ensures { OnOk result (out.new.items ≡ out.old.items ++ decimal number) }
 {
-    let (whole, tens, units) = (cents / 100, cents / 10 % 10, cents % 10);
-    write!(text, "{whole}.{tens}{units}")
+    let digits = format!(in alloc; "{number}")?;
+    push(out, digits.as_str())
 }
 
 /// Appends a cell's line: its name, and a span of grains as a lower and an upper bound in cents.
 #[tactic(auto, unfolding(crate::specs::Report::ends_line))]
-pub fn push_cell(text: &mut String, name: &str, span: Span) -> Result<(), AllocError>
+pub fn push_cell(alloc: Global, out: &mut Vec<u8>, name: &str, span: Span) -> Result<(), NoMemory>
     requires low_fits { unsigned_abs span.low < 2 ^ 127 }
     requires high_fits { unsigned_abs span.high < 2 ^ 127 }
-    ensures { OnOk result (string_bytes text.new ≡ string_bytes text.old ++ ends_line name.now (ends span)) }
+    ensures { OnOk result (out.new.items ≡ out.old.items ++ ends_line name.now (ends span)) }
 {
-    push_bounds(text, name, scale(span, 1, 1000))
+    push_bounds(alloc, out, name, scale(span, 1, 1000))
 }
 
 #[tactic(auto, unfolding(crate::specs::Report::bounds_line))]
-fn push_bounds(text: &mut String, name: &str, cents: Span) -> Result<(), AllocError>
-    ensures { OnOk result (string_bytes text.new ≡ string_bytes text.old ++ bounds_line name.now cents.low cents.high) }
+fn push_bounds(alloc: Global, out: &mut Vec<u8>, name: &str, cents: Span) -> Result<(), NoMemory>
+    ensures { OnOk result (out.new.items ≡ out.old.items ++ bounds_line name.now cents.low cents.high) }
 {
-    text.push_str(name)?;
-    push_bound(text, Cents(cents.low))?;
-    push_bound(text, Cents(cents.high))?;
-    text.push('\n')?;
-    Ok(())
+    push(out, name)?;
+    push_bound(alloc, out, Cents(cents.low))?;
+    push_bound(alloc, out, Cents(cents.high))?;
+    push(out, "\n")
 }
 
 #[tactic(auto, unfolding(crate::specs::Report::bound))]
-fn push_bound(text: &mut String, cents: Cents) -> Result<(), AllocError>
-    ensures { OnOk result (string_bytes text.new ≡ string_bytes text.old ++ bound cents.0) }
+fn push_bound(alloc: Global, out: &mut Vec<u8>, cents: Cents) -> Result<(), NoMemory>
+    ensures { OnOk result (out.new.items ≡ out.old.items ++ bound cents.0) }
 {
-    text.push(' ')?;
-    push_amount(text, cents)
+    push(out, " ")?;
+    push_amount(alloc, out, cents)
+}
+
+/// Appends an amount, in euros with two decimals.
+#[tactic(auto, unfolding(crate::specs::Amounts::amount))]
+pub fn push_amount(alloc: Global, out: &mut Vec<u8>, cents: Cents) -> Result<(), NoMemory>
+    ensures { OnOk result (out.new.items ≡ out.old.items ++ amount cents.0) }
+{
+    if cents.0 < 0 {
+        push(out, "-")?;
+    }
+    push_euros(alloc, out, cents.0.unsigned_abs())
+}
+
+#[tactic(auto, unfolding(crate::specs::Amounts::euros))]
+fn push_euros(alloc: Global, out: &mut Vec<u8>, cents: u128) -> Result<(), NoMemory>
+    ensures { OnOk result (out.new.items ≡ out.old.items ++ euros cents) }
+{
+    let (whole, tens, units) = (cents / 100, cents / 10 % 10, cents % 10);
+    let text = format!(in alloc; "{whole}.{tens}{units}")?;
+    push(out, text.as_str())
+}
+
+/// The number by which a fault is told.
+pub fn number_of(fault: &Fault) -> u32
+    ensures { result ≡ fault_number fault.now }
+{
+    match fault {
+        Fault::Syntax(_) => 1,
+        Fault::UnknownName(_) => 2,
+        Fault::Range(..) => 6,
+        Fault::NoMemory => 7,
+    }
+}
+
+/// Appends the text of a fault.
+pub fn push_fault(alloc: Global, out: &mut Vec<u8>, fault: &Fault) -> Result<(), NoMemory>
+    ensures { OnOk result (out.new.items ≡ out.old.items ++ fault_text fault.now) }
+{
+    match fault {
+        Fault::Syntax(field) => push_syntax(alloc, out, *field),
+        Fault::UnknownName(name) => push_unknown(out, name),
+        Fault::Range(quantity, value, limit) => {
+            push_range(alloc, out, *quantity, *value, *limit)
+        }
+        Fault::NoMemory => push(out, "out of memory"),
+    }
+}
+
+fn push_syntax(alloc: Global, out: &mut Vec<u8>, field: u32) -> Result<(), NoMemory>
+    ensures { OnOk result (out.new.items ≡ out.old.items ++ syntax_text field) }
+{
+    push(out, "syntax in field ")?;
+    push_number(alloc, out, field)?;
+    Ok(())
+}
+
+fn push_unknown(out: &mut Vec<u8>, name: &Name) -> Result<(), NoMemory>
+    ensures { OnOk result (out.new.items ≡ out.old.items ++ unknown_text name.now) }
+{
+    push(out, "unknown name ")?;
+    out.extend_from_slice(name.as_bytes())?;
+    Ok(())
+}
+
+/// Appends a quantity, its value and its limit.
+#[tactic(auto, unfolding(crate::specs::FaultTexts::range_text))]
+fn push_range(
+    alloc: Global,
+    out: &mut Vec<u8>,
+    quantity: Quantity,
+    value: i128,
+    limit: i128,
+) -> Result<(), NoMemory>
+    ensures { OnOk result (out.new.items ≡ out.old.items ++ range_text quantity value limit) }
+{
+    push(out, name_of(quantity))?;
+    let text = format!(in alloc; " is {value}, limit {limit}")?;
+    push(out, text.as_str())
+}
+
+fn name_of(quantity: Quantity) -> &'static str
+    ensures { result.now ≡ quantity_name quantity }
+{
+    match quantity {
+        Quantity::Hold => "hold",
+        Quantity::Held => "held",
+        Quantity::Securities => "securities",
+    }
 }

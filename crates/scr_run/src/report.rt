@@ -1,29 +1,101 @@
-//! The report of a book.
-ghost use Rattle.std.specs.Prelude.{◌≡◌, ℕ, ◌≤◌, ◌<◌, length, slice_index_or, IfOk, string_bytes};
+//! The blocks of the report.
+ghost use Rattle.std.specs.Prelude.{◌≡◌, ℕ, ◌≤◌, ◌<◌, ◌++◌, length, slice_index_or, is_err, OnOk, IfOk};
 ghost use Rattle.scr_book.specs.declared.rows.Position.{Position};
 ghost use Rattle.scr_book.specs.declared.limits.TheConstants.{MAX_HELD};
+ghost use Rattle.scr_run.specs.BookFile.{recorded};
 ghost use Rattle.scr_run.specs.Equity.{class_total as total_of_class, class_part, is_of_class as tells_class};
-ghost use Rattle.scr_run.specs.Report.{report_text};
+ghost use Rattle.scr_run.specs.Report.{block_text, opening_text, reply_start, accepted_text, refused_text, reply_text, after};
 
 use crate::equity::equity_of;
-use crate::printing::push_cell;
-use scr_book::{Book, Class, laws};
-use std::alloc::{AllocError, Global};
+use crate::file::record;
+use crate::printing::{number_of, push, push_cell, push_fault, push_number};
+use scr_book::{Book, Class, Fault, laws};
+use std::alloc::{AllocError as NoMemory, Global};
 
-/// The text of the report of a book.
+/// The reply to a record of the edits.
+#[derive(Debug, Drop)]
+pub struct Reply {
+    pub text: Vec<u8>,
+    pub refused: bool,
+}
 
-pub fn report(alloc: Global, book: &Book) -> Result<String, AllocError>
-    ensures { IfOk result (λ text. string_bytes text ≡ report_text book.now) }
+/// The first lines of the report, for the book as its file gives it.
+#[tactic(auto, unfolding(crate::specs::Report::opening_text))]
+pub fn opening(alloc: Global, book: &Book) -> Result<Vec<u8>, NoMemory>
+    ensures { IfOk result (λ text. text.items ≡ opening_text book.now) }
+{
+    let mut out = Vec::new(alloc);
+    push(&mut out, "# 0 book\n")?;
+    push_block(alloc, &mut out, book)?;
+    Ok(out)
+}
+
+/// Applies the record of a line to the book, and replies: with the block of the book that it leaves, or with the fault
+/// for which it is refused. The book is as before where the record is refused.
+pub fn reply_to(alloc: Global, book: &mut Book, number: u32, text: &[u8]) -> Result<Reply, NoMemory>
+    ensures text { IfOk result (λ reply. reply.text.items ≡ reply_text number (recorded text.now book.old)) }
+    ensures refused { IfOk result (λ reply. reply.refused ≡ is_err (recorded text.now book.old)) }
+    ensures book { OnOk result (book.new ≡ after (recorded text.now book.old) book.old) }
+{
+    match record(alloc, book, text) {
+        Ok(()) => Ok(Reply {
+            text: accepted(alloc, number, book)?,
+            refused: false,
+        }),
+        Err(Fault::NoMemory) => Err(NoMemory),
+        Err(fault) => Ok(Reply {
+            text: refused(alloc, number, &fault)?,
+            refused: true,
+        }),
+    }
+}
+
+#[tactic(auto, unfolding(crate::specs::Report::accepted_text))]
+fn accepted(alloc: Global, number: u32, book: &Book) -> Result<Vec<u8>, NoMemory>
+    ensures { IfOk result (λ text. text.items ≡ accepted_text number book.now) }
+{
+    let mut out = start(alloc, number)?;
+    push(&mut out, "ok\n")?;
+    push_block(alloc, &mut out, book)?;
+    Ok(out)
+}
+
+#[tactic(auto, unfolding(crate::specs::Report::refused_text))]
+fn refused(alloc: Global, number: u32, fault: &Fault) -> Result<Vec<u8>, NoMemory>
+    ensures { IfOk result (λ text. text.items ≡ refused_text number fault.now) }
+{
+    let mut out = start(alloc, number)?;
+    push(&mut out, "refused ")?;
+    push_number(alloc, &mut out, number_of(fault))?;
+    push(&mut out, " ")?;
+    push_fault(alloc, &mut out, fault)?;
+    push(&mut out, "\n")?;
+    Ok(out)
+}
+
+#[tactic(auto, unfolding(crate::specs::Report::reply_start))]
+fn start(alloc: Global, number: u32) -> Result<Vec<u8>, NoMemory>
+    ensures { IfOk result (λ text. text.items ≡ reply_start number) }
+{
+    let mut out = Vec::new(alloc);
+    push(&mut out, "# ")?;
+    push_number(alloc, &mut out, number)?;
+    push(&mut out, " ")?;
+    Ok(out)
+}
+
+/// Appends the lines of all cells of the book.
+fn push_block(alloc: Global, out: &mut Vec<u8>, book: &Book) -> Result<(), NoMemory>
+    ensures { OnOk result (out.new.items ≡ out.old.items ++ block_text book.now) }
 {
     let equity = equity_of(
         class_total(book, Class::Type1Equity),
         class_total(book, Class::Type2Equity),
     );
-    let mut text = String::from_str(alloc, "# 0 book\n")?;
-    push_cell(&mut text, "S2601.equity.type1", equity.type1)?;
-    push_cell(&mut text, "S2601.equity.type2", equity.type2)?;
-    push_cell(&mut text, "S2601.equity.gross", equity.all)?;
-    Ok(text)
+    push_cell(alloc, out, "S2601.equity.type1", equity.type1)?;
+    push_cell(alloc, out, "S2601.equity.type2", equity.type2)?;
+    push_cell(alloc, out, "S2601.equity.gross", equity.all)?;
+    Ok(())
 }
 
 /// The cents held of all securities of a class.

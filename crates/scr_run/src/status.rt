@@ -8,13 +8,16 @@ use scr_book::Fault;
 #[derive(Clone, Copy, Debug, PartialEq, Eq)]
 pub enum Which {
     Book,
+    Edits,
 }
 
 /// How a run ended.
-#[derive(Clone, Copy, Debug)]
+#[derive(Clone, Copy, Debug, PartialEq, Eq)]
 pub enum Status {
-    /// All was read and written.
+    /// All was read and written, and every edit was accepted.
     Done,
+    /// All was read and written, and at least one edit was refused.
+    Refused,
     /// The words are not in their written form.
     Usage,
     /// The first record of the book that has a fault: the number of its line, and the fault, which is never want of memory.
@@ -30,12 +33,13 @@ pub enum Status {
 }
 
 impl Status {
-    /// The exit code of the program: 0 where all went well, and from 2 to 7 by the cause.
+    /// The exit code of the program: 0 where all went well, 1 where an edit was refused, and from 2 to 7 by the cause of the failure.
     pub fn code(&self) -> u8
         ensures { result ≡ code_of self.now }
     {
         match self {
             Status::Done => 0,
+            Status::Refused => 1,
             Status::Usage => 2,
             Status::Book(..) | Status::TooLong(_) => 4,
             Status::Read => 5,

@@ -1,27 +1,40 @@
 //! The words of the program.
-ghost use Rattle.std.specs.Prelude.{◌≡◌, ℕ, ◌∷◌, []};
-ghost use Rattle.std.specs.Option.{option_copied};
+ghost use Rattle.std.specs.Prelude.{◌≡◌, ℕ, ◌&&◌};
+ghost use Rattle.std.specs.Option.{option_map};
 ghost use Rattle.scr_run.specs.Words as written;
+ghost use Rattle.scr_run.specs.FileNames.{names_of};
 
-/// The name of the book, where the words have the written form `--book NAME`, in which the name is not empty and
-/// does not begin with `-`.
-pub fn book_word(words: &[String]) -> Option<&str>
-    ensures { option_copied result ≡ written.book_word words.now }
+/// The names of the files that a run reads.
+#[derive(Clone, Copy, Debug)]
+pub struct Files<'a> {
+    pub book: &'a str,
+    pub edits: &'a str,
+}
+
+/// The names of the files, where the words have the written form `--book NAME --edits NAME`, in which a name is
+/// not empty and does not begin with `-`.
+pub fn named_files(words: &[String]) -> Option<Files<'_>>
+    ensures { option_map names_of result ≡ written.named_files words.now }
 {
     match words {
-        [option, value] => value_of(option.as_str(), value.as_str()),
+        [first, book, second, edits] => {
+            let (book, edits) = (book.as_str(), edits.as_str());
+            if is_option("--book", first.as_str(), book)
+                && is_option("--edits", second.as_str(), edits)
+            {
+                Some(Files { book, edits })
+            } else {
+                None
+            }
+        }
         _ => None,
     }
 }
 
-fn value_of<'a>(option: &str, value: &'a str) -> Option<&'a str>
-    ensures { option_copied result ≡ written.book_named (option.now ∷ value.now ∷ []) }
+fn is_option(option: &str, word: &str, value: &str) -> bool
+    ensures { result ≡ written.is_option option.now word.now value.now }
 {
-    if option == "--book" && is_value(value) {
-        Some(value)
-    } else {
-        None
-    }
+    word == option && is_value(value)
 }
 
 fn is_value(value: &str) -> bool

@@ -1,19 +1,59 @@
-use Rattle.std.proofs.Common.{◌∙◌, ap, sym}
-use Rattle.scr_run.specs.BookFile.{sheet_of}
-use Rattle.scr_run.specs.Words.{book_word}
-use Rattle.scr_run.proofs.Outcomes.{nothing_written, reported}
+use Rattle.std.proofs.Common.{◌≡◌, ℕ, List, ◌≤◌, refl, arith}
+use Rattle.scr_run.specs.FileNames.{names_of}
+use Rattle.scr_run.specs.Words.{named_files}
+use Rattle.scr_run.proofs.Outcomes.{nothing_written, told_later, replied-answered, replied-front, replied-ended}
 use Rattle.scr_run.proofs.running.run.Goals as goal
 
-pub returns-in-Err-Record-clause-front : goal.returns-in-Err-Record-clause-front
-returns-in-Err-Record-clause-front g c =
-    nothing_written (book_word c.args.words.now) (g.F.Shelf.content c.args.shelf.now) (g.K.Sink.written c.args.sink.now)
+pub returns-in-Err-Failed-clause-front : goal.returns-in-Err-Failed-clause-front
+returns-in-Err-Failed-clause-front g c = nothing_written (named_files c.args.words.now) (g.F.Shelf.content c.args.shelf.now) (g.K.Sink.written c.args.sink.now)
 
-pub returns-in-Ok-write_all-clause-done : goal.returns-in-Ok-write_all-clause-done
-returns-in-Ok-write_all-clause-done g c done =
-    reported (book_word c.args.words.now) c.in-Some.name.now (g.F.Shelf.content c.args.shelf.now)
-    c.in-Ok.bytes.items c.as_bytes.result.now c.in-Ok-read_book.book
-    (g.K.Sink.written c.args.sink.now) (g.K.Sink.written c.write_all.new.sink)
-    (sym c.in-Some.ensures) c.in-Ok.ensures.bytes
-    (ap sheet_of (sym c.as_slice.ensures.value) ∙ c.in-Ok-read_book.ensures.answer)
-    (c.as_bytes.ensures.value ∙ c.in-Ok-report.ensures)
-    c.in-Ok-write_all.ensures.ok
+pub returns-in-Err-TooLong-clause-front : goal.returns-in-Err-TooLong-clause-front
+returns-in-Err-TooLong-clause-front g c = nothing_written (named_files c.args.words.now) (g.F.Shelf.content c.args.shelf.now) (g.K.Sink.written c.args.sink.now)
+
+pub returns-in-Err-NoMemory-clause-front : goal.returns-in-Err-NoMemory-clause-front
+returns-in-Err-NoMemory-clause-front g c = nothing_written (named_files c.args.words.now) (g.F.Shelf.content c.args.shelf.now) (g.K.Sink.written c.args.sink.now)
+
+pub returns-in-Err-Record-clause-front : goal.returns-in-Err-Record-clause-front
+returns-in-Err-Record-clause-front g c = nothing_written (named_files c.args.words.now) (g.F.Shelf.content c.args.shelf.now) (g.K.Sink.written c.args.sink.now)
+
+pub returns-in-Err-NoMemory-read_book-clause-front : goal.returns-in-Err-NoMemory-read_book-clause-front
+returns-in-Err-NoMemory-read_book-clause-front g c = nothing_written (named_files c.args.words.now) (g.F.Shelf.content c.args.shelf.now) (g.K.Sink.written c.args.sink.now)
+
+pub returns-in-Err-Failed-read_all-clause-front : goal.returns-in-Err-Failed-read_all-clause-front
+returns-in-Err-Failed-read_all-clause-front g c = nothing_written (named_files c.args.words.now) (g.F.Shelf.content c.args.shelf.now) (g.K.Sink.written c.args.sink.now)
+
+pub returns-in-Err-TooLong-read_all-clause-front : goal.returns-in-Err-TooLong-read_all-clause-front
+returns-in-Err-TooLong-read_all-clause-front g c = nothing_written (named_files c.args.words.now) (g.F.Shelf.content c.args.shelf.now) (g.K.Sink.written c.args.sink.now)
+
+pub returns-in-Err-NoMemory-read_all-clause-front : goal.returns-in-Err-NoMemory-read_all-clause-front
+returns-in-Err-NoMemory-read_all-clause-front g c = nothing_written (named_files c.args.words.now) (g.F.Shelf.content c.args.shelf.now) (g.K.Sink.written c.args.sink.now)
+
+pub returns-clause-answered : goal.returns-clause-answered
+returns-clause-answered g c =
+    replied-answered (named_files c.args.words.now) (names_of c.in-Some.files) (g.F.Shelf.content c.args.shelf.now)
+    c.as_slice.result.now c.as_slice-2.result.now c.in-Ok-read_book.book c.in-Some.ensures
+    (told_later (g.F.Shelf.content c.args.shelf.now) (g.F.Shelf.content c.args.shelf.now) _ _ _ refl c.as_slice.ensures.value c.in-Ok.ensures.bytes)
+    (told_later (g.F.Shelf.content c.args.shelf.now) (g.F.Shelf.content c.read_all.new.shelf) _ _ _ c.read_all.ensures.content_stays c.as_slice-2.ensures.value c.in-Ok-read_all.ensures.bytes)
+    (omega (arith, c.as_slice.ensures.len, c.in-Ok.ensures.short)) (omega (arith, c.as_slice-2.ensures.len, c.in-Ok-read_all.ensures.short))
+    c.in-Ok-read_book.ensures.answer (g.K.Sink.written c.args.sink.now) (g.K.Sink.written c.write_report.new.sink)
+    (g.K.Sink.faults c.args.sink.now) (g.K.Sink.faults c.write_report.new.sink) c.write_report.result c.write_report.ensures.outcome _
+
+pub returns-clause-ended : goal.returns-clause-ended
+returns-clause-ended g c =
+    replied-ended (named_files c.args.words.now) (names_of c.in-Some.files) (g.F.Shelf.content c.args.shelf.now)
+    c.as_slice.result.now c.as_slice-2.result.now c.in-Ok-read_book.book c.in-Some.ensures
+    (told_later (g.F.Shelf.content c.args.shelf.now) (g.F.Shelf.content c.args.shelf.now) _ _ _ refl c.as_slice.ensures.value c.in-Ok.ensures.bytes)
+    (told_later (g.F.Shelf.content c.args.shelf.now) (g.F.Shelf.content c.read_all.new.shelf) _ _ _ c.read_all.ensures.content_stays c.as_slice-2.ensures.value c.in-Ok-read_all.ensures.bytes)
+    (omega (arith, c.as_slice.ensures.len, c.in-Ok.ensures.short)) (omega (arith, c.as_slice-2.ensures.len, c.in-Ok-read_all.ensures.short))
+    c.in-Ok-read_book.ensures.answer (g.K.Sink.written c.args.sink.now) (g.K.Sink.written c.write_report.new.sink)
+    (g.K.Sink.faults c.args.sink.now) (g.K.Sink.faults c.write_report.new.sink) c.write_report.result c.write_report.ensures.outcome
+
+pub returns-clause-front : goal.returns-clause-front
+returns-clause-front g c =
+    replied-front (named_files c.args.words.now) (names_of c.in-Some.files) (g.F.Shelf.content c.args.shelf.now)
+    c.as_slice.result.now c.as_slice-2.result.now c.in-Ok-read_book.book c.in-Some.ensures
+    (told_later (g.F.Shelf.content c.args.shelf.now) (g.F.Shelf.content c.args.shelf.now) _ _ _ refl c.as_slice.ensures.value c.in-Ok.ensures.bytes)
+    (told_later (g.F.Shelf.content c.args.shelf.now) (g.F.Shelf.content c.read_all.new.shelf) _ _ _ c.read_all.ensures.content_stays c.as_slice-2.ensures.value c.in-Ok-read_all.ensures.bytes)
+    (omega (arith, c.as_slice.ensures.len, c.in-Ok.ensures.short)) (omega (arith, c.as_slice-2.ensures.len, c.in-Ok-read_all.ensures.short))
+    c.in-Ok-read_book.ensures.answer (g.K.Sink.written c.args.sink.now) (g.K.Sink.written c.write_report.new.sink)
+    (g.K.Sink.faults c.args.sink.now) (g.K.Sink.faults c.write_report.new.sink) c.write_report.result c.write_report.ensures.outcome

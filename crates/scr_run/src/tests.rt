@@ -1,0 +1,311 @@
+//! Runs over shelves and sinks in memory. The due texts are worked by hand from the formula, or by another
+//! implementation of it.
+ghost use Rattle.std.specs.Prelude.{◌≤◌};
+
+use crate::{Status, Which, run};
+use scr_book::{Fault, Quantity};
+use scr_io::{MAX_BYTES, MemShelf, MemSink, OpenGate};
+use std::alloc::{AllocError, Global};
+use std::test::Fail;
+use std::thread::Threads;
+
+const BOOK: &str =
+    "sec,ALPHA,eq1,-,EUR,0\nhold,ALPHA,100000\nsec,BETA,eq2,-,EUR,0\nhold,BETA,50000\n";
+
+const OPENING: &str =
+    "# 0 book\nS2601.equity.type1 390.00 390.00\nS2601.equity.type2 245.00 245.00\nS2601.equity.gross 596.19 596.20\n";
+
+const WORDS: [&str; 4] = ["--book", "b", "--edits", "e"];
+
+/// Which calls are to fail, and how many bytes one takes or gives at most.
+#[derive(Clone, Copy)]
+struct Outside {
+    reads: u64,
+    writes: u64,
+    piece: usize,
+}
+
+/// No call fails: the calls are numbered from 1.
+const SOUND: Outside = Outside {
+    reads: 0,
+    writes: 0,
+    piece: 4096,
+};
+
+/// How a run ended and what it wrote.
+#[derive(Drop)]
+struct End {
+    status: Status,
+    written: Vec<u8>,
+    faults: u64,
+    strays: u64,
+}
+
+fn owned(alloc: Global, words: &[&str]) -> Result<Vec<String>, AllocError> {
+    let mut texts = Vec::new(alloc);
+    for word in words {
+        texts.push(String::from_str(alloc, word)?)?;
+    }
+    Ok(texts)
+}
+
+fn shelf_of(
+    alloc: Global,
+    files: &[(&str, &[u8])],
+    outside: &Outside,
+) -> Result<MemShelf, AllocError> {
+    let mut held = Vec::new(alloc);
+    for (name, bytes) in files {
+        held.push((String::from_str(alloc, name)?, bytes.to_vec(alloc)?))?;
+    }
+    let fails = [outside.reads].to_vec(alloc)?;
+    Ok(MemShelf::new(held, fails, outside.piece.max(1)))
+}
+
+fn outcome<R: Threads + Sync>(
+    rt: &R,
+    alloc: Global,
+    words: &[&str],
+    files: &[(&str, &[u8])],
+    outside: &Outside,
+) -> Result<End, AllocError> {
+    let words = owned(alloc, words)?;
+    let mut shelf = shelf_of(alloc, files, outside)?;
+    let mut sink = MemSink::new(alloc, [outside.writes].to_vec(alloc)?, outside.piece)?;
+    let status = run(
+        rt,
+        alloc,
+        words.as_slice(),
+        &mut shelf,
+        &mut sink,
+        &OpenGate,
+    );
+    Ok(End {
+        status,
+        written: sink.written().to_vec(alloc)?,
+        faults: shelf.faults(),
+        strays: shelf.strays(),
+    })
+}
+
+fn files_of<'a>(book: &'a str, edits: &'a str) -> [(&'a str, &'a [u8]); 2] {
+    [("b", book.as_bytes()), ("e", edits.as_bytes())]
+}
+
+#[test]
+fn two_equities_are_aggregated(rt: HostRuntime) -> Result<(), Fail> {
+    for piece in [1, 7, 4096] {
+        let outside = Outside { piece, ..SOUND };
+        let end = outcome(&rt, rt.alloc(), &WORDS, &files_of(BOOK, ""), &outside)?;
+        assert_eq!(rt;
+            end.status,
+            Status::Done,
+            "want of memory is no answer here"
+        );
+        assert_eq!(rt; end.status.code(), 0);
+        assert_eq!(rt; end.written.as_slice(), OPENING.as_bytes());
+    }
+    Ok(())
+}
+
+#[test]
+fn an_edit_changes_the_next_block(rt: HostRuntime) -> Result<(), Fail> {
+    let alloc = rt.alloc();
+    let end = outcome(
+        &rt,
+        rt.alloc(),
+        &WORDS,
+        &files_of(BOOK, "hold,BETA,0\n"),
+        &SOUND,
+    )?;
+    assert_eq!(rt; end.status, Status::Done);
+    let due = format!(in alloc;
+        "{OPENING}# 1 ok\nS2601.equity.type1 390.00 390.00\nS2601.equity.type2 0.00 0.00\nS2601.equity.gross 390.00 390.00\n"
+    )?;
+    assert_eq!(rt; end.written.as_slice(), due.as_bytes());
+    Ok(())
+}
+
+#[test]
+fn a_refused_edit_changes_nothing(rt: HostRuntime) -> Result<(), Fail> {
+    let book = "sec,S,eq1,-,EUR,0";
+    let edits =
+        "hold,S,50000000000001\r\n\n# remark\nsec,V,eq1,-,EUR,0\nhold,S,50000000000000\nbuy,S,5\nhold,W,1\nhold,S,-1";
+    let end = outcome(&rt, rt.alloc(), &WORDS, &files_of(book, edits), &SOUND)?;
+    assert_eq!(rt; end.status, Status::Refused);
+    assert_eq!(rt; end.status.code(), 1);
+    let due =
+        "# 0 book\nS2601.equity.type1 0.00 0.00\nS2601.equity.type2 0.00 0.00\nS2601.equity.gross 0.00 0.00\n\
+# 1 refused 6 held is 50000000000001, limit 50000000000000\n\
+# 4 ok\nS2601.equity.type1 0.00 0.00\nS2601.equity.type2 0.00 0.00\nS2601.equity.gross 0.00 0.00\n\
+# 5 ok\nS2601.equity.type1 195000000000.00 195000000000.00\nS2601.equity.type2 0.00 0.00\nS2601.equity.gross 195000000000.00 195000000000.00\n\
+# 6 refused 1 syntax in field 0\n\
+# 7 refused 2 unknown name W\n\
+# 8 refused 6 hold is -1, limit 0\n";
+    assert_eq!(rt; end.written.as_slice(), due.as_bytes());
+    Ok(())
+}
+
+#[test]
+fn the_first_fault_of_the_book_is_told(rt: HostRuntime) -> Result<(), Fail> {
+    let held = "sec,S,eq1,-,EUR,0\nhold,S,50000000000001\nhold,S,-1\n";
+    let end = outcome(&rt, rt.alloc(), &WORDS, &[("b", held.as_bytes())], &SOUND)?;
+    let due = Fault::Range(Quantity::Held, 50_000_000_000_001, 50_000_000_000_000);
+    assert_eq!(rt;
+        end.status,
+        Status::Book(2, due),
+        "the edits are not opened"
+    );
+    assert_eq!(rt; end.strays, 0);
+    assert_eq!(rt; end.written.len(), 0);
+    let unknown = outcome(
+        &rt,
+        rt.alloc(),
+        &WORDS,
+        &files_of("sec,S,eq1,-,EUR,0\nhold,X,1\n", ""),
+        &SOUND,
+    )?;
+    assert_eq!(rt; unknown.status.code(), 4);
+    assert_eq!(rt;
+        matches!(unknown.status, Status::Book(2, Fault::UnknownName(_))),
+        true
+    );
+    Ok(())
+}
+
+#[test]
+fn words_out_of_form_touch_no_file(rt: HostRuntime) -> Result<(), Fail> {
+    let files = files_of(BOOK, "");
+    let forms: [&[&str]; 7] = [
+        &[],
+        &["--book", "b"],
+        &["--edits", "e", "--book", "b"],
+        &["--book", "b", "--edits", ""],
+        &["--book", "b", "--edits", "-e"],
+        &["--book", "b", "--edits", "e", "e"],
+        &["--help"],
+    ];
+    for words in forms {
+        let end = outcome(
+            &rt,
+            rt.alloc(),
+            words,
+            &files,
+            &Outside { reads: 1, ..SOUND },
+        )?;
+        assert_eq!(rt; end.status, Status::Usage);
+        assert_eq!(rt; end.faults, 0, "no call was made that could fail");
+    }
+    Ok(())
+}
+
+#[test]
+fn each_failing_read_is_told(rt: HostRuntime) -> Result<(), Fail> {
+    let mut sound = 0;
+    for call in 1..64 {
+        let outside = Outside {
+            reads: call,
+            piece: 32,
+            ..SOUND
+        };
+        let files = files_of(BOOK, "hold,BETA,0\n");
+        let end = outcome(&rt, rt.alloc(), &WORDS, &files, &outside)?;
+        if end.status == Status::Done {
+            sound = call;
+            break;
+        }
+        assert_eq!(rt; end.status, Status::Read);
+        assert_eq!(rt; end.written.len(), 0);
+    }
+    // The book's 77 bytes take an open and four reads, the last of which finds the end; the edits' 12 an open and two.
+    assert_eq!(rt; sound, 5 + 3 + 1, "the first call that is not made");
+    let missing = outcome(&rt, rt.alloc(), &WORDS, &[("b", BOOK.as_bytes())], &SOUND)?;
+    assert_eq!(rt; missing.status, Status::Read);
+    assert_eq!(rt; missing.status.code(), 5);
+    assert_eq!(rt; missing.strays, 1);
+    assert_eq!(rt; missing.written.len(), 0);
+    Ok(())
+}
+
+#[test]
+fn each_failing_write_leaves_a_front(rt: HostRuntime) -> Result<(), Fail> {
+    let files = files_of(BOOK, "");
+    let narrow = outcome(
+        &rt,
+        rt.alloc(),
+        &WORDS,
+        &files,
+        &Outside {
+            piece: 100,
+            ..SOUND
+        },
+    )?;
+    assert_eq!(rt; narrow.written.as_slice(), OPENING.as_bytes());
+    for call in 1..3 {
+        let end = outcome(
+            &rt,
+            rt.alloc(),
+            &WORDS,
+            &files,
+            &Outside {
+                writes: call,
+                piece: 100,
+                ..SOUND
+            },
+        )?;
+        assert_eq!(rt; end.status, Status::Write);
+        assert_eq!(rt; end.status.code(), 6);
+        assert_eq!(rt;
+            OPENING.as_bytes().starts_with(end.written.as_slice()),
+            true
+        );
+        assert_eq!(rt; end.written.len() <= 100, true);
+    }
+    Ok(())
+}
+
+#[test]
+fn a_file_of_64_mib_is_the_longest(rt: HostRuntime) -> Result<(), Fail> {
+    let alloc = rt.alloc();
+    let mut lines = vec![in alloc; b'\n'; MAX_BYTES]?;
+    let empty =
+        "# 0 book\nS2601.equity.type1 0.00 0.00\nS2601.equity.type2 0.00 0.00\nS2601.equity.gross 0.00 0.00\n";
+    let whole = outcome(
+        &rt,
+        rt.alloc(),
+        &WORDS,
+        &[("b", lines.as_slice()), ("e", b"")],
+        &Outside {
+            piece: 65536,
+            ..SOUND
+        },
+    )?;
+    assert_eq!(rt; whole.status, Status::Done);
+    assert_eq!(rt; whole.written.as_slice(), empty.as_bytes());
+    lines.push(b'\n')?;
+    let book = outcome(
+        &rt,
+        rt.alloc(),
+        &WORDS,
+        &[("b", lines.as_slice()), ("e", b"")],
+        &Outside {
+            piece: 65536,
+            ..SOUND
+        },
+    )?;
+    assert_eq!(rt; book.status, Status::TooLong(Which::Book));
+    let edits = outcome(
+        &rt,
+        rt.alloc(),
+        &WORDS,
+        &[("b", b""), ("e", lines.as_slice())],
+        &Outside {
+            piece: 65536,
+            ..SOUND
+        },
+    )?;
+    assert_eq!(rt; edits.status, Status::TooLong(Which::Edits));
+    assert_eq!(rt; edits.status.code(), 4);
+    assert_eq!(rt; edits.written.len(), 0);
+    Ok(())
+}
