@@ -1,0 +1,6 @@
+pub mod Forms
+pub mod Interest
+pub mod Keys
+pub mod Matrix
+pub mod Reading
+pub mod Values
