@@ -21,9 +21,11 @@ impl Model for Factors {
 
     ghost Value = { FactorValues };
 
-    ghost view = { λ a. record { spread = a.spread; nl_premium = a.nl_premium; nl_reserve = a.nl_reserve; correlations = a.correlations; nslt_premium = a.nslt_premium; nslt_reserve = a.nslt_reserve } };
+    ghost use Rattle.scr_factors.specs.Held.{values_held};
 
-    ghost invariant = { λ a. IsInForm (record { spread = a.spread; nl_premium = a.nl_premium; nl_reserve = a.nl_reserve; correlations = a.correlations; nslt_premium = a.nslt_premium; nslt_reserve = a.nslt_reserve }) };
+    ghost view = { values_held };
+
+    ghost invariant = { λ a. IsInForm (values_held a) };
 }
 
 impl Factors {
