@@ -17,12 +17,12 @@ use Rattle.jiff_span.specs.Months.{add_months}
 use Rattle.jiff_span.proofs.MonthLemmas.{shift_parts}
 use Rattle.jiff_core.proofs.DateLemmas.{civil}
 use Rattle.scr_dates.specs.Civil.{civil_date, day_number}
-use Rattle.scr_dates.specs.Years.{years_later, is_reached, least_from, years_to}
+use Rattle.scr_dates.specs.Years.{years_later, is_reached, least_from, years_to, IsLeast}
 use Rattle.scr_dates.proofs.Dates.{days_from_civil-lt_year, date_of-epoch_day, unsigned_abs-same, year_in_range}
 
 -- the day number of the date n years later
-abbrev pub anniversary : Date → ℕ → ℤ
-anniversary d n = day_number (years_later (civil_date d) n)
+abbrev pub date_anniversary : Date → ℕ → ℤ
+date_anniversary d n = day_number (years_later (civil_date d) n)
 
 -- of the days of a month only 29 February can be missing in another year
 kept_day : (year : ℤ) (later : ℤ) (month day : ℕ) → day ≤ days_in_month year month
@@ -30,13 +30,13 @@ kept_day : (year : ℤ) (later : ℤ) (month day : ℕ) → day ≤ days_in_mont
 kept_day year later month day h = grind (arith, nat_tests)
 
 -- the library moves a date by years as the definition does
-pub anniversary-add_months : (d : Date) (n : ℕ) → anniversary d n ≡ add_months d (pos n *ℤ pos 12)
+pub anniversary-add_months : (d : Date) (n : ℕ) → date_anniversary d n ≡ add_months d (pos n *ℤ pos 12)
 anniversary-add_months d n =
     let moved = shift_parts d (pos n *ℤ pos 12) (d.year +ℤ pos n) d.month (omega (arith, signed_arith)) d.month_in.0 d.month_in.1 in
     rw (moved.0, moved.1, kept_day d.year (d.year +ℤ pos n) d.month d.day d.day_in.1)
 
 -- a span of years takes a date of the library to its anniversary
-pub date_add-anniversary : (d : Date) (n : ℕ) (s : Span) → IsOnly Year (pos n) s → date_add d s ≡ anniversary d n
+pub date_add-anniversary : (d : Date) (n : ℕ) (s : Span) → IsOnly Year (pos n) s → date_add d s ≡ date_anniversary d n
 date_add-anniversary d n s h = date_add-years d (pos n) s h ∙ sym (anniversary-add_months d n)
 
 -- the anniversary is a date
@@ -51,23 +51,23 @@ pub can_add_years : (d : Date) (n : ℕ) (s : Span) → (d.year +ℤ pos n) ≤�
 can_add_years d n s h only =
     let c = anniversary_civil d n h in
     let moved = shift_parts d (pos n *ℤ pos 12) (d.year +ℤ pos n) d.month (omega (arith, signed_arith)) d.month_in.0 d.month_in.1 in
-    let range : IsEpochDay (anniversary d n) = omega (arith, signed_arith, days_from_civil-day_count, day_count_bounds _ _ _ c) in
+    let range : IsEpochDay (date_anniversary d n) = omega (arith, signed_arith, days_from_civil-day_count, day_count_bounds _ _ _ c) in
     (rw (only.months, moved.0) c.0, rw (date_add-anniversary d n s only) range)
 
 -- a later anniversary has a greater day number
-pub anniversary-lt : (d : Date) (n k : ℕ) → (d.year +ℤ pos k) ≤ℤ pos 9999 → n < k → anniversary d n <ℤ anniversary d k
+pub anniversary-lt : (d : Date) (n k : ℕ) → (d.year +ℤ pos k) ≤ℤ pos 9999 → n < k → date_anniversary d n <ℤ date_anniversary d k
 anniversary-lt d n k h lt =
     days_from_civil-lt_year _ _ _ _ _ _ (anniversary_civil d n (omega (arith, signed_arith))) (anniversary_civil d k h).2.0 (omega (arith, signed_arith))
 
 -- no years later it is the same day
-pub anniversary-zero : (d : Date) → anniversary d 0 ≡ epoch_day d
+pub anniversary-zero : (d : Date) → date_anniversary d 0 ≡ epoch_day d
 anniversary-zero d =
     let same : d.year +ℤ pos 0 ≡ d.year = omega (arith, signed_arith) in
     let kept : min d.day (days_in_month d.year d.month) ≡ d.day = omega (arith, d.day_in) in
     rw (same, kept_day d.year d.year d.month d.day d.day_in.1, kept)
 
 -- n years are at least n days
-pub anniversary-days : (d : Date) (n : ℕ) → (d.year +ℤ pos n) ≤ℤ pos 9999 → (epoch_day d +ℤ pos n) ≤ℤ anniversary d n
+pub anniversary-days : (d : Date) (n : ℕ) → (d.year +ℤ pos n) ≤ℤ pos 9999 → (epoch_day d +ℤ pos n) ≤ℤ date_anniversary d n
 anniversary-days d zero h = omega (arith, signed_arith, anniversary-zero d)
 anniversary-days d (suc n) h =
     omega (arith, signed_arith, anniversary-days d n (omega (arith, signed_arith)), anniversary-lt d n (suc n) h (omega arith))
@@ -82,40 +82,34 @@ least_from-is test (suc more) n k low high below here =
       | inr ge ↦ let same : n ≡ k = omega arith in rw same (rw here)
     ]
 
-either : (b : Bool) (n m : ℕ) → n ≤ m → n ≤ cond b n m
-either true n m h = omega arith
-either false n m h = h
-
--- and one that is no less than where it starts
-pub least_from-low : (test : ℕ → Bool) (more n : ℕ) → n ≤ least_from test more n
-unfolding least_from
-least_from-low test zero n = omega arith
-least_from-low test (suc more) n = let later = least_from-low test more (n + 1) in either (test n) n _ (omega arith)
-
-pub years_to_low : (asof pay : ℤ) → 1 ≤ years_to asof pay
-unfolding years_to
-years_to_low asof pay = least_from-low (is_reached asof pay) (unsigned_abs (pay -ℤ asof)) 1
-
 int_le-yes : (a b : ℤ) → a ≤ℤ b → int_le a b ≡ true
 int_le-yes a b h = grind (arith, ints)
 
 int_le-no : (a b : ℤ) → b <ℤ a → int_le a b ≡ false
 int_le-no a b h = grind (arith, ints)
 
--- the least number of years is the one whose anniversary reaches the payment, where the one before it does not
-pub years_to-is : (d : Date) (pay : ℤ) (n : ℕ) → neg_ℤ (pos 25_567) ≤ℤ epoch_day d → (d.year +ℤ pos (n + 1)) ≤ℤ pos 9999 → anniversary d n <ℤ pay → pay ≤ℤ anniversary d (n + 1) → years_to (epoch_day d) pay ≡ n + 1
+-- the search answers the least number of years
+pub record Found (asof pay : ℤ) (n : ℕ) : Type 0 where
+  pub value : n ≡ years_to asof pay
+  pub least : IsLeast asof pay n
+
+-- that is the number whose anniversary reaches the payment, where the one before it does not
+pub found_after : (d : Date) (pay : ℤ) (n : ℕ) → neg_ℤ (pos 25_567) ≤ℤ epoch_day d → (d.year +ℤ pos (n + 1)) ≤ℤ pos 9999 → date_anniversary d n <ℤ pay → pay ≤ℤ date_anniversary d (n + 1) → Found (epoch_day d) pay (n + 1)
 unfolding years_to
-years_to-is d pay n low high before reached =
+found_after d pay n low high before reached =
     let is = date_of-epoch_day d low in
     let days = anniversary-days d n (omega (arith, signed_arith)) in
-    let early : (j : ℕ) → j ≤ n → anniversary d j <ℤ pay = λ j le. elim (cases_lt j n) [
+    let early : (j : ℕ) → j ≤ n → date_anniversary d j <ℤ pay = λ j le. elim (cases_lt j n) [
       | inl lt ↦ omega (arith, signed_arith, anniversary-lt d j n (omega (arith, signed_arith)) lt)
       | inr ge ↦ let same : j ≡ n = omega arith in rw same before
     ] in
     let span = unsigned_abs-same (pay -ℤ epoch_day d) (omega (arith, signed_arith)) in
-    least_from-is (is_reached (epoch_day d) pay) (unsigned_abs (pay -ℤ epoch_day d)) 1 (n + 1) (omega arith) (omega (arith, signed_arith))
-    (λ j a b. rw is (int_le-no pay (anniversary d j) (early j (omega arith))))
-    (rw is (int_le-yes _ _ reached))
+    record {
+      value = sym (least_from-is (is_reached (epoch_day d) pay) (unsigned_abs (pay -ℤ epoch_day d)) 1 (n + 1) (omega arith) (omega (arith, signed_arith))
+          (λ j a b. rw is (int_le-no pay (date_anniversary d j) (early j (omega arith))))
+          (rw is (int_le-yes _ _ reached)));
+      least = record { least_one = omega arith; reached = rw is reached; fewer = λ k a b. rw is (early k (omega arith)) };
+    }
 
 -- the year of an earlier day is not later
 pub year-le : (d e : Date) → epoch_day d <ℤ epoch_day e → d.year ≤ℤ e.year
@@ -125,20 +119,20 @@ year-le d e h = by_lt_z e.year d.year
     (λ le. le)
 
 -- where the anniversary in the payment's year is too early, the next one is the first to reach it
-pub years_to-next : (d e : Date) (n : ℕ) → neg_ℤ (pos 25_567) ≤ℤ epoch_day d → epoch_day e ≤ℤ pos 84_370 → d.year +ℤ pos n ≡ e.year → anniversary d n <ℤ epoch_day e → years_to (epoch_day d) (epoch_day e) ≡ n + 1
-years_to-next d e n low last year before =
+pub found_next : (d e : Date) (n : ℕ) → neg_ℤ (pos 25_567) ≤ℤ epoch_day d → epoch_day e ≤ℤ pos 84_370 → d.year +ℤ pos n ≡ e.year → date_anniversary d n <ℤ epoch_day e → Found (epoch_day d) (epoch_day e) (n + 1)
+found_next d e n low last year before =
     let end = year_in_range e.year e.month e.day (civil e) last in
     let high : (d.year +ℤ pos (n + 1)) ≤ℤ pos 9999 = omega (arith, signed_arith) in
     let next = anniversary_civil d (n + 1) high in
     let later : e.year <ℤ (d.year +ℤ pos (n + 1)) = omega (arith, signed_arith) in
     let after = days_from_civil-lt_year e.year e.month e.day (d.year +ℤ pos (n + 1)) d.month (years_later (civil_date d) (n + 1)).day (civil e) next.2.0 later in
-    years_to-is d (epoch_day e) n low high before (omega (arith, signed_arith, after))
+    found_after d (epoch_day e) n low high before (omega (arith, signed_arith, after))
 
 -- and where it is not, it is the first itself
-pub years_to-same : (d e : Date) (n : ℕ) → neg_ℤ (pos 25_567) ≤ℤ epoch_day d → epoch_day d <ℤ epoch_day e → d.year +ℤ pos n ≡ e.year → epoch_day e ≤ℤ anniversary d n → years_to (epoch_day d) (epoch_day e) ≡ n
-years_to-same d e zero low ahead year reached = absurd (omega (arith, signed_arith, anniversary-zero d))
-years_to-same d e (suc n) low ahead year reached =
+pub found_same : (d e : Date) (n : ℕ) → neg_ℤ (pos 25_567) ≤ℤ epoch_day d → epoch_day d <ℤ epoch_day e → d.year +ℤ pos n ≡ e.year → epoch_day e ≤ℤ date_anniversary d n → Found (epoch_day d) (epoch_day e) n
+found_same d e zero low ahead year reached = absurd (omega (arith, signed_arith, anniversary-zero d))
+found_same d e (suc n) low ahead year reached =
     let here : (d.year +ℤ pos n) ≤ℤ pos 9999 = omega (arith, signed_arith, e.year_in) in
     let there : (d.year +ℤ pos (n + 1)) ≤ℤ pos 9999 = omega (arith, signed_arith, e.year_in) in
     let before = days_from_civil-lt_year (d.year +ℤ pos n) d.month (years_later (civil_date d) n).day e.year e.month e.day (anniversary_civil d n here) e.day_in.0 (omega (arith, signed_arith)) in
-    years_to-is d (epoch_day e) n low there before (rw add-one reached) ∙ add-one n
+    rw (← add-one) (found_after d (epoch_day e) n low there before (rw add-one reached))

@@ -1,5 +1,5 @@
 -- How many years it is to a payment: this project's own rule.
-use Rattle.std.specs.Prelude.{ℕ, zero, suc, ◌+◌, ◌<◌, ◌≤◌, nat_le, Bool, not, ◌&&◌, ◌==◌, int_le, if◌then◌else◌, ℤ, pos, ◌+ℤ◌, ◌-ℤ◌, unsigned_abs}
+use Rattle.std.specs.Prelude.{ℕ, zero, suc, ◌+◌, ◌<◌, ◌≤◌, nat_le, Bool, not, ◌&&◌, ◌==◌, int_le, if◌then◌else◌, ℤ, pos, ◌+ℤ◌, ◌-ℤ◌, ◌<ℤ◌, ◌≤ℤ◌, unsigned_abs}
 use Rattle.jiff_core.specs.Calendar.{is_leap_year}
 use Rattle.scr_dates.specs.declared.term.Maturity.{Maturity}
 use Rattle.scr_dates.specs.declared.term.Maturity.TheVariants.{Past, Years, TooFar}
@@ -12,9 +12,13 @@ years_later date n =
     let is_lost = (date.month == 2) && (date.day == 29) && not (is_leap_year year) in
     record { year = year; month = date.month; day = if is_lost then 28 else date.day }
 
+-- the day n years after the reference day
+abbrev pub anniversary : ℤ → ℕ → ℤ
+anniversary asof n = day_number (years_later (date_of asof) n)
+
 -- the reference date plus n years is on or after the payment date
 abbrev pub is_reached : ℤ → ℤ → ℕ → Bool
-is_reached asof pay n = int_le pay (day_number (years_later (date_of asof) n))
+is_reached asof pay n = int_le pay (anniversary asof n)
 
 -- the least number from n on that passes the test, or n + more if none before that does
 unfoldable pub least_from : (ℕ → Bool) → ℕ → ℕ → ℕ
@@ -34,8 +38,14 @@ maturity_of asof pay =
     if int_le pay asof then Past
     else (if nat_le years 100 then Years years else TooFar years)
 
--- from 1 to 100 years, or more than 100
-abbrev pub HasBounds : Maturity → Type 0
-HasBounds Past = Unit {0}
-HasBounds (Years n) = (1 ≤ n) × (n ≤ 100)
-HasBounds (TooFar n) = 100 < n
+-- n years from 1 on reach the payment date, and fewer do not
+pub record IsLeast (asof pay : ℤ) (n : ℕ) : Type 0 where
+  pub least_one : 1 ≤ n
+  pub reached : pay ≤ℤ anniversary asof n
+  pub fewer : (k : ℕ) → 1 ≤ k → k < n → anniversary asof k <ℤ pay
+
+-- the same as a relation, with nothing to search for
+abbrev pub IsMaturity : ℤ → ℤ → Maturity → Type 0
+IsMaturity asof pay Past = pay ≤ℤ asof
+IsMaturity asof pay (Years n) = (asof <ℤ pay) × IsLeast asof pay n × (n ≤ 100)
+IsMaturity asof pay (TooFar n) = (asof <ℤ pay) × IsLeast asof pay n × (100 < n)

@@ -2,7 +2,7 @@ ghost use Rattle.std.specs.Prelude.{◌≡◌, ◌<◌, ◌≤◌, pos, neg_ℤ,
 ghost use Rattle.jiff_core.specs.Date.{epoch_day};
 ghost use Rattle.scr_dates.specs.Civil.{IsDay, civil_date, day_number};
 ghost use Rattle.scr_dates.specs.Years as spec;
-ghost use Rattle.scr_dates.specs.Years.{maturity_of, HasBounds};
+ghost use Rattle.scr_dates.specs.Years.{maturity_of, IsLeast, IsMaturity};
 
 use crate::{Day, Maturity};
 use jiff::ToSpan;
@@ -12,12 +12,11 @@ use jiff_core::civil;
 /// The maturity of a payment: the least number of years, from 1 on, that takes the reference date to
 /// the payment or past it. 29 February plus some years is 28 February in a year without a 29 February.
 /// Both days lie in the years 1900 to 2200. The rule is this project's own.
-#[tactic(auto, using(crate::proofs::Anniversaries::years_to_low))]
 pub fn maturity(asof: Day, pay: Day) -> Maturity
     requires asof_in { IsDay asof.number }
     requires pay_in { IsDay pay.number }
     ensures value { result ≡ maturity_of asof.number pay.number }
-    ensures bounds { HasBounds result }
+    ensures least { IsMaturity asof.number pay.number result }
 {
     if pay <= asof {
         return Maturity::Past;
@@ -34,7 +33,8 @@ fn years_to(asof: Day, pay: Day) -> u16
     requires asof_in { IsDay asof.number }
     requires pay_in { IsDay pay.number }
     requires ahead { asof.number <ℤ pay.number }
-    ensures { result ≡ spec.years_to asof.number pay.number }
+    ensures value { result ≡ spec.years_to asof.number pay.number }
+    ensures least { IsLeast asof.number pay.number result }
 {
     let (start, end) = (date_of(asof), date_of(pay));
     // In the years before that of the payment the anniversary is too early, and in the years after

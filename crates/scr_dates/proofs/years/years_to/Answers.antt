@@ -1,7 +1,7 @@
-use Rattle.std.proofs.Common.{◌≡◌, true, false, ℤ, ◌<ℤ◌, ◌≤ℤ◌, int_cmp, is_lt, ◌∙◌, sym, arith}
+use Rattle.std.proofs.Common.{◌≡◌, ◌+◌, true, false, ℤ, ◌<ℤ◌, ◌≤ℤ◌, int_cmp, is_lt, ◌∙◌, sym, arith}
 use Rattle.std.proofs.lemmas.Int.{ints}
 use Rattle.jiff_core.proofs.SignedLemmas.{signed_arith}
-use Rattle.scr_dates.proofs.Anniversaries.{year-le, years_to-next, years_to-same}
+use Rattle.scr_dates.proofs.Anniversaries.{Found, year-le, found_next, found_same}
 use Rattle.scr_dates.proofs.years.years_to.Goals as goal
 
 is_lt-true : (a b : ℤ) → is_lt (int_cmp a b) ≡ true → a <ℤ b
@@ -13,18 +13,28 @@ is_lt-false a b e = grind (arith, ints)
 pub years_between-years-requires : goal.years_between-years-requires
 years_between-years-requires c = year-le c.date_of-start.result c.date_of-end.result (omega (arith, signed_arith))
 
-pub returns-then-lt : goal.returns-then-lt
-returns-then-lt c =
+early : (c : goal.Then-lt) → Found c.args.asof.number c.args.pay.number (c.years_between-years.result + 1)
+early c =
     let start = c.date_of-start.ensures in
     let end = c.date_of-end.ensures in
-    let early : c.years_later.result.number <ℤ c.args.pay.number = is_lt-true _ _ (sym c.lt.ensures ∙ c.if-lt.true) in
-    let same = years_to-next c.date_of-start.result c.date_of-end.result c.years_between-years.result (omega (arith, signed_arith)) (omega (arith, signed_arith)) c.years_between-years.ensures (omega (arith, signed_arith, early)) in
-    sym (rw (start, end) at same)
+    let lt : c.years_later.result.number <ℤ c.args.pay.number = is_lt-true _ _ (sym c.lt.ensures ∙ c.if-lt.true) in
+    rw (start, end) at (found_next c.date_of-start.result c.date_of-end.result c.years_between-years.result (omega (arith, signed_arith)) (omega (arith, signed_arith)) c.years_between-years.ensures (omega (arith, signed_arith, lt)))
 
-pub returns-else-lt : goal.returns-else-lt
-returns-else-lt c =
+pub returns-then-lt-clause-value : goal.returns-then-lt-clause-value
+returns-then-lt-clause-value c = (early c).value
+
+pub returns-then-lt-clause-least : goal.returns-then-lt-clause-least
+returns-then-lt-clause-least c = (early c).least
+
+late : (c : goal.Else-lt) → Found c.args.asof.number c.args.pay.number c.years_between-years.result
+late c =
     let start = c.date_of-start.ensures in
     let end = c.date_of-end.ensures in
-    let late : c.args.pay.number ≤ℤ c.years_later.result.number = is_lt-false _ _ (sym c.lt.ensures ∙ c.if-lt.false) in
-    let same = years_to-same c.date_of-start.result c.date_of-end.result c.years_between-years.result (omega (arith, signed_arith)) (omega (arith, signed_arith)) c.years_between-years.ensures (omega (arith, signed_arith, late)) in
-    sym (rw (start, end) at same)
+    let ge : c.args.pay.number ≤ℤ c.years_later.result.number = is_lt-false _ _ (sym c.lt.ensures ∙ c.if-lt.false) in
+    rw (start, end) at (found_same c.date_of-start.result c.date_of-end.result c.years_between-years.result (omega (arith, signed_arith)) (omega (arith, signed_arith)) c.years_between-years.ensures (omega (arith, signed_arith, ge)))
+
+pub returns-else-lt-clause-value : goal.returns-else-lt-clause-value
+returns-else-lt-clause-value c = (late c).value
+
+pub returns-else-lt-clause-least : goal.returns-else-lt-clause-least
+returns-else-lt-clause-least c = (late c).least

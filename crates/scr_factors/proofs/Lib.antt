@@ -1,0 +1,6 @@
+pub mod CorrelationRules
+pub mod FormLemmas
+pub mod PadLemmas
+pub mod ReadLemmas
+pub mod SegmentLemmas
+pub mod StressRules

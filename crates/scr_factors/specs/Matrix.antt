@@ -1,0 +1,15 @@
+-- Matrices of correlation coefficients.
+use Rattle.std.specs.Prelude.{◌≡◌, ℕ, ◌<◌, ◌≤◌, [], ℤ, pos, neg_ℤ, ◌<ℤ◌, ◌≤ℤ◌, slice_index_or}
+use Rattle.scr_factors.specs.declared.matrix.Matrix.{Matrix}
+
+-- the coefficient in row i and column j, over the denominator
+abbrev pub entry : Matrix → ℕ → ℕ → ℤ
+entry m i j = slice_index_or (slice_index_or m.cells i []) j (pos 0)
+
+-- each coefficient is from -1 to 1, is the same in both directions, and is 1 on the diagonal
+pub record IsCorrelation (m : Matrix) : Type 0 where
+  pub size : (1 ≤ m.n) × (m.n ≤ 16)
+  pub denominator : pos 0 <ℤ m.den
+  pub within : (i j : ℕ) → i < m.n → j < m.n → (neg_ℤ m.den ≤ℤ entry m i j) × (entry m i j ≤ℤ m.den)
+  pub symmetric : (i j : ℕ) → i < m.n → j < m.n → entry m i j ≡ entry m j i
+  pub diagonal : (i : ℕ) → i < m.n → entry m i i ≡ m.den

@@ -1,0 +1,54 @@
+-- The numbers of a factor file.
+use Rattle.std.specs.Prelude.{◌≡◌, ℕ, ◌+◌, ◌-◌, ◌*◌, ◌≤◌, List, [], All, length, slice_index, slice_index_or, pos}
+use Rattle.scr_factors.specs.declared.matrix.Matrix.{Matrix}
+use Rattle.scr_factors.specs.declared.set.Set.{Set}
+use Rattle.scr_factors.specs.declared.set.Set.TheVariants.{Nl, Nslt}
+use Rattle.scr_factors.specs.Matrix.{IsCorrelation}
+
+-- the rows of spread factors by credit quality step, and last the row without a step, each with five
+-- pairs of a and b; the standard deviations by segment; the correlations of the non-life segments
+pub record FactorValues : Type 0 where
+  pub spread : List (List ℕ)
+  pub nl_premium : List ℕ
+  pub nl_reserve : List ℕ
+  pub correlations : Matrix
+  pub nslt_premium : List ℕ
+  pub nslt_reserve : List ℕ
+
+-- so many numbers from 0 to 1,000,000
+abbrev pub IsRow : ℕ → List ℕ → Type 0
+IsRow count row = (length row ≡ count) × All (λ n. n ≤ 1_000_000) row
+
+-- each value has its form
+pub record IsInForm (values : FactorValues) : Type 0 where
+  pub spread_rows : length values.spread ≡ 8
+  pub spread : All (IsRow 10) values.spread
+  pub nl_premium : IsRow 12 values.nl_premium
+  pub nl_reserve : IsRow 12 values.nl_reserve
+  pub nl_segments : values.correlations.n ≡ 12
+  pub hundredths : values.correlations.den ≡ pos 100
+  pub correlations : IsCorrelation values.correlations
+  pub nslt_premium : IsRow 4 values.nslt_premium
+  pub nslt_reserve : IsRow 4 values.nslt_reserve
+
+-- how many segments a set has
+abbrev pub segments : Set → ℕ
+segments Nl = 12
+segments Nslt = 4
+
+-- the number is that of a segment of the set
+abbrev pub IsSegment : Set → ℕ → Type 0
+IsSegment set number = (1 ≤ number) × (number ≤ segments set)
+
+-- a and b of a row and a band
+abbrev pub spread_at : FactorValues → ℕ → ℕ → ℕ × ℕ
+spread_at values row band =
+    let factors = slice_index_or values.spread row [] in
+    (slice_index factors (2 * band), slice_index factors (2 * band + 1))
+
+-- the standard deviations of premium and of reserve risk of a segment
+abbrev pub sigma_of : FactorValues → Set → ℕ → ℕ × ℕ
+sigma_of values Nl number =
+    (slice_index values.nl_premium (number - 1), slice_index values.nl_reserve (number - 1))
+sigma_of values Nslt number =
+    (slice_index values.nslt_premium (number - 1), slice_index values.nslt_reserve (number - 1))
