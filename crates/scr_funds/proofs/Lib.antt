@@ -1,0 +1,5 @@
+pub mod Members
+pub mod Trails
+pub mod Explored
+pub mod Entries
+pub mod Traces
