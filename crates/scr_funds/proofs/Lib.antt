@@ -3,3 +3,5 @@ pub mod Trails
 pub mod Explored
 pub mod Entries
 pub mod Traces
+pub mod Cycles
+pub mod Rows

@@ -1,8 +1,9 @@
 -- Membership in a list, by recursion, and what holds of each member.
-use Rattle.std.proofs.Common.{◌≡◌, ◌≢◌, ◌⊎◌, ℕ, ◌+◌, ◌<◌, ◌≤◌, suc, zero, Bool, true, false, nat_eq, ◌||◌, List, [], ◌∷◌, ◌++◌, map, length, get_or, Contains, Some, slice_get, refl, sym, ap, subst, ◌∙◌, inl, inr, arith}
+use Rattle.std.proofs.Common.{◌≡◌, ◌≢◌, ◌⊎◌, ℕ, ◌+◌, ◌<◌, ◌≤◌, suc, zero, Bool, true, false, nat_eq, ◌||◌, List, [], ◌∷◌, ◌++◌, map, length, get_or, All, Contains, Some, slice_get, refl, sym, ap, subst, ◌∙◌, inl, inr, arith}
 use Rattle.std.specs.List.{AllByRecursion, list_any}
 use Rattle.std.proofs.lemmas.Bool.{cases_lt, true≢false}
 use Rattle.std.proofs.lemmas.Bool.Decides.{eqb_tells}
+use Rattle.std.proofs.lemmas.List.Elements.{Contains-get_or}
 use Rattle.scr_funds.specs.Chains.{IsMetBefore}
 
 -- x is one of the list
@@ -58,6 +59,9 @@ module _ {A : Type 0} where
   pub each_weaker : (P Q : A → Type 0) → ((x : A) → P x → Q x) → (xs : List A) → AllByRecursion P xs → AllByRecursion Q xs
   each_weaker P Q f [] all = tt
   each_weaker P Q f (y ∷ ys) all = (f y all.0, each_weaker P Q f ys all.1)
+
+  pub All-from_members : (P : A → Type 0) (xs : List A) → ((x : A) → IsMember x xs → P x) → All P xs
+  All-from_members P xs f = λ k d l. f (get_or xs k d) (IsMember-from_Contains xs (get_or xs k d) (Contains-get_or xs k d l))
 
   -- a member of a mapped list comes from one of the list
   pub IsMember-map : {B : Type 0} (f : B → A) (xs : List B) (y : A) → IsMember y (map f xs) → (x : B) × IsMember x xs × (f x ≡ y)

@@ -1,6 +1,7 @@
 -- The components of all funds: for each fund, named by its place in this list, the list of its components in the order of
 -- its record. A fund past the end of the list has none.
-use Rattle.std.specs.Prelude.{ℕ, ◌+◌, ◌-◌, max, List, [], ◌∷◌, ◌++◌, if◌then◌else◌, nat_eq, length, fold, replicate, slice_index_or, slice_set}
+use Rattle.std.specs.Prelude.{ℕ, ◌+◌, ◌-◌, ◌<◌, max, All, List, [], ◌∷◌, ◌++◌, if◌then◌else◌, nat_eq, length, fold, replicate, slice_index_or, slice_set}
+use Rattle.scr_funds.specs.Chains.{IsAcyclic}
 
 abbrev pub Components : Type 0
 Components = List (List ℕ)
@@ -32,3 +33,12 @@ with_edges fund members all = with_components fund members (grown (number_above 
 -- what leads on from each fund once one fund has these components
 abbrev pub components_with : ℕ → List ℕ → Components → ℕ → List ℕ
 components_with from members all fund = if nat_eq fund from then members else components_of all fund
+
+-- both ends of each edge of a fund are below the number
+abbrev pub AreBelow : ℕ → ℕ → List ℕ → Type 0
+AreBelow size fund members = All (λ member. (fund < size) × (member < size)) members
+
+-- nothing leads to itself, and all ends of edges are below the size
+pub record IsOrder (all : Components) : Type 0 where
+  pub acyclic : IsAcyclic (components_of all)
+  pub below : (fund : ℕ) → AreBelow (size_of all) fund (components_of all fund)

@@ -1,6 +1,7 @@
 //! Why edges are refused.
 ghost use Rattle.std.specs.Prelude.{◌≡◌};
 
+use std::alloc::AllocError;
 use std::marker::Model;
 
 /// Why edges are refused.
@@ -11,6 +12,17 @@ pub enum OrderFault {
     Cycle(Places),
     /// Memory was refused. It may come in place of any other answer.
     NoMemory,
+}
+
+impl From<AllocError> for OrderFault {
+    ghost use Rattle.std.specs.Prelude.{◌≡◌};
+    ghost use Rattle.scr_funds.specs.declared.fault.OrderFault.TheVariants.{NoMemory};
+
+    ghost from_gives = { λ _ fault. fault ≡ NoMemory };
+
+    fn from(_: AllocError) -> OrderFault {
+        OrderFault::NoMemory
+    }
 }
 
 /// The funds and securities of a path, by their numbers. Contracts see it as the list of these.

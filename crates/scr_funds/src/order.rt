@@ -2,10 +2,10 @@
 ghost use Rattle.std.specs.Prelude.{◌≡◌, ℕ, ◌≤◌, ◌<◌, ◌+◌, [], ◌∷◌, All, IfOk, OnOk, OnErr, MatchOption};
 ghost use Rattle.scr_funds.specs.Answers.{Answers};
 ghost use Rattle.scr_funds.specs.Chains.{IsAcyclic, IsFirstShortest, LeadsTo};
-ghost use Rattle.scr_funds.specs.Components.{components_of, components_with, grown, number_above, size_of, with_components, with_edges};
+ghost use Rattle.scr_funds.specs.Components.{AreBelow, IsOrder, components_of, components_with, grown, number_above, size_of, with_components, with_edges};
 ghost use Rattle.scr_funds.specs.Search.{rows_of};
 
-use crate::search::{first_chain, number_above};
+use crate::search::{first_chain, number_above, row_of};
 use crate::{Kept, OrderFault, Places};
 use std::alloc::{AllocError as NoMemory, Global};
 use std::marker::Model;
@@ -23,9 +23,9 @@ impl Model for FundOrder {
 
     ghost Value = { Components };
 
-    ghost use Rattle.scr_funds.specs.Kept.{components_of_all, IsKept};
+    ghost use Rattle.scr_funds.specs.Kept.{components_in, IsKept};
 
-    ghost view = { components_of_all };
+    ghost view = { components_in };
 
     ghost invariant = { IsKept };
 }
@@ -47,38 +47,36 @@ impl FundOrder {
         ensures answer { Answers (components_with from to.now self.old) from result }
         ensures ok { OnOk result (self.new ≡ with_edges from to.now self.old) }
         ensures err { OnErr result (self.new ≡ self.old) }
-        ensures acyclic { IsAcyclic (components_of self.new) }
+        ensures order { IsOrder self.new }
     {
-        let cycle = first_chain(alloc, &self.rows, from, to, from);
-        if let Some(path) = cycle.map_err(|_| OrderFault::NoMemory)? {
+        if let Some(path) = first_chain(alloc, &self.rows, from, to, from)? {
             return Err(OrderFault::Cycle(Places::new(path)));
         }
-        put_row(&mut self.rows, alloc, from, to).map_err(|_| OrderFault::NoMemory)
+        put_row(&mut self.rows, alloc, from, to)?;
+        Ok(())
     }
 
     /// Takes off all edges from a fund and hands them out, without memory.
     pub fn remove(&mut self, from: u32) -> Kept
         ensures kept { result ≡ record { from = from; edges = components_of self.old from } }
         ensures after { self.new ≡ with_components from [] self.old }
+        ensures order { IsOrder self.old }
     {
         let none = Vec::new(*self.rows.allocator());
-        let edges = match self.rows.get_mut(from as usize) {
-            Some(row) => mem::replace(row, none),
-            None => none,
-        };
+        let edges = exchange(&mut self.rows, from, none);
         Kept { from, edges }
     }
 
     /// Makes the components of a fund that has none those that were kept, without memory.
     pub fn put_back(&mut self, kept: Kept)
         requires none { components_of self.old kept.from ≡ [] }
-        requires below { All (λ member. (kept.from < size_of self.old) × (member < size_of self.old)) kept.edges }
+        requires below { AreBelow (size_of self.old) kept.from kept.edges }
         requires acyclic { IsAcyclic (components_of (with_components kept.from kept.edges self.old)) }
-        ensures { self.new ≡ with_components kept.from kept.edges self.old }
+        ensures edges { components_of self.new kept.from ≡ kept.edges }
+        ensures after { self.new ≡ with_components kept.from kept.edges self.old }
     {
-        if let Some(row) = self.rows.get_mut(kept.from as usize) {
-            *row = kept.edges;
-        }
+        let Kept { from, edges } = kept;
+        let _ = exchange(&mut self.rows, from, edges);
     }
 
     /// The first shortest chain from a fund to what `to` names, with both its ends. None exactly where there is none.
@@ -87,12 +85,22 @@ impl FundOrder {
             (¬ LeadsTo (components_of self.now) from to)
             (λ path. IsFirstShortest (components_of self.now) from to path.items)) }
     {
-        let members = match self.rows.get(from as usize) {
-            Some(row) => row.as_slice(),
-            None => &[],
-        };
-        first_chain(alloc, &self.rows, from, members, to)
+        first_chain(alloc, &self.rows, from, row_of(&self.rows, from), to)
     }
+}
+
+/// Puts a row in the place of that of a fund, which it gives back. A fund past the end has no row, and the new one
+/// comes back.
+fn exchange(rows: &mut Vec<Vec<u32>>, from: u32, row: Vec<u32>) -> Vec<u32>
+    ensures old { from < size_of (rows_of rows.old.items) → result.items ≡ components_of (rows_of rows.old.items) from }
+    ensures past { size_of (rows_of rows.old.items) ≤ from → result.items ≡ row.items }
+    ensures after { rows_of rows.new.items ≡ with_components from row.items (rows_of rows.old.items) }
+{
+    let place = from as usize;
+    if place >= rows.len() {
+        return row;
+    }
+    mem::replace(&mut rows[place], row)
 }
 
 /// Puts in the row of a fund, and rows without components up to its number and those of its components.

@@ -1,7 +1,7 @@
 //! The search for a chain of components, in order of distance.
 ghost use Rattle.std.specs.Prelude.{◌≡◌, ℕ, ◌<◌, ◌≤◌, ◌++◌, [], ◌∷◌, MatchOption, IfOk, OnOk, List, reverse};
 ghost use Rattle.scr_funds.specs.Chains.{IsFirstShortest, LeadsTo};
-ghost use Rattle.scr_funds.specs.Components.{components_with, number_above};
+ghost use Rattle.scr_funds.specs.Components.{components_of, components_with, number_above};
 ghost use Rattle.scr_funds.specs.Search.{rows_of, entered, IsTraced};
 
 use indexmap::IndexMap;
@@ -49,6 +49,13 @@ fn components_of<'a>(
     if fund == from {
         return members;
     }
+    row_of(rows, fund)
+}
+
+/// The components in the row of a fund: none past the end.
+pub(crate) fn row_of(rows: &[Vec<u32>], fund: u32) -> &[u32]
+    ensures { result.now ≡ components_of (rows_of rows.now) fund }
+{
     match rows.get(fund as usize) {
         Some(row) => row.as_slice(),
         None => &[],
