@@ -1,6 +1,7 @@
 -- What becomes of chains where the components of one holder change.
-use Rattle.std.proofs.Common.{◌≡◌, ◌≢◌, ◌⊎◌, ℕ, ◌<◌, ◌+◌, suc, zero, List, [], ◌∷◌, ◌++◌, length, get_or, Contains, refl, sym, ap, subst, ◌∙◌, inl, inr}
-use Rattle.scr_funds.specs.Chains.{IsChain, LeadsTo, IsAcyclic}
+use Rattle.std.proofs.Common.{◌≡◌, ◌≢◌, ◌⊎◌, ℕ, ◌<◌, ◌+◌, suc, zero, List, [], ◌∷◌, ◌++◌, length, get_or, Contains, refl, sym, ap, subst, ◌∙◌, inl, inr, ◌≤◌, arith}
+use Rattle.scr_funds.specs.Chains.{IsMetBefore, IsChain, LeadsTo, IsAcyclic, ComesEarlier, IsFirstShortest}
+use Rattle.scr_funds.proofs.Members.{met_before-trans, not_before_itself}
 
 -- a chain on from the end of another
 pub joined : {A : Type 0} (components : A → List A) (a : A) (cs : List A) (b : A) (ds : List A) (c : A) → IsChain components a cs b → IsChain components b ds c → IsChain components a (cs ++ b ∷ ds) c
@@ -38,6 +39,20 @@ module _ {A : Type 0} (old new : A → List A) where
         by (inr n) (inl k) = inl (subst (λ row. Contains row c) (others a n) h.0, k)
         by (inr n) (inr p) = inr (inr (later p.0), p.1)
 
+    -- as far as it first comes there, a chain to that holder is one of before
+    pub leads_before : (a : A) (cs : List A) → IsChain new a cs from → (a ≡ from) ⊎ LeadsTo old a from
+    leads_before a [] h = by (same a)
+      where
+        by : (a ≡ from) ⊎ (a ≢ from) → (a ≡ from) ⊎ LeadsTo old a from
+        by (inl e) = inl e
+        by (inr n) = inr ([], subst (λ row. Contains row from) (others a n) h)
+    leads_before a (c ∷ cs) h = by (same a) (leads_before c cs h.1)
+      where
+        by : (a ≡ from) ⊎ (a ≢ from) → (c ≡ from) ⊎ LeadsTo old c from → (a ≡ from) ⊎ LeadsTo old a from
+        by (inl e) rest = inl e
+        by (inr n) (inl k) = inr ([], subst (Contains (old a)) k (subst (λ row. Contains row c) (others a n) h.0))
+        by (inr n) (inr l) = inr (c ∷ l.0, (subst (λ row. Contains row c) (others a n) h.0, l.1))
+
     -- nothing leads to itself, if nothing did and that holder does not
     pub acyclic_still : IsAcyclic old → (LeadsTo new from from → ⊥) → IsAcyclic new
     acyclic_still h apart a chain = by (one_of_before_or_passes a chain.0 a chain.1)
@@ -46,3 +61,24 @@ module _ {A : Type 0} (old new : A → List A) where
         by (inl k) = h a (chain.0, k)
         by (inr (inl e, l)) = apart (subst (LeadsTo new from) e l)
         by (inr (inr k, l)) = apart (l.0 ++ a ∷ k.0, joined new from l.0 a k.0 from l.1 k.1)
+
+-- ---- one first shortest chain
+
+module _ {A : Type 0} (components : A → List A) where
+  not_both_earlier : (a : A) (cs ds : List A) → ComesEarlier components a cs ds → ComesEarlier components a ds cs → ⊥
+  not_both_earlier a [] ds h k = h
+  not_both_earlier a (c ∷ cs) [] h k = h
+  not_both_earlier a (c ∷ cs) (d ∷ ds) (inl h) (inl k) = not_before_itself (components a) c (met_before-trans (components a) c d c h k)
+  not_both_earlier a (c ∷ cs) (d ∷ ds) (inl h) (inr k) = not_before_itself (components a) c (subst (IsMetBefore (components a) c) k.0 h)
+  not_both_earlier a (c ∷ cs) (d ∷ ds) (inr h) (inl k) = not_before_itself (components a) d (subst (IsMetBefore (components a) d) h.0 k)
+  not_both_earlier a (c ∷ cs) (d ∷ ds) (inr h) (inr k) = not_both_earlier c cs ds h.1 (subst (λ x. ComesEarlier components x ds cs) k.0 k.1)
+
+  pub one_first_shortest : (a b : A) (path other : List A) → IsFirstShortest components a b path → IsFirstShortest components a b other → path ≡ other
+  one_first_shortest a b path other p q = p.whole ∙ ap (λ cs. a ∷ (cs ++ b ∷ [])) (by (p.first q.between q.chain longer) (q.first p.between p.chain (sym longer))) ∙ sym q.whole
+    where
+      longer : length q.between ≡ length p.between
+      longer = let one = p.shortest q.between q.chain in let two = q.shortest p.between p.chain in omega (arith, one, two)
+      by : (q.between ≡ p.between) ⊎ ComesEarlier components a p.between q.between → (p.between ≡ q.between) ⊎ ComesEarlier components a q.between p.between → p.between ≡ q.between
+      by (inl e) k = sym e
+      by (inr h) (inl e) = e
+      by (inr h) (inr k) = absurd (not_both_earlier a p.between q.between h k)

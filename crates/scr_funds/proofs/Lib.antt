@@ -5,3 +5,4 @@ pub mod Entries
 pub mod Traces
 pub mod Cycles
 pub mod Rows
+pub mod Shares

@@ -92,6 +92,9 @@ module _ {A : Type 0} where
       by (inl l) = (h.0, h.1, λ j m. k.2 j (omega arith))
       by (inr l) = absurd (h.2 k.0 l k.1)
 
+pub not_before_itself : {A : Type 0} (xs : List A) (c : A) → IsMetBefore xs c c → ⊥
+not_before_itself xs c h = h.2 h.0 (omega arith) h.1
+
 -- ---- the test for a number
 
 any-here : (x y : ℕ) (ys : List ℕ) → nat_eq y x ≡ true → list_any (λ z. nat_eq z x) (y ∷ ys) ≡ true

@@ -7,7 +7,7 @@ use Rattle.scr_funds.specs.Chains.{IsChain, LeadsTo, IsAcyclic}
 use Rattle.std.proofs.lemmas.List.Elements.{All-nil, All-weaker}
 use Rattle.scr_funds.specs.Components.{AreBelow, IsOrder, Components, components_of, components_with, with_components, with_edges, grown, number_above, size_of}
 use Rattle.scr_funds.proofs.Members.{IsMember, IsMember-from_Contains, All-from_members}
-use Rattle.scr_funds.proofs.Cycles.{acyclic_weaker, acyclic_still}
+use Rattle.scr_funds.proofs.Cycles.{acyclic_weaker, acyclic_still, chain_weaker, leads_before}
 
 -- ---- what one fund has
 
@@ -73,6 +73,33 @@ module _ (from : ℕ) (members : List ℕ) (all : Components) where
           by (inl k) = ap (components_with from members all) k ∙ with-own ∙ e ∙ ap (components_of all) (sym k)
           by (inr n) = with-other fund n
 
+  -- a fund without components would lead to itself exactly where one that it gets is the fund or leads back to it
+  pub leads_back : components_of all from ≡ [] → LeadsTo (components_with from members all) from from → (member : ℕ) × Contains members member × ((member ≡ from) ⊎ LeadsTo (components_of all) member from)
+  leads_back none (cs, chain) = by cs chain
+    where
+      next : ℕ → List ℕ
+      next = components_with from members all
+      by : (cs : List ℕ) → IsChain next from cs from → (member : ℕ) × Contains members member × ((member ≡ from) ⊎ LeadsTo (components_of all) member from)
+      by [] h = (from, subst (λ row. Contains row from) with-own h, inl refl)
+      by (c ∷ cs) h = (c, subst (λ row. Contains row c) with-own h.0, leads_before (components_of all) next from (λ x. cases_eq x from) with-other c cs h.1)
+
+  pub led_back : components_of all from ≡ [] → ((member : ℕ) × Contains members member × ((member ≡ from) ⊎ LeadsTo (components_of all) member from)) → LeadsTo (components_with from members all) from from
+  led_back none (m, in', back) = by back
+    where
+      next : ℕ → List ℕ
+      next = components_with from members all
+      stays : (a c : ℕ) → Contains (components_of all a) c → Contains (next a) c
+      stays a c h = each (cases_eq a from)
+        where
+          each : (a ≡ from) ⊎ (a ≡ from → ⊥) → Contains (next a) c
+          each (inl e) = absurd (IsMember-from_Contains [] c (subst (λ row. Contains row c) (ap (components_of all) e ∙ none) h))
+          each (inr n) = subst (λ row. Contains row c) (sym (with-other a n)) h
+      first : Contains (next from) m
+      first = subst (λ row. Contains row m) (sym with-own) in'
+      by : (m ≡ from) ⊎ LeadsTo (components_of all) m from → LeadsTo next from from
+      by (inl e) = ([], subst (Contains (next from)) e first)
+      by (inr l) = (m ∷ l.0, (first, chain_weaker next (components_of all) stays m l.0 from l.1))
+
 -- ---- edges added
 
 -- the number is above the fund and each member
@@ -126,9 +153,6 @@ module _ (from : ℕ) (members : List ℕ) (all : Components) where
 -- ---- edges taken off and put back
 
 module _ (from : ℕ) (all : Components) where
-  none : List ℕ
-  none = []
-
   -- what is left was there
   removed_or_same : (fund : ℕ) → (components_of (with_components from [] all) fund ≡ []) ⊎ (components_of (with_components from [] all) fund ≡ components_of all fund)
   removed_or_same fund = by (cases_eq fund from) (cases_lt from (length all))
@@ -155,6 +179,13 @@ module _ (from : ℕ) (all : Components) where
       below fund (inr e) = subst (AreBelow (size_of all) fund) (sym e) (h.below fund)
 
   -- taken off and put back
+  pub none_left : components_of (with_components from [] all) from ≡ []
+  none_left = by (cases_lt from (length all))
+    where
+      by : (from < length all) ⊎ (length all ≤ from) → components_of (with_components from [] all) from ≡ []
+      by (inl l) = get_or-set_same all from [] [] l
+      by (inr l) = ap (λ rows. components_of rows from) (set_past all from [] l) ∙ get_or_past all from [] l
+
   pub put_back-removed : with_components from (components_of all from) (with_components from [] all) ≡ all
   put_back-removed = set-set all from [] (components_of all from) ∙ set-get_or all from []
 
@@ -164,11 +195,7 @@ module _ (from : ℕ) (edges : List ℕ) (all : Components) (below : AreBelow (s
   edges_put_back = by edges below
     where
       by : (es : List ℕ) → AreBelow (size_of all) from es → components_of (with_components from es all) from ≡ es
-      by [] b = past (cases_lt from (length all))
-        where
-          past : (from < length all) ⊎ (length all ≤ from) → components_of (with_components from [] all) from ≡ []
-          past (inl l) = get_or-set_same all from [] [] l
-          past (inr l) = ap (λ rows. components_of rows from) (set_past all from [] l) ∙ get_or_past all from [] l
+      by [] b = none_left from all
       by (e ∷ es) b = get_or-set_same all from (e ∷ es) [] ((b 0 e (omega arith)).0)
 
   pub order_put_back : IsOrder all → IsAcyclic (components_of (with_components from edges all)) → IsOrder (with_components from edges all)

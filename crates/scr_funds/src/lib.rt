@@ -3,6 +3,7 @@
 
 mod fault;
 mod kept;
+pub mod laws;
 mod order;
 mod parts;
 mod search;

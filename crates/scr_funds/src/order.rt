@@ -60,6 +60,8 @@ impl FundOrder {
     pub fn remove(&mut self, from: u32) -> Kept
         ensures kept { result ≡ record { from = from; edges = components_of self.old from } }
         ensures after { self.new ≡ with_components from [] self.old }
+        ensures none { components_of self.new from ≡ [] }
+        ensures back { with_components from result.edges self.new ≡ self.old }
         ensures order { IsOrder self.old }
     {
         let none = Vec::new(*self.rows.allocator());

@@ -1,8 +1,8 @@
 use Rattle.std.proofs.Common.{◌≡◌, ℕ, ◌+◌, ◌*◌, ◌/◌, ◌<◌, ◌≤◌, sum, take, get_or, length, arith, sym, ap, ◌∙◌}
 use Rattle.std.proofs.lemmas.List.{take_all}
 use Rattle.std.proofs.lemmas.List.Sums.{sum_by-le, sum_by_more_le}
-use Rattle.std.proofs.Math.Nat.{mul_comm, mul-div_cancel_left}
 use Rattle.scr_funds.specs.Parts.{first_parts}
+use Rattle.scr_funds.proofs.Shares.{first_parts-all}
 use Rattle.scr_funds.proofs.parts.allocate.Goals as goal
 
 pub total_of-total-requires : goal.total_of-total-requires
@@ -26,7 +26,6 @@ returns-clause-whole c =
     let weights = c.args.weights.now in
     let first : sum (take 0 weights) + get_or weights 0 0 ≤ sum weights = sum_by_more_le (λ w. w) weights 0 0 c.requires.some in
     let one : 1 ≤ get_or weights 0 0 = c.requires.positive 0 0 c.requires.some in
-    let all : first_parts c.args.value weights c.loop-k.k ≡ c.args.value =
-    ap (λ w. c.args.value * sum w / sum weights) (take_all c.loop-k.k weights (omega arith))
-    ∙ ap (λ n. n / sum weights) (mul_comm c.args.value (sum weights)) ∙ mul-div_cancel_left c.args.value (omega arith) in
-    ap sum (sym (take_all c.loop-k.k c.loop-k.out (omega arith))) ∙ c.loop-k.invariant.whole ∙ c.loop-k.invariant.shared ∙ all
+    let last : c.loop-k.k ≡ length weights = omega arith in
+    ap sum (sym (take_all c.loop-k.k c.loop-k.out (omega arith))) ∙ c.loop-k.invariant.whole ∙ c.loop-k.invariant.shared
+    ∙ ap (first_parts c.args.value weights) last ∙ first_parts-all c.args.value weights (omega arith)
