@@ -34,6 +34,7 @@ module _ {A : Type 0} (old new : A → List A) where
         later : (c ≡ from) ⊎ LeadsTo new c from → LeadsTo new a from
         later (inl e) = ([], subst (λ x. Contains (new a) x) e h.0)
         later (inr l) = (c ∷ l.0, (h.0, l.1))
+
         by : (a ≡ from) ⊎ (a ≢ from) → IsChain old c cs b ⊎ PassesBy c b → IsChain old a (c ∷ cs) b ⊎ PassesBy a b
         by (inl e) rest = inr (inl e, (c ∷ cs, subst (λ x. IsChain new x (c ∷ cs) b) e h))
         by (inr n) (inl k) = inl (subst (λ row. Contains row c) (others a n) h.0, k)
@@ -78,6 +79,7 @@ module _ {A : Type 0} (components : A → List A) where
     where
       longer : length q.between ≡ length p.between
       longer = let one = p.shortest q.between q.chain in let two = q.shortest p.between p.chain in omega (arith, one, two)
+
       by : (q.between ≡ p.between) ⊎ ComesEarlier components a p.between q.between → (p.between ≡ q.between) ⊎ ComesEarlier components a q.between p.between → p.between ≡ q.between
       by (inl e) k = sym e
       by (inr h) (inl e) = e

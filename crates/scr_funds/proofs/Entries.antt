@@ -109,26 +109,32 @@ module _ (components : ℕ → List ℕ) (from to : ℕ) where
     where
       assoc : (seen ++ c ∷ []) ++ ahead ≡ seen ++ c ∷ ahead
       assoc = append_assoc seen (c ∷ []) ahead
+
       Goal : Bool → Type 0
       Goal b = Entering (entered place ahead (if b then es else insert_entry nat_eq es c place)) place (seen ++ c ∷ ahead) done cur
+
       count : length (keys_of es) ≡ length es
       count = length-map es (λ e. e.0)
+
       total : length (keys_of es) ≡ length (done ++ map (tip components from) (cur ∷ h.rest))
       total = ap length h.explored.reached
+
       split : length (done ++ map (tip components from) (cur ∷ h.rest)) ≡ length done + length (map (tip components from) (cur ∷ h.rest))
       split = length-append done (map (tip components from) (cur ∷ h.rest))
+
       ends : length (map (tip components from) h.rest) ≡ length h.rest
       ends = length-map h.rest (tip components from)
+
       by : (b : Bool) → is_some (lookup (nat_eq c) es) ≡ b
           → ((es' : List (ℕ × ℕ)) → Entering es' place (seen ++ c ∷ []) done cur → Entering (entered place ahead es') place ((seen ++ c ∷ []) ++ ahead) done cur)
           → Goal (is_some (lookup (nat_eq c) es))
       by true e later = subst Goal (sym e) (subst (λ s. Entering (entered place ahead es) place s done cur) assoc
-        (later es
-        (record {
-          rest = h.rest;
-          explored = explored_again components from to done cur h.rest seen (keys_of es) c h.explored (reached_before c es e);
-          traced = h.traced;
-        })))
+          (later es
+          (record {
+            rest = h.rest;
+            explored = explored_again components from to done cur h.rest seen (keys_of es) c h.explored (reached_before c es e);
+            traced = h.traced;
+          })))
       by false e later =
           let more : List (ℕ × ℕ) = es ++ (c, place) ∷ [] in
           let last : place + suc (length h.rest) ≡ length es = omega (arith, count, total, split, ends) in
@@ -140,7 +146,7 @@ module _ (components : ℕ → List ℕ) (from to : ℕ) where
           (record {
             rest = h.rest ++ (c ∷ cur) ∷ [];
             explored = subst (Explored components from to done (cur ∷ (h.rest ++ (c ∷ cur) ∷ [])) (seen ++ c ∷ [])) (sym (map-append (λ (e : ℕ × ℕ). e.0) es ((c, place) ∷ [])))
-              (explored_new components from to done cur h.rest seen ahead (keys_of es) c h.explored row (not_reached c es e));
+                (explored_new components from to done cur h.rest seen ahead (keys_of es) c h.explored row (not_reached c es e));
             traced = are_traced_push more from place (cur ∷ h.rest) (c ∷ cur) (are_traced_more es ((c, place) ∷ []) from place (cur ∷ h.rest) h.traced) (subst (λ p. IsTraced more from p (c ∷ cur)) (sym last) new);
           }))))
 

@@ -65,6 +65,7 @@ module _ (components : ℕ → List ℕ) (from to : ℕ) where
       sooner_rest : (r : List ℕ) → IsMember r (cur ∷ rest) → IsNotLater components from cur r
       sooner_rest r (inl e) = inl (sym e)
       sooner_rest r (inr m) = inr (at_member (IsSooner components from cur) rest r h.in_order.0 m)
+
       by : IsMember (tip components from s) done ⊎ IsMember (tip components from s) (map (tip components from) (cur ∷ rest)) → IsMember (tip components from s) done ⊎ IsNotLater components from cur s
       by (inl m) = inl m
       by (inr m) =
@@ -108,34 +109,43 @@ module _ (components : ℕ → List ℕ) (from to : ℕ) where
     where
       Way : List ℕ → Type 0
       Way other = (s : List ℕ) × IsTrail components from s × Contains (components (tip components from s)) to × (onto s [] ≡ other)
+
       not_later : (s : List ℕ) → IsTrail components from s → Contains (components (tip components from s)) to → IsNotLater components from cur s
       not_later s trail end = by (done_or_not_later done cur rest seen keys h s trail)
         where
           by : IsMember (tip components from s) done ⊎ IsNotLater components from cur s → IsNotLater components from cur s
           by (inl m) = absurd (at_member (λ f. Contains (components f) to → ⊥) done (tip components from s) h.apart m end)
           by (inr l) = l
+
       shortest : (other : List ℕ) → Way other → length (onto cur []) ≤ length other
       shortest other w = by (not_later w.0 w.1 w.2)
         where
           own : length (onto cur []) ≡ length cur + 0
           own = length-onto cur []
+
           its : length (onto w.0 []) ≡ length w.0 + 0
           its = length-onto w.0 []
+
           same : length (onto w.0 []) ≡ length other
           same = ap length w.3
+
           by : IsNotLater components from cur w.0 → length (onto cur []) ≤ length other
           by (inl e) = let k : length cur ≡ length w.0 = ap length e in omega (arith, own, its, same)
           by (inr (inl l)) = omega (arith, own, its, same)
           by (inr (inr l)) = let k : length cur ≡ length w.0 = l.0 in omega (arith, own, its, same)
+
       first : (other : List ℕ) → Way other → length other ≡ length (onto cur []) → (other ≡ onto cur []) ⊎ ComesEarlier components from (onto cur []) other
       first other w equal = by (not_later w.0 w.1 w.2)
         where
           own : length (onto cur []) ≡ length cur + 0
           own = length-onto cur []
+
           its : length (onto w.0 []) ≡ length w.0 + 0
           its = length-onto w.0 []
+
           same : length (onto w.0 []) ≡ length other
           same = ap length w.3
+
           by : IsNotLater components from cur w.0 → (other ≡ onto cur []) ⊎ ComesEarlier components from (onto cur []) other
           by (inl e) = inl (sym w.3 ∙ ap (λ s. onto s []) (sym e))
           by (inr (inl l)) = absurd (omega (arith, own, its, same, equal))
@@ -222,7 +232,7 @@ module _ (components : ℕ → List ℕ) (from to : ℕ) where
     reached = h.reached ∙ sym (append_assoc done (tip components from cur ∷ []) (map (tip components from) rest));
     root = h.root;
     closed = each_push (λ f. (c : ℕ) → Contains (components f) c → IsMember c keys) done (tip components from cur) h.closed
-      (λ c k. at_member (λ x. IsMember x keys) (components (tip components from cur)) c h.entered (IsMember-from_Contains (components (tip components from cur)) c k));
+        (λ c k. at_member (λ x. IsMember x keys) (components (tip components from cur)) c h.entered (IsMember-from_Contains (components (tip components from cur)) c k));
     apart = each_push (λ f. Contains (components f) to → ⊥) done (tip components from cur) h.apart apart;
     entered = tt;
     trails = h.trails.1;

@@ -17,6 +17,7 @@ components_of-replicate n fund = by (cases_lt fund n)
   where
     none : List ℕ
     none = []
+
     by : (fund < n) ⊎ (n ≤ fund) → components_of (replicate n none) fund ≡ none
     by (inl l) = get_or-replicate n fund none none l
     by (inr l) = let count : length (replicate n none) ≡ n = length-replicate n none in get_or_past (replicate n none) fund none (omega arith)
@@ -27,6 +28,7 @@ components_of-grown size all fund = by (cases_lt fund (length all))
   where
     rest : Components
     rest = replicate (size - length all) []
+
     by : (fund < length all) ⊎ (length all ≤ fund) → components_of (all ++ rest) fund ≡ components_of all fund
     by (inl l) = get_or_append_left all rest [] fund l
     by (inr l) = get_or-append_right all rest (length all) fund [] refl l ∙ components_of-replicate (size - length all) (fund - length all) ∙ sym (get_or_past all fund [] l)
@@ -36,10 +38,13 @@ size_of-grown size all = length-append all rest ∙ ap (λ n. length all + n) ne
   where
     none : List ℕ
     none = []
+
     rest : Components
     rest = replicate (size - length all) none
+
     new : length rest ≡ size - length all
     new = length-replicate (size - length all) none
+
     most : (n : ℕ) → n + (size - n) ≡ max size n
     most n = omega arith
 
@@ -79,6 +84,7 @@ module _ (from : ℕ) (members : List ℕ) (all : Components) where
     where
       next : ℕ → List ℕ
       next = components_with from members all
+
       by : (cs : List ℕ) → IsChain next from cs from → (member : ℕ) × Contains members member × ((member ≡ from) ⊎ LeadsTo (components_of all) member from)
       by [] h = (from, subst (λ row. Contains row from) with-own h, inl refl)
       by (c ∷ cs) h = (c, subst (λ row. Contains row c) with-own h.0, leads_before (components_of all) next from (λ x. cases_eq x from) with-other c cs h.1)
@@ -88,14 +94,17 @@ module _ (from : ℕ) (members : List ℕ) (all : Components) where
     where
       next : ℕ → List ℕ
       next = components_with from members all
+
       stays : (a c : ℕ) → Contains (components_of all a) c → Contains (next a) c
       stays a c h = each (cases_eq a from)
         where
           each : (a ≡ from) ⊎ (a ≡ from → ⊥) → Contains (next a) c
           each (inl e) = absurd (IsMember-from_Contains [] c (subst (λ row. Contains row c) (ap (components_of all) e ∙ none) h))
           each (inr n) = subst (λ row. Contains row c) (sym (with-other a n)) h
+
       first : Contains (next from) m
       first = subst (λ row. Contains row m) (sym with-own) in'
+
       by : (m ≡ from) ⊎ LeadsTo (components_of all) m from → LeadsTo next from from
       by (inl e) = ([], subst (Contains (next from)) e first)
       by (inr l) = (m ∷ l.0, (first, chain_weaker next (components_of all) stays m l.0 from l.1))
@@ -129,20 +138,24 @@ module _ (from : ℕ) (members : List ℕ) (all : Components) where
   pub order_added : IsOrder all → (LeadsTo (components_with from members all) from from → ⊥) → IsOrder (with_edges from members all)
   order_added h apart = record {
     acyclic = subst IsAcyclic (λ i fund. sym (components_of-with_edges fund) i)
-      (acyclic_still (components_of all) (components_with from members all) from (λ x. cases_eq x from) (with-other from members all) h.acyclic apart);
+        (acyclic_still (components_of all) (components_with from members all) from (λ x. cases_eq x from) (with-other from members all) h.acyclic apart);
     below = λ fund. subst (AreBelow (size_of (with_edges from members all)) fund) (sym (components_of-with_edges fund)) (below fund);
   }
     where
       size : size_of (with_edges from members all) ≡ max (fold max from members + 1) (length all)
       size = size_of-with_edges
+
       first : from ≤ fold max from members
       first = above_first from members
+
       own : AreBelow (size_of (with_edges from members all)) from members
       own = All-from_members (λ m. (from < size_of (with_edges from members all)) × (m < size_of (with_edges from members all))) members
-        (λ m k. let l : m ≤ fold max from members = above_members from members m k in (omega (arith, size, first), omega (arith, size)))
+          (λ m k. let l : m ≤ fold max from members = above_members from members m k in (omega (arith, size, first), omega (arith, size)))
+
       old : (fund : ℕ) → AreBelow (size_of (with_edges from members all)) fund (components_of all fund)
       old fund = All-weaker (λ m. (fund < size_of all) × (m < size_of all)) (λ m. (fund < size_of (with_edges from members all)) × (m < size_of (with_edges from members all)))
-        (λ m k. let a : fund < length all = k.0 in let b : m < length all = k.1 in (omega (arith, size), omega (arith, size))) (components_of all fund) (h.below fund)
+          (λ m k. let a : fund < length all = k.0 in let b : m < length all = k.1 in (omega (arith, size), omega (arith, size))) (components_of all fund) (h.below fund)
+
       below : (fund : ℕ) → AreBelow (size_of (with_edges from members all)) fund (components_with from members all fund)
       below fund = by (cases_eq fund from)
         where
@@ -174,6 +187,7 @@ module _ (from : ℕ) (all : Components) where
           by : (components_of (with_components from [] all) a ≡ []) ⊎ (components_of (with_components from [] all) a ≡ components_of all a) → Contains (components_of all a) c
           by (inl e) = absurd (IsMember-from_Contains [] c (subst (λ row. Contains row c) e k))
           by (inr e) = subst (λ row. Contains row c) e k
+
       below : (fund : ℕ) → (components_of (with_components from [] all) fund ≡ []) ⊎ (components_of (with_components from [] all) fund ≡ components_of all fund) → AreBelow (size_of all) fund (components_of (with_components from [] all) fund)
       below fund (inl e) = subst (AreBelow (size_of all) fund) (sym e) (All-nil (λ m. (fund < size_of all) × (m < size_of all)))
       below fund (inr e) = subst (AreBelow (size_of all) fund) (sym e) (h.below fund)

@@ -61,7 +61,7 @@ impl FundOrder {
         ensures kept { result ≡ record { from = from; edges = components_of self.old from } }
         ensures after { self.new ≡ with_components from [] self.old }
         ensures none { components_of self.new from ≡ [] }
-        ensures back { with_components from result.edges self.new ≡ self.old }
+        ensures back { with_components result.from result.edges self.new ≡ self.old }
         ensures order { IsOrder self.old }
     {
         let none = Vec::new(*self.rows.allocator());

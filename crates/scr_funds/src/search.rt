@@ -38,12 +38,7 @@ pub(crate) fn first_chain(
 }
 
 /// The components of a fund.
-fn components_of<'a>(
-    rows: &'a [Vec<u32>],
-    from: u32,
-    members: &'a [u32],
-    fund: u32,
-) -> &'a [u32]
+fn components_of<'a>(rows: &'a [Vec<u32>], from: u32, members: &'a [u32], fund: u32) -> &'a [u32]
     ensures { result.now ≡ components_with from members.now (rows_of rows.now) fund }
 {
     if fund == from {

@@ -21,9 +21,12 @@ pub loop-place-preserved : goal.loop-place-preserved
 loop-place-preserved c = λ trail traced.
     let left = c.loop-place.invariant trail traced in
     let entry = sym c.get_index.ensures.entry ∙ ap (option_map deref_pair) c.unwrap.ensures in
-    let back = (one_back c.args.reached.now.entries c.args.from c.loop-place.place left.0 left.1 c.loop-place-test.true c.unwrap.result.0.now c.unwrap.result.1.now entry).1 in
-    (back.0, back.1, ap (λ p. p ++ back.0) c.in_ok-push-2.ensures.items ∙ append_assoc c.loop-place.path.items (c.unwrap.result.0.now ∷ []) back.0
-      ∙ ap (λ l. c.loop-place.path.items ++ l) (sym back.2) ∙ left.2)
+    let back = (one_back c.args.reached.now.entries c.args.from c.loop-place.place left.0 left.1 c.loop-place-test.true c.unwrap.result.0.now c.unwrap.result.1.now entry).1 in (
+      back.0,
+      back.1,
+      ap (λ p. p ++ back.0) c.in_ok-push-2.ensures.items ∙ append_assoc c.loop-place.path.items (c.unwrap.result.0.now ∷ []) back.0
+          ∙ ap (λ l. c.loop-place.path.items ++ l) (sym back.2) ∙ left.2,
+    )
 
 pub returns : goal.returns
 returns c = λ trail traced.
