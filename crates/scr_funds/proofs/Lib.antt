@@ -6,3 +6,4 @@ pub mod Traces
 pub mod Cycles
 pub mod Rows
 pub mod Shares
+pub mod Naming

@@ -24,6 +24,7 @@ pub fn chains()
 
 /// What each fund has once edges are added, taken off or put back, and the size then.
 pub fn edges()
+    ensures none { IsOrder [] }
     ensures added { (from : ℕ) (members : List ℕ) (all : Components) (fund : ℕ)
         → components_of (with_edges from members all) fund ≡ components_with from members all fund }
     ensures replaced { (from : ℕ) (members : List ℕ) (all : Components) → from < size_of all → (fund : ℕ)

@@ -76,6 +76,7 @@ impl FundOrder {
         requires acyclic { IsAcyclic (components_of (with_components kept.from kept.edges self.old)) }
         ensures edges { components_of self.new kept.from ≡ kept.edges }
         ensures after { self.new ≡ with_components kept.from kept.edges self.old }
+        ensures order { IsOrder self.new }
     {
         let Kept { from, edges } = kept;
         let _ = exchange(&mut self.rows, from, edges);

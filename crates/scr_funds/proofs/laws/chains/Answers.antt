@@ -1,4 +1,5 @@
 use Rattle.scr_funds.proofs.Cycles.{one_first_shortest}
+use Rattle.scr_funds.proofs.Naming.{first_shortest_named}
 use Rattle.scr_funds.proofs.Rows.{leads_back, led_back}
 use Rattle.scr_funds.proofs.laws.chains.Goals as goal
 

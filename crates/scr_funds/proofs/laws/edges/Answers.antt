@@ -1,6 +1,9 @@
 use Rattle.std.proofs.lemmas.List.{length-set}
-use Rattle.scr_funds.proofs.Rows.{components_of-with_edges, components_of-with_components, size_of-with_edges, put_back-removed, order_removed}
+use Rattle.scr_funds.proofs.Rows.{components_of-with_edges, components_of-with_components, size_of-with_edges, put_back-removed, order_none, order_removed}
 use Rattle.scr_funds.proofs.laws.edges.Goals as goal
+
+pub returns-clause-none : goal.returns-clause-none
+returns-clause-none c = order_none
 
 pub returns-clause-added : goal.returns-clause-added
 returns-clause-added c = components_of-with_edges

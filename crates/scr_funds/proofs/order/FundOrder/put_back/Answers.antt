@@ -18,3 +18,6 @@ invariant_of-self c =
 pub returns-clause-edges : goal.returns-clause-edges
 returns-clause-edges c =
     ap (λ rows. components_of rows c.args.kept.from) (after c) ∙ edges_put_back c.args.kept.from c.args.kept.edges c.args.self.now c.requires.below
+
+pub returns-clause-order : goal.returns-clause-order
+returns-clause-order c = invariant_of-self c
