@@ -1,6 +1,6 @@
 -- Chains under other names: where each holder of one kind stands for one of another, with the components that stand for its
 -- own, chains are the same.
-use Rattle.std.proofs.Common.{◌≡◌, ◌⊎◌, ℕ, ◌+◌, ◌<◌, ◌≤◌, suc, zero, List, [], ◌∷◌, ◌++◌, map, length, Contains, Some, None, slice_get, refl, sym, ap, subst, ◌∙◌, inl, inr, arith}
+use Rattle.std.proofs.Common.{◌≡◌, ◌⊎◌, ℕ, ◌≤◌, suc, zero, List, [], ◌∷◌, map, length, Contains, Some, None, slice_get, refl, sym, ap, subst, ◌∙◌, inl, inr, arith}
 use Rattle.std.proofs.lemmas.List.{map-append, length-map}
 use Rattle.scr_funds.specs.Chains.{IsMetBefore, IsChain, LeadsTo, ComesEarlier, IsFirstShortest}
 use Rattle.scr_funds.proofs.Members.{IsMember, IsMember-from_Contains, Contains-from_IsMember, IsMember-map}
@@ -59,10 +59,13 @@ module _ {A B : Type 0} (old : A → List A) (new : B → List B) (name : A → 
 
   met_named : (a c d : A) → In a → In d → IsMetBefore (old a) c d → IsMetBefore (new (name a)) (name c) (name d)
   met_named a c d in' ind h =
-      subst (λ row. IsMetBefore row (name c) (name d)) (sym (named a in'))
-      (h.0, slice_get-named name (old a) h.0 c h.1, λ j l k.
-        let x = named_at name (old a) j (name d) k in
-        h.2 j l (x.1 ∙ ap Some (apart x.0 d (stays a x.0 in' (Contains-from_IsMember (old a) x.0 x.2)) ind x.3)))
+      subst (λ row. IsMetBefore row (name c) (name d)) (sym (named a in')) (
+        h.0,
+        slice_get-named name (old a) h.0 c h.1,
+        λ j l k.
+            let x = named_at name (old a) j (name d) k in
+            h.2 j l (x.1 ∙ ap Some (apart x.0 d (stays a x.0 in' (Contains-from_IsMember (old a) x.0 x.2)) ind x.3)),
+      )
 
   earlier_named : (a : A) (cs ds : List A) (b : A) → In a → IsChain old a cs b → IsChain old a ds b → ComesEarlier old a cs ds → ComesEarlier new (name a) (map name cs) (map name ds)
   earlier_named a [] ds b in' h k e = absurd e
@@ -83,8 +86,10 @@ module _ {A B : Type 0} (old : A → List A) (new : B → List B) (name : A → 
     where
       Way : List B → Type 0
       Way other = (cs : List A) × IsChain old a cs b × (map name cs ≡ other)
+
       way : (other : List B) → IsChain new (name a) other (name b) → Way other
       way other chain = let w = chain_of_named a other (name b) in' chain in (w.0, subst (IsChain old a w.0) (apart w.1 b w.4 inb w.5) w.2, w.3)
+
       shortest : (other : List B) → Way other → length (map name p.between) ≤ length other
       shortest other w =
           let l : length p.between ≤ length w.0 = p.shortest w.0 w.1 in
@@ -92,6 +97,7 @@ module _ {A B : Type 0} (old : A → List A) (new : B → List B) (name : A → 
           let its : length (map name w.0) ≡ length w.0 = length-map w.0 name in
           let same : length (map name w.0) ≡ length other = ap length w.2 in
           omega arith
+
       first : (other : List B) → Way other → length other ≡ length (map name p.between) → (other ≡ map name p.between) ⊎ ComesEarlier new (name a) (map name p.between) other
       first other w equal = by (p.first w.0 w.1 (sym (length-map w.0 name) ∙ ap length w.2 ∙ equal ∙ length-map p.between name))
         where

@@ -1,5 +1,5 @@
 -- The components of all funds, as rows that are put in and taken off.
-use Rattle.std.proofs.Common.{◌≡◌, ◌≢◌, ◌⊎◌, ℕ, ◌+◌, ◌-◌, ◌<◌, ◌≤◌, max, suc, zero, Bool, true, false, nat_eq, if◌then◌else◌, List, [], ◌∷◌, ◌++◌, length, get_or, set, replicate, fold, Contains, refl, sym, ap, subst, ◌∙◌, inl, inr, arith}
+use Rattle.std.proofs.Common.{◌≡◌, ◌≢◌, ◌⊎◌, ◌↔◌, ℕ, ◌+◌, ◌-◌, ◌<◌, ◌≤◌, max, true, false, nat_eq, if◌then◌else◌, List, [], ◌∷◌, ◌++◌, length, replicate, fold, Contains, refl, sym, ap, subst, ◌∙◌, inl, inr, arith}
 use Rattle.std.proofs.lemmas.Bool.{cases_lt, cases_eq, eq-eqb}
 use Rattle.std.proofs.lemmas.Bool.Decides.{eqb_tells}
 use Rattle.std.proofs.lemmas.List.{get_or-set_same, get_or-set_other, get_or_append_left, get_or-append_right, get_or_past, length-append, length-replicate, length-set, set-set, set-get_or, get_or-replicate, set_past}
@@ -135,9 +135,20 @@ module _ (from : ℕ) (members : List ℕ) (all : Components) where
       components_of-with_components from members (grown (number_above from members) all) (omega arith) fund
       ∙ ap (λ row. if nat_eq fund from then members else row) (components_of-grown (number_above from members) all fund)
 
+  pub with_edges-is : components_of (with_edges from members all) ≡ components_with from members all
+  with_edges-is = λ i fund. components_of-with_edges fund i
+
+  -- the fund would lead to itself exactly where one of the members is the fund or leads back to it
+  pub cycle_by_members : components_of all from ≡ [] → (LeadsTo (components_of (with_edges from members all)) from from)
+      ↔ ((member : ℕ) × Contains members member × ((member ≡ from) ⊎ LeadsTo (components_of all) member from))
+  cycle_by_members none = (
+    λ h. leads_back from members all none (subst (λ next. LeadsTo next from from) with_edges-is h),
+    λ h. subst (λ next. LeadsTo next from from) (sym with_edges-is) (led_back from members all none h),
+  )
+
   pub order_added : IsOrder all → (LeadsTo (components_with from members all) from from → ⊥) → IsOrder (with_edges from members all)
   order_added h apart = record {
-    acyclic = subst IsAcyclic (λ i fund. sym (components_of-with_edges fund) i)
+    acyclic = subst IsAcyclic (sym with_edges-is)
         (acyclic_still (components_of all) (components_with from members all) from (λ x. cases_eq x from) (with-other from members all) h.acyclic apart);
     below = λ fund. subst (AreBelow (size_of (with_edges from members all)) fund) (sym (components_of-with_edges fund)) (below fund);
   }

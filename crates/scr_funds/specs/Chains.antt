@@ -27,7 +27,8 @@ module _ {A : Type 0} (components : A → List A) where
   ComesEarlier a (c ∷ cs) [] = ⊥
   ComesEarlier a (c ∷ cs) (d ∷ ds) = IsMetBefore (components a) c d ⊎ ((c ≡ d) × ComesEarlier c cs ds)
 
-  -- The path goes from a to b by a chain. No chain from a to b is shorter, and every other one that is as short comes later.
+  -- The path goes from a to b by a chain. No chain from a to b is shorter, and every other one that is as short comes later
+  -- (that this chain is told is this project's own).
   pub record IsFirstShortest (a b : A) (path : List A) : Type 0 where
     pub between : List A
     pub whole : path ≡ a ∷ (between ++ b ∷ [])

@@ -1,6 +1,6 @@
 -- The components of all funds: for each fund, named by its place in this list, the list of its components in the order of
 -- its record. A fund past the end of the list has none.
-use Rattle.std.specs.Prelude.{ℕ, ◌+◌, ◌-◌, ◌<◌, max, All, List, [], ◌∷◌, ◌++◌, if◌then◌else◌, nat_eq, length, fold, replicate, slice_index_or, slice_set}
+use Rattle.std.specs.Prelude.{ℕ, ◌+◌, ◌-◌, ◌<◌, max, All, List, [], ◌++◌, if◌then◌else◌, nat_eq, length, fold, replicate, slice_index_or, slice_set}
 use Rattle.scr_funds.specs.Chains.{IsAcyclic}
 
 abbrev pub Components : Type 0
@@ -30,7 +30,7 @@ number_above fund members = fold max fund members + 1
 abbrev pub with_edges : ℕ → List ℕ → Components → Components
 with_edges fund members all = with_components fund members (grown (number_above fund members) all)
 
--- what leads on from each fund once one fund has these components
+-- the components of each fund, where one fund has these and every other its own
 abbrev pub components_with : ℕ → List ℕ → Components → ℕ → List ℕ
 components_with from members all fund = if nat_eq fund from then members else components_of all fund
 

@@ -16,7 +16,7 @@ pub fn parts()
 /// one first shortest chain at most.
 pub fn chains()
     ensures cycle { (from : ℕ) (members : List ℕ) (all : Components) → components_of all from ≡ []
-        → (LeadsTo (components_with from members all) from from)
+        → (LeadsTo (components_of (with_edges from members all)) from from)
         ↔ ((member : ℕ) × Contains members member × ((member ≡ from) ⊎ LeadsTo (components_of all) member from)) }
     ensures single { (components : ℕ → List ℕ) (from to : ℕ) (path other : List ℕ)
         → IsFirstShortest components from to path → IsFirstShortest components from to other → path ≡ other }

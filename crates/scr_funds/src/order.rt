@@ -1,8 +1,8 @@
 //! Which funds hold which.
-ghost use Rattle.std.specs.Prelude.{◌≡◌, ℕ, ◌≤◌, ◌<◌, ◌+◌, [], ◌∷◌, All, IfOk, OnOk, OnErr, MatchOption};
+ghost use Rattle.std.specs.Prelude.{◌≡◌, ◌≤◌, ◌<◌, [], IfOk, OnOk, OnErr, MatchOption};
 ghost use Rattle.scr_funds.specs.Answers.{Answers};
 ghost use Rattle.scr_funds.specs.Chains.{IsAcyclic, IsFirstShortest, LeadsTo};
-ghost use Rattle.scr_funds.specs.Components.{AreBelow, IsOrder, components_of, components_with, grown, number_above, size_of, with_components, with_edges};
+ghost use Rattle.scr_funds.specs.Components.{AreBelow, IsOrder, components_of, grown, size_of, with_components, with_edges};
 ghost use Rattle.scr_funds.specs.Search.{rows_of};
 
 use crate::search::{first_chain, number_above, row_of};
@@ -40,11 +40,12 @@ impl FundOrder {
         })
     }
 
-    /// Makes `to` the components of a fund that has none. Cycle comes exactly where one of them is the fund itself or
-    /// leads back to it. After a refusal all is as before.
+    /// Makes `to` the components of a fund that has none. `Cycle` comes exactly where one of them is the fund itself or
+    /// leads back to it, and tells the first shortest chain by which the fund would hold itself. After a refusal all
+    /// is as before.
     pub fn add_edges(&mut self, alloc: Global, from: u32, to: &[u32]) -> Result<(), OrderFault>
         requires { components_of self.old from ≡ [] }
-        ensures answer { Answers (components_with from to.now self.old) from result }
+        ensures answer { Answers (components_of (with_edges from to.now self.old)) from result }
         ensures ok { OnOk result (self.new ≡ with_edges from to.now self.old) }
         ensures err { OnErr result (self.new ≡ self.old) }
         ensures order { IsOrder self.new }
@@ -69,7 +70,8 @@ impl FundOrder {
         Kept { from, edges }
     }
 
-    /// Makes the components of a fund that has none those that were kept, without memory.
+    /// Makes the components of a fund that has none those that were kept, without memory. They would close no cycle, and
+    /// their ends are below the size: right after `remove` they always may be put back.
     pub fn put_back(&mut self, kept: Kept)
         requires none { components_of self.old kept.from ≡ [] }
         requires below { AreBelow (size_of self.old) kept.from kept.edges }
@@ -82,7 +84,9 @@ impl FundOrder {
         let _ = exchange(&mut self.rows, from, edges);
     }
 
-    /// The first shortest chain from a fund to what `to` names, with both its ends. None exactly where there is none.
+    /// The first shortest chain from a fund to what `to` names, with both its ends: no chain is shorter, and of those that
+    /// are as short it is the first, comparing step by step the place of each component in its fund's record. None
+    /// exactly where there is no chain.
     pub fn path(&self, alloc: Global, from: u32, to: u32) -> Result<Option<Vec<u32>>, NoMemory>
         ensures { IfOk result (λ found. MatchOption found
             (¬ LeadsTo (components_of self.now) from to)

@@ -1,5 +1,5 @@
 //! The search for a chain of components, in order of distance.
-ghost use Rattle.std.specs.Prelude.{◌≡◌, ℕ, ◌<◌, ◌≤◌, ◌++◌, [], ◌∷◌, MatchOption, IfOk, OnOk, List, reverse};
+ghost use Rattle.std.specs.Prelude.{◌≡◌, ℕ, ◌++◌, List, [], ◌∷◌, IfOk, MatchOption, OnOk, reverse};
 ghost use Rattle.scr_funds.specs.Chains.{IsFirstShortest, LeadsTo};
 ghost use Rattle.scr_funds.specs.Components.{components_of, components_with, number_above};
 ghost use Rattle.scr_funds.specs.Search.{rows_of, entered, IsTraced};

@@ -1,7 +1,7 @@
-use Rattle.std.proofs.Common.{Vec, ℕ, ◌≡◌, ◌<◌, ◌+◌, max, List, set, length, fold, sym, ap, ◌∙◌, arith}
+use Rattle.std.proofs.Common.{Vec, ℕ, ◌≡◌, ◌<◌, ◌+◌, max, List, set, length, fold, ap, ◌∙◌, arith}
 use Rattle.std.specs.Global.{Global}
 use Rattle.std.proofs.lemmas.List.{map-set, length-map}
-use Rattle.scr_funds.specs.Components.{Components, grown, number_above, size_of}
+use Rattle.scr_funds.specs.Components.{Components, grown, number_above}
 use Rattle.scr_funds.specs.Search.{rows_of}
 use Rattle.scr_funds.proofs.Rows.{size_of-grown, above_first}
 use Rattle.scr_funds.proofs.order.put_row.Goals as goal

@@ -1,5 +1,5 @@
 -- The components so far have together what the first k have, each its part.
-use Rattle.std.proofs.Common.{◌≡◌, ℕ, ◌<◌, sum, take, get_or, length}
+use Rattle.std.proofs.Common.{◌≡◌, ℕ, ◌<◌, sum, take, get_or}
 use Rattle.scr_funds.specs.Parts.{first_parts, part_of}
 use Rattle.scr_funds.proofs.parts.allocate.Given as goal
 

@@ -1,13 +1,12 @@
-use Rattle.std.proofs.Common.{◌≡◌, ℕ, nat_eq, Contains, ◌+◌, ◌<◌, List, [], ◌∷◌, ◌++◌, Some, slice_get, refl, sym, ap, subst, ◌∙◌, arith}
+use Rattle.std.proofs.Common.{nat_eq, Contains, ◌+◌, [], ◌∷◌, sym, ap, subst, ◌∙◌, arith}
 use Rattle.std.specs.Map.Iter.{deref_pair}
 use Rattle.std.specs.Option.{option_map}
 use Rattle.indexmap.specs.IndexMap.{insert_entry}
 use Rattle.scr_funds.specs.Chains.{IsFirstShortest}
 use Rattle.scr_funds.specs.Components.{components_with}
-use Rattle.scr_funds.specs.Search.{rows_of, entered, IsTraced}
+use Rattle.scr_funds.specs.Search.{rows_of, entered}
 use Rattle.scr_funds.proofs.Members.{Contains-any, not_contains-any}
 use Rattle.scr_funds.proofs.Traces.{onto-reverse}
-use Rattle.scr_funds.proofs.Trails.{onto}
 use Rattle.scr_funds.proofs.Entries.{Noted, noted_none, noted_found, noted_next, noted_all}
 use Rattle.scr_funds.proofs.search.first_chain.Goals as goal
 

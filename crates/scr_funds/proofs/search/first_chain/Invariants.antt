@@ -1,5 +1,5 @@
 -- What was reached is noted down, as far as the place is done.
-use Rattle.std.proofs.Common.{ℕ, ◌-◌, ◌^◌, []}
+use Rattle.std.proofs.Common.{◌-◌, ◌^◌, []}
 use Rattle.scr_funds.specs.Components.{components_with}
 use Rattle.scr_funds.specs.Search.{rows_of}
 use Rattle.scr_funds.proofs.Entries.{Noted}

@@ -1,5 +1,5 @@
-use Rattle.std.proofs.Common.{◌≡◌, List, [], ap, subst, sym}
-use Rattle.scr_funds.specs.Components.{Components, IsOrder}
+use Rattle.std.proofs.Common.{ap, subst, sym}
+use Rattle.scr_funds.specs.Components.{IsOrder}
 use Rattle.scr_funds.specs.Search.{rows_of}
 use Rattle.scr_funds.proofs.Rows.{order_none}
 use Rattle.scr_funds.proofs.order.FundOrder.new.Goals as goal

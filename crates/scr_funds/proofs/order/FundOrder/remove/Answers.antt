@@ -1,7 +1,7 @@
 use Rattle.std.proofs.Common.{◌≡◌, ◌⊎◌, ◌<◌, ◌≤◌, [], inl, inr, subst, sym, ap, ◌∙◌}
 use Rattle.std.proofs.lemmas.Bool.{cases_lt}
 use Rattle.std.proofs.lemmas.List.{get_or_past}
-use Rattle.scr_funds.specs.Components.{Components, IsOrder, components_of, with_components, size_of}
+use Rattle.scr_funds.specs.Components.{IsOrder, components_of, with_components, size_of}
 use Rattle.scr_funds.specs.Search.{rows_of}
 use Rattle.scr_funds.proofs.Rows.{order_removed, put_back-removed}
 use Rattle.scr_funds.proofs.order.FundOrder.remove.Goals as goal
