@@ -1,0 +1,6 @@
+-- What is taken off: the edges of one fund.
+use Rattle.std.specs.Prelude.{ℕ, List}
+
+pub record KeptEdges : Type 0 where
+  pub from : ℕ
+  pub edges : List ℕ

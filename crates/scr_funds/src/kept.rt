@@ -1,0 +1,18 @@
+//! Edges that were taken off.
+
+use std::marker::Model;
+
+/// The edges of one fund, as `FundOrder::remove` hands them out. Contracts see the fund and the list of its components.
+#[derive(Debug, Drop)]
+pub struct Kept {
+    pub(crate) from: u32,
+    pub(crate) edges: Vec<u32>,
+}
+
+impl Model for Kept {
+    ghost use Rattle.scr_funds.specs.KeptEdges.{KeptEdges};
+
+    ghost Value = { KeptEdges };
+
+    ghost view = { λ kept. record { from = kept.from; edges = kept.edges.items } };
+}

@@ -1,0 +1,16 @@
+//! Funds: the parts of a fund's value, and the order of funds that hold funds.
+#![tactic(auto)]
+
+mod fault;
+mod kept;
+pub mod laws;
+mod order;
+mod parts;
+mod search;
+#[cfg(test)]
+mod tests;
+
+pub use fault::{OrderFault, Places};
+pub use kept::Kept;
+pub use order::FundOrder;
+pub use parts::allocate;
