@@ -2,24 +2,24 @@
 #![tactic(auto)]
 
 use scr_io::{HostShelf, HostSink, OpenGate};
-use scr_run::{Status, run};
+use scr_run::{Status, run, status_line};
+use std::io::Write;
 use std::process::ExitCode;
 use std::{env, io};
 
 fn main(rt: HostRuntime) -> ExitCode {
-    let Ok(words) = words(&rt) else {
-        return ExitCode::from(Status::Usage.code());
+    let status = match words(&rt) {
+        Ok(words) => run(
+            &rt,
+            rt.alloc(),
+            words.as_slice(),
+            &mut HostShelf::new(&rt),
+            &mut HostSink::new(rt.stdout()),
+            &OpenGate,
+        ),
+        Err(_) => Status::Usage,
     };
-    let mut shelf = HostShelf::new(&rt);
-    let mut sink = HostSink::new(rt.stdout());
-    let status = run(
-        &rt,
-        rt.alloc(),
-        words.as_slice(),
-        &mut shelf,
-        &mut sink,
-        &OpenGate,
-    );
+    tell(&rt, &status);
     ExitCode::from(status.code())
 }
 
@@ -30,4 +30,16 @@ fn words(rt: &HostRuntime) -> io::Result<Vec<String>> {
         words.push(word)?;
     }
     Ok(words)
+}
+
+/// Prints the line of a status that is no end with a whole report to standard error. Nothing is printed where there
+/// is no memory for it, and a failure to print changes nothing.
+fn tell(rt: &HostRuntime, status: &Status) {
+    if status.code() < 2 {
+        return;
+    }
+    let mut line = Vec::new(rt.alloc());
+    if status_line(rt.alloc(), status, &mut line).is_ok() && line.push(b'\n').is_ok() {
+        let _ = rt.stderr().write_all(line.as_slice());
+    }
 }

@@ -9,3 +9,4 @@ pub mod Outcomes
 pub mod Pieces
 pub mod Pushes
 pub mod ReplySteps
+pub mod FactorFaults

@@ -1,19 +1,23 @@
 -- What a run owes, from what its calls answered.
-use Rattle.std.proofs.Common.{◌≡◌, ℕ, ◌<◌, ◌≤◌, Bool, true, false, cond, List, [], ◌∷◌, ◌++◌, Option, Some, None, Result, Ok, Err, length, refl, sym, subst, ap, inl, inr, ◌∙◌, arith}
-use Rattle.std.specs.Prelude.{nat_le, ◌⊎◌}
+use Rattle.std.proofs.Common.{◌≡◌, ℕ, ◌<◌, ◌≤◌, ◌||◌, Bool, true, false, cond, List, [], ◌∷◌, ◌++◌, Option, Some, None, Result, Ok, Err, IsOk, length, refl, sym, subst, ap, inl, inr, ◌∙◌, arith}
+use Rattle.std.specs.Prelude.{nat_le, is_none, unwrap_or, ◌⊎◌}
+use Rattle.std.specs.Option.{option_or}
 use Rattle.std.specs.Io.KnownBytes.{Appends}
 use Rattle.std.proofs.lemmas.List.{append-nil}
 use Rattle.std.proofs.lemmas.Bool.{le-leb}
 use Rattle.std.specs.List.{AllByRecursion}
 use Rattle.scr_io.specs.Cause.{Rose}
-use Rattle.scr_io.specs.Content.{Content, Untold, Absent, Holds, IsPresentAnd}
+use Rattle.scr_io.specs.Content.{Content, Untold, Absent, Holds, IsPresentAnd, RisesOnlyIfAbsent}
 use Rattle.scr_io.specs.Front.{AppendsFront}
 use Rattle.scr_io.specs.declared.reading.TheConstants.{MAX_BYTES}
 use Rattle.scr_book.specs.BalanceSheet.{BalanceSheet}
 use Rattle.scr_book.specs.declared.fault.Fault.{Fault}
+use Rattle.scr_factors.specs.Reading.{values_in}
+use Rattle.scr_factors.specs.Values.{FactorValues}
+use Rattle.scr_factors.specs.declared.fault.FactorFault.{FactorFault}
 use Rattle.scr_run.specs.BookFile.{sheet_of}
 use Rattle.scr_run.specs.Lines.{records}
-use Rattle.scr_run.specs.Outcome.{OfBytes, OfBook, OfFiles, Replied, Answered, IsEnded, Reports, ended_status, replied_status, status_on, status_due, text_on, text_due}
+use Rattle.scr_run.specs.Outcome.{OfBytes, OfFile, OfFactors, OfBook, OfFiles, OfBookAndEdits, Replied, Answered, AnsweredAt, IsEnded, Reports, RisesOnlyIf, is_absent, factors_refusal, fault_status, book_refusal, refusal_of, ended_status, status_on, status_of_book, status_due, text_on, text_of_book, text_due}
 use Rattle.scr_run.specs.Report.{report_text, any_refused, printed, BoundsEnclose}
 use Rattle.scr_run.specs.Words.{Names}
 use Rattle.scr_run.specs.declared.status.Which.TheVariants as files
@@ -34,12 +38,18 @@ of_any (Holds bytes) P all = all bytes
 
 -- nothing is a front of what is due, whatever that is
 pub nothing_written : (names : Option Names) (content : List ℕ → Content) (written : Option (List ℕ))
-    → OfFiles names content (λ book edits. AppendsFront written written (text_due book edits))
+    → OfFiles names content (λ factors book edits. AppendsFront written written (text_due factors book edits))
 nothing_written None content written = tt
 nothing_written (Some names) content written =
-    of_any (content names.book) _ (λ book. of_any (content names.edits) _ (λ edits. ([], (text_due book edits, refl), appends_none written)))
+    of_any (content names.factors) _ (λ factors. of_any (content names.book) _ (λ book. of_any (content names.edits) _ (λ edits.
+    ([], (text_due factors book edits, refl), appends_none written))))
 
--- ---- both files were read
+pub nothing_reported : (content : List ℕ → Content) (book edits : List ℕ) (written : Option (List ℕ))
+    → OfBookAndEdits content book edits (λ b e. AppendsFront written written (text_of_book b e))
+nothing_reported content book edits written =
+    of_any (content book) _ (λ b. of_any (content edits) _ (λ e. ([], (text_of_book b e, refl), appends_none written)))
+
+-- ---- the book and the edits were read
 
 of_read : (content : Content) (P : List ℕ → Type 0) (read : List ℕ) → IsPresentAnd content (λ bytes. read ≡ bytes) → P read → OfBytes content P
 of_read Untold P read present holds = tt
@@ -47,24 +57,23 @@ of_read Absent P read present holds = tt
 of_read (Holds bytes) P read present holds = subst P present holds
 
 -- what was read is what the shelf tells
-pub of_both : (names : Option Names) (named : Names) (content : List ℕ → Content) (book edits : List ℕ) (P : List ℕ → List ℕ → Type 0)
-    → Some named ≡ names → IsPresentAnd (content named.book) (λ bytes. book ≡ bytes) → IsPresentAnd (content named.edits) (λ bytes. edits ≡ bytes)
-    → P book edits → OfFiles names content P
-of_both names named content book edits P is_named book_is edits_are holds =
-    subst (λ n. OfFiles n content P) is_named
-    (of_read (content named.book) _ book book_is (of_read (content named.edits) (P book) edits edits_are holds))
+of_both : (content : List ℕ → Content) (book_name edits_name book edits : List ℕ) (P : List ℕ → List ℕ → Type 0)
+    → IsPresentAnd (content book_name) (λ bytes. book ≡ bytes) → IsPresentAnd (content edits_name) (λ bytes. edits ≡ bytes)
+    → P book edits → OfBookAndEdits content book_name edits_name P
+of_both content book_name edits_name book edits P book_is edits_are holds =
+    of_read (content book_name) _ book book_is (of_read (content edits_name) (P book) edits edits_are holds)
 
 fits : (bytes : List ℕ) → length bytes ≤ MAX_BYTES → nat_le (length bytes) MAX_BYTES ≡ true
 fits bytes short = le-leb (length bytes) MAX_BYTES short
 
 module _ (book edits : List ℕ) (sheet : BalanceSheet) (book_short : length book ≤ MAX_BYTES) (edits_short : length edits ≤ MAX_BYTES) (is_sheet : sheet_of book ≡ Ok sheet) where
-  due_is : status_due book edits ≡ ended_status (any_refused (records edits) sheet)
+  due_is : status_of_book book edits ≡ ended_status (any_refused (records edits) sheet)
   due_is =
       ap (λ b. cond b (status_on edits (sheet_of book)) (statuses.TooLong files.Book)) (fits book book_short)
       ∙ ap (status_on edits) is_sheet
       ∙ ap (λ b. cond b (ended_status (any_refused (records edits) sheet)) (statuses.TooLong files.Edits)) (fits edits edits_short)
 
-  text_is : text_due book edits ≡ report_text edits sheet
+  text_is : text_of_book book edits ≡ report_text edits sheet
   text_is =
       ap (λ b. cond b (text_on edits (sheet_of book)) []) (fits book book_short)
       ∙ ap (text_on edits) is_sheet
@@ -83,6 +92,8 @@ module _ (text : List ℕ) (refused : Bool) (old new : Option (List ℕ)) (befor
   answered statuses.Write r = inr (inr (is_ended refused, refl))
   answered statuses.NoMemory r = inr (inl refl)
   answered statuses.Usage r = absurd r
+  answered (statuses.Factors fault) r = absurd r
+  answered statuses.FactorsTooLong r = absurd r
   answered (statuses.Book line fault) r = absurd r
   answered (statuses.TooLong which) r = absurd r
   answered statuses.Read r = absurd r
@@ -96,6 +107,8 @@ module _ (text : List ℕ) (refused : Bool) (old new : Option (List ℕ)) (befor
   front statuses.Write r = r.0
   front statuses.NoMemory r = r
   front statuses.Usage r = absurd r
+  front (statuses.Factors fault) r = absurd r
+  front statuses.FactorsTooLong r = absurd r
   front (statuses.Book line fault) r = absurd r
   front (statuses.TooLong which) r = absurd r
   front statuses.Read r = absurd r
@@ -109,26 +122,28 @@ all_enclose [] = tt
 all_enclose (sheet ∷ sheets) = (bounds_enclose sheet, all_enclose sheets)
 
 -- the run came to the report
-module _ (names : Option Names) (named : Names) (content : List ℕ → Content) (book edits : List ℕ) (sheet : BalanceSheet)
-    (is_named : Some named ≡ names) (book_is : IsPresentAnd (content named.book) (λ bytes. book ≡ bytes)) (edits_are : IsPresentAnd (content named.edits) (λ bytes. edits ≡ bytes))
+module _ (content : List ℕ → Content) (book_name edits_name book edits : List ℕ) (sheet : BalanceSheet)
+    (book_is : IsPresentAnd (content book_name) (λ bytes. book ≡ bytes)) (edits_are : IsPresentAnd (content edits_name) (λ bytes. edits ≡ bytes))
     (book_short : length book ≤ MAX_BYTES) (edits_short : length edits ≤ MAX_BYTES) (is_sheet : sheet_of book ≡ Ok sheet)
     (old new : Option (List ℕ)) (before now : ℕ) (result : Status)
     (replied : Replied (report_text edits sheet) (any_refused (records edits) sheet) old new before now result) where
-  pub replied-answered : (Risen : Type 0) → OfFiles names content (λ b e. (Risen → ⊥) → Answered (status_due b e) result)
-  replied-answered Risen =
-      of_both names named content book edits _ is_named book_is edits_are
-      (λ _. subst (λ due. Answered due result) (sym (due_is book edits sheet book_short edits_short is_sheet)) (answered _ _ old new before now result replied))
+  is_due : ended_status (any_refused (records edits) sheet) ≡ status_of_book book edits
+  is_due = sym (due_is book edits sheet book_short edits_short is_sheet)
 
-  pub replied-front : OfFiles names content (λ b e. AppendsFront old new (text_due b e))
+  pub replied-answered : (Risen : Type 0) → OfBookAndEdits content book_name edits_name (λ b e. (Risen → ⊥) → Answered (status_of_book b e) result)
+  replied-answered Risen =
+      of_both content book_name edits_name book edits _ book_is edits_are (λ _. subst (λ due. Answered due result) is_due (answered _ _ old new before now result replied))
+
+  pub replied-front : OfBookAndEdits content book_name edits_name (λ b e. AppendsFront old new (text_of_book b e))
   replied-front =
-      of_both names named content book edits _ is_named book_is edits_are
+      of_both content book_name edits_name book edits _ book_is edits_are
       (subst (AppendsFront old new) (sym (text_is book edits sheet book_short edits_short is_sheet)) (front _ _ old new before now result replied))
 
-  pub replied-ended : IsEnded result → OfFiles names content (λ b e. (result ≡ status_due b e) × Reports e (sheet_of b) old new)
+  pub replied-ended : IsEnded result → OfBookAndEdits content book_name edits_name (λ b e. (result ≡ status_of_book b e) × Reports e (sheet_of b) old new)
   replied-ended ended =
       let w = whole _ _ old new before now result replied ended in
-      of_both names named content book edits (λ b e. (result ≡ status_due b e) × Reports e (sheet_of b) old new) is_named book_is edits_are (
-        w.1 ∙ sym (due_is book edits sheet book_short edits_short is_sheet),
+      of_both content book_name edits_name book edits (λ b e. (result ≡ status_of_book b e) × Reports e (sheet_of b) old new) book_is edits_are (
+        w.1 ∙ is_due,
         subst (λ s. Reports edits s old new) (sym is_sheet) (w.0, all_enclose (printed edits sheet)),
       )
 
@@ -137,3 +152,67 @@ pub told_later : (before later : List ℕ → Content) (name items slice : List 
     → IsPresentAnd (before name) (λ bytes. slice ≡ bytes)
 told_later before later name items slice stays same present =
     subst (λ s. IsPresentAnd (before name) (λ bytes. s ≡ bytes)) (sym same) (subst (λ told. IsPresentAnd (told name) (λ bytes. items ≡ bytes)) stays present)
+
+-- ---- the factor file was read before
+
+map_bytes : (content : Content) (P Q : List ℕ → Type 0) → ((bytes : List ℕ) → P bytes → Q bytes) → OfBytes content P → OfBytes content Q
+map_bytes Untold P Q f h = tt
+map_bytes Absent P Q f h = tt
+map_bytes (Holds bytes) P Q f h = f bytes h
+
+-- what a run on the book and the edits promises of a later shelf holds of the shelf before, beside the factor file
+module _ (names : Option Names) (named : Names) (content later : List ℕ → Content) (stays : later ≡ content) (is_named : Some named ≡ names) where
+  pub lift_file : (file : Names → List ℕ) (P : List ℕ → Type 0) → OfBytes (later (file named)) P → OfFile file names content P
+  lift_file file P h = subst (λ n. OfFile file n content P) is_named (subst (λ told. OfBytes (told (file named)) P) stays h)
+
+  module _ (factors : List ℕ) (factors_are : IsPresentAnd (content named.factors) (λ bytes. factors ≡ bytes)) where
+    pub lift_none : (Q : List ℕ → Type 0) → Q factors → OfFactors names content Q
+    lift_none Q q = subst (λ n. OfFactors n content Q) is_named (of_read (content named.factors) Q factors factors_are q)
+
+    pub lift_book : (P : List ℕ → Type 0) (Q : List ℕ → List ℕ → Type 0) → ((book : List ℕ) → P book → Q factors book)
+        → OfBytes (later named.book) P → OfFactors names content (λ f. OfBook names content (Q f))
+    lift_book P Q f h =
+        subst (λ n. OfFactors n content (λ fs. OfBook n content (Q fs))) is_named
+        (of_read (content named.factors) (λ fs. OfBytes (content named.book) (Q fs)) factors factors_are
+        (map_bytes (content named.book) P (Q factors) f (subst (λ told. OfBytes (told named.book) P) stays h)))
+
+    pub lift_both : (P : List ℕ → List ℕ → Type 0) (Q : List ℕ → List ℕ → List ℕ → Type 0) → ((book edits : List ℕ) → P book edits → Q factors book edits)
+        → OfBookAndEdits later named.book named.edits P → OfFiles names content Q
+    lift_both P Q f h =
+        subst (λ n. OfFiles n content Q) is_named
+        (of_read (content named.factors) (λ fs. OfBytes (content named.book) (λ b. OfBytes (content named.edits) (Q fs b))) factors factors_are
+        (map_bytes (content named.book) (λ b. OfBytes (content named.edits) (P b)) (λ b. OfBytes (content named.edits) (Q factors b))
+        (λ b hb. map_bytes (content named.edits) (P b) (Q factors b) (f b) hb)
+        (subst (λ told. OfBookAndEdits told named.book named.edits P) stays h)))
+
+-- a factor file without a fault refuses nothing
+module _ (factors : List ℕ) (short : length factors ≤ MAX_BYTES) (formed : IsOk (values_in factors)) where
+  formed_none : (values : Result FactorValues FactorFault) → IsOk values → fault_status values ≡ None
+  formed_none (Ok values) ok = refl
+  formed_none (Err fault) ok = absurd (cc)
+
+  pub no_refusal : factors_refusal factors ≡ None
+  no_refusal =
+      ap (λ b. cond b (fault_status (values_in factors)) (Some statuses.FactorsTooLong)) (fits factors short) ∙ formed_none (values_in factors) formed
+
+  pub due_at_book : (book : List ℕ) → refusal_of factors book ≡ book_refusal book
+  due_at_book book = ap (λ r. option_or r (book_refusal book)) no_refusal
+
+  pub due_beyond : (book edits : List ℕ) → status_due factors book edits ≡ status_of_book book edits
+  due_beyond book edits = ap (λ r. unwrap_or r (status_of_book book edits)) no_refusal
+
+  pub text_beyond : (book edits : List ℕ) → text_due factors book edits ≡ text_of_book book edits
+  text_beyond book edits = ap (λ r. cond (is_none r) (text_of_book book edits) []) no_refusal
+
+-- ---- counts of strays
+
+pub rises_once : (content : Content) (before now : ℕ) → RisesOnlyIfAbsent content before now → RisesOnlyIf (is_absent content) before now
+rises_once Untold before now h = h
+rises_once Absent before now h = h
+rises_once (Holds bytes) before now h = h
+
+pub rises_twice : (p q : Bool) (a b c : ℕ) → RisesOnlyIf p a b → RisesOnlyIf q b c → RisesOnlyIf (p || q) a c
+rises_twice true true a b c h k = omega (arith, h, k)
+rises_twice true false a b c h k = omega (arith, h, k)
+rises_twice false true a b c h k = omega (arith, h, k)
+rises_twice false false a b c h k = k ∙ h

@@ -9,7 +9,7 @@ use Rattle.scr_run.specs.Report.{reply_text, replies, after, any_refused, openin
 use Rattle.scr_run.specs.Lines.{records}
 use Rattle.scr_run.proofs.Pieces.{leaves_all, leaves_next, front_next}
 
-or_assoc : (a b c : Bool) → ((a || b) || c) ≡ (a || (b || c))
+pub or_assoc : (a b c : Bool) → ((a || b) || c) ≡ (a || (b || c))
 or_assoc true b c = refl
 or_assoc false b c = refl
 

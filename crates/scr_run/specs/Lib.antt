@@ -14,3 +14,4 @@ pub mod Codes
 pub mod FaultTexts
 pub mod FileNames
 pub mod Outcome
+pub mod StatusTexts

@@ -1,5 +1,6 @@
--- What a run owes for the bytes of a book and of its edits (this project's own).
-use Rattle.std.specs.Prelude.{◌≡◌, ℕ, ◌<◌, ◌≤◌, ◌⊎◌, Bool, true, false, List, [], Option, Some, None, Result, Ok, Err, if◌then◌else◌, ◌++◌, length, nat_le}
+-- What a run owes for the bytes of a factor file, of a book and of its edits (this project's own).
+use Rattle.std.specs.Prelude.{◌≡◌, ℕ, ◌<◌, ◌≤◌, ◌⊎◌, ◌||◌, Bool, true, false, List, [], Option, Some, None, Result, Ok, Err, if◌then◌else◌, ◌++◌, length, nat_le, is_none, unwrap_or}
+use Rattle.std.specs.Option.{option_or}
 use Rattle.std.specs.List.{AllByRecursion}
 use Rattle.std.specs.Io.KnownBytes.{Appends}
 use Rattle.scr_io.specs.Cause.{Rose}
@@ -8,6 +9,9 @@ use Rattle.scr_io.specs.Front.{AppendsFront}
 use Rattle.scr_io.specs.declared.reading.TheConstants.{MAX_BYTES}
 use Rattle.scr_book.specs.BalanceSheet.{BalanceSheet}
 use Rattle.scr_book.specs.declared.fault.Fault.{Fault}
+use Rattle.scr_factors.specs.Reading.{values_in}
+use Rattle.scr_factors.specs.Values.{FactorValues}
+use Rattle.scr_factors.specs.declared.fault.FactorFault.{FactorFault}
 use Rattle.scr_run.specs.BookFile.{sheet_of}
 use Rattle.scr_run.specs.Lines.{records}
 use Rattle.scr_run.specs.Report.{report_text, any_refused, printed, BoundsEnclose}
@@ -24,36 +28,52 @@ OfBytes Untold P = Unit {0}
 OfBytes Absent P = Unit {0}
 OfBytes (Holds bytes) P = P bytes
 
--- P holds of the bytes of the book, where the words name the files and the shelf tells the book
+-- P holds of the bytes of one file, where the words name the files and the shelf tells that one
+abbrev pub OfFile : (Names → List ℕ) → Option Names → (List ℕ → Content) → (List ℕ → Type 0) → Type 0
+OfFile file None content P = Unit {0}
+OfFile file (Some names) content P = OfBytes (content (file names)) P
+
+abbrev pub OfFactors : Option Names → (List ℕ → Content) → (List ℕ → Type 0) → Type 0
+OfFactors names content P = OfFile (λ n. n.factors) names content P
+
 abbrev pub OfBook : Option Names → (List ℕ → Content) → (List ℕ → Type 0) → Type 0
-OfBook None content P = Unit {0}
-OfBook (Some names) content P = OfBytes (content names.book) P
+OfBook names content P = OfFile (λ n. n.book) names content P
 
--- P holds of the bytes of the edits, where the words name the files and the shelf tells the edits
 abbrev pub OfEdits : Option Names → (List ℕ → Content) → (List ℕ → Type 0) → Type 0
-OfEdits None content P = Unit {0}
-OfEdits (Some names) content P = OfBytes (content names.edits) P
+OfEdits names content P = OfFile (λ n. n.edits) names content P
 
--- P holds of the bytes of the book and of the edits, where the words name them and the shelf tells both
-abbrev pub OfFiles : Option Names → (List ℕ → Content) → (List ℕ → List ℕ → Type 0) → Type 0
-OfFiles names content P = OfBook names content (λ book. OfEdits names content (P book))
+-- P holds of the bytes of all three files, where the words name them and the shelf tells them
+abbrev pub OfFiles : Option Names → (List ℕ → Content) → (List ℕ → List ℕ → List ℕ → Type 0) → Type 0
+OfFiles names content P = OfFactors names content (λ factors. OfBook names content (λ book. OfEdits names content (P factors book)))
+
+-- P holds of the bytes of a book and of edits by these names, where the shelf tells both
+abbrev pub OfBookAndEdits : (List ℕ → Content) → List ℕ → List ℕ → (List ℕ → List ℕ → Type 0) → Type 0
+OfBookAndEdits content book edits P = OfBytes (content book) (λ b. OfBytes (content edits) (P b))
 
 -- ---- what is due
 
+-- the status that ends a run at the factor file: it is too long, or has a fault
+abbrev pub fault_status : Result FactorValues FactorFault → Option Status
+fault_status (Ok values) = None
+fault_status (Err fault) = Some (statuses.Factors fault)
+
+abbrev pub factors_refusal : List ℕ → Option Status
+factors_refusal factors = if nat_le (length factors) MAX_BYTES then fault_status (values_in factors) else Some statuses.FactorsTooLong
+
 -- the status that ends a run at the book: it is too long, or a record of it has a fault
-abbrev pub refusal_of : Result BalanceSheet (ℕ × Fault) → Option Status
-refusal_of (Ok sheet) = None
-refusal_of (Err refused) = Some (statuses.Book refused.0 refused.1)
+abbrev pub record_status : Result BalanceSheet (ℕ × Fault) → Option Status
+record_status (Ok sheet) = None
+record_status (Err refused) = Some (statuses.Book refused.0 refused.1)
 
 abbrev pub book_refusal : List ℕ → Option Status
-book_refusal book = if nat_le (length book) MAX_BYTES then refusal_of (sheet_of book) else Some (statuses.TooLong files.Book)
+book_refusal book = if nat_le (length book) MAX_BYTES then record_status (sheet_of book) else Some (statuses.TooLong files.Book)
 
 -- the status of a run whose report is whole
 abbrev pub ended_status : Bool → Status
 ended_status true = statuses.Refused
 ended_status false = statuses.Done
 
--- the status that a book without a fault and its edits call for
+-- the status that the edits of a balance sheet call for
 abbrev pub replied_status : List ℕ → BalanceSheet → Status
 replied_status edits sheet = if nat_le (length edits) MAX_BYTES then ended_status (any_refused (records edits) sheet) else statuses.TooLong files.Edits
 
@@ -61,24 +81,37 @@ abbrev pub status_on : List ℕ → Result BalanceSheet (ℕ × Fault) → Statu
 status_on edits (Ok sheet) = replied_status edits sheet
 status_on edits (Err refused) = statuses.Book refused.0 refused.1
 
--- the status that the bytes of the book and of the edits call for
-abbrev pub status_due : List ℕ → List ℕ → Status
-status_due book edits = if nat_le (length book) MAX_BYTES then status_on edits (sheet_of book) else statuses.TooLong files.Book
+-- the status that a book and its edits call for
+abbrev pub status_of_book : List ℕ → List ℕ → Status
+status_of_book book edits = if nat_le (length book) MAX_BYTES then status_on edits (sheet_of book) else statuses.TooLong files.Book
+
+-- the status that the bytes of the three files call for: the first file that ends the run decides
+abbrev pub status_due : List ℕ → List ℕ → List ℕ → Status
+status_due factors book edits = unwrap_or (factors_refusal factors) (status_of_book book edits)
 
 abbrev pub text_on : List ℕ → Result BalanceSheet (ℕ × Fault) → List ℕ
 text_on edits (Ok sheet) = if nat_le (length edits) MAX_BYTES then report_text edits sheet else []
 text_on edits (Err refused) = []
 
--- the text that is due: the report where both files are no more than 64 MiB and the book has no fault, else nothing
-abbrev pub text_due : List ℕ → List ℕ → List ℕ
-text_due book edits = if nat_le (length book) MAX_BYTES then text_on edits (sheet_of book) else []
+-- the text that a book and its edits call for
+abbrev pub text_of_book : List ℕ → List ℕ → List ℕ
+text_of_book book edits = if nat_le (length book) MAX_BYTES then text_on edits (sheet_of book) else []
+
+-- the text that is due: the report where no file is above 64 MiB and neither the factor file nor the book has a fault,
+-- else nothing
+abbrev pub text_due : List ℕ → List ℕ → List ℕ → List ℕ
+text_due factors book edits = if is_none (factors_refusal factors) then text_of_book book edits else []
 
 -- ---- what a run answers
 
--- The status is the one that ends a run at the book, where there is one; want of memory may come in its place.
-abbrev pub AnsweredAtBook : Option Status → Status → Type 0
-AnsweredAtBook None result = Unit {0}
-AnsweredAtBook (Some due) result = (result ≡ due) ⊎ (result ≡ statuses.NoMemory)
+-- The status is the one that ends a run at a file, where there is one; want of memory may come in its place.
+abbrev pub AnsweredAt : Option Status → Status → Type 0
+AnsweredAt None result = Unit {0}
+AnsweredAt (Some due) result = (result ≡ due) ⊎ (result ≡ statuses.NoMemory)
+
+-- the status that ends a run at the factor file, or else at the book
+abbrev pub refusal_of : List ℕ → List ℕ → Option Status
+refusal_of factors book = option_or (factors_refusal factors) (book_refusal book)
 
 -- a status with which the whole report was written
 abbrev pub IsEnded : Status → Type 0
@@ -98,6 +131,8 @@ Reports edits (Err refused) old new = ⊥
 -- with these statuses nothing is written
 abbrev pub IsQuiet : Status → Type 0
 IsQuiet statuses.Usage = Unit {0}
+IsQuiet (statuses.Factors fault) = Unit {0}
+IsQuiet statuses.FactorsTooLong = Unit {0}
 IsQuiet (statuses.Book line fault) = Unit {0}
 IsQuiet (statuses.TooLong which) = Unit {0}
 IsQuiet statuses.Read = Unit {0}
@@ -106,9 +141,24 @@ IsQuiet statuses.Refused = ⊥
 IsQuiet statuses.Write = ⊥
 IsQuiet statuses.NoMemory = ⊥
 
+-- with these statuses neither the book nor the edits were opened
+abbrev pub IsBeforeBook : Status → Type 0
+IsBeforeBook statuses.Usage = Unit {0}
+IsBeforeBook (statuses.Factors fault) = Unit {0}
+IsBeforeBook statuses.FactorsTooLong = Unit {0}
+IsBeforeBook (statuses.Book line fault) = ⊥
+IsBeforeBook (statuses.TooLong which) = ⊥
+IsBeforeBook statuses.Read = ⊥
+IsBeforeBook statuses.Done = ⊥
+IsBeforeBook statuses.Refused = ⊥
+IsBeforeBook statuses.Write = ⊥
+IsBeforeBook statuses.NoMemory = ⊥
+
 -- with these statuses the edits were not opened
 abbrev pub IsBeforeEdits : Status → Type 0
 IsBeforeEdits statuses.Usage = Unit {0}
+IsBeforeEdits (statuses.Factors fault) = Unit {0}
+IsBeforeEdits statuses.FactorsTooLong = Unit {0}
 IsBeforeEdits (statuses.Book line fault) = Unit {0}
 IsBeforeEdits (statuses.TooLong files.Book) = Unit {0}
 IsBeforeEdits (statuses.TooLong files.Edits) = ⊥
@@ -118,21 +168,29 @@ IsBeforeEdits statuses.Refused = ⊥
 IsBeforeEdits statuses.Write = ⊥
 IsBeforeEdits statuses.NoMemory = ⊥
 
--- a count of strays rises only where one of two contents is absent
-abbrev pub RisesOnlyIfEitherAbsent : Content → Content → ℕ → ℕ → Type 0
-RisesOnlyIfEitherAbsent Absent edits before now = before ≤ now
-RisesOnlyIfEitherAbsent Untold edits before now = RisesOnlyIfAbsent edits before now
-RisesOnlyIfEitherAbsent (Holds bytes) edits before now = RisesOnlyIfAbsent edits before now
+-- the shelf says that it has no such file
+abbrev pub is_absent : Content → Bool
+is_absent Untold = false
+is_absent Absent = true
+is_absent (Holds bytes) = false
 
--- a count of strays stays, but where the words name a file that the shelf says is absent
-abbrev pub StraysStay : Option Names → (List ℕ → Content) → ℕ → ℕ → Type 0
-StraysStay None content before now = now ≡ before
-StraysStay (Some names) content before now = RisesOnlyIfEitherAbsent (content names.book) (content names.edits) before now
+-- a count rises only where the test passes, and never falls
+abbrev pub RisesOnlyIf : Bool → ℕ → ℕ → Type 0
+RisesOnlyIf true before now = before ≤ now
+RisesOnlyIf false before now = now ≡ before
 
--- where the edits were not opened, only the book's absence lets it rise
-abbrev pub StraysStayAtBook : Option Names → (List ℕ → Content) → ℕ → ℕ → Type 0
-StraysStayAtBook None content before now = now ≡ before
-StraysStayAtBook (Some names) content before now = RisesOnlyIfAbsent (content names.book) before now
+-- some of the files that the words name is absent; of the first, of the first two, or of all three
+abbrev pub factors_absent : Option Names → (List ℕ → Content) → Bool
+factors_absent None content = false
+factors_absent (Some names) content = is_absent (content names.factors)
+
+abbrev pub book_absent : Option Names → (List ℕ → Content) → Bool
+book_absent None content = false
+book_absent (Some names) content = is_absent (content names.factors) || is_absent (content names.book)
+
+abbrev pub any_absent : Option Names → (List ℕ → Content) → Bool
+any_absent None content = false
+any_absent (Some names) content = (is_absent (content names.factors) || is_absent (content names.book)) || is_absent (content names.edits)
 
 -- ---- what the replies leave
 
@@ -148,6 +206,8 @@ Replied text refused old new before now statuses.Refused = Appends old new text 
 Replied text refused old new before now statuses.Write = AppendsFront old new text × Rose before now
 Replied text refused old new before now statuses.NoMemory = AppendsFront old new text
 Replied text refused old new before now statuses.Usage = ⊥
+Replied text refused old new before now (statuses.Factors fault) = ⊥
+Replied text refused old new before now statuses.FactorsTooLong = ⊥
 Replied text refused old new before now (statuses.Book line fault) = ⊥
 Replied text refused old new before now (statuses.TooLong which) = ⊥
 Replied text refused old new before now statuses.Read = ⊥

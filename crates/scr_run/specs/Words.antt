@@ -1,13 +1,18 @@
--- The words of the program in their written form (this project's own): `--book`, the name of a file, `--edits` and
--- the name of a file.
-use Rattle.std.specs.Prelude.{ℕ, ◌==◌, ◌&&◌, not, Bool, false, List, [], ◌∷◌, Option, Some, None, if◌then◌else◌, codes, map, String, string_bytes}
+-- The words of the program in their written form (this project's own): `--factors`, `--book` and `--edits`, each with the
+-- name of a file, and `--workers` with a number, in this order.
+use Rattle.std.specs.Prelude.{ℕ, ◌==◌, ◌&&◌, not, Bool, false, List, [], ◌∷◌, Option, Some, None, if◌then◌else◌, codes, map, option_and_then, option_map, length, nat_le, String, string_bytes}
+use Rattle.std.specs.Char.{is_ascii_digit}
+use Rattle.std.specs.List.{list_all}
 use Rattle.std.specs.declared.alloc.Global.{Global}
+use Rattle.scr_run.specs.Numbers.{decimal_value}
 use Rattle.scr_run.specs.Records.{is_text}
 
--- the names of the files
+-- the names of the files, and the number of workers
 pub record Names : Type 0 where
+  pub factors : List ℕ
   pub book : List ℕ
   pub edits : List ℕ
+  pub workers : ℕ
 
 -- a value is not empty and does not begin with `-`
 abbrev pub is_value : List ℕ → Bool
@@ -18,10 +23,30 @@ is_value (b ∷ bytes) = not (b == 45)
 abbrev pub is_option : List ℕ → List ℕ → List ℕ → Bool
 is_option option word value = is_text option word && is_value value
 
+-- one or two digits
+abbrev pub are_few_digits : List ℕ → Bool
+are_few_digits bytes = (nat_le 1 (length bytes) && nat_le (length bytes) 2) && list_all is_ascii_digit bytes
+
+-- a number of workers: one or two digits that stand for 1 to 64
+abbrev pub is_count : List ℕ → Bool
+is_count bytes = are_few_digits bytes && (nat_le 1 (decimal_value bytes) && nat_le (decimal_value bytes) 64)
+
+-- the value of an option that comes first, and the words after it
+abbrev pub option_value : List ℕ → List (List ℕ) → Option (List ℕ × List (List ℕ))
+option_value option (word ∷ value ∷ words) = if is_option option word value then Some (value, words) else None
+option_value option words = None
+
+-- the number of workers, where nothing follows it
+abbrev pub workers_value : List (List ℕ) → Option ℕ
+workers_value (word ∷ workers ∷ []) = if is_text (codes "--workers") word && is_count workers then Some (decimal_value workers) else None
+workers_value words = None
+
+-- the three files and the number, in this order
 abbrev pub names_in : List (List ℕ) → Option Names
-names_in (first ∷ book ∷ second ∷ edits ∷ []) =
-    if is_option (codes "--book") first book && is_option (codes "--edits") second edits then Some (record { book = book; edits = edits }) else None
-names_in words = None
+names_in words =
+    option_and_then (λ factors. option_and_then (λ book. option_and_then (λ edits. option_map
+    (λ workers. record { factors = factors.0; book = book.0; edits = edits.0; workers = workers })
+    (workers_value edits.1)) (option_value (codes "--edits") book.1)) (option_value (codes "--book") factors.1)) (option_value (codes "--factors") words)
 
 -- the names of the files, where the words have the written form
 abbrev pub named_files : List (String Global) → Option Names

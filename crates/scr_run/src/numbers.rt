@@ -36,14 +36,14 @@ fn are_digits(text: &[u8]) -> bool
     1 <= text.len() && text.len() <= MAX_DIGITS && all_digits(text)
 }
 
-fn all_digits(text: &[u8]) -> bool
+pub fn all_digits(text: &[u8]) -> bool
     ensures { result ≡ list_all is_ascii_digit text.now }
 {
     text.iter().all(|b| b.is_ascii_digit())
 }
 
 /// What at most 18 digits stand for, of which the first counts most.
-fn decimal_value(digits: &[u8]) -> u64
+pub fn decimal_value(digits: &[u8]) -> u64
     requires few { length digits.now ≤ 18 }
     requires digits { list_all is_ascii_digit digits.now ≡ true }
     ensures value { result ≡ spelled.decimal_value digits.now }

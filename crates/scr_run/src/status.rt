@@ -3,8 +3,9 @@ ghost use Rattle.std.specs.Prelude.{◌≡◌, ℕ};
 ghost use Rattle.scr_run.specs.Codes.{code_of};
 
 use scr_book::Fault;
+use scr_factors::FactorFault;
 
-/// Which file is too long.
+/// Which of the files of records is too long.
 #[derive(Clone, Copy, Debug, PartialEq, Eq)]
 pub enum Which {
     Book,
@@ -20,6 +21,10 @@ pub enum Status {
     Refused,
     /// The words are not in their written form.
     Usage,
+    /// The factor file has this fault, which is never want of memory.
+    Factors(FactorFault),
+    /// The factor file has more than 64 MiB.
+    FactorsTooLong,
     /// The first record of the book that has a fault: the number of its line, and the fault, which is never want of memory.
     Book(u32, Fault),
     /// The file has more than 64 MiB.
@@ -41,6 +46,7 @@ impl Status {
             Status::Done => 0,
             Status::Refused => 1,
             Status::Usage => 2,
+            Status::Factors(_) | Status::FactorsTooLong => 3,
             Status::Book(..) | Status::TooLong(_) => 4,
             Status::Read => 5,
             Status::Write => 6,

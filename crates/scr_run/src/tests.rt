@@ -2,8 +2,9 @@
 //! implementation of it.
 ghost use Rattle.std.specs.Prelude.{◌≤◌};
 
-use crate::{Status, Which, run};
+use crate::{Status, Which, run, status_line};
 use scr_book::{Fault, Quantity};
+use scr_factors::{FactorFault, Key};
 use scr_io::{MAX_BYTES, MemShelf, MemSink, OpenGate};
 use std::alloc::{AllocError, Global};
 use std::test::Fail;
@@ -15,7 +16,48 @@ const BOOK: &str =
 const OPENING: &str =
     "# 0 book\nS2601.equity.type1 390.00 390.00\nS2601.equity.type2 245.00 245.00\nS2601.equity.gross 596.19 596.20\n";
 
-const WORDS: [&str; 4] = ["--book", "b", "--edits", "e"];
+const WORDS: [&str; 8] = [
+    "--factors",
+    "f",
+    "--book",
+    "b",
+    "--edits",
+    "e",
+    "--workers",
+    "64",
+];
+
+const FACTORS: &str = "form = 1
+[spread]
+s0 = [0, 14000, 70000, 7000, 105000, 5000, 130000, 5000, 155000, 5000]
+s1 = [0, 14000, 70000, 7000, 105000, 5000, 130000, 5000, 155000, 5000]
+s2 = [0, 14000, 70000, 7000, 105000, 5000, 130000, 5000, 155000, 5000]
+s3 = [0, 14000, 70000, 7000, 105000, 5000, 130000, 5000, 155000, 5000]
+s4 = [0, 14000, 70000, 7000, 105000, 5000, 130000, 5000, 155000, 5000]
+s5 = [0, 14000, 70000, 7000, 105000, 5000, 130000, 5000, 155000, 5000]
+s6 = [0, 14000, 70000, 7000, 105000, 5000, 130000, 5000, 155000, 5000]
+none = [0, 14000, 70000, 7000, 105000, 5000, 130000, 5000, 155000, 5000]
+[nl]
+premium = [100000, 100000, 100000, 100000, 100000, 100000, 100000, 100000, 100000, 100000, 100000, 100000]
+reserve = [100000, 100000, 100000, 100000, 100000, 100000, 100000, 100000, 100000, 100000, 100000, 100000]
+corr = [
+  [100, 25, 25, 25, 25, 25, 25, 25, 25, 25, 25, 25],
+  [25, 100, 25, 25, 25, 25, 25, 25, 25, 25, 25, 25],
+  [25, 25, 100, 25, 25, 25, 25, 25, 25, 25, 25, 25],
+  [25, 25, 25, 100, 25, 25, 25, 25, 25, 25, 25, 25],
+  [25, 25, 25, 25, 100, 25, 25, 25, 25, 25, 25, 25],
+  [25, 25, 25, 25, 25, 100, 25, 25, 25, 25, 25, 25],
+  [25, 25, 25, 25, 25, 25, 100, 25, 25, 25, 25, 25],
+  [25, 25, 25, 25, 25, 25, 25, 100, 25, 25, 25, 25],
+  [25, 25, 25, 25, 25, 25, 25, 25, 100, 25, 25, 25],
+  [25, 25, 25, 25, 25, 25, 25, 25, 25, 100, 25, 25],
+  [25, 25, 25, 25, 25, 25, 25, 25, 25, 25, 100, 25],
+  [25, 25, 25, 25, 25, 25, 25, 25, 25, 25, 25, 100],
+]
+[nslt]
+premium = [100000, 100000, 100000, 100000]
+reserve = [100000, 100000, 100000, 100000]
+";
 
 /// Which calls are to fail, and how many bytes one takes or gives at most.
 #[derive(Clone, Copy)]
@@ -88,8 +130,12 @@ fn outcome<R: Threads + Sync>(
     })
 }
 
-fn files_of<'a>(book: &'a str, edits: &'a str) -> [(&'a str, &'a [u8]); 2] {
-    [("b", book.as_bytes()), ("e", edits.as_bytes())]
+fn files_of<'a>(book: &'a str, edits: &'a str) -> [(&'a str, &'a [u8]); 3] {
+    [
+        ("f", FACTORS.as_bytes()),
+        ("b", book.as_bytes()),
+        ("e", edits.as_bytes()),
+    ]
 }
 
 #[test]
@@ -149,7 +195,13 @@ fn a_refused_edit_changes_nothing(rt: HostRuntime) -> Result<(), Fail> {
 #[test]
 fn the_first_fault_of_the_book_is_told(rt: HostRuntime) -> Result<(), Fail> {
     let held = "sec,S,eq1,-,EUR,0\nhold,S,50000000000001\nhold,S,-1\n";
-    let end = outcome(&rt, rt.alloc(), &WORDS, &[("b", held.as_bytes())], &SOUND)?;
+    let end = outcome(
+        &rt,
+        rt.alloc(),
+        &WORDS,
+        &[("f", FACTORS.as_bytes()), ("b", held.as_bytes())],
+        &SOUND,
+    )?;
     let due = Fault::Range(Quantity::Held, 50_000_000_000_001, 50_000_000_000_000);
     assert_eq!(rt;
         end.status,
@@ -176,14 +228,70 @@ fn the_first_fault_of_the_book_is_told(rt: HostRuntime) -> Result<(), Fail> {
 #[test]
 fn words_out_of_form_touch_no_file(rt: HostRuntime) -> Result<(), Fail> {
     let files = files_of(BOOK, "");
-    let forms: [&[&str]; 7] = [
+    let forms: [&[&str]; 9] = [
         &[],
-        &["--book", "b"],
-        &["--edits", "e", "--book", "b"],
-        &["--book", "b", "--edits", ""],
-        &["--book", "b", "--edits", "-e"],
-        &["--book", "b", "--edits", "e", "e"],
         &["--help"],
+        &["--factors", "f", "--book", "b", "--workers", "1"],
+        &[
+            "--factors",
+            "f",
+            "--book",
+            "b",
+            "--book",
+            "b",
+            "--workers",
+            "1",
+        ],
+        &[
+            "--book",
+            "b",
+            "--factors",
+            "f",
+            "--edits",
+            "e",
+            "--workers",
+            "1",
+        ],
+        &[
+            "--factors",
+            "f",
+            "--book",
+            "",
+            "--edits",
+            "e",
+            "--workers",
+            "1",
+        ],
+        &[
+            "--factors",
+            "f",
+            "--book",
+            "b",
+            "--edits",
+            "-e",
+            "--workers",
+            "1",
+        ],
+        &[
+            "--factors",
+            "f",
+            "--book",
+            "b",
+            "--edits",
+            "e",
+            "--workers",
+            "65",
+        ],
+        &[
+            "--factors",
+            "f",
+            "--book",
+            "b",
+            "--edits",
+            "e",
+            "--workers",
+            "001",
+        ],
     ];
     for words in forms {
         let end = outcome(
@@ -205,7 +313,6 @@ fn each_failing_read_is_told(rt: HostRuntime) -> Result<(), Fail> {
     for call in 1..64 {
         let outside = Outside {
             reads: call,
-            piece: 32,
             ..SOUND
         };
         let files = files_of(BOOK, "hold,BETA,0\n");
@@ -217,9 +324,15 @@ fn each_failing_read_is_told(rt: HostRuntime) -> Result<(), Fail> {
         assert_eq!(rt; end.status, Status::Read);
         assert_eq!(rt; end.written.len(), 0);
     }
-    // The book's 77 bytes take an open and four reads, the last of which finds the end; the edits' 12 an open and two.
-    assert_eq!(rt; sound, 5 + 3 + 1, "the first call that is not made");
-    let missing = outcome(&rt, rt.alloc(), &WORDS, &[("b", BOOK.as_bytes())], &SOUND)?;
+    // Each of the three files takes an open and two reads, the second of which finds the end.
+    assert_eq!(rt; sound, 10, "the first call that is not made");
+    let missing = outcome(
+        &rt,
+        rt.alloc(),
+        &WORDS,
+        &[("f", FACTORS.as_bytes()), ("b", BOOK.as_bytes())],
+        &SOUND,
+    )?;
     assert_eq!(rt; missing.status, Status::Read);
     assert_eq!(rt; missing.status.code(), 5);
     assert_eq!(rt; missing.strays, 1);
@@ -274,7 +387,11 @@ fn a_file_of_64_mib_is_the_longest(rt: HostRuntime) -> Result<(), Fail> {
         &rt,
         rt.alloc(),
         &WORDS,
-        &[("b", lines.as_slice()), ("e", b"")],
+        &[
+            ("f", FACTORS.as_bytes()),
+            ("b", lines.as_slice()),
+            ("e", b""),
+        ],
         &Outside {
             piece: 65536,
             ..SOUND
@@ -287,18 +404,38 @@ fn a_file_of_64_mib_is_the_longest(rt: HostRuntime) -> Result<(), Fail> {
         &rt,
         rt.alloc(),
         &WORDS,
-        &[("b", lines.as_slice()), ("e", b"")],
+        &[
+            ("f", FACTORS.as_bytes()),
+            ("b", lines.as_slice()),
+            ("e", b""),
+        ],
         &Outside {
             piece: 65536,
             ..SOUND
         },
     )?;
     assert_eq!(rt; book.status, Status::TooLong(Which::Book));
+    let factors = outcome(
+        &rt,
+        rt.alloc(),
+        &WORDS,
+        &[("f", lines.as_slice())],
+        &Outside {
+            piece: 65536,
+            ..SOUND
+        },
+    )?;
+    assert_eq!(rt; factors.status, Status::FactorsTooLong);
+    assert_eq!(rt; factors.status.code(), 3);
     let edits = outcome(
         &rt,
         rt.alloc(),
         &WORDS,
-        &[("b", b""), ("e", lines.as_slice())],
+        &[
+            ("f", FACTORS.as_bytes()),
+            ("b", b""),
+            ("e", lines.as_slice()),
+        ],
         &Outside {
             piece: 65536,
             ..SOUND
@@ -307,5 +444,66 @@ fn a_file_of_64_mib_is_the_longest(rt: HostRuntime) -> Result<(), Fail> {
     assert_eq!(rt; edits.status, Status::TooLong(Which::Edits));
     assert_eq!(rt; edits.status.code(), 4);
     assert_eq!(rt; edits.written.len(), 0);
+    Ok(())
+}
+
+#[test]
+fn a_fault_of_the_factor_file_hides_a_missing_book(rt: HostRuntime) -> Result<(), Fail> {
+    let without_reserve = FACTORS
+        .strip_suffix("reserve = [100000, 100000, 100000, 100000]\n")
+        .ok_or("the last key")?;
+    let cases = [
+        ("x = [", FactorFault::NotToml),
+        ("form = 2", FactorFault::BadValue(Key::Form)),
+        (without_reserve, FactorFault::Missing(Key::NsltReserve)),
+    ];
+    for (text, due) in cases {
+        let end = outcome(&rt, rt.alloc(), &WORDS, &[("f", text.as_bytes())], &SOUND)?;
+        assert_eq!(rt; end.status, Status::Factors(due));
+        assert_eq!(rt; end.status.code(), 3);
+        assert_eq!(rt; end.strays, 0, "the book is not opened");
+        assert_eq!(rt; end.written.len(), 0);
+    }
+    Ok(())
+}
+
+#[test]
+fn each_status_is_told_by_its_line(rt: HostRuntime) -> Result<(), Fail> {
+    let held = Fault::Range(Quantity::Held, 50_000_000_000_001, 50_000_000_000_000);
+    let cases = [
+        (
+            Status::Usage,
+            "usage: scr --factors F --book B --edits E --workers N",
+        ),
+        (Status::Factors(FactorFault::NotToml), "factors: not TOML"),
+        (
+            Status::Factors(FactorFault::Missing(Key::Form)),
+            "factors: missing form",
+        ),
+        (
+            Status::Factors(FactorFault::BadValue(Key::SpreadNone)),
+            "factors: bad value spread.none",
+        ),
+        (
+            Status::Factors(FactorFault::NotSymmetric(1, 12)),
+            "factors: not symmetric at 1,12",
+        ),
+        (Status::FactorsTooLong, "factors: too long"),
+        (
+            Status::Book(2, held),
+            "book line 2: 6 held is 50000000000001, limit 50000000000000",
+        ),
+        (Status::TooLong(Which::Book), "book: too long"),
+        (Status::TooLong(Which::Edits), "edits: too long"),
+        (Status::Read, "read failed"),
+        (Status::Write, "write failed"),
+        (Status::NoMemory, "out of memory"),
+        (Status::Done, ""),
+    ];
+    for (status, due) in cases {
+        let mut line = Vec::new(rt.alloc());
+        status_line(rt.alloc(), &status, &mut line)?;
+        assert_eq!(rt; line.as_slice(), due.as_bytes());
+    }
     Ok(())
 }

@@ -1,7 +1,13 @@
-use Rattle.std.proofs.Common.{◌≡◌, ℕ, List, ◌≤◌, refl, arith}
+use Rattle.std.proofs.Common.{◌≡◌, ℕ, List, ◌||◌, refl, sym, subst, ◌∙◌, arith}
+use Rattle.scr_io.specs.Cause.{Rose}
+use Rattle.scr_io.specs.Front.{AppendsFront}
+use Rattle.scr_run.specs.BookFile.{sheet_of}
 use Rattle.scr_run.specs.FileNames.{names_of}
+use Rattle.scr_run.specs.Outcome.{Answered, AnsweredAt, Reports, RisesOnlyIf, is_absent, any_absent, book_absent, factors_refusal, refusal_of, book_refusal, status_due, status_of_book, text_due, text_of_book}
 use Rattle.scr_run.specs.Words.{named_files}
-use Rattle.scr_run.proofs.Outcomes.{nothing_written, told_later, replied-answered, replied-front, replied-ended}
+use Rattle.scr_run.proofs.Outcomes.{nothing_written, told_later, lift_none, lift_book, lift_both, no_refusal, due_at_book, due_beyond, text_beyond, rises_once, rises_twice}
+use Rattle.scr_run.proofs.Pieces.{rose_later}
+use Rattle.scr_run.proofs.ReplySteps.{or_assoc}
 use Rattle.scr_run.proofs.running.run.Goals as goal
 
 pub returns-in-Err-Failed-clause-front : goal.returns-in-Err-Failed-clause-front
@@ -13,47 +19,71 @@ returns-in-Err-TooLong-clause-front g c = nothing_written (named_files c.args.wo
 pub returns-in-Err-NoMemory-clause-front : goal.returns-in-Err-NoMemory-clause-front
 returns-in-Err-NoMemory-clause-front g c = nothing_written (named_files c.args.words.now) (g.F.Shelf.content c.args.shelf.now) (g.K.Sink.written c.args.sink.now)
 
-pub returns-in-Err-Record-clause-front : goal.returns-in-Err-Record-clause-front
-returns-in-Err-Record-clause-front g c = nothing_written (named_files c.args.words.now) (g.F.Shelf.content c.args.shelf.now) (g.K.Sink.written c.args.sink.now)
+pub returns-in-Ok-Some-clause-front : goal.returns-in-Ok-Some-clause-front
+returns-in-Ok-Some-clause-front g c = nothing_written (named_files c.args.words.now) (g.F.Shelf.content c.args.shelf.now) (g.K.Sink.written c.args.sink.now)
 
-pub returns-in-Err-NoMemory-read_book-clause-front : goal.returns-in-Err-NoMemory-read_book-clause-front
-returns-in-Err-NoMemory-read_book-clause-front g c = nothing_written (named_files c.args.words.now) (g.F.Shelf.content c.args.shelf.now) (g.K.Sink.written c.args.sink.now)
+pub returns-in-Err-clause-front : goal.returns-in-Err-clause-front
+returns-in-Err-clause-front g c = nothing_written (named_files c.args.words.now) (g.F.Shelf.content c.args.shelf.now) (g.K.Sink.written c.args.sink.now)
 
-pub returns-in-Err-Failed-read_all-clause-front : goal.returns-in-Err-Failed-read_all-clause-front
-returns-in-Err-Failed-read_all-clause-front g c = nothing_written (named_files c.args.words.now) (g.F.Shelf.content c.args.shelf.now) (g.K.Sink.written c.args.sink.now)
+pub returns-clause-answered_at_factors : goal.returns-clause-answered_at_factors
+returns-clause-answered_at_factors g c =
+    lift_none (named_files c.args.words.now) (names_of c.in-Some.files) (g.F.Shelf.content c.args.shelf.now) (g.F.Shelf.content c.read_all.new.shelf)
+    c.read_all.ensures.content_stays c.in-Some.ensures c.as_slice.result.now (told_later (g.F.Shelf.content c.args.shelf.now) (g.F.Shelf.content c.args.shelf.now) _ _ _ refl c.as_slice.ensures.value c.in-Ok.ensures.bytes)
+    (λ f. (Rose (g.F.Shelf.faults c.args.shelf.now) (g.F.Shelf.faults c.report_on.new.shelf) → ⊥) → AnsweredAt (factors_refusal f) c.report_on.result)
+    (λ _. subst (λ due. AnsweredAt due c.report_on.result) (sym (no_refusal c.as_slice.result.now (omega (arith, c.as_slice.ensures.len, c.in-Ok.ensures.short)) (rw c.in-Ok-None.field-0-is at c.in-Ok-None.ensures.answer))) tt)
 
-pub returns-in-Err-TooLong-read_all-clause-front : goal.returns-in-Err-TooLong-read_all-clause-front
-returns-in-Err-TooLong-read_all-clause-front g c = nothing_written (named_files c.args.words.now) (g.F.Shelf.content c.args.shelf.now) (g.K.Sink.written c.args.sink.now)
-
-pub returns-in-Err-NoMemory-read_all-clause-front : goal.returns-in-Err-NoMemory-read_all-clause-front
-returns-in-Err-NoMemory-read_all-clause-front g c = nothing_written (named_files c.args.words.now) (g.F.Shelf.content c.args.shelf.now) (g.K.Sink.written c.args.sink.now)
+pub returns-clause-answered_at_book : goal.returns-clause-answered_at_book
+returns-clause-answered_at_book g c =
+    lift_book (named_files c.args.words.now) (names_of c.in-Some.files) (g.F.Shelf.content c.args.shelf.now) (g.F.Shelf.content c.read_all.new.shelf)
+    c.read_all.ensures.content_stays c.in-Some.ensures c.as_slice.result.now (told_later (g.F.Shelf.content c.args.shelf.now) (g.F.Shelf.content c.args.shelf.now) _ _ _ refl c.as_slice.ensures.value c.in-Ok.ensures.bytes)
+    (λ b. (Rose (g.F.Shelf.faults c.read_all.new.shelf) (g.F.Shelf.faults c.report_on.new.shelf) → ⊥) → AnsweredAt (book_refusal b) c.report_on.result)
+    (λ f b. (Rose (g.F.Shelf.faults c.args.shelf.now) (g.F.Shelf.faults c.report_on.new.shelf) → ⊥) → AnsweredAt (refusal_of f b) c.report_on.result)
+    (λ b h sound. subst (λ due. AnsweredAt due c.report_on.result) (sym (due_at_book c.as_slice.result.now (omega (arith, c.as_slice.ensures.len, c.in-Ok.ensures.short)) (rw c.in-Ok-None.field-0-is at c.in-Ok-None.ensures.answer) b))
+    (h (λ rose. sound (rose_later (g.F.Shelf.faults c.args.shelf.now) (g.F.Shelf.faults c.read_all.new.shelf) (g.F.Shelf.faults c.report_on.new.shelf) c.read_all.ensures.faults_stay rose))))
+    c.report_on.ensures.answered_at_book
 
 pub returns-clause-answered : goal.returns-clause-answered
 returns-clause-answered g c =
-    replied-answered (named_files c.args.words.now) (names_of c.in-Some.files) (g.F.Shelf.content c.args.shelf.now)
-    c.as_slice.result.now c.as_slice-2.result.now c.in-Ok-read_book.book c.in-Some.ensures
-    (told_later (g.F.Shelf.content c.args.shelf.now) (g.F.Shelf.content c.args.shelf.now) _ _ _ refl c.as_slice.ensures.value c.in-Ok.ensures.bytes)
-    (told_later (g.F.Shelf.content c.args.shelf.now) (g.F.Shelf.content c.read_all.new.shelf) _ _ _ c.read_all.ensures.content_stays c.as_slice-2.ensures.value c.in-Ok-read_all.ensures.bytes)
-    (omega (arith, c.as_slice.ensures.len, c.in-Ok.ensures.short)) (omega (arith, c.as_slice-2.ensures.len, c.in-Ok-read_all.ensures.short))
-    c.in-Ok-read_book.ensures.answer (g.K.Sink.written c.args.sink.now) (g.K.Sink.written c.write_report.new.sink)
-    (g.K.Sink.faults c.args.sink.now) (g.K.Sink.faults c.write_report.new.sink) c.write_report.result c.write_report.ensures.outcome _
+    lift_both (named_files c.args.words.now) (names_of c.in-Some.files) (g.F.Shelf.content c.args.shelf.now) (g.F.Shelf.content c.read_all.new.shelf)
+    c.read_all.ensures.content_stays c.in-Some.ensures c.as_slice.result.now (told_later (g.F.Shelf.content c.args.shelf.now) (g.F.Shelf.content c.args.shelf.now) _ _ _ refl c.as_slice.ensures.value c.in-Ok.ensures.bytes)
+    (λ b e. (Rose (g.F.Shelf.faults c.read_all.new.shelf) (g.F.Shelf.faults c.report_on.new.shelf) → ⊥) → Answered (status_of_book b e) c.report_on.result)
+    (λ f b e. (Rose (g.F.Shelf.faults c.args.shelf.now) (g.F.Shelf.faults c.report_on.new.shelf) → ⊥) → Answered (status_due f b e) c.report_on.result)
+    (λ b e h sound. subst (λ due. Answered due c.report_on.result) (sym (due_beyond c.as_slice.result.now (omega (arith, c.as_slice.ensures.len, c.in-Ok.ensures.short)) (rw c.in-Ok-None.field-0-is at c.in-Ok-None.ensures.answer) b e))
+    (h (λ rose. sound (rose_later (g.F.Shelf.faults c.args.shelf.now) (g.F.Shelf.faults c.read_all.new.shelf) (g.F.Shelf.faults c.report_on.new.shelf) c.read_all.ensures.faults_stay rose))))
+    c.report_on.ensures.answered
 
 pub returns-clause-ended : goal.returns-clause-ended
-returns-clause-ended g c =
-    replied-ended (named_files c.args.words.now) (names_of c.in-Some.files) (g.F.Shelf.content c.args.shelf.now)
-    c.as_slice.result.now c.as_slice-2.result.now c.in-Ok-read_book.book c.in-Some.ensures
-    (told_later (g.F.Shelf.content c.args.shelf.now) (g.F.Shelf.content c.args.shelf.now) _ _ _ refl c.as_slice.ensures.value c.in-Ok.ensures.bytes)
-    (told_later (g.F.Shelf.content c.args.shelf.now) (g.F.Shelf.content c.read_all.new.shelf) _ _ _ c.read_all.ensures.content_stays c.as_slice-2.ensures.value c.in-Ok-read_all.ensures.bytes)
-    (omega (arith, c.as_slice.ensures.len, c.in-Ok.ensures.short)) (omega (arith, c.as_slice-2.ensures.len, c.in-Ok-read_all.ensures.short))
-    c.in-Ok-read_book.ensures.answer (g.K.Sink.written c.args.sink.now) (g.K.Sink.written c.write_report.new.sink)
-    (g.K.Sink.faults c.args.sink.now) (g.K.Sink.faults c.write_report.new.sink) c.write_report.result c.write_report.ensures.outcome
+returns-clause-ended g c ended =
+    lift_both (named_files c.args.words.now) (names_of c.in-Some.files) (g.F.Shelf.content c.args.shelf.now) (g.F.Shelf.content c.read_all.new.shelf)
+    c.read_all.ensures.content_stays c.in-Some.ensures c.as_slice.result.now (told_later (g.F.Shelf.content c.args.shelf.now) (g.F.Shelf.content c.args.shelf.now) _ _ _ refl c.as_slice.ensures.value c.in-Ok.ensures.bytes)
+    (λ b e. (c.report_on.result ≡ status_of_book b e) × Reports e (sheet_of b) (g.K.Sink.written c.args.sink.now) (g.K.Sink.written c.report_on.new.sink))
+    (λ f b e. (c.report_on.result ≡ status_due f b e) × Reports e (sheet_of b) (g.K.Sink.written c.args.sink.now) (g.K.Sink.written c.report_on.new.sink))
+    (λ b e h. (h.0 ∙ sym (due_beyond c.as_slice.result.now (omega (arith, c.as_slice.ensures.len, c.in-Ok.ensures.short)) (rw c.in-Ok-None.field-0-is at c.in-Ok-None.ensures.answer) b e), h.1))
+    (c.report_on.ensures.ended ended)
 
 pub returns-clause-front : goal.returns-clause-front
 returns-clause-front g c =
-    replied-front (named_files c.args.words.now) (names_of c.in-Some.files) (g.F.Shelf.content c.args.shelf.now)
-    c.as_slice.result.now c.as_slice-2.result.now c.in-Ok-read_book.book c.in-Some.ensures
-    (told_later (g.F.Shelf.content c.args.shelf.now) (g.F.Shelf.content c.args.shelf.now) _ _ _ refl c.as_slice.ensures.value c.in-Ok.ensures.bytes)
-    (told_later (g.F.Shelf.content c.args.shelf.now) (g.F.Shelf.content c.read_all.new.shelf) _ _ _ c.read_all.ensures.content_stays c.as_slice-2.ensures.value c.in-Ok-read_all.ensures.bytes)
-    (omega (arith, c.as_slice.ensures.len, c.in-Ok.ensures.short)) (omega (arith, c.as_slice-2.ensures.len, c.in-Ok-read_all.ensures.short))
-    c.in-Ok-read_book.ensures.answer (g.K.Sink.written c.args.sink.now) (g.K.Sink.written c.write_report.new.sink)
-    (g.K.Sink.faults c.args.sink.now) (g.K.Sink.faults c.write_report.new.sink) c.write_report.result c.write_report.ensures.outcome
+    lift_both (named_files c.args.words.now) (names_of c.in-Some.files) (g.F.Shelf.content c.args.shelf.now) (g.F.Shelf.content c.read_all.new.shelf)
+    c.read_all.ensures.content_stays c.in-Some.ensures c.as_slice.result.now (told_later (g.F.Shelf.content c.args.shelf.now) (g.F.Shelf.content c.args.shelf.now) _ _ _ refl c.as_slice.ensures.value c.in-Ok.ensures.bytes)
+    (λ b e. AppendsFront (g.K.Sink.written c.args.sink.now) (g.K.Sink.written c.report_on.new.sink) (text_of_book b e))
+    (λ f b e. AppendsFront (g.K.Sink.written c.args.sink.now) (g.K.Sink.written c.report_on.new.sink) (text_due f b e))
+    (λ b e h. subst (AppendsFront (g.K.Sink.written c.args.sink.now) (g.K.Sink.written c.report_on.new.sink)) (sym (text_beyond c.as_slice.result.now (omega (arith, c.as_slice.ensures.len, c.in-Ok.ensures.short)) (rw c.in-Ok-None.field-0-is at c.in-Ok-None.ensures.answer) b e)) h)
+    c.report_on.ensures.front
+
+pub returns-clause-strays : goal.returns-clause-strays
+returns-clause-strays g c =
+    subst (λ n. RisesOnlyIf (any_absent n (g.F.Shelf.content c.args.shelf.now)) (g.F.Shelf.strays c.args.shelf.now) (g.F.Shelf.strays c.report_on.new.shelf)) c.in-Some.ensures
+    (subst (λ p. RisesOnlyIf p (g.F.Shelf.strays c.args.shelf.now) (g.F.Shelf.strays c.report_on.new.shelf))
+    (sym (or_assoc (is_absent ((g.F.Shelf.content c.args.shelf.now) c.in-Some.files.factors.now)) (is_absent ((g.F.Shelf.content c.args.shelf.now) c.in-Some.files.book.now)) (is_absent ((g.F.Shelf.content c.args.shelf.now) c.in-Some.files.edits.now))))
+    (rises_twice (is_absent ((g.F.Shelf.content c.args.shelf.now) c.in-Some.files.factors.now)) (is_absent ((g.F.Shelf.content c.args.shelf.now) c.in-Some.files.book.now) || is_absent ((g.F.Shelf.content c.args.shelf.now) c.in-Some.files.edits.now))
+    (g.F.Shelf.strays c.args.shelf.now) (g.F.Shelf.strays c.read_all.new.shelf) (g.F.Shelf.strays c.report_on.new.shelf) (rises_once ((g.F.Shelf.content c.args.shelf.now) c.in-Some.files.factors.now) (g.F.Shelf.strays c.args.shelf.now) (g.F.Shelf.strays c.read_all.new.shelf) c.read_all.ensures.strays_stay)
+    (subst (λ told. RisesOnlyIf (is_absent (told c.in-Some.files.book.now) || is_absent (told c.in-Some.files.edits.now)) (g.F.Shelf.strays c.read_all.new.shelf) (g.F.Shelf.strays c.report_on.new.shelf))
+    c.read_all.ensures.content_stays c.report_on.ensures.strays)))
+
+pub returns-clause-strays_at_book : goal.returns-clause-strays_at_book
+returns-clause-strays_at_book g c before =
+    subst (λ n. RisesOnlyIf (book_absent n (g.F.Shelf.content c.args.shelf.now)) (g.F.Shelf.strays c.args.shelf.now) (g.F.Shelf.strays c.report_on.new.shelf)) c.in-Some.ensures
+    (rises_twice (is_absent ((g.F.Shelf.content c.args.shelf.now) c.in-Some.files.factors.now)) (is_absent ((g.F.Shelf.content c.args.shelf.now) c.in-Some.files.book.now))
+    (g.F.Shelf.strays c.args.shelf.now) (g.F.Shelf.strays c.read_all.new.shelf) (g.F.Shelf.strays c.report_on.new.shelf) (rises_once ((g.F.Shelf.content c.args.shelf.now) c.in-Some.files.factors.now) (g.F.Shelf.strays c.args.shelf.now) (g.F.Shelf.strays c.read_all.new.shelf) c.read_all.ensures.strays_stay)
+    (subst (λ told. RisesOnlyIf (is_absent (told c.in-Some.files.book.now)) (g.F.Shelf.strays c.read_all.new.shelf) (g.F.Shelf.strays c.report_on.new.shelf))
+    c.read_all.ensures.content_stays (c.report_on.ensures.strays_at_book before)))
