@@ -1,11 +1,11 @@
 -- Each figure as worked out, and each pair of printed bounds, encloses the exact figure of its cell.
-use Rattle.std.proofs.Common.{◌≡◌, ℕ, ◌*◌, ◌<◌, refl, ap, lit<, arith}
-use Rattle.std.specs.Prelude.{ℤ, pos, ◌*ℤ◌, ◌≤ℤ◌, List, [], ◌∷◌}
+use Rattle.std.proofs.Common.{ℕ, ◌*◌, ◌<◌, refl, ap, lit<, arith}
+use Rattle.std.specs.Prelude.{ℤ, pos, ◌≤ℤ◌, [], ◌∷◌}
 use Rattle.std.proofs.lemmas.Int.{ints}
 use Rattle.scr_num.specs.Fraction.{Share, whole}
-use Rattle.scr_num.specs.Figure.{Figure, Frac, Times, Root, more, none}
-use Rattle.scr_num.specs.Rounding.{Ends, exact_ends, scale_ends, quad_ends, floor_div, ceil_div}
-use Rattle.scr_num.specs.Enclosure.{Encloses, EncloseAll, Measures, Converts}
+use Rattle.scr_num.specs.Figure.{Figure, Frac, Times, more, none}
+use Rattle.scr_num.specs.Rounding.{exact_ends, scale_ends, quad_ends, floor_div, ceil_div}
+use Rattle.scr_num.specs.Enclosure.{Encloses, Converts}
 use Rattle.scr_num.proofs.Enclosing.{Encloses-exact, Encloses-scale, Encloses-coarser}
 use Rattle.scr_num.proofs.Quadratic.{Encloses-quad}
 use Rattle.scr_book.specs.BalanceSheet.{BalanceSheet}

@@ -1,6 +1,6 @@
 -- What is held of one class is within what is held of all.
-use Rattle.std.proofs.Common.{◌≡◌, ℕ, ◌+◌, ◌≤◌, ◌<◌, Bool, true, false, cond, List, [], length, take, get_or, sum_by, ap, sym, ◌∙◌, arith}
-use Rattle.std.proofs.lemmas.List.Sums.{sum_by_more, sum_by_more_le, sum_by-take-le, sum_by-le-sum_by}
+use Rattle.std.proofs.Common.{◌≡◌, ℕ, ◌+◌, ◌≤◌, ◌<◌, Bool, true, false, cond, [], length, take, get_or, sum_by, arith}
+use Rattle.std.proofs.lemmas.List.Sums.{sum_by_more_le, sum_by-take-le, sum_by-le-sum_by}
 use Rattle.scr_book.specs.BalanceSheet.{BalanceSheet, held_of, held_total}
 use Rattle.scr_book.specs.Validity.{Valid}
 use Rattle.scr_book.specs.declared.limits.TheConstants.{MAX_HELD}

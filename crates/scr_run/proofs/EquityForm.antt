@@ -1,6 +1,6 @@
 -- The quadratic form of the equity risk sub-module over two parts that are not negative.
-use Rattle.std.proofs.Common.{◌≡◌, ℕ, ◌+◌, ◌*◌, ◌≤◌, arith, refl, ap, sym, ◌∙◌}
-use Rattle.std.specs.Prelude.{ℤ, pos, negsuc, ◌≤ℤ◌, ◌*ℤ◌, unsigned_abs, List, [], ◌∷◌}
+use Rattle.std.proofs.Common.{◌≡◌, ℕ, ◌+◌, ◌*◌, ◌≤◌, arith, ap, ◌∙◌}
+use Rattle.std.specs.Prelude.{ℤ, pos, [], ◌∷◌}
 use Rattle.std.proofs.lemmas.Nat.{mul-le}
 use Rattle.scr_num.specs.Rounding.{Ends, low_form, high_form, quad_ends, scale_ends, root_ends, floor_div, ceil_div}
 use Rattle.scr_num.specs.Table.{row_sum, sum_over}

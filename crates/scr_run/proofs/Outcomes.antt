@@ -1,23 +1,21 @@
 -- What a run owes, from what its calls answered.
-use Rattle.std.proofs.Common.{◌≡◌, ℕ, ◌<◌, ◌≤◌, ◌||◌, Bool, true, false, cond, List, [], ◌∷◌, ◌++◌, Option, Some, None, Result, Ok, Err, IsOk, length, refl, sym, subst, ap, inl, inr, ◌∙◌, arith}
-use Rattle.std.specs.Prelude.{nat_le, is_none, unwrap_or, ◌⊎◌}
+use Rattle.std.proofs.Common.{◌≡◌, ℕ, ◌≤◌, ◌||◌, Bool, true, false, cond, List, [], ◌∷◌, Option, Some, None, Result, Ok, Err, IsOk, length, refl, sym, subst, ap, inl, inr, ◌∙◌, arith}
+use Rattle.std.specs.Prelude.{nat_le, is_none, unwrap_or}
 use Rattle.std.specs.Option.{option_or}
 use Rattle.std.specs.Io.KnownBytes.{Appends}
 use Rattle.std.proofs.lemmas.List.{append-nil}
 use Rattle.std.proofs.lemmas.Bool.{le-leb}
 use Rattle.std.specs.List.{AllByRecursion}
-use Rattle.scr_io.specs.Cause.{Rose}
 use Rattle.scr_io.specs.Content.{Content, Untold, Absent, Holds, IsPresentAnd, RisesOnlyIfAbsent}
 use Rattle.scr_io.specs.Front.{AppendsFront}
 use Rattle.scr_io.specs.declared.reading.TheConstants.{MAX_BYTES}
 use Rattle.scr_book.specs.BalanceSheet.{BalanceSheet}
-use Rattle.scr_book.specs.declared.fault.Fault.{Fault}
 use Rattle.scr_factors.specs.Reading.{values_in}
 use Rattle.scr_factors.specs.Values.{FactorValues}
 use Rattle.scr_factors.specs.declared.fault.FactorFault.{FactorFault}
 use Rattle.scr_run.specs.BookFile.{sheet_of}
 use Rattle.scr_run.specs.Lines.{records}
-use Rattle.scr_run.specs.Outcome.{OfBytes, OfFile, OfFactors, OfBook, OfFiles, OfBookAndEdits, Replied, Answered, AnsweredAt, IsEnded, Reports, RisesOnlyIf, is_absent, factors_refusal, fault_status, book_refusal, refusal_of, ended_status, status_on, status_of_book, status_due, text_on, text_of_book, text_due}
+use Rattle.scr_run.specs.Outcome.{OfBytes, OfFile, OfFactors, OfBook, OfFiles, OfBookAndEdits, Replied, Answered, IsEnded, Reports, RisesOnlyIf, is_absent, factors_refusal, fault_status, book_refusal, refusal_of, ended_status, status_on, status_of_book, status_due, text_on, text_of_book, text_due}
 use Rattle.scr_run.specs.Report.{report_text, any_refused, printed, BoundsEnclose}
 use Rattle.scr_run.specs.Words.{Names}
 use Rattle.scr_run.specs.declared.status.Which.TheVariants as files

@@ -1,10 +1,9 @@
 -- A text that is written piece by piece.
-use Rattle.std.proofs.Common.{◌≡◌, ℕ, ◌+◌, ◌-◌, ◌≤◌, ◌^◌, List, [], ◌++◌, Option, refl, ap, sym, ◌∙◌, append_assoc, arith}
-use Rattle.std.specs.Prelude.{min}
+use Rattle.std.proofs.Common.{ℕ, ◌≤◌, List, [], ◌++◌, Option, refl, ap, sym, ◌∙◌, append_assoc, arith}
 use Rattle.std.specs.Io.KnownBytes.{Appends}
 use Rattle.std.proofs.KnownBytes.{Appends-trans}
-use Rattle.scr_io.specs.Cause.{Rose, risen}
-use Rattle.scr_io.specs.Front.{AppendsFront, Starts}
+use Rattle.scr_io.specs.Cause.{Rose}
+use Rattle.scr_io.specs.Front.{AppendsFront}
 use Rattle.scr_run.specs.Outcome.{Leaves}
 use Rattle.scr_run.proofs.Outcomes.{appends_none}
 

@@ -1,5 +1,5 @@
 -- One record of the edits, and the replies to those after it.
-use Rattle.std.proofs.Common.{◌≡◌, ℕ, List, [], ◌∷◌, ◌++◌, ◌||◌, Bool, true, false, Option, is_err, refl, ap, sym, subst, ◌∙◌}
+use Rattle.std.proofs.Common.{◌≡◌, ℕ, List, ◌∷◌, ◌++◌, ◌||◌, Bool, true, false, Option, is_err, refl, ap, sym, subst, ◌∙◌}
 use Rattle.std.specs.Io.KnownBytes.{Appends}
 use Rattle.scr_io.specs.Front.{AppendsFront}
 use Rattle.scr_book.specs.BalanceSheet.{BalanceSheet}

@@ -1,5 +1,5 @@
 -- What the code answers where a balance sheet or a fault is due. Want of memory may come in place of either.
-use Rattle.std.specs.Prelude.{◌≡◌, ℕ, Result, Ok, Err, OnErr}
+use Rattle.std.specs.Prelude.{◌≡◌, ℕ, Result, Ok, Err}
 use Rattle.scr_book.specs.BalanceSheet.{BalanceSheet}
 use Rattle.scr_book.specs.declared.fault.Fault.{Fault}
 use Rattle.scr_book.specs.declared.fault.Fault.TheVariants as faults

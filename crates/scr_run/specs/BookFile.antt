@@ -1,6 +1,6 @@
 -- The balance sheet that a book file gives (this project's own): its records are applied in order to the opening
 -- one, and the first that is refused is told with the number of its line.
-use Rattle.std.specs.Prelude.{◌≡◌, ℕ, List, [], ◌∷◌, Option, Some, None, Result, Ok, Err}
+use Rattle.std.specs.Prelude.{ℕ, List, [], ◌∷◌, Option, Some, None, Result, Ok, Err}
 use Rattle.scr_book.specs.BalanceSheet.{BalanceSheet, opening, applied}
 use Rattle.scr_book.specs.Faults.{fault_of}
 use Rattle.scr_book.specs.declared.edit.Edit.{Edit}

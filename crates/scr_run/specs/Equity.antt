@@ -1,7 +1,7 @@
 -- The exact figures of the equity risk sub-module, after Articles 168 to 173 of Delegated Regulation
 -- (EU) 2015/35, in cents. The symmetric adjustment of Article 172 is 0, and no equity is strategic,
 -- long-term or in infrastructure. Nothing is rounded.
-use Rattle.std.specs.Prelude.{ℕ, ℤ, pos, Bool, true, false, List, [], ◌∷◌, if◌then◌else◌, sum_by}
+use Rattle.std.specs.Prelude.{ℕ, pos, Bool, true, false, [], ◌∷◌, if◌then◌else◌, sum_by}
 use Rattle.std.proofs.Common.{lit<}
 use Rattle.scr_num.specs.Fraction.{Share, whole}
 use Rattle.scr_num.specs.Figure.{Figure}

@@ -1,5 +1,5 @@
 -- How the state of a walk over a record shows the fields that are left of it.
-use Rattle.std.specs.Prelude.{ℕ, List, [], Option, Some, None}
+use Rattle.std.specs.Prelude.{ℕ, List, [], Option}
 use Rattle.std.specs.Borrow.{Bor}
 use Rattle.std.specs.Option.{option_map_or}
 use Rattle.scr_run.specs.Records.{fields_of}

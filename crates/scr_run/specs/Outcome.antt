@@ -1,10 +1,10 @@
 -- What a run owes for the bytes of a factor file, of a book and of its edits (this project's own).
-use Rattle.std.specs.Prelude.{◌≡◌, ℕ, ◌<◌, ◌≤◌, ◌⊎◌, ◌||◌, Bool, true, false, List, [], Option, Some, None, Result, Ok, Err, if◌then◌else◌, ◌++◌, length, nat_le, is_none, unwrap_or}
+use Rattle.std.specs.Prelude.{◌≡◌, ℕ, ◌≤◌, ◌⊎◌, ◌||◌, Bool, true, false, List, [], Option, Some, None, Result, Ok, Err, if◌then◌else◌, ◌++◌, length, nat_le, is_none, unwrap_or}
 use Rattle.std.specs.Option.{option_or}
 use Rattle.std.specs.List.{AllByRecursion}
 use Rattle.std.specs.Io.KnownBytes.{Appends}
 use Rattle.scr_io.specs.Cause.{Rose}
-use Rattle.scr_io.specs.Content.{Content, Untold, Absent, Holds, RisesOnlyIfAbsent}
+use Rattle.scr_io.specs.Content.{Content, Untold, Absent, Holds}
 use Rattle.scr_io.specs.Front.{AppendsFront}
 use Rattle.scr_io.specs.declared.reading.TheConstants.{MAX_BYTES}
 use Rattle.scr_book.specs.BalanceSheet.{BalanceSheet}

@@ -1,6 +1,6 @@
 -- The figures as they are worked out (this project's own): in grains, thousandths of a cent, each by one
 -- operator that rounds outward.
-use Rattle.std.specs.Prelude.{ℕ, ◌*◌, pos, List, [], ◌∷◌}
+use Rattle.std.specs.Prelude.{ℕ, ◌*◌, pos, [], ◌∷◌}
 use Rattle.scr_num.specs.Rounding.{Ends, exact_ends, scale_ends, quad_ends}
 use Rattle.scr_run.specs.Equity.{equity_correlations}
 

@@ -1,8 +1,8 @@
 use Rattle.std.proofs.Common.{◌≡◌, ℕ, ◌≤◌, ◌∙◌, ap, sym, arith}
-use Rattle.std.specs.Prelude.{ℤ, pos, ◌≤ℤ◌, unsigned_abs}
+use Rattle.std.specs.Prelude.{ℤ, pos, ◌≤ℤ◌}
 use Rattle.std.proofs.lemmas.Int.{ints}
 use Rattle.scr_num.specs.Rounding.{ends, root_ends, scale_ends}
-use Rattle.scr_run.proofs.EquityForm.{hundredfold, hundredfold_rises, equity_ends_at, both_ends}
+use Rattle.scr_run.proofs.EquityForm.{hundredfold_rises, equity_ends_at, both_ends}
 use Rattle.scr_run.proofs.equity.correlated.Goals as goal
 
 below : (low high : ℤ) (l h : ℕ) → low ≡ pos l → high ≡ pos h → low ≤ℤ high → l ≤ h

@@ -1,4 +1,4 @@
-use Rattle.std.proofs.Common.{◌≡◌, ◌∷◌, ◌+◌, ◌∙◌, ap, sym, take, drop}
+use Rattle.std.proofs.Common.{◌∷◌, ◌+◌, ◌∙◌, ap, sym, take}
 use Rattle.scr_run.specs.Records.{fields_of}
 use Rattle.scr_run.proofs.Cuts.{cut_at, cut_nowhere, all_left}
 use Rattle.scr_run.proofs.fields.first_field.Goals as goal

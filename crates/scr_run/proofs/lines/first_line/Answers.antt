@@ -1,4 +1,4 @@
-use Rattle.std.proofs.Common.{◌≡◌, ◌∷◌, ◌+◌, ◌∙◌, ap, sym, drop}
+use Rattle.std.proofs.Common.{◌∷◌, ◌+◌, ◌∙◌, ap, sym, drop}
 use Rattle.std.specs.Str.Lines.{lines}
 use Rattle.scr_run.proofs.Cuts.{all_left}
 use Rattle.scr_run.proofs.TextLines.{lines_at, lines_none}

@@ -1,7 +1,5 @@
-use Rattle.std.proofs.Common.{◌≡◌, ℕ, ◌+◌, ◌-◌, ◌*◌, ◌<◌, ◌≤◌, ◌^◌, lit≤, length, take, drop, get_or, ap, sym, ◌∙◌, rules, arith}
-use Rattle.std.proofs.lemmas.List.{take_all}
+use Rattle.std.proofs.Common.{ℕ, ◌+◌, ◌-◌, ◌*◌, ◌<◌, ◌≤◌, ◌^◌, get_or, ap, sym, ◌∙◌, arith}
 use Rattle.std.proofs.lemmas.List.Sums.{fold_more}
-use Rattle.scr_run.specs.Numbers.{decimal_value}
 use Rattle.scr_run.proofs.Decimals.{digit_at, below_power, powers_rise}
 use Rattle.scr_run.proofs.numbers.decimal_value.Goals as goal
 

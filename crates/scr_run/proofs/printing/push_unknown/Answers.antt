@@ -1,4 +1,4 @@
-use Rattle.std.proofs.Common.{◌≡◌, ◌++◌, ◌∙◌, ap}
+use Rattle.std.proofs.Common.{◌++◌, ◌∙◌, ap}
 use Rattle.scr_run.proofs.Pushes.{unknown_pushed}
 use Rattle.scr_run.proofs.printing.push_unknown.Goals as goal
 

@@ -1,4 +1,4 @@
-use Rattle.std.proofs.Common.{◌≡◌, ℕ, List, ◌||◌, refl, sym, subst, ◌∙◌, arith}
+use Rattle.std.proofs.Common.{◌≡◌, ◌||◌, refl, sym, subst, ◌∙◌, arith}
 use Rattle.scr_io.specs.Cause.{Rose}
 use Rattle.scr_io.specs.Front.{AppendsFront}
 use Rattle.scr_run.specs.BookFile.{sheet_of}

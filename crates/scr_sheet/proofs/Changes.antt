@@ -1,0 +1,281 @@
+-- What a valid sheet needs of a table, or of the numbers, that take the place of its own.
+use Rattle.std.proofs.Common.{◌≡◌, ℕ, false, List, [], ◌++◌, map, sym, subst, append_assoc, append-nil}
+use Rattle.std.specs.List.{AllByRecursion, IsDistinct}
+use Rattle.scr_sheet.specs.Names.{same_name}
+use Rattle.scr_sheet.specs.Tables.{has_row, with_row, without}
+use Rattle.scr_sheet.specs.BalanceSheet.{BalanceSheet, group_name, position_name, line_name, bank_name, rein_name, curve_name, names_of, is_named}
+use Rattle.scr_sheet.specs.Validity.{Valid, AreWithin, AreNumbers, IsGroup, IsSecurity, IsLine, IsBank, IsRein, IsCurve, HasGroup, HasGroupOrNone, HasCurrency}
+use Rattle.scr_sheet.specs.declared.rows.Group.{Group}
+use Rattle.scr_sheet.specs.declared.rows.Position.{Position}
+use Rattle.scr_sheet.specs.declared.rows.Liability.{Liability}
+use Rattle.scr_sheet.specs.declared.rows.Bank.{Bank}
+use Rattle.scr_sheet.specs.declared.rows.Rein.{Rein}
+use Rattle.scr_sheet.specs.declared.rows.Curve.{Curve}
+use Rattle.scr_sheet.specs.declared.numbers.Numbers.{Numbers}
+use Rattle.scr_sheet.proofs.TableRows.{IsFresh, All-append, fresh_from_has_row, distinct-with_row, distinct-without}
+use Rattle.scr_sheet.proofs.Projections.{or_false}
+
+module _ (sheet : BalanceSheet) (valid : Valid sheet) where
+  pub valid-groups : (groups : List Group) → let after : BalanceSheet = record sheet { groups = groups } in AllByRecursion IsGroup groups → IsDistinct same_name (names_of after)
+      → AllByRecursion (λ p. HasGroupOrNone groups p.security.group) sheet.securities → AllByRecursion (λ b. HasGroup groups b.group) sheet.banks → AllByRecursion (λ r. HasGroup groups r.group) sheet.reinsurers
+      → AreWithin after → Valid after
+  valid-groups groups all named securities banks reinsurers within =
+      record {
+        groups = all;
+        securities = valid.securities;
+        lines = valid.lines;
+        banks = valid.banks;
+        reinsurers = valid.reinsurers;
+        curves = valid.curves;
+        numbers = valid.numbers;
+        named_once = named;
+        currencies_once = valid.currencies_once;
+        within = within;
+        known = record {
+          security_groups = securities;
+          bank_groups = banks;
+          rein_groups = reinsurers;
+          security_currencies = valid.known.security_currencies;
+          line_currencies = valid.known.line_currencies;
+          reporting = valid.known.reporting;
+        };
+      }
+
+  pub valid-securities : (securities : List Position) → let after : BalanceSheet = record sheet { securities = securities } in AllByRecursion IsSecurity securities → IsDistinct same_name (names_of after)
+      → AllByRecursion (λ p. HasGroupOrNone sheet.groups p.security.group) securities → AllByRecursion (λ p. HasCurrency sheet.curves p.security.currency) securities → AreWithin after → Valid after
+  valid-securities securities all named groups currencies within =
+      record {
+        groups = valid.groups;
+        securities = all;
+        lines = valid.lines;
+        banks = valid.banks;
+        reinsurers = valid.reinsurers;
+        curves = valid.curves;
+        numbers = valid.numbers;
+        named_once = named;
+        currencies_once = valid.currencies_once;
+        within = within;
+        known = record {
+          security_groups = groups;
+          bank_groups = valid.known.bank_groups;
+          rein_groups = valid.known.rein_groups;
+          security_currencies = currencies;
+          line_currencies = valid.known.line_currencies;
+          reporting = valid.known.reporting;
+        };
+      }
+
+  pub valid-lines : (lines : List Liability) → let after : BalanceSheet = record sheet { lines = lines } in AllByRecursion IsLine lines → IsDistinct same_name (names_of after)
+      → AllByRecursion (λ l. HasCurrency sheet.curves l.currency) lines → AreWithin after → Valid after
+  valid-lines lines all named currencies within =
+      record {
+        groups = valid.groups;
+        securities = valid.securities;
+        lines = all;
+        banks = valid.banks;
+        reinsurers = valid.reinsurers;
+        curves = valid.curves;
+        numbers = valid.numbers;
+        named_once = named;
+        currencies_once = valid.currencies_once;
+        within = within;
+        known = record {
+          security_groups = valid.known.security_groups;
+          bank_groups = valid.known.bank_groups;
+          rein_groups = valid.known.rein_groups;
+          security_currencies = valid.known.security_currencies;
+          line_currencies = currencies;
+          reporting = valid.known.reporting;
+        };
+      }
+
+  pub valid-banks : (banks : List Bank) → let after : BalanceSheet = record sheet { banks = banks } in AllByRecursion IsBank banks → IsDistinct same_name (names_of after)
+      → AllByRecursion (λ b. HasGroup sheet.groups b.group) banks → AreWithin after → Valid after
+  valid-banks banks all named groups within =
+      record {
+        groups = valid.groups;
+        securities = valid.securities;
+        lines = valid.lines;
+        banks = all;
+        reinsurers = valid.reinsurers;
+        curves = valid.curves;
+        numbers = valid.numbers;
+        named_once = named;
+        currencies_once = valid.currencies_once;
+        within = within;
+        known = record {
+          security_groups = valid.known.security_groups;
+          bank_groups = groups;
+          rein_groups = valid.known.rein_groups;
+          security_currencies = valid.known.security_currencies;
+          line_currencies = valid.known.line_currencies;
+          reporting = valid.known.reporting;
+        };
+      }
+
+  pub valid-reinsurers : (reinsurers : List Rein) → let after : BalanceSheet = record sheet { reinsurers = reinsurers } in AllByRecursion IsRein reinsurers → IsDistinct same_name (names_of after)
+      → AllByRecursion (λ r. HasGroup sheet.groups r.group) reinsurers → AreWithin after → Valid after
+  valid-reinsurers reinsurers all named groups within =
+      record {
+        groups = valid.groups;
+        securities = valid.securities;
+        lines = valid.lines;
+        banks = valid.banks;
+        reinsurers = all;
+        curves = valid.curves;
+        numbers = valid.numbers;
+        named_once = named;
+        currencies_once = valid.currencies_once;
+        within = within;
+        known = record {
+          security_groups = valid.known.security_groups;
+          bank_groups = valid.known.bank_groups;
+          rein_groups = groups;
+          security_currencies = valid.known.security_currencies;
+          line_currencies = valid.known.line_currencies;
+          reporting = valid.known.reporting;
+        };
+      }
+
+  pub valid-curves : (curves : List Curve) (numbers : Numbers) → let after : BalanceSheet = record sheet { curves = curves; numbers = numbers } in AllByRecursion IsCurve curves → AreNumbers numbers
+      → IsDistinct same_name (map curve_name curves) → AllByRecursion (λ p. HasCurrency curves p.security.currency) sheet.securities → AllByRecursion (λ l. HasCurrency curves l.currency) sheet.lines
+      → HasCurrency curves numbers.currency → AreWithin after → Valid after
+  valid-curves curves numbers all formed once securities lines reporting within =
+      record {
+        groups = valid.groups;
+        securities = valid.securities;
+        lines = valid.lines;
+        banks = valid.banks;
+        reinsurers = valid.reinsurers;
+        curves = all;
+        numbers = formed;
+        named_once = valid.named_once;
+        currencies_once = once;
+        within = within;
+        known = record {
+          security_groups = valid.known.security_groups;
+          bank_groups = valid.known.bank_groups;
+          rein_groups = valid.known.rein_groups;
+          security_currencies = securities;
+          line_currencies = lines;
+          reporting = reporting;
+        };
+      }
+
+  -- numbers of the same reporting currency
+  pub valid-numbers : (numbers : Numbers) → let after : BalanceSheet = record sheet { numbers = numbers } in AreNumbers numbers → HasCurrency sheet.curves numbers.currency → AreWithin after → Valid after
+  valid-numbers numbers formed reporting within =
+      valid-curves sheet.curves numbers valid.curves formed valid.currencies_once valid.known.security_currencies valid.known.line_currencies reporting within
+
+-- ---- the names of all tables, after one of them changes
+
+-- a name that stands in none of the tables
+pub record IsNew (name : List ℕ) (sheet : BalanceSheet) : Type 0 where
+  pub groups : IsFresh name (map group_name sheet.groups)
+  pub securities : IsFresh name (map position_name sheet.securities)
+  pub lines : IsFresh name (map line_name sheet.lines)
+  pub banks : IsFresh name (map bank_name sheet.banks)
+  pub reinsurers : IsFresh name (map rein_name sheet.reinsurers)
+
+pub new_from_is_named : (name : List ℕ) (sheet : BalanceSheet) → is_named name sheet ≡ false → IsNew name sheet
+new_from_is_named name sheet h =
+    let to_banks = or_false _ _ h in
+    let to_lines = or_false _ _ to_banks.0 in
+    let to_securities = or_false _ _ to_lines.0 in
+    let to_groups = or_false _ _ to_securities.0 in
+    record {
+      groups = fresh_from_has_row group_name name sheet.groups to_groups.0;
+      securities = fresh_from_has_row position_name name sheet.securities to_groups.1;
+      lines = fresh_from_has_row line_name name sheet.lines to_securities.1;
+      banks = fresh_from_has_row bank_name name sheet.banks to_lines.1;
+      reinsurers = fresh_from_has_row rein_name name sheet.reinsurers to_banks.1;
+    }
+
+-- the five lists of names in a row, put together in other ways
+module _ (g s l b r : List (List ℕ)) where
+  third : (g ++ s) ++ (l ++ (b ++ r)) ≡ g ++ (s ++ (l ++ (b ++ r)))
+  third = append_assoc g s (l ++ (b ++ r))
+
+  fourth : (g ++ (s ++ l)) ++ (b ++ r) ≡ g ++ (s ++ (l ++ (b ++ r)))
+  fourth = simp append_assoc
+
+  fifth : (g ++ (s ++ (l ++ b))) ++ (r ++ []) ≡ g ++ (s ++ (l ++ (b ++ r)))
+  fifth = simp (append_assoc, append-nil)
+
+module _ (sheet : BalanceSheet) (apart : IsDistinct same_name (names_of sheet)) where
+  abbrev g : List (List ℕ)
+  g = map group_name sheet.groups
+
+  abbrev s : List (List ℕ)
+  s = map position_name sheet.securities
+
+  abbrev l : List (List ℕ)
+  l = map line_name sheet.lines
+
+  abbrev b : List (List ℕ)
+  b = map bank_name sheet.banks
+
+  abbrev r : List (List ℕ)
+  r = map rein_name sheet.reinsurers
+
+  pub named-with_group : (new : Group) → (has_row group_name new.name sheet.groups ≡ false → IsNew new.name sheet) → IsDistinct same_name (names_of (record sheet { groups = with_row group_name new sheet.groups }))
+  named-with_group new is_new =
+      distinct-with_row group_name [] (s ++ (l ++ (b ++ r))) new sheet.groups
+      (λ has. let n = is_new has in (tt, All-append _ s _ n.securities (All-append _ l _ n.lines (All-append _ b _ n.banks n.reinsurers)))) apart
+
+  pub named-with_position : (new : Position) → (has_row position_name new.security.name sheet.securities ≡ false → IsNew new.security.name sheet) → IsDistinct same_name (names_of (record sheet { securities = with_row position_name new sheet.securities }))
+  named-with_position new is_new =
+      distinct-with_row position_name g (l ++ (b ++ r)) new sheet.securities
+      (λ has. let n = is_new has in (n.groups, All-append _ l _ n.lines (All-append _ b _ n.banks n.reinsurers))) apart
+
+  pub named-with_line : (new : Liability) → (has_row line_name new.name sheet.lines ≡ false → IsNew new.name sheet) → IsDistinct same_name (names_of (record sheet { lines = with_row line_name new sheet.lines }))
+  named-with_line new is_new =
+      subst (IsDistinct same_name) (third g s (map line_name (with_row line_name new sheet.lines)) b r)
+      (distinct-with_row line_name (g ++ s) (b ++ r) new sheet.lines
+      (λ has. let n = is_new has in (All-append _ g _ n.groups n.securities, All-append _ b _ n.banks n.reinsurers)) (subst (IsDistinct same_name) (sym (third g s l b r)) apart))
+
+  pub named-with_bank : (new : Bank) → (has_row bank_name new.name sheet.banks ≡ false → IsNew new.name sheet) → IsDistinct same_name (names_of (record sheet { banks = with_row bank_name new sheet.banks }))
+  named-with_bank new is_new =
+      subst (IsDistinct same_name) (fourth g s l (map bank_name (with_row bank_name new sheet.banks)) r)
+      (distinct-with_row bank_name (g ++ (s ++ l)) r new sheet.banks
+      (λ has. let n = is_new has in (All-append _ g _ n.groups (All-append _ s _ n.securities n.lines), n.reinsurers)) (subst (IsDistinct same_name) (sym (fourth g s l b r)) apart))
+
+  pub named-with_rein : (new : Rein) → (has_row rein_name new.name sheet.reinsurers ≡ false → IsNew new.name sheet) → IsDistinct same_name (names_of (record sheet { reinsurers = with_row rein_name new sheet.reinsurers }))
+  named-with_rein new is_new =
+      subst (IsDistinct same_name) (fifth g s l b (map rein_name (with_row rein_name new sheet.reinsurers)))
+      (distinct-with_row rein_name (g ++ (s ++ (l ++ b))) [] new sheet.reinsurers
+      (λ has. let n = is_new has in (All-append _ g _ n.groups (All-append _ s _ n.securities (All-append _ l _ n.lines n.banks)), tt)) (subst (IsDistinct same_name) (sym (fifth g s l b r)) apart))
+
+  module _ (name : List ℕ) where
+    pub named-without_group : IsDistinct same_name (names_of (record sheet { groups = without group_name name sheet.groups }))
+    named-without_group = distinct-without group_name [] (s ++ (l ++ (b ++ r))) name sheet.groups apart
+
+    pub named-without_position : IsDistinct same_name (names_of (record sheet { securities = without position_name name sheet.securities }))
+    named-without_position = distinct-without position_name g (l ++ (b ++ r)) name sheet.securities apart
+
+    pub named-without_line : IsDistinct same_name (names_of (record sheet { lines = without line_name name sheet.lines }))
+    named-without_line =
+        subst (IsDistinct same_name) (third g s (map line_name (without line_name name sheet.lines)) b r)
+        (distinct-without line_name (g ++ s) (b ++ r) name sheet.lines (subst (IsDistinct same_name) (sym (third g s l b r)) apart))
+
+    pub named-without_bank : IsDistinct same_name (names_of (record sheet { banks = without bank_name name sheet.banks }))
+    named-without_bank =
+        subst (IsDistinct same_name) (fourth g s l (map bank_name (without bank_name name sheet.banks)) r)
+        (distinct-without bank_name (g ++ (s ++ l)) r name sheet.banks (subst (IsDistinct same_name) (sym (fourth g s l b r)) apart))
+
+    pub named-without_rein : IsDistinct same_name (names_of (record sheet { reinsurers = without rein_name name sheet.reinsurers }))
+    named-without_rein =
+        subst (IsDistinct same_name) (fifth g s l b (map rein_name (without rein_name name sheet.reinsurers)))
+        (distinct-without rein_name (g ++ (s ++ (l ++ b))) [] name sheet.reinsurers (subst (IsDistinct same_name) (sym (fifth g s l b r)) apart))
+
+-- ---- the currencies
+
+pub currencies-with_curve : (new : Curve) (curves : List Curve) → IsDistinct same_name (map curve_name curves) → IsDistinct same_name (map curve_name (with_row curve_name new curves))
+currencies-with_curve new curves apart =
+    subst (IsDistinct same_name) (append-nil (map curve_name (with_row curve_name new curves)))
+    (distinct-with_row curve_name [] [] new curves (λ has. (tt, tt)) (subst (IsDistinct same_name) (sym (append-nil (map curve_name curves))) apart))
+
+pub currencies-without : (currency : List ℕ) (curves : List Curve) → IsDistinct same_name (map curve_name curves) → IsDistinct same_name (map curve_name (without curve_name currency curves))
+currencies-without currency curves apart =
+    subst (IsDistinct same_name) (append-nil (map curve_name (without curve_name currency curves)))
+    (distinct-without curve_name [] [] currency curves (subst (IsDistinct same_name) (sym (append-nil (map curve_name curves))) apart))

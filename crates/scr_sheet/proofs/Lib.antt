@@ -1,0 +1,10 @@
+pub mod Names
+pub mod Examples
+pub mod TableRows
+pub mod Bounds
+pub mod Projections
+pub mod Amounts
+pub mod Changes
+pub mod Unused
+pub mod Preserved
+pub mod Holds

@@ -1,0 +1,602 @@
+-- A record that has its form and no fault leads from a valid sheet to a valid one.
+use Rattle.std.proofs.Common.{◌≡◌, ℕ, zero, suc, replicate, ℤ, pos, neg_ℤ, ◌+◌, ◌≤◌, ◌≤ℤ◌, Bool, true, false, not, ◌&&◌, inl, inr, IsTrue, List, [], ◌∷◌, ◌++◌, length, map, sum_by, Option, Some, None, if◌then◌else◌, refl, sym, ap, subst, ◌∙◌, arith}
+use Rattle.std.proofs.lemmas.Bool.{ltb-false}
+use Rattle.std.proofs.lemmas.Int.{ints}
+use Rattle.std.specs.List.{AllByRecursion, IsDistinct}
+use Rattle.std.specs.Option.{option_map, option_map_or}
+use Rattle.scr_dates.specs.declared.day.Day.{Day}
+use Rattle.scr_sheet.specs.Names.{same_name}
+use Rattle.scr_sheet.specs.Tables.{row_of, with_row, without}
+use Rattle.scr_sheet.specs.CashFlows.{total, flows_under, with_flows, no_flows, has_projection, suits}
+use Rattle.scr_sheet.specs.BalanceSheet.{BalanceSheet, opening, no_volumes, group_name, position_name, line_name, bank_name, rein_name, curve_name, names_of, is_in, is_named, held_of, held_total, line_flows_total, volumes_total, defaults_total, years_total}
+use Rattle.scr_sheet.specs.Records.{applied, natural, changed, kept_flows, absorb_place, cat_place, health_cat_place, with_absorb, lapse_place}
+use Rattle.scr_sheet.specs.Forms.{Formed, AreFlows, AreOnDays}
+use Rattle.scr_sheet.specs.Faults.{fault_of, list_fault, too_long, unknown_name, unknown_row, unknown_group, wrong_kind, misplaced, misplaced_group, in_use, fields_outside, first_fault, outside, outside_rates, outside_promise, above, line_flows_outside, volumes_outside}
+use Rattle.scr_sheet.specs.Validity.{Valid, AreWithin, AreVolumes, IsAmount, IsBetween, IsGroup, IsSecurity, IsPromise, IsProjected, IsLine, IsBank, IsRein, IsCurve, HasGroup, HasGroupOrNone, HasCurrency}
+use Rattle.scr_sheet.specs.declared.edit.Edit.{Edit}
+use Rattle.scr_sheet.specs.declared.edit.Edit.TheVariants as edits
+use Rattle.scr_sheet.specs.declared.fault.Fault.{Fault}
+use Rattle.scr_sheet.specs.declared.fault.Fault.TheVariants as faults
+use Rattle.scr_sheet.specs.declared.fault.Quantity.TheVariants as quantities
+use Rattle.scr_sheet.specs.declared.fault.User.{User}
+use Rattle.scr_sheet.specs.declared.keys.AbsorbKey.{AbsorbKey}
+use Rattle.scr_sheet.specs.declared.keys.AbsorbKey.TheVariants as absorb
+use Rattle.scr_sheet.specs.declared.keys.Projection.{Projection}
+use Rattle.scr_factors.specs.declared.set.Set.{Set}
+use Rattle.scr_factors.specs.declared.set.Set.TheVariants as sets
+use Rattle.scr_sheet.specs.declared.keys.Table.{Table}
+use Rattle.scr_sheet.specs.declared.keys.Table.TheVariants as tables
+use Rattle.scr_sheet.specs.declared.rows.Group.{Group}
+use Rattle.scr_sheet.specs.declared.rows.Position.{Position}
+use Rattle.scr_sheet.specs.declared.rows.Liability.{Liability}
+use Rattle.scr_sheet.specs.declared.rows.LineKind.{LineKind}
+use Rattle.scr_sheet.specs.declared.rows.Bank.{Bank}
+use Rattle.scr_sheet.specs.declared.rows.Rein.{Rein}
+use Rattle.scr_sheet.specs.declared.rows.Curve.{Curve}
+use Rattle.scr_sheet.specs.declared.limits.TheConstants.{MIN_RATE, MAX_RATE, MAX_RATES, MAX_DURATION, MAX_FLOWS, MAX_PROMISED, MAX_AMOUNT, MAX_SYM, MAX_TAX, MAX_HELD, MAX_LINE_FLOWS, MAX_YEARS, MAX_CURRENCIES, MAX_SECURITIES, MAX_LINES, MAX_GROUPS, MAX_EXPOSURES}
+use Rattle.scr_sheet.proofs.TableRows.{All-map, All-both, All-with_row, All-without, All-row_of, All-changed, has_row-with_row, has_row-without, has_row-changed, names-changed, sum-with_row, sum-without, sum-changed}
+use Rattle.scr_sheet.proofs.Bounds.{neither, within_from_above, between_from_outside, all_from_first_fault, natural-le, natural-is}
+use Rattle.scr_sheet.proofs.Projections.{one_or_other, each-with_flows, suits-with_flows, suits-no_flows, under-no_flows}
+use Rattle.scr_sheet.proofs.Amounts.{All-set, All-placed, volumes-with_segment, with_asof, with_absorb as numbers-with_absorb, with_both_volumes, with_cats, with_lapse, with_due, with_op, with_sym, with_tax, with_fdb, with_intangible}
+use Rattle.scr_sheet.proofs.Changes.{IsNew, new_from_is_named, valid-groups, valid-securities, valid-lines, valid-banks, valid-reinsurers, valid-curves, valid-numbers, named-with_group, named-with_position, named-with_line, named-with_bank, named-with_rein, named-without_group, named-without_position, named-without_line, named-without_bank, named-without_rein, currencies-with_curve, currencies-without}
+use Rattle.scr_sheet.proofs.Unused.{HasNoMember, no_member, IsIdle, idle}
+
+-- ---- what it says that a record has no fault
+
+-- none of the kinds of faults
+pub record Passes (edit : Edit) (sheet : BalanceSheet) : Type 0 where
+  pub list : list_fault edit ≡ None
+  pub known : unknown_name edit sheet ≡ None
+  pub kind : wrong_kind edit sheet ≡ None
+  pub free : in_use edit sheet ≡ None
+  pub fields : fields_outside edit ≡ None
+  pub line_flows : line_flows_outside edit (applied edit sheet) ≡ None
+  pub volumes : volumes_outside edit (applied edit sheet) ≡ None
+  pub held : held_total (applied edit sheet) ≤ MAX_HELD
+  pub defaults : defaults_total (applied edit sheet) ≤ MAX_AMOUNT
+  pub years : years_total (applied edit sheet) ≤ MAX_YEARS
+  pub currencies : length (applied edit sheet).curves ≤ MAX_CURRENCIES
+  pub securities : length (applied edit sheet).securities ≤ MAX_SECURITIES
+  pub lines : length (applied edit sheet).lines ≤ MAX_LINES
+  pub groups : length (applied edit sheet).groups ≤ MAX_GROUPS
+  pub exposures : length (applied edit sheet).banks + length (applied edit sheet).reinsurers ≤ MAX_EXPOSURES
+
+pub passes : (edit : Edit) (sheet : BalanceSheet) → fault_of edit sheet ≡ None → Passes edit sheet
+passes edit sheet none =
+    let list = neither (list_fault edit) _ none in
+    let known = neither (unknown_name edit sheet) _ list.1 in
+    let kind = neither (wrong_kind edit sheet) _ known.1 in
+    let free = neither (in_use edit sheet) _ kind.1 in
+    let fields = neither (fields_outside edit) _ free.1 in
+    let held = neither (above quantities.Held (held_total (applied edit sheet)) MAX_HELD) _ fields.1 in
+    let flows = neither (line_flows_outside edit (applied edit sheet)) _ held.1 in
+    let volumes = neither (volumes_outside edit (applied edit sheet)) _ flows.1 in
+    let defaults = neither (above quantities.Defaults (defaults_total (applied edit sheet)) MAX_AMOUNT) _ volumes.1 in
+    let years = neither (above quantities.Years (years_total (applied edit sheet)) MAX_YEARS) _ defaults.1 in
+    let currencies = neither (above quantities.Currencies (length (applied edit sheet).curves) MAX_CURRENCIES) _ years.1 in
+    let securities = neither (above quantities.Securities (length (applied edit sheet).securities) MAX_SECURITIES) _ currencies.1 in
+    let lines = neither (above quantities.Lines (length (applied edit sheet).lines) MAX_LINES) _ securities.1 in
+    let groups = neither (above quantities.Groups (length (applied edit sheet).groups) MAX_GROUPS) _ lines.1 in
+    record {
+      list = list.0;
+      known = known.0;
+      kind = kind.0;
+      free = free.0;
+      fields = fields.0;
+      line_flows = flows.0;
+      volumes = volumes.0;
+      held = within_from_above _ _ _ held.0;
+      defaults = within_from_above _ _ _ defaults.0;
+      years = within_from_above _ _ _ years.0;
+      currencies = within_from_above _ _ _ currencies.0;
+      securities = within_from_above _ _ _ securities.0;
+      lines = within_from_above _ _ _ lines.0;
+      groups = within_from_above _ _ _ groups.0;
+      exposures = within_from_above _ _ _ groups.1;
+    }
+
+-- a fault comes unless the test passes, or exactly where it does
+pub passed : (t : Bool) (fault : Fault) → (if t then None else Some fault) ≡ None → t ≡ true
+passed true fault h = refl
+passed false fault h = absurd (cc)
+
+pub failed : (t : Bool) (fault : Fault) → (if t then Some fault else None) ≡ None → t ≡ false
+failed true fault h = absurd (cc)
+failed false fault h = refl
+
+no_user : (found : Option User) (name : List ℕ) → option_map (λ user. faults.InUse name user) found ≡ None → found ≡ None
+no_user None name h = refl
+no_user (Some user) name h = absurd (cc)
+
+-- a name that stands in no other table, and not in this one, is new
+placed_well : (table : Table) (name : List ℕ) (sheet : BalanceSheet) → misplaced table name sheet ≡ None → is_in table name sheet ≡ false → is_named name sheet ≡ false
+placed_well table name sheet none out = by (is_named name sheet) (is_in table name sheet) (failed _ _ none) out
+  where
+    by : (named here : Bool) → (named && not here) ≡ false → here ≡ false → named ≡ false
+    by false here h out = refl
+    by true false h out = absurd (cc)
+    by true true h out = absurd (cc)
+
+new_name : (table : Table) (name : List ℕ) (sheet : BalanceSheet) → misplaced table name sheet ≡ None → is_in table name sheet ≡ false → IsNew name sheet
+new_name table name sheet none out = new_from_is_named name sheet (placed_well table name sheet none out)
+
+-- a name that exists, and in no other table, stands in this one
+pub right_table : (table : Table) (name : List ℕ) (sheet : BalanceSheet) → unknown_row name sheet ≡ None → misplaced table name sheet ≡ None → is_in table name sheet ≡ true
+right_table table name sheet known none = by (is_named name sheet) (is_in table name sheet) (passed _ _ known) (failed _ _ none)
+  where
+    by : (named here : Bool) → named ≡ true → (named && not here) ≡ false → here ≡ true
+    by named true e h = refl
+    by true false e h = absurd (cc)
+    by false false e h = absurd (cc)
+
+group_or_none : (group : Option (List ℕ)) (sheet : BalanceSheet) → unknown_group group sheet ≡ None → misplaced_group group sheet ≡ None → HasGroupOrNone sheet.groups group
+group_or_none None sheet known none = tt
+group_or_none (Some name) sheet known none = right_table tables.Group name sheet known none
+
+not_longer : (first fields most number : ℕ) → too_long first fields most number ≡ None → number ≤ most
+not_longer first fields most number none = ltb-false most number (failed _ _ none)
+
+amounts : (values : List ℤ) → first_fault (outside quantities.Amount (pos 0) (pos MAX_AMOUNT)) values ≡ None → AllByRecursion (λ z. IsAmount (natural z)) values
+amounts values none =
+    All-map _ _ values (λ z h. natural-le MAX_AMOUNT z (between_from_outside quantities.Amount (pos 0) (pos MAX_AMOUNT) z h))
+    (all_from_first_fault (outside quantities.Amount (pos 0) (pos MAX_AMOUNT)) values none)
+
+on_days : (flows : List (Day × ℤ)) → AreFlows flows → AreOnDays flows
+on_days flows formed = All-map _ _ flows (λ flow h. h.0) formed
+
+-- ---- the quantities of the whole book
+
+-- a sheet whose lines are the same
+same_lines : (sheet : BalanceSheet) → Valid sheet → (projection : Projection) → line_flows_total projection sheet ≤ MAX_LINE_FLOWS
+same_lines sheet valid = valid.within.line_flows
+
+line_flows_after : (edit : Edit) (sheet : BalanceSheet) → Valid sheet → line_flows_outside edit (applied edit sheet) ≡ None → (projection : Projection) → line_flows_total projection (applied edit sheet) ≤ MAX_LINE_FLOWS
+line_flows_after (edits.Line name kind currency) sheet valid none projection =
+    let f : Liability → ℕ = λ l. total (flows_under projection l.flows) in
+    let new : Liability = record { name = name; kind = kind; currency = currency; flows = option_map_or (λ l. l.flows) (row_of line_name name sheet.lines) no_flows } in
+    let sum = sum-with_row line_name f new sheet.lines in
+    let same : f new ≡ option_map_or f (row_of line_name name sheet.lines) 0 = by (row_of line_name name sheet.lines) in
+    let most = valid.within.line_flows projection in
+    omega arith
+  where
+    by : (found : Option Liability) → total (flows_under projection (option_map_or (λ l. l.flows) found no_flows)) ≡ option_map_or (λ l. total (flows_under projection l.flows)) found 0
+    by None = ap total (under-no_flows projection)
+    by (Some l) = refl
+line_flows_after (edits.LineFlows line p flows) sheet valid none projection =
+    elim (one_or_other p projection) [
+      | inl e ↦ subst (λ (q : Projection). line_flows_total q (applied (edits.LineFlows line p flows) sheet) ≤ MAX_LINE_FLOWS) e (within_from_above quantities.LineFlows _ _ none)
+      | inr e ↦
+          let f : Liability → ℕ = λ l. total (flows_under projection l.flows) in
+          let same : line_flows_total projection (applied (edits.LineFlows line p flows) sheet) ≡ sum_by f sheet.lines =
+          sum-changed line_name f (λ l. record l { flows = with_flows p flows l.flows }) line sheet.lines (λ l. refl) (λ l. ap total (e flows l.flows)) in
+          subst (λ (n : ℕ). n ≤ MAX_LINE_FLOWS) (sym same) (valid.within.line_flows projection)
+    ]
+line_flows_after (edits.Remove tables.Line name) sheet valid none projection =
+    let f : Liability → ℕ = λ l. total (flows_under projection l.flows) in
+    let sum = sum-without line_name f name sheet.lines in
+    let most = valid.within.line_flows projection in
+    omega arith
+line_flows_after (edits.Remove tables.Group name) sheet valid none projection = valid.within.line_flows projection
+line_flows_after (edits.Remove tables.Security name) sheet valid none projection = valid.within.line_flows projection
+line_flows_after (edits.Remove tables.Bank name) sheet valid none projection = valid.within.line_flows projection
+line_flows_after (edits.Remove tables.Rein name) sheet valid none projection = valid.within.line_flows projection
+line_flows_after (edits.Remove tables.Curve name) sheet valid none projection = valid.within.line_flows projection
+line_flows_after edit sheet valid none projection = valid.within.line_flows projection
+
+volumes_after : (edit : Edit) (sheet : BalanceSheet) → Valid sheet → volumes_outside edit (applied edit sheet) ≡ None → (set : Set) → volumes_total set (applied edit sheet) ≤ MAX_AMOUNT
+volumes_after (edits.Segment sets.Nl number region premium reserve) sheet valid none sets.Nl = within_from_above quantities.Volumes _ _ none
+volumes_after (edits.Segment sets.Nl number region premium reserve) sheet valid none sets.Nslt = valid.within.volumes sets.Nslt
+volumes_after (edits.Segment sets.Nslt number region premium reserve) sheet valid none sets.Nl = valid.within.volumes sets.Nl
+volumes_after (edits.Segment sets.Nslt number region premium reserve) sheet valid none sets.Nslt = within_from_above quantities.Volumes _ _ none
+volumes_after (edits.Remove tables.Group name) sheet valid none sets.Nl = valid.within.volumes sets.Nl
+volumes_after (edits.Remove tables.Security name) sheet valid none sets.Nl = valid.within.volumes sets.Nl
+volumes_after (edits.Remove tables.Line name) sheet valid none sets.Nl = valid.within.volumes sets.Nl
+volumes_after (edits.Remove tables.Bank name) sheet valid none sets.Nl = valid.within.volumes sets.Nl
+volumes_after (edits.Remove tables.Rein name) sheet valid none sets.Nl = valid.within.volumes sets.Nl
+volumes_after (edits.Remove tables.Curve name) sheet valid none sets.Nl = valid.within.volumes sets.Nl
+volumes_after (edits.Remove tables.Group name) sheet valid none sets.Nslt = valid.within.volumes sets.Nslt
+volumes_after (edits.Remove tables.Security name) sheet valid none sets.Nslt = valid.within.volumes sets.Nslt
+volumes_after (edits.Remove tables.Line name) sheet valid none sets.Nslt = valid.within.volumes sets.Nslt
+volumes_after (edits.Remove tables.Bank name) sheet valid none sets.Nslt = valid.within.volumes sets.Nslt
+volumes_after (edits.Remove tables.Rein name) sheet valid none sets.Nslt = valid.within.volumes sets.Nslt
+volumes_after (edits.Remove tables.Curve name) sheet valid none sets.Nslt = valid.within.volumes sets.Nslt
+volumes_after edit sheet valid none sets.Nl = valid.within.volumes sets.Nl
+volumes_after edit sheet valid none sets.Nslt = valid.within.volumes sets.Nslt
+
+within_after : (edit : Edit) (sheet : BalanceSheet) → Valid sheet → Passes edit sheet → AreWithin (applied edit sheet)
+within_after edit sheet valid p =
+    record {
+      held = p.held;
+      line_flows = line_flows_after edit sheet valid p.line_flows;
+      volumes = volumes_after edit sheet valid p.volumes;
+      defaults = p.defaults;
+      years = p.years;
+      currencies = p.currencies;
+      securities = p.securities;
+      lines = p.lines;
+      groups = p.groups;
+      exposures = p.exposures;
+    }
+
+-- ---- record by record
+
+valid_asof : (date : Day) (currency : List ℕ) (sheet : BalanceSheet) → Formed (edits.Asof date currency) → Valid sheet → Passes (edits.Asof date currency) sheet → Valid (applied (edits.Asof date currency) sheet)
+valid_asof date currency sheet formed valid p =
+    valid-numbers sheet valid _ (with_asof sheet.numbers date currency valid.numbers formed.0 formed.1) (passed _ _ p.known) (within_after (edits.Asof date currency) sheet valid p)
+
+-- the securities, the lines and the reporting currency keep their curves where each currency keeps its own
+module _ (sheet : BalanceSheet) (valid : Valid sheet) (curves : List Curve) (kept : (currency : List ℕ) → HasCurrency sheet.curves currency → HasCurrency curves currency) where
+  kept_securities : AllByRecursion (λ p. HasCurrency curves p.security.currency) sheet.securities
+  kept_securities = All-map _ _ sheet.securities (λ s h. kept s.security.currency h) valid.known.security_currencies
+
+  kept_lines : AllByRecursion (λ l. HasCurrency curves l.currency) sheet.lines
+  kept_lines = All-map _ _ sheet.lines (λ l h. kept l.currency h) valid.known.line_currencies
+
+valid_curve : (currency : List ℕ) (rates : List ℤ) (sheet : BalanceSheet) → Formed (edits.Curve currency rates) → Valid sheet → Passes (edits.Curve currency rates) sheet → Valid (applied (edits.Curve currency rates) sheet)
+valid_curve currency [] sheet formed valid p = let h = p.list in absurd (cc)
+valid_curve currency (rate ∷ rates) sheet formed valid p =
+    let old : Option Curve = row_of curve_name currency sheet.curves in
+    let new : Curve = record { currency = currency; rates = rate ∷ rates; absorb_up = option_map_or (λ c. c.absorb_up) old 0; absorb_down = option_map_or (λ c. c.absorb_down) old 0 } in
+    let within_rates : AllByRecursion (IsBetween MIN_RATE MAX_RATE) (rate ∷ rates) =
+    All-map _ _ (rate ∷ rates) (λ z h. between_from_outside quantities.Rate MIN_RATE MAX_RATE z h) (all_from_first_fault outside_rates (rate ∷ rates) p.fields) in
+    let kept : (other : List ℕ) → HasCurrency sheet.curves other → HasCurrency (with_row curve_name new sheet.curves) other = λ other h. has_row-with_row curve_name other new sheet.curves h in
+    let own : IsCurve new = (formed.0, within_rates, omega arith, not_longer 2 1 MAX_RATES (length (rate ∷ rates)) p.list, up old refl, down old refl) in
+    valid-curves sheet valid (with_row curve_name new sheet.curves) sheet.numbers (All-with_row curve_name IsCurve new sheet.curves own valid.curves) valid.numbers
+    (currencies-with_curve new sheet.curves valid.currencies_once) (kept_securities sheet valid _ kept) (kept_lines sheet valid _ kept) (kept sheet.numbers.currency valid.known.reporting)
+    (within_after (edits.Curve currency (rate ∷ rates)) sheet valid p)
+  where
+    up : (found : Option Curve) → row_of curve_name currency sheet.curves ≡ found → IsAmount (option_map_or (λ c. c.absorb_up) found 0)
+    up None e = omega arith
+    up (Some c) e = let own : IsCurve c = All-row_of curve_name IsCurve currency sheet.curves c e valid.curves in own.4
+
+    down : (found : Option Curve) → row_of curve_name currency sheet.curves ≡ found → IsAmount (option_map_or (λ c. c.absorb_down) found 0)
+    down None e = omega arith
+    down (Some c) e = let own : IsCurve c = All-row_of curve_name IsCurve currency sheet.curves c e valid.curves in own.5
+
+-- the securities, banks and reinsurers keep their groups where each group that is there stays
+module _ (sheet : BalanceSheet) (valid : Valid sheet) (groups : List Group) (kept : (name : List ℕ) → HasGroup sheet.groups name → HasGroup groups name) where
+  kept_or_none : (group : Option (List ℕ)) → HasGroupOrNone sheet.groups group → HasGroupOrNone groups group
+  kept_or_none None h = tt
+  kept_or_none (Some name) h = kept name h
+
+  kept_security_groups : AllByRecursion (λ p. HasGroupOrNone groups p.security.group) sheet.securities
+  kept_security_groups = All-map _ _ sheet.securities (λ s h. kept_or_none s.security.group h) valid.known.security_groups
+
+  kept_bank_groups : AllByRecursion (λ b. HasGroup groups b.group) sheet.banks
+  kept_bank_groups = All-map _ _ sheet.banks (λ b h. kept b.group h) valid.known.bank_groups
+
+  kept_rein_groups : AllByRecursion (λ r. HasGroup groups r.group) sheet.reinsurers
+  kept_rein_groups = All-map _ _ sheet.reinsurers (λ r h. kept r.group h) valid.known.rein_groups
+
+valid_group : (new : Group) (sheet : BalanceSheet) → Formed (edits.Group new.name new.kind new.step) → Valid sheet → Passes (edits.Group new.name new.kind new.step) sheet → Valid (applied (edits.Group new.name new.kind new.step) sheet)
+valid_group new sheet formed valid p =
+    let groups : List Group = with_row group_name new sheet.groups in
+    let kept : (other : List ℕ) → HasGroup sheet.groups other → HasGroup groups other = λ other h. has_row-with_row group_name other new sheet.groups h in
+    valid-groups sheet valid groups (All-with_row group_name IsGroup new sheet.groups formed valid.groups)
+    (named-with_group sheet valid.named_once new (λ out. new_name tables.Group new.name sheet p.kind out))
+    (kept_security_groups sheet valid groups kept) (kept_bank_groups sheet valid groups kept) (kept_rein_groups sheet valid groups kept)
+    (within_after (edits.Group new.name new.kind new.step) sheet valid p)
+
+-- ---- securities
+
+within_duration : (z : ℤ) → outside quantities.Duration (pos 0) MAX_DURATION z ≡ None → pos (natural z) ≤ℤ MAX_DURATION
+within_duration z none =
+    let between = between_from_outside quantities.Duration (pos 0) MAX_DURATION z none in
+    subst (λ (v : ℤ). v ≤ℤ MAX_DURATION) (sym (natural-is z between.0)) between.1
+
+module _ (sheet : BalanceSheet) (valid : Valid sheet) where
+  promise_kept : (name : List ℕ) → IsPromise (kept_flows name sheet.securities)
+  promise_kept name = by (row_of position_name name sheet.securities) refl
+    where
+      by : (found : Option Position) → row_of position_name name sheet.securities ≡ found → IsPromise (option_map_or (λ p. p.security.flows) found [])
+      by None e = (tt, tt, omega arith, omega arith)
+      by (Some position) e = let own : IsSecurity position = All-row_of position_name IsSecurity name sheet.securities position e valid.securities in own.4
+
+  -- a security changed, but for its name, its group and its currency
+  changed_securities : (change : Position → Position) (name : List ℕ) → ((position : Position) → position_name (change position) ≡ position_name position) → ((position : Position) → (change position).security.group ≡ position.security.group)
+      → ((position : Position) → (change position).security.currency ≡ position.security.currency) → ((position : Position) → IsSecurity position → IsSecurity (change position))
+      → let after : BalanceSheet = record sheet { securities = changed position_name change name sheet.securities } in AreWithin after → Valid after
+  changed_securities change name named grouped priced keeps within =
+      let securities : List Position = changed position_name change name sheet.securities in
+      valid-securities sheet valid securities (All-changed position_name IsSecurity change name sheet.securities (λ position e h. keeps position h) valid.securities)
+      (let same : names_of sheet ≡ names_of (record sheet { securities = securities }) = ap (λ ns. map group_name sheet.groups ++ (ns ++ (map line_name sheet.lines ++ (map bank_name sheet.banks ++ map rein_name sheet.reinsurers)))) (sym (names-changed position_name change name sheet.securities named)) in
+      subst (IsDistinct same_name) same valid.named_once)
+      (All-changed position_name (λ s. HasGroupOrNone sheet.groups s.security.group) change name sheet.securities (λ position e h. subst (HasGroupOrNone sheet.groups) (sym (grouped position)) h) valid.known.security_groups)
+      (All-changed position_name (λ s. HasCurrency sheet.curves s.security.currency) change name sheet.securities (λ position e h. subst (HasCurrency sheet.curves) (sym (priced position)) h) valid.known.security_currencies)
+      within
+
+valid_security : (new : Position) (duration : ℤ) (sheet : BalanceSheet) → new.security.duration ≡ natural duration → new.security.flows ≡ kept_flows new.security.name sheet.securities
+    → Formed (edits.Security new.security.name new.security.class new.security.group new.security.currency duration) → Valid sheet
+    → Passes (edits.Security new.security.name new.security.class new.security.group new.security.currency duration) sheet
+    → AreWithin (record sheet { securities = with_row position_name new sheet.securities }) → Valid (record sheet { securities = with_row position_name new sheet.securities })
+valid_security new duration sheet long flows formed valid p within =
+    let known = neither _ _ p.known in
+    let kind = neither _ _ p.kind in
+    let promise : IsPromise new.security.flows = subst IsPromise (sym flows) (promise_kept sheet valid new.security.name) in
+    let short : pos new.security.duration ≤ℤ MAX_DURATION = subst (λ (n : ℕ). pos n ≤ℤ MAX_DURATION) (sym long) (within_duration duration p.fields) in
+    let own : IsSecurity new = (formed.0, formed.1, formed.2, short, promise) in
+    let currency : HasCurrency sheet.curves new.security.currency = passed _ _ known.1 in
+    valid-securities sheet valid (with_row position_name new sheet.securities) (All-with_row position_name IsSecurity new sheet.securities own valid.securities)
+    (named-with_position sheet valid.named_once new (λ out. new_name tables.Security new.security.name sheet kind.0 out))
+    (All-with_row position_name (λ s. HasGroupOrNone sheet.groups s.security.group) new sheet.securities (group_or_none new.security.group sheet known.0 kind.1) valid.known.security_groups)
+    (All-with_row position_name (λ s. HasCurrency sheet.curves s.security.currency) new sheet.securities currency valid.known.security_currencies) within
+
+valid_flows : (security : List ℕ) (flows : List (Day × ℤ)) (sheet : BalanceSheet) → Formed (edits.Flows security flows) → Valid sheet → Passes (edits.Flows security flows) sheet → Valid (applied (edits.Flows security flows) sheet)
+valid_flows security flows sheet formed valid p =
+    let fields = neither (first_fault outside_promise flows) _ p.fields in
+    let each : AllByRecursion (λ flow. IsBetween (pos 0) (pos MAX_PROMISED) flow.1) flows =
+    All-map _ _ flows (λ flow h. between_from_outside quantities.Flow (pos 0) (pos MAX_PROMISED) flow.1 h) (all_from_first_fault outside_promise flows fields.0) in
+    let promise : IsPromise flows = (on_days flows formed.1, each, not_longer 2 2 MAX_FLOWS (length flows) p.list, within_from_above quantities.SecFlows (total flows) MAX_PROMISED fields.1) in
+    changed_securities sheet valid (λ s. record s { security = record s.security { flows = flows } }) security (λ s. refl) (λ s. refl) (λ s. refl)
+    (λ s h. (h.0, h.1, h.2, h.3, promise)) (within_after (edits.Flows security flows) sheet valid p)
+
+valid_hold : (name : List ℕ) (cents : ℤ) (sheet : BalanceSheet) → Valid sheet → Passes (edits.Hold name cents) sheet → Valid (applied (edits.Hold name cents) sheet)
+valid_hold name cents sheet valid p =
+    changed_securities sheet valid (λ s. record s { held = natural cents }) name (λ s. refl) (λ s. refl) (λ s. refl) (λ s h. h) (within_after (edits.Hold name cents) sheet valid p)
+
+-- ---- lines
+
+valid_line : (name : List ℕ) (kind : LineKind) (currency : List ℕ) (sheet : BalanceSheet) → Formed (edits.Line name kind currency) → Valid sheet → Passes (edits.Line name kind currency) sheet → Valid (applied (edits.Line name kind currency) sheet)
+valid_line name kind currency sheet formed valid p =
+    let new : Liability = record { name = name; kind = kind; currency = currency; flows = option_map_or (λ l. l.flows) (row_of line_name name sheet.lines) no_flows } in
+    let own : IsLine new = (formed.0, formed.1, suit (row_of line_name name sheet.lines) (passed _ _ p.free), projected (row_of line_name name sheet.lines) refl) in
+    let known : HasCurrency sheet.curves currency = passed _ _ p.known in
+    valid-lines sheet valid (with_row line_name new sheet.lines) (All-with_row line_name IsLine new sheet.lines own valid.lines)
+    (named-with_line sheet valid.named_once new (λ out. new_name tables.Line name sheet p.kind out))
+    (All-with_row line_name (λ l. HasCurrency sheet.curves l.currency) new sheet.lines known valid.known.line_currencies) (within_after (edits.Line name kind currency) sheet valid p)
+  where
+    suit : (found : Option Liability) → option_map_or (λ l. suits kind l.flows) found true ≡ true → IsTrue (suits kind (option_map_or (λ l. l.flows) found no_flows))
+    suit None h = suits-no_flows kind
+    suit (Some l) h = h
+
+    projected : (found : Option Liability) → row_of line_name name sheet.lines ≡ found → (projection : Projection) → IsProjected (flows_under projection (option_map_or (λ l. l.flows) found no_flows))
+    projected None e projection = subst IsProjected (sym (under-no_flows projection)) (tt, omega arith)
+    projected (Some l) e projection = let old : IsLine l = All-row_of line_name IsLine name sheet.lines l e valid.lines in old.3 projection
+
+valid_line_flows : (line : List ℕ) (q : Projection) (flows : List (Day × ℤ)) (sheet : BalanceSheet) → Formed (edits.LineFlows line q flows) → Valid sheet → Passes (edits.LineFlows line q flows) sheet → Valid (applied (edits.LineFlows line q flows) sheet)
+valid_line_flows line q flows sheet formed valid p =
+    let change : Liability → Liability = λ l. record l { flows = with_flows q flows l.flows } in
+    let lines : List Liability = changed line_name change line sheet.lines in
+    let kind = neither _ _ p.kind in
+    let new : IsProjected flows = (on_days flows formed.1, not_longer 3 2 MAX_FLOWS (length flows) p.list) in
+    let has : (l : Liability) → row_of line_name line sheet.lines ≡ Some l → has_projection l.kind q ≡ true = λ l e. sym (ap (λ o. option_map_or (λ r. has_projection r.kind q) o true) e) ∙ passed _ _ kind.1 in
+    let keeps : (l : Liability) → row_of line_name line sheet.lines ≡ Some l → IsLine l → IsLine (change l) =
+    λ l e h. (h.0, h.1, suits-with_flows l.kind flows l.flows q (has l e) h.2, each-with_flows IsProjected flows l.flows q new h.3) in
+    let same : names_of sheet ≡ names_of (record sheet { lines = lines }) =
+    ap (λ ns. map group_name sheet.groups ++ (map position_name sheet.securities ++ (ns ++ (map bank_name sheet.banks ++ map rein_name sheet.reinsurers)))) (sym (names-changed line_name change line sheet.lines (λ l. refl))) in
+    valid-lines sheet valid lines (All-changed line_name IsLine change line sheet.lines keeps valid.lines) (subst (IsDistinct same_name) same valid.named_once)
+    (All-changed line_name (λ l. HasCurrency sheet.curves l.currency) change line sheet.lines (λ l e h. h) valid.known.line_currencies) (within_after (edits.LineFlows line q flows) sheet valid p)
+
+-- ---- absorptions
+
+module _ (cents : ℕ) (small : IsAmount cents) (curves : List Curve) where
+  absorbing_curves : (key : AbsorbKey) → AllByRecursion IsCurve curves → AllByRecursion IsCurve (with_absorb key cents curves)
+  absorbing_curves (absorb.CurrencyUp currency) all = All-changed curve_name IsCurve (λ c. record c { absorb_up = cents }) currency curves (λ c e h. (h.0, h.1, h.2, h.3, small, h.5)) all
+  absorbing_curves (absorb.CurrencyDown currency) all = All-changed curve_name IsCurve (λ c. record c { absorb_down = cents }) currency curves (λ c e h. (h.0, h.1, h.2, h.3, h.4, small)) all
+  absorbing_curves key all = all
+
+absorbing_names : (key : AbsorbKey) (cents : ℕ) (curves : List Curve) → map curve_name (with_absorb key cents curves) ≡ map curve_name curves
+absorbing_names (absorb.CurrencyUp currency) cents curves = names-changed curve_name (λ c. record c { absorb_up = cents }) currency curves (λ c. refl)
+absorbing_names (absorb.CurrencyDown currency) cents curves = names-changed curve_name (λ c. record c { absorb_down = cents }) currency curves (λ c. refl)
+absorbing_names key cents curves = refl
+
+absorbing_has : (key : AbsorbKey) (cents : ℕ) (curves : List Curve) (other : List ℕ) → HasCurrency curves other → HasCurrency (with_absorb key cents curves) other
+absorbing_has (absorb.CurrencyUp currency) cents curves other h = has_row-changed curve_name other (λ c. record c { absorb_up = cents }) currency curves h
+absorbing_has (absorb.CurrencyDown currency) cents curves other h = has_row-changed curve_name other (λ c. record c { absorb_down = cents }) currency curves h
+absorbing_has key cents curves other h = h
+
+valid_absorb : (key : AbsorbKey) (cents : ℤ) (sheet : BalanceSheet) → Valid sheet → Passes (edits.Absorb key cents) sheet → Valid (applied (edits.Absorb key cents) sheet)
+valid_absorb key cents sheet valid p =
+    let small : IsAmount (natural cents) = (amounts (cents ∷ []) p.fields).0 in
+    let curves : List Curve = with_absorb key (natural cents) sheet.curves in
+    let kept : (other : List ℕ) → HasCurrency sheet.curves other → HasCurrency curves other = λ other h. absorbing_has key (natural cents) sheet.curves other h in
+    valid-curves sheet valid curves _ (absorbing_curves (natural cents) small sheet.curves key valid.curves)
+    (numbers-with_absorb sheet.numbers _ valid.numbers (All-placed (absorb_place key) (natural cents) sheet.numbers.absorb small valid.numbers.absorb))
+    (subst (IsDistinct same_name) (sym (absorbing_names key (natural cents) sheet.curves)) valid.currencies_once)
+    (kept_securities sheet valid curves kept) (kept_lines sheet valid curves kept) (kept sheet.numbers.currency valid.known.reporting) (within_after (edits.Absorb key cents) sheet valid p)
+
+-- ---- banks and reinsurers
+
+valid_bank : (name group : List ℕ) (cents : ℤ) (sheet : BalanceSheet) → Formed (edits.Bank name group cents) → Valid sheet → Passes (edits.Bank name group cents) sheet → Valid (applied (edits.Bank name group cents) sheet)
+valid_bank name group cents sheet formed valid p =
+    let new : Bank = record { name = name; group = group; cents = natural cents } in
+    let kind = neither _ _ p.kind in
+    let own : IsBank new = (formed.0, formed.1, (amounts (cents ∷ []) p.fields).0) in
+    let has : HasGroup sheet.groups group = right_table tables.Group group sheet p.known kind.1 in
+    valid-banks sheet valid (with_row bank_name new sheet.banks) (All-with_row bank_name IsBank new sheet.banks own valid.banks)
+    (named-with_bank sheet valid.named_once new (λ out. new_name tables.Bank name sheet kind.0 out))
+    (All-with_row bank_name (λ b. HasGroup sheet.groups b.group) new sheet.banks has valid.known.bank_groups) (within_after (edits.Bank name group cents) sheet valid p)
+
+valid_rein : (name group : List ℕ) (recoverables mitigation collateral : ℤ) (sheet : BalanceSheet) → Formed (edits.Rein name group recoverables mitigation collateral) → Valid sheet
+    → Passes (edits.Rein name group recoverables mitigation collateral) sheet → Valid (applied (edits.Rein name group recoverables mitigation collateral) sheet)
+valid_rein name group recoverables mitigation collateral sheet formed valid p =
+    let new : Rein = record { name = name; group = group; recoverables = natural recoverables; mitigation = natural mitigation; collateral = natural collateral } in
+    let kind = neither _ _ p.kind in
+    let small = amounts (recoverables ∷ mitigation ∷ collateral ∷ []) p.fields in
+    let own : IsRein new = (formed.0, formed.1, small.0, small.1.0, small.1.1.0) in
+    let has : HasGroup sheet.groups group = right_table tables.Group group sheet p.known kind.1 in
+    valid-reinsurers sheet valid (with_row rein_name new sheet.reinsurers) (All-with_row rein_name IsRein new sheet.reinsurers own valid.reinsurers)
+    (named-with_rein sheet valid.named_once new (λ out. new_name tables.Rein name sheet kind.0 out))
+    (All-with_row rein_name (λ r. HasGroup sheet.groups r.group) new sheet.reinsurers has valid.known.rein_groups) (within_after (edits.Rein name group recoverables mitigation collateral) sheet valid p)
+
+-- ---- rows dropped
+
+without_group : (name : List ℕ) (sheet : BalanceSheet) → Valid sheet → Passes (edits.Remove tables.Group name) sheet → Valid (applied (edits.Remove tables.Group name) sheet)
+without_group name sheet valid p =
+    let free : HasNoMember name sheet = no_member name sheet (no_user _ name p.free) in
+    let groups : List Group = without group_name name sheet.groups in
+    let kept : (other : List ℕ) → same_name name other ≡ false → HasGroup sheet.groups other → HasGroup groups other = λ other apart h. has_row-without group_name other name sheet.groups apart h in
+    valid-groups sheet valid groups (All-without group_name IsGroup name sheet.groups valid.groups) (named-without_group sheet valid.named_once name)
+    (All-both _ _ (λ s. HasGroupOrNone groups s.security.group) sheet.securities (λ s h apart. kept_group s.security.group h apart) valid.known.security_groups free.securities)
+    (All-both _ _ (λ b. HasGroup groups b.group) sheet.banks (λ b h apart. kept b.group apart h) valid.known.bank_groups free.banks)
+    (All-both _ _ (λ r. HasGroup groups r.group) sheet.reinsurers (λ r h apart. kept r.group apart h) valid.known.rein_groups free.reinsurers)
+    (within_after (edits.Remove tables.Group name) sheet valid p)
+  where
+    kept_group : (group : Option (List ℕ)) → HasGroupOrNone sheet.groups group → option_map_or (same_name name) group false ≡ false → HasGroupOrNone (without group_name name sheet.groups) group
+    kept_group None h apart = tt
+    kept_group (Some other) h apart = has_row-without group_name other name sheet.groups apart h
+
+without_curve : (name : List ℕ) (sheet : BalanceSheet) → Valid sheet → Passes (edits.Remove tables.Curve name) sheet → Valid (applied (edits.Remove tables.Curve name) sheet)
+without_curve name sheet valid p =
+    let free : IsIdle name sheet = idle name sheet (no_user _ name p.free) in
+    let curves : List Curve = without curve_name name sheet.curves in
+    let kept : (other : List ℕ) → HasCurrency sheet.curves other → same_name name other ≡ false → HasCurrency curves other = λ other h apart. has_row-without curve_name other name sheet.curves apart h in
+    valid-curves sheet valid curves sheet.numbers (All-without curve_name IsCurve name sheet.curves valid.curves) valid.numbers (currencies-without name sheet.curves valid.currencies_once)
+    (All-both _ _ (λ s. HasCurrency curves s.security.currency) sheet.securities (λ s h apart. kept s.security.currency h apart) valid.known.security_currencies free.securities)
+    (All-both _ _ (λ l. HasCurrency curves l.currency) sheet.lines (λ l h apart. kept l.currency h apart) valid.known.line_currencies free.lines)
+    (kept sheet.numbers.currency valid.known.reporting free.reporting) (within_after (edits.Remove tables.Curve name) sheet valid p)
+
+valid_drop : (table : Table) (name : List ℕ) (sheet : BalanceSheet) → Valid sheet → Passes (edits.Remove table name) sheet → Valid (applied (edits.Remove table name) sheet)
+valid_drop tables.Group name sheet valid p = without_group name sheet valid p
+valid_drop tables.Security name sheet valid p =
+    valid-securities sheet valid (without position_name name sheet.securities) (All-without position_name IsSecurity name sheet.securities valid.securities) (named-without_position sheet valid.named_once name)
+    (All-without position_name _ name sheet.securities valid.known.security_groups) (All-without position_name _ name sheet.securities valid.known.security_currencies) (within_after (edits.Remove tables.Security name) sheet valid p)
+valid_drop tables.Line name sheet valid p =
+    valid-lines sheet valid (without line_name name sheet.lines) (All-without line_name IsLine name sheet.lines valid.lines) (named-without_line sheet valid.named_once name)
+    (All-without line_name _ name sheet.lines valid.known.line_currencies) (within_after (edits.Remove tables.Line name) sheet valid p)
+valid_drop tables.Bank name sheet valid p =
+    valid-banks sheet valid (without bank_name name sheet.banks) (All-without bank_name IsBank name sheet.banks valid.banks) (named-without_bank sheet valid.named_once name)
+    (All-without bank_name _ name sheet.banks valid.known.bank_groups) (within_after (edits.Remove tables.Bank name) sheet valid p)
+valid_drop tables.Rein name sheet valid p =
+    valid-reinsurers sheet valid (without rein_name name sheet.reinsurers) (All-without rein_name IsRein name sheet.reinsurers valid.reinsurers) (named-without_rein sheet valid.named_once name)
+    (All-without rein_name _ name sheet.reinsurers valid.known.rein_groups) (within_after (edits.Remove tables.Rein name) sheet valid p)
+valid_drop tables.Curve name sheet valid p = without_curve name sheet valid p
+
+-- ---- all records
+
+pub Valid-applied : (edit : Edit) (sheet : BalanceSheet) → Formed edit → Valid sheet → fault_of edit sheet ≡ None → Valid (applied edit sheet)
+Valid-applied (edits.Asof date currency) sheet formed valid none = valid_asof date currency sheet formed valid (passes _ sheet none)
+Valid-applied (edits.Curve currency rates) sheet formed valid none = valid_curve currency rates sheet formed valid (passes _ sheet none)
+Valid-applied (edits.Group name kind step) sheet formed valid none = valid_group (record { name = name; kind = kind; step = step }) sheet formed valid (passes (edits.Group name kind step) sheet none)
+Valid-applied (edits.Security name class group currency duration) sheet formed valid none =
+    let p = passes (edits.Security name class group currency duration) sheet none in
+    let new : Position = record { security = record { name = name; class = class; group = group; currency = currency; duration = natural duration; flows = kept_flows name sheet.securities }; held = held_of sheet name } in
+    valid_security new duration sheet refl refl formed valid p (within_after (edits.Security name class group currency duration) sheet valid p)
+Valid-applied (edits.Flows security flows) sheet formed valid none = valid_flows security flows sheet formed valid (passes _ sheet none)
+Valid-applied (edits.Hold name cents) sheet formed valid none = valid_hold name cents sheet valid (passes _ sheet none)
+Valid-applied (edits.Line name kind currency) sheet formed valid none = valid_line name kind currency sheet formed valid (passes _ sheet none)
+Valid-applied (edits.LineFlows line projection flows) sheet formed valid none = valid_line_flows line projection flows sheet formed valid (passes _ sheet none)
+Valid-applied (edits.Absorb key cents) sheet formed valid none = valid_absorb key cents sheet valid (passes _ sheet none)
+Valid-applied (edits.Segment set number region premium reserve) sheet formed valid none =
+    let p = passes (edits.Segment set number region premium reserve) sheet none in
+    let small = amounts (premium ∷ reserve ∷ []) p.fields in
+    let new : ℕ × ℕ = (natural premium, natural reserve) in
+    valid-numbers sheet valid _
+    (with_both_volumes sheet.numbers _ _ valid.numbers (volumes-with_segment sets.Nl set number region new sheet.numbers.nl small.0 small.1.0 valid.numbers.nl)
+    (volumes-with_segment sets.Nslt set number region new sheet.numbers.nslt small.0 small.1.0 valid.numbers.nslt))
+    valid.known.reporting (within_after (edits.Segment set number region premium reserve) sheet valid p)
+Valid-applied (edits.Cat key cents) sheet formed valid none =
+    let p = passes (edits.Cat key cents) sheet none in
+    let small = (amounts (cents ∷ []) p.fields).0 in
+    valid-numbers sheet valid _
+    (with_cats sheet.numbers _ _ valid.numbers (All-placed (cat_place key) (natural cents) sheet.numbers.cat small valid.numbers.cat)
+    (All-placed (health_cat_place key) (natural cents) sheet.numbers.health_cat small valid.numbers.health_cat))
+    valid.known.reporting (within_after (edits.Cat key cents) sheet valid p)
+Valid-applied (edits.Lapse set cents) sheet formed valid none =
+    let p = passes (edits.Lapse set cents) sheet none in
+    valid-numbers sheet valid _ (with_lapse sheet.numbers _ valid.numbers (All-set IsAmount sheet.numbers.lapse (lapse_place set) (natural cents) (amounts (cents ∷ []) p.fields).0 valid.numbers.lapse))
+    valid.known.reporting (within_after (edits.Lapse set cents) sheet valid p)
+Valid-applied (edits.Rein name group recoverables mitigation collateral) sheet formed valid none = valid_rein name group recoverables mitigation collateral sheet formed valid (passes _ sheet none)
+Valid-applied (edits.Bank name group cents) sheet formed valid none = valid_bank name group cents sheet formed valid (passes _ sheet none)
+Valid-applied (edits.Due overdue other) sheet formed valid none =
+    let p = passes (edits.Due overdue other) sheet none in
+    let small = amounts (overdue ∷ other ∷ []) p.fields in
+    valid-numbers sheet valid _ (with_due sheet.numbers _ valid.numbers (small.0, (small.1.0, tt))) valid.known.reporting (within_after (edits.Due overdue other) sheet valid p)
+Valid-applied (edits.Op tpl tpul tpn el eul pel peul en pen expul) sheet formed valid none =
+    let p = passes (edits.Op tpl tpul tpn el eul pel peul en pen expul) sheet none in
+    let fields = neither _ _ p.fields in
+    let e = amounts (el ∷ eul ∷ pel ∷ peul ∷ en ∷ pen ∷ expul ∷ []) fields.0 in
+    let earned : List ℕ = natural el ∷ natural eul ∷ natural pel ∷ natural peul ∷ natural en ∷ natural pen ∷ natural expul ∷ [] in
+    let all_earned : AllByRecursion IsAmount earned = (e.0, (e.1.0, (e.1.1.0, (e.1.1.1.0, (e.1.1.1.1.0, (e.1.1.1.1.1.0, (e.1.1.1.1.1.1.0, tt))))))) in
+    let provisions : List ℤ = tpl ∷ tpul ∷ tpn ∷ [] in
+    let all_provisions : AllByRecursion (IsBetween (neg_ℤ (pos MAX_AMOUNT)) (pos MAX_AMOUNT)) provisions =
+    All-map _ _ provisions (λ z h. between_from_outside quantities.Provision (neg_ℤ (pos MAX_AMOUNT)) (pos MAX_AMOUNT) z h) (all_from_first_fault (outside quantities.Provision (neg_ℤ (pos MAX_AMOUNT)) (pos MAX_AMOUNT)) provisions fields.1) in
+    valid-numbers sheet valid _ (with_op sheet.numbers provisions earned valid.numbers all_provisions all_earned) valid.known.reporting
+    (within_after (edits.Op tpl tpul tpn el eul pel peul en pen expul) sheet valid p)
+Valid-applied (edits.Sym millionths) sheet formed valid none =
+    let p = passes (edits.Sym millionths) sheet none in
+    valid-numbers sheet valid _ (with_sym sheet.numbers millionths valid.numbers (between_from_outside quantities.Sym (neg_ℤ MAX_SYM) MAX_SYM millionths p.fields)) valid.known.reporting
+    (within_after (edits.Sym millionths) sheet valid p)
+Valid-applied (edits.Tax millionths most) sheet formed valid none =
+    let p = passes (edits.Tax millionths most) sheet none in
+    let fields = neither _ _ p.fields in
+    let between = between_from_outside quantities.TaxRate (pos 0) MAX_TAX millionths fields.1 in
+    let rate : pos (natural millionths) ≤ℤ MAX_TAX = subst (λ (v : ℤ). v ≤ℤ MAX_TAX) (sym (natural-is millionths between.0)) between.1 in
+    valid-numbers sheet valid _ (with_tax sheet.numbers (natural millionths) (natural most) valid.numbers rate (amounts (most ∷ []) fields.0).0) valid.known.reporting
+    (within_after (edits.Tax millionths most) sheet valid p)
+Valid-applied (edits.Fdb cents) sheet formed valid none =
+    let p = passes (edits.Fdb cents) sheet none in
+    valid-numbers sheet valid _ (with_fdb sheet.numbers (natural cents) valid.numbers (amounts (cents ∷ []) p.fields).0) valid.known.reporting (within_after (edits.Fdb cents) sheet valid p)
+Valid-applied (edits.Intangible cents) sheet formed valid none =
+    let p = passes (edits.Intangible cents) sheet none in
+    valid-numbers sheet valid _ (with_intangible sheet.numbers (natural cents) valid.numbers (amounts (cents ∷ []) p.fields).0) valid.known.reporting (within_after (edits.Intangible cents) sheet valid p)
+Valid-applied (edits.Remove table name) sheet formed valid none = valid_drop table name sheet valid (passes _ sheet none)
+
+-- ---- the opening sheet
+
+no_amounts : (n : ℕ) → AllByRecursion IsAmount (replicate n 0)
+no_amounts zero = tt
+no_amounts (suc n) = (omega arith, no_amounts n)
+
+all_nothing : (m : ℕ) → AllByRecursion (λ (v : ℕ × ℕ). IsAmount v.0 × IsAmount v.1) (replicate m (0, 0))
+all_nothing zero = tt
+all_nothing (suc m) = ((omega arith, omega arith), all_nothing m)
+
+no_segments : (n : ℕ) → AreVolumes (replicate n no_volumes)
+no_segments zero = tt
+no_segments (suc n) = (all_nothing 18, no_segments n)
+
+nothing_projected : (projection : Projection) → line_flows_total projection opening ≤ MAX_LINE_FLOWS
+nothing_projected projection = omega arith
+
+nothing_written : (set : Set) → volumes_total set opening ≤ MAX_AMOUNT
+nothing_written sets.Nl = omega arith
+nothing_written sets.Nslt = omega arith
+
+no_provision : IsBetween (neg_ℤ (pos MAX_AMOUNT)) (pos MAX_AMOUNT) (pos 0)
+no_provision = (omega (arith, ints), omega (arith, ints))
+
+pub Valid-opening : Valid opening
+unfolding IsDistinct
+Valid-opening =
+    record {
+      groups = tt;
+      securities = tt;
+      lines = tt;
+      banks = tt;
+      reinsurers = tt;
+      curves = ((refl, ((omega (arith, ints), omega (arith, ints)), tt), omega arith, omega arith, omega arith, omega arith), tt);
+      numbers = record {
+        asof = (omega (arith, ints), omega (arith, ints));
+        currency = refl;
+        absorb = no_amounts 25;
+        nl = no_segments 12;
+        nslt = no_segments 4;
+        cat = no_amounts 13;
+        health_cat = no_amounts 3;
+        lapse = no_amounts 2;
+        due = no_amounts 2;
+        provisions = (no_provision, (no_provision, (no_provision, tt)));
+        earned = no_amounts 7;
+        sym = (omega (arith, ints), omega (arith, ints));
+        tax = omega (arith, ints);
+        cap = omega arith;
+        fdb = omega arith;
+        intangible = omega arith;
+      };
+      named_once = tt;
+      currencies_once = (tt, tt);
+      known = record { security_groups = tt; bank_groups = tt; rein_groups = tt; security_currencies = tt; line_currencies = tt; reporting = refl };
+      within = record {
+        held = omega arith;
+        line_flows = nothing_projected;
+        volumes = nothing_written;
+        defaults = omega arith;
+        years = omega arith;
+        currencies = omega arith;
+        securities = omega arith;
+        lines = omega arith;
+        groups = omega arith;
+        exposures = omega arith;
+      };
+    }

@@ -1,0 +1,159 @@
+-- The balance sheet that a book keeps (this project's own).
+use Rattle.std.specs.Prelude.{ℕ, ℤ, pos, ◌+◌, ◌++◌, ◌||◌, Bool, List, [], ◌∷◌, Option, map, max, replicate, sum_by}
+use Rattle.std.specs.Option.{option_map_or}
+use Rattle.scr_sheet.specs.Tables.{row_of, has_row}
+use Rattle.scr_sheet.specs.CashFlows.{total, flows_under, greatest_years, all_projections}
+use Rattle.scr_factors.specs.declared.set.Set.{Set}
+use Rattle.scr_factors.specs.declared.set.Set.TheVariants as sets
+use Rattle.scr_sheet.specs.declared.keys.Table.{Table}
+use Rattle.scr_sheet.specs.declared.keys.Table.TheVariants as tables
+use Rattle.scr_sheet.specs.declared.keys.Projection.{Projection}
+use Rattle.scr_sheet.specs.declared.rows.Group.{Group}
+use Rattle.scr_sheet.specs.declared.rows.Position.{Position}
+use Rattle.scr_sheet.specs.declared.rows.Liability.{Liability}
+use Rattle.scr_sheet.specs.declared.rows.Bank.{Bank}
+use Rattle.scr_sheet.specs.declared.rows.Rein.{Rein}
+use Rattle.scr_sheet.specs.declared.rows.Curve.{Curve}
+use Rattle.scr_sheet.specs.declared.numbers.Numbers.{Numbers}
+use Rattle.scr_sheet.specs.declared.numbers.Regions.{Regions}
+
+-- Each table as the list of its rows, in the order in which their names first came, and the single numbers.
+pub record BalanceSheet : Type 0 where
+  pub groups : List Group
+  pub securities : List Position
+  pub lines : List Liability
+  pub banks : List Bank
+  pub reinsurers : List Rein
+  pub curves : List Curve
+  pub numbers : Numbers
+
+-- ---- the sheet before the first record
+
+-- the letters EUR
+abbrev pub euro : List ℕ
+euro = 69 ∷ 85 ∷ 82 ∷ []
+
+-- a segment without volumes
+abbrev pub no_volumes : Regions
+no_volumes = record { volumes = replicate 18 (0, 0) }
+
+-- every number is 0, the reference date is 1 January 2000 and the reporting currency the euro
+abbrev pub opening_numbers : Numbers
+opening_numbers = record {
+  asof = record { number = pos 10_957 };
+  currency = euro;
+  absorb = replicate 25 0;
+  nl = replicate 12 no_volumes;
+  nslt = replicate 4 no_volumes;
+  cat = replicate 13 0;
+  health_cat = replicate 3 0;
+  lapse = replicate 2 0;
+  due = replicate 2 0;
+  provisions = replicate 3 (pos 0);
+  earned = replicate 7 0;
+  sym = pos 0;
+  tax = 0;
+  cap = 0;
+  fdb = 0;
+  intangible = 0;
+}
+
+-- one curve, the euro's with the single rate 0, and nothing else
+abbrev pub opening : BalanceSheet
+opening = record {
+  groups = [];
+  securities = [];
+  lines = [];
+  banks = [];
+  reinsurers = [];
+  curves = record { currency = euro; rates = pos 0 ∷ []; absorb_up = 0; absorb_down = 0 } ∷ [];
+  numbers = opening_numbers;
+}
+
+-- ---- look-ups
+
+abbrev pub group_name : Group → List ℕ
+group_name group = group.name
+
+abbrev pub position_name : Position → List ℕ
+position_name position = position.security.name
+
+abbrev pub line_name : Liability → List ℕ
+line_name line = line.name
+
+abbrev pub bank_name : Bank → List ℕ
+bank_name bank = bank.name
+
+abbrev pub rein_name : Rein → List ℕ
+rein_name rein = rein.name
+
+abbrev pub curve_name : Curve → List ℕ
+curve_name curve = curve.currency
+
+-- the security of this name, with what is held of it
+abbrev pub position_of : List ℕ → List Position → Option Position
+position_of name positions = row_of position_name name positions
+
+-- the cents held directly under a name, 0 where nothing is held
+abbrev pub held_of : BalanceSheet → List ℕ → ℕ
+held_of sheet name = option_map_or (λ p. p.held) (position_of name sheet.securities) 0
+
+-- the name stands in this table
+abbrev pub is_in : Table → List ℕ → BalanceSheet → Bool
+is_in tables.Group name sheet = has_row group_name name sheet.groups
+is_in tables.Security name sheet = has_row position_name name sheet.securities
+is_in tables.Line name sheet = has_row line_name name sheet.lines
+is_in tables.Bank name sheet = has_row bank_name name sheet.banks
+is_in tables.Rein name sheet = has_row rein_name name sheet.reinsurers
+is_in tables.Curve name sheet = has_row curve_name name sheet.curves
+
+-- the name stands in one of the tables that share one set of names; currencies are apart
+abbrev pub is_named : List ℕ → BalanceSheet → Bool
+is_named name sheet =
+    is_in tables.Group name sheet || is_in tables.Security name sheet || is_in tables.Line name sheet
+    || is_in tables.Bank name sheet || is_in tables.Rein name sheet
+
+-- the names of these tables
+abbrev pub names_of : BalanceSheet → List (List ℕ)
+names_of sheet =
+    map group_name sheet.groups ++ (map position_name sheet.securities ++ (map line_name sheet.lines
+    ++ (map bank_name sheet.banks ++ map rein_name sheet.reinsurers)))
+
+-- ---- sums, in cents
+
+-- all that is held directly
+abbrev pub held_total : BalanceSheet → ℕ
+held_total sheet = sum_by (λ p. p.held) sheet.securities
+
+-- the absolute flows of all lines under a projection
+abbrev pub line_flows_total : Projection → BalanceSheet → ℕ
+line_flows_total projection sheet = sum_by (λ l. total (flows_under projection l.flows)) sheet.lines
+
+-- the premium and reserve volumes of all segments and regions of a set
+abbrev pub volumes_of : Set → Numbers → List Regions
+volumes_of sets.Nl numbers = numbers.nl
+volumes_of sets.Nslt numbers = numbers.nslt
+
+abbrev pub volumes_total : Set → BalanceSheet → ℕ
+volumes_total set sheet = sum_by (λ segment. sum_by (λ v. v.0 + v.1) segment.volumes) (volumes_of set sheet.numbers)
+
+-- what banks hold, and the recoverables and the risk-mitigating effects of all reinsurers
+abbrev pub defaults_total : BalanceSheet → ℕ
+defaults_total sheet = sum_by (λ b. b.cents) sheet.banks + sum_by (λ r. r.recoverables + r.mitigation) sheet.reinsurers
+
+-- ---- the greatest number of years from the reference date to a payment
+
+abbrev pub greatest : {Row : Type 0} → (Row → ℕ) → List Row → ℕ
+greatest measure [] = 0
+greatest measure (row ∷ rows) = max (measure row) (greatest measure rows)
+
+abbrev pub security_years : ℤ → Position → ℕ
+security_years asof position = greatest_years asof position.security.flows
+
+abbrev pub line_years : ℤ → Liability → ℕ
+line_years asof line = greatest (λ projection. greatest_years asof (flows_under projection line.flows)) all_projections
+
+abbrev pub years_total : BalanceSheet → ℕ
+years_total sheet =
+    let asof = sheet.numbers.asof.number in
+    max (greatest (security_years asof) sheet.securities) (greatest (line_years asof) sheet.lines)

@@ -1,0 +1,82 @@
+-- Payments: each a day and an amount.
+use Rattle.std.specs.Prelude.{ℕ, ℤ, max, Bool, ◌||◌, true, false, List, [], ◌∷◌, sum_by, unsigned_abs}
+use Rattle.std.specs.List.{list_all}
+use Rattle.scr_dates.specs.declared.day.Day.{Day}
+use Rattle.scr_dates.specs.declared.term.Maturity.{Maturity}
+use Rattle.scr_dates.specs.declared.term.Maturity.TheVariants as maturities
+use Rattle.scr_dates.specs.Years.{maturity_of}
+use Rattle.scr_sheet.specs.declared.keys.Projection.{Projection}
+use Rattle.scr_sheet.specs.declared.keys.Projection.TheVariants as projections
+use Rattle.scr_sheet.specs.declared.rows.LineKind.{LineKind}
+use Rattle.scr_sheet.specs.declared.rows.LineKind.TheVariants as kinds
+use Rattle.scr_sheet.specs.declared.rows.LineFlows.{LineFlows}
+
+-- the absolute amounts, summed
+abbrev pub total : List (Day × ℤ) → ℕ
+total flows = sum_by (λ flow. unsigned_abs flow.1) flows
+
+-- the years of a maturity, none for a payment that is past
+abbrev pub years_of : Maturity → ℕ
+years_of maturities.Past = 0
+years_of (maturities.Years n) = n
+years_of (maturities.TooFar n) = n
+
+-- the greatest number of years from the reference date to a payment
+abbrev pub greatest_years : ℤ → List (Day × ℤ) → ℕ
+greatest_years asof [] = 0
+greatest_years asof (flow ∷ flows) = max (years_of (maturity_of asof flow.0.number)) (greatest_years asof flows)
+
+-- ---- the projections of a line
+
+-- a line's flows under a projection
+abbrev pub flows_under : Projection → LineFlows → List (Day × ℤ)
+flows_under projections.Base flows = flows.base
+flows_under projections.Mortality flows = flows.mortality
+flows_under projections.Longevity flows = flows.longevity
+flows_under projections.Disability flows = flows.disability
+flows_under projections.Expense flows = flows.expense
+flows_under projections.Revision flows = flows.revision
+flows_under projections.LapseUp flows = flows.lapse_up
+flows_under projections.LapseDown flows = flows.lapse_down
+flows_under projections.LapseMass flows = flows.lapse_mass
+flows_under projections.Catastrophe flows = flows.catastrophe
+
+-- a line's flows, with others under one projection
+abbrev pub with_flows : Projection → List (Day × ℤ) → LineFlows → LineFlows
+with_flows projections.Base new flows = record flows { base = new }
+with_flows projections.Mortality new flows = record flows { mortality = new }
+with_flows projections.Longevity new flows = record flows { longevity = new }
+with_flows projections.Disability new flows = record flows { disability = new }
+with_flows projections.Expense new flows = record flows { expense = new }
+with_flows projections.Revision new flows = record flows { revision = new }
+with_flows projections.LapseUp new flows = record flows { lapse_up = new }
+with_flows projections.LapseDown new flows = record flows { lapse_down = new }
+with_flows projections.LapseMass new flows = record flows { lapse_mass = new }
+with_flows projections.Catastrophe new flows = record flows { catastrophe = new }
+
+-- a line for which nothing is handed in
+abbrev pub no_flows : LineFlows
+no_flows = record { base = []; mortality = []; longevity = []; disability = []; expense = []; revision = []; lapse_up = []; lapse_down = []; lapse_mass = []; catastrophe = [] }
+
+-- every projection
+abbrev pub all_projections : List Projection
+all_projections =
+    projections.Base ∷ projections.Mortality ∷ projections.Longevity ∷ projections.Disability ∷ projections.Expense
+    ∷ projections.Revision ∷ projections.LapseUp ∷ projections.LapseDown ∷ projections.LapseMass ∷ projections.Catastrophe ∷ []
+
+-- The projections of a kind: the best estimate for each, the biometric stresses for life and health, and the
+-- catastrophe for life alone.
+abbrev pub has_projection : LineKind → Projection → Bool
+has_projection kind projections.Base = true
+has_projection kinds.Life projection = true
+has_projection kinds.Health projections.Catastrophe = false
+has_projection kinds.Health projection = true
+has_projection kinds.Other projection = false
+
+abbrev pub is_empty : List (Day × ℤ) → Bool
+is_empty [] = true
+is_empty (flow ∷ flows) = false
+
+-- there are flows under no projection that the kind lacks
+abbrev pub suits : LineKind → LineFlows → Bool
+suits kind flows = list_all (λ projection. has_projection kind projection || is_empty (flows_under projection flows)) all_projections

@@ -1,0 +1,9 @@
+pub mod Names
+pub mod Tables
+pub mod CashFlows
+pub mod BalanceSheet
+pub mod Records
+pub mod Forms
+pub mod Users
+pub mod Faults
+pub mod Validity

@@ -1,0 +1,100 @@
+//! Lists in records and rows. Contracts see each as a list.
+ghost use Rattle.std.specs.Prelude.{◌≡◌, IfOk};
+
+use scr_dates::Day;
+use std::alloc::{AllocError as NoMemory, Global};
+use std::marker::Model;
+
+/// The yearly rates of a curve in millionths, from the maturity of one year on.
+#[derive(Debug, Drop)]
+pub struct Rates {
+    rates: Vec<i64>,
+}
+
+impl Model for Rates {
+    ghost use Rattle.std.specs.Prelude.{List, ℤ};
+
+    ghost Value = { List ℤ };
+
+    ghost view = { λ list. list.rates.items };
+}
+
+impl Rates {
+    /// These rates.
+    pub fn new(rates: Vec<i64>) -> Rates
+        ensures { result ≡ rates.items }
+    {
+        Rates { rates }
+    }
+
+    /// The rates in order.
+    pub fn as_slice(&self) -> &[i64]
+        ensures { result.now ≡ self.now }
+    {
+        &self.rates
+    }
+
+    /// The rates, given back without memory.
+    pub fn into_vec(self) -> Vec<i64>
+        ensures { result.items ≡ self }
+    {
+        self.rates
+    }
+
+    /// The same rates once more.
+    pub fn copy(&self, alloc: Global) -> Result<Rates, NoMemory>
+        ensures { IfOk result (λ copy. copy ≡ self.now) }
+    {
+        Ok(Rates {
+            rates: self.rates.iter().copied().collect(alloc)?,
+        })
+    }
+}
+
+/// Payments, each with its day. The unit of an amount is the owner's: for a security per 1,000,000 of its value,
+/// for a line cents.
+#[derive(Debug, Drop)]
+pub struct Flows {
+    pairs: Vec<(Day, i64)>,
+}
+
+impl Model for Flows {
+    ghost use Rattle.std.specs.Prelude.{List, ℤ};
+    ghost use Rattle.scr_dates.specs.declared.day.Day.{Day};
+
+    ghost Value = { List (Day × ℤ) };
+
+    ghost view = { λ list. list.pairs.items };
+}
+
+impl Flows {
+    /// These payments.
+    pub fn new(pairs: Vec<(Day, i64)>) -> Flows
+        ensures { result ≡ pairs.items }
+    {
+        Flows { pairs }
+    }
+
+    /// The payments in the order in which they were given.
+    pub fn as_slice(&self) -> &[(Day, i64)]
+        ensures { result.now ≡ self.now }
+    {
+        &self.pairs
+    }
+
+    /// The payments, given back without memory.
+    pub fn into_vec(self) -> Vec<(Day, i64)>
+        ensures { result.items ≡ self }
+    {
+        self.pairs
+    }
+
+    /// The same payments once more.
+    pub fn copy(&self, alloc: Global) -> Result<Flows, NoMemory>
+        ensures { IfOk result (λ copy. copy ≡ self.now) }
+    {
+        Ok(Flows {
+            pairs: self.pairs.iter().copied().collect(alloc)?,
+        })
+    }
+}

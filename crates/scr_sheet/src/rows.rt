@@ -1,0 +1,130 @@
+//! The rows of the tables.
+
+use crate::{Flows, Name, Rates};
+
+/// What a group of counterparties is taken to be in the concentration sub-module (Articles 182 to 187 of Delegated
+/// Regulation (EU) 2015/35).
+#[derive(Clone, Copy, Debug, PartialEq, Eq)]
+pub enum GroupKind {
+    /// A single-name exposure (Article 182).
+    Name,
+    /// Covered bonds (Article 187(1)).
+    Covered,
+    /// Immovable property (Article 187(2)).
+    Property,
+    /// Central governments and their like (Article 187(3)).
+    State,
+}
+
+/// A group of counterparties, with its credit quality step, if it has one.
+#[derive(Clone, Copy, Debug)]
+pub struct Group {
+    pub name: Name,
+    pub kind: GroupKind,
+    pub step: Option<u8>,
+}
+
+/// What the market risk sub-modules take a security to be.
+#[derive(Clone, Copy, Debug, PartialEq, Eq)]
+pub enum Class {
+    /// Type 1 equity: listed in regulated markets of the EEA or the OECD, and its like (Article 168(2)).
+    Type1Equity,
+    /// Type 1 equity of strategic nature (Article 171).
+    Type1Strategic,
+    /// Type 2 equity: any other (Article 168(3)).
+    Type2Equity,
+    /// Type 2 equity of strategic nature (Article 171).
+    Type2Strategic,
+    /// Qualifying infrastructure equity (Article 164a).
+    Infrastructure,
+    /// Qualifying infrastructure corporate equity (Article 164b).
+    InfrastructureCorporate,
+    /// Immovable property (Article 174).
+    Property,
+    /// Bonds and loans (Article 176).
+    Bond,
+    /// Bonds of governments (Article 180).
+    Government,
+    /// None of these.
+    Other,
+}
+
+/// A security. Its duration is in thousandths of a year, its flows are per 1,000,000 of its value.
+#[derive(Debug, Drop)]
+pub struct Security {
+    pub name: Name,
+    pub class: Class,
+    pub group: Option<Name>,
+    pub currency: Name,
+    pub duration: u32,
+    pub flows: Flows,
+}
+
+/// A security with the cents held directly of it, 0 where nothing is held.
+#[derive(Debug, Drop)]
+pub struct Position {
+    pub security: Security,
+    pub held: u64,
+}
+
+/// The kind of a line of insurance obligations.
+#[derive(Clone, Copy, Debug, PartialEq, Eq)]
+pub enum LineKind {
+    /// Life underwriting risk (Article 136).
+    Life,
+    /// Health similar to life (Article 151).
+    Health,
+    /// Neither: it counts in the interest and currency risk alone.
+    Other,
+}
+
+/// The cash flows of a line in cents under each projection; an empty list where nothing is handed in.
+#[derive(Debug, Drop)]
+pub struct LineFlows {
+    pub base: Flows,
+    pub mortality: Flows,
+    pub longevity: Flows,
+    pub disability: Flows,
+    pub expense: Flows,
+    pub revision: Flows,
+    pub lapse_up: Flows,
+    pub lapse_down: Flows,
+    pub lapse_mass: Flows,
+    pub catastrophe: Flows,
+}
+
+/// A line of insurance obligations.
+#[derive(Debug, Drop)]
+pub struct Liability {
+    pub name: Name,
+    pub kind: LineKind,
+    pub currency: Name,
+    pub flows: LineFlows,
+}
+
+/// A type 1 exposure of the default module (Article 189(2)): cash at a bank, in cents.
+#[derive(Clone, Copy, Debug)]
+pub struct Bank {
+    pub name: Name,
+    pub group: Name,
+    pub cents: u64,
+}
+
+/// A reinsurance arrangement: recoverables, risk-mitigating effect and collateral in cents (Article 192).
+#[derive(Clone, Copy, Debug)]
+pub struct Rein {
+    pub name: Name,
+    pub group: Name,
+    pub recoverables: u64,
+    pub mitigation: u64,
+    pub collateral: u64,
+}
+
+/// A currency with its risk-free rates in millionths (Article 43), and the absorption of the two currency scenarios.
+#[derive(Debug, Drop)]
+pub struct Curve {
+    pub currency: Name,
+    pub rates: Rates,
+    pub absorb_up: u64,
+    pub absorb_down: u64,
+}
