@@ -27,6 +27,73 @@ const WORDS: [&str; 8] = [
     "64",
 ];
 
+/// Words that are not of the form.
+const OUT_OF_FORM: [&[&str]; 9] = [
+    &[],
+    &["--help"],
+    &["--factors", "f", "--book", "b", "--workers", "1"],
+    &[
+        "--factors",
+        "f",
+        "--book",
+        "b",
+        "--book",
+        "b",
+        "--workers",
+        "1",
+    ],
+    &[
+        "--book",
+        "b",
+        "--factors",
+        "f",
+        "--edits",
+        "e",
+        "--workers",
+        "1",
+    ],
+    &[
+        "--factors",
+        "f",
+        "--book",
+        "",
+        "--edits",
+        "e",
+        "--workers",
+        "1",
+    ],
+    &[
+        "--factors",
+        "f",
+        "--book",
+        "b",
+        "--edits",
+        "-e",
+        "--workers",
+        "1",
+    ],
+    &[
+        "--factors",
+        "f",
+        "--book",
+        "b",
+        "--edits",
+        "e",
+        "--workers",
+        "65",
+    ],
+    &[
+        "--factors",
+        "f",
+        "--book",
+        "b",
+        "--edits",
+        "e",
+        "--workers",
+        "001",
+    ],
+];
+
 const FACTORS: &str = "form = 1
 [spread]
 s0 = [0, 14000, 70000, 7000, 105000, 5000, 130000, 5000, 155000, 5000]
@@ -72,6 +139,13 @@ const SOUND: Outside = Outside {
     reads: 0,
     writes: 0,
     piece: 4096,
+};
+
+/// The same with pieces that suit long files.
+const LONG_PIECES: Outside = Outside {
+    reads: 0,
+    writes: 0,
+    piece: 65536,
 };
 
 /// How a run ended and what it wrote.
@@ -131,11 +205,11 @@ fn outcome<R: Threads + Sync>(
 }
 
 fn files_of<'a>(book: &'a str, edits: &'a str) -> [(&'a str, &'a [u8]); 3] {
-    [
-        ("f", FACTORS.as_bytes()),
-        ("b", book.as_bytes()),
-        ("e", edits.as_bytes()),
-    ]
+    files_holding(book.as_bytes(), edits.as_bytes())
+}
+
+fn files_holding<'a>(book: &'a [u8], edits: &'a [u8]) -> [(&'a str, &'a [u8]); 3] {
+    [("f", FACTORS.as_bytes()), ("b", book), ("e", edits)]
 }
 
 #[test]
@@ -228,72 +302,7 @@ fn the_first_fault_of_the_book_is_told(rt: HostRuntime) -> Result<(), Fail> {
 #[test]
 fn words_out_of_form_touch_no_file(rt: HostRuntime) -> Result<(), Fail> {
     let files = files_of(BOOK, "");
-    let forms: [&[&str]; 9] = [
-        &[],
-        &["--help"],
-        &["--factors", "f", "--book", "b", "--workers", "1"],
-        &[
-            "--factors",
-            "f",
-            "--book",
-            "b",
-            "--book",
-            "b",
-            "--workers",
-            "1",
-        ],
-        &[
-            "--book",
-            "b",
-            "--factors",
-            "f",
-            "--edits",
-            "e",
-            "--workers",
-            "1",
-        ],
-        &[
-            "--factors",
-            "f",
-            "--book",
-            "",
-            "--edits",
-            "e",
-            "--workers",
-            "1",
-        ],
-        &[
-            "--factors",
-            "f",
-            "--book",
-            "b",
-            "--edits",
-            "-e",
-            "--workers",
-            "1",
-        ],
-        &[
-            "--factors",
-            "f",
-            "--book",
-            "b",
-            "--edits",
-            "e",
-            "--workers",
-            "65",
-        ],
-        &[
-            "--factors",
-            "f",
-            "--book",
-            "b",
-            "--edits",
-            "e",
-            "--workers",
-            "001",
-        ],
-    ];
-    for words in forms {
+    for words in OUT_OF_FORM {
         let end = outcome(
             &rt,
             rt.alloc(),
@@ -383,64 +392,20 @@ fn a_file_of_64_mib_is_the_longest(rt: HostRuntime) -> Result<(), Fail> {
     let mut lines = vec![in alloc; b'\n'; MAX_BYTES]?;
     let empty =
         "# 0 book\nS2601.equity.type1 0.00 0.00\nS2601.equity.type2 0.00 0.00\nS2601.equity.gross 0.00 0.00\n";
-    let whole = outcome(
-        &rt,
-        rt.alloc(),
-        &WORDS,
-        &[
-            ("f", FACTORS.as_bytes()),
-            ("b", lines.as_slice()),
-            ("e", b""),
-        ],
-        &Outside {
-            piece: 65536,
-            ..SOUND
-        },
-    )?;
+    let files = files_holding(lines.as_slice(), b"");
+    let whole = outcome(&rt, rt.alloc(), &WORDS, &files, &LONG_PIECES)?;
     assert_eq!(rt; whole.status, Status::Done);
     assert_eq!(rt; whole.written.as_slice(), empty.as_bytes());
     lines.push(b'\n')?;
-    let book = outcome(
-        &rt,
-        rt.alloc(),
-        &WORDS,
-        &[
-            ("f", FACTORS.as_bytes()),
-            ("b", lines.as_slice()),
-            ("e", b""),
-        ],
-        &Outside {
-            piece: 65536,
-            ..SOUND
-        },
-    )?;
+    let files = files_holding(lines.as_slice(), b"");
+    let book = outcome(&rt, rt.alloc(), &WORDS, &files, &LONG_PIECES)?;
     assert_eq!(rt; book.status, Status::TooLong(Which::Book));
-    let factors = outcome(
-        &rt,
-        rt.alloc(),
-        &WORDS,
-        &[("f", lines.as_slice())],
-        &Outside {
-            piece: 65536,
-            ..SOUND
-        },
-    )?;
+    let files = [("f", lines.as_slice())];
+    let factors = outcome(&rt, rt.alloc(), &WORDS, &files, &LONG_PIECES)?;
     assert_eq!(rt; factors.status, Status::FactorsTooLong);
     assert_eq!(rt; factors.status.code(), 3);
-    let edits = outcome(
-        &rt,
-        rt.alloc(),
-        &WORDS,
-        &[
-            ("f", FACTORS.as_bytes()),
-            ("b", b""),
-            ("e", lines.as_slice()),
-        ],
-        &Outside {
-            piece: 65536,
-            ..SOUND
-        },
-    )?;
+    let files = files_holding(b"", lines.as_slice());
+    let edits = outcome(&rt, rt.alloc(), &WORDS, &files, &LONG_PIECES)?;
     assert_eq!(rt; edits.status, Status::TooLong(Which::Edits));
     assert_eq!(rt; edits.status.code(), 4);
     assert_eq!(rt; edits.written.len(), 0);
