@@ -1,4 +1,4 @@
--- Payments: each a day and an amount.
+-- Payments (this project's own): each a day and an amount.
 use Rattle.std.specs.Prelude.{ℕ, ℤ, max, Bool, ◌||◌, true, false, List, [], ◌∷◌, sum_by, unsigned_abs}
 use Rattle.std.specs.List.{list_all}
 use Rattle.scr_dates.specs.declared.day.Day.{Day}
@@ -64,8 +64,9 @@ all_projections =
     projections.Base ∷ projections.Mortality ∷ projections.Longevity ∷ projections.Disability ∷ projections.Expense
     ∷ projections.Revision ∷ projections.LapseUp ∷ projections.LapseDown ∷ projections.LapseMass ∷ projections.Catastrophe ∷ []
 
--- The projections of a kind: the best estimate for each, the biometric stresses for life and health, and the
--- catastrophe for life alone.
+-- The projections of a kind: the best estimate for each, the stresses of mortality, longevity, disability, expense,
+-- revision and lapse for life (Delegated Regulation (EU) 2015/35, Articles 137 to 142) and for health similar to life
+-- (Articles 152 to 159), and the catastrophe for life alone (Article 143).
 abbrev pub has_projection : LineKind → Projection → Bool
 has_projection kind projections.Base = true
 has_projection kinds.Life projection = true

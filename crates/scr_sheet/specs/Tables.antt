@@ -1,4 +1,4 @@
--- A table: its rows in the order in which their names first came, of which no two have one name.
+-- A table (this project's own): its rows in the order in which their names first came, of which no two have one name.
 use Rattle.std.specs.Prelude.{ℕ, Bool, List, [], ◌∷◌, Option, Some, None, is_some, if◌then◌else◌}
 use Rattle.scr_sheet.specs.Names.{same_name}
 
