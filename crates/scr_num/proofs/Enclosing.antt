@@ -1,15 +1,17 @@
 -- Each operator's ends enclose the figure made of the figures that its arguments' ends enclose.
-use Rattle.std.proofs.Common.{◌≡◌, ℕ, zero, suc, ◌+◌, ◌*◌, ◌<◌, ◌≤◌, inl, inr, ℤ, pos, negsuc, ◌+ℤ◌, ◌*ℤ◌, ◌≤ℤ◌, arith, ap, mul-pos, mul-le-mul_right, le_of_mul-le-mul_right}
+use Rattle.std.proofs.Common.{◌⊎◌, ◌≡◌, ℕ, zero, suc, ◌+◌, ◌*◌, ◌<◌, ◌≤◌, inl, inr, ℤ, pos, negsuc, ◌+ℤ◌, ◌-ℤ◌, ◌*ℤ◌, ◌≤ℤ◌, arith, ap, mul-pos, mul-le-mul_right, le_of_mul-le-mul_right}
 use Rattle.std.proofs.lemmas.Int.{ints}
 use Rattle.std.specs.Int.Signed.{≤ℤ_refl}
+use Rattle.std.specs.Int.{int_max, int_min}
+use Rattle.std.proofs.lemmas.Int.{clamps}
 use borrow.Author.Differences.{up, down, at_most_in}
 use Rattle.scr_num.specs.Fraction.{Fraction, Share, ◌≼◌, over, zero_fraction}
-use Rattle.scr_num.specs.Figure.{Figure, Frac, Sum, Times, RootOf, AtMost, AtLeast}
+use Rattle.scr_num.specs.Figure.{Figure, Frac, Sum, Diff, Times, Max, Min, RootOf, AtMost, AtLeast}
 use Rattle.scr_num.specs.Rounding.{floor_div, ceil_div, floor_root, ceil_root, or_zero}
 use Rattle.scr_num.specs.Enclosure.{Encloses, Measures, Converts}
 use Rattle.scr_num.proofs.Roots.{floor_root-zero, floor_root-square, ceil_root-square}
 use Rattle.scr_num.proofs.Quotients.{floor_div-times, ceil_div-times}
-use Rattle.scr_num.proofs.Fractions.{over_mono, over-plus_le, over-plus_ge, times_split}
+use Rattle.scr_num.proofs.Fractions.{over_mono, over-plus_le, over-plus_ge, over-minus_le, over-minus_ge, times_split}
 use Rattle.scr_num.proofs.Witnesses.{lower-le-upper, AtMost-down, AtLeast-up}
 
 -- ---- one number
@@ -28,6 +30,15 @@ Encloses-add unit a b c d f g h k = record {
   positive = h.positive;
   at_most = (over a unit h.positive, over c unit k.positive, h.at_most, k.at_most, over-plus_le a c unit h.positive h.positive k.positive);
   at_least = (over b unit h.positive, over d unit k.positive, h.at_least, k.at_least, over-plus_ge b d unit h.positive h.positive k.positive);
+}
+
+-- ---- a difference
+pub Encloses-sub : (unit : ℕ) (a b c d : ℤ) (f g : Figure) → Encloses unit a b f → Encloses unit c d g → Encloses unit (a -ℤ d) (b -ℤ c) (Diff f g)
+unfolding AtMost
+Encloses-sub unit a b c d f g h k = record {
+  positive = h.positive;
+  at_most = (over a unit h.positive, over d unit k.positive, h.at_most, k.at_least, over-minus_le a d unit h.positive h.positive k.positive);
+  at_least = (over b unit h.positive, over c unit k.positive, h.at_least, k.at_most, over-minus_ge b c unit h.positive h.positive k.positive);
 }
 
 -- ---- a product with a fraction, which may change the unit
@@ -142,6 +153,47 @@ Encloses-coarser unit k low high f positive h =
     factor : (m n : ℕ) → 0 < m * n → 0 < m
     factor zero n h = absurd (omega arith)
     factor (suc m) n h = omega arith
+
+-- ---- the greater and the smaller of two figures
+at_most_at : (unit : ℕ) (v w : ℤ) (f : Figure) (positive positive' : 0 < unit) → v ≤ℤ w → AtMost (over w unit positive') f → AtMost (over v unit positive) f
+at_most_at unit v w f positive positive' h below = AtMost-down f (over v unit positive) (over w unit positive') (over_mono v w unit positive positive' h) below
+
+at_least_at : (unit : ℕ) (v w : ℤ) (f : Figure) (positive positive' : 0 < unit) → v ≤ℤ w → AtLeast (over v unit positive') f → AtLeast (over w unit positive) f
+at_least_at unit v w f positive positive' h above = AtLeast-up f (over v unit positive') (over w unit positive) (over_mono v w unit positive' positive h) above
+
+either_max : (a c : ℤ) → (int_max a c ≡ a) ⊎ (int_max a c ≡ c)
+either_max a c = grind (arith, ints, clamps)
+
+either_min : (a c : ℤ) → (int_min a c ≡ a) ⊎ (int_min a c ≡ c)
+either_min a c = grind (arith, ints, clamps)
+
+pub Encloses-max : (unit : ℕ) (a b c d : ℤ) (f g : Figure) → Encloses unit a b f → Encloses unit c d g → Encloses unit (int_max a c) (int_max b d) (Max f g)
+unfolding AtMost
+Encloses-max unit a b c d f g h k = record {
+  positive = h.positive;
+  at_most = elim (either_max a c) [
+    | inl e ↦ inl (at_most_at unit (int_max a c) a f h.positive h.positive (omega (arith, ints, e)) h.at_most)
+    | inr e ↦ inr (at_most_at unit (int_max a c) c g h.positive k.positive (omega (arith, ints, e)) k.at_most)
+  ];
+  at_least = (
+    at_least_at unit b (int_max b d) f h.positive h.positive (omega (arith, ints, clamps)) h.at_least,
+    at_least_at unit d (int_max b d) g h.positive k.positive (omega (arith, ints, clamps)) k.at_least,
+  );
+}
+
+pub Encloses-min : (unit : ℕ) (a b c d : ℤ) (f g : Figure) → Encloses unit a b f → Encloses unit c d g → Encloses unit (int_min a c) (int_min b d) (Min f g)
+unfolding AtMost
+Encloses-min unit a b c d f g h k = record {
+  positive = h.positive;
+  at_most = (
+    at_most_at unit (int_min a c) a f h.positive h.positive (omega (arith, ints, clamps)) h.at_most,
+    at_most_at unit (int_min a c) c g h.positive k.positive (omega (arith, ints, clamps)) k.at_most,
+  );
+  at_least = elim (either_min b d) [
+    | inl e ↦ inl (at_least_at unit b (int_min b d) f h.positive h.positive (omega (arith, ints, e)) h.at_least)
+    | inr e ↦ inr (at_least_at unit d (int_min b d) g h.positive k.positive (omega (arith, ints, e)) k.at_least)
+  ];
+}
 
 -- ---- wider ends, and two that enclose one figure
 pub Encloses-wider : (unit : ℕ) (low low' high high' : ℤ) (f : Figure) → low' ≤ℤ low → high ≤ℤ high' → Encloses unit low high f → Encloses unit low' high' f

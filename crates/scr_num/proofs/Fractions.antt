@@ -1,5 +1,5 @@
 -- The order of fractions, and what the operations do to it.
-use Rattle.std.proofs.Common.{◌+ℤ◌, ◌≡◌, ℕ, suc, ◌+◌, ◌*◌, ◌<◌, ◌≤◌, ℤ, pos, negsuc, ◌*ℤ◌, ◌≤ℤ◌, arith, ap, mul-le-mul, mul-le-mul_right, le_of_mul-le-mul_right, refl}
+use Rattle.std.proofs.Common.{◌+ℤ◌, ◌-ℤ◌, ◌≡◌, ℕ, suc, ◌+◌, ◌*◌, ◌<◌, ◌≤◌, ℤ, pos, negsuc, ◌*ℤ◌, ◌≤ℤ◌, arith, ap, mul-le-mul, mul-le-mul_right, le_of_mul-le-mul_right, refl}
 use Rattle.std.proofs.lemmas.Int.{ints}
 use Rattle.std.specs.Int.Signed.{≤ℤ_refl}
 use borrow.Author.Differences.{up, down, at_most_in}
@@ -142,4 +142,18 @@ unfolding Crossed
 over-plus_ge z w den a b c =
     crossed_in (plus (over z den b) (over w den c)) (over (z +ℤ w) den a)
     (up z * den + up w * den) (down z * den + down w * den) (up z + up w) (down z + down w)
+    (omega (arith, ints)) (omega (arith, ints)) (omega arith)
+
+pub over-minus_le : (z w : ℤ) (den : ℕ) (a b c : 0 < den) → over (z -ℤ w) den a ≼ minus (over z den b) (over w den c)
+unfolding Crossed
+over-minus_le z w den a b c =
+    crossed_in (over (z -ℤ w) den a) (minus (over z den b) (over w den c))
+    (up z + down w) (down z + up w) (up z * den + down w * den) (down z * den + up w * den)
+    (omega (arith, ints)) (omega (arith, ints)) (omega arith)
+
+pub over-minus_ge : (z w : ℤ) (den : ℕ) (a b c : 0 < den) → minus (over z den b) (over w den c) ≼ over (z -ℤ w) den a
+unfolding Crossed
+over-minus_ge z w den a b c =
+    crossed_in (minus (over z den b) (over w den c)) (over (z -ℤ w) den a)
+    (up z * den + down w * den) (down z * den + up w * den) (up z + down w) (down z + up w)
     (omega (arith, ints)) (omega (arith, ints)) (omega arith)

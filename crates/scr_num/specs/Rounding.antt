@@ -1,7 +1,8 @@
 -- Outward rounding, this project's own: each operator answers the narrowest pair of whole ends that
 -- encloses what the ends handed in enclose. The arithmetic of the code and the model share these
 -- definitions, which speak of one operator at a time.
-use Rattle.std.specs.Prelude.{List, ℕ, zero, suc, ◌*◌, ◌/◌, ℤ, pos, negsuc, ◌+ℤ◌, ◌*ℤ◌, neg_ℤ, nat_le, if◌then◌else◌}
+use Rattle.std.specs.Prelude.{List, ℕ, zero, suc, ◌*◌, ◌/◌, ℤ, pos, negsuc, ◌+ℤ◌, ◌-ℤ◌, ◌*ℤ◌, neg_ℤ, nat_le, if◌then◌else◌}
+use Rattle.std.specs.Int.{int_max, int_min}
 use Rattle.scr_num.specs.Table.{Table, sum_over}
 use Rattle.scr_num.specs.declared.span.Span.{Span}
 
@@ -20,6 +21,21 @@ exact_ends v = record { low = v; high = v }
 -- all sums of a number of each
 abbrev pub add_ends : Ends → Ends → Ends
 add_ends a b = record { low = a.low +ℤ b.low; high = a.high +ℤ b.high }
+
+-- all differences of a number of each
+abbrev pub sub_ends : Ends → Ends → Ends
+sub_ends a b = record { low = a.low -ℤ b.high; high = a.high -ℤ b.low }
+
+-- the greater, and the smaller, of a number of each: end by end
+abbrev pub max_ends : Ends → Ends → Ends
+max_ends a b = record { low = int_max a.low b.low; high = int_max a.high b.high }
+
+abbrev pub min_ends : Ends → Ends → Ends
+min_ends a b = record { low = int_min a.low b.low; high = int_min a.high b.high }
+
+-- the numbers of either, and those between
+abbrev pub hull_ends : Ends → Ends → Ends
+hull_ends a b = record { low = int_min a.low b.low; high = int_max a.high b.high }
 
 -- the greatest whole number whose product with d is at most z
 abbrev pub floor_div : ℤ → ℕ → ℤ

@@ -1,11 +1,12 @@
 //! Spans of whole numbers, and the arithmetic that rounds them outward.
 #![tactic(auto)]
 
-ghost use Rattle.std.specs.Prelude.{◌≡◌, ℕ, ◌*◌, ◌^◌, ◌<◌, ◌≤◌, ◌+◌, pos, ◌+ℤ◌, ◌*ℤ◌, ◌≤ℤ◌, unsigned_abs};
+ghost use Rattle.std.specs.Prelude.{◌≡◌, ℕ, ◌*◌, ◌^◌, ◌<◌, ◌≤◌, ◌+◌, pos, ◌+ℤ◌, ◌-ℤ◌, ◌*ℤ◌, ◌≤ℤ◌, unsigned_abs};
+ghost use Rattle.std.specs.Int.{int_max, int_min};
 ghost use Rattle.scr_num.specs.Fraction.{Fraction, Share};
-ghost use Rattle.scr_num.specs.Figure.{Figure, Frac, Sum, Times, RootOf};
+ghost use Rattle.scr_num.specs.Figure.{Figure, Frac, Sum, Diff, Times, Max, Min, RootOf};
 ghost use Rattle.scr_num.specs.Enclosure.{Encloses, Measures, Converts};
-ghost use Rattle.scr_num.specs.Rounding.{ends, exact_ends, add_ends, scale_ends, root_ends, floor_div, ceil_div, floor_root, ceil_root, or_zero};
+ghost use Rattle.scr_num.specs.Rounding.{ends, exact_ends, add_ends, sub_ends, max_ends, min_ends, hull_ends, scale_ends, root_ends, floor_div, ceil_div, floor_root, ceil_root, or_zero};
 
 pub mod laws;
 mod span;
@@ -37,6 +38,66 @@ pub fn add(a: Span, b: Span) -> Span
     Span {
         low: a.low + b.low,
         high: a.high + b.high,
+    }
+}
+
+/// The least span of all differences of a number of `a` and a number of `b`.
+pub fn sub(a: Span, b: Span) -> Span
+    requires a_low { unsigned_abs a.low ≤ 2 ^ 125 }
+    requires a_high { unsigned_abs a.high ≤ 2 ^ 125 }
+    requires b_low { unsigned_abs b.low ≤ 2 ^ 125 }
+    requires b_high { unsigned_abs b.high ≤ 2 ^ 125 }
+    ensures low { result.low ≡ a.low -ℤ b.high }
+    ensures high { result.high ≡ a.high -ℤ b.low }
+    ensures ends { ends result ≡ sub_ends (ends a) (ends b) }
+    ensures encloses { (unit : ℕ) (f g : Figure) → Encloses unit a.low a.high f → Encloses unit b.low b.high g
+        → Encloses unit result.low result.high (Diff f g) }
+{
+    Span {
+        low: a.low - b.high,
+        high: a.high - b.low,
+    }
+}
+
+/// The greater of a number of `a` and a number of `b`, end by end.
+pub fn max(a: Span, b: Span) -> Span
+    ensures low { result.low ≡ int_max a.low b.low }
+    ensures high { result.high ≡ int_max a.high b.high }
+    ensures ends { ends result ≡ max_ends (ends a) (ends b) }
+    ensures encloses { (unit : ℕ) (f g : Figure) → Encloses unit a.low a.high f → Encloses unit b.low b.high g
+        → Encloses unit result.low result.high (Max f g) }
+{
+    Span {
+        low: a.low.max(b.low),
+        high: a.high.max(b.high),
+    }
+}
+
+/// The smaller of a number of `a` and a number of `b`, end by end.
+pub fn min(a: Span, b: Span) -> Span
+    ensures low { result.low ≡ int_min a.low b.low }
+    ensures high { result.high ≡ int_min a.high b.high }
+    ensures ends { ends result ≡ min_ends (ends a) (ends b) }
+    ensures encloses { (unit : ℕ) (f g : Figure) → Encloses unit a.low a.high f → Encloses unit b.low b.high g
+        → Encloses unit result.low result.high (Min f g) }
+{
+    Span {
+        low: a.low.min(b.low),
+        high: a.high.min(b.high),
+    }
+}
+
+/// The least span that holds both: the lesser low end and the greater high one.
+pub fn hull(a: Span, b: Span) -> Span
+    ensures low { result.low ≡ int_min a.low b.low }
+    ensures high { result.high ≡ int_max a.high b.high }
+    ensures ends { ends result ≡ hull_ends (ends a) (ends b) }
+    ensures encloses_left { (unit : ℕ) (f : Figure) → Encloses unit a.low a.high f → Encloses unit result.low result.high f }
+    ensures encloses_right { (unit : ℕ) (f : Figure) → Encloses unit b.low b.high f → Encloses unit result.low result.high f }
+{
+    Span {
+        low: a.low.min(b.low),
+        high: a.high.max(b.high),
     }
 }
 

@@ -38,3 +38,26 @@ fn roots_of_squares_are_exact(rt: HostRuntime) {
     assert_eq!(rt; floor_root(143), 11);
     assert_eq!(rt; floor_root(u128::MAX), 18_446_744_073_709_551_615);
 }
+
+#[test]
+fn differences_take_the_far_ends(rt: HostRuntime) {
+    let near = Span { low: 10, high: 20 };
+    let far = Span { low: 15, high: 17 };
+    assert_eq!(rt; sub(near, far), Span { low: -7, high: 5 });
+}
+
+#[test]
+fn greater_and_smaller_go_end_by_end(rt: HostRuntime) {
+    let wide = Span { low: -3, high: 9 };
+    let late = Span { low: 2, high: 4 };
+    assert_eq!(rt; max(wide, late), Span { low: 2, high: 9 });
+    assert_eq!(rt; min(wide, late), Span { low: -3, high: 4 });
+}
+
+#[test]
+fn a_hull_holds_both_and_what_lies_between(rt: HostRuntime) {
+    let below = Span { low: -5, high: -4 };
+    let above = Span { low: 6, high: 8 };
+    assert_eq!(rt; hull(below, above), Span { low: -5, high: 8 });
+    assert_eq!(rt; hull(above, below), Span { low: -5, high: 8 });
+}
