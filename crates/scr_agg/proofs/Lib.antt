@@ -1,0 +1,12 @@
+pub mod NetAmounts
+pub mod Sums
+pub mod Bounded
+pub mod Signs
+pub mod Roots
+pub mod Alternatives
+pub mod Chosen
+pub mod Hulls
+pub mod Nets
+pub mod Enclosed
+pub mod Bits
+pub mod ExactAmounts

@@ -1,0 +1,14 @@
+use Rattle.scr_agg.proofs.ExactAmounts.{Encloses-plus, Encloses-minus, Encloses-greater, Encloses-net_amount}
+use Rattle.scr_agg.proofs.laws.exact_amounts.Goals as goal
+
+pub returns-clause-sum : goal.returns-clause-sum
+returns-clause-sum c = Encloses-plus
+
+pub returns-clause-difference : goal.returns-clause-difference
+returns-clause-difference c = Encloses-minus
+
+pub returns-clause-greater : goal.returns-clause-greater
+returns-clause-greater c = Encloses-greater
+
+pub returns-clause-net : goal.returns-clause-net
+returns-clause-net c = Encloses-net_amount

@@ -1,0 +1,29 @@
+-- Matrices of correlation coefficients as tables, and what a root over one asks of its parts (this project's own).
+use Rattle.std.specs.Prelude.{ℕ, ◌+◌, ◌<◌, pos, neg_ℤ, ◌≤ℤ◌, List, [], ◌∷◌, map, take}
+use Rattle.scr_num.specs.declared.span.Span.{Span}
+use Rattle.scr_num.specs.Rounding.{Ends, ends, or_zero}
+use Rattle.scr_num.specs.Table.{Table}
+use Rattle.scr_factors.specs.declared.matrix.Matrix.{Matrix}
+use Rattle.scr_factors.specs.Matrix.{entry}
+
+-- the first n rows and columns
+abbrev pub table_of : Matrix → Table
+table_of m = record { den = or_zero m.den; rows = map (take m.n) (take m.n m.cells) }
+
+-- each coefficient of the first n rows and columns is from -1 to 1
+abbrev pub CellsWithin : Matrix → Type 0
+CellsWithin m = (i j : ℕ) → i < m.n → j < m.n → (neg_ℤ m.den ≤ℤ entry m i j) × (entry m i j ≤ℤ m.den)
+
+-- no low end is below 0
+abbrev pub NotNegative : List Span → Type 0
+NotNegative [] = Unit {0}
+NotNegative (part ∷ parts) = (pos 0 ≤ℤ part.low) × NotNegative parts
+
+-- the sum of the high ends
+abbrev pub total_high : List Span → ℕ
+total_high [] = 0
+total_high (part ∷ parts) = or_zero part.high + total_high parts
+
+-- the ends of each part
+abbrev pub all_ends : List Span → List Ends
+all_ends parts = map ends parts

@@ -1,0 +1,5 @@
+pub mod Correlated
+pub mod Absorbed
+pub mod Forms
+pub mod Choice
+pub mod Unbeaten
