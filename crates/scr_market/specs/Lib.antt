@@ -1,0 +1,3 @@
+pub mod Equity
+pub mod EquityEnds
+pub mod Amounts
