@@ -1,0 +1,2 @@
+pub mod InterestRisk
+pub mod InterestEnds
