@@ -1,0 +1,5 @@
+pub mod StressLemmas
+pub mod CurveLemmas
+pub mod PowerLemmas
+pub mod TableLemmas
+pub mod SameRates

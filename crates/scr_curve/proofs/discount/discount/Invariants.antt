@@ -1,0 +1,7 @@
+use Rattle.std.proofs.Common.{◌≡◌}
+use Rattle.scr_num.specs.Rounding.{ends}
+use Rattle.scr_curve.specs.Table.{discount_ends}
+use Rattle.scr_curve.proofs.discount.discount.Given as goal
+
+abbrev pub invariant-loop : goal.invariant-loop
+invariant-loop l = ends l.span ≡ discount_ends l.rate l.counter

@@ -1,0 +1,4 @@
+pub mod Rate
+pub mod Discount
+pub mod Parts
+pub mod Table
