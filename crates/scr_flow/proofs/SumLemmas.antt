@@ -1,0 +1,209 @@
+-- Sums of payments times spans: what they enclose, how a loop makes them, and how large they are.
+use Rattle.std.proofs.Common.{◌≡◌, ℕ, zero, suc, ◌+◌, ◌*◌, ◌<◌, ◌≤◌, refl, ap, ap₂, sym, subst, ◌∙◌, List, [], ◌∷◌, length, get_or, drop, drop-cons, add-zero, add-one, mul-le-mul_right, ℤ, pos, negsuc, ◌+ℤ◌, ◌-ℤ◌, ◌*ℤ◌, ◌≤ℤ◌, ◌<ℤ◌, unsigned_abs, arith}
+use Rattle.std.specs.Prelude.{sum_by}
+use Rattle.std.proofs.Math.IntN.{+ℤ_assoc}
+use Rattle.std.proofs.lemmas.Int.{ints, unsigned_abs-mul}
+use Rattle.std.proofs.lemmas.List.{drop_all}
+use Rattle.std.proofs.lemmas.List.Sums.{sum_by-cons}
+use Rattle.scr_num.specs.Fraction.{Fraction, ◌≼◌, over, whole, zero_fraction, plus, minus, product}
+use Rattle.scr_num.specs.Figure.{Frac, AtMost}
+use Rattle.scr_num.specs.Rounding.{Ends, exact_ends, add_ends}
+use Rattle.scr_num.specs.Enclosure.{Encloses}
+use Rattle.scr_num.proofs.Fractions.{≼_refl, ≼_trans, plus_mono, minus_mono, multiple_mono, negative_multiple_mono, over-plus_le, over-plus_ge, over-minus_le, over-minus_ge}
+use Rattle.scr_num.proofs.Quotients.{times_le}
+use borrow.Author.Differences.{up, down}
+use Rattle.scr_curve.specs.Discount.{weighted_sum}
+use Rattle.scr_flow.specs.Sums.{flow_ends, weighted_ends, difference, differences}
+
+-- ---- fractions that spans enclose
+module _ (unit : ℕ) where
+  Encloses-zero : 0 < unit → Encloses unit (pos 0) (pos 0) (Frac zero_fraction)
+  unfolding AtMost
+  Encloses-zero positive = record { positive = positive; at_most = record { cross = omega (arith, ints) }; at_least = record { cross = omega (arith, ints) } }
+
+  Encloses-plus : (a b c d : ℤ) (p q : Fraction) → Encloses unit a b (Frac p) → Encloses unit c d (Frac q) → Encloses unit (a +ℤ c) (b +ℤ d) (Frac (plus p q))
+  unfolding AtMost
+  Encloses-plus a b c d p q h k = record {
+    positive = h.positive;
+    at_most =
+        ≼_trans (over (a +ℤ c) unit h.positive) (plus (over a unit h.positive) (over c unit k.positive)) (plus p q)
+        (over-plus_le a c unit h.positive h.positive k.positive) (plus_mono (over a unit h.positive) p (over c unit k.positive) q h.at_most k.at_most);
+    at_least =
+        ≼_trans (plus p q) (plus (over b unit h.positive) (over d unit k.positive)) (over (b +ℤ d) unit h.positive)
+        (plus_mono p (over b unit h.positive) q (over d unit k.positive) h.at_least k.at_least) (over-plus_ge b d unit h.positive h.positive k.positive);
+  }
+
+  pub Encloses-minus : (a b c d : ℤ) (p q : Fraction) → Encloses unit a b (Frac p) → Encloses unit c d (Frac q) → Encloses unit (a -ℤ d) (b -ℤ c) (Frac (minus p q))
+  unfolding AtMost
+  Encloses-minus a b c d p q h k = record {
+    positive = h.positive;
+    at_most =
+        ≼_trans (over (a -ℤ d) unit h.positive) (minus (over a unit h.positive) (over d unit k.positive)) (minus p q)
+        (over-minus_le a d unit h.positive h.positive k.positive) (minus_mono (over a unit h.positive) p (over d unit k.positive) q h.at_most k.at_least);
+    at_least =
+        ≼_trans (minus p q) (minus (over b unit h.positive) (over c unit k.positive)) (over (b -ℤ c) unit h.positive)
+        (minus_mono p (over b unit h.positive) q (over c unit k.positive) h.at_least k.at_most) (over-minus_ge b c unit h.positive h.positive k.positive);
+  }
+
+  -- fractions of one value differ by exactly 0
+  pub Encloses-equal : 0 < unit → (p q : Fraction) → p ≼ q → q ≼ p → Encloses unit (pos 0) (pos 0) (Frac (minus p q))
+  unfolding AtMost
+  Encloses-equal positive p q h k = record { positive = positive; at_most = record { cross = none_below p.num q.num p.den q.den k.cross }; at_least = record { cross = none_above p.num q.num p.den q.den h.cross } }
+    where
+      none_below : (a c : ℤ) (b d : ℕ) → (c *ℤ pos b) ≤ℤ (a *ℤ pos d) → (pos 0 *ℤ pos (b * d)) ≤ℤ ((a *ℤ pos d -ℤ c *ℤ pos b) *ℤ pos unit)
+      none_below a c b d h = let t = times_le (pos 0) (a *ℤ pos d -ℤ c *ℤ pos b) unit (omega (arith, ints, h)) in omega (arith, ints, t)
+
+      none_above : (a c : ℤ) (b d : ℕ) → (a *ℤ pos d) ≤ℤ (c *ℤ pos b) → ((a *ℤ pos d -ℤ c *ℤ pos b) *ℤ pos unit) ≤ℤ (pos 0 *ℤ pos (b * d))
+      none_above a c b d h = let t = times_le (a *ℤ pos d -ℤ c *ℤ pos b) (pos 0) unit (omega (arith, ints, h)) in omega (arith, ints, t)
+
+  Encloses-flow : (flow : ℤ) (e : Ends) (p : Fraction) → Encloses unit e.low e.high (Frac p)
+      → Encloses unit (flow_ends flow e).low (flow_ends flow e).high (Frac (product (whole flow) p))
+  unfolding AtMost
+  Encloses-flow (pos n) e p h = record {
+    positive = h.positive;
+    at_most =
+        ≼_trans (over (pos n *ℤ e.low) unit h.positive) (product (whole (pos n)) (over e.low unit h.positive)) (product (whole (pos n)) p)
+        (≼_refl _ _ refl (omega arith)) (multiple_mono n (over e.low unit h.positive) p h.at_most);
+    at_least =
+        ≼_trans (product (whole (pos n)) p) (product (whole (pos n)) (over e.high unit h.positive)) (over (pos n *ℤ e.high) unit h.positive)
+        (multiple_mono n p (over e.high unit h.positive) h.at_least) (≼_refl _ _ refl (omega arith));
+  }
+  Encloses-flow (negsuc n) e p h = record {
+    positive = h.positive;
+    at_most =
+        ≼_trans (over (negsuc n *ℤ e.high) unit h.positive) (product (whole (negsuc n)) (over e.high unit h.positive)) (product (whole (negsuc n)) p)
+        (≼_refl _ _ refl (omega arith)) (negative_multiple_mono n p (over e.high unit h.positive) h.at_least);
+    at_least =
+        ≼_trans (product (whole (negsuc n)) p) (product (whole (negsuc n)) (over e.low unit h.positive)) (over (negsuc n *ℤ e.low) unit h.positive)
+        (negative_multiple_mono n (over e.low unit h.positive) p h.at_most) (≼_refl _ _ refl (omega arith));
+  }
+
+  -- the sum encloses the sum of payments times what the spans enclose
+  pub Encloses-weighted : 0 < unit → (worth : ℕ → Fraction) (years : ℕ) (flows : List ℤ) (es : List Ends) → length flows ≡ length es
+      → ((k : ℕ) (d : Ends) → k < length es → Encloses unit (get_or es k d).low (get_or es k d).high (Frac (worth (years + k))))
+      → Encloses unit (weighted_ends flows es).low (weighted_ends flows es).high (Frac (weighted_sum worth years flows))
+  unfolding weighted_ends weighted_sum
+  Encloses-weighted positive worth years [] es e h = Encloses-zero positive
+  Encloses-weighted positive worth years (flow ∷ flows) [] e h = absurd (omega (arith, e))
+  Encloses-weighted positive worth years (flow ∷ flows) (x ∷ es) e h =
+      Encloses-plus (flow_ends flow x).low (flow_ends flow x).high (weighted_ends flows es).low (weighted_ends flows es).high
+      (product (whole flow) (worth years)) (weighted_sum worth (years + 1) flows)
+      (Encloses-flow flow x (worth years) (rw add-zero at (h 0 x (omega arith))))
+      (Encloses-weighted positive worth (years + 1) flows es (omega (arith, e))
+      (λ k d within. subst (λ (y : ℕ). Encloses unit (get_or es k d).low (get_or es k d).high (Frac (worth y))) (omega arith) (h (suc k) d (omega (arith, within)))))
+
+-- ---- the falls of the discounts, place by place
+pub length-differences : (bases : List ℤ) (froms : List Ends) (stresseds : List ℤ) (tos : List Ends) → length froms ≡ length bases → length stresseds ≡ length bases → length tos ≡ length bases
+    → length (differences bases froms stresseds tos) ≡ length bases
+unfolding differences
+length-differences [] froms stresseds tos a b c = refl
+length-differences (n ∷ bases) [] stresseds tos a b c = absurd (omega (arith, a))
+length-differences (n ∷ bases) (e ∷ froms) [] tos a b c = absurd (omega (arith, b))
+length-differences (n ∷ bases) (e ∷ froms) (m ∷ stresseds) [] a b c = absurd (omega (arith, c))
+length-differences (n ∷ bases) (e ∷ froms) (m ∷ stresseds) (g ∷ tos) a b c =
+    ap suc (length-differences bases froms stresseds tos (omega (arith, a)) (omega (arith, b)) (omega (arith, c)))
+
+pub get_or-differences : (bases : List ℤ) (froms : List Ends) (stresseds : List ℤ) (tos : List Ends) (k : ℕ) (d : Ends) (x y : ℤ) (e f : Ends)
+    → k < length bases → k < length froms → k < length stresseds → k < length tos
+    → get_or (differences bases froms stresseds tos) k d ≡ difference (get_or bases k x) (get_or froms k e) (get_or stresseds k y) (get_or tos k f)
+unfolding differences
+get_or-differences [] froms stresseds tos k d x y e f a b c g = absurd (omega (arith, a))
+get_or-differences (n ∷ bases) [] stresseds tos k d x y e f a b c g = absurd (omega (arith, b))
+get_or-differences (n ∷ bases) (p ∷ froms) [] tos k d x y e f a b c g = absurd (omega (arith, c))
+get_or-differences (n ∷ bases) (p ∷ froms) (m ∷ stresseds) [] k d x y e f a b c g = absurd (omega (arith, g))
+get_or-differences (n ∷ bases) (p ∷ froms) (m ∷ stresseds) (q ∷ tos) zero d x y e f a b c g = refl
+get_or-differences (n ∷ bases) (p ∷ froms) (m ∷ stresseds) (q ∷ tos) (suc k) d x y e f a b c g =
+    get_or-differences bases froms stresseds tos k d x y e f (omega (arith, a)) (omega (arith, b)) (omega (arith, c)) (omega (arith, g))
+
+-- ---- a loop that adds place by place
+same_ends : (a b c d : ℤ) → a ≡ c → b ≡ d → ◌≡◌ {A = Ends} (record { low = a; high = b }) (record { low = c; high = d })
+same_ends a b c d e f = ap₂ (λ (x : ℤ) (y : ℤ). let r : Ends = record { low = x; high = y } in r) e f
+
+add_ends_assoc : (a b c : Ends) → add_ends (add_ends a b) c ≡ add_ends a (add_ends b c)
+add_ends_assoc a b c = same_ends _ _ _ _ (+ℤ_assoc a.low b.low c.low) (+ℤ_assoc a.high b.high c.high)
+
+pub weighted_ends-drop : (flows : List ℤ) (es : List Ends) (i : ℕ) (z : ℤ) (d : Ends) → i < length flows → i < length es
+    → weighted_ends (drop i flows) (drop i es) ≡ add_ends (flow_ends (get_or flows i z) (get_or es i d)) (weighted_ends (drop (i + 1) flows) (drop (i + 1) es))
+unfolding weighted_ends
+weighted_ends-drop flows es i z d a b = rw (add-one, drop-cons flows i z, drop-cons es i d) refl
+
+pub one_more : (sum term whole : Ends) (flows : List ℤ) (es : List Ends) (i : ℕ) (z : ℤ) (d : Ends) → i < length flows → i < length es
+    → term ≡ flow_ends (get_or flows i z) (get_or es i d)
+    → add_ends sum (weighted_ends (drop i flows) (drop i es)) ≡ whole
+    → add_ends (add_ends sum term) (weighted_ends (drop (i + 1) flows) (drop (i + 1) es)) ≡ whole
+one_more sum term whole flows es i z d a b is h =
+    let rest = weighted_ends (drop (i + 1) flows) (drop (i + 1) es) in
+    add_ends_assoc sum term rest ∙ ap (λ (t : Ends). add_ends sum (add_ends t rest)) is ∙ ap (add_ends sum) (sym (weighted_ends-drop flows es i z d a b)) ∙ h
+
+pub all_added : (sum whole : Ends) (flows : List ℤ) (es : List Ends) (i : ℕ) → length flows ≤ i → add_ends sum (weighted_ends (drop i flows) (drop i es)) ≡ whole → sum ≡ whole
+unfolding weighted_ends
+all_added sum whole flows es i le h = same_ends sum.low sum.high _ _ (omega (arith, ints)) (omega (arith, ints)) ∙ (rw (drop_all i flows le) at h)
+
+pub none_added : (e : Ends) → add_ends (exact_ends (pos 0)) e ≡ e
+none_added e = same_ends _ _ e.low e.high (omega (arith, ints)) (omega (arith, ints))
+
+-- ---- sizes
+pub sum_by-drop : {A : Type 0} (f : A → ℕ) (xs : List A) (i : ℕ) (d : A) → i < length xs → sum_by f (drop i xs) ≡ f (get_or xs i d) + sum_by f (drop (i + 1) xs)
+sum_by-drop f xs i d within = rw (add-one, drop-cons xs i d) (sum_by-cons f (get_or xs i d) (drop (suc i) xs))
+
+pub size_of_product : (flow end : ℤ) (most : ℕ) → unsigned_abs end ≤ most → unsigned_abs (flow *ℤ end) ≤ most * unsigned_abs flow
+size_of_product flow end most le = let scaled = mul-le-mul_right (unsigned_abs flow) le in omega (arith, unsigned_abs-mul flow end, scaled)
+
+-- ---- a payment times a span
+order_kept : (n : ℕ) (a b : ℤ) → a ≤ℤ b → (pos n *ℤ a) ≤ℤ (pos n *ℤ b)
+order_kept n a b h =
+    let scaled : (up a + down b) * n ≤ (up b + down a) * n = mul-le-mul_right n (omega (arith, ints)) in omega (arith, ints, scaled)
+
+order_turned : (n : ℕ) (a b : ℤ) → a ≤ℤ b → (negsuc n *ℤ b) ≤ℤ (negsuc n *ℤ a)
+order_turned n a b h =
+    let scaled : (up a + down b) * suc n ≤ (up b + down a) * suc n = mul-le-mul_right (suc n) (omega (arith, ints)) in omega (arith, ints, scaled)
+
+pub flow_ends-negative : (flow : ℤ) (e : Ends) → flow <ℤ pos 0 → flow_ends flow e ≡ record { low = flow *ℤ e.high; high = flow *ℤ e.low }
+flow_ends-negative (pos n) e h = absurd (omega (arith, ints))
+flow_ends-negative (negsuc n) e h = refl
+
+pub flow_ends-other : (flow : ℤ) (e : Ends) → pos 0 ≤ℤ flow → flow_ends flow e ≡ record { low = flow *ℤ e.low; high = flow *ℤ e.high }
+flow_ends-other (pos n) e h = refl
+flow_ends-other (negsuc n) e h = absurd (omega (arith, ints))
+
+pub negative_order : (flow low high : ℤ) → flow <ℤ pos 0 → low ≤ℤ high → (flow *ℤ high) ≤ℤ (flow *ℤ low)
+negative_order (pos n) low high h k = absurd (omega (arith, ints))
+negative_order (negsuc n) low high h k = order_turned n low high k
+
+pub other_order : (flow low high : ℤ) → pos 0 ≤ℤ flow → low ≤ℤ high → (flow *ℤ low) ≤ℤ (flow *ℤ high)
+other_order (pos n) low high h k = order_kept n low high k
+other_order (negsuc n) low high h k = absurd (omega (arith, ints))
+
+-- ---- a loop over all places
+-- the most that one is worth
+abbrev pub most : ℕ
+most = 2740000000000000000
+
+-- the sum over the places before i: with the others it makes the whole, and it is no larger than its payments
+pub record IsSumBefore (i : ℕ) (flows : List ℤ) (es : List Ends) (sum : Ends) : Type 0 where
+  pub places : 0 < i → length flows ≡ length es
+  pub so_far : add_ends sum (weighted_ends (drop i flows) (drop i es)) ≡ weighted_ends flows es
+  pub low : unsigned_abs sum.low + most * sum_by unsigned_abs (drop i flows) ≤ most * sum_by unsigned_abs flows
+  pub high : unsigned_abs sum.high + most * sum_by unsigned_abs (drop i flows) ≤ most * sum_by unsigned_abs flows
+
+pub sum_begun : (flows : List ℤ) (es : List Ends) → IsSumBefore 0 flows es (exact_ends (pos 0))
+sum_begun flows es = record { places = λ some. absurd (omega (arith, some)); so_far = none_added (weighted_ends flows es); low = omega arith; high = omega arith }
+
+size_more : (f rest all : ℕ) (b x y : ℤ) → b ≡ x +ℤ y → unsigned_abs y ≤ most * f → unsigned_abs x + most * (f + rest) ≤ all → unsigned_abs b + most * rest ≤ all
+size_more f rest all b x y e small h = omega (arith, ints, e, small, h)
+
+pub sum_more : (i : ℕ) (flows : List ℤ) (es : List Ends) (sum term : Ends) (z : ℤ) (d : Ends) → i < length flows → length flows ≡ length es
+    → term ≡ flow_ends (get_or flows i z) (get_or es i d)
+    → unsigned_abs term.low ≤ most * unsigned_abs (get_or flows i z) → unsigned_abs term.high ≤ most * unsigned_abs (get_or flows i z)
+    → IsSumBefore i flows es sum → IsSumBefore (i + 1) flows es (add_ends sum term)
+sum_more i flows es sum term z d a same is low high h =
+    let rest = sum_by-drop unsigned_abs flows i z a in
+    let b : i < length es = omega (arith, a, same) in
+    record {
+      places = λ some. same;
+      so_far = one_more sum term (weighted_ends flows es) flows es i z d a b is h.so_far;
+      low = size_more (unsigned_abs (get_or flows i z)) (sum_by unsigned_abs (drop (i + 1) flows)) (most * sum_by unsigned_abs flows) (sum.low +ℤ term.low) sum.low term.low refl low
+          (rw rest at h.low);
+      high = size_more (unsigned_abs (get_or flows i z)) (sum_by unsigned_abs (drop (i + 1) flows)) (most * sum_by unsigned_abs flows) (sum.high +ℤ term.high) sum.high term.high refl high
+          (rw rest at h.high);
+    }

@@ -1,0 +1,39 @@
+use Rattle.std.proofs.Common.{◌≡◌, ℕ, pos, FitsSigned, w64, length, get_or, map, sym, subst, to_z-of_z, arith, rules, lit<}
+use Rattle.std.proofs.lemmas.List.{get_or-map, length-map}
+use Rattle.scr_num.specs.Figure.{Frac}
+use Rattle.scr_num.specs.Rounding.{Ends, ends}
+use Rattle.scr_num.specs.Enclosure.{Encloses}
+use Rattle.scr_curve.specs.Discount.{discount, present_value}
+use Rattle.scr_curve.specs.Table.{one}
+use Rattle.scr_flow.specs.Sums.{flow_ends, weighted_ends}
+use Rattle.scr_flow.proofs.SumLemmas.{sum_more, all_added, Encloses-weighted}
+use Rattle.scr_flow.proofs.value.present.Goals as goal
+
+pub loop-i-preserved : goal.loop-i-preserved
+loop-i-preserved c =
+    let flows = c.args.flows.now in
+    let at = c.args.d.now.at in
+    let i = c.loop-i.i in
+    let span = c.index-d-i.result in
+    let fits : FitsSigned w64 (get_or c.args.flows.now c.loop-i.i (pos 0)) = search rules in
+    let places : length c.args.d.now.at ≡ 100 = search rules in
+    let same : length flows ≡ length (map ends at) = rw length-map (omega arith) in
+    let here : get_or (map ends at) i (ends span) ≡ ends (get_or at i span) = get_or-map ends at i span (ends span) (omega arith) in
+    let term : ends c.weighted.result ≡ flow_ends (get_or flows i (pos 0)) (get_or (map ends at) i (ends span)) = rw here (simp to_z-of_z at c.weighted.ensures.ends) in
+    rw c.add-sum.ensures.ends
+    (sum_more i flows (map ends at) (ends c.loop-i.sum) (ends c.weighted.result) (pos 0) (ends span) (omega arith) same term
+    (simp to_z-of_z at c.weighted.ensures.low_size) (simp to_z-of_z at c.weighted.ensures.high_size) c.loop-i.invariant)
+
+pub returns-clause-ends : goal.returns-clause-ends
+returns-clause-ends c =
+    all_added (ends c.loop-i.sum) (weighted_ends c.args.flows.now (map ends c.args.d.now.at)) c.args.flows.now (map ends c.args.d.now.at) c.loop-i.i (omega arith) c.loop-i.invariant.so_far
+
+pub returns-clause-encloses : goal.returns-clause-encloses
+returns-clause-encloses c = λ rate enclosed.
+    let flows = c.args.flows.now in
+    let table = map ends c.args.d.now.at in
+    let whole = Encloses-weighted one (lit< tt) (λ years. discount (rate years) years) 1 flows table (c.loop-i.invariant.places (omega arith))
+    (λ k d within.
+    subst (λ (j : ℕ). Encloses one (get_or table k d).low (get_or table k d).high (Frac (discount (rate j) j))) (omega arith) (enclosed.each k d within)) in
+    let P : Ends → Type 0 = λ e. Encloses one e.low e.high (Frac (present_value flows rate)) in
+    subst P (sym (returns-clause-ends c)) whole
