@@ -1,10 +1,14 @@
 -- The single numbers, each within its own limits, after one or two of them change.
-use Rattle.std.proofs.Common.{ℕ, zero, suc, ℤ, pos, neg_ℤ, ◌≤ℤ◌, List, [], ◌∷◌, Option, Some, None, set, get_or}
+use Rattle.std.proofs.Common.{arith, ◌≤◌, ℕ, zero, suc, ℤ, pos, neg_ℤ, ◌≤ℤ◌, List, [], ◌∷◌, Option, Some, None, set, get_or}
 use Rattle.std.specs.List.{AllByRecursion}
+use Rattle.std.specs.Option.{option_map_or}
+use Rattle.std.specs.Prelude.{slice_index_or}
+use Rattle.scr_sheet.specs.Absorptions.{absorbed}
+use Rattle.scr_sheet.specs.declared.keys.AbsorbKey.{AbsorbKey}
 use Rattle.scr_dates.specs.declared.day.Day.{Day}
 use Rattle.scr_dates.specs.Civil.{IsDay}
 use Rattle.scr_sheet.specs.Forms.{IsCurrency}
-use Rattle.scr_sheet.specs.Records.{placed, with_volumes, with_segment}
+use Rattle.scr_sheet.specs.Records.{absorb_place, placed, with_volumes, with_segment}
 use Rattle.scr_sheet.specs.Validity.{AreNumbers, AreVolumes, IsAmount, IsBetween}
 use Rattle.scr_factors.specs.declared.set.Set.{Set}
 use Rattle.scr_factors.specs.declared.set.Set.TheVariants as sets
@@ -21,6 +25,14 @@ All-get_or : {X : Type 0} (P : X → Type 0) (xs : List X) (k : ℕ) (d : X) →
 All-get_or P [] k d miss all = miss
 All-get_or P (y ∷ ys) zero d miss all = all.0
 All-get_or P (y ∷ ys) (suc k) d miss all = All-get_or P ys k d miss all.1
+
+-- what is absorbed of a scenario is an amount
+pub absorbed-within : (key : AbsorbKey) (numbers : Numbers) → AllByRecursion IsAmount numbers.absorb → absorbed key numbers ≤ MAX_AMOUNT
+absorbed-within key numbers all = by (absorb_place key)
+  where
+    by : (place : Option ℕ) → option_map_or (λ k. slice_index_or numbers.absorb k 0) place 0 ≤ MAX_AMOUNT
+    by None = omega arith
+    by (Some k) = All-get_or IsAmount numbers.absorb k 0 (omega arith) all
 
 pub All-placed : (place : Option ℕ) (cents : ℕ) (amounts : List ℕ) → IsAmount cents → AllByRecursion IsAmount amounts → AllByRecursion IsAmount (placed place cents amounts)
 All-placed None cents amounts own all = all

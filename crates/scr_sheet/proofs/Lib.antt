@@ -1,6 +1,7 @@
 pub mod Names
 pub mod Examples
 pub mod TableRows
+pub mod Entries
 pub mod Bounds
 pub mod Projections
 pub mod Amounts
@@ -8,3 +9,6 @@ pub mod Changes
 pub mod Unused
 pub mod Preserved
 pub mod Holds
+pub mod Greatest
+pub mod Quiet
+pub mod Sums

@@ -1,5 +1,6 @@
 pub mod Names
 pub mod Tables
+pub mod Kept
 pub mod CashFlows
 pub mod BalanceSheet
 pub mod Records
@@ -7,3 +8,5 @@ pub mod Forms
 pub mod Users
 pub mod Faults
 pub mod Validity
+pub mod Volumes
+pub mod Absorptions

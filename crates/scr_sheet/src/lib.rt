@@ -4,14 +4,17 @@
 mod edit;
 mod fault;
 mod keys;
+mod kinds;
 pub mod laws;
 mod limits;
 mod lists;
 mod name;
 mod numbers;
 mod rows;
+mod table;
 #[cfg(test)]
 mod tests;
+mod writes;
 
 pub use edit::Edit;
 pub use fault::{Fault, Quantity, User};
@@ -27,3 +30,5 @@ pub use numbers::{Numbers, OpInput, Regions};
 pub use rows::{
     Bank, Class, Curve, Group, GroupKind, Liability, LineFlows, LineKind, Position, Rein, Security,
 };
+pub use table::{Row, Rows};
+pub use writes::natural;

@@ -1,5 +1,6 @@
 //! Lists in records and rows. Contracts see each as a list.
-ghost use Rattle.std.specs.Prelude.{◌≡◌, IfOk};
+ghost use Rattle.std.specs.Prelude.{◌≡◌, ◌+◌, ◌^◌, ◌≤◌, IfOk};
+ghost use Rattle.scr_sheet.specs.CashFlows.{total};
 
 use scr_dates::Day;
 use std::alloc::{AllocError as NoMemory, Global};
@@ -80,6 +81,18 @@ impl Flows {
         ensures { result.now ≡ self.now }
     {
         &self.pairs
+    }
+
+    /// The absolute amounts, summed.
+    pub fn total(&self) -> u128
+        ensures sum { result ≡ total self.now }
+        ensures fits { result + 2 ^ 63 ≤ 2 ^ 127 }
+    {
+        let mut sum = 0;
+        for (_, amount) in &self.pairs {
+            sum += u128::from(amount.unsigned_abs());
+        }
+        sum
     }
 
     /// The payments, given back without memory.

@@ -1,0 +1,331 @@
+-- How the sums of a balance sheet move under each record.
+use Rattle.std.proofs.Common.{◌≡◌, ℕ, ℤ, zero, suc, ◌+◌, ◌-◌, ◌≤◌, ◌==◌, Bool, true, false, List, [], ◌∷◌, ◌⊎◌, inl, inr, Option, Some, None, if◌then◌else◌, slice_get, set, get_or, sum_by, refl, sym, ap, ◌∙◌, arith}
+use Rattle.std.proofs.lemmas.Bool.{eqb-true}
+use Rattle.std.proofs.lemmas.List.Sums.{sum_by-cons}
+use Rattle.std.specs.Option.{option_map, option_map_or}
+use Rattle.scr_dates.specs.declared.day.Day.{Day}
+use Rattle.scr_sheet.specs.Tables.{row_of, with_row}
+use Rattle.scr_sheet.specs.CashFlows.{total, flows_under, with_flows, no_flows}
+use Rattle.scr_sheet.specs.BalanceSheet.{BalanceSheet, position_name, line_name, bank_name, rein_name, volumes_of, held_of, held_total, line_flows_total, volumes_total, defaults_total}
+use Rattle.scr_sheet.specs.Records.{applied, dropped, changed, natural, kept_flows, with_volumes}
+use Rattle.scr_sheet.specs.Faults.{in_use}
+use Rattle.scr_sheet.specs.Volumes.{volumes_in}
+use Rattle.scr_factors.specs.declared.set.Set.{Set}
+use Rattle.scr_factors.specs.declared.set.Set.TheVariants as sets
+use Rattle.scr_sheet.specs.declared.edit.Edit.{Edit}
+use Rattle.scr_sheet.specs.declared.edit.Edit.TheVariants as edits
+use Rattle.scr_sheet.specs.declared.fault.Fault.TheVariants as faults
+use Rattle.scr_sheet.specs.declared.fault.User.TheVariants as users
+use Rattle.scr_sheet.specs.declared.keys.Projection.{Projection}
+use Rattle.scr_sheet.specs.declared.keys.Table.{Table}
+use Rattle.scr_sheet.specs.declared.keys.Table.TheVariants as tables
+use Rattle.scr_sheet.specs.declared.numbers.Numbers.{Numbers}
+use Rattle.scr_sheet.specs.declared.numbers.Regions.{Regions}
+use Rattle.scr_sheet.specs.declared.rows.Bank.{Bank}
+use Rattle.scr_sheet.specs.declared.rows.Class.{Class}
+use Rattle.scr_sheet.specs.declared.rows.Liability.{Liability}
+use Rattle.scr_sheet.specs.declared.rows.LineKind.{LineKind}
+use Rattle.scr_sheet.specs.declared.rows.Position.{Position}
+use Rattle.scr_sheet.specs.declared.rows.Rein.{Rein}
+use Rattle.scr_sheet.proofs.TableRows.{passes_or_fails, same_name-is, name_of-row_of, sum-with_row, sum-without, sum-changed}
+use Rattle.scr_sheet.proofs.Projections.{one_or_other, under-with, under-no_flows}
+
+-- ---- sums over rows and lists
+
+module _ {Row : Type 0} (name_of : Row → List ℕ) where
+  -- what stood for a row goes out of the sum, and what stands for the changed row comes in
+  pub sum-change : (f : Row → ℕ) (change : Row → Row) (name : List ℕ) (rows : List Row) (row : Row) → ((other : Row) → name_of (change other) ≡ name_of other) → row_of name_of name rows ≡ Some row
+      → sum_by f (changed name_of change name rows) + f row ≡ sum_by f rows + f (change row)
+  sum-change f change name rows row named is =
+      let own : name ≡ name_of (change row) = same_name-is name (name_of row) (name_of-row_of name_of name rows row is) ∙ sym (named row) in
+      let found : option_map_or f (row_of name_of (name_of (change row)) rows) 0 ≡ f row = ap (λ n. option_map_or f (row_of name_of n rows) 0) (sym own) ∙ ap (λ o. option_map_or f o 0) is in
+      let moved : sum_by f (changed name_of change name rows) ≡ sum_by f (with_row name_of (change row) rows) = ap (λ o. sum_by f (option_map_or (λ other. with_row name_of (change other) rows) o rows)) is in
+      let sum = sum-with_row name_of f (change row) rows in
+      omega arith
+
+  -- what stands for a name is a part of the sum
+  pub part-le : (f : Row → ℕ) (name : List ℕ) (rows : List Row) → option_map_or f (row_of name_of name rows) 0 ≤ sum_by f rows
+  part-le f name rows = let sum = sum-without name_of f name rows in omega arith
+
+  pub row-le : (f : Row → ℕ) (name : List ℕ) (rows : List Row) (row : Row) → row_of name_of name rows ≡ Some row → f row ≤ sum_by f rows
+  row-le f name rows row is =
+      let own : option_map_or f (row_of name_of name rows) 0 ≡ f row = ap (λ o. option_map_or f o 0) is in
+      let part = part-le f name rows in
+      omega arith
+
+-- a member written in its place
+pub sum-set : {X : Type 0} (f : X → ℕ) (xs : List X) (k : ℕ) (old new : X) → slice_get xs k ≡ Some old → sum_by f (set xs k new) + f old ≡ sum_by f xs + f new
+sum-set f [] k old new is = absurd (cc)
+sum-set f (x ∷ xs) zero old new is =
+    let same : x ≡ old = cc in
+    let part : f x ≡ f old = ap f same in
+    let before : sum_by f (x ∷ xs) ≡ f x + sum_by f xs = sum_by-cons f x xs in
+    let after : sum_by f (new ∷ xs) ≡ f new + sum_by f xs = sum_by-cons f new xs in
+    omega arith
+sum-set f (x ∷ xs) (suc k) old new is =
+    let before : sum_by f (x ∷ xs) ≡ f x + sum_by f xs = sum_by-cons f x xs in
+    let after : sum_by f (x ∷ set xs k new) ≡ f x + sum_by f (set xs k new) = sum_by-cons f x (set xs k new) in
+    let rest = sum-set f xs k old new is in
+    omega arith
+
+member-le : {X : Type 0} (f : X → ℕ) (xs : List X) (k : ℕ) (x : X) → slice_get xs k ≡ Some x → f x ≤ sum_by f xs
+member-le f [] k x is = absurd (cc)
+member-le f (y ∷ ys) zero x is =
+    let same : y ≡ x = cc in
+    let part : f y ≡ f x = ap f same in
+    let all : sum_by f (y ∷ ys) ≡ f y + sum_by f ys = sum_by-cons f y ys in
+    omega arith
+member-le f (y ∷ ys) (suc k) x is =
+    let all : sum_by f (y ∷ ys) ≡ f y + sum_by f ys = sum_by-cons f y ys in
+    let rest = member-le f ys k x is in
+    omega arith
+
+get_or-is : {X : Type 0} (xs : List X) (k : ℕ) (x d : X) → slice_get xs k ≡ Some x → get_or xs k d ≡ x
+get_or-is [] k x d is = absurd (cc)
+get_or-is (y ∷ ys) zero x d is = cc
+get_or-is (y ∷ ys) (suc k) x d is = get_or-is ys k x d is
+
+get_or-missing : {X : Type 0} (xs : List X) (k : ℕ) (d : X) → slice_get xs k ≡ None → get_or xs k d ≡ d
+get_or-missing [] k d is = refl
+get_or-missing (y ∷ ys) zero d is = absurd (cc)
+get_or-missing (y ∷ ys) (suc k) d is = get_or-missing ys k d is
+
+-- ---- all that is held directly
+
+-- the records that move it
+abbrev pub moves_held : Edit → Bool
+moves_held (edits.Hold name cents) = true
+moves_held edit = false
+
+pub held-hold : (name : List ℕ) (cents : ℤ) (sheet : BalanceSheet) (p : Position) → row_of position_name name sheet.securities ≡ Some p
+    → held_total (applied (edits.Hold name cents) sheet) + p.held ≡ held_total sheet + natural cents
+held-hold name cents sheet p is = sum-change position_name (λ q. q.held) (λ q. record q { held = natural cents }) name sheet.securities p (λ q. refl) is
+
+pub held-part : (name : List ℕ) (sheet : BalanceSheet) → held_of sheet name ≤ held_total sheet
+held-part name sheet = part-le position_name (λ p. p.held) name sheet.securities
+
+held-security : (name : List ℕ) (class : Class) (group : Option (List ℕ)) (currency : List ℕ) (duration : ℤ) (sheet : BalanceSheet) → held_total (applied (edits.Security name class group currency duration) sheet) ≡ held_total sheet
+held-security name class group currency duration sheet =
+    let new : Position = record { security = record { name = name; class = class; group = group; currency = currency; duration = natural duration; flows = kept_flows name sheet.securities }; held = held_of sheet name } in
+    let sum = sum-with_row position_name (λ p. p.held) new sheet.securities in
+    omega arith
+
+-- a security that may be dropped is not held
+pub held_of-unused : (name : List ℕ) (sheet : BalanceSheet) → in_use (edits.Remove tables.Security name) sheet ≡ None → held_of sheet name ≡ 0
+held_of-unused name sheet free =
+    let cents : ℕ = held_of sheet name in
+    passes_or_fails (cents == 0) (λ e. eqb-true cents 0 e)
+    (λ e. let held : Some (faults.InUse name users.Hold) ≡ None = sym (ap (λ t. option_map (λ user. faults.InUse name user) (if t then None else Some users.Hold)) e) ∙ free in absurd (cc))
+
+held-drop : (name : List ℕ) (sheet : BalanceSheet) → in_use (edits.Remove tables.Security name) sheet ≡ None → held_total (applied (edits.Remove tables.Security name) sheet) ≡ held_total sheet
+held-drop name sheet free =
+    let sum = sum-without position_name (λ p. p.held) name sheet.securities in
+    let none = held_of-unused name sheet free in
+    omega arith
+
+-- every other record leaves it
+pub held-same : (edit : Edit) (sheet : BalanceSheet) → moves_held edit ≡ false → in_use edit sheet ≡ None → held_total (applied edit sheet) ≡ held_total sheet
+held-same (edits.Hold name cents) sheet other free = absurd (cc)
+held-same (edits.Security name class group currency duration) sheet other free = held-security name class group currency duration sheet
+held-same (edits.Flows security flows) sheet other free =
+    sum-changed position_name (λ p. p.held) (λ p. record p { security = record p.security { flows = flows } }) security sheet.securities (λ p. refl) (λ p. refl)
+held-same (edits.Remove tables.Security name) sheet other free = held-drop name sheet free
+held-same (edits.Remove tables.Group name) sheet other free = refl
+held-same (edits.Remove tables.Line name) sheet other free = refl
+held-same (edits.Remove tables.Bank name) sheet other free = refl
+held-same (edits.Remove tables.Rein name) sheet other free = refl
+held-same (edits.Remove tables.Curve name) sheet other free = refl
+held-same edit sheet other free = refl
+
+-- ---- the absolute flows of all lines under a projection
+
+abbrev pub moves_line_flows : Edit → Bool
+moves_line_flows (edits.LineFlows line projection flows) = true
+moves_line_flows (edits.Remove tables.Line name) = true
+moves_line_flows (edits.Remove table name) = false
+moves_line_flows edit = false
+
+-- what a line pays and receives under a projection
+abbrev pub line_total : Projection → Liability → ℕ
+line_total projection line = total (flows_under projection line.flows)
+
+module _ (line : List ℕ) (flows : List (Day × ℤ)) (sheet : BalanceSheet) where
+  -- under the projection of the record
+  pub line_flows-own : (projection : Projection) (l : Liability) → row_of line_name line sheet.lines ≡ Some l
+      → line_flows_total projection (applied (edits.LineFlows line projection flows) sheet) + line_total projection l ≡ line_flows_total projection sheet + total flows
+  line_flows-own projection l is =
+      let change : Liability → Liability = λ m. record m { flows = with_flows projection flows m.flows } in
+      let sum = sum-change line_name (line_total projection) change line sheet.lines l (λ m. refl) is in
+      let new : line_total projection (change l) ≡ total flows = ap total (under-with flows l.flows projection) in
+      omega arith
+
+  -- and under any other
+  pub line_flows-other : (p q : Projection) → (p ≡ q) ⊎ (line_flows_total q (applied (edits.LineFlows line p flows) sheet) ≡ line_flows_total q sheet)
+  line_flows-other p q =
+      elim (one_or_other p q) [
+        | inl e ↦ inl e
+        | inr e ↦ inr (sum-changed line_name (line_total q) (λ l. record l { flows = with_flows p flows l.flows }) line sheet.lines (λ l. refl) (λ l. ap total (e flows l.flows)))
+      ]
+
+pub line_flows-part : (projection : Projection) (line : List ℕ) (sheet : BalanceSheet) (l : Liability) → row_of line_name line sheet.lines ≡ Some l → line_total projection l ≤ line_flows_total projection sheet
+line_flows-part projection line sheet l is = row-le line_name (line_total projection) line sheet.lines l is
+
+pub line_flows-drop : (projection : Projection) (line : List ℕ) (sheet : BalanceSheet)
+    → line_flows_total projection (applied (edits.Remove tables.Line line) sheet) + option_map_or (line_total projection) (row_of line_name line sheet.lines) 0 ≡ line_flows_total projection sheet
+line_flows-drop projection line sheet = sum-without line_name (line_total projection) line sheet.lines
+
+line_flows-line : (projection : Projection) (name : List ℕ) (kind : LineKind) (currency : List ℕ) (sheet : BalanceSheet) → line_flows_total projection (applied (edits.Line name kind currency) sheet) ≡ line_flows_total projection sheet
+line_flows-line projection name kind currency sheet =
+    let new : Liability = record { name = name; kind = kind; currency = currency; flows = option_map_or (λ l. l.flows) (row_of line_name name sheet.lines) no_flows } in
+    let sum = sum-with_row line_name (line_total projection) new sheet.lines in
+    let same : line_total projection new ≡ option_map_or (line_total projection) (row_of line_name name sheet.lines) 0 = by (row_of line_name name sheet.lines) in
+    omega arith
+  where
+    by : (found : Option Liability) → total (flows_under projection (option_map_or (λ l. l.flows) found no_flows)) ≡ option_map_or (line_total projection) found 0
+    by None = ap total (under-no_flows projection)
+    by (Some l) = refl
+
+pub line_flows-same : (projection : Projection) (edit : Edit) (sheet : BalanceSheet) → moves_line_flows edit ≡ false → line_flows_total projection (applied edit sheet) ≡ line_flows_total projection sheet
+line_flows-same projection (edits.LineFlows line p flows) sheet other = absurd (cc)
+line_flows-same projection (edits.Line name kind currency) sheet other = line_flows-line projection name kind currency sheet
+line_flows-same projection (edits.Remove tables.Line name) sheet other = absurd (cc)
+line_flows-same projection (edits.Remove tables.Group name) sheet other = refl
+line_flows-same projection (edits.Remove tables.Security name) sheet other = refl
+line_flows-same projection (edits.Remove tables.Bank name) sheet other = refl
+line_flows-same projection (edits.Remove tables.Rein name) sheet other = refl
+line_flows-same projection (edits.Remove tables.Curve name) sheet other = refl
+line_flows-same projection edit sheet other = refl
+
+-- ---- the volumes of a set
+
+abbrev pub moves_volumes : Edit → Bool
+moves_volumes (edits.Segment set number region premium reserve) = true
+moves_volumes edit = false
+
+abbrev volume : ℕ × ℕ → ℕ
+volume v = v.0 + v.1
+
+abbrev volume_total : Regions → ℕ
+volume_total segment = sum_by (λ v. v.0 + v.1) segment.volumes
+
+abbrev nothing : Regions
+nothing = record { volumes = [] }
+
+-- where a segment has a region, it is one of the segments
+module _ (number region : ℕ) (old : ℕ × ℕ) (segments : List Regions) (is : slice_get (get_or segments (number - 1) nothing).volumes (region - 1) ≡ Some old) where
+  segment_at : (segment : Regions) × (slice_get segments (number - 1) ≡ Some segment) × (get_or segments (number - 1) nothing ≡ segment) × (slice_get segment.volumes (region - 1) ≡ Some old)
+  segment_at = by (slice_get segments (number - 1)) refl
+    where
+      by : (found : Option Regions) → slice_get segments (number - 1) ≡ found → (segment : Regions) × (slice_get segments (number - 1) ≡ Some segment) × (get_or segments (number - 1) nothing ≡ segment) × (slice_get segment.volumes (region - 1) ≡ Some old)
+      by None e =
+          let missing : get_or segments (number - 1) nothing ≡ nothing = get_or-missing segments (number - 1) nothing e in
+          let empty : slice_get nothing.volumes (region - 1) ≡ Some old = ap (λ (s : Regions). slice_get s.volumes (region - 1)) (sym missing) ∙ is in
+          absurd (cc)
+      by (Some segment) e =
+          let here : get_or segments (number - 1) nothing ≡ segment = get_or-is segments (number - 1) segment nothing e in
+          (segment, e, here, ap (λ (s : Regions). slice_get s.volumes (region - 1)) (sym here) ∙ is)
+
+  volumes-written : (new : ℕ × ℕ) → sum_by volume_total (with_volumes number region new segments) + volume old ≡ sum_by volume_total segments + volume new
+  volumes-written new =
+      let segment : Regions = segment_at.0 in
+      let written : Regions = record { volumes = set segment.volumes (region - 1) new } in
+      let inner : volume_total written + volume old ≡ volume_total segment + volume new = sum-set volume segment.volumes (region - 1) old new segment_at.3 in
+      let outer : sum_by volume_total (set segments (number - 1) written) + volume_total segment ≡ sum_by volume_total segments + volume_total written =
+      sum-set volume_total segments (number - 1) segment written segment_at.1 in
+      let same : sum_by volume_total (with_volumes number region new segments) ≡ sum_by volume_total (set segments (number - 1) written) =
+      ap (λ (s : Regions). sum_by volume_total (set segments (number - 1) (record { volumes = set s.volumes (region - 1) new }))) segment_at.2 in
+      omega arith
+
+  volumes-within : volume old ≤ sum_by volume_total segments
+  volumes-within =
+      let inner = member-le volume segment_at.0.volumes (region - 1) old segment_at.3 in
+      let outer = member-le volume_total segments (number - 1) segment_at.0 segment_at.1 in
+      omega arith
+
+-- the volumes of the record's segment and region go out of the sum of its set, and the record's come in
+pub volumes-segment : (set : Set) (number region : ℕ) (premium reserve : ℤ) (sheet : BalanceSheet) (old : ℕ × ℕ) → volumes_in set number region sheet.numbers ≡ Some old
+    → volumes_total set (applied (edits.Segment set number region premium reserve) sheet) + (old.0 + old.1) ≡ volumes_total set sheet + (natural premium + natural reserve)
+volumes-segment sets.Nl number region premium reserve sheet old is = volumes-written number region old sheet.numbers.nl is (natural premium, natural reserve)
+volumes-segment sets.Nslt number region premium reserve sheet old is = volumes-written number region old sheet.numbers.nslt is (natural premium, natural reserve)
+
+-- the other set's stay
+pub volumes-other : (set other : Set) (number region : ℕ) (premium reserve : ℤ) (sheet : BalanceSheet)
+    → (set ≡ other) ⊎ (volumes_total other (applied (edits.Segment set number region premium reserve) sheet) ≡ volumes_total other sheet)
+volumes-other sets.Nl sets.Nl number region premium reserve sheet = inl refl
+volumes-other sets.Nl sets.Nslt number region premium reserve sheet = inr refl
+volumes-other sets.Nslt sets.Nl number region premium reserve sheet = inr refl
+volumes-other sets.Nslt sets.Nslt number region premium reserve sheet = inl refl
+
+-- those of one segment and region are a part of the sum
+pub volumes-part : (set : Set) (number region : ℕ) (sheet : BalanceSheet) (old : ℕ × ℕ) → volumes_in set number region sheet.numbers ≡ Some old → old.0 + old.1 ≤ volumes_total set sheet
+volumes-part sets.Nl number region sheet old is = volumes-within number region old sheet.numbers.nl is
+volumes-part sets.Nslt number region sheet old is = volumes-within number region old sheet.numbers.nslt is
+
+pub volumes-same : (set : Set) (edit : Edit) (sheet : BalanceSheet) → moves_volumes edit ≡ false → volumes_total set (applied edit sheet) ≡ volumes_total set sheet
+volumes-same set (edits.Segment own number region premium reserve) sheet other = absurd (cc)
+volumes-same set (edits.Remove table name) sheet other = ap (λ (n : Numbers). sum_by (λ segment. sum_by (λ v. v.0 + v.1) segment.volumes) (volumes_of set n)) (numbers-dropped table name sheet)
+  where
+    numbers-dropped : (table : Table) (name : List ℕ) (sheet : BalanceSheet) → (dropped table name sheet).numbers ≡ sheet.numbers
+    numbers-dropped tables.Group name sheet = refl
+    numbers-dropped tables.Security name sheet = refl
+    numbers-dropped tables.Line name sheet = refl
+    numbers-dropped tables.Bank name sheet = refl
+    numbers-dropped tables.Rein name sheet = refl
+    numbers-dropped tables.Curve name sheet = refl
+volumes-same sets.Nl edit sheet other = refl
+volumes-same sets.Nslt edit sheet other = refl
+
+-- ---- the exposures of banks and reinsurers
+
+abbrev pub moves_defaults : Edit → Bool
+moves_defaults (edits.Bank name group cents) = true
+moves_defaults (edits.Rein name group recoverables mitigation collateral) = true
+moves_defaults (edits.Remove tables.Bank name) = true
+moves_defaults (edits.Remove tables.Rein name) = true
+moves_defaults (edits.Remove table name) = false
+moves_defaults edit = false
+
+-- what a reinsurer comes to
+abbrev pub rein_total : Rein → ℕ
+rein_total rein = rein.recoverables + rein.mitigation
+
+pub defaults-bank : (name group : List ℕ) (cents : ℤ) (sheet : BalanceSheet)
+    → defaults_total (applied (edits.Bank name group cents) sheet) + option_map_or (λ b. b.cents) (row_of bank_name name sheet.banks) 0 ≡ defaults_total sheet + natural cents
+defaults-bank name group cents sheet =
+    let new : Bank = record { name = name; group = group; cents = natural cents } in
+    let sum = sum-with_row bank_name (λ b. b.cents) new sheet.banks in
+    omega arith
+
+pub defaults-rein : (name group : List ℕ) (recoverables mitigation collateral : ℤ) (sheet : BalanceSheet)
+    → defaults_total (applied (edits.Rein name group recoverables mitigation collateral) sheet) + option_map_or rein_total (row_of rein_name name sheet.reinsurers) 0
+    ≡ defaults_total sheet + (natural recoverables + natural mitigation)
+defaults-rein name group recoverables mitigation collateral sheet =
+    let new : Rein = record { name = name; group = group; recoverables = natural recoverables; mitigation = natural mitigation; collateral = natural collateral } in
+    let sum = sum-with_row rein_name rein_total new sheet.reinsurers in
+    omega arith
+
+pub defaults-drop_bank : (name : List ℕ) (sheet : BalanceSheet)
+    → defaults_total (applied (edits.Remove tables.Bank name) sheet) + option_map_or (λ b. b.cents) (row_of bank_name name sheet.banks) 0 ≡ defaults_total sheet
+defaults-drop_bank name sheet = let sum = sum-without bank_name (λ b. b.cents) name sheet.banks in omega arith
+
+pub defaults-drop_rein : (name : List ℕ) (sheet : BalanceSheet)
+    → defaults_total (applied (edits.Remove tables.Rein name) sheet) + option_map_or rein_total (row_of rein_name name sheet.reinsurers) 0 ≡ defaults_total sheet
+defaults-drop_rein name sheet = let sum = sum-without rein_name rein_total name sheet.reinsurers in omega arith
+
+-- a bank and a reinsurer are parts of the sum
+pub defaults-part_bank : (name : List ℕ) (sheet : BalanceSheet) → option_map_or (λ b. b.cents) (row_of bank_name name sheet.banks) 0 ≤ defaults_total sheet
+defaults-part_bank name sheet = let part = part-le bank_name (λ b. b.cents) name sheet.banks in omega arith
+
+pub defaults-part_rein : (name : List ℕ) (sheet : BalanceSheet) → option_map_or rein_total (row_of rein_name name sheet.reinsurers) 0 ≤ defaults_total sheet
+defaults-part_rein name sheet = let part = part-le rein_name rein_total name sheet.reinsurers in omega arith
+
+pub defaults-same : (edit : Edit) (sheet : BalanceSheet) → moves_defaults edit ≡ false → defaults_total (applied edit sheet) ≡ defaults_total sheet
+defaults-same (edits.Bank name group cents) sheet other = absurd (cc)
+defaults-same (edits.Rein name group recoverables mitigation collateral) sheet other = absurd (cc)
+defaults-same (edits.Remove tables.Bank name) sheet other = absurd (cc)
+defaults-same (edits.Remove tables.Rein name) sheet other = absurd (cc)
+defaults-same (edits.Remove tables.Group name) sheet other = refl
+defaults-same (edits.Remove tables.Security name) sheet other = refl
+defaults-same (edits.Remove tables.Line name) sheet other = refl
+defaults-same (edits.Remove tables.Curve name) sheet other = refl
+defaults-same edit sheet other = refl

@@ -1,0 +1,292 @@
+//! What a record changes within a row, or among the single numbers.
+ghost use Rattle.std.specs.Prelude.{◌≡◌, ℕ, ◌<◌, ◌≤◌, ◌-◌, slice_get, Some, None, IfSome, IfOk, slice_set};
+ghost use Rattle.scr_sheet.specs.Absorptions.{absorbed};
+ghost use Rattle.scr_sheet.specs.BalanceSheet.{BalanceSheet};
+ghost use Rattle.scr_sheet.specs.CashFlows.{flows_under, with_flows, no_flows};
+ghost use Rattle.scr_sheet.specs.Faults.{fields_outside};
+ghost use Rattle.scr_sheet.specs.Forms.{Formed, segments};
+ghost use Rattle.scr_sheet.specs.Records.{applied, natural, placed, absorb_place, cat_place, health_cat_place, with_absorb, with_segment, lapse_place};
+ghost use Rattle.scr_sheet.specs.Volumes.{volumes_in};
+
+use crate::{AbsorbKey, CatKey, Edit, Flows, LineFlows, Numbers, Projection, Regions};
+use scr_factors::Set;
+use std::alloc::Global;
+
+impl LineFlows {
+    /// Nothing handed in.
+    pub fn none(alloc: Global) -> LineFlows
+        ensures { result ≡ no_flows }
+    {
+        LineFlows {
+            base: Flows::new(Vec::new(alloc)),
+            mortality: Flows::new(Vec::new(alloc)),
+            longevity: Flows::new(Vec::new(alloc)),
+            disability: Flows::new(Vec::new(alloc)),
+            expense: Flows::new(Vec::new(alloc)),
+            revision: Flows::new(Vec::new(alloc)),
+            lapse_up: Flows::new(Vec::new(alloc)),
+            lapse_down: Flows::new(Vec::new(alloc)),
+            lapse_mass: Flows::new(Vec::new(alloc)),
+            catastrophe: Flows::new(Vec::new(alloc)),
+        }
+    }
+
+    /// The flows under the projection.
+    pub fn under(&self, projection: Projection) -> &Flows
+        ensures { result.now ≡ flows_under projection self.now }
+    {
+        match projection {
+            Projection::Base => &self.base,
+            Projection::Mortality => &self.mortality,
+            Projection::Longevity => &self.longevity,
+            Projection::Disability => &self.disability,
+            Projection::Expense => &self.expense,
+            Projection::Revision => &self.revision,
+            Projection::LapseUp => &self.lapse_up,
+            Projection::LapseDown => &self.lapse_down,
+            Projection::LapseMass => &self.lapse_mass,
+            Projection::Catastrophe => &self.catastrophe,
+        }
+    }
+
+    /// Puts these flows under the projection, in place of those that stood there.
+    pub fn put(&mut self, projection: Projection, flows: Flows)
+        ensures { self.new ≡ with_flows projection flows self.old }
+    {
+        match projection {
+            Projection::Base => self.base = flows,
+            Projection::Mortality => self.mortality = flows,
+            Projection::Longevity => self.longevity = flows,
+            Projection::Disability => self.disability = flows,
+            Projection::Expense => self.expense = flows,
+            Projection::Revision => self.revision = flows,
+            Projection::LapseUp => self.lapse_up = flows,
+            Projection::LapseDown => self.lapse_down = flows,
+            Projection::LapseMass => self.lapse_mass = flows,
+            Projection::Catastrophe => self.catastrophe = flows,
+        }
+    }
+}
+
+impl Regions {
+    fn volumes_in(&self, region: u8) -> (u64, u64)
+        requires first { 1 ≤ region }
+        requires last { region ≤ 18 }
+        ensures { slice_get self.now.volumes (region - 1) ≡ Some result }
+    {
+        self.volumes[usize::from(region) - 1]
+    }
+}
+
+impl Numbers {
+    /// The premium and the reserve volume of a segment in a region, both numbered from 1.
+    pub fn volumes(&self, set: Set, number: u8, region: u8) -> (u64, u64)
+        requires first { 1 ≤ number }
+        requires last { number ≤ segments set }
+        requires first_region { 1 ≤ region }
+        requires last_region { region ≤ 18 }
+        ensures { volumes_in set number region self.now ≡ Some result }
+    {
+        let segment = usize::from(number) - 1;
+        match set {
+            Set::Nl => self.nl[segment].volumes_in(region),
+            Set::Nslt => self.nslt[segment].volumes_in(region),
+        }
+    }
+
+    /// What is absorbed of a scenario, in cents; 0 for those of a currency, whose absorptions stand with its curve.
+    pub fn absorbed(&self, key: AbsorbKey) -> u64
+        ensures { result ≡ absorbed key self.now }
+    {
+        match absorb_place(key) {
+            Some(place) => self.absorb[place],
+            None => 0,
+        }
+    }
+
+    /// The numbers as the record leaves them; one that changes rows alone leaves them all.
+    pub fn put(&mut self, edit: &Edit)
+        requires formed { Formed edit.now }
+        requires within { fields_outside edit.now ≡ None }
+        ensures { (sheet : BalanceSheet) → sheet.numbers ≡ self.old
+            → (applied edit.now sheet).numbers ≡ self.new }
+    {
+        match edit {
+            Edit::Asof { date, currency } => {
+                self.asof = *date;
+                self.currency = *currency;
+            }
+            Edit::Absorb { key, cents } => self.put_absorb(*key, natural(*cents)),
+            Edit::Segment {
+                set,
+                number,
+                region,
+                premium,
+                reserve,
+            } => {
+                let new = (natural(*premium), natural(*reserve));
+                self.put_volumes(*set, *number, *region, new);
+            }
+            Edit::Cat { key, cents } => self.put_cat(*key, natural(*cents)),
+            Edit::Lapse { set, cents } => self.put_lapse(*set, natural(*cents)),
+            Edit::Due { overdue, other } => self.due = [natural(*overdue), natural(*other)],
+            Edit::Op {
+                tpl,
+                tpul,
+                tpn,
+                el,
+                eul,
+                pel,
+                peul,
+                en,
+                pen,
+                expul,
+            } => {
+                self.provisions = [*tpl, *tpul, *tpn];
+                self.earned = [
+                    natural(*el),
+                    natural(*eul),
+                    natural(*pel),
+                    natural(*peul),
+                    natural(*en),
+                    natural(*pen),
+                    natural(*expul),
+                ];
+            }
+            Edit::Sym { millionths } => self.sym = *millionths as i32,
+            Edit::Tax { millionths, cap } => {
+                self.tax = natural(*millionths) as u32;
+                self.cap = natural(*cap);
+            }
+            Edit::Fdb { cents } => self.fdb = natural(*cents),
+            Edit::Intangible { cents } => self.intangible = natural(*cents),
+            _ => {}
+        }
+    }
+
+    /// Puts these volumes, of premium and of reserve, into a segment's region.
+    pub fn put_volumes(&mut self, set: Set, number: u8, region: u8, new: (u64, u64))
+        requires first { 1 ≤ number }
+        requires last { number ≤ segments set }
+        requires first_region { 1 ≤ region }
+        requires last_region { region ≤ 18 }
+        ensures { self.new ≡ record self.old {
+          nl = with_segment Set.Nl set number region new self.old.nl;
+          nslt = with_segment Set.Nslt set number region new self.old.nslt;
+        } }
+    {
+        let segment = usize::from(number) - 1;
+        let region = usize::from(region) - 1;
+        match set {
+            Set::Nl => self.nl[segment].volumes[region] = new,
+            Set::Nslt => self.nslt[segment].volumes[region] = new,
+        }
+    }
+
+    /// Puts the absorption of a scenario in; those of a currency's stand with its curve, and leave the numbers.
+    pub fn put_absorb(&mut self, key: AbsorbKey, cents: u64)
+        ensures { self.new ≡ record self.old { absorb = placed (absorb_place key) cents self.old.absorb } }
+    {
+        if let Some(place) = absorb_place(key) {
+            self.absorb[place] = cents;
+        }
+    }
+
+    fn put_cat(&mut self, key: CatKey, cents: u64)
+        ensures { self.new ≡ record self.old {
+          cat = placed (cat_place key) cents self.old.cat;
+          health_cat = placed (health_cat_place key) cents self.old.health_cat;
+        } }
+    {
+        if let Some(place) = cat_place(key) {
+            self.cat[place] = cents;
+        }
+        if let Some(place) = health_cat_place(key) {
+            self.health_cat[place] = cents;
+        }
+    }
+
+    fn put_lapse(&mut self, set: Set, cents: u64)
+        ensures { self.new ≡ record self.old { lapse = slice_set self.old.lapse (lapse_place set) cents } }
+    {
+        match set {
+            Set::Nl => self.lapse[0] = cents,
+            Set::Nslt => self.lapse[1] = cents,
+        }
+    }
+}
+
+/// A number of a record as it is kept where none below 0 may be; 0 stands for one that is, which is never kept.
+pub fn natural(value: i64) -> u64
+    ensures { result ≡ natural value }
+{
+    value.max(0).unsigned_abs()
+}
+
+fn absorb_place(key: AbsorbKey) -> Option<usize>
+    ensures value { result ≡ absorb_place key }
+    ensures fits { IfSome result (λ k. k < 25) }
+{
+    match key {
+        AbsorbKey::InterestUp => Some(0),
+        AbsorbKey::InterestDown => Some(1),
+        AbsorbKey::Equity => Some(2),
+        AbsorbKey::Property => Some(3),
+        AbsorbKey::Spread => Some(4),
+        AbsorbKey::Concentration => Some(5),
+        AbsorbKey::CurrencyUp(_) | AbsorbKey::CurrencyDown(_) => None,
+        AbsorbKey::Default => Some(6),
+        AbsorbKey::LifeMortality => Some(7),
+        AbsorbKey::LifeLongevity => Some(8),
+        AbsorbKey::LifeDisability => Some(9),
+        AbsorbKey::LifeExpense => Some(10),
+        AbsorbKey::LifeRevision => Some(11),
+        AbsorbKey::LifeLapseUp => Some(12),
+        AbsorbKey::LifeLapseDown => Some(13),
+        AbsorbKey::LifeLapseMass => Some(14),
+        AbsorbKey::LifeCatastrophe => Some(15),
+        AbsorbKey::HealthMortality => Some(16),
+        AbsorbKey::HealthLongevity => Some(17),
+        AbsorbKey::HealthDisability => Some(18),
+        AbsorbKey::HealthExpense => Some(19),
+        AbsorbKey::HealthRevision => Some(20),
+        AbsorbKey::HealthLapseUp => Some(21),
+        AbsorbKey::HealthLapseDown => Some(22),
+        AbsorbKey::HealthLapseMass => Some(23),
+        AbsorbKey::HealthCatastrophe => Some(24),
+    }
+}
+
+fn cat_place(key: CatKey) -> Option<usize>
+    ensures value { result ≡ cat_place key }
+    ensures fits { IfSome result (λ k. k < 13) }
+{
+    match key {
+        CatKey::Windstorm => Some(0),
+        CatKey::Earthquake => Some(1),
+        CatKey::Flood => Some(2),
+        CatKey::Hail => Some(3),
+        CatKey::Subsidence => Some(4),
+        CatKey::NonProportionalProperty => Some(5),
+        CatKey::Motor => Some(6),
+        CatKey::Marine => Some(7),
+        CatKey::Aviation => Some(8),
+        CatKey::Fire => Some(9),
+        CatKey::Liability => Some(10),
+        CatKey::Credit => Some(11),
+        CatKey::Other => Some(12),
+        CatKey::MassAccident | CatKey::AccidentConcentration | CatKey::Pandemic => None,
+    }
+}
+
+fn health_cat_place(key: CatKey) -> Option<usize>
+    ensures value { result ≡ health_cat_place key }
+    ensures fits { IfSome result (λ k. k < 3) }
+{
+    match key {
+        CatKey::MassAccident => Some(0),
+        CatKey::AccidentConcentration => Some(1),
+        CatKey::Pandemic => Some(2),
+        _ => None,
+    }
+}
