@@ -1,0 +1,114 @@
+-- Lists in a line, member by member.
+use Rattle.std.proofs.Common.{◌≡◌, ◌≢◌, ℕ, ℤ, ◌+◌, ◌<◌, List, [], ◌∷◌, ◌++◌, length, Option, Result, Ok, Err, refl, ap, sym, append_assoc, arith}
+use Rattle.std.specs.Prelude.{ok_or}
+use Rattle.std.specs.List.{AllByRecursion}
+use Rattle.std.proofs.lemmas.List.{append-nil}
+use Rattle.scr_dates.specs.declared.day.Day.{Day}
+use Rattle.scr_dates.specs.Text.{day_of_text}
+use Rattle.scr_csv.specs.declared.fault.LineFault.{LineFault}
+use Rattle.scr_csv.specs.declared.fault.LineFault.TheVariants.{Syntax, NoMemory}
+use Rattle.scr_csv.specs.Numbers.{number_value}
+use Rattle.scr_csv.specs.Reading.{Rest, field, next, read_to, made, listed, number_in, day_in, numbers_from, pairs_from, Answers}
+
+-- the members so far, and those that follow them
+abbrev pub behind : {A : Type 0} → List A → Result (List A) LineFault → Result (List A) LineFault
+behind members more = made (λ rest. members ++ rest) more
+
+pub behind_none : {A : Type 0} (due : Result (List A) LineFault) → behind [] due ≡ due
+behind_none (Ok members) = refl
+behind_none (Err fault) = refl
+
+pub behind_next : {A : Type 0} (members : List A) (a : A) (more : Result (List A) LineFault) → behind members (made (λ rest. a ∷ rest) more) ≡ behind (members ++ (a ∷ [])) more
+behind_next members a (Ok rest) = ap Ok (sym (append_assoc members (a ∷ []) rest))
+behind_next members a (Err fault) = refl
+
+-- no more follow
+pub behind_end : {A : Type 0} (members : List A) → behind members (Ok []) ≡ Ok members
+behind_end members = ap Ok (append-nil members)
+
+-- the answer that is due is an answer
+pub due_answers : {A : Type 0} (due answer : Result A LineFault) → due ≡ answer → Answers due answer
+due_answers due (Ok a) h = h
+due_answers due (Err (Syntax k)) h = h
+due_answers due (Err NoMemory) h = tt
+
+pub all_push : {A : Type 0} (P : A → Type 0) (xs : List A) (x : A) → AllByRecursion P xs → P x → AllByRecursion P (xs ++ (x ∷ []))
+all_push P [] x all h = (h, tt)
+all_push P (y ∷ ys) x all h = (all.0, all_push P ys x all.1 h)
+
+record Read {A : Type 0} (o : Result A LineFault) (a : A) (rest after : Rest) : Type 0 where
+  value : o ≡ Ok a
+  same : rest ≡ after
+
+read_ok : {A : Type 0} (o : Result A LineFault) (a : A) (rest after : Rest) → read_to o rest ≡ Ok (a, after) → Read o a rest after
+read_ok {A} (Ok b) a rest after h =
+    let pair : ◌≡◌ {A = A × Rest} (b, rest) (a, after) = cc in
+    record { value = ap (λ p. Ok p.0) pair; same = ap (λ p. p.1) pair }
+read_ok {A} (Err fault) a rest after h = absurd (cc)
+
+read_err : {A : Type 0} (o : Result A LineFault) (rest : Rest) (fault : LineFault) → read_to o rest ≡ Err fault → o ≡ Err fault
+read_err (Ok b) rest fault h = absurd (cc)
+read_err (Err e) rest fault h = cc
+
+-- a reader takes one field
+pub next-shorter : {A : Type 0} (form : List ℕ → Option A) (number : ℕ) (fields : List (List ℕ)) (a : A) (after : Rest)
+    → next form (record { number = number; fields = fields }) ≡ Ok (a, after) → length after.fields < length fields
+unfolding next field
+next-shorter form number [] a after h = absurd (cc)
+next-shorter form number (first ∷ fields) a after h =
+    let read = read_ok (ok_or (form first) (Syntax number)) a (record { number = number + 1; fields = fields }) after h in
+    rw (← read.same) (omega arith)
+
+listed_ok : {A : Type 0} (a : A) (more : Result (List A) LineFault) → listed (Ok a) more ≡ made (λ rest. a ∷ rest) more
+listed_ok a (Ok rest) = refl
+listed_ok a (Err fault) = refl
+
+pub numbers-next : (number : ℕ) (fields : List (List ℕ)) (z : ℤ) (after : Rest)
+    → next number_value (record { number = number; fields = fields }) ≡ Ok (z, after) → numbers_from number fields ≡ made (λ rest. z ∷ rest) (numbers_from after.number after.fields)
+unfolding next field
+numbers-next number [] z after h = absurd (cc)
+numbers-next number (first ∷ fields) z after h =
+    let read = read_ok (number_in number first) z (record { number = number + 1; fields = fields }) after h in
+    rw (read.value, ← read.same) (listed_ok z (numbers_from (number + 1) fields))
+
+pub numbers-fault : (number : ℕ) (fields : List (List ℕ)) (fault : LineFault)
+    → next number_value (record { number = number; fields = fields }) ≡ Err fault → (fields ≢ []) → numbers_from number fields ≡ Err fault
+unfolding next field
+numbers-fault number [] fault h some = absurd (some refl)
+numbers-fault number (first ∷ fields) fault h some = rw (read_err (number_in number first) _ fault h) refl
+
+plus_two : (n : ℕ) → (n + 1) + 1 ≡ n + 2
+plus_two n = omega arith
+
+pub pairs-next : (number : ℕ) (fields : List (List ℕ)) (day : Day) (mid : Rest) (z : ℤ) (after : Rest)
+    → next day_of_text (record { number = number; fields = fields }) ≡ Ok (day, mid) → next number_value mid ≡ Ok (z, after)
+    → pairs_from number fields ≡ made (λ rest. (day, z) ∷ rest) (pairs_from after.number after.fields)
+unfolding next field
+pairs-next number [] day mid z after h k = absurd (cc)
+pairs-next number (first ∷ []) day mid z after h k =
+    let read = read_ok (day_in number first) day (record { number = number + 1; fields = [] }) mid h in
+    absurd (cc (rw (← read.same) at k))
+pairs-next number (first ∷ second ∷ fields) day mid z after h k =
+    let read = read_ok (day_in number first) day (record { number = number + 1; fields = second ∷ fields }) mid h in
+    let amount = read_ok (number_in (number + 1) second) z (record { number = (number + 1) + 1; fields = fields }) after (rw (← read.same) at k) in
+    rw (read.value, amount.value, ← amount.same, plus_two number) (listed_ok (day, z) (pairs_from (number + 2) fields))
+
+pub pairs-day_fault : (number : ℕ) (fields : List (List ℕ)) (fault : LineFault)
+    → next day_of_text (record { number = number; fields = fields }) ≡ Err fault → (fields ≢ []) → pairs_from number fields ≡ Err fault
+unfolding next field
+pairs-day_fault number [] fault h some = absurd (some refl)
+pairs-day_fault number (first ∷ []) fault h some = rw (read_err (day_in number first) _ fault h) refl
+pairs-day_fault number (first ∷ second ∷ fields) fault h some = rw (read_err (day_in number first) _ fault h) refl
+
+pub pairs-number_fault : (number : ℕ) (fields : List (List ℕ)) (day : Day) (mid : Rest) (fault : LineFault)
+    → next day_of_text (record { number = number; fields = fields }) ≡ Ok (day, mid) → next number_value mid ≡ Err fault → pairs_from number fields ≡ Err fault
+unfolding next field
+pairs-number_fault number [] day mid fault h k = absurd (cc)
+pairs-number_fault number (first ∷ []) day mid fault h k =
+    let read = read_ok (day_in number first) day (record { number = number + 1; fields = [] }) mid h in
+    let lacking = rw (← read.same) at k in
+    let same : Syntax (number + 1) ≡ fault = cc in
+    rw (read.value, same) refl
+pairs-number_fault number (first ∷ second ∷ fields) day mid fault h k =
+    let read = read_ok (day_in number first) day (record { number = number + 1; fields = second ∷ fields }) mid h in
+    rw (read.value, read_err (number_in (number + 1) second) _ fault (rw (← read.same) at k)) refl

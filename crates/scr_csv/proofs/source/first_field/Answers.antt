@@ -1,0 +1,12 @@
+use Rattle.std.proofs.Common.{◌∷◌, ◌+◌, ◌∙◌, ap, sym, take}
+use Rattle.scr_csv.specs.Sources.{pieces}
+use Rattle.scr_csv.proofs.Cuts.{cut_at, cut_nowhere, all_left}
+use Rattle.scr_csv.proofs.source.first_field.Goals as goal
+
+pub returns-in-None : goal.returns-in-None
+returns-in-None c = cut_nowhere _ c.args.text.now (sym c.comma_at.ensures.place ∙ c.in-None.is)
+
+pub returns-in-Some : goal.returns-in-Some
+returns-in-Some c =
+    cut_at _ c.args.text.now c.in-Some.end (sym c.comma_at.ensures.place ∙ c.in-Some.is)
+    ∙ ap (λ rest. take c.in-Some.end c.args.text.now ∷ pieces rest) (sym (all_left (c.in-Some.end + 1) c.args.text.now))

@@ -1,0 +1,10 @@
+pub mod Lines
+pub mod LineOrder
+pub mod Numbers
+pub mod Words
+pub mod FieldForms
+pub mod LineFields
+pub mod Reading
+pub mod Sources
+pub mod Records
+pub mod KeyWords

@@ -1,0 +1,258 @@
+//! The fields of a record, read one after another in their forms.
+#![tactic(auto, using(crate::proofs::Steps::formed_if), unfolding(crate::specs::Reading::field, crate::specs::Reading::next, crate::specs::Reading::only))]
+
+ghost use Rattle.std.specs.Prelude.{◌≡◌, ◌≤◌, ◌↔◌, [], length, IfOk, IsTrue, true, false};
+ghost use Rattle.std.specs.List.{AllByRecursion, list_all, list_any};
+ghost use Rattle.csv.specs.Records.{fields_of};
+ghost use Rattle.scr_dates.specs.Civil.{IsDay};
+ghost use Rattle.scr_dates.specs.Text.{day_of_text};
+ghost use Rattle.scr_sheet.specs.Forms as formed;
+ghost use Rattle.scr_csv.specs.FieldForms as forms_of;
+ghost use Rattle.scr_csv.specs.Numbers.{number_value};
+ghost use Rattle.scr_csv.specs.Reading.{field, next, only, found_to, read_to, numbers_from, pairs_from, Answers};
+ghost use Rattle.scr_csv.specs.LineFields.{line_fields, is_printed, is_quote};
+ghost use Rattle.scr_csv.specs.Words as words_of;
+
+use crate::source::Source;
+use crate::verb::Verb;
+use crate::{LineFault, forms, numbers, words};
+use csv::ByteRecord;
+use scr_dates::{Day, parse_day};
+use scr_factors::Set;
+use scr_sheet::{
+    AbsorbKey, CatKey, Class, Edit, Flows, GroupKind, LineKind, Name, Projection, Rates, Table,
+};
+use std::alloc::Global;
+use std::marker::Model;
+
+/// The fields that are still to be read, and the number of the first of them. The verb has number 0.
+#[derive(Drop)]
+pub struct Fields<'a> {
+    source: Source<'a>,
+    number: u32,
+}
+
+impl<'a> Model for Fields<'a> {
+    ghost use Rattle.std.specs.Prelude.{◌+◌, ◌≤◌, length};
+    ghost use Rattle.scr_csv.specs.Reading.{Rest};
+    ghost use Rattle.scr_csv.specs.Sources.{fields_in};
+
+    ghost Value = { Rest };
+
+    ghost view = { λ f. record { number = f.number; fields = fields_in f.source } };
+
+    ghost invariant = { λ f. f.number + length (fields_in f.source) ≤ 67108865 };
+}
+
+impl<'a> Fields<'a> {
+    /// The fields of a line of at most 64 MiB that has no double quote.
+    pub fn of_text(text: &'a [u8]) -> Fields<'a>
+        requires printed { list_all is_printed text.now ≡ true }
+        requires unquoted { list_any is_quote text.now ≡ false }
+        requires fits { length text.now ≤ 67108864 }
+        ensures { result ≡ record { number = 0; fields = line_fields text.now } }
+    {
+        Fields {
+            source: Source::of_text(text),
+            number: 0,
+        }
+    }
+
+    /// The fields of a line of at most 64 MiB, as a row.
+    pub fn of_row(row: &'a ByteRecord) -> Fields<'a>
+        requires { length (fields_of row.now) ≤ 67108865 }
+        ensures { result ≡ record { number = 0; fields = fields_of row.now } }
+    {
+        Fields {
+            source: Source::Row(row, 0),
+            number: 0,
+        }
+    }
+
+    fn field(&mut self) -> Result<(u32, &'a [u8]), LineFault>
+        ensures { found_to result self.new ≡ field self.old }
+    {
+        let number = self.number;
+        let (field, rest) = self.source.first().ok_or(LineFault::Syntax(number))?;
+        self.source = rest;
+        self.number = number + 1;
+        Ok((number, field))
+    }
+
+    pub fn verb(&mut self) -> Result<Verb, LineFault>
+        ensures { read_to result self.new ≡ next (words_of.value_of words_of.verb_word words_of.all_verbs) self.old }
+    {
+        let (number, field) = self.field()?;
+        words::verb(field).ok_or(LineFault::Syntax(number))
+    }
+
+    pub fn date(&mut self) -> Result<Day, LineFault>
+        ensures value { read_to result self.new ≡ next day_of_text self.old }
+        ensures formed { IfOk result (λ day. IsDay day.number) }
+    {
+        let (number, field) = self.field()?;
+        parse_day(field).ok_or(LineFault::Syntax(number))
+    }
+
+    pub fn currency(&mut self) -> Result<Name, LineFault>
+        ensures value { read_to result self.new ≡ next forms_of.currency_of self.old }
+        ensures formed { IfOk result formed.IsCurrency }
+    {
+        let (number, field) = self.field()?;
+        forms::currency(field).ok_or(LineFault::Syntax(number))
+    }
+
+    pub fn name(&mut self) -> Result<Name, LineFault>
+        ensures value { read_to result self.new ≡ next forms_of.name_of self.old }
+        ensures formed { IfOk result formed.IsName }
+    {
+        let (number, field) = self.field()?;
+        forms::name(field).ok_or(LineFault::Syntax(number))
+    }
+
+    pub fn group(&mut self) -> Result<Option<Name>, LineFault>
+        ensures value { read_to result self.new ≡ next forms_of.group_of self.old }
+        ensures formed { IfOk result formed.IsNameOrNone }
+    {
+        let (number, field) = self.field()?;
+        forms::group(field).ok_or(LineFault::Syntax(number))
+    }
+
+    pub fn number(&mut self) -> Result<i64, LineFault>
+        ensures value { read_to result self.new ≡ next number_value self.old }
+        ensures formed { IfOk result formed.IsNumber }
+    {
+        let (number, field) = self.field()?;
+        numbers::read_number(field).ok_or(LineFault::Syntax(number))
+    }
+
+    pub fn step(&mut self) -> Result<Option<u8>, LineFault>
+        ensures value { read_to result self.new ≡ next forms_of.step_of self.old }
+        ensures formed { IfOk result formed.IsStepOrNone }
+    {
+        let (number, field) = self.field()?;
+        forms::step(field).ok_or(LineFault::Syntax(number))
+    }
+
+    pub fn region(&mut self) -> Result<u8, LineFault>
+        ensures value { read_to result self.new ≡ next forms_of.region_of self.old }
+        ensures low { IfOk result (λ n. 1 ≤ n) }
+        ensures high { IfOk result (λ n. n ≤ 18) }
+    {
+        let (number, field) = self.field()?;
+        forms::region(field).ok_or(LineFault::Syntax(number))
+    }
+
+    pub fn absorb_key(&mut self) -> Result<AbsorbKey, LineFault>
+        ensures value { read_to result self.new ≡ next forms_of.absorb_key_of self.old }
+        ensures formed { IfOk result formed.IsAbsorbKey }
+    {
+        let (number, field) = self.field()?;
+        forms::absorb_key(field).ok_or(LineFault::Syntax(number))
+    }
+
+    pub fn group_kind(&mut self) -> Result<GroupKind, LineFault>
+        ensures { read_to result self.new ≡ next (words_of.value_of words_of.group_kind_word words_of.all_group_kinds) self.old }
+    {
+        let (number, field) = self.field()?;
+        words::group_kind(field).ok_or(LineFault::Syntax(number))
+    }
+
+    pub fn class(&mut self) -> Result<Class, LineFault>
+        ensures { read_to result self.new ≡ next (words_of.value_of words_of.class_word words_of.all_classes) self.old }
+    {
+        let (number, field) = self.field()?;
+        words::class(field).ok_or(LineFault::Syntax(number))
+    }
+
+    pub fn line_kind(&mut self) -> Result<LineKind, LineFault>
+        ensures { read_to result self.new ≡ next (words_of.value_of words_of.line_kind_word words_of.all_line_kinds) self.old }
+    {
+        let (number, field) = self.field()?;
+        words::line_kind(field).ok_or(LineFault::Syntax(number))
+    }
+
+    pub fn projection(&mut self) -> Result<Projection, LineFault>
+        ensures { read_to result self.new ≡ next (words_of.value_of words_of.projection_word words_of.all_projections) self.old }
+    {
+        let (number, field) = self.field()?;
+        words::projection(field).ok_or(LineFault::Syntax(number))
+    }
+
+    pub fn set(&mut self) -> Result<Set, LineFault>
+        ensures { read_to result self.new ≡ next (words_of.value_of words_of.set_word words_of.all_sets) self.old }
+    {
+        let (number, field) = self.field()?;
+        words::set(field).ok_or(LineFault::Syntax(number))
+    }
+
+    pub fn cat_key(&mut self) -> Result<CatKey, LineFault>
+        ensures { read_to result self.new ≡ next (words_of.value_of words_of.cat_key_word words_of.all_cat_keys) self.old }
+    {
+        let (number, field) = self.field()?;
+        words::cat_key(field).ok_or(LineFault::Syntax(number))
+    }
+
+    pub fn table(&mut self) -> Result<Table, LineFault>
+        ensures { read_to result self.new ≡ next (words_of.value_of words_of.table_word words_of.all_tables) self.old }
+    {
+        let (number, field) = self.field()?;
+        words::table(field).ok_or(LineFault::Syntax(number))
+    }
+
+    pub fn segment(&mut self, set: Set) -> Result<u8, LineFault>
+        ensures value { read_to result self.new ≡ next (forms_of.segment_of set) self.old }
+        ensures low { IfOk result (λ n. 1 ≤ n) }
+        ensures high { IfOk result (λ n. n ≤ formed.segments set) }
+    {
+        let (number, field) = self.field()?;
+        forms::segment(field, set).ok_or(LineFault::Syntax(number))
+    }
+
+    /// Whether no field is left.
+    pub fn is_at_end(&self) -> bool
+        ensures { IsTrue result ↔ (self.now.fields ≡ []) }
+    {
+        self.source.first().is_none()
+    }
+
+    /// The record, where no field is left.
+    pub fn only(&self, edit: Edit) -> Result<Edit, LineFault>
+        requires { formed.Formed edit }
+        ensures value { result ≡ only edit self.now }
+        ensures formed { IfOk result formed.Formed }
+    {
+        if self.is_at_end() {
+            Ok(edit)
+        } else {
+            Err(LineFault::Syntax(self.number))
+        }
+    }
+
+    /// The fields that are left, each a number.
+    pub fn rates(&mut self, alloc: Global) -> Result<Rates, LineFault>
+        ensures answer { Answers (numbers_from self.old.number self.old.fields) result }
+        ensures formed { IfOk result (AllByRecursion formed.IsNumber) }
+    {
+        let mut rates = Vec::new(alloc);
+        'rates: while !self.is_at_end() {
+            let rate = self.number()?;
+            rates.push(rate).map_err(|_| LineFault::NoMemory)?;
+        }
+        Ok(Rates::new(rates))
+    }
+
+    /// The fields that are left, in pairs of a date and a number.
+    pub fn flows(&mut self, alloc: Global) -> Result<Flows, LineFault>
+        ensures answer { Answers (pairs_from self.old.number self.old.fields) result }
+        ensures formed { IfOk result formed.AreFlows }
+    {
+        let mut flows = Vec::new(alloc);
+        'flows: while !self.is_at_end() {
+            let date = self.date()?;
+            let amount = self.number()?;
+            flows.push((date, amount)).map_err(|_| LineFault::NoMemory)?;
+        }
+        Ok(Flows::new(flows))
+    }
+}

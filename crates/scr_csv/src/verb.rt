@@ -1,0 +1,25 @@
+/// The verbs of records.
+#[derive(Clone, Copy, Debug, PartialEq, Eq)]
+pub enum Verb {
+    Asof,
+    Curve,
+    Group,
+    Security,
+    Flows,
+    Hold,
+    Line,
+    LineFlows,
+    Absorb,
+    Segment,
+    Cat,
+    Lapse,
+    Rein,
+    Bank,
+    Due,
+    Op,
+    Sym,
+    Tax,
+    Fdb,
+    Intangible,
+    Remove,
+}
