@@ -1,4 +1,5 @@
-pub mod Names
-pub mod Positions
-pub mod Entries
-pub mod Sheets
+pub mod OpeningSheet
+pub mod Walks
+pub mod Reduced
+pub mod Moved
+pub mod Applied

@@ -1,21 +1,22 @@
--- How a book keeps its balance sheet: a map from each name to its row, and the sum of what is held.
-use Rattle.std.specs.Prelude.{◌≡◌, ℕ, List, map}
-use Rattle.std.specs.HashMap.{values}
-use Rattle.scr_book.specs.BalanceSheet.{BalanceSheet, held_total}
-use Rattle.scr_book.specs.Validity.{Valid}
-use Rattle.scr_book.specs.declared.rows.Position.{Position}
+-- How a book keeps its balance sheet.
+use Rattle.scr_sheet.specs.BalanceSheet.{BalanceSheet}
+use Rattle.scr_sheet.specs.Validity.{Valid}
+use Rattle.scr_book.specs.Sums.{AreSumsOf}
 use Rattle.scr_book.specs.declared.book.Book.TheInside.{Inside}
 
--- the rows in the map's order
+-- the tables and the numbers
 abbrev pub sheet_of : Inside → BalanceSheet
-sheet_of book = record { securities = values book.positions }
+sheet_of book = record {
+  groups = book.groups;
+  securities = book.securities;
+  lines = book.lines;
+  banks = book.banks;
+  reinsurers = book.reinsurers;
+  curves = book.curves;
+  numbers = book.numbers;
+}
 
--- the rows, each under its name
-abbrev pub by_name : List Position → List (List ℕ × Position)
-by_name positions = map (λ p. (p.security.name, p)) positions
-
--- Each row stands under its own name, the sum is that of all that is held, and the sheet is valid.
+-- The sheet is valid, and each sum that is kept is that of its rows.
 pub record IsKept (book : Inside) : Type 0 where
-  pub keyed : book.positions.entries ≡ by_name (values book.positions)
-  pub held : book.held ≡ held_total (sheet_of book)
   pub valid : Valid (sheet_of book)
+  pub sums : AreSumsOf (sheet_of book) book.sums

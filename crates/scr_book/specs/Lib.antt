@@ -1,6 +1,5 @@
-pub mod Names
-pub mod BalanceSheet
-pub mod Forms
-pub mod Faults
-pub mod Validity
+pub mod Sums
+pub mod Places
 pub mod Kept
+pub mod Counts
+pub mod Verbs

@@ -1,9 +1,18 @@
 //! Whether a record may be applied.
-ghost use Rattle.std.specs.Prelude.{◌≡◌, ℕ, ◌<◌, ◌^◌, IsTrue, Some, pos};
-ghost use Rattle.scr_book.specs.Faults.{fault_of, above, Answers};
-ghost use Rattle.scr_book.specs.Forms.{Formed};
+ghost use Rattle.std.specs.Prelude.{◌≡◌, ◌+◌, ◌*◌, ◌<◌, ◌^◌, true, Some, None, if◌then◌else◌};
+ghost use Rattle.std.specs.Option.{option_or, option_map_or};
+ghost use Rattle.scr_sheet.specs.Tables.{row_of};
+ghost use Rattle.scr_sheet.specs.CashFlows.{suits};
+ghost use Rattle.scr_sheet.specs.BalanceSheet.{line_name};
+ghost use Rattle.scr_sheet.specs.Faults.{too_long, rates_fault, list_fault, unknown_row, unknown_currency, unknown_group, unknown_in_key, unknown_in_table, unknown_name, misplaced, misplaced_group, misplaced_drop, lacking, wrong_kind, in_use, fault_of, Answers};
+ghost use Rattle.scr_sheet.specs.Forms.{Formed};
 
-use crate::{Book, Class, Edit, Fault, MAX_HELD, MAX_SECURITIES, Name, Quantity};
+use crate::ranges::check_ranges;
+use crate::users::user_of;
+use crate::{
+    AbsorbKey, Book, Edit, Fault, LineKind, MAX_FLOWS, MAX_RATES, Name, Projection, Rates, Table,
+    User,
+};
 use std::alloc::Global;
 
 /// The first fault of the record in the book, or none.
@@ -11,44 +20,243 @@ pub fn check(_alloc: Global, book: &Book, edit: &Edit) -> Result<(), Fault>
     requires { Formed edit.now }
     ensures { Answers (fault_of edit.now book.now) result }
 {
-    match *edit {
-        Edit::Security { name, class } => check_security(book, &name, class),
-        Edit::Hold { name, cents } => check_hold(book, &name, cents),
+    if let Err(fault) = check_lists(edit) {
+        return Err(fault);
+    }
+    if let Err(fault) = check_names(book, edit) {
+        return Err(fault);
+    }
+    if let Err(fault) = check_kinds(book, edit) {
+        return Err(fault);
+    }
+    if let Err(fault) = check_uses(book, edit) {
+        return Err(fault);
+    }
+    check_ranges(book, edit)
+}
+
+// ---- the length of a list
+
+fn check_lists(edit: &Edit) -> Result<(), Fault>
+    ensures { Answers (list_fault edit.now) result }
+{
+    match edit {
+        Edit::Curve { rates, .. } => check_rates(rates),
+        Edit::Flows { flows, .. } => check_length(2, 2, MAX_FLOWS, flows.as_slice().len()),
+        Edit::LineFlows { flows, .. } => check_length(3, 2, MAX_FLOWS, flows.as_slice().len()),
+        _ => Ok(()),
     }
 }
 
-fn check_security(book: &Book, name: &Name, class: Class) -> Result<(), Fault>
-    ensures { Answers (fault_of (Edit.Security name.now class) book.now) result }
+fn check_rates(rates: &Rates) -> Result<(), Fault>
+    ensures { Answers (rates_fault rates.now) result }
 {
-    if book.position(name).is_some() {
-        return Ok(());
+    if rates.as_slice().is_empty() {
+        return Err(Fault::Syntax(2));
     }
-    within(
-        Quantity::Securities,
-        u64::from(book.securities()) + 1,
-        u64::from(MAX_SECURITIES),
-    )
+    check_length(2, 1, MAX_RATES, rates.as_slice().len())
 }
 
-fn check_hold(book: &Book, name: &Name, cents: i64) -> Result<(), Fault>
-    ensures { Answers (fault_of (Edit.Hold name.now cents) book.now) result }
+// The list's first field has this number, and each member has so many fields.
+fn check_length(first: u32, fields: u32, most: u32, length: usize) -> Result<(), Fault>
+    requires { first + fields * most < 2 ^ 32 }
+    ensures { Answers (too_long first fields most length) result }
 {
-    let Some(position) = book.position(name) else {
-        return Err(Fault::UnknownName(*name));
-    };
-    if cents < 0 {
-        return Err(Fault::Range(Quantity::Hold, i128::from(cents), 0));
+    if length > most as usize {
+        return Err(Fault::Syntax(first + fields * most));
     }
-    let held = book.held_total() - position.held + cents.unsigned_abs();
-    within(Quantity::Held, held, MAX_HELD)
+    Ok(())
 }
 
-fn within(quantity: Quantity, value: u64, limit: u64) -> Result<(), Fault>
-    ensures { Answers (above quantity value limit) result }
+// ---- a name must exist
+
+fn check_names(book: &Book, edit: &Edit) -> Result<(), Fault>
+    ensures { Answers (unknown_name edit.now book.now) result }
 {
-    if value <= limit {
+    match edit {
+        Edit::Asof { currency, .. } | Edit::Line { currency, .. } => known_currency(book, currency),
+        Edit::Security {
+            group,
+            currency,
+            ..
+        } => known_group_and_currency(book, group, currency),
+        Edit::Flows { security: name, .. }
+        | Edit::Hold { name, .. }
+        | Edit::LineFlows { line: name, .. }
+        | Edit::Rein { group: name, .. }
+        | Edit::Bank { group: name, .. } => known_row(book, name),
+        Edit::Absorb { key, .. } => known_key(book, key),
+        Edit::Remove { table, name } => known_in_table(book, *table, name),
+        _ => Ok(()),
+    }
+}
+
+fn known_row(book: &Book, name: &Name) -> Result<(), Fault>
+    ensures { Answers (unknown_row name.now book.now) result }
+{
+    if book.is_named(name) {
         Ok(())
     } else {
-        Err(Fault::Range(quantity, i128::from(value), i128::from(limit)))
+        Err(Fault::UnknownName(*name))
+    }
+}
+
+fn known_currency(book: &Book, currency: &Name) -> Result<(), Fault>
+    ensures { Answers (unknown_currency currency.now book.now) result }
+{
+    if book.has(Table::Curve, currency) {
+        Ok(())
+    } else {
+        Err(Fault::UnknownName(*currency))
+    }
+}
+
+fn known_group(book: &Book, group: &Option<Name>) -> Result<(), Fault>
+    ensures { Answers (unknown_group group.now book.now) result }
+{
+    match group {
+        Some(name) => known_row(book, name),
+        None => Ok(()),
+    }
+}
+
+fn known_group_and_currency(book: &Book, group: &Option<Name>, currency: &Name) -> Result<(), Fault>
+    ensures { Answers (option_or (unknown_group group.now book.now) (unknown_currency currency.now book.now)) result }
+{
+    if let Err(fault) = known_group(book, group) {
+        return Err(fault);
+    }
+    known_currency(book, currency)
+}
+
+fn known_key(book: &Book, key: &AbsorbKey) -> Result<(), Fault>
+    ensures { Answers (unknown_in_key key.now book.now) result }
+{
+    match key {
+        AbsorbKey::CurrencyUp(currency) => known_currency(book, currency),
+        AbsorbKey::CurrencyDown(currency) => known_currency(book, currency),
+        _ => Ok(()),
+    }
+}
+
+fn known_in_table(book: &Book, table: Table, name: &Name) -> Result<(), Fault>
+    ensures { Answers (unknown_in_table table name.now book.now) result }
+{
+    match table {
+        Table::Curve => known_currency(book, name),
+        _ => known_row(book, name),
+    }
+}
+
+// ---- a name stands where its field allows
+
+fn check_kinds(book: &Book, edit: &Edit) -> Result<(), Fault>
+    ensures { Answers (wrong_kind edit.now book.now) result }
+{
+    match edit {
+        Edit::Group { name, .. } => only_in(book, Table::Group, name),
+        Edit::Security { name, group, .. } => only_a_security(book, name, group),
+        Edit::Flows { security, .. } => only_in(book, Table::Security, security),
+        Edit::Hold { name, .. } => only_in(book, Table::Security, name),
+        Edit::Line { name, .. } => only_in(book, Table::Line, name),
+        Edit::LineFlows {
+            line,
+            projection,
+            ..
+        } => only_a_line(book, line, *projection),
+        Edit::Rein { name, group, .. } => only_an_exposure(book, Table::Rein, name, group),
+        Edit::Bank { name, group, .. } => only_an_exposure(book, Table::Bank, name, group),
+        Edit::Remove { table, name } => only_dropped_from(book, *table, name),
+        _ => Ok(()),
+    }
+}
+
+// Where the name stands in a table at all, it is this one.
+fn only_in(book: &Book, table: Table, name: &Name) -> Result<(), Fault>
+    ensures { Answers (misplaced table name.now book.now) result }
+{
+    if book.is_named(name) && !book.has(table, name) {
+        return Err(Fault::WrongKind(*name));
+    }
+    Ok(())
+}
+
+fn only_a_security(book: &Book, name: &Name, group: &Option<Name>) -> Result<(), Fault>
+    ensures { Answers (option_or (misplaced (Table.Security) name.now book.now) (misplaced_group group.now book.now)) result }
+{
+    if let Err(fault) = only_in(book, Table::Security, name) {
+        return Err(fault);
+    }
+    only_a_group(book, group)
+}
+
+fn only_a_line(book: &Book, line: &Name, projection: Projection) -> Result<(), Fault>
+    ensures { Answers (option_or (misplaced (Table.Line) line.now book.now) (lacking projection line.now book.now)) result }
+{
+    if let Err(fault) = only_in(book, Table::Line, line) {
+        return Err(fault);
+    }
+    has_projection(book, line, projection)
+}
+
+fn only_an_exposure(book: &Book, table: Table, name: &Name, group: &Name) -> Result<(), Fault>
+    ensures { Answers (option_or (misplaced table name.now book.now) (misplaced (Table.Group) group.now book.now)) result }
+{
+    if let Err(fault) = only_in(book, table, name) {
+        return Err(fault);
+    }
+    only_in(book, Table::Group, group)
+}
+
+fn only_a_group(book: &Book, group: &Option<Name>) -> Result<(), Fault>
+    ensures { Answers (misplaced_group group.now book.now) result }
+{
+    match group {
+        Some(name) => only_in(book, Table::Group, name),
+        None => Ok(()),
+    }
+}
+
+// Currencies are apart from all other names, so one never stands elsewhere.
+fn only_dropped_from(book: &Book, table: Table, name: &Name) -> Result<(), Fault>
+    ensures { Answers (misplaced_drop table name.now book.now) result }
+{
+    match table {
+        Table::Curve => Ok(()),
+        _ => only_in(book, table, name),
+    }
+}
+
+fn has_projection(book: &Book, line: &Name, projection: Projection) -> Result<(), Fault>
+    ensures { Answers (lacking projection line.now book.now) result }
+{
+    match book.line_row(line) {
+        Some(row) if !row.kind.has(projection) => Err(Fault::WrongKind(*line)),
+        _ => Ok(()),
+    }
+}
+
+// ---- nothing uses what would be dropped
+
+fn check_uses(book: &Book, edit: &Edit) -> Result<(), Fault>
+    ensures { Answers (in_use edit.now book.now) result }
+{
+    match edit {
+        Edit::Line { name, kind, .. } => suits_flows(book, name, *kind),
+        Edit::Remove { table, name } => match user_of(book, *table, name) {
+            Some(user) => Err(Fault::InUse(*name, user)),
+            None => Ok(()),
+        },
+        _ => Ok(()),
+    }
+}
+
+// A line keeps its flows, so its new kind has to have their projections.
+fn suits_flows(book: &Book, line: &Name, kind: LineKind) -> Result<(), Fault>
+    ensures { Answers (if option_map_or (λ l. suits kind l.flows) (row_of line_name line.now book.now.lines) true then None else Some (Fault.InUse line.now (User.Lflow))) result }
+{
+    match book.line_row(line) {
+        Some(row) if !kind.suits(&row.flows) => Err(Fault::InUse(*line, User::Lflow)),
+        _ => Ok(()),
     }
 }

@@ -1,21 +1,23 @@
-//! The book: an insurer's balance sheet, and the records that change it.
+//! The book: an insurer's balance sheet as it is kept, and the records that change it.
 #![tactic(auto)]
 
 mod book;
 mod checks;
-mod edit;
-mod fault;
-pub mod laws;
-mod limits;
-mod name;
-mod rows;
+mod fields;
+mod opening;
+mod puts;
+mod ranges;
+mod sums;
 #[cfg(test)]
 mod tests;
+mod users;
 
 pub use book::Book;
 pub use checks::check;
-pub use edit::Edit;
-pub use fault::{Fault, Quantity};
-pub use limits::{MAX_HELD, MAX_SECURITIES};
-pub use name::Name;
-pub use rows::{Class, Position, Security};
+pub use scr_sheet::{
+    AbsorbKey, Bank, CatKey, Class, Curve, Edit, Fault, Flows, Group, GroupKind, Liability,
+    LineFlows, LineKind, MAX_AMOUNT, MAX_CURRENCIES, MAX_DURATION, MAX_EXPOSURES, MAX_FLOWS,
+    MAX_GROUPS, MAX_HELD, MAX_LINE_FLOWS, MAX_LINES, MAX_PROMISED, MAX_RATE, MAX_RATES,
+    MAX_SECURITIES, MAX_SYM, MAX_TAX, MAX_YEARS, MIN_RATE, Name, Numbers, OpInput, Position,
+    Projection, Quantity, Rates, Regions, Rein, Security, Table, User,
+};

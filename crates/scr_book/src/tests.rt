@@ -1,129 +1,258 @@
-//! Worked values, and that each call succeeds where memory is ample.
-ghost use Rattle.std.specs.Prelude.{IsTrue};
-ghost use Rattle.scr_book.specs.Forms.{Formed, IsNumber};
-ghost use Rattle.scr_book.specs.Names.{is_name};
+//! Each call succeeds where memory is ample, and the readers show what the records left.
+ghost use Rattle.std.specs.Prelude.{◌≡◌};
+ghost use Rattle.scr_sheet.specs.Forms.{Formed, IsNumber, IsName, IsCurrency};
 
-use crate::{Book, Class, Edit, Fault, MAX_HELD, MAX_SECURITIES, Name, Quantity, Security, check};
+use crate::{
+    Book, Class, Edit, Fault, GroupKind, LineKind, MAX_HELD, Name, Quantity, Table, User, check,
+    opening,
+};
+use std::alloc::{AllocError as NoMemory, Global};
 use std::process::Abort;
 use std::test::Fail;
 
 fn name(rt: &impl Abort, text: &str) -> Name
-    ensures { IsTrue (is_name result) }
+    ensures { IsName result }
 {
     Name::parse(text.as_bytes()).expect(rt, "a name")
 }
 
-fn sec(name: Name, class: Class) -> Edit
-    requires { IsTrue (is_name name) }
+fn group(name: Name) -> Edit
+    requires { IsName name }
     ensures { Formed result }
 {
-    Edit::Security { name, class }
+    Edit::Group {
+        name,
+        kind: GroupKind::Name,
+        step: Some(2),
+    }
+}
+
+fn sec(name: Name, class: Class) -> Edit
+    requires { IsName name }
+    ensures { Formed result }
+{
+    Edit::Security {
+        name,
+        class,
+        group: None,
+        currency: opening::euro(),
+        duration: 7_500,
+    }
 }
 
 fn hold(name: Name, cents: i64) -> Edit
-    requires named { IsTrue (is_name name) }
+    requires named { IsName name }
     requires number { IsNumber cents }
     ensures { Formed result }
 {
     Edit::Hold { name, cents }
 }
 
-fn shared<T: Send + Sync>(_value: &T) {}
+fn line(name: Name) -> Edit
+    requires { IsName name }
+    ensures { Formed result }
+{
+    Edit::Line {
+        name,
+        kind: LineKind::Health,
+        currency: opening::euro(),
+    }
+}
+
+fn bank(name: Name, group: Name) -> Edit
+    requires named { IsName name }
+    requires grouped { IsName group }
+    ensures { Formed result }
+{
+    Edit::Bank {
+        name,
+        group,
+        cents: 5,
+    }
+}
+
+fn rein(name: Name, group: Name) -> Edit
+    requires named { IsName name }
+    requires grouped { IsName group }
+    ensures { Formed result }
+{
+    Edit::Rein {
+        name,
+        group,
+        recoverables: 1,
+        mitigation: 2,
+        collateral: 3,
+    }
+}
+
+fn remove(table: Table, name: Name) -> Edit
+    requires { IsName name }
+    ensures { Formed result }
+{
+    Edit::Remove { table, name }
+}
+
+// `check` and `apply` take the record.
+fn put(rt: &(impl Abort + AllocGlobal), book: &mut Book, edit: &Edit)
+    requires { Formed edit.now }
+{
+    assert!(rt; is_taken(check(rt.alloc(), book, edit)), "check");
+    assert!(rt; is_taken(book.apply(rt.alloc(), edit)), "apply");
+}
+
+fn is_taken(answer: Result<(), Fault>) -> bool {
+    match answer {
+        Ok(()) => true,
+        Err(_) => false,
+    }
+}
+
+// `check` and `apply` refuse the record for this fault.
+fn refuse(rt: &(impl Abort + AllocGlobal), book: &mut Book, edit: &Edit, fault: &Fault)
+    requires { Formed edit.now }
+{
+    assert!(rt; is_fault(check(rt.alloc(), book, edit), fault), "check");
+    assert!(rt; is_fault(book.apply(rt.alloc(), edit), fault), "apply");
+}
+
+fn is_fault(answer: Result<(), Fault>, due: &Fault) -> bool {
+    match answer {
+        Ok(()) => false,
+        Err(fault) => fault == *due,
+    }
+}
+
+// What each reader shows.
+fn shown(alloc: Global, book: &Book) -> Result<String, NoMemory> {
+    let mut text = format!(in alloc; "{:?}", book.numbers())?;
+    for k in 0..book.groups() {
+        text.push_str(format!(in alloc; "{:?}", book.group(k))?.as_str())?;
+    }
+    for k in 0..book.securities() {
+        let security = book.security(k);
+        let (held, place) = (book.held(&security.name), book.find(&security.name));
+        text.push_str(format!(in alloc; "{security:?}{held}{place:?}")?.as_str())?;
+    }
+    for k in 0..book.lines() {
+        text.push_str(format!(in alloc; "{:?}", book.line(k))?.as_str())?;
+    }
+    for k in 0..book.banks() {
+        text.push_str(format!(in alloc; "{:?}", book.bank(k))?.as_str())?;
+    }
+    for k in 0..book.reinsurers() {
+        text.push_str(format!(in alloc; "{:?}", book.reinsurer(k))?.as_str())?;
+    }
+    for k in 0..book.curves() {
+        text.push_str(format!(in alloc; "{:?}", book.curve(k))?.as_str())?;
+    }
+    Ok(text)
+}
+
+fn shared<T: Send + Sync>() {}
+
+// The tests make a book, which a function of their own uses: so a book is let go in one place.
 
 #[test]
-fn names_have_their_form(rt: HostRuntime) {
-    let longest = "a2345678901234567890123456789_.-";
-    for text in ["S", "7", "S1_.-", longest] {
-        assert_eq!(rt; name(&rt, text).as_bytes(), text.as_bytes(), "{text}");
-    }
-    let too_long = "a23456789012345678901234567890123";
-    for text in ["", "-a", ".a", "_a", "a b", "a,b", "ä", too_long] {
-        assert!(rt; Name::parse(text.as_bytes()).is_none(), "{text}");
-    }
-    assert!(rt; name(&rt, "A") < name(&rt, "A1") && name(&rt, "A1") < name(&rt, "B"));
+fn the_opening_book_has_the_euro_alone(rt: HostRuntime) -> Result<(), Fail> {
+    let book = Book::new(rt.alloc())?;
+    show_the_euro(&rt, &book);
+    shared::<Book>();
+    Ok(())
+}
+
+fn show_the_euro(rt: &impl Abort, book: &Book) {
+    assert_eq!(rt; (book.groups(), book.securities(), book.lines()), (0, 0, 0));
+    assert_eq!(rt; (book.banks(), book.reinsurers()), (0, 0));
+    assert_eq!(rt; book.curves(), 1);
+    assert_eq!(rt; book.curve(0).currency.as_bytes(), b"EUR".as_slice());
+    assert_eq!(rt; book.curve(0).rates.as_slice(), [0].as_slice());
+    assert_eq!(rt; book.numbers().asof.number, 10_957);
+    assert_eq!(rt; book.find(&name(rt, "EUR")), None);
 }
 
 #[test]
 fn a_replaced_security_keeps_its_place_and_its_hold(rt: HostRuntime) -> Result<(), Fail> {
-    let alloc = rt.alloc();
-    let mut book = Book::new(alloc)?;
-    let (a, b) = (name(&rt, "A"), name(&rt, "B"));
-    book.apply(alloc, &sec(a, Class::Type1Equity))?;
-    book.apply(alloc, &sec(b, Class::Type1Equity))?;
-    book.apply(alloc, &hold(a, 100_000))?;
-    book.apply(alloc, &sec(a, Class::Type2Equity))?;
+    let mut book = Book::new(rt.alloc())?;
+    replace_a_security(&rt, &mut book);
+    Ok(())
+}
+
+fn replace_a_security(rt: &(impl Abort + AllocGlobal), book: &mut Book) {
+    let (a, b) = (name(rt, "A"), name(rt, "B"));
+    put(rt, book, &sec(a, Class::Bond));
+    put(rt, book, &sec(b, Class::Bond));
+    put(rt, book, &hold(a, 100));
+    put(rt, book, &sec(a, Class::Other));
     assert_eq!(rt; book.securities(), 2);
+    assert_eq!(rt; book.security(0).name, a);
+    assert_eq!(rt; book.security(0).class, Class::Other);
+    assert_eq!(rt; (book.held(&a), book.held(&b)), (100, 0));
+    assert_eq!(rt; book.find(&b), Some((Table::Security, 1)));
+}
+
+#[test]
+fn rows_of_the_other_tables_are_read_back(rt: HostRuntime) -> Result<(), Fail> {
+    let mut book = Book::new(rt.alloc())?;
+    furnish(&rt, &mut book);
+    Ok(())
+}
+
+fn furnish(rt: &(impl Abort + AllocGlobal), book: &mut Book) {
+    let g = name(rt, "G");
+    put(rt, book, &group(g));
+    put(rt, book, &line(name(rt, "L")));
+    put(rt, book, &bank(name(rt, "B"), g));
+    put(rt, book, &rein(name(rt, "R"), g));
+    assert_eq!(rt; book.groups(), 1);
+    assert_eq!(rt; (book.group(0).name, book.group(0).step), (g, Some(2)));
+    assert_eq!(rt; book.lines(), 1);
+    assert_eq!(rt; book.line(0).kind, LineKind::Health);
+    assert_eq!(rt; book.banks(), 1);
+    assert_eq!(rt; (book.bank(0).group, book.bank(0).cents), (g, 5));
+    assert_eq!(rt; book.reinsurers(), 1);
     assert_eq!(rt;
-        *book.security(0),
-        Security {
-            name: a,
-            class: Class::Type2Equity
-        }
+        (book.reinsurer(0).mitigation, book.reinsurer(0).collateral),
+        (2, 3)
     );
-    assert_eq!(rt;
-        *book.security(1),
-        Security {
-            name: b,
-            class: Class::Type1Equity
-        }
-    );
-    assert_eq!(rt; book.held(&a), 100_000);
-    assert_eq!(rt; book.held(&b), 0);
-    assert_eq!(rt; book.held(&name(&rt, "C")), 0);
-    shared(&book);
-    shared(&sec(a, Class::Type1Equity));
+}
+
+#[test]
+fn a_refused_record_leaves_the_book_as_it_was(rt: HostRuntime) -> Result<(), Fail> {
+    let mut book = Book::new(rt.alloc())?;
+    furnish(&rt, &mut book);
+    let ended = refuse_records(&rt, &mut book);
+    assert!(rt; ended.is_ok(), "memory is ample");
+    Ok(())
+}
+
+fn refuse_records(rt: &(impl Abort + AllocGlobal), book: &mut Book) -> Result<(), NoMemory> {
+    let (s, x) = (name(rt, "S"), name(rt, "X"));
+    put(rt, book, &sec(s, Class::Bond));
+    put(rt, book, &hold(s, 100));
+    let before = shown(rt.alloc(), book)?;
+    let over = Fault::Range(Quantity::Held, 50_000_000_000_001, i128::from(MAX_HELD));
+    refuse(rt, book, &hold(s, 50_000_000_000_001), &over);
+    refuse(rt, book, &hold(x, 1), &Fault::UnknownName(x));
+    refuse(rt, book, &group(s), &Fault::WrongKind(s));
+    let used = Fault::InUse(s, User::Hold);
+    refuse(rt, book, &remove(Table::Security, s), &used);
+    assert_eq!(rt; shown(rt.alloc(), book)?.as_str(), before.as_str());
     Ok(())
 }
 
 #[test]
-fn what_is_held_has_a_limit(rt: HostRuntime) -> Result<(), Fail> {
-    let alloc = rt.alloc();
-    let mut book = Book::new(alloc)?;
-    let s = name(&rt, "S");
-    book.apply(alloc, &sec(s, Class::Type1Equity))?;
-    let above = hold(s, 50_000_000_000_001);
-    let refused = book.apply(alloc, &above);
-    assert_eq!(rt;
-        refused,
-        Err(Fault::Range(Quantity::Held, 50_000_000_000_001, 50_000_000_000_000))
-    );
-    assert_eq!(rt; check(alloc, &book, &above), refused);
-    assert_eq!(rt; book.held(&s), 0);
-    book.apply(alloc, &hold(s, 50_000_000_000_000))?;
-    assert_eq!(rt; book.held(&s), MAX_HELD);
-    book.apply(alloc, &hold(s, 49_999_999_999_999))?;
-    assert_eq!(rt; check(alloc, &book, &hold(s, 50_000_000_000_000)), Ok(()));
+fn a_dropped_row_is_gone(rt: HostRuntime) -> Result<(), Fail> {
+    let mut book = Book::new(rt.alloc())?;
+    drop_a_security(&rt, &mut book);
     Ok(())
 }
 
-#[test]
-fn the_first_fault_is_told(rt: HostRuntime) -> Result<(), Fail> {
-    let alloc = rt.alloc();
-    let mut book = Book::new(alloc)?;
-    let (s, x) = (name(&rt, "S"), name(&rt, "X"));
-    book.apply(alloc, &sec(s, Class::Type1Equity))?;
-    assert_eq!(rt; book.apply(alloc, &hold(x, -1)), Err(Fault::UnknownName(x)));
-    assert_eq!(rt;
-        book.apply(alloc, &hold(s, -1)),
-        Err(Fault::Range(Quantity::Hold, -1, 0))
-    );
-    Ok(())
-}
-
-#[test]
-fn securities_have_a_limit(rt: HostRuntime) -> Result<(), Fail> {
-    let alloc = rt.alloc();
-    let mut book = Book::new(alloc)?;
-    for k in 0..MAX_SECURITIES {
-        let text = format!(in alloc; "S{k}")?;
-        book.apply(alloc, &sec(name(&rt, text.as_str()), Class::Type2Equity))?;
-    }
-    let one_more = book.apply(alloc, &sec(name(&rt, "T"), Class::Type2Equity));
-    assert_eq!(rt;
-        one_more,
-        Err(Fault::Range(Quantity::Securities, 20_001, 20_000))
-    );
-    book.apply(alloc, &sec(name(&rt, "S19999"), Class::Type1Equity))?;
-    assert_eq!(rt; book.securities(), 20_000);
-    Ok(())
+fn drop_a_security(rt: &(impl Abort + AllocGlobal), book: &mut Book) {
+    let (a, b) = (name(rt, "A"), name(rt, "B"));
+    put(rt, book, &sec(a, Class::Bond));
+    put(rt, book, &sec(b, Class::Bond));
+    put(rt, book, &remove(Table::Security, a));
+    assert_eq!(rt; book.securities(), 1);
+    assert_eq!(rt; book.security(0).name, b);
+    assert_eq!(rt; book.find(&a), None);
 }

@@ -1,10 +1,7 @@
-pub mod Cuts
-pub mod TextLines
-pub mod Decimals
-pub mod EquityForm
 pub mod ClassTotals
 pub mod BlockText
 pub mod Bounds
+pub mod Printed
 pub mod Outcomes
 pub mod Pieces
 pub mod Pushes

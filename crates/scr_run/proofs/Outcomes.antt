@@ -1,26 +1,28 @@
 -- What a run owes, from what its calls answered.
-use Rattle.std.proofs.Common.{◌≡◌, ℕ, ◌≤◌, ◌||◌, Bool, true, false, cond, List, [], ◌∷◌, Option, Some, None, Result, Ok, Err, IsOk, length, refl, sym, subst, ap, inl, inr, ◌∙◌, arith}
+use Rattle.std.proofs.Common.{◌≡◌, ℕ, ◌≤◌, ◌<◌, ◌||◌, Bool, true, false, cond, List, [], ◌∷◌, Option, Some, None, Result, Ok, Err, IsOk, length, refl, sym, subst, ap, inl, inr, ◌∙◌, arith}
 use Rattle.std.specs.Prelude.{nat_le, is_none, unwrap_or}
 use Rattle.std.specs.Option.{option_or}
 use Rattle.std.specs.Io.KnownBytes.{Appends}
 use Rattle.std.proofs.lemmas.List.{append-nil}
 use Rattle.std.proofs.lemmas.Bool.{le-leb}
+use Rattle.std.proofs.lemmas.Bool.Decides.{nat_tests}
 use Rattle.std.specs.List.{AllByRecursion}
 use Rattle.scr_io.specs.Content.{Content, Untold, Absent, Holds, IsPresentAnd, RisesOnlyIfAbsent}
 use Rattle.scr_io.specs.Front.{AppendsFront}
 use Rattle.scr_io.specs.declared.reading.TheConstants.{MAX_BYTES}
-use Rattle.scr_book.specs.BalanceSheet.{BalanceSheet}
+use Rattle.scr_sheet.specs.BalanceSheet.{BalanceSheet}
 use Rattle.scr_factors.specs.Reading.{values_in}
 use Rattle.scr_factors.specs.Values.{FactorValues}
 use Rattle.scr_factors.specs.declared.fault.FactorFault.{FactorFault}
 use Rattle.scr_run.specs.BookFile.{sheet_of}
-use Rattle.scr_run.specs.Lines.{records}
-use Rattle.scr_run.specs.Outcome.{OfBytes, OfFile, OfFactors, OfBook, OfFiles, OfBookAndEdits, Replied, Answered, IsEnded, Reports, RisesOnlyIf, is_absent, factors_refusal, fault_status, book_refusal, refusal_of, ended_status, status_on, status_of_book, status_due, text_on, text_of_book, text_due}
+use Rattle.scr_csv.specs.Lines.{records}
+use Rattle.scr_run.specs.Outcome.{OfBytes, OfFile, OfFactors, OfBook, OfFiles, OfBookAndEdits, Replied, Answered, IsEnded, Reports, AnsweredAt, IsBeforeBook, IsQuiet, record_status, RisesOnlyIf, is_absent, factors_refusal, fault_status, book_refusal, refusal_of, ended_status, status_on, status_of_book, status_due, text_on, text_of_book, text_due}
 use Rattle.scr_run.specs.Report.{report_text, any_refused, printed, BoundsEnclose}
 use Rattle.scr_run.specs.Words.{Names}
 use Rattle.scr_run.specs.declared.status.Which.TheVariants as files
 use Rattle.scr_run.specs.declared.status.Status.{Status}
 use Rattle.scr_run.specs.declared.status.Status.TheVariants as statuses
+use Rattle.scr_sheet.specs.Validity.{Valid}
 use Rattle.scr_run.proofs.Bounds.{bounds_enclose}
 
 -- ---- nothing was written
@@ -77,6 +79,54 @@ module _ (book edits : List ℕ) (sheet : BalanceSheet) (book_short : length boo
       ∙ ap (text_on edits) is_sheet
       ∙ ap (λ b. cond b (report_text edits sheet) []) (fits edits edits_short)
 
+-- ---- a file that could not be read, and one that is too long
+
+-- where faults rose, nothing is said of the bytes
+pub unread_book : (content : Content) (Risen : Type 0) (P : List ℕ → Type 0) → Risen → OfBytes content (λ b. (Risen → ⊥) → P b)
+unread_book content Risen P risen = of_any content _ (λ b sound. absurd (sound risen))
+
+pub unread_both : (content : List ℕ → Content) (book edits : List ℕ) (Risen : Type 0) (P : List ℕ → List ℕ → Type 0) → Risen
+    → OfBookAndEdits content book edits (λ b e. (Risen → ⊥) → P b e)
+unread_both content book edits Risen P risen = of_any (content book) _ (λ b. of_any (content edits) _ (λ e sound. absurd (sound risen)))
+
+-- the bytes of a file that is there, and what is said of them
+of_such : (content : Content) (P Q : List ℕ → Type 0) → ((bytes : List ℕ) → P bytes → Q bytes) → IsPresentAnd content P → OfBytes content Q
+of_such Untold P Q f present = tt
+of_such Absent P Q f present = tt
+of_such (Holds bytes) P Q f present = f bytes present
+
+-- what is said of a file, on a shelf that tells the same
+pub said_before : (before later : List ℕ → Content) (name : List ℕ) (P : List ℕ → Type 0) → later ≡ before → IsPresentAnd (later name) P → OfBytes (before name) P
+said_before before later name P stays present = of_such (before name) P P (λ bytes p. p) (subst (λ told. IsPresentAnd (told name) P) stays present)
+
+too_long_is : (bytes : List ℕ) → MAX_BYTES < length bytes → nat_le (length bytes) MAX_BYTES ≡ false
+too_long_is bytes long = grind (arith, nat_tests)
+
+module _ (book : List ℕ) (sheet : BalanceSheet) (book_short : length book ≤ MAX_BYTES) (is_sheet : sheet_of book ≡ Ok sheet) where
+  no_book_refusal : book_refusal book ≡ None
+  no_book_refusal =
+      ap (λ b. cond b (record_status (sheet_of book)) (Some (statuses.TooLong files.Book))) (fits book book_short) ∙ ap record_status is_sheet
+
+  -- a book without a fault ends no run
+  pub passed_book : (content : Content) (Risen : Type 0) (result : Status) → IsPresentAnd content (λ bytes. book ≡ bytes) → OfBytes content (λ b. (Risen → ⊥) → AnsweredAt (book_refusal b) result)
+  passed_book content Risen result present =
+      of_read content (λ b. (Risen → ⊥) → AnsweredAt (book_refusal b) result) book present (λ sound. subst (λ due. AnsweredAt due result) (sym no_book_refusal) tt)
+
+  long_due : (edits : List ℕ) → MAX_BYTES < length edits → status_of_book book edits ≡ statuses.TooLong files.Edits
+  long_due edits long =
+      ap (λ b. cond b (status_on edits (sheet_of book)) (statuses.TooLong files.Book)) (fits book book_short)
+      ∙ ap (status_on edits) is_sheet
+      ∙ ap (λ b. cond b (ended_status (any_refused (records edits) sheet)) (statuses.TooLong files.Edits)) (too_long_is edits long)
+
+  -- edits that are too long are told where the book has no fault
+  pub long_edits : (content later : List ℕ → Content) (book_name edits_name : List ℕ) (Risen : Type 0) → later ≡ content → IsPresentAnd (content book_name) (λ bytes. book ≡ bytes)
+      → IsPresentAnd (later edits_name) (λ bytes. MAX_BYTES < length bytes)
+      → OfBookAndEdits content book_name edits_name (λ b e. (Risen → ⊥) → Answered (status_of_book b e) (statuses.TooLong files.Edits))
+  long_edits content later book_name edits_name Risen stays book_is long =
+      of_read (content book_name) (λ b. OfBytes (content edits_name) (λ e. (Risen → ⊥) → Answered (status_of_book b e) (statuses.TooLong files.Edits))) book book_is
+      (of_such (content edits_name) (λ e. MAX_BYTES < length e) (λ e. (Risen → ⊥) → Answered (status_of_book book e) (statuses.TooLong files.Edits)) (λ e too_long sound. inl (sym (long_due e too_long)))
+      (subst (λ told. IsPresentAnd (told edits_name) (λ bytes. MAX_BYTES < length bytes)) stays long))
+
 -- ---- the report was begun
 
 is_ended : (refused : Bool) → IsEnded (ended_status refused)
@@ -111,20 +161,45 @@ module _ (text : List ℕ) (refused : Bool) (old new : Option (List ℕ)) (befor
   front (statuses.TooLong which) r = absurd r
   front statuses.Read r = absurd r
 
+  pub begun : (result : Status) → Replied text refused old new before now result → IsBeforeBook result → ⊥
+  begun statuses.Done r b = b
+  begun statuses.Refused r b = b
+  begun statuses.Write r b = b
+  begun statuses.NoMemory r b = b
+  begun statuses.Usage r b = r
+  begun (statuses.Factors fault) r b = r
+  begun statuses.FactorsTooLong r b = r
+  begun (statuses.Book line fault) r b = b
+  begun (statuses.TooLong which) r b = b
+  begun statuses.Read r b = b
+
+  pub not_quiet : (result : Status) → Replied text refused old new before now result → IsQuiet result → ⊥
+  not_quiet statuses.Done r q = q
+  not_quiet statuses.Refused r q = q
+  not_quiet statuses.Write r q = q
+  not_quiet statuses.NoMemory r q = q
+  not_quiet statuses.Usage r q = r
+  not_quiet (statuses.Factors fault) r q = r
+  not_quiet statuses.FactorsTooLong r q = r
+  not_quiet (statuses.Book line fault) r q = r
+  not_quiet (statuses.TooLong which) r q = r
+  not_quiet statuses.Read r q = r
+
   whole : (result : Status) → Replied text refused old new before now result → IsEnded result → Appends old new text × (result ≡ ended_status refused)
   whole result r (inl e) = let d = subst (Replied text refused old new before now) e r in (d.0, e ∙ sym (ap ended_status d.1))
   whole result r (inr e) = let d = subst (Replied text refused old new before now) e r in (d.0, e ∙ sym (ap ended_status d.1))
 
-all_enclose : (sheets : List BalanceSheet) → AllByRecursion BoundsEnclose sheets
-all_enclose [] = tt
-all_enclose (sheet ∷ sheets) = (bounds_enclose sheet, all_enclose sheets)
+all_enclose : (sheets : List BalanceSheet) → AllByRecursion Valid sheets → AllByRecursion BoundsEnclose sheets
+all_enclose [] valid = tt
+all_enclose (sheet ∷ sheets) valid = (bounds_enclose sheet valid.0, all_enclose sheets valid.1)
 
 -- the run came to the report
 module _ (content : List ℕ → Content) (book_name edits_name book edits : List ℕ) (sheet : BalanceSheet)
     (book_is : IsPresentAnd (content book_name) (λ bytes. book ≡ bytes)) (edits_are : IsPresentAnd (content edits_name) (λ bytes. edits ≡ bytes))
     (book_short : length book ≤ MAX_BYTES) (edits_short : length edits ≤ MAX_BYTES) (is_sheet : sheet_of book ≡ Ok sheet)
     (old new : Option (List ℕ)) (before now : ℕ) (result : Status)
-    (replied : Replied (report_text edits sheet) (any_refused (records edits) sheet) old new before now result) where
+    (replied : Replied (report_text edits sheet) (any_refused (records edits) sheet) old new before now result)
+    (valid : IsEnded result → AllByRecursion Valid (printed edits sheet)) where
   is_due : ended_status (any_refused (records edits) sheet) ≡ status_of_book book edits
   is_due = sym (due_is book edits sheet book_short edits_short is_sheet)
 
@@ -142,7 +217,7 @@ module _ (content : List ℕ → Content) (book_name edits_name book edits : Lis
       let w = whole _ _ old new before now result replied ended in
       of_both content book_name edits_name book edits (λ b e. (result ≡ status_of_book b e) × Reports e (sheet_of b) old new) book_is edits_are (
         w.1 ∙ is_due,
-        subst (λ s. Reports edits s old new) (sym is_sheet) (w.0, all_enclose (printed edits sheet)),
+        subst (λ s. Reports edits s old new) (sym is_sheet) (w.0, all_enclose (printed edits sheet) (valid ended)),
       )
 
 -- what a shelf tells stays while another file is read, and a slice has the bytes of its vector

@@ -2,11 +2,11 @@
 use Rattle.std.proofs.Common.{◌≡◌, ℕ, List, ◌∷◌, ◌++◌, ◌||◌, Bool, true, false, Option, is_err, refl, ap, sym, subst, ◌∙◌}
 use Rattle.std.specs.Io.KnownBytes.{Appends}
 use Rattle.scr_io.specs.Front.{AppendsFront}
-use Rattle.scr_book.specs.BalanceSheet.{BalanceSheet}
+use Rattle.scr_sheet.specs.BalanceSheet.{BalanceSheet}
 use Rattle.scr_run.specs.BookFile.{recorded}
 use Rattle.scr_run.specs.Outcome.{Leaves}
 use Rattle.scr_run.specs.Report.{reply_text, replies, after, any_refused, opening_text, report_text}
-use Rattle.scr_run.specs.Lines.{records}
+use Rattle.scr_csv.specs.Lines.{records}
 use Rattle.scr_run.proofs.Pieces.{leaves_all, leaves_next, front_next}
 
 pub or_assoc : (a b c : Bool) → ((a || b) || c) ≡ (a || (b || c))
@@ -44,3 +44,11 @@ pub opening_begun : (edits : List ℕ) (book : BalanceSheet) (old new : Option (
 opening_begun edits book old new piece is_opening f =
     front_next old old new (report_text edits book) piece (replies (records edits) book)
     (subst (λ p. Leaves old old (report_text edits book) (p ++ replies (records edits) book)) (sym is_opening) (leaves_all old (report_text edits book))) f
+
+-- the first lines were written, and the replies to all records are due
+pub replies_due : (edits : List ℕ) (left : List (ℕ × List ℕ)) (book : BalanceSheet) (old new : Option (List ℕ)) (piece : List ℕ) → left ≡ records edits → piece ≡ opening_text book
+    → Appends old new piece → Leaves old new (report_text edits book) (replies left book)
+replies_due edits left book old new piece same is_opening appended =
+    subst (λ ls. Leaves old new (report_text edits book) (replies ls book)) (sym same)
+    (leaves_next old old new (report_text edits book) piece (replies (records edits) book)
+    (subst (λ p. Leaves old old (report_text edits book) (p ++ replies (records edits) book)) (sym is_opening) (leaves_all old (report_text edits book))) appended)

@@ -1,8 +1,8 @@
 -- What the code answers where a balance sheet or a fault is due. Want of memory may come in place of either.
 use Rattle.std.specs.Prelude.{◌≡◌, ℕ, Result, Ok, Err}
-use Rattle.scr_book.specs.BalanceSheet.{BalanceSheet}
-use Rattle.scr_book.specs.declared.fault.Fault.{Fault}
-use Rattle.scr_book.specs.declared.fault.Fault.TheVariants as faults
+use Rattle.scr_sheet.specs.BalanceSheet.{BalanceSheet}
+use Rattle.scr_sheet.specs.declared.fault.Fault.{Fault}
+use Rattle.scr_sheet.specs.declared.fault.Fault.TheVariants as faults
 use Rattle.scr_run.specs.declared.file.BookFault.{BookFault}
 use Rattle.scr_run.specs.declared.file.BookFault.TheVariants as book_faults
 
@@ -11,6 +11,8 @@ abbrev pub Recorded : {A : Type 0} → Result BalanceSheet Fault → BalanceShee
 Recorded due old (Ok a) new = due ≡ Ok new
 Recorded due old (Err (faults.Syntax k)) new = (due ≡ Err (faults.Syntax k)) × (new ≡ old)
 Recorded due old (Err (faults.UnknownName name)) new = (due ≡ Err (faults.UnknownName name)) × (new ≡ old)
+Recorded due old (Err (faults.WrongKind name)) new = (due ≡ Err (faults.WrongKind name)) × (new ≡ old)
+Recorded due old (Err (faults.InUse name user)) new = (due ≡ Err (faults.InUse name user)) × (new ≡ old)
 Recorded due old (Err (faults.Range quantity value limit)) new = (due ≡ Err (faults.Range quantity value limit)) × (new ≡ old)
 Recorded due old (Err faults.NoMemory) new = new ≡ old
 

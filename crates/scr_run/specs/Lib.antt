@@ -1,13 +1,7 @@
-pub mod Lines
-pub mod LineOrder
-pub mod Numbers
-pub mod Records
-pub mod FieldOrder
 pub mod BookFile
 pub mod Amounts
 pub mod Words
 pub mod Equity
-pub mod Worked
 pub mod Report
 pub mod BookAnswers
 pub mod Codes

@@ -7,13 +7,13 @@ use Rattle.scr_io.specs.Cause.{Rose}
 use Rattle.scr_io.specs.Content.{Content, Untold, Absent, Holds}
 use Rattle.scr_io.specs.Front.{AppendsFront}
 use Rattle.scr_io.specs.declared.reading.TheConstants.{MAX_BYTES}
-use Rattle.scr_book.specs.BalanceSheet.{BalanceSheet}
-use Rattle.scr_book.specs.declared.fault.Fault.{Fault}
+use Rattle.scr_sheet.specs.BalanceSheet.{BalanceSheet}
+use Rattle.scr_sheet.specs.declared.fault.Fault.{Fault}
 use Rattle.scr_factors.specs.Reading.{values_in}
 use Rattle.scr_factors.specs.Values.{FactorValues}
 use Rattle.scr_factors.specs.declared.fault.FactorFault.{FactorFault}
 use Rattle.scr_run.specs.BookFile.{sheet_of}
-use Rattle.scr_run.specs.Lines.{records}
+use Rattle.scr_csv.specs.Lines.{records}
 use Rattle.scr_run.specs.Report.{report_text, any_refused, printed, BoundsEnclose}
 use Rattle.scr_run.specs.Words.{Names}
 use Rattle.scr_run.specs.declared.status.Which.TheVariants as files

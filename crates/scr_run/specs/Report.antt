@@ -6,14 +6,17 @@ use Rattle.std.specs.List.{AllByRecursion}
 use Rattle.scr_num.specs.Rounding.{Ends, floor_div, ceil_div}
 use Rattle.scr_num.specs.Figure.{Figure}
 use Rattle.scr_num.specs.Enclosure.{Encloses}
-use Rattle.scr_book.specs.BalanceSheet.{BalanceSheet}
-use Rattle.scr_book.specs.declared.rows.Class.TheVariants.{Type1Equity, Type2Equity}
-use Rattle.scr_book.specs.declared.fault.Fault.{Fault}
+use Rattle.scr_sheet.specs.BalanceSheet.{BalanceSheet}
+use Rattle.scr_sheet.specs.Absorptions.{absorbed}
+use Rattle.scr_sheet.specs.declared.keys.AbsorbKey.TheVariants as absorb
+use Rattle.scr_sheet.specs.declared.fault.Fault.{Fault}
 use Rattle.scr_run.specs.BookFile.{recorded}
 use Rattle.scr_run.specs.FaultTexts.{fault_number, fault_text}
-use Rattle.scr_run.specs.Lines.{records}
-use Rattle.scr_run.specs.Equity.{class_total, type1_figure, type2_figure, equity_figure}
-use Rattle.scr_run.specs.Worked.{type1_ends, type2_ends, equity_ends}
+use Rattle.scr_csv.specs.Lines.{records}
+use Rattle.scr_run.specs.Equity.{equity_sums}
+use Rattle.scr_agg.specs.Absorbed.{net_ends, net_figure}
+use Rattle.scr_market.specs.Equity.{type1_figure, type2_figure, infra_figure, infracorp_figure, equity_figure}
+use Rattle.scr_market.specs.EquityEnds.{type1_ends, type2_ends, infra_ends, infracorp_ends, equity_ends}
 use Rattle.scr_run.specs.Amounts.{amount}
 
 -- a cell of the report: its name, its figure as worked out, in grains, and the exact figure, in cents
@@ -29,18 +32,36 @@ lower_bound worked = floor_div worked.low 1000
 abbrev pub upper_bound : Ends → ℤ
 upper_bound worked = ceil_div worked.high 1000
 
-abbrev pub worked_type1 : BalanceSheet → Ends
-worked_type1 sheet = type1_ends (class_total Type1Equity sheet)
+-- the symmetric adjustment, in millionths
+abbrev pub adjustment : BalanceSheet → ℤ
+adjustment sheet = sheet.numbers.sym
 
-abbrev pub worked_type2 : BalanceSheet → Ends
-worked_type2 sheet = type2_ends (class_total Type2Equity sheet)
+-- what technical provisions and deferred taxes absorb of the equity scenario, in cents
+abbrev pub equity_absorption : BalanceSheet → ℕ
+equity_absorption sheet = absorbed absorb.Equity sheet.numbers
+
+-- the equity risk, gross and net
+abbrev pub worked_equity : BalanceSheet → Ends
+worked_equity sheet = equity_ends (equity_sums sheet) (adjustment sheet)
+
+abbrev pub exact_equity : BalanceSheet → Figure
+exact_equity sheet = equity_figure (equity_sums sheet) (adjustment sheet)
 
 -- the cells in the order of their lines
-abbrev pub cells : BalanceSheet → List Cell
+unfoldable pub cells : BalanceSheet → List Cell
 cells sheet =
-    record { name = codes "S2601.equity.type1"; worked = worked_type1 sheet; exact = type1_figure sheet }
-    ∷ record { name = codes "S2601.equity.type2"; worked = worked_type2 sheet; exact = type2_figure sheet }
-    ∷ record { name = codes "S2601.equity.gross"; worked = equity_ends (worked_type1 sheet) (worked_type2 sheet); exact = equity_figure sheet }
+    let sums = equity_sums sheet in
+    let sym = adjustment sheet in
+    record { name = codes "S2601.equity.type1"; worked = type1_ends sums sym; exact = type1_figure sums sym }
+    ∷ record { name = codes "S2601.equity.type2"; worked = type2_ends sums sym; exact = type2_figure sums sym }
+    ∷ record { name = codes "S2601.equity.infra"; worked = infra_ends sums sym; exact = infra_figure sums sym }
+    ∷ record { name = codes "S2601.equity.infracorp"; worked = infracorp_ends sums sym; exact = infracorp_figure sums sym }
+    ∷ record { name = codes "S2601.equity.gross"; worked = worked_equity sheet; exact = exact_equity sheet }
+    ∷ record {
+      name = codes "S2601.equity.net";
+      worked = net_ends (worked_equity sheet) (equity_absorption sheet);
+      exact = net_figure (exact_equity sheet) (equity_absorption sheet);
+    }
     ∷ []
 
 -- a bound, behind a blank

@@ -1,6 +1,6 @@
 -- How a status is told on standard error (this project's own).
 use Rattle.std.specs.Prelude.{ℕ, ◌++◌, List, [], Option, Some, None, codes, decimal}
-use Rattle.scr_book.specs.declared.fault.Fault.{Fault}
+use Rattle.scr_sheet.specs.declared.fault.Fault.{Fault}
 use Rattle.scr_factors.specs.Keys.{key_name, key_table}
 use Rattle.scr_factors.specs.declared.key.Key.{Key}
 use Rattle.scr_factors.specs.declared.fault.FactorFault.{FactorFault}

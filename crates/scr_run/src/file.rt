@@ -1,14 +1,13 @@
 //! The book that a file spells.
 ghost use Rattle.std.specs.Prelude.{◌≡◌, ℕ, ◌≤◌, Ok, Err, IsErrOf, length};
-ghost use Rattle.scr_book.specs.declared.fault.Fault.TheVariants as faults;
+ghost use Rattle.scr_sheet.specs.declared.fault.Fault.TheVariants as faults;
 ghost use Rattle.scr_run.specs.BookFile.{recorded, sheet_of};
 ghost use Rattle.scr_run.specs.BookAnswers.{Recorded, Read};
-ghost use Rattle.scr_run.specs.Lines.{records};
-ghost use Rattle.scr_run.specs.LineOrder.{lines_left};
+ghost use Rattle.scr_csv.specs.Lines.{records};
+ghost use Rattle.scr_csv.specs.LineOrder.{lines_left};
 
-use crate::lines::Lines;
-use crate::records::read_record;
 use scr_book::{Book, Fault};
+use scr_csv::{LineFault, lines, read_line};
 use std::alloc::Global;
 
 /// Why a file is no book.
@@ -20,16 +19,8 @@ pub enum BookFault {
     NoMemory,
 }
 
-/// The records of a file of at most 64 MiB. An empty line and one that begins with `#` are passed over.
-pub fn lines(bytes: &[u8]) -> Lines<'_>
-    requires { length bytes.now ≤ 67108864 }
-    ensures { lines_left result ≡ records bytes.now }
-{
-    let rest = bytes.strip_prefix(b"\xEF\xBB\xBF").unwrap_or(bytes);
-    Lines { rest, passed: 0 }
-}
-
 /// The book that the records of the file give, one after another.
+#[tactic(auto, unfolding(crate::specs::BookFile::sheet_of))]
 pub fn read_book(alloc: Global, bytes: &[u8]) -> Result<Book, BookFault>
     requires { length bytes.now ≤ 67108864 }
     ensures answer { Read (sheet_of bytes.now) result }
@@ -47,11 +38,14 @@ pub fn read_book(alloc: Global, bytes: &[u8]) -> Result<Book, BookFault>
 }
 
 /// Applies the record of a line to the book, which is as before where the record is refused.
+#[tactic(auto, unfolding(crate::specs::BookFile::recorded))]
 pub fn record(alloc: Global, book: &mut Book, text: &[u8]) -> Result<(), Fault>
+    requires { length text.now ≤ 67108864 }
     ensures { Recorded (recorded text.now book.old) book.old result book.new }
 {
-    match read_record(text) {
-        Some(edit) => book.apply(alloc, &edit),
-        None => Err(Fault::Syntax(0)),
+    match read_line(alloc, text) {
+        Ok(edit) => book.apply(alloc, &edit),
+        Err(LineFault::Syntax(field)) => Err(Fault::Syntax(field)),
+        Err(LineFault::NoMemory) => Err(Fault::NoMemory),
     }
 }

@@ -4,8 +4,8 @@ ghost use Rattle.std.specs.Io.KnownBytes.{IsAtEnd};
 ghost use Rattle.scr_io.specs.Cause.{Rose};
 ghost use Rattle.scr_io.specs.Front.{AppendsFront};
 ghost use Rattle.scr_io.specs.declared.reading.TheConstants.{MAX_BYTES};
-ghost use Rattle.scr_book.specs.declared.fault.Fault.{Fault};
-ghost use Rattle.scr_book.specs.declared.fault.Fault.TheVariants as faults;
+ghost use Rattle.scr_sheet.specs.declared.fault.Fault.{Fault};
+ghost use Rattle.scr_sheet.specs.declared.fault.Fault.TheVariants as faults;
 ghost use Rattle.scr_run.specs.BookFile.{sheet_of};
 ghost use Rattle.scr_run.specs.Outcome.{OfBytes, OfBookAndEdits, RisesOnlyIf, is_absent, IsBeforeBook, IsBeforeEdits, IsEnded, IsQuiet, Answered, AnsweredAt, Reports, book_refusal, status_of_book, text_of_book};
 
@@ -54,7 +54,7 @@ pub fn report_on<F: Shelf, K: Sink>(
         Err(ReadFault::TooLong) => return Status::TooLong(Which::Book),
         Err(ReadFault::NoMemory) => return Status::NoMemory,
     };
-    let book = match read_book(alloc, bytes.as_slice()) {
+    let mut book = match read_book(alloc, bytes.as_slice()) {
         Ok(book) => book,
         Err(BookFault::Record(line, fault)) => return Status::Book(line, fault),
         Err(BookFault::NoMemory) => return Status::NoMemory,
@@ -65,5 +65,5 @@ pub fn report_on<F: Shelf, K: Sink>(
         Err(ReadFault::TooLong) => return Status::TooLong(Which::Edits),
         Err(ReadFault::NoMemory) => return Status::NoMemory,
     };
-    write_report(alloc, book, edits.as_slice(), sink)
+    write_report(alloc, &mut book, edits.as_slice(), sink)
 }

@@ -1,16 +1,12 @@
 //! The top call: from the words and files to the report.
 #![tactic(auto)]
 
-mod equity;
 mod factor_file;
-mod fields;
 mod file;
 mod files;
+mod holdings;
 pub mod laws;
-mod lines;
-mod numbers;
 mod printing;
-mod records;
 mod replies;
 mod report;
 mod running;

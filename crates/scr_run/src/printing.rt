@@ -3,10 +3,12 @@ ghost use Rattle.std.specs.Prelude.{◌≡◌, ℕ, ◌++◌, ◌<◌, ◌^◌, 
 ghost use Rattle.std.specs.Fmt.{signed_decimal};
 ghost use Rattle.scr_num.specs.Rounding.{ends};
 ghost use Rattle.scr_run.specs.Amounts.{amount, euros};
-ghost use Rattle.scr_run.specs.FaultTexts.{fault_number, fault_text, syntax_text, unknown_text, range_text, quantity_name};
+ghost use Rattle.scr_run.specs.FaultTexts.{fault_number, fault_text, syntax_text, labelled_name, in_use_text, absorb_user, user_text, range_text, quantity_name};
+ghost use Rattle.scr_csv.specs.KeyWords.{absorb_text};
 ghost use Rattle.scr_run.specs.Report.{ends_line, bounds_line, bound};
 
-use scr_book::{Fault, Name, Quantity};
+use scr_book::{AbsorbKey, Fault, Name, Quantity, User};
+use scr_csv::push_absorb_key;
 use scr_num::{Span, scale};
 use std::alloc::{AllocError as NoMemory, Global};
 
@@ -84,6 +86,8 @@ pub fn number_of(fault: &Fault) -> u32
     match fault {
         Fault::Syntax(_) => 1,
         Fault::UnknownName(_) => 2,
+        Fault::WrongKind(_) => 3,
+        Fault::InUse(..) => 4,
         Fault::Range(..) => 6,
         Fault::NoMemory => 7,
     }
@@ -95,7 +99,9 @@ pub fn push_fault(alloc: Global, out: &mut Vec<u8>, fault: &Fault) -> Result<(),
 {
     match fault {
         Fault::Syntax(field) => push_syntax(alloc, out, *field),
-        Fault::UnknownName(name) => push_unknown(out, name),
+        Fault::UnknownName(name) => push_named(out, "unknown name ", name),
+        Fault::WrongKind(name) => push_named(out, "wrong kind ", name),
+        Fault::InUse(name, user) => push_in_use(out, name, user),
         Fault::Range(quantity, value, limit) => {
             push_range(alloc, out, *quantity, *value, *limit)
         }
@@ -111,12 +117,47 @@ fn push_syntax(alloc: Global, out: &mut Vec<u8>, field: u32) -> Result<(), NoMem
     Ok(())
 }
 
-fn push_unknown(out: &mut Vec<u8>, name: &Name) -> Result<(), NoMemory>
-    ensures { OnOk result (out.new.items ≡ out.old.items ++ unknown_text name.now) }
+#[tactic(auto, unfolding(crate::specs::FaultTexts::labelled_name))]
+fn push_named(out: &mut Vec<u8>, label: &str, name: &Name) -> Result<(), NoMemory>
+    ensures { OnOk result (out.new.items ≡ out.old.items ++ labelled_name label.now name.now) }
 {
-    push(out, "unknown name ")?;
-    out.extend_from_slice(name.as_bytes())?;
-    Ok(())
+    push(out, label)?;
+    push_name(out, name)
+}
+
+fn push_name(out: &mut Vec<u8>, name: &Name) -> Result<(), NoMemory>
+    ensures { OnOk result (out.new.items ≡ out.old.items ++ name.now) }
+{
+    out.extend_from_slice(name.as_bytes())
+}
+
+#[tactic(auto, unfolding(crate::specs::FaultTexts::in_use_text))]
+fn push_in_use(out: &mut Vec<u8>, name: &Name, user: &User) -> Result<(), NoMemory>
+    ensures { OnOk result (out.new.items ≡ out.old.items ++ in_use_text name.now user.now) }
+{
+    push_name(out, name)?;
+    push(out, " in use by ")?;
+    push_user(out, user)
+}
+
+fn push_user(out: &mut Vec<u8>, user: &User) -> Result<(), NoMemory>
+    ensures { OnOk result (out.new.items ≡ out.old.items ++ user_text user.now) }
+{
+    match user {
+        User::Asof => push(out, "asof"),
+        User::Hold => push(out, "hold"),
+        User::Lflow => push(out, "lflow"),
+        User::Absorb(key) => push_absorb_user(out, *key),
+        User::Row(name) => push_name(out, name),
+    }
+}
+
+#[tactic(auto, unfolding(crate::specs::FaultTexts::absorb_user))]
+fn push_absorb_user(out: &mut Vec<u8>, key: AbsorbKey) -> Result<(), NoMemory>
+    ensures { OnOk result (out.new.items ≡ out.old.items ++ absorb_user (absorb_text key)) }
+{
+    push(out, "absorb.")?;
+    push_absorb_key(out, key)
 }
 
 /// Appends a quantity, its value and its limit.
@@ -139,8 +180,24 @@ fn name_of(quantity: Quantity) -> &'static str
     ensures { result.now ≡ quantity_name quantity }
 {
     match quantity {
+        Quantity::Rate => "rate",
+        Quantity::Duration => "duration",
+        Quantity::Flow => "flow",
         Quantity::Hold => "hold",
+        Quantity::Amount => "amount",
+        Quantity::Provision => "provision",
+        Quantity::Sym => "sym",
+        Quantity::TaxRate => "taxrate",
+        Quantity::SecFlows => "secflows",
         Quantity::Held => "held",
+        Quantity::LineFlows => "lineflows",
+        Quantity::Volumes => "volumes",
+        Quantity::Defaults => "defaults",
+        Quantity::Years => "years",
+        Quantity::Currencies => "currencies",
         Quantity::Securities => "securities",
+        Quantity::Lines => "lines",
+        Quantity::Groups => "groups",
+        Quantity::Exposures => "exposures",
     }
 }

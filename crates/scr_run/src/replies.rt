@@ -1,25 +1,27 @@
 //! The report, written block by block.
 ghost use Rattle.std.specs.Prelude.{◌≡◌, ℕ, ◌≤◌, length};
-ghost use Rattle.scr_run.specs.Lines.{records};
-ghost use Rattle.scr_run.specs.Outcome.{Replied};
-ghost use Rattle.scr_run.specs.Report.{report_text, any_refused};
+ghost use Rattle.scr_csv.specs.Lines.{records};
+ghost use Rattle.std.specs.List.{AllByRecursion};
+ghost use Rattle.scr_sheet.specs.Validity.{Valid};
+ghost use Rattle.scr_run.specs.Outcome.{Replied, IsEnded};
+ghost use Rattle.scr_run.specs.Report.{report_text, any_refused, printed};
 
-use crate::file::lines;
 use crate::report::{opening, reply_to};
 use crate::status::Status;
 use scr_book::Book;
+use scr_csv::lines;
 use scr_io::{Sink, write_all};
 use std::alloc::Global;
 
 /// Writes the report on the book and the edits of a file, one piece for the book and one for each edit, and says how
 /// that ended: with Done, Refused, Write or NoMemory.
-pub fn write_report<K: Sink>(alloc: Global, book: Book, edits: &[u8], sink: &mut K) -> Status
+pub fn write_report<K: Sink>(alloc: Global, book: &mut Book, edits: &[u8], sink: &mut K) -> Status
     requires { length edits.now ≤ 67108864 }
-    ensures outcome { Replied (report_text edits.now book) (any_refused (records edits.now) book)
+    ensures outcome { Replied (report_text edits.now book.old) (any_refused (records edits.now) book.old)
         (K.written sink.old) (K.written sink.new) (K.faults sink.old) (K.faults sink.new) result }
+    ensures valid { IsEnded result → AllByRecursion Valid (printed edits.now book.old) }
 {
-    let mut book = book;
-    let Ok(text) = opening(alloc, &book) else {
+    let Ok(text) = opening(alloc, book) else {
         return Status::NoMemory;
     };
     match write_all(sink, text.as_slice()) {
@@ -28,7 +30,7 @@ pub fn write_report<K: Sink>(alloc: Global, book: Book, edits: &[u8], sink: &mut
     }
     let mut refused = false;
     for line in lines(edits) {
-        let Ok(reply) = reply_to(alloc, &mut book, line.number, line.text) else {
+        let Ok(reply) = reply_to(alloc, book, line.number, line.text) else {
             return Status::NoMemory;
         };
         refused |= reply.refused;

@@ -1,15 +1,15 @@
 //! The blocks of the report.
 ghost use Rattle.std.specs.Prelude.{◌≡◌, ℕ, ◌≤◌, ◌<◌, ◌++◌, length, slice_index_or, is_err, OnOk, IfOk};
-ghost use Rattle.scr_book.specs.declared.rows.Position.{Position};
-ghost use Rattle.scr_book.specs.declared.limits.TheConstants.{MAX_HELD};
+ghost use Rattle.scr_sheet.specs.Validity.{Valid};
 ghost use Rattle.scr_run.specs.BookFile.{recorded};
-ghost use Rattle.scr_run.specs.Equity.{class_total as total_of_class, class_part, is_of_class as tells_class};
 ghost use Rattle.scr_run.specs.Report.{block_text, opening_text, reply_start, accepted_text, refused_text, reply_text, after};
 
-use crate::equity::equity_of;
 use crate::file::record;
+use crate::holdings::equity_sums;
 use crate::printing::{number_of, push, push_cell, push_fault, push_number};
-use scr_book::{Book, Class, Fault, laws};
+use scr_agg::net;
+use scr_book::{AbsorbKey, Book, Fault};
+use scr_market::equity;
 use std::alloc::{AllocError as NoMemory, Global};
 
 /// The reply to a record of the edits.
@@ -22,7 +22,8 @@ pub struct Reply {
 /// The first lines of the report, for the book as its file gives it.
 #[tactic(auto, unfolding(crate::specs::Report::opening_text))]
 pub fn opening(alloc: Global, book: &Book) -> Result<Vec<u8>, NoMemory>
-    ensures { IfOk result (λ text. text.items ≡ opening_text book.now) }
+    ensures text { IfOk result (λ text. text.items ≡ opening_text book.now) }
+    ensures valid { OnOk result (Valid book.now) }
 {
     let mut out = Vec::new(alloc);
     push(&mut out, "# 0 book\n")?;
@@ -33,9 +34,11 @@ pub fn opening(alloc: Global, book: &Book) -> Result<Vec<u8>, NoMemory>
 /// Applies the record of a line to the book, and replies: with the block of the book that it leaves, or with the fault
 /// for which it is refused. The book is as before where the record is refused.
 pub fn reply_to(alloc: Global, book: &mut Book, number: u32, text: &[u8]) -> Result<Reply, NoMemory>
+    requires { length text.now ≤ 67108864 }
     ensures text { IfOk result (λ reply. reply.text.items ≡ reply_text number (recorded text.now book.old)) }
     ensures refused { IfOk result (λ reply. reply.refused ≡ is_err (recorded text.now book.old)) }
     ensures book { OnOk result (book.new ≡ after (recorded text.now book.old) book.old) }
+    ensures valid { OnOk result (IfOk (recorded text.now book.old) Valid) }
 {
     match record(alloc, book, text) {
         Ok(()) => Ok(Reply {
@@ -52,7 +55,8 @@ pub fn reply_to(alloc: Global, book: &mut Book, number: u32, text: &[u8]) -> Res
 
 #[tactic(auto, unfolding(crate::specs::Report::accepted_text))]
 fn accepted(alloc: Global, number: u32, book: &Book) -> Result<Vec<u8>, NoMemory>
-    ensures { IfOk result (λ text. text.items ≡ accepted_text number book.now) }
+    ensures text { IfOk result (λ text. text.items ≡ accepted_text number book.now) }
+    ensures valid { OnOk result (Valid book.now) }
 {
     let mut out = start(alloc, number)?;
     push(&mut out, "ok\n")?;
@@ -86,46 +90,17 @@ fn start(alloc: Global, number: u32) -> Result<Vec<u8>, NoMemory>
 
 /// Appends the lines of all cells of the book.
 fn push_block(alloc: Global, out: &mut Vec<u8>, book: &Book) -> Result<(), NoMemory>
-    ensures { OnOk result (out.new.items ≡ out.old.items ++ block_text book.now) }
+    ensures text { OnOk result (out.new.items ≡ out.old.items ++ block_text book.now) }
+    ensures valid { Valid book.now }
 {
-    let equity = equity_of(
-        class_total(book, Class::Type1Equity),
-        class_total(book, Class::Type2Equity),
-    );
+    let numbers = book.numbers();
+    let equity = equity(&equity_sums(book), numbers.sym);
+    let net = net(equity.all, numbers.absorbed(AbsorbKey::Equity));
     push_cell(alloc, out, "S2601.equity.type1", equity.type1)?;
     push_cell(alloc, out, "S2601.equity.type2", equity.type2)?;
+    push_cell(alloc, out, "S2601.equity.infra", equity.infra)?;
+    push_cell(alloc, out, "S2601.equity.infracorp", equity.infracorp)?;
     push_cell(alloc, out, "S2601.equity.gross", equity.all)?;
+    push_cell(alloc, out, "S2601.equity.net", net)?;
     Ok(())
-}
-
-/// The cents held of all securities of a class.
-fn class_total(book: &Book, class: Class) -> u64
-    ensures value { result ≡ total_of_class class book.now }
-    ensures small { result ≤ MAX_HELD }
-{
-    laws::holds();
-    let mut total = 0;
-    for k in 0..book.securities() {
-        total += held_of_class(book, class, k);
-    }
-    total
-}
-
-/// The cents held of the security at place `k`, or 0 where it is of another class.
-fn held_of_class(book: &Book, class: Class, k: u32) -> u64
-    requires { k < length book.now.securities }
-    ensures { (other : Position) → result ≡ class_part class book.now (slice_index_or book.now.securities k other) }
-{
-    let security = book.security(k);
-    if is_of_class(security.class, class) {
-        book.held(&security.name)
-    } else {
-        0
-    }
-}
-
-fn is_of_class(of: Class, class: Class) -> bool
-    ensures { result ≡ tells_class class of }
-{
-    of == class
 }

@@ -13,8 +13,81 @@ use std::thread::Threads;
 const BOOK: &str =
     "sec,ALPHA,eq1,-,EUR,0\nhold,ALPHA,100000\nsec,BETA,eq2,-,EUR,0\nhold,BETA,50000\n";
 
-const OPENING: &str =
-    "# 0 book\nS2601.equity.type1 390.00 390.00\nS2601.equity.type2 245.00 245.00\nS2601.equity.gross 596.19 596.20\n";
+const OPENING: &str = "# 0 book
+S2601.equity.type1 390.00 390.00
+S2601.equity.type2 245.00 245.00
+S2601.equity.infra 0.00 0.00
+S2601.equity.infracorp 0.00 0.00
+S2601.equity.gross 596.19 596.20
+S2601.equity.net 596.19 596.20
+";
+
+/// The block of a book in which nothing is held.
+const NOTHING: &str = "S2601.equity.type1 0.00 0.00
+S2601.equity.type2 0.00 0.00
+S2601.equity.infra 0.00 0.00
+S2601.equity.infracorp 0.00 0.00
+S2601.equity.gross 0.00 0.00
+S2601.equity.net 0.00 0.00
+";
+
+/// The block of a book in which 1,000 euros of listed shares are held.
+const SHARES: &str = "S2601.equity.type1 390.00 390.00
+S2601.equity.type2 0.00 0.00
+S2601.equity.infra 0.00 0.00
+S2601.equity.infracorp 0.00 0.00
+S2601.equity.gross 390.00 390.00
+S2601.equity.net 390.00 390.00
+";
+
+/// The block of a book in which as much is held of listed shares as may be.
+const MOST: &str = "S2601.equity.type1 195000000000.00 195000000000.00
+S2601.equity.type2 0.00 0.00
+S2601.equity.infra 0.00 0.00
+S2601.equity.infracorp 0.00 0.00
+S2601.equity.gross 195000000000.00 195000000000.00
+S2601.equity.net 195000000000.00 195000000000.00
+";
+
+/// A book with a row in some tables, edits that are all refused, and how each is told.
+const FURNISHED: &str = "curve,USD,30000
+absorb,currency.USD.up,5
+group,G,name,1
+sec,S,other,G,EUR,0
+hold,S,100
+line,L,life,EUR
+lflow,L,mort,2024-06-30,7
+";
+
+const FAULTY: &str = "hold,\"S,100
+hold,S,+5
+buy,S,5
+drop,sec,S
+group,S,name,1
+drop,group,G
+drop,curve,EUR
+drop,curve,USD
+line,L,other,EUR
+flows,S,2024-06-30,5000001
+lflow,L,base,2126-01-01,1
+sec,S,gov,X,EUR,0
+curve,USD
+";
+
+const FAULTS: &str = "# 1 refused 1 syntax in field 1
+# 2 refused 1 syntax in field 2
+# 3 refused 1 syntax in field 0
+# 4 refused 4 S in use by hold
+# 5 refused 3 wrong kind S
+# 6 refused 4 G in use by S
+# 7 refused 4 EUR in use by asof
+# 8 refused 4 USD in use by absorb.currency.USD.up
+# 9 refused 4 L in use by lflow
+# 10 refused 6 flow is 5000001, limit 5000000
+# 11 refused 6 years is 126, limit 100
+# 12 refused 2 unknown name X
+# 13 refused 1 syntax in field 2
+";
 
 const WORDS: [&str; 8] = [
     "--factors",
@@ -239,29 +312,42 @@ fn an_edit_changes_the_next_block(rt: HostRuntime) -> Result<(), Fail> {
         &SOUND,
     )?;
     assert_eq!(rt; end.status, Status::Done);
-    let due = format!(in alloc;
-        "{OPENING}# 1 ok\nS2601.equity.type1 390.00 390.00\nS2601.equity.type2 0.00 0.00\nS2601.equity.gross 390.00 390.00\n"
-    )?;
+    let due = format!(in alloc; "{OPENING}# 1 ok\n{SHARES}")?;
     assert_eq!(rt; end.written.as_slice(), due.as_bytes());
     Ok(())
 }
 
 #[test]
 fn a_refused_edit_changes_nothing(rt: HostRuntime) -> Result<(), Fail> {
+    let alloc = rt.alloc();
     let book = "sec,S,eq1,-,EUR,0";
     let edits =
         "hold,S,50000000000001\r\n\n# remark\nsec,V,eq1,-,EUR,0\nhold,S,50000000000000\nbuy,S,5\nhold,W,1\nhold,S,-1";
     let end = outcome(&rt, rt.alloc(), &WORDS, &files_of(book, edits), &SOUND)?;
     assert_eq!(rt; end.status, Status::Refused);
     assert_eq!(rt; end.status.code(), 1);
-    let due =
-        "# 0 book\nS2601.equity.type1 0.00 0.00\nS2601.equity.type2 0.00 0.00\nS2601.equity.gross 0.00 0.00\n\
-# 1 refused 6 held is 50000000000001, limit 50000000000000\n\
-# 4 ok\nS2601.equity.type1 0.00 0.00\nS2601.equity.type2 0.00 0.00\nS2601.equity.gross 0.00 0.00\n\
-# 5 ok\nS2601.equity.type1 195000000000.00 195000000000.00\nS2601.equity.type2 0.00 0.00\nS2601.equity.gross 195000000000.00 195000000000.00\n\
-# 6 refused 1 syntax in field 0\n\
-# 7 refused 2 unknown name W\n\
-# 8 refused 6 hold is -1, limit 0\n";
+    let due = format!(in alloc;
+        "# 0 book\n{NOTHING}# 1 refused 6 held is 50000000000001, limit 50000000000000\n# 4 ok\n{NOTHING}# 5 ok\n{MOST}"
+    )?;
+    let last =
+        "# 6 refused 1 syntax in field 0\n# 7 refused 2 unknown name W\n# 8 refused 6 hold is -1, limit 0\n";
+    let whole = format!(in alloc; "{due}{last}")?;
+    assert_eq!(rt; end.written.as_slice(), whole.as_bytes());
+    Ok(())
+}
+
+#[test]
+fn each_kind_of_fault_has_its_text(rt: HostRuntime) -> Result<(), Fail> {
+    let alloc = rt.alloc();
+    let end = outcome(
+        &rt,
+        rt.alloc(),
+        &WORDS,
+        &files_of(FURNISHED, FAULTY),
+        &SOUND,
+    )?;
+    assert_eq!(rt; end.status, Status::Refused);
+    let due = format!(in alloc; "# 0 book\n{NOTHING}{FAULTS}")?;
     assert_eq!(rt; end.written.as_slice(), due.as_bytes());
     Ok(())
 }
@@ -390,11 +476,10 @@ fn each_failing_write_leaves_a_front(rt: HostRuntime) -> Result<(), Fail> {
 fn a_file_of_64_mib_is_the_longest(rt: HostRuntime) -> Result<(), Fail> {
     let alloc = rt.alloc();
     let mut lines = vec![in alloc; b'\n'; MAX_BYTES]?;
-    let empty =
-        "# 0 book\nS2601.equity.type1 0.00 0.00\nS2601.equity.type2 0.00 0.00\nS2601.equity.gross 0.00 0.00\n";
     let files = files_holding(lines.as_slice(), b"");
     let whole = outcome(&rt, rt.alloc(), &WORDS, &files, &LONG_PIECES)?;
     assert_eq!(rt; whole.status, Status::Done);
+    let empty = format!(in alloc; "# 0 book\n{NOTHING}")?;
     assert_eq!(rt; whole.written.as_slice(), empty.as_bytes());
     lines.push(b'\n')?;
     let files = files_holding(lines.as_slice(), b"");

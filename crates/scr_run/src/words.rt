@@ -1,16 +1,12 @@
 //! The words of the program.
-ghost use Rattle.std.specs.Prelude.{◌≡◌, ℕ, ◌&&◌, ◌<◌, ◌≤◌, true, nat_le, length, map, string_bytes};
-ghost use Rattle.std.specs.Char.{is_ascii_digit};
-ghost use Rattle.std.specs.List.{list_all};
+ghost use Rattle.std.specs.Prelude.{◌≡◌, map, string_bytes};
 ghost use Rattle.std.specs.Option.{option_map};
-ghost use Rattle.scr_run.specs.Numbers.{decimal_value as value_of};
+ghost use Rattle.scr_csv.specs.Words.{is_text as tells_text};
 ghost use Rattle.scr_run.specs.Words as written;
 ghost use Rattle.scr_run.specs.FileNames.{names_of, value_and_words};
 
-use crate::numbers::{all_digits, decimal_value};
-
 /// The greatest number of workers.
-const MAX_WORKERS: u64 = 64;
+const MAX_WORKERS: u32 = 64;
 
 /// What the words say: the names of the files that a run reads, and the number of workers, 1 to 64.
 #[derive(Clone, Copy, Debug)]
@@ -57,9 +53,7 @@ fn workers_value(words: &[String]) -> Option<u32>
     ensures { result ≡ written.workers_value (map string_bytes words.now) }
 {
     match words {
-        [word, workers] if word.as_str() == "--workers" && is_count(workers.as_bytes()) => {
-            Some(count_of(workers.as_bytes()))
-        }
+        [word, workers] if is_text("--workers", word.as_str()) => count_of(workers.as_bytes()),
         _ => None,
     }
 }
@@ -67,7 +61,13 @@ fn workers_value(words: &[String]) -> Option<u32>
 fn is_option(option: &str, word: &str, value: &str) -> bool
     ensures { result ≡ written.is_option option.now word.now value.now }
 {
-    word == option && is_value(value)
+    is_text(option, word) && is_value(value)
+}
+
+fn is_text(text: &str, word: &str) -> bool
+    ensures { result ≡ tells_text text.now word.now }
+{
+    text == word
 }
 
 fn is_value(value: &str) -> bool
@@ -79,27 +79,27 @@ fn is_value(value: &str) -> bool
     }
 }
 
-fn is_count(digits: &[u8]) -> bool
-    ensures { result ≡ written.is_count digits.now }
+/// A number of workers: one or two digits that stand for 1 to 64.
+fn count_of(digits: &[u8]) -> Option<u32>
+    ensures { result ≡ written.count_of digits.now }
 {
-    are_few_digits(digits) && is_in_range(decimal_value(digits))
+    let count = few_digits(digits)?;
+    if 1 <= count && count <= MAX_WORKERS {
+        Some(count)
+    } else {
+        None
+    }
 }
 
-fn are_few_digits(digits: &[u8]) -> bool
-    ensures { result ≡ written.are_few_digits digits.now }
+/// What one or two digits stand for.
+fn few_digits(digits: &[u8]) -> Option<u32>
+    ensures value { result ≡ written.few_digits digits.now }
 {
-    1 <= digits.len() && digits.len() <= 2 && all_digits(digits)
-}
-
-fn is_in_range(number: u64) -> bool
-    ensures { result ≡ (nat_le 1 number && nat_le number 64) }
-{
-    1 <= number && number <= MAX_WORKERS
-}
-
-fn count_of(digits: &[u8]) -> u32
-    requires { written.is_count digits.now ≡ true }
-    ensures { result ≡ value_of digits.now }
-{
-    decimal_value(digits) as u32
+    match digits {
+        [units] if units.is_ascii_digit() => Some(u32::from(*units - b'0')),
+        [tens, units] if tens.is_ascii_digit() && units.is_ascii_digit() => {
+            Some(u32::from(*tens - b'0') * 10 + u32::from(*units - b'0'))
+        }
+        _ => None,
+    }
 }

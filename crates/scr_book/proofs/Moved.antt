@@ -1,0 +1,322 @@
+-- How the sums of a sheet are carried along by a record without a fault: what goes out and what comes in.
+use Rattle.std.proofs.Common.{◌≡◌, ℕ, ℤ, ◌+◌, ◌-◌, ◌≤◌, ◌==◌, ◌||◌, ◌⊎◌, inl, inr, Bool, true, false, List, map, Option, Some, None, is_some, if◌then◌else◌, set, get_or, refl, sym, ap, subst, ◌∙◌, arith}
+use Rattle.std.specs.Option.{option_map_or}
+use Rattle.scr_dates.specs.declared.day.Day.{Day}
+use Rattle.scr_factors.specs.declared.set.Set.{Set}
+use Rattle.scr_factors.specs.declared.set.Set.TheVariants as sets
+use Rattle.scr_sheet.specs.Tables.{row_of, has_row}
+use Rattle.scr_sheet.specs.CashFlows.{total, flows_under, all_projections}
+use Rattle.scr_sheet.specs.BalanceSheet.{BalanceSheet, position_name, line_name, bank_name, rein_name, held_of, held_total, line_flows_total, volumes_total, defaults_total}
+use Rattle.scr_sheet.specs.Faults.{fault_of, in_use, misplaced}
+use Rattle.scr_sheet.specs.Records.{applied, natural}
+use Rattle.scr_sheet.specs.Volumes.{volumes_in}
+use Rattle.scr_sheet.specs.declared.edit.Edit.{Edit}
+use Rattle.scr_sheet.specs.declared.edit.Edit.TheVariants as edits
+use Rattle.scr_sheet.specs.declared.keys.Projection.{Projection}
+use Rattle.scr_sheet.specs.declared.keys.Projection.TheVariants as projections
+use Rattle.scr_sheet.specs.declared.keys.Table.TheVariants as tables
+use Rattle.scr_sheet.specs.declared.rows.Liability.{Liability}
+use Rattle.scr_sheet.specs.declared.fault.Quantity.TheVariants as quantities
+use Rattle.scr_sheet.specs.declared.limits.TheConstants.{MAX_LINE_FLOWS}
+use Rattle.scr_sheet.proofs.Bounds.{neither, within_from_above}
+use Rattle.scr_sheet.proofs.Preserved.{passes, right_table}
+use Rattle.scr_sheet.proofs.Projections.{or_false}
+use Rattle.scr_sheet.proofs.Sums.{moves_held, moves_line_flows, moves_volumes, moves_defaults, held-hold, held-part, held-same, line_total, line_flows-own, line_flows-other, line_flows-part, line_flows-drop, line_flows-same, volumes-segment, volumes-part, volumes-same, defaults-bank, defaults-rein, defaults-drop_bank, defaults-drop_rein, defaults-part_bank, defaults-part_rein, defaults-same}
+use Rattle.scr_book.specs.Sums.{AreSumsOf, place_of, volumes_sum, with_volumes_sum}
+use Rattle.scr_book.specs.declared.sums.Sums.{Sums}
+
+-- a row that is there
+pub row_there : {Row : Type 0} (name_of : Row → List ℕ) (name : List ℕ) (rows : List Row) → has_row name_of name rows ≡ true → (row : Row) × (row_of name_of name rows ≡ Some row)
+row_there {Row} name_of name rows has = by (row_of name_of name rows) refl
+  where
+    by : (found : Option Row) → row_of name_of name rows ≡ found → (row : Row) × (row_of name_of name rows ≡ Some row)
+    by None e = let missing : false ≡ true = sym (ap is_some e) ∙ has in absurd (cc)
+    by (Some row) e = (row, e)
+
+pub none_there : {Row : Type 0} (name_of : Row → List ℕ) (name : List ℕ) (rows : List Row) → has_row name_of name rows ≡ false → row_of name_of name rows ≡ None
+none_there {Row} name_of name rows has = by (row_of name_of name rows) has
+  where
+    by : (found : Option Row) → is_some found ≡ false → found ≡ None
+    by None e = refl
+    by (Some row) e = absurd (cc)
+
+-- ---- records that move no sum
+
+abbrev pub moves_a_sum : Edit → Bool
+moves_a_sum edit = moves_held edit || moves_line_flows edit || moves_volumes edit || moves_defaults edit
+
+same_flows : (f g : Projection → ℕ) → ((projection : Projection) → f projection ≡ g projection) → (ps : List Projection) → map f ps ≡ map g ps
+same_flows f g same ps = ap (λ h. map h ps) (λ i projection. same projection i)
+
+module _ (edit : Edit) (sheet : BalanceSheet) (sums : Sums) (are : AreSumsOf sheet sums) where
+  held_stays : moves_held edit ≡ false → in_use edit sheet ≡ None → sums.held ≡ held_total (applied edit sheet)
+  held_stays still free = are.held ∙ sym (held-same edit sheet still free)
+
+  flows_stay : moves_line_flows edit ≡ false → sums.line_flows ≡ map (λ projection. line_flows_total projection (applied edit sheet)) all_projections
+  flows_stay still = are.line_flows ∙ same_flows _ _ (λ projection. sym (line_flows-same projection edit sheet still)) all_projections
+
+  nl_stays : moves_volumes edit ≡ false → sums.nl ≡ volumes_total sets.Nl (applied edit sheet)
+  nl_stays still = are.nl ∙ sym (volumes-same sets.Nl edit sheet still)
+
+  nslt_stays : moves_volumes edit ≡ false → sums.nslt ≡ volumes_total sets.Nslt (applied edit sheet)
+  nslt_stays still = are.nslt ∙ sym (volumes-same sets.Nslt edit sheet still)
+
+  defaults_stay : moves_defaults edit ≡ false → sums.defaults ≡ defaults_total (applied edit sheet)
+  defaults_stay still = are.defaults ∙ sym (defaults-same edit sheet still)
+
+  pub sums-same : moves_a_sum edit ≡ false → in_use edit sheet ≡ None → AreSumsOf (applied edit sheet) sums
+  sums-same still free =
+      let defaults = or_false (moves_held edit || moves_line_flows edit || moves_volumes edit) (moves_defaults edit) still in
+      let volumes = or_false (moves_held edit || moves_line_flows edit) (moves_volumes edit) defaults.0 in
+      let flows = or_false (moves_held edit) (moves_line_flows edit) volumes.0 in
+      record { held = held_stays flows.0 free; line_flows = flows_stay flows.1; nl = nl_stays volumes.1; nslt = nslt_stays volumes.1; defaults = defaults_stay defaults.1 }
+
+-- ---- what is held
+
+module _ (name : List ℕ) (cents : ℤ) (sheet : BalanceSheet) (none : fault_of (edits.Hold name cents) sheet ≡ None) where
+  pub held-moved : held_total (applied (edits.Hold name cents) sheet) ≡ held_total sheet - held_of sheet name + natural cents
+  held-moved =
+      let p = passes (edits.Hold name cents) sheet none in
+      let row = row_there position_name name sheet.securities (right_table tables.Security name sheet p.known p.kind) in
+      let own : held_of sheet name ≡ row.0.held = ap (λ o. option_map_or (λ q. q.held) o 0) row.1 in
+      let part = held-part name sheet in
+      let sum = held-hold name cents sheet row.0 row.1 in
+      omega arith
+
+  pub sums-hold : (sums : Sums) (held : ℕ) → AreSumsOf sheet sums → held ≡ sums.held - held_of sheet name + natural cents → AreSumsOf (applied (edits.Hold name cents) sheet) (record sums { held = held })
+  sums-hold sums held are is =
+      let edit : Edit = edits.Hold name cents in
+      record {
+        held = is ∙ ap (λ n. n - held_of sheet name + natural cents) are.held ∙ sym held-moved;
+        line_flows = flows_stay edit sheet sums are refl;
+        nl = nl_stays edit sheet sums are refl;
+        nslt = nslt_stays edit sheet sums are refl;
+        defaults = defaults_stay edit sheet sums are refl;
+      }
+
+-- ---- the flows of lines
+
+same_or_apart : (p q : Projection) → (p ≡ q) ⊎ ((place_of p == place_of q) ≡ false)
+same_or_apart projections.Base projections.Base = inl refl
+same_or_apart projections.Base q = inr refl
+same_or_apart projections.Mortality projections.Mortality = inl refl
+same_or_apart projections.Mortality q = inr refl
+same_or_apart projections.Longevity projections.Longevity = inl refl
+same_or_apart projections.Longevity q = inr refl
+same_or_apart projections.Disability projections.Disability = inl refl
+same_or_apart projections.Disability q = inr refl
+same_or_apart projections.Expense projections.Expense = inl refl
+same_or_apart projections.Expense q = inr refl
+same_or_apart projections.Revision projections.Revision = inl refl
+same_or_apart projections.Revision q = inr refl
+same_or_apart projections.LapseUp projections.LapseUp = inl refl
+same_or_apart projections.LapseUp q = inr refl
+same_or_apart projections.LapseDown projections.LapseDown = inl refl
+same_or_apart projections.LapseDown q = inr refl
+same_or_apart projections.LapseMass projections.LapseMass = inl refl
+same_or_apart projections.LapseMass q = inr refl
+same_or_apart projections.Catastrophe projections.Catastrophe = inl refl
+same_or_apart projections.Catastrophe q = inr refl
+
+own_place : (p : Projection) → (place_of p == place_of p) ≡ true
+own_place projections.Base = refl
+own_place projections.Mortality = refl
+own_place projections.Longevity = refl
+own_place projections.Disability = refl
+own_place projections.Expense = refl
+own_place projections.Revision = refl
+own_place projections.LapseUp = refl
+own_place projections.LapseDown = refl
+own_place projections.LapseMass = refl
+own_place projections.Catastrophe = refl
+
+-- a number written in the place of a projection
+written : (f : Projection → ℕ) (n : ℕ) (p : Projection) → set (map f all_projections) (place_of p) n ≡ map (λ q. if place_of p == place_of q then n else f q) all_projections
+written f n projections.Base = refl
+written f n projections.Mortality = refl
+written f n projections.Longevity = refl
+written f n projections.Disability = refl
+written f n projections.Expense = refl
+written f n projections.Revision = refl
+written f n projections.LapseUp = refl
+written f n projections.LapseDown = refl
+written f n projections.LapseMass = refl
+written f n projections.Catastrophe = refl
+
+-- and read there
+pub read : (f : Projection → ℕ) (p : Projection) → get_or (map f all_projections) (place_of p) 0 ≡ f p
+read f projections.Base = refl
+read f projections.Mortality = refl
+read f projections.Longevity = refl
+read f projections.Disability = refl
+read f projections.Expense = refl
+read f projections.Revision = refl
+read f projections.LapseUp = refl
+read f projections.LapseDown = refl
+read f projections.LapseMass = refl
+read f projections.Catastrophe = refl
+
+exchanged : (f g : Projection → ℕ) (p : Projection) → ((q : Projection) → (p ≡ q) ⊎ (g q ≡ f q)) → set (map f all_projections) (place_of p) (g p) ≡ map g all_projections
+exchanged f g p other = written f (g p) p ∙ same_flows (λ q. if place_of p == place_of q then g p else f q) g each all_projections
+  where
+    each : (q : Projection) → (if place_of p == place_of q then g p else f q) ≡ g q
+    each q =
+        elim (same_or_apart p q) [
+          | inl e ↦ subst (λ (r : Projection). (if place_of p == place_of r then g p else f r) ≡ g r) e (ap (λ (t : Bool). if t then g p else f p) (own_place p))
+          | inr apart ↦
+              ap (λ (t : Bool). if t then g p else f q) apart
+              ∙ elim (other q) as (λ _. f q ≡ g q) [
+                | inl e ↦ let both : true ≡ false = sym (own_place p) ∙ ap (λ (r : Projection). place_of p == place_of r) e ∙ apart in absurd (cc)
+                | inr e ↦ sym e
+              ]
+        ]
+
+-- the sum that is kept for a projection
+kept_flows_sum : (sheet : BalanceSheet) (sums : Sums) → AreSumsOf sheet sums → (projection : Projection) → get_or sums.line_flows (place_of projection) 0 ≡ line_flows_total projection sheet
+kept_flows_sum sheet sums are projection = ap (λ xs. get_or xs (place_of projection) 0) are.line_flows ∙ read (λ q. line_flows_total q sheet) projection
+
+pub line-le : (line : List ℕ) (sheet : BalanceSheet) (l : Liability) → row_of line_name line sheet.lines ≡ Some l → (sums : Sums) → AreSumsOf sheet sums → (projection : Projection) → line_total projection l ≤ get_or sums.line_flows (place_of projection) 0
+line-le line sheet l is sums are projection =
+    let own = kept_flows_sum sheet sums are projection in
+    let part = line_flows-part projection line sheet l is in
+    omega arith
+
+-- what stands for a line under a projection, 0 where there is none
+abbrev pub line_part : Projection → List ℕ → BalanceSheet → ℕ
+line_part projection line sheet = option_map_or (λ l. total (flows_under projection l.flows)) (row_of line_name line sheet.lines) 0
+
+module _ (line : List ℕ) (projection : Projection) (flows : List (Day × ℤ)) (sheet : BalanceSheet) (none : fault_of (edits.LineFlows line projection flows) sheet ≡ None) where
+  pub line_there : (l : Liability) × (row_of line_name line sheet.lines ≡ Some l)
+  line_there =
+      let p = passes (edits.LineFlows line projection flows) sheet none in
+      row_there line_name line sheet.lines (right_table tables.Line line sheet p.known (neither (misplaced tables.Line line sheet) _ p.kind).0)
+
+  pub line_flows-moved : line_flows_total projection (applied (edits.LineFlows line projection flows) sheet) ≡ line_flows_total projection sheet - line_part projection line sheet + total flows
+  line_flows-moved =
+      let row = line_there in
+      let own : line_part projection line sheet ≡ line_total projection row.0 = ap (λ o. option_map_or (line_total projection) o 0) row.1 in
+      let part = line_flows-part projection line sheet row.0 row.1 in
+      let sum = line_flows-own line flows sheet projection row.0 row.1 in
+      omega arith
+
+  pub line_flows-most : line_flows_total projection (applied (edits.LineFlows line projection flows) sheet) ≤ MAX_LINE_FLOWS
+  line_flows-most = within_from_above quantities.LineFlows _ _ (passes (edits.LineFlows line projection flows) sheet none).line_flows
+
+  pub line_part-le : (sums : Sums) → AreSumsOf sheet sums → line_part projection line sheet ≤ get_or sums.line_flows (place_of projection) 0
+  line_part-le sums are =
+      let row = line_there in
+      let own : line_part projection line sheet ≡ line_total projection row.0 = ap (λ o. option_map_or (line_total projection) o 0) row.1 in
+      let part = line-le line sheet row.0 row.1 sums are projection in
+      omega arith
+
+  -- the sum under the projection, as it is carried along
+  pub line_flows-carried : (sums : Sums) → AreSumsOf sheet sums → get_or sums.line_flows (place_of projection) 0 - line_part projection line sheet + total flows ≡ line_flows_total projection (applied (edits.LineFlows line projection flows) sheet)
+  line_flows-carried sums are =
+      ap (λ m. m - line_part projection line sheet + total flows) (kept_flows_sum sheet sums are projection) ∙ sym line_flows-moved
+
+  pub sums-line_flows : (sums : Sums) (n : ℕ) → AreSumsOf sheet sums → n ≡ get_or sums.line_flows (place_of projection) 0 - line_part projection line sheet + total flows
+      → AreSumsOf (applied (edits.LineFlows line projection flows) sheet) (record sums { line_flows = set sums.line_flows (place_of projection) n })
+  sums-line_flows sums n are is =
+      let edit : Edit = edits.LineFlows line projection flows in
+      let before : Projection → ℕ = λ q. line_flows_total q sheet in
+      let after : Projection → ℕ = λ q. line_flows_total q (applied edit sheet) in
+      let new : n ≡ after projection = is ∙ line_flows-carried sums are in
+      record {
+        held = held_stays edit sheet sums are refl (passes edit sheet none).free;
+        line_flows = ap (λ xs. set xs (place_of projection) n) are.line_flows ∙ ap (set (map before all_projections) (place_of projection)) new ∙ exchanged before after projection (line_flows-other line flows sheet projection);
+        nl = nl_stays edit sheet sums are refl;
+        nslt = nslt_stays edit sheet sums are refl;
+        defaults = defaults_stay edit sheet sums are refl;
+      }
+
+-- a line that a record drops is there
+pub dropped_line : (line : List ℕ) (sheet : BalanceSheet) → fault_of (edits.Remove tables.Line line) sheet ≡ None → (l : Liability) × (row_of line_name line sheet.lines ≡ Some l)
+dropped_line line sheet none = let p = passes (edits.Remove tables.Line line) sheet none in row_there line_name line sheet.lines (right_table tables.Line line sheet p.known p.kind)
+
+module _ (line : List ℕ) (sheet : BalanceSheet) (l : Liability) (is : row_of line_name line sheet.lines ≡ Some l) where
+  line_flows-left : (projection : Projection) → line_flows_total projection (applied (edits.Remove tables.Line line) sheet) ≡ line_flows_total projection sheet - line_total projection l
+  line_flows-left projection =
+      let own : option_map_or (line_total projection) (row_of line_name line sheet.lines) 0 ≡ line_total projection l = ap (λ o. option_map_or (line_total projection) o 0) is in
+      let sum = line_flows-drop projection line sheet in
+      omega arith
+
+  pub sums-drop_line : (sums : Sums) → AreSumsOf sheet sums
+      → AreSumsOf (applied (edits.Remove tables.Line line) sheet) (record sums { line_flows = map (λ projection. get_or sums.line_flows (place_of projection) 0 - total (flows_under projection l.flows)) all_projections })
+  sums-drop_line sums are =
+      let edit : Edit = edits.Remove tables.Line line in
+      let each : (q : Projection) → get_or sums.line_flows (place_of q) 0 - line_total q l ≡ line_flows_total q (applied edit sheet) =
+      λ q. ap (λ m. m - line_total q l) (kept_flows_sum sheet sums are q) ∙ sym (line_flows-left q) in
+      record {
+        held = held_stays edit sheet sums are refl refl;
+        line_flows = same_flows _ _ each all_projections;
+        nl = nl_stays edit sheet sums are refl;
+        nslt = nslt_stays edit sheet sums are refl;
+        defaults = defaults_stay edit sheet sums are refl;
+      }
+
+-- ---- volumes
+
+pub volumes_sum-is : (set : Set) (sheet : BalanceSheet) (sums : Sums) → AreSumsOf sheet sums → volumes_sum set sums ≡ volumes_total set sheet
+volumes_sum-is sets.Nl sheet sums are = are.nl
+volumes_sum-is sets.Nslt sheet sums are = are.nslt
+
+module _ (set : Set) (number region : ℕ) (premium reserve : ℤ) (sheet : BalanceSheet) (old : ℕ × ℕ) (is : volumes_in set number region sheet.numbers ≡ Some old) where
+  pub volumes-moved : volumes_total set (applied (edits.Segment set number region premium reserve) sheet) ≡ volumes_total set sheet - (old.0 + old.1) + (natural premium + natural reserve)
+  volumes-moved =
+      let part = volumes-part set number region sheet old is in
+      let sum = volumes-segment set number region premium reserve sheet old is in
+      omega arith
+
+pub sums-segment : (set : Set) (number region : ℕ) (premium reserve : ℤ) (sheet : BalanceSheet) (sums : Sums) (n : ℕ) → AreSumsOf sheet sums → n ≡ volumes_total set (applied (edits.Segment set number region premium reserve) sheet)
+    → AreSumsOf (applied (edits.Segment set number region premium reserve) sheet) (with_volumes_sum set n sums)
+sums-segment sets.Nl number region premium reserve sheet sums n are is = record { held = are.held; line_flows = are.line_flows; nl = is; nslt = are.nslt; defaults = are.defaults }
+sums-segment sets.Nslt number region premium reserve sheet sums n are is = record { held = are.held; line_flows = are.line_flows; nl = are.nl; nslt = is; defaults = are.defaults }
+
+-- ---- exposures
+
+-- the sums with others than the old exposures
+sums-defaults : (edit : Edit) (sheet : BalanceSheet) (sums : Sums) (n : ℕ) → moves_held edit ≡ false → moves_line_flows edit ≡ false → moves_volumes edit ≡ false → in_use edit sheet ≡ None → AreSumsOf sheet sums → n ≡ defaults_total (applied edit sheet)
+    → AreSumsOf (applied edit sheet) (record sums { defaults = n })
+sums-defaults edit sheet sums n held flows volumes free are is =
+    record {
+      held = held_stays edit sheet sums are held free;
+      line_flows = flows_stay edit sheet sums are flows;
+      nl = nl_stays edit sheet sums are volumes;
+      nslt = nslt_stays edit sheet sums are volumes;
+      defaults = is;
+    }
+
+-- what stands for a bank or a reinsurer, 0 where there is none
+abbrev pub bank_part : List ℕ → BalanceSheet → ℕ
+bank_part name sheet = option_map_or (λ b. b.cents) (row_of bank_name name sheet.banks) 0
+
+abbrev pub rein_part : List ℕ → BalanceSheet → ℕ
+rein_part name sheet = option_map_or (λ r. r.recoverables + r.mitigation) (row_of rein_name name sheet.reinsurers) 0
+
+pub sums-bank : (name group : List ℕ) (cents : ℤ) (sheet : BalanceSheet) (sums : Sums) (n : ℕ) → AreSumsOf sheet sums → n ≡ sums.defaults - bank_part name sheet + natural cents
+    → AreSumsOf (applied (edits.Bank name group cents) sheet) (record sums { defaults = n })
+sums-bank name group cents sheet sums n are is =
+    let part = defaults-part_bank name sheet in
+    let sum = defaults-bank name group cents sheet in
+    let own = are.defaults in
+    sums-defaults (edits.Bank name group cents) sheet sums n refl refl refl refl are (omega arith)
+
+pub sums-rein : (name group : List ℕ) (recoverables mitigation collateral : ℤ) (sheet : BalanceSheet) (sums : Sums) (n : ℕ) → AreSumsOf sheet sums → n ≡ sums.defaults - rein_part name sheet + natural recoverables + natural mitigation
+    → AreSumsOf (applied (edits.Rein name group recoverables mitigation collateral) sheet) (record sums { defaults = n })
+sums-rein name group recoverables mitigation collateral sheet sums n are is =
+    let part = defaults-part_rein name sheet in
+    let sum = defaults-rein name group recoverables mitigation collateral sheet in
+    let own = are.defaults in
+    sums-defaults (edits.Rein name group recoverables mitigation collateral) sheet sums n refl refl refl refl are (omega arith)
+
+pub sums-drop_bank : (name : List ℕ) (sheet : BalanceSheet) (sums : Sums) (n : ℕ) → AreSumsOf sheet sums → n ≡ sums.defaults - bank_part name sheet → AreSumsOf (applied (edits.Remove tables.Bank name) sheet) (record sums { defaults = n })
+sums-drop_bank name sheet sums n are is =
+    let sum = defaults-drop_bank name sheet in
+    let own = are.defaults in
+    sums-defaults (edits.Remove tables.Bank name) sheet sums n refl refl refl refl are (omega arith)
+
+pub sums-drop_rein : (name : List ℕ) (sheet : BalanceSheet) (sums : Sums) (n : ℕ) → AreSumsOf sheet sums → n ≡ sums.defaults - rein_part name sheet → AreSumsOf (applied (edits.Remove tables.Rein name) sheet) (record sums { defaults = n })
+sums-drop_rein name sheet sums n are is =
+    let sum = defaults-drop_rein name sheet in
+    let own = are.defaults in
+    sums-defaults (edits.Remove tables.Rein name) sheet sums n refl refl refl refl are (omega arith)

@@ -1,8 +1,0 @@
-use Rattle.scr_book.proofs.Sheets.{held_of-row, sum-held_of}
-use Rattle.scr_book.proofs.laws.holds.Goals as goal
-
-pub returns-clause-row : goal.returns-clause-row
-returns-clause-row c = held_of-row
-
-pub returns-clause-sum : goal.returns-clause-sum
-returns-clause-sum c = sum-held_of

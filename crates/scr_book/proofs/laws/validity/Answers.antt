@@ -1,8 +1,0 @@
-use Rattle.scr_book.proofs.Sheets.{Valid-opening, Valid-applied}
-use Rattle.scr_book.proofs.laws.validity.Goals as goal
-
-pub returns-clause-opening : goal.returns-clause-opening
-returns-clause-opening c = Valid-opening
-
-pub returns-clause-applied : goal.returns-clause-applied
-returns-clause-applied c = Valid-applied

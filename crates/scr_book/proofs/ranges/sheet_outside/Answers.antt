@@ -1,0 +1,143 @@
+use Rattle.std.proofs.Common.{◌≡◌, ℕ, ◌+◌, ◌-◌, true, Some, sym, ap, ◌∙◌, arith, rules, FitsSigned, w64}
+use Rattle.std.proofs.lemmas.Int.{to_z-of_z}
+use Rattle.std.specs.Option.{option_or, option_map_or}
+use Rattle.scr_sheet.specs.CashFlows.{total, greatest_years}
+use Rattle.scr_sheet.specs.Tables.{row_of}
+use Rattle.scr_sheet.specs.BalanceSheet.{group_name, position_name, line_name, curve_name, line_flows_total, volumes_total}
+use Rattle.scr_sheet.specs.Faults.{above}
+use Rattle.scr_sheet.specs.Records.{natural}
+use Rattle.scr_sheet.specs.Volumes.{volumes_in}
+use Rattle.scr_sheet.specs.declared.fault.Quantity.TheVariants as quantities
+use Rattle.scr_sheet.specs.declared.keys.Table.TheVariants as tables
+use Rattle.scr_sheet.specs.declared.limits.TheConstants.{MAX_AMOUNT, MAX_LINE_FLOWS, MAX_YEARS, MAX_CURRENCIES, MAX_SECURITIES, MAX_LINES, MAX_GROUPS}
+use Rattle.scr_sheet.proofs.Bounds.{neither}
+use Rattle.scr_sheet.proofs.Preserved.{right_table}
+use Rattle.scr_sheet.proofs.Sums.{line_total, volumes-part}
+use Rattle.scr_sheet.proofs.Quiet.{is_quiet, outside-quiet, outside-curve, outside-group, outside-security, outside-line, outside-flows, outside-hold, outside-line_flows, outside-segment, outside-bank, outside-rein}
+use Rattle.scr_book.proofs.Reduced.{first_by_is, above-with, banks-with, reinsurers-with, years-is, both-is}
+use Rattle.scr_book.proofs.ranges.sheet_outside.Goals as goal
+
+pub returns-in-Curve : goal.returns-in-Curve
+returns-in-Curve c =
+    let book = c.args.book.now in
+    let op = c.in-Curve in
+    first_by_is book c.outside_currencies.result c.args.edit.now _ op.is
+    (λ known kind. c.outside_currencies.ensures ∙ above-with quantities.Currencies MAX_CURRENCIES curve_name op.currency book.curves
+    ∙ sym (outside-curve book c.numbers.ensures.valid op.currency op.rates))
+    c.requires.known c.requires.kind
+
+pub returns-in-Group : goal.returns-in-Group
+returns-in-Group c =
+    let book = c.args.book.now in
+    let op = c.in-Group in
+    first_by_is book c.outside_groups.result c.args.edit.now _ op.is
+    (λ known kind. c.outside_groups.ensures ∙ above-with quantities.Groups MAX_GROUPS group_name op.name book.groups
+    ∙ sym (outside-group book c.numbers.ensures.valid op.name op.kind op.step))
+    c.requires.known c.requires.kind
+
+pub returns-in-Security : goal.returns-in-Security
+returns-in-Security c =
+    let book = c.args.book.now in
+    let op = c.in-Security in
+    first_by_is book c.outside_securities.result c.args.edit.now _ op.is
+    (λ known kind. c.outside_securities.ensures ∙ above-with quantities.Securities MAX_SECURITIES position_name op.name book.securities
+    ∙ sym (outside-security book c.numbers.ensures.valid op.name op.class op.group op.currency op.duration))
+    c.requires.known c.requires.kind
+
+pub returns-in-Line : goal.returns-in-Line
+returns-in-Line c =
+    let book = c.args.book.now in
+    let op = c.in-Line in
+    first_by_is book c.outside_lines.result c.args.edit.now _ op.is
+    (λ known kind. c.outside_lines.ensures ∙ above-with quantities.Lines MAX_LINES line_name op.name book.lines
+    ∙ sym (outside-line book c.numbers.ensures.valid op.name op.kind op.currency))
+    c.requires.known c.requires.kind
+
+pub returns-in-Hold : goal.returns-in-Hold
+returns-in-Hold c =
+    let book = c.args.book.now in
+    let op = c.in-Hold in
+    let fits : FitsSigned w64 op.cents = search rules in
+    let told = simp to_z-of_z at c.outside_held.ensures in
+    first_by_is book c.outside_held.result c.args.edit.now _ op.is
+    (λ known kind. told ∙ sym (outside-hold book c.numbers.ensures.valid op.name op.cents (right_table tables.Security op.name book known kind)))
+    c.requires.known c.requires.kind
+
+pub returns-in-Absorb : goal.returns-in-Absorb
+returns-in-Absorb c =
+    let quiet : is_quiet c.args.edit.now ≡ true = grind arith in
+    sym (outside-quiet c.args.book.now c.numbers.ensures.valid c.args.edit.now quiet)
+
+pub returns-in-Flows : goal.returns-in-Flows
+returns-in-Flows c =
+    let book = c.args.book.now in
+    let op = c.in-Flows in
+    let years : c.years.result ≡ greatest_years book.numbers.asof.number op.flows =
+    years-is c.years.result c.numbers.result.now book.numbers c.as_slice.result.now op.flows c.years.ensures c.numbers.ensures.numbers c.as_slice.ensures in
+    first_by_is book c.outside_years-in-Flows.result c.args.edit.now _ op.is
+    (λ known kind. c.outside_years-in-Flows.ensures ∙ ap (λ (n : ℕ). above quantities.Years n MAX_YEARS) years
+    ∙ sym (outside-flows book c.numbers.ensures.valid op.security op.flows (right_table tables.Security op.security book known kind)))
+    c.requires.known c.requires.kind
+
+pub returns-in-LineFlows : goal.returns-in-LineFlows
+returns-in-LineFlows c =
+    let book = c.args.book.now in
+    let op = c.in-LineFlows in
+    let years : c.years-in-LineFlows.result ≡ greatest_years book.numbers.asof.number op.flows =
+    years-is c.years-in-LineFlows.result c.numbers.result.now book.numbers c.as_slice-in-LineFlows.result.now op.flows c.years-in-LineFlows.ensures c.numbers.ensures.numbers c.as_slice-in-LineFlows.ensures in
+    first_by_is book c.first_of.result c.args.edit.now _ op.is
+    (λ known kind. c.first_of.ensures ∙ ap (λ o. option_or o c.outside_years-in-LineFlows.result) c.outside_line_flows-total.ensures
+    ∙ ap (λ o. option_or (above quantities.LineFlows (line_flows_total op.projection book - option_map_or (line_total op.projection) (row_of line_name op.line book.lines) 0 + total op.flows) MAX_LINE_FLOWS) o)
+    (c.outside_years-in-LineFlows.ensures ∙ ap (λ (n : ℕ). above quantities.Years n MAX_YEARS) years)
+    ∙ sym (outside-line_flows book c.numbers.ensures.valid op.line op.projection op.flows (right_table tables.Line op.line book known (neither _ _ kind).0)))
+    c.requires.known c.requires.kind
+
+pub outside_volumes-requires : goal.outside_volumes-requires
+outside_volumes-requires c =
+    let book = c.args.book.now in
+    let op = c.in-Segment in
+    let is : volumes_in op.set op.number op.region book.numbers ≡ Some c.volumes-old.result = cc in
+    volumes-part op.set op.number op.region book c.volumes-old.result is
+
+pub returns-in-Segment : goal.returns-in-Segment
+returns-in-Segment c =
+    let book = c.args.book.now in
+    let op = c.in-Segment in
+    let old : ℕ × ℕ = c.volumes-old.result in
+    let is : volumes_in op.set op.number op.region book.numbers ≡ Some old = cc in
+    let fits_premium : FitsSigned w64 op.premium = search rules in
+    let fits_reserve : FitsSigned w64 op.reserve = search rules in
+    let premium = simp to_z-of_z at c.natural.ensures in
+    let reserve = simp to_z-of_z at c.natural-in-Segment.ensures in
+    first_by_is book c.outside_volumes.result c.args.edit.now _ op.is
+    (λ known kind. c.outside_volumes.ensures
+    ∙ ap (λ (n : ℕ). above quantities.Volumes (volumes_total op.set book - (old.0 + old.1) + (n + c.natural-in-Segment.result)) MAX_AMOUNT) premium
+    ∙ ap (λ (n : ℕ). above quantities.Volumes (volumes_total op.set book - (old.0 + old.1) + (natural op.premium + n)) MAX_AMOUNT) reserve
+    ∙ sym (outside-segment book c.numbers.ensures.valid op.set op.number op.region op.premium op.reserve old is))
+    c.requires.known c.requires.kind
+
+pub returns-in-Rein : goal.returns-in-Rein
+returns-in-Rein c =
+    let book = c.args.book.now in
+    let op = c.in-Rein in
+    let fits_recoverables : FitsSigned w64 op.recoverables = search rules in
+    let fits_mitigation : FitsSigned w64 op.mitigation = search rules in
+    let recoverables = simp to_z-of_z at c.natural-in-Rein.ensures in
+    let mitigation = simp to_z-of_z at c.natural-in-Rein-2.ensures in
+    first_by_is book c.outside_rein.result c.args.edit.now _ op.is
+    (λ known kind. c.outside_rein.ensures
+    ∙ reinsurers-with book op.name _ _ (both-is _ _ _ _ recoverables mitigation)
+    ∙ sym (outside-rein book c.numbers.ensures.valid op.name op.group op.recoverables op.mitigation op.collateral))
+    c.requires.known c.requires.kind
+
+pub returns-in-Bank : goal.returns-in-Bank
+returns-in-Bank c =
+    let book = c.args.book.now in
+    let op = c.in-Bank in
+    let fits : FitsSigned w64 op.cents = search rules in
+    let cents = simp to_z-of_z at c.natural-in-Bank.ensures in
+    first_by_is book c.outside_bank.result c.args.edit.now _ op.is
+    (λ known kind. c.outside_bank.ensures
+    ∙ banks-with book op.name _ _ cents
+    ∙ sym (outside-bank book c.numbers.ensures.valid op.name op.group op.cents))
+    c.requires.known c.requires.kind

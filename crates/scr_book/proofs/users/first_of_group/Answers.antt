@@ -1,0 +1,22 @@
+use Rattle.std.proofs.Common.{ℕ, List, None, ◌++◌, sym, ap, ◌∙◌, map, filter, fold}
+use Rattle.std.proofs.lemmas.List.Sums.{fold-append}
+use Rattle.scr_sheet.specs.Names.{same_name, earlier}
+use Rattle.scr_sheet.specs.BalanceSheet.{position_name, bank_name, rein_name}
+use Rattle.scr_sheet.specs.Users.{is_of_group}
+use Rattle.scr_book.proofs.users.first_of_group.Goals as goal
+
+pub returns : goal.returns
+returns c =
+    let group = c.args.group.now in
+    let sheet = c.args.book.now in
+    let securities : List (List ℕ) = map position_name (filter (is_of_group group) sheet.securities) in
+    let banks : List (List ℕ) = map bank_name (filter (λ b. same_name group b.group) sheet.banks) in
+    let reinsurers : List (List ℕ) = map rein_name (filter (λ r. same_name group r.group) sheet.reinsurers) in
+    c.reinsurers_of_group.ensures
+    ∙ ap (λ rows. fold earlier c.banks_of_group-banks.result (map rein_name (filter (λ r. same_name group r.group) rows))) c.rein_rows.ensures.rows
+    ∙ ap (λ first. fold earlier first reinsurers) (c.banks_of_group-banks.ensures
+    ∙ ap (λ rows. fold earlier c.securities_of_group-securities.result (map bank_name (filter (λ b. same_name group b.group) rows))) c.bank_rows.ensures.rows
+    ∙ ap (λ first. fold earlier first banks) (c.securities_of_group-securities.ensures
+    ∙ ap (λ rows. fold earlier None (map position_name (filter (is_of_group group) rows))) c.security_rows.ensures.rows)
+    ∙ sym (fold-append earlier None securities banks))
+    ∙ sym (fold-append earlier None (securities ++ banks) reinsurers)

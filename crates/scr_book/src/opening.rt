@@ -1,0 +1,64 @@
+//! The balance sheet before the first record.
+ghost use Rattle.std.specs.Prelude.{◌≡◌, [], ◌∷◌, pos, IfOk};
+ghost use Rattle.scr_sheet.specs.BalanceSheet.{opening_numbers, no_volumes, euro};
+
+use crate::{Curve, Name, Numbers, Rates, Regions};
+use scr_dates::Day;
+use std::alloc::{AllocError as NoMemory, Global};
+
+/// 1 January 2000, the reference date until a record gives another.
+const OPENING_DAY: i32 = 10_957;
+
+/// The euro, the reporting currency until a record gives another.
+pub(crate) fn euro() -> Name
+    ensures { result ≡ euro }
+{
+    Name::parse(b"EUR").unwrap()
+}
+
+/// Every number is 0.
+pub(crate) fn numbers() -> Numbers
+    ensures { result ≡ opening_numbers }
+{
+    let none = no_volumes();
+    Numbers {
+        asof: Day {
+            number: OPENING_DAY,
+        },
+        currency: euro(),
+        absorb: [0; 25],
+        nl: [none; 12],
+        nslt: [none; 4],
+        cat: [0; 13],
+        health_cat: [0; 3],
+        lapse: [0; 2],
+        due: [0; 2],
+        provisions: [0; 3],
+        earned: [0; 7],
+        sym: 0,
+        tax: 0,
+        cap: 0,
+        fdb: 0,
+        intangible: 0,
+    }
+}
+
+fn no_volumes() -> Regions
+    ensures { result ≡ no_volumes }
+{
+    Regions {
+        volumes: [(0, 0); 18],
+    }
+}
+
+/// The euro's curve, with the single rate 0.
+pub(crate) fn curve(alloc: Global) -> Result<Curve, NoMemory>
+    ensures { IfOk result (λ c. c ≡ record { currency = euro; rates = pos 0 ∷ []; absorb_up = 0; absorb_down = 0 }) }
+{
+    Ok(Curve {
+        currency: euro(),
+        rates: Rates::new(vec![in alloc; 0]?),
+        absorb_up: 0,
+        absorb_down: 0,
+    })
+}

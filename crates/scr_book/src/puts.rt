@@ -1,0 +1,404 @@
+//! What a record without a fault makes of the book. All memory is taken before the first change, and each sum moves by
+//! what goes out and what comes in.
+ghost use Rattle.std.specs.Prelude.{◌≡◌, ◌+◌, None, true, OnOk, OnErr};
+ghost use Rattle.std.specs.Option.{option_map_or};
+ghost use Rattle.scr_sheet.specs.BalanceSheet.{line_name, bank_name, rein_name, curve_name};
+ghost use Rattle.scr_sheet.specs.CashFlows.{total, flows_under};
+ghost use Rattle.scr_sheet.specs.Faults.{fault_of};
+ghost use Rattle.scr_sheet.specs.Forms.{Formed};
+ghost use Rattle.scr_sheet.specs.Records.{applied};
+ghost use Rattle.scr_sheet.specs.Tables.{row_of};
+ghost use Rattle.scr_book.specs.Verbs.{is_of_numbers, takes_no_memory};
+
+use crate::{
+    AbsorbKey, Bank, Book, Class, Curve, Edit, Flows, Group, GroupKind, Liability, LineFlows,
+    LineKind, Name, Position, Projection, Rates, Rein, Security, Table,
+};
+use scr_factors::Set;
+use scr_sheet::natural;
+use std::alloc::{AllocError as NoMemory, Global};
+
+impl Book {
+    // Applies a record that has no fault. Where memory is refused the book is as before.
+    pub(crate) fn put(&mut self, alloc: Global, edit: &Edit) -> Result<(), NoMemory>
+        requires formed { Formed edit.now }
+        requires no_fault { fault_of edit.now self.old ≡ None }
+        ensures ok { OnOk result (self.new ≡ applied edit.now self.old) }
+        ensures err { OnErr result (self.new ≡ self.old) }
+    {
+        match edit {
+            Edit::Curve { currency, rates } => self.put_curve(alloc, currency, rates),
+            Edit::Group { name, kind, step } => self.put_group(name, *kind, *step),
+            Edit::Security {
+                name,
+                class,
+                group,
+                currency,
+                duration,
+            } => self.put_security(alloc, name, *class, *group, currency, *duration),
+            Edit::Flows { security, flows } => self.put_promise(alloc, security, flows),
+            Edit::Line {
+                name,
+                kind,
+                currency,
+            } => self.put_line(alloc, name, *kind, currency),
+            Edit::LineFlows {
+                line,
+                projection,
+                flows,
+            } => self.put_line_flows(alloc, line, *projection, flows),
+            Edit::Rein {
+                name,
+                group,
+                recoverables,
+                mitigation,
+                collateral,
+            } => self.put_rein(name, group, *recoverables, *mitigation, *collateral),
+            Edit::Bank { name, group, cents } => self.put_bank(name, group, *cents),
+            _ => {
+                self.put_in_place(edit);
+                Ok(())
+            }
+        }
+    }
+
+    fn put_in_place(&mut self, edit: &Edit)
+        requires in_place { takes_no_memory edit.now ≡ true }
+        requires formed { Formed edit.now }
+        requires no_fault { fault_of edit.now self.old ≡ None }
+        ensures { self.new ≡ applied edit.now self.old }
+    {
+        match edit {
+            Edit::Hold { name, cents } => self.put_held(name, *cents),
+            Edit::Absorb { key, cents } => self.put_absorb(*key, *cents),
+            Edit::Segment {
+                set,
+                number,
+                region,
+                premium,
+                reserve,
+            } => self.put_segment(*set, *number, *region, *premium, *reserve),
+            Edit::Remove { table, name } => self.remove(*table, name),
+            _ => self.put_numbers(edit),
+        }
+    }
+
+    fn put_numbers(&mut self, edit: &Edit)
+        requires numbers { is_of_numbers edit.now ≡ true }
+        requires formed { Formed edit.now }
+        requires no_fault { fault_of edit.now self.old ≡ None }
+        ensures { self.new ≡ applied edit.now self.old }
+    {
+        self.numbers.put(edit);
+    }
+
+    fn put_curve(&mut self, alloc: Global, currency: &Name, rates: &Rates) -> Result<(), NoMemory>
+        requires formed { Formed (Edit.Curve currency.now rates.now) }
+        requires no_fault { fault_of (Edit.Curve currency.now rates.now) self.old ≡ None }
+        ensures ok { OnOk result (self.new ≡ applied (Edit.Curve currency.now rates.now) self.old) }
+        ensures err { OnErr result (self.new ≡ self.old) }
+    {
+        let rates = rates.copy(alloc)?;
+        let (absorb_up, absorb_down) = self.absorptions(currency);
+        self.curves.put(Curve {
+            currency: *currency,
+            rates,
+            absorb_up,
+            absorb_down,
+        })?;
+        Ok(())
+    }
+
+    fn put_group(&mut self, name: &Name, kind: GroupKind, step: Option<u8>) -> Result<(), NoMemory>
+        requires formed { Formed (Edit.Group name.now kind step) }
+        requires no_fault { fault_of (Edit.Group name.now kind step) self.old ≡ None }
+        ensures ok { OnOk result (self.new ≡ applied (Edit.Group name.now kind step) self.old) }
+        ensures err { OnErr result (self.new ≡ self.old) }
+    {
+        self.groups.put(Group {
+            name: *name,
+            kind,
+            step,
+        })?;
+        Ok(())
+    }
+
+    fn put_security(
+        &mut self,
+        alloc: Global,
+        name: &Name,
+        class: Class,
+        group: Option<Name>,
+        currency: &Name,
+        duration: i64,
+    ) -> Result<(), NoMemory>
+        requires formed { Formed (Edit.Security name.now class group currency.now duration) }
+        requires no_fault { fault_of (Edit.Security name.now class group currency.now duration) self.old ≡ None }
+        ensures ok { OnOk result (
+            self.new ≡ applied (Edit.Security name.now class group currency.now duration) self.old) }
+        ensures err { OnErr result (self.new ≡ self.old) }
+    {
+        let duration = natural(duration) as u32;
+        let currency = *currency;
+        if self.securities.contains(name) {
+            self.securities.change(name, |position| {
+                position.security.class = class;
+                position.security.group = group;
+                position.security.currency = currency;
+                position.security.duration = duration;
+            });
+            return Ok(());
+        }
+        let security = Security {
+            name: *name,
+            class,
+            group,
+            currency,
+            duration,
+            flows: Flows::new(Vec::new(alloc)),
+        };
+        self.securities.put(Position { security, held: 0 })?;
+        Ok(())
+    }
+
+    fn put_promise(&mut self, alloc: Global, name: &Name, flows: &Flows) -> Result<(), NoMemory>
+        requires formed { Formed (Edit.Flows name.now flows.now) }
+        requires no_fault { fault_of (Edit.Flows name.now flows.now) self.old ≡ None }
+        ensures ok { OnOk result (self.new ≡ applied (Edit.Flows name.now flows.now) self.old) }
+        ensures err { OnErr result (self.new ≡ self.old) }
+    {
+        let promised = flows.copy(alloc)?;
+        self.securities
+            .change(name, |position| position.security.flows = promised);
+        Ok(())
+    }
+
+    fn put_held(&mut self, name: &Name, cents: i64)
+        requires formed { Formed (Edit.Hold name.now cents) }
+        requires no_fault { fault_of (Edit.Hold name.now cents) self.old ≡ None }
+        ensures { self.new ≡ applied (Edit.Hold name.now cents) self.old }
+    {
+        let old = self.held(name);
+        let new = natural(cents);
+        self.securities.change(name, |position| position.held = new);
+        self.sums.held = self.sums.held - old + new;
+    }
+
+    fn put_line(
+        &mut self,
+        alloc: Global,
+        name: &Name,
+        kind: LineKind,
+        currency: &Name,
+    ) -> Result<(), NoMemory>
+        requires formed { Formed (Edit.Line name.now kind currency.now) }
+        requires no_fault { fault_of (Edit.Line name.now kind currency.now) self.old ≡ None }
+        ensures ok { OnOk result (self.new ≡ applied (Edit.Line name.now kind currency.now) self.old) }
+        ensures err { OnErr result (self.new ≡ self.old) }
+    {
+        let currency = *currency;
+        if self.lines.contains(name) {
+            self.lines.change(name, |line| {
+                line.kind = kind;
+                line.currency = currency;
+            });
+            return Ok(());
+        }
+        self.lines.put(Liability {
+            name: *name,
+            kind,
+            currency,
+            flows: LineFlows::none(alloc),
+        })?;
+        Ok(())
+    }
+
+    fn put_line_flows(
+        &mut self,
+        alloc: Global,
+        name: &Name,
+        projection: Projection,
+        flows: &Flows,
+    ) -> Result<(), NoMemory>
+        requires formed { Formed (Edit.LineFlows name.now projection flows.now) }
+        requires no_fault { fault_of (Edit.LineFlows name.now projection flows.now) self.old ≡ None }
+        ensures ok { OnOk result (
+            self.new ≡ applied (Edit.LineFlows name.now projection flows.now) self.old) }
+        ensures err { OnErr result (self.new ≡ self.old) }
+    {
+        let projected = flows.copy(alloc)?;
+        let old = self.line_total(name, projection);
+        let new = flows.total() as u64;
+        self.lines
+            .change(name, |line| line.flows.put(projection, projected));
+        self.sums.exchange_line_flows(projection, old, new);
+        Ok(())
+    }
+
+    fn put_absorb(&mut self, key: AbsorbKey, cents: i64)
+        requires formed { Formed (Edit.Absorb key cents) }
+        requires no_fault { fault_of (Edit.Absorb key cents) self.old ≡ None }
+        ensures { self.new ≡ applied (Edit.Absorb key cents) self.old }
+    {
+        let cents = natural(cents);
+        match key {
+            AbsorbKey::CurrencyUp(currency) => self
+                .curves
+                .change(&currency, |curve| curve.absorb_up = cents),
+            AbsorbKey::CurrencyDown(currency) => self
+                .curves
+                .change(&currency, |curve| curve.absorb_down = cents),
+            _ => self.numbers.put_absorb(key, cents),
+        }
+    }
+
+    fn put_segment(&mut self, set: Set, number: u8, region: u8, premium: i64, reserve: i64)
+        requires formed { Formed (Edit.Segment set number region premium reserve) }
+        requires no_fault { fault_of (Edit.Segment set number region premium reserve) self.old ≡ None }
+        ensures { self.new ≡ applied (Edit.Segment set number region premium reserve) self.old }
+    {
+        let old = self.numbers.volumes(set, number, region);
+        let new = (natural(premium), natural(reserve));
+        self.numbers.put_volumes(set, number, region, new);
+        self.sums
+            .exchange_volumes(set, old.0 + old.1, new.0 + new.1);
+    }
+
+    fn put_rein(
+        &mut self,
+        name: &Name,
+        group: &Name,
+        recoverables: i64,
+        mitigation: i64,
+        collateral: i64,
+    ) -> Result<(), NoMemory>
+        requires formed { Formed (Edit.Rein name.now group.now recoverables mitigation collateral) }
+        requires no_fault { fault_of (Edit.Rein name.now group.now recoverables mitigation collateral) self.old ≡ None }
+        ensures ok { OnOk result (
+            self.new ≡ applied (Edit.Rein name.now group.now recoverables mitigation collateral) self.old) }
+        ensures err { OnErr result (self.new ≡ self.old) }
+    {
+        let recoverables = natural(recoverables);
+        let mitigation = natural(mitigation);
+        let old = self.rein_total(name);
+        self.reinsurers.put(Rein {
+            name: *name,
+            group: *group,
+            recoverables,
+            mitigation,
+            collateral: natural(collateral),
+        })?;
+        self.sums.defaults = self.sums.defaults - old + recoverables + mitigation;
+        Ok(())
+    }
+
+    fn put_bank(&mut self, name: &Name, group: &Name, cents: i64) -> Result<(), NoMemory>
+        requires formed { Formed (Edit.Bank name.now group.now cents) }
+        requires no_fault { fault_of (Edit.Bank name.now group.now cents) self.old ≡ None }
+        ensures ok { OnOk result (self.new ≡ applied (Edit.Bank name.now group.now cents) self.old) }
+        ensures err { OnErr result (self.new ≡ self.old) }
+    {
+        let cents = natural(cents);
+        let old = self.bank_total(name);
+        self.banks.put(Bank {
+            name: *name,
+            group: *group,
+            cents,
+        })?;
+        self.sums.defaults = self.sums.defaults - old + cents;
+        Ok(())
+    }
+
+    fn remove(&mut self, table: Table, name: &Name)
+        requires formed { Formed (Edit.Remove table name.now) }
+        requires no_fault { fault_of (Edit.Remove table name.now) self.old ≡ None }
+        ensures { self.new ≡ applied (Edit.Remove table name.now) self.old }
+    {
+        match table {
+            Table::Group => self.groups.remove(name),
+            Table::Security => self.securities.remove(name),
+            Table::Line => self.remove_line(name),
+            Table::Bank => self.remove_bank(name),
+            Table::Rein => self.remove_rein(name),
+            Table::Curve => self.curves.remove(name),
+        }
+    }
+
+    fn remove_line(&mut self, name: &Name)
+        requires formed { Formed (Edit.Remove Table.Line name.now) }
+        requires no_fault { fault_of (Edit.Remove Table.Line name.now) self.old ≡ None }
+        ensures { self.new ≡ applied (Edit.Remove Table.Line name.now) self.old }
+    {
+        let Some(line) = self.lines.get(name) else {
+            return;
+        };
+        self.sums.take_line(&line.flows);
+        self.lines.remove(name);
+    }
+
+    fn remove_bank(&mut self, name: &Name)
+        requires formed { Formed (Edit.Remove Table.Bank name.now) }
+        requires no_fault { fault_of (Edit.Remove Table.Bank name.now) self.old ≡ None }
+        ensures { self.new ≡ applied (Edit.Remove Table.Bank name.now) self.old }
+    {
+        let old = self.bank_total(name);
+        self.banks.remove(name);
+        self.sums.defaults -= old;
+    }
+
+    fn remove_rein(&mut self, name: &Name)
+        requires formed { Formed (Edit.Remove Table.Rein name.now) }
+        requires no_fault { fault_of (Edit.Remove Table.Rein name.now) self.old ≡ None }
+        ensures { self.new ≡ applied (Edit.Remove Table.Rein name.now) self.old }
+    {
+        let old = self.rein_total(name);
+        self.reinsurers.remove(name);
+        self.sums.defaults -= old;
+    }
+
+    // The absorptions of a currency, 0 where it has no curve yet.
+    fn absorptions(&self, currency: &Name) -> (u64, u64)
+        ensures up { result.0
+            ≡ option_map_or (λ c. c.absorb_up) (row_of curve_name currency.now self.now.curves) 0 }
+        ensures down { result.1
+            ≡ option_map_or (λ c. c.absorb_down) (row_of curve_name currency.now self.now.curves) 0 }
+    {
+        match self.curve_row(currency) {
+            Some(curve) => (curve.absorb_up, curve.absorb_down),
+            None => (0, 0),
+        }
+    }
+
+    // What a line pays and receives under a projection.
+    fn line_total(&self, name: &Name, projection: Projection) -> u64
+        ensures { result
+            ≡ option_map_or (λ l. total (flows_under projection l.flows))
+            (row_of line_name name.now self.now.lines) 0 }
+    {
+        match self.line_row(name) {
+            Some(line) => line.flows.under(projection).total() as u64,
+            None => 0,
+        }
+    }
+
+    // What a bank and a reinsurer are of all exposures.
+    fn bank_total(&self, name: &Name) -> u64
+        ensures { result ≡ option_map_or (λ b. b.cents) (row_of bank_name name.now self.now.banks) 0 }
+    {
+        match self.bank_row(name) {
+            Some(bank) => bank.cents,
+            None => 0,
+        }
+    }
+
+    fn rein_total(&self, name: &Name) -> u64
+        ensures { result
+            ≡ option_map_or (λ r. r.recoverables + r.mitigation)
+            (row_of rein_name name.now self.now.reinsurers) 0 }
+    {
+        match self.rein_row(name) {
+            Some(rein) => rein.recoverables + rein.mitigation,
+            None => 0,
+        }
+    }
+}

@@ -1,0 +1,357 @@
+//! The quantities of the whole book, as a record would leave it.
+ghost use Rattle.std.specs.Prelude.{◌≡◌, ◌^◌, ◌+◌, ◌-◌, ◌<◌, ◌≤◌, None, if◌then◌else◌, length, max};
+ghost use Rattle.std.specs.List.{AllByRecursion};
+ghost use Rattle.std.specs.Option.{option_or, option_map_or};
+ghost use Rattle.scr_dates.specs.Civil.{IsDay};
+ghost use Rattle.scr_sheet.specs.Tables.{row_of};
+ghost use Rattle.scr_sheet.specs.CashFlows as cash;
+ghost use Rattle.scr_sheet.specs.CashFlows.{greatest_years, flows_under};
+ghost use Rattle.scr_sheet.specs.BalanceSheet.{group_name, position_name, line_name, bank_name, rein_name, curve_name, held_of, held_total, line_flows_total, volumes_total, defaults_total, greatest, security_years, line_years};
+ghost use Rattle.scr_sheet.specs.Faults.{Answers, list_fault, unknown_name, wrong_kind, in_use, out_of_range, sheet_outside, above};
+ghost use Rattle.scr_sheet.specs.Forms.{Formed, AreOnDays};
+ghost use Rattle.scr_sheet.specs.Records.{applied, natural};
+ghost use Rattle.scr_sheet.specs.Validity.{IsSecurity, IsLine};
+ghost use Rattle.scr_book.specs.Counts.{rows_with};
+
+use crate::fields::{above, fields_outside, first_of};
+use crate::{
+    Book, Edit, Fault, Flows, Liability, MAX_AMOUNT, MAX_CURRENCIES, MAX_EXPOSURES, MAX_GROUPS,
+    MAX_HELD, MAX_LINE_FLOWS, MAX_LINES, MAX_SECURITIES, MAX_YEARS, Name, Position, Projection,
+    Quantity, Table,
+};
+use scr_dates::{Day, Maturity, maturity};
+use scr_factors::Set;
+use scr_sheet::{Rows, natural};
+
+/// The first quantity that lies outside its limits in the book as the record would leave it. Sums are those that the
+/// book keeps, so a record costs its own length, that of the flows that it replaces and some look-ups; only a new
+/// reference date walks all flows.
+pub(crate) fn check_ranges(book: &Book, edit: &Edit) -> Result<(), Fault>
+    requires formed { Formed edit.now }
+    requires list { list_fault edit.now ≡ None }
+    requires known { unknown_name edit.now book.now ≡ None }
+    requires kind { wrong_kind edit.now book.now ≡ None }
+    requires free { in_use edit.now book.now ≡ None }
+    ensures { Answers (out_of_range edit.now book.now) result }
+{
+    let own = fields_outside(edit);
+    match first_of(own, sheet_outside(book, edit)) {
+        Some(fault) => Err(fault),
+        None => Ok(()),
+    }
+}
+
+// The first quantity of the whole book outside its limits, of the few that the record can take there.
+fn sheet_outside(book: &Book, edit: &Edit) -> Option<Fault>
+    requires formed { Formed edit.now }
+    requires known { unknown_name edit.now book.now ≡ None }
+    requires kind { wrong_kind edit.now book.now ≡ None }
+    ensures { result ≡ sheet_outside edit.now (applied edit.now book.now) }
+{
+    let asof = book.numbers().asof;
+    match *edit {
+        Edit::Asof { date, .. } => outside_years(years_at(book, date)),
+        Edit::Curve { currency, .. } => outside_currencies(book, &currency),
+        Edit::Group { name, .. } => outside_groups(book, &name),
+        Edit::Security { name, .. } => outside_securities(book, &name),
+        Edit::Line { name, .. } => outside_lines(book, &name),
+        Edit::Flows { ref flows, .. } => outside_years(years(asof, flows.as_slice())),
+        Edit::Hold { name, cents } => outside_held(book, &name, cents),
+        Edit::LineFlows {
+            line,
+            projection,
+            ref flows,
+        } => {
+            let total = outside_line_flows(book, &line, projection, flows);
+            first_of(total, outside_years(years(asof, flows.as_slice())))
+        }
+        Edit::Segment {
+            set,
+            number,
+            region,
+            premium,
+            reserve,
+        } => {
+            let old = book.numbers().volumes(set, number, region);
+            outside_volumes(book, set, old, (natural(premium), natural(reserve)))
+        }
+        Edit::Rein {
+            name,
+            recoverables,
+            mitigation,
+            ..
+        } => outside_rein(book, &name, (natural(recoverables), natural(mitigation))),
+        Edit::Bank { name, cents, .. } => outside_bank(book, &name, natural(cents)),
+        Edit::Absorb { .. }
+        | Edit::Cat { .. }
+        | Edit::Lapse { .. }
+        | Edit::Due { .. }
+        | Edit::Op { .. }
+        | Edit::Sym { .. }
+        | Edit::Tax { .. }
+        | Edit::Fdb { .. }
+        | Edit::Intangible { .. }
+        | Edit::Remove { .. } => None,
+    }
+}
+
+// ---- numbers of rows, each a row more, unless there is one of the name
+
+fn outside_currencies(book: &Book, currency: &Name) -> Option<Fault>
+    ensures { result ≡ above Quantity.Currencies (rows_with curve_name currency.now book.now.curves) MAX_CURRENCIES }
+{
+    let is_there = book.has(Table::Curve, currency);
+    outside_count(
+        Quantity::Currencies,
+        book.curves(),
+        is_there,
+        MAX_CURRENCIES,
+    )
+}
+
+fn outside_groups(book: &Book, name: &Name) -> Option<Fault>
+    ensures { result ≡ above Quantity.Groups (rows_with group_name name.now book.now.groups) MAX_GROUPS }
+{
+    let is_there = book.has(Table::Group, name);
+    outside_count(Quantity::Groups, book.groups(), is_there, MAX_GROUPS)
+}
+
+fn outside_securities(book: &Book, name: &Name) -> Option<Fault>
+    ensures { result ≡ above Quantity.Securities (rows_with position_name name.now book.now.securities) MAX_SECURITIES }
+{
+    let is_there = book.has(Table::Security, name);
+    outside_count(
+        Quantity::Securities,
+        book.securities(),
+        is_there,
+        MAX_SECURITIES,
+    )
+}
+
+fn outside_lines(book: &Book, name: &Name) -> Option<Fault>
+    ensures { result ≡ above Quantity.Lines (rows_with line_name name.now book.now.lines) MAX_LINES }
+{
+    let is_there = book.has(Table::Line, name);
+    outside_count(Quantity::Lines, book.lines(), is_there, MAX_LINES)
+}
+
+fn outside_count(quantity: Quantity, rows: u32, is_there: bool, limit: u32) -> Option<Fault>
+    ensures { result ≡ above quantity (if is_there then rows else rows + 1) limit }
+{
+    let new = if is_there { 0 } else { 1 };
+    above(quantity, u128::from(rows) + new, u64::from(limit))
+}
+
+// ---- sums, each with what the record gives in place of what stood for it
+
+fn outside_held(book: &Book, name: &Name, cents: i64) -> Option<Fault>
+    ensures { result ≡ above Quantity.Held
+        (held_total book.now - held_of book.now name.now + natural cents) MAX_HELD }
+{
+    let others = book.held_total() - book.held(name);
+    above(
+        Quantity::Held,
+        u128::from(others) + u128::from(natural(cents)),
+        MAX_HELD,
+    )
+}
+
+fn outside_line_flows(
+    book: &Book,
+    line: &Name,
+    projection: Projection,
+    flows: &Flows,
+) -> Option<Fault>
+    ensures { result ≡ above Quantity.LineFlows
+        (line_flows_total projection book.now
+        - option_map_or (λ l. cash.total (flows_under projection l.flows)) (row_of line_name line.now book.now.lines) 0
+        + cash.total flows.now) MAX_LINE_FLOWS }
+{
+    let others = u128::from(book.line_flows_total(projection)) - line_total(book, line, projection);
+    above(Quantity::LineFlows, others + flows.total(), MAX_LINE_FLOWS)
+}
+
+fn outside_volumes(book: &Book, set: Set, old: (u64, u64), new: (u64, u64)) -> Option<Fault>
+    requires { old.0 + old.1 ≤ volumes_total set book.now }
+    ensures { result ≡ above Quantity.Volumes
+        (volumes_total set book.now - (old.0 + old.1) + (new.0 + new.1)) MAX_AMOUNT }
+{
+    let others = book.volumes_total(set) - (old.0 + old.1);
+    above(Quantity::Volumes, u128::from(others) + sum(new), MAX_AMOUNT)
+}
+
+// ---- exposures: their sum, and a row more, unless there is one of the name
+
+fn outside_rein(book: &Book, name: &Name, new: (u64, u64)) -> Option<Fault>
+    ensures { result ≡ option_or
+        (above Quantity.Defaults
+        (defaults_total book.now
+        - option_map_or (λ r. r.recoverables + r.mitigation) (row_of rein_name name.now book.now.reinsurers) 0
+        + (new.0 + new.1)) MAX_AMOUNT)
+        (above Quantity.Exposures
+        (length book.now.banks + rows_with rein_name name.now book.now.reinsurers) MAX_EXPOSURES) }
+{
+    let is_there = book.has(Table::Rein, name);
+    outside_exposures(book, rein_total(book, name), sum(new), is_there)
+}
+
+fn outside_bank(book: &Book, name: &Name, cents: u64) -> Option<Fault>
+    ensures { result ≡ option_or
+        (above Quantity.Defaults
+        (defaults_total book.now - option_map_or (λ b. b.cents) (row_of bank_name name.now book.now.banks) 0
+        + cents) MAX_AMOUNT)
+        (above Quantity.Exposures
+        (rows_with bank_name name.now book.now.banks + length book.now.reinsurers) MAX_EXPOSURES) }
+{
+    let is_there = book.has(Table::Bank, name);
+    outside_exposures(book, bank_total(book, name), u128::from(cents), is_there)
+}
+
+fn outside_exposures(book: &Book, old: u64, new: u128, is_there: bool) -> Option<Fault>
+    requires part { old ≤ defaults_total book.now }
+    requires fits { new < 2 ^ 65 }
+    ensures { let rows = length book.now.banks + length book.now.reinsurers in
+        result ≡ option_or (above Quantity.Defaults (defaults_total book.now - old + new) MAX_AMOUNT)
+        (above Quantity.Exposures (if is_there then rows else rows + 1) MAX_EXPOSURES) }
+{
+    let total = u128::from(book.defaults_total() - old) + new;
+    let rows = book.banks() + book.reinsurers();
+    let outside = above(Quantity::Defaults, total, MAX_AMOUNT);
+    first_of(
+        outside,
+        outside_count(Quantity::Exposures, rows, is_there, MAX_EXPOSURES),
+    )
+}
+
+fn sum(amounts: (u64, u64)) -> u128
+    ensures value { result ≡ amounts.0 + amounts.1 }
+    ensures fits { result < 2 ^ 65 }
+{
+    u128::from(amounts.0) + u128::from(amounts.1)
+}
+
+// What the line of this name pays and receives under the projection, 0 where there is none.
+fn line_total(book: &Book, line: &Name, projection: Projection) -> u128
+    ensures value { result
+        ≡ option_map_or (λ l. cash.total (flows_under projection l.flows)) (row_of line_name line.now book.now.lines) 0 }
+    ensures part { result ≤ line_flows_total projection book.now }
+{
+    match book.line_row(line) {
+        Some(line) => line.flows.under(projection).total(),
+        None => 0,
+    }
+}
+
+// What the bank of this name holds, 0 where there is none.
+fn bank_total(book: &Book, name: &Name) -> u64
+    ensures value { result ≡ option_map_or (λ b. b.cents) (row_of bank_name name.now book.now.banks) 0 }
+    ensures part { result ≤ defaults_total book.now }
+{
+    match book.bank_row(name) {
+        Some(bank) => bank.cents,
+        None => 0,
+    }
+}
+
+// The recoverables and the risk-mitigating effect of the reinsurer of this name, 0 where there is none.
+fn rein_total(book: &Book, name: &Name) -> u64
+    ensures value { result
+        ≡ option_map_or (λ r. r.recoverables + r.mitigation) (row_of rein_name name.now book.now.reinsurers) 0 }
+    ensures part { result ≤ defaults_total book.now }
+{
+    match book.rein_row(name) {
+        Some(rein) => rein.recoverables + rein.mitigation,
+        None => 0,
+    }
+}
+
+// ---- years
+
+fn outside_years(years: u16) -> Option<Fault>
+    ensures { result ≡ above Quantity.Years years MAX_YEARS }
+{
+    above(Quantity::Years, u128::from(years), u64::from(MAX_YEARS))
+}
+
+// The greatest number of years from the date to a payment of the book.
+fn years_at(book: &Book, asof: Day) -> u16
+    requires { IsDay asof.number }
+    ensures { result ≡ max (greatest (security_years asof.number) book.now.securities)
+        (greatest (line_years asof.number) book.now.lines) }
+{
+    let securities = security_years(book.security_rows(), asof);
+    securities.max(all_line_years(book.line_rows(), asof))
+}
+
+// The greatest number of years to a payment, none for one that is past.
+fn years(asof: Day, flows: &[(Day, i64)]) -> u16
+    requires asof_in { IsDay asof.number }
+    requires on_days { AreOnDays flows.now }
+    ensures { result ≡ greatest_years asof.number flows.now }
+{
+    let mut most = 0;
+    for flow in flows {
+        most = most.max(years_of(maturity(asof, flow.0)));
+    }
+    most
+}
+
+fn years_of(maturity: Maturity) -> u16
+    ensures { result ≡ cash.years_of maturity }
+{
+    match maturity {
+        Maturity::Past => 0,
+        Maturity::Years(years) => u16::from(years),
+        Maturity::TooFar(years) => years,
+    }
+}
+
+fn security_years(securities: &Rows<Position>, asof: Day) -> u16
+    requires asof_in { IsDay asof.number }
+    requires formed { AllByRecursion IsSecurity securities.now }
+    ensures { result ≡ greatest (security_years asof.number) securities.now }
+{
+    let mut most = 0;
+    for position in securities.iter() {
+        most = most.max(years(asof, position.security.flows.as_slice()));
+    }
+    most
+}
+
+fn all_line_years(lines: &Rows<Liability>, asof: Day) -> u16
+    requires asof_in { IsDay asof.number }
+    requires formed { AllByRecursion IsLine lines.now }
+    ensures { result ≡ greatest (line_years asof.number) lines.now }
+{
+    let mut most = 0;
+    for line in lines.iter() {
+        most = most.max(line_years(line, &PROJECTIONS, asof));
+    }
+    most
+}
+
+const PROJECTIONS: [Projection; 10] = [
+    Projection::Base,
+    Projection::Mortality,
+    Projection::Longevity,
+    Projection::Disability,
+    Projection::Expense,
+    Projection::Revision,
+    Projection::LapseUp,
+    Projection::LapseDown,
+    Projection::LapseMass,
+    Projection::Catastrophe,
+];
+
+fn line_years(line: &Liability, projections: &[Projection], asof: Day) -> u16
+    requires asof_in { IsDay asof.number }
+    requires formed { IsLine line.now }
+    ensures { result
+        ≡ greatest (λ projection. greatest_years asof.number (flows_under projection line.now.flows)) projections.now }
+{
+    let mut most = 0;
+    for projection in projections {
+        most = most.max(years(asof, line.flows.under(*projection).as_slice()));
+    }
+    most
+}
