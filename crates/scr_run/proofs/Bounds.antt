@@ -2,25 +2,24 @@
 use Rattle.std.proofs.Common.{ℕ, lit<, arith}
 use Rattle.std.specs.Prelude.{ℤ, negsuc, ◌≤ℤ◌, List, [], ◌∷◌}
 use Rattle.std.specs.List.{AllByRecursion}
-use Rattle.std.proofs.lemmas.Int.{ints}
+use Rattle.std.proofs.lemmas.Int.{ints, clamps}
 use Rattle.scr_num.specs.Rounding.{floor_div, ceil_div}
 use Rattle.scr_num.specs.Enclosure.{Encloses}
 use Rattle.scr_num.proofs.Enclosing.{Encloses-coarser}
 use Rattle.scr_agg.proofs.NetAmounts.{Encloses-net}
 use Rattle.scr_market.proofs.EquityBounds.{enclose_equity}
 use Rattle.scr_sheet.specs.BalanceSheet.{BalanceSheet}
-use Rattle.scr_sheet.specs.Validity.{Valid}
 use Rattle.scr_run.specs.Equity.{equity_sums}
 use Rattle.scr_run.specs.Report.{Cell, cells, WorkedEncloses, BoundsEnclose, adjustment, equity_absorption, worked_equity, exact_equity}
 
--- the symmetric adjustment of a valid balance sheet is at least -100,000 millionths
-least : (sheet : BalanceSheet) → Valid sheet → negsuc 99_999 ≤ℤ adjustment sheet
-least sheet valid = omega (arith, ints, valid.numbers.sym.0)
+-- the symmetric adjustment is at least -100,000 millionths
+least : (sheet : BalanceSheet) → negsuc 99_999 ≤ℤ adjustment sheet
+least sheet = omega (arith, ints, clamps)
 
-pub worked_encloses : (sheet : BalanceSheet) → Valid sheet → WorkedEncloses sheet
+pub worked_encloses : (sheet : BalanceSheet) → WorkedEncloses sheet
 unfolding cells
-worked_encloses sheet valid =
-    let e = enclose_equity (equity_sums sheet) (adjustment sheet) (least sheet valid) in (
+worked_encloses sheet =
+    let e = enclose_equity (equity_sums sheet) (adjustment sheet) (least sheet) in (
       e.type1_within,
       (
         e.type2_within,
@@ -43,5 +42,5 @@ in_cents : (cs : List Cell) → AllByRecursion (λ cell. Encloses 1000 cell.work
 in_cents [] h = tt
 in_cents (cell ∷ cs) h = (Encloses-coarser 1 1000 cell.worked.low cell.worked.high cell.exact (lit< tt) h.0, in_cents cs h.1)
 
-pub bounds_enclose : (sheet : BalanceSheet) → Valid sheet → BoundsEnclose sheet
-bounds_enclose sheet valid = in_cents (cells sheet) (worked_encloses sheet valid)
+pub bounds_enclose : (sheet : BalanceSheet) → BoundsEnclose sheet
+bounds_enclose sheet = in_cents (cells sheet) (worked_encloses sheet)

@@ -1,7 +1,8 @@
 -- The report (this project's own): a line `# 0 book` and a block of a line for each cell, with a lower and an upper
 -- bound of its figure; then for each record of the edits a line that says whether it was accepted, and the block
 -- that an accepted one leaves.
-use Rattle.std.specs.Prelude.{ℕ, ◌++◌, ◌||◌, Bool, false, List, [], ◌∷◌, ℤ, Result, Ok, Err, is_err, codes, decimal, flat_map}
+use Rattle.std.specs.Prelude.{ℕ, ◌++◌, ◌||◌, Bool, false, List, [], ◌∷◌, ℤ, Result, Ok, Err, is_err, codes, decimal, flat_map, pos, negsuc}
+use Rattle.std.specs.Int.{int_max, int_min}
 use Rattle.std.specs.List.{AllByRecursion}
 use Rattle.scr_num.specs.Rounding.{Ends, floor_div, ceil_div}
 use Rattle.scr_num.specs.Figure.{Figure}
@@ -32,9 +33,9 @@ lower_bound worked = floor_div worked.low 1000
 abbrev pub upper_bound : Ends → ℤ
 upper_bound worked = ceil_div worked.high 1000
 
--- the symmetric adjustment, in millionths
+-- the symmetric adjustment, in millionths: it is never below -10 percent nor above 10 (Article 172)
 abbrev pub adjustment : BalanceSheet → ℤ
-adjustment sheet = sheet.numbers.sym
+adjustment sheet = int_max (negsuc 99_999) (int_min (pos 100_000) sheet.numbers.sym)
 
 -- what technical provisions and deferred taxes absorb of the equity scenario, in cents
 abbrev pub equity_absorption : BalanceSheet → ℕ
