@@ -7,3 +7,14 @@ pub mod Cycles
 pub mod Rows
 pub mod Shares
 pub mod Naming
+pub mod EarliestPaths
+pub mod NamedPaths
+pub mod SumsBy
+pub mod Climbs
+pub mod LookThroughLaws
+pub mod NamedTotals
+pub mod SplitSums
+pub mod Ranges
+pub mod HandedOut
+pub mod RowSteps
+pub mod Handing

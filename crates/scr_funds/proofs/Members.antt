@@ -60,6 +60,10 @@ module _ {A : Type 0} where
   each_weaker P Q f [] all = tt
   each_weaker P Q f (y ∷ ys) all = (f y all.0, each_weaker P Q f ys all.1)
 
+  pub each-from_members : (P : A → Type 0) (xs : List A) → ((x : A) → IsMember x xs → P x) → AllByRecursion P xs
+  each-from_members P [] f = tt
+  each-from_members P (x ∷ xs) f = (f x (inl refl), each-from_members P xs (λ y m. f y (inr m)))
+
   pub All-from_members : (P : A → Type 0) (xs : List A) → ((x : A) → IsMember x xs → P x) → All P xs
   All-from_members P xs f = λ k d l. f (get_or xs k d) (IsMember-from_Contains xs (get_or xs k d) (Contains-get_or xs k d l))
 
@@ -68,6 +72,11 @@ module _ {A : Type 0} where
   IsMember-map f [] y h = absurd h
   IsMember-map f (x ∷ xs) y (inl e) = (x, inl refl, sym e)
   IsMember-map f (x ∷ xs) y (inr h) = let later = IsMember-map f xs y h in (later.0, inr later.1, later.2)
+
+  pub IsMember-mapped : {B : Type 0} (f : B → A) (xs : List B) (x : B) → IsMember x xs → IsMember (f x) (map f xs)
+  IsMember-mapped f [] x h = absurd h
+  IsMember-mapped f (y ∷ ys) x (inl e) = inl (ap f e)
+  IsMember-mapped f (y ∷ ys) x (inr h) = inr (IsMember-mapped f ys x h)
 
   -- a member of the front is met before what is none of it
   pub met_in_front : (front rest : List A) (c d : A) → IsMember c front → (IsMember d front → ⊥) → IsMetBefore (front ++ rest) c d

@@ -5,3 +5,7 @@ pub mod Kept
 pub mod KeptEdges
 pub mod Parts
 pub mod Search
+pub mod Paths
+pub mod LookThrough
+pub mod ByNumber
+pub mod HandedOn

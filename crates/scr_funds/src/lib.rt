@@ -4,6 +4,7 @@
 mod fault;
 mod kept;
 pub mod laws;
+mod look_through;
 mod order;
 mod parts;
 mod search;
@@ -12,5 +13,6 @@ mod tests;
 
 pub use fault::{OrderFault, Places};
 pub use kept::Kept;
+pub use look_through::totals;
 pub use order::FundOrder;
 pub use parts::allocate;

@@ -2,7 +2,7 @@
 ghost use Rattle.std.specs.Prelude.{◌≡◌, ◌≤◌, ◌<◌, [], IfOk, OnOk, OnErr, MatchOption};
 ghost use Rattle.scr_funds.specs.Answers.{Answers};
 ghost use Rattle.scr_funds.specs.Chains.{IsAcyclic, IsFirstShortest, LeadsTo};
-ghost use Rattle.scr_funds.specs.Components.{AreBelow, IsOrder, components_of, grown, size_of, with_components, with_edges};
+ghost use Rattle.scr_funds.specs.Components.{AreBelow, IsOrder, components_of, components_with, grown, size_of, with_components, with_edges};
 ghost use Rattle.scr_funds.specs.Search.{rows_of};
 
 use crate::search::{first_chain, number_above, row_of};
@@ -50,11 +50,20 @@ impl FundOrder {
         ensures err { OnErr result (self.new ≡ self.old) }
         ensures order { IsOrder self.new }
     {
-        if let Some(path) = first_chain(alloc, &self.rows, from, to, from)? {
-            return Err(OrderFault::Cycle(Places::new(path)));
-        }
+        self.check_edges(alloc, from, to)?;
         put_row(&mut self.rows, alloc, from, to)?;
         Ok(())
+    }
+
+    /// Whether a fund could have the components `to` in the place of its own; nothing changes. `Cycle` comes exactly where
+    /// it would then hold itself, and tells the first shortest chain by which it would.
+    pub fn check_edges(&self, alloc: Global, from: u32, to: &[u32]) -> Result<(), OrderFault>
+        ensures answer { Answers (components_with from to.now self.now) from result }
+    {
+        match first_chain(alloc, &self.rows, from, to, from)? {
+            Some(path) => Err(OrderFault::Cycle(Places::new(path))),
+            None => Ok(()),
+        }
     }
 
     /// Takes off all edges from a fund and hands them out, without memory.

@@ -2,7 +2,7 @@
 ghost use Rattle.std.specs.Prelude.{◌≡◌, []};
 ghost use Rattle.scr_funds.specs.Components.{components_of};
 
-use crate::{FundOrder, Kept, OrderFault, Places, allocate};
+use crate::{FundOrder, Kept, OrderFault, Places, allocate, totals};
 use std::alloc::Global;
 use std::process::Abort;
 use std::test::Fail;
@@ -29,6 +29,28 @@ fn greatest_value_and_weight_are_shared(rt: HostRuntime) {
     let mut parts = [0; 2];
     allocate(50_000_000_000_000, &[1_000_000_000, 1], &mut parts);
     assert_eq!(rt; parts, [49_999_999_950_000, 50_000]);
+}
+
+#[test]
+fn two_funds_that_hold_a_third_half_each(rt: HostRuntime) -> Result<(), Fail> {
+    let alloc = rt.alloc();
+    let funds = vec![in alloc;
+        vec![in alloc; (3, 1), (4, 1)]?,
+        vec![in alloc; (0, 1), (3, 1)]?,
+        vec![in alloc; (3, 1), (0, 1)]?,
+    ]?;
+    let found = totals(alloc, &[0, 101, 100, 7, 0], &funds)?;
+    assert_eq!(rt; found.as_slice(), [100, 101, 100, 158, 50].as_slice());
+    Ok(())
+}
+
+#[test]
+fn a_third_of_a_fund_and_a_closed_fund(rt: HostRuntime) -> Result<(), Fail> {
+    let alloc = rt.alloc();
+    let funds = vec![in alloc; vec![in alloc; (2, 1), (1, 1), (3, 1)]?, Vec::new(alloc)]?;
+    let found = totals(alloc, &[100, 5, 0, 1], &funds)?;
+    assert_eq!(rt; found.as_slice(), [100, 38, 33, 35].as_slice());
+    Ok(())
 }
 
 /// Gives a fund these components in place of those that it has.
@@ -68,6 +90,35 @@ fn a_cycle_is_told_and_changes_nothing(rt: HostRuntime) -> Result<(), Fail> {
     assert!(rt; order.path(alloc, 0, 1)?.is_none());
     let path = refused_path(&rt, set(&mut order, alloc, 2, &[2]));
     assert_eq!(rt; path.as_slice(), [2, 2].as_slice());
+    Ok(())
+}
+
+#[test]
+fn a_cycle_is_told_before_it_is_made(rt: HostRuntime) -> Result<(), Fail> {
+    let alloc = rt.alloc();
+    let mut order = FundOrder::new(alloc)?;
+    set(&mut order, alloc, 1, &[0, 3])?;
+    set(&mut order, alloc, 2, &[1])?;
+    let path = refused_path(&rt, order.check_edges(alloc, 0, &[5, 2]));
+    assert_eq!(rt; path.as_slice(), [0, 2, 1, 0].as_slice());
+    order.check_edges(alloc, 0, &[5, 3])?;
+    assert!(rt; order.path(alloc, 0, 5)?.is_none());
+    Ok(())
+}
+
+#[test]
+fn components_are_checked_in_place_of_those_a_fund_has(rt: HostRuntime) -> Result<(), Fail> {
+    let alloc = rt.alloc();
+    let mut order = FundOrder::new(alloc)?;
+    set(&mut order, alloc, 1, &[2])?;
+    set(&mut order, alloc, 2, &[3])?;
+    let path = refused_path(&rt, order.check_edges(alloc, 2, &[4, 1]));
+    assert_eq!(rt; path.as_slice(), [2, 1, 2].as_slice());
+    order.check_edges(alloc, 1, &[4])?;
+    assert_eq!(rt;
+        path_of(&rt, &order, alloc, 1, 3)?.as_slice(),
+        [1, 2, 3].as_slice()
+    );
     Ok(())
 }
 
