@@ -1,12 +1,14 @@
 -- What a valid sheet needs of a table, or of the numbers, that take the place of its own.
 use Rattle.std.proofs.Common.{◌≡◌, ℕ, false, List, [], ◌++◌, map, sym, subst, append_assoc, append-nil}
 use Rattle.std.specs.List.{AllByRecursion, IsDistinct}
+use Rattle.scr_funds.specs.Chains.{IsAcyclic}
 use Rattle.scr_sheet.specs.Names.{same_name}
 use Rattle.scr_sheet.specs.Tables.{has_row, with_row, without}
-use Rattle.scr_sheet.specs.BalanceSheet.{BalanceSheet, group_name, position_name, line_name, bank_name, rein_name, curve_name, names_of, is_named}
-use Rattle.scr_sheet.specs.Validity.{Valid, AreWithin, AreNumbers, IsGroup, IsSecurity, IsLine, IsBank, IsRein, IsCurve, HasGroup, HasGroupOrNone, HasCurrency}
+use Rattle.scr_sheet.specs.BalanceSheet.{BalanceSheet, group_name, position_name, line_name, bank_name, rein_name, curve_name, stake_name, names_of, components_of, is_named}
+use Rattle.scr_sheet.specs.Validity.{Valid, AreWithin, AreNumbers, IsGroup, IsSecurity, IsStake, IsLine, IsBank, IsRein, IsCurve, HasGroup, HasGroupOrNone, HasCurrency, IsHeld}
 use Rattle.scr_sheet.specs.declared.rows.Group.{Group}
 use Rattle.scr_sheet.specs.declared.rows.Position.{Position}
+use Rattle.scr_sheet.specs.declared.rows.Stake.{Stake}
 use Rattle.scr_sheet.specs.declared.rows.Liability.{Liability}
 use Rattle.scr_sheet.specs.declared.rows.Bank.{Bank}
 use Rattle.scr_sheet.specs.declared.rows.Rein.{Rein}
@@ -23,6 +25,7 @@ module _ (sheet : BalanceSheet) (valid : Valid sheet) where
       record {
         groups = all;
         securities = valid.securities;
+        funds = valid.funds;
         lines = valid.lines;
         banks = valid.banks;
         reinsurers = valid.reinsurers;
@@ -30,6 +33,7 @@ module _ (sheet : BalanceSheet) (valid : Valid sheet) where
         numbers = valid.numbers;
         named_once = named;
         currencies_once = valid.currencies_once;
+        acyclic = valid.acyclic;
         within = within;
         known = record {
           security_groups = securities;
@@ -37,16 +41,20 @@ module _ (sheet : BalanceSheet) (valid : Valid sheet) where
           rein_groups = reinsurers;
           security_currencies = valid.known.security_currencies;
           line_currencies = valid.known.line_currencies;
+          components = valid.known.components;
           reporting = valid.known.reporting;
         };
       }
 
-  pub valid-securities : (securities : List Position) → let after : BalanceSheet = record sheet { securities = securities } in AllByRecursion IsSecurity securities → IsDistinct same_name (names_of after)
-      → AllByRecursion (λ p. HasGroupOrNone sheet.groups p.security.group) securities → AllByRecursion (λ p. HasCurrency sheet.curves p.security.currency) securities → AreWithin after → Valid after
-  valid-securities securities all named groups currencies within =
+  -- the securities and the funds, and what is held of both
+  pub valid-holdings : (securities : List Position) (funds : List Stake) → let after : BalanceSheet = record sheet { securities = securities; funds = funds } in AllByRecursion IsSecurity securities → AllByRecursion IsStake funds
+      → IsDistinct same_name (names_of after) → AllByRecursion (λ p. HasGroupOrNone sheet.groups p.security.group) securities → AllByRecursion (λ p. HasCurrency sheet.curves p.security.currency) securities
+      → AllByRecursion (λ s. AllByRecursion (λ c. IsHeld after c.0) s.fund.components) funds → IsAcyclic (components_of funds) → AreWithin after → Valid after
+  valid-holdings securities funds all each named groups currencies components acyclic within =
       record {
         groups = valid.groups;
         securities = all;
+        funds = each;
         lines = valid.lines;
         banks = valid.banks;
         reinsurers = valid.reinsurers;
@@ -54,6 +62,7 @@ module _ (sheet : BalanceSheet) (valid : Valid sheet) where
         numbers = valid.numbers;
         named_once = named;
         currencies_once = valid.currencies_once;
+        acyclic = acyclic;
         within = within;
         known = record {
           security_groups = groups;
@@ -61,9 +70,21 @@ module _ (sheet : BalanceSheet) (valid : Valid sheet) where
           rein_groups = valid.known.rein_groups;
           security_currencies = currencies;
           line_currencies = valid.known.line_currencies;
+          components = components;
           reporting = valid.known.reporting;
         };
       }
+
+  pub valid-securities : (securities : List Position) → let after : BalanceSheet = record sheet { securities = securities } in AllByRecursion IsSecurity securities → IsDistinct same_name (names_of after)
+      → AllByRecursion (λ p. HasGroupOrNone sheet.groups p.security.group) securities → AllByRecursion (λ p. HasCurrency sheet.curves p.security.currency) securities
+      → AllByRecursion (λ s. AllByRecursion (λ c. IsHeld after c.0) s.fund.components) sheet.funds → AreWithin after → Valid after
+  valid-securities securities all named groups currencies components within =
+      valid-holdings securities sheet.funds all valid.funds named groups currencies components valid.acyclic within
+
+  pub valid-funds : (funds : List Stake) → let after : BalanceSheet = record sheet { funds = funds } in AllByRecursion IsStake funds → IsDistinct same_name (names_of after)
+      → AllByRecursion (λ s. AllByRecursion (λ c. IsHeld after c.0) s.fund.components) funds → IsAcyclic (components_of funds) → AreWithin after → Valid after
+  valid-funds funds each named components acyclic within =
+      valid-holdings sheet.securities funds valid.securities each named valid.known.security_groups valid.known.security_currencies components acyclic within
 
   pub valid-lines : (lines : List Liability) → let after : BalanceSheet = record sheet { lines = lines } in AllByRecursion IsLine lines → IsDistinct same_name (names_of after)
       → AllByRecursion (λ l. HasCurrency sheet.curves l.currency) lines → AreWithin after → Valid after
@@ -71,6 +92,7 @@ module _ (sheet : BalanceSheet) (valid : Valid sheet) where
       record {
         groups = valid.groups;
         securities = valid.securities;
+        funds = valid.funds;
         lines = all;
         banks = valid.banks;
         reinsurers = valid.reinsurers;
@@ -78,6 +100,7 @@ module _ (sheet : BalanceSheet) (valid : Valid sheet) where
         numbers = valid.numbers;
         named_once = named;
         currencies_once = valid.currencies_once;
+        acyclic = valid.acyclic;
         within = within;
         known = record {
           security_groups = valid.known.security_groups;
@@ -85,6 +108,7 @@ module _ (sheet : BalanceSheet) (valid : Valid sheet) where
           rein_groups = valid.known.rein_groups;
           security_currencies = valid.known.security_currencies;
           line_currencies = currencies;
+          components = valid.known.components;
           reporting = valid.known.reporting;
         };
       }
@@ -95,6 +119,7 @@ module _ (sheet : BalanceSheet) (valid : Valid sheet) where
       record {
         groups = valid.groups;
         securities = valid.securities;
+        funds = valid.funds;
         lines = valid.lines;
         banks = all;
         reinsurers = valid.reinsurers;
@@ -102,6 +127,7 @@ module _ (sheet : BalanceSheet) (valid : Valid sheet) where
         numbers = valid.numbers;
         named_once = named;
         currencies_once = valid.currencies_once;
+        acyclic = valid.acyclic;
         within = within;
         known = record {
           security_groups = valid.known.security_groups;
@@ -109,6 +135,7 @@ module _ (sheet : BalanceSheet) (valid : Valid sheet) where
           rein_groups = valid.known.rein_groups;
           security_currencies = valid.known.security_currencies;
           line_currencies = valid.known.line_currencies;
+          components = valid.known.components;
           reporting = valid.known.reporting;
         };
       }
@@ -119,6 +146,7 @@ module _ (sheet : BalanceSheet) (valid : Valid sheet) where
       record {
         groups = valid.groups;
         securities = valid.securities;
+        funds = valid.funds;
         lines = valid.lines;
         banks = valid.banks;
         reinsurers = all;
@@ -126,6 +154,7 @@ module _ (sheet : BalanceSheet) (valid : Valid sheet) where
         numbers = valid.numbers;
         named_once = named;
         currencies_once = valid.currencies_once;
+        acyclic = valid.acyclic;
         within = within;
         known = record {
           security_groups = valid.known.security_groups;
@@ -133,6 +162,7 @@ module _ (sheet : BalanceSheet) (valid : Valid sheet) where
           rein_groups = groups;
           security_currencies = valid.known.security_currencies;
           line_currencies = valid.known.line_currencies;
+          components = valid.known.components;
           reporting = valid.known.reporting;
         };
       }
@@ -144,6 +174,7 @@ module _ (sheet : BalanceSheet) (valid : Valid sheet) where
       record {
         groups = valid.groups;
         securities = valid.securities;
+        funds = valid.funds;
         lines = valid.lines;
         banks = valid.banks;
         reinsurers = valid.reinsurers;
@@ -151,6 +182,7 @@ module _ (sheet : BalanceSheet) (valid : Valid sheet) where
         numbers = formed;
         named_once = valid.named_once;
         currencies_once = once;
+        acyclic = valid.acyclic;
         within = within;
         known = record {
           security_groups = valid.known.security_groups;
@@ -158,6 +190,7 @@ module _ (sheet : BalanceSheet) (valid : Valid sheet) where
           rein_groups = valid.known.rein_groups;
           security_currencies = securities;
           line_currencies = lines;
+          components = valid.known.components;
           reporting = reporting;
         };
       }
@@ -176,10 +209,12 @@ pub record IsNew (name : List ℕ) (sheet : BalanceSheet) : Type 0 where
   pub lines : IsFresh name (map line_name sheet.lines)
   pub banks : IsFresh name (map bank_name sheet.banks)
   pub reinsurers : IsFresh name (map rein_name sheet.reinsurers)
+  pub funds : IsFresh name (map stake_name sheet.funds)
 
 pub new_from_is_named : (name : List ℕ) (sheet : BalanceSheet) → is_named name sheet ≡ false → IsNew name sheet
 new_from_is_named name sheet h =
-    let to_banks = or_false _ _ h in
+    let to_reinsurers = or_false _ _ h in
+    let to_banks = or_false _ _ to_reinsurers.0 in
     let to_lines = or_false _ _ to_banks.0 in
     let to_securities = or_false _ _ to_lines.0 in
     let to_groups = or_false _ _ to_securities.0 in
@@ -189,18 +224,22 @@ new_from_is_named name sheet h =
       lines = fresh_from_has_row line_name name sheet.lines to_securities.1;
       banks = fresh_from_has_row bank_name name sheet.banks to_lines.1;
       reinsurers = fresh_from_has_row rein_name name sheet.reinsurers to_banks.1;
+      funds = fresh_from_has_row stake_name name sheet.funds to_reinsurers.1;
     }
 
--- the five lists of names in a row, put together in other ways
-module _ (g s l b r : List (List ℕ)) where
-  third : (g ++ s) ++ (l ++ (b ++ r)) ≡ g ++ (s ++ (l ++ (b ++ r)))
-  third = append_assoc g s (l ++ (b ++ r))
+-- the six lists of names in a row, put together in other ways
+module _ (g s l b r f : List (List ℕ)) where
+  third : (g ++ s) ++ (l ++ (b ++ (r ++ f))) ≡ g ++ (s ++ (l ++ (b ++ (r ++ f))))
+  third = append_assoc g s (l ++ (b ++ (r ++ f)))
 
-  fourth : (g ++ (s ++ l)) ++ (b ++ r) ≡ g ++ (s ++ (l ++ (b ++ r)))
+  fourth : (g ++ (s ++ l)) ++ (b ++ (r ++ f)) ≡ g ++ (s ++ (l ++ (b ++ (r ++ f))))
   fourth = simp append_assoc
 
-  fifth : (g ++ (s ++ (l ++ b))) ++ (r ++ []) ≡ g ++ (s ++ (l ++ (b ++ r)))
-  fifth = simp (append_assoc, append-nil)
+  fifth : (g ++ (s ++ (l ++ b))) ++ (r ++ f) ≡ g ++ (s ++ (l ++ (b ++ (r ++ f))))
+  fifth = simp append_assoc
+
+  sixth : (g ++ (s ++ (l ++ (b ++ r)))) ++ (f ++ []) ≡ g ++ (s ++ (l ++ (b ++ (r ++ f))))
+  sixth = simp (append_assoc, append-nil)
 
 module _ (sheet : BalanceSheet) (apart : IsDistinct same_name (names_of sheet)) where
   abbrev g : List (List ℕ)
@@ -218,55 +257,69 @@ module _ (sheet : BalanceSheet) (apart : IsDistinct same_name (names_of sheet)) 
   abbrev r : List (List ℕ)
   r = map rein_name sheet.reinsurers
 
+  abbrev f : List (List ℕ)
+  f = map stake_name sheet.funds
+
   pub named-with_group : (new : Group) → (has_row group_name new.name sheet.groups ≡ false → IsNew new.name sheet) → IsDistinct same_name (names_of (record sheet { groups = with_row group_name new sheet.groups }))
   named-with_group new is_new =
-      distinct-with_row group_name [] (s ++ (l ++ (b ++ r))) new sheet.groups
-      (λ has. let n = is_new has in (tt, All-append _ s _ n.securities (All-append _ l _ n.lines (All-append _ b _ n.banks n.reinsurers)))) apart
+      distinct-with_row group_name [] (s ++ (l ++ (b ++ (r ++ f)))) new sheet.groups
+      (λ has. let n = is_new has in (tt, All-append _ s _ n.securities (All-append _ l _ n.lines (All-append _ b _ n.banks (All-append _ r _ n.reinsurers n.funds))))) apart
 
   pub named-with_position : (new : Position) → (has_row position_name new.security.name sheet.securities ≡ false → IsNew new.security.name sheet) → IsDistinct same_name (names_of (record sheet { securities = with_row position_name new sheet.securities }))
   named-with_position new is_new =
-      distinct-with_row position_name g (l ++ (b ++ r)) new sheet.securities
-      (λ has. let n = is_new has in (n.groups, All-append _ l _ n.lines (All-append _ b _ n.banks n.reinsurers))) apart
+      distinct-with_row position_name g (l ++ (b ++ (r ++ f))) new sheet.securities
+      (λ has. let n = is_new has in (n.groups, All-append _ l _ n.lines (All-append _ b _ n.banks (All-append _ r _ n.reinsurers n.funds)))) apart
 
   pub named-with_line : (new : Liability) → (has_row line_name new.name sheet.lines ≡ false → IsNew new.name sheet) → IsDistinct same_name (names_of (record sheet { lines = with_row line_name new sheet.lines }))
   named-with_line new is_new =
-      subst (IsDistinct same_name) (third g s (map line_name (with_row line_name new sheet.lines)) b r)
-      (distinct-with_row line_name (g ++ s) (b ++ r) new sheet.lines
-      (λ has. let n = is_new has in (All-append _ g _ n.groups n.securities, All-append _ b _ n.banks n.reinsurers)) (subst (IsDistinct same_name) (sym (third g s l b r)) apart))
+      subst (IsDistinct same_name) (third g s (map line_name (with_row line_name new sheet.lines)) b r f)
+      (distinct-with_row line_name (g ++ s) (b ++ (r ++ f)) new sheet.lines
+      (λ has. let n = is_new has in (All-append _ g _ n.groups n.securities, All-append _ b _ n.banks (All-append _ r _ n.reinsurers n.funds))) (subst (IsDistinct same_name) (sym (third g s l b r f)) apart))
 
   pub named-with_bank : (new : Bank) → (has_row bank_name new.name sheet.banks ≡ false → IsNew new.name sheet) → IsDistinct same_name (names_of (record sheet { banks = with_row bank_name new sheet.banks }))
   named-with_bank new is_new =
-      subst (IsDistinct same_name) (fourth g s l (map bank_name (with_row bank_name new sheet.banks)) r)
-      (distinct-with_row bank_name (g ++ (s ++ l)) r new sheet.banks
-      (λ has. let n = is_new has in (All-append _ g _ n.groups (All-append _ s _ n.securities n.lines), n.reinsurers)) (subst (IsDistinct same_name) (sym (fourth g s l b r)) apart))
+      subst (IsDistinct same_name) (fourth g s l (map bank_name (with_row bank_name new sheet.banks)) r f)
+      (distinct-with_row bank_name (g ++ (s ++ l)) (r ++ f) new sheet.banks
+      (λ has. let n = is_new has in (All-append _ g _ n.groups (All-append _ s _ n.securities n.lines), All-append _ r _ n.reinsurers n.funds)) (subst (IsDistinct same_name) (sym (fourth g s l b r f)) apart))
 
   pub named-with_rein : (new : Rein) → (has_row rein_name new.name sheet.reinsurers ≡ false → IsNew new.name sheet) → IsDistinct same_name (names_of (record sheet { reinsurers = with_row rein_name new sheet.reinsurers }))
   named-with_rein new is_new =
-      subst (IsDistinct same_name) (fifth g s l b (map rein_name (with_row rein_name new sheet.reinsurers)))
-      (distinct-with_row rein_name (g ++ (s ++ (l ++ b))) [] new sheet.reinsurers
-      (λ has. let n = is_new has in (All-append _ g _ n.groups (All-append _ s _ n.securities (All-append _ l _ n.lines n.banks)), tt)) (subst (IsDistinct same_name) (sym (fifth g s l b r)) apart))
+      subst (IsDistinct same_name) (fifth g s l b (map rein_name (with_row rein_name new sheet.reinsurers)) f)
+      (distinct-with_row rein_name (g ++ (s ++ (l ++ b))) f new sheet.reinsurers
+      (λ has. let n = is_new has in (All-append _ g _ n.groups (All-append _ s _ n.securities (All-append _ l _ n.lines n.banks)), n.funds)) (subst (IsDistinct same_name) (sym (fifth g s l b r f)) apart))
+
+  pub named-with_fund : (new : Stake) → (has_row stake_name new.fund.name sheet.funds ≡ false → IsNew new.fund.name sheet) → IsDistinct same_name (names_of (record sheet { funds = with_row stake_name new sheet.funds }))
+  named-with_fund new is_new =
+      subst (IsDistinct same_name) (sixth g s l b r (map stake_name (with_row stake_name new sheet.funds)))
+      (distinct-with_row stake_name (g ++ (s ++ (l ++ (b ++ r)))) [] new sheet.funds
+      (λ has. let n = is_new has in (All-append _ g _ n.groups (All-append _ s _ n.securities (All-append _ l _ n.lines (All-append _ b _ n.banks n.reinsurers))), tt)) (subst (IsDistinct same_name) (sym (sixth g s l b r f)) apart))
 
   module _ (name : List ℕ) where
     pub named-without_group : IsDistinct same_name (names_of (record sheet { groups = without group_name name sheet.groups }))
-    named-without_group = distinct-without group_name [] (s ++ (l ++ (b ++ r))) name sheet.groups apart
+    named-without_group = distinct-without group_name [] (s ++ (l ++ (b ++ (r ++ f)))) name sheet.groups apart
 
     pub named-without_position : IsDistinct same_name (names_of (record sheet { securities = without position_name name sheet.securities }))
-    named-without_position = distinct-without position_name g (l ++ (b ++ r)) name sheet.securities apart
+    named-without_position = distinct-without position_name g (l ++ (b ++ (r ++ f))) name sheet.securities apart
 
     pub named-without_line : IsDistinct same_name (names_of (record sheet { lines = without line_name name sheet.lines }))
     named-without_line =
-        subst (IsDistinct same_name) (third g s (map line_name (without line_name name sheet.lines)) b r)
-        (distinct-without line_name (g ++ s) (b ++ r) name sheet.lines (subst (IsDistinct same_name) (sym (third g s l b r)) apart))
+        subst (IsDistinct same_name) (third g s (map line_name (without line_name name sheet.lines)) b r f)
+        (distinct-without line_name (g ++ s) (b ++ (r ++ f)) name sheet.lines (subst (IsDistinct same_name) (sym (third g s l b r f)) apart))
 
     pub named-without_bank : IsDistinct same_name (names_of (record sheet { banks = without bank_name name sheet.banks }))
     named-without_bank =
-        subst (IsDistinct same_name) (fourth g s l (map bank_name (without bank_name name sheet.banks)) r)
-        (distinct-without bank_name (g ++ (s ++ l)) r name sheet.banks (subst (IsDistinct same_name) (sym (fourth g s l b r)) apart))
+        subst (IsDistinct same_name) (fourth g s l (map bank_name (without bank_name name sheet.banks)) r f)
+        (distinct-without bank_name (g ++ (s ++ l)) (r ++ f) name sheet.banks (subst (IsDistinct same_name) (sym (fourth g s l b r f)) apart))
 
     pub named-without_rein : IsDistinct same_name (names_of (record sheet { reinsurers = without rein_name name sheet.reinsurers }))
     named-without_rein =
-        subst (IsDistinct same_name) (fifth g s l b (map rein_name (without rein_name name sheet.reinsurers)))
-        (distinct-without rein_name (g ++ (s ++ (l ++ b))) [] name sheet.reinsurers (subst (IsDistinct same_name) (sym (fifth g s l b r)) apart))
+        subst (IsDistinct same_name) (fifth g s l b (map rein_name (without rein_name name sheet.reinsurers)) f)
+        (distinct-without rein_name (g ++ (s ++ (l ++ b))) f name sheet.reinsurers (subst (IsDistinct same_name) (sym (fifth g s l b r f)) apart))
+
+    pub named-without_fund : IsDistinct same_name (names_of (record sheet { funds = without stake_name name sheet.funds }))
+    named-without_fund =
+        subst (IsDistinct same_name) (sixth g s l b r (map stake_name (without stake_name name sheet.funds)))
+        (distinct-without stake_name (g ++ (s ++ (l ++ (b ++ r)))) [] name sheet.funds (subst (IsDistinct same_name) (sym (sixth g s l b r f)) apart))
 
 -- ---- the currencies
 

@@ -1,6 +1,7 @@
 -- Worked records, by computation.
 use Rattle.std.specs.Prelude.{◌≡◌, ℕ, pos, negsuc, List, [], ◌∷◌, Some, None, fold, refl}
-use Rattle.scr_sheet.specs.BalanceSheet.{BalanceSheet, opening, euro}
+use Rattle.scr_funds.specs.Paths.{earliest_between, fewest_between}
+use Rattle.scr_sheet.specs.BalanceSheet.{BalanceSheet, opening, euro, held_of}
 use Rattle.scr_sheet.specs.Records.{applied}
 use Rattle.scr_sheet.specs.Faults.{fault_of}
 use Rattle.scr_sheet.specs.declared.edit.Edit.{Edit}
@@ -14,7 +15,7 @@ use Rattle.scr_sheet.specs.declared.keys.Projection.TheVariants as projections
 use Rattle.scr_sheet.specs.declared.rows.Class.TheVariants as classes
 use Rattle.scr_sheet.specs.declared.rows.LineKind.TheVariants as kinds
 
--- the names S, U and L, and the currency USD
+-- the names S, U, L, F and G, and the currency USD
 abbrev s : List ℕ
 s = 83 ∷ []
 
@@ -23,6 +24,12 @@ u = 85 ∷ []
 
 abbrev l : List ℕ
 l = 76 ∷ []
+
+abbrev f : List ℕ
+f = 70 ∷ []
+
+abbrev g : List ℕ
+g = 71 ∷ []
 
 abbrev dollar : List ℕ
 dollar = 85 ∷ 83 ∷ 68 ∷ []
@@ -74,6 +81,45 @@ own_name_before_group = refl
 
 projection_lacking : fault_of (edits.LineFlows l projections.Mortality []) (after (edits.Line l kinds.Other euro ∷ [])) ≡ Some (faults.WrongKind l)
 projection_lacking = refl
+
+-- ---- funds
+
+holds_itself : fault_of (edits.Fund f ((f, pos 1) ∷ [])) opening ≡ Some (faults.Cycle (f ∷ f ∷ []))
+unfolding fewest_between earliest_between
+holds_itself = refl
+
+-- of two chains the shorter, although the other begins with an earlier component
+shortest_chain : fault_of (edits.Fund f ((g, pos 1) ∷ (u, pos 1) ∷ [])) (after (edits.Fund f [] ∷ edits.Fund u ((f, pos 1) ∷ []) ∷ edits.Fund g ((u, pos 1) ∷ []) ∷ [])) ≡ Some (faults.Cycle (f ∷ u ∷ f ∷ []))
+unfolding fewest_between earliest_between
+shortest_chain = refl
+
+no_chain : fault_of (edits.Fund g ((f, pos 1) ∷ (s, pos 1_000_000_000) ∷ [])) (after (security s euro ∷ edits.Fund f ((s, pos 1) ∷ []) ∷ [])) ≡ None
+unfolding fewest_between earliest_between
+no_chain = refl
+
+-- the field of the second component is the fourth
+component_twice : fault_of (edits.Fund f ((s, pos 1) ∷ (s, pos 2) ∷ [])) opening ≡ Some (faults.Syntax 4)
+component_twice = refl
+
+unknown_component : fault_of (edits.Fund f ((s, pos 1) ∷ (u, pos 2) ∷ [])) (after (security s euro ∷ [])) ≡ Some (faults.UnknownName u)
+unknown_component = refl
+
+component_is_line : fault_of (edits.Fund f ((l, pos 1) ∷ [])) (after (edits.Line l kinds.Other euro ∷ [])) ≡ Some (faults.WrongKind l)
+component_is_line = refl
+
+no_weight : fault_of (edits.Fund f ((s, pos 0) ∷ [])) (after (security s euro ∷ [])) ≡ Some (faults.Range quantities.Weight (pos 0) (pos 1))
+unfolding fewest_between earliest_between
+no_weight = refl
+
+in_use_by_fund : fault_of (edits.Remove tables.Security s) (after (security s euro ∷ edits.Fund f ((s, pos 1) ∷ []) ∷ [])) ≡ Some (faults.InUse s (users.Row f))
+in_use_by_fund = refl
+
+in_use_by_hold_of_fund : fault_of (edits.Remove tables.Fund f) (after (edits.Fund f [] ∷ edits.Hold f (pos 100) ∷ [])) ≡ Some (faults.InUse f users.Hold)
+in_use_by_hold_of_fund = refl
+
+-- a fund replaced keeps what is held of it
+hold_kept : held_of (after (security s euro ∷ edits.Fund f [] ∷ edits.Hold f (pos 100) ∷ edits.Fund f ((s, pos 1) ∷ []) ∷ [])) f ≡ 100
+hold_kept = refl
 
 -- ---- rows in their places
 

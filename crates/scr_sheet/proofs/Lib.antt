@@ -1,10 +1,11 @@
-pub mod Names
+pub mod NameBytes
 pub mod Examples
 pub mod TableRows
 pub mod Entries
 pub mod Bounds
 pub mod Projections
 pub mod Amounts
+pub mod FundChains
 pub mod Changes
 pub mod Unused
 pub mod Preserved

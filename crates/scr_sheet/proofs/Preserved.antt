@@ -1,18 +1,19 @@
 -- A record that has its form and no fault leads from a valid sheet to a valid one.
-use Rattle.std.proofs.Common.{◌≡◌, ℕ, zero, suc, replicate, ℤ, pos, neg_ℤ, ◌+◌, ◌≤◌, ◌≤ℤ◌, Bool, true, false, not, ◌&&◌, inl, inr, IsTrue, List, [], ◌∷◌, ◌++◌, length, map, sum_by, Option, Some, None, if◌then◌else◌, refl, sym, ap, subst, ◌∙◌, arith}
+use Rattle.std.proofs.Common.{◌≡◌, ℕ, zero, suc, replicate, ℤ, pos, neg_ℤ, ◌+◌, ◌≤◌, ◌≤ℤ◌, Bool, true, false, not, ◌&&◌, ◌||◌, inl, inr, IsTrue, List, [], ◌∷◌, ◌++◌, length, map, sum_by, Option, Some, None, is_some, ◌⊎◌, if◌then◌else◌, refl, sym, ap, subst, ◌∙◌, arith}
 use Rattle.std.proofs.lemmas.Bool.{ltb-false}
 use Rattle.std.proofs.lemmas.Int.{ints}
-use Rattle.std.specs.List.{AllByRecursion, IsDistinct}
+use Rattle.std.specs.List.{AllByRecursion, IsDistinct, list_any}
 use Rattle.std.specs.Option.{option_map, option_map_or}
 use Rattle.scr_dates.specs.declared.day.Day.{Day}
 use Rattle.scr_sheet.specs.Names.{same_name}
-use Rattle.scr_sheet.specs.Tables.{row_of, with_row, without}
+use Rattle.scr_sheet.specs.Tables.{row_of, has_row, with_row, without}
 use Rattle.scr_sheet.specs.CashFlows.{total, flows_under, with_flows, no_flows, has_projection, suits}
-use Rattle.scr_sheet.specs.BalanceSheet.{BalanceSheet, opening, no_volumes, group_name, position_name, line_name, bank_name, rein_name, curve_name, names_of, is_in, is_named, held_of, held_total, line_flows_total, volumes_total, defaults_total, years_total}
-use Rattle.scr_sheet.specs.Records.{applied, natural, changed, kept_flows, absorb_place, cat_place, health_cat_place, with_absorb, lapse_place}
-use Rattle.scr_sheet.specs.Forms.{Formed, AreFlows, AreOnDays}
-use Rattle.scr_sheet.specs.Faults.{fault_of, list_fault, too_long, unknown_name, unknown_row, unknown_group, wrong_kind, misplaced, misplaced_group, in_use, fields_outside, first_fault, outside, outside_rates, outside_promise, above, line_flows_outside, volumes_outside}
-use Rattle.scr_sheet.specs.Validity.{Valid, AreWithin, AreVolumes, IsAmount, IsBetween, IsGroup, IsSecurity, IsPromise, IsProjected, IsLine, IsBank, IsRein, IsCurve, HasGroup, HasGroupOrNone, HasCurrency}
+use Rattle.scr_sheet.specs.BalanceSheet.{BalanceSheet, opening, no_volumes, group_name, position_name, line_name, bank_name, rein_name, curve_name, stake_name, names_of, is_in, is_named, held_total, components_total, line_flows_total, volumes_total, defaults_total, years_total}
+use Rattle.scr_sheet.specs.Records.{applied, with_fund, natural, changed, kept_flows, kept_hold, absorb_place, cat_place, health_cat_place, with_absorb, lapse_place}
+use Rattle.scr_sheet.specs.Users.{holder_of}
+use Rattle.scr_sheet.specs.Forms.{Formed, IsName, AreFlows, AreOnDays}
+use Rattle.scr_sheet.specs.Faults.{fault_of, list_fault, too_long, components_fault, unknown_name, unknown_row, unknown_group, unknown_component, wrong_kind, misplaced, misplaced_group, misplaced_holding, misplaced_component, in_use, cycle, fields_outside, first_fault, outside, outside_rates, outside_weight, outside_promise, above, line_flows_outside, volumes_outside}
+use Rattle.scr_sheet.specs.Validity.{Valid, AreWithin, AreVolumes, IsAmount, IsBetween, IsGroup, IsSecurity, IsStake, IsPromise, IsProjected, IsLine, IsBank, IsRein, IsCurve, HasGroup, HasGroupOrNone, HasCurrency, IsHeld}
 use Rattle.scr_sheet.specs.declared.edit.Edit.{Edit}
 use Rattle.scr_sheet.specs.declared.edit.Edit.TheVariants as edits
 use Rattle.scr_sheet.specs.declared.fault.Fault.{Fault}
@@ -28,18 +29,22 @@ use Rattle.scr_sheet.specs.declared.keys.Table.{Table}
 use Rattle.scr_sheet.specs.declared.keys.Table.TheVariants as tables
 use Rattle.scr_sheet.specs.declared.rows.Group.{Group}
 use Rattle.scr_sheet.specs.declared.rows.Position.{Position}
+use Rattle.scr_sheet.specs.declared.rows.Stake.{Stake}
 use Rattle.scr_sheet.specs.declared.rows.Liability.{Liability}
 use Rattle.scr_sheet.specs.declared.rows.LineKind.{LineKind}
 use Rattle.scr_sheet.specs.declared.rows.Bank.{Bank}
 use Rattle.scr_sheet.specs.declared.rows.Rein.{Rein}
 use Rattle.scr_sheet.specs.declared.rows.Curve.{Curve}
-use Rattle.scr_sheet.specs.declared.limits.TheConstants.{MIN_RATE, MAX_RATE, MAX_RATES, MAX_DURATION, MAX_FLOWS, MAX_PROMISED, MAX_AMOUNT, MAX_SYM, MAX_TAX, MAX_HELD, MAX_LINE_FLOWS, MAX_YEARS, MAX_CURRENCIES, MAX_SECURITIES, MAX_LINES, MAX_GROUPS, MAX_EXPOSURES}
-use Rattle.scr_sheet.proofs.TableRows.{All-map, All-both, All-with_row, All-without, All-row_of, All-changed, has_row-with_row, has_row-without, has_row-changed, names-changed, sum-with_row, sum-without, sum-changed}
+use Rattle.scr_sheet.specs.declared.limits.TheConstants.{MIN_RATE, MAX_RATE, MAX_RATES, MAX_DURATION, MAX_FLOWS, MAX_PROMISED, MAX_AMOUNT, MAX_SYM, MAX_TAX, MAX_HELD, MAX_LINE_FLOWS, MAX_YEARS, MAX_CURRENCIES, MAX_SECURITIES, MAX_FUNDS, MAX_COMPONENTS, MAX_FUND_COMPONENTS, MIN_WEIGHT, MAX_WEIGHT, MAX_LINES, MAX_GROUPS, MAX_EXPOSURES}
+use Rattle.scr_sheet.proofs.TableRows.{IsFresh, same_name-is, same_name-flip, row_of-with_row_own, All-map, All-both, All-with_row, All-without, All-row_of, All-changed, has_row-with_row, has_row-without, has_row-changed, names-changed, sum-with_row, sum-without, sum-changed}
 use Rattle.scr_sheet.proofs.Bounds.{neither, within_from_above, between_from_outside, all_from_first_fault, natural-le, natural-is}
 use Rattle.scr_sheet.proofs.Projections.{one_or_other, each-with_flows, suits-with_flows, suits-no_flows, under-no_flows}
 use Rattle.scr_sheet.proofs.Amounts.{All-set, All-placed, volumes-with_segment, with_asof, with_absorb as numbers-with_absorb, with_both_volumes, with_cats, with_lapse, with_due, with_op, with_sym, with_tax, with_fdb, with_intangible}
-use Rattle.scr_sheet.proofs.Changes.{IsNew, new_from_is_named, valid-groups, valid-securities, valid-lines, valid-banks, valid-reinsurers, valid-curves, valid-numbers, named-with_group, named-with_position, named-with_line, named-with_bank, named-with_rein, named-without_group, named-without_position, named-without_line, named-without_bank, named-without_rein, currencies-with_curve, currencies-without}
-use Rattle.scr_sheet.proofs.Unused.{HasNoMember, no_member, IsIdle, idle}
+use Rattle.scr_sheet.proofs.Changes.{IsNew, new_from_is_named, valid-groups, valid-holdings, valid-securities, valid-funds, valid-lines, valid-banks, valid-reinsurers, valid-curves, valid-numbers, named-with_group, named-with_position, named-with_line, named-with_bank, named-with_rein, named-with_fund, named-without_group, named-without_position, named-without_line, named-without_bank, named-without_rein, named-without_fund, currencies-with_curve, currencies-without}
+use Rattle.scr_sheet.proofs.Unused.{HasNoMember, no_member, IsIdle, idle, no_holder}
+use Rattle.scr_sheet.proofs.FundChains.{acyclic-none, acyclic-with_fund, acyclic-without, acyclic-changed}
+use Rattle.scr_sheet.proofs.Holds.{distinct-funds}
+use Rattle.scr_sheet.proofs.Projections.{or_false}
 
 -- ---- what it says that a record has no fault
 
@@ -49,6 +54,7 @@ pub record Passes (edit : Edit) (sheet : BalanceSheet) : Type 0 where
   pub known : unknown_name edit sheet ≡ None
   pub kind : wrong_kind edit sheet ≡ None
   pub free : in_use edit sheet ≡ None
+  pub ending : cycle edit sheet ≡ None
   pub fields : fields_outside edit ≡ None
   pub line_flows : line_flows_outside edit (applied edit sheet) ≡ None
   pub volumes : volumes_outside edit (applied edit sheet) ≡ None
@@ -57,6 +63,8 @@ pub record Passes (edit : Edit) (sheet : BalanceSheet) : Type 0 where
   pub years : years_total (applied edit sheet) ≤ MAX_YEARS
   pub currencies : length (applied edit sheet).curves ≤ MAX_CURRENCIES
   pub securities : length (applied edit sheet).securities ≤ MAX_SECURITIES
+  pub funds : length (applied edit sheet).funds ≤ MAX_FUNDS
+  pub components : components_total (applied edit sheet) ≤ MAX_COMPONENTS
   pub lines : length (applied edit sheet).lines ≤ MAX_LINES
   pub groups : length (applied edit sheet).groups ≤ MAX_GROUPS
   pub exposures : length (applied edit sheet).banks + length (applied edit sheet).reinsurers ≤ MAX_EXPOSURES
@@ -67,7 +75,8 @@ passes edit sheet none =
     let known = neither (unknown_name edit sheet) _ list.1 in
     let kind = neither (wrong_kind edit sheet) _ known.1 in
     let free = neither (in_use edit sheet) _ kind.1 in
-    let fields = neither (fields_outside edit) _ free.1 in
+    let ending = neither (cycle edit sheet) _ free.1 in
+    let fields = neither (fields_outside edit) _ ending.1 in
     let held = neither (above quantities.Held (held_total (applied edit sheet)) MAX_HELD) _ fields.1 in
     let flows = neither (line_flows_outside edit (applied edit sheet)) _ held.1 in
     let volumes = neither (volumes_outside edit (applied edit sheet)) _ flows.1 in
@@ -75,13 +84,16 @@ passes edit sheet none =
     let years = neither (above quantities.Years (years_total (applied edit sheet)) MAX_YEARS) _ defaults.1 in
     let currencies = neither (above quantities.Currencies (length (applied edit sheet).curves) MAX_CURRENCIES) _ years.1 in
     let securities = neither (above quantities.Securities (length (applied edit sheet).securities) MAX_SECURITIES) _ currencies.1 in
-    let lines = neither (above quantities.Lines (length (applied edit sheet).lines) MAX_LINES) _ securities.1 in
+    let funds = neither (above quantities.Funds (length (applied edit sheet).funds) MAX_FUNDS) _ securities.1 in
+    let components = neither (above quantities.Components (components_total (applied edit sheet)) MAX_COMPONENTS) _ funds.1 in
+    let lines = neither (above quantities.Lines (length (applied edit sheet).lines) MAX_LINES) _ components.1 in
     let groups = neither (above quantities.Groups (length (applied edit sheet).groups) MAX_GROUPS) _ lines.1 in
     record {
       list = list.0;
       known = known.0;
       kind = kind.0;
       free = free.0;
+      ending = ending.0;
       fields = fields.0;
       line_flows = flows.0;
       volumes = volumes.0;
@@ -90,6 +102,8 @@ passes edit sheet none =
       years = within_from_above _ _ _ years.0;
       currencies = within_from_above _ _ _ currencies.0;
       securities = within_from_above _ _ _ securities.0;
+      funds = within_from_above _ _ _ funds.0;
+      components = within_from_above _ _ _ components.0;
       lines = within_from_above _ _ _ lines.0;
       groups = within_from_above _ _ _ groups.0;
       exposures = within_from_above _ _ _ groups.1;
@@ -104,9 +118,17 @@ pub failed : (t : Bool) (fault : Fault) → (if t then Some fault else None) ≡
 failed true fault h = absurd (cc)
 failed false fault h = refl
 
+failed_first : (t : Bool) (fault : Fault) (rest : Option Fault) → (if t then Some fault else rest) ≡ None → (t ≡ false) × (rest ≡ None)
+failed_first true fault rest h = absurd (cc)
+failed_first false fault rest h = (refl, h)
+
 no_user : (found : Option User) (name : List ℕ) → option_map (λ user. faults.InUse name user) found ≡ None → found ≡ None
 no_user None name h = refl
 no_user (Some user) name h = absurd (cc)
+
+no_chain : (found : Option (List (List ℕ))) → option_map (λ path. faults.Cycle path) found ≡ None → found ≡ None
+no_chain None h = refl
+no_chain (Some path) h = absurd (cc)
 
 -- a name that stands in no other table, and not in this one, is new
 placed_well : (table : Table) (name : List ℕ) (sheet : BalanceSheet) → misplaced table name sheet ≡ None → is_in table name sheet ≡ false → is_named name sheet ≡ false
@@ -120,14 +142,18 @@ placed_well table name sheet none out = by (is_named name sheet) (is_in table na
 new_name : (table : Table) (name : List ℕ) (sheet : BalanceSheet) → misplaced table name sheet ≡ None → is_in table name sheet ≡ false → IsNew name sheet
 new_name table name sheet none out = new_from_is_named name sheet (placed_well table name sheet none out)
 
+only_here : (named here : Bool) → named ≡ true → (named && not here) ≡ false → here ≡ true
+only_here named true e h = refl
+only_here true false e h = absurd (cc)
+only_here false false e h = absurd (cc)
+
 -- a name that exists, and in no other table, stands in this one
 pub right_table : (table : Table) (name : List ℕ) (sheet : BalanceSheet) → unknown_row name sheet ≡ None → misplaced table name sheet ≡ None → is_in table name sheet ≡ true
-right_table table name sheet known none = by (is_named name sheet) (is_in table name sheet) (passed _ _ known) (failed _ _ none)
-  where
-    by : (named here : Bool) → named ≡ true → (named && not here) ≡ false → here ≡ true
-    by named true e h = refl
-    by true false e h = absurd (cc)
-    by false false e h = absurd (cc)
+right_table table name sheet known none = only_here (is_named name sheet) (is_in table name sheet) (passed _ _ known) (failed _ _ none)
+
+-- what exists, and may be held, is a security or a fund
+right_holding : (name : List ℕ) (sheet : BalanceSheet) → unknown_row name sheet ≡ None → misplaced_holding name sheet ≡ None → IsHeld sheet name
+right_holding name sheet known none = only_here (is_named name sheet) (is_in tables.Security name sheet || is_in tables.Fund name sheet) (passed _ _ known) (failed _ _ none)
 
 group_or_none : (group : Option (List ℕ)) (sheet : BalanceSheet) → unknown_group group sheet ≡ None → misplaced_group group sheet ≡ None → HasGroupOrNone sheet.groups group
 group_or_none None sheet known none = tt
@@ -178,6 +204,7 @@ line_flows_after (edits.Remove tables.Line name) sheet valid none projection =
     omega arith
 line_flows_after (edits.Remove tables.Group name) sheet valid none projection = valid.within.line_flows projection
 line_flows_after (edits.Remove tables.Security name) sheet valid none projection = valid.within.line_flows projection
+line_flows_after (edits.Remove tables.Fund name) sheet valid none projection = valid.within.line_flows projection
 line_flows_after (edits.Remove tables.Bank name) sheet valid none projection = valid.within.line_flows projection
 line_flows_after (edits.Remove tables.Rein name) sheet valid none projection = valid.within.line_flows projection
 line_flows_after (edits.Remove tables.Curve name) sheet valid none projection = valid.within.line_flows projection
@@ -190,12 +217,14 @@ volumes_after (edits.Segment sets.Nslt number region premium reserve) sheet vali
 volumes_after (edits.Segment sets.Nslt number region premium reserve) sheet valid none sets.Nslt = within_from_above quantities.Volumes _ _ none
 volumes_after (edits.Remove tables.Group name) sheet valid none sets.Nl = valid.within.volumes sets.Nl
 volumes_after (edits.Remove tables.Security name) sheet valid none sets.Nl = valid.within.volumes sets.Nl
+volumes_after (edits.Remove tables.Fund name) sheet valid none sets.Nl = valid.within.volumes sets.Nl
 volumes_after (edits.Remove tables.Line name) sheet valid none sets.Nl = valid.within.volumes sets.Nl
 volumes_after (edits.Remove tables.Bank name) sheet valid none sets.Nl = valid.within.volumes sets.Nl
 volumes_after (edits.Remove tables.Rein name) sheet valid none sets.Nl = valid.within.volumes sets.Nl
 volumes_after (edits.Remove tables.Curve name) sheet valid none sets.Nl = valid.within.volumes sets.Nl
 volumes_after (edits.Remove tables.Group name) sheet valid none sets.Nslt = valid.within.volumes sets.Nslt
 volumes_after (edits.Remove tables.Security name) sheet valid none sets.Nslt = valid.within.volumes sets.Nslt
+volumes_after (edits.Remove tables.Fund name) sheet valid none sets.Nslt = valid.within.volumes sets.Nslt
 volumes_after (edits.Remove tables.Line name) sheet valid none sets.Nslt = valid.within.volumes sets.Nslt
 volumes_after (edits.Remove tables.Bank name) sheet valid none sets.Nslt = valid.within.volumes sets.Nslt
 volumes_after (edits.Remove tables.Rein name) sheet valid none sets.Nslt = valid.within.volumes sets.Nslt
@@ -213,6 +242,8 @@ within_after edit sheet valid p =
       years = p.years;
       currencies = p.currencies;
       securities = p.securities;
+      funds = p.funds;
+      components = p.components;
       lines = p.lines;
       groups = p.groups;
       exposures = p.exposures;
@@ -277,6 +308,20 @@ valid_group new sheet formed valid p =
     (kept_security_groups sheet valid groups kept) (kept_bank_groups sheet valid groups kept) (kept_rein_groups sheet valid groups kept)
     (within_after (edits.Group new.name new.kind new.step) sheet valid p)
 
+-- the components of funds exist still where each security and fund is there still
+kept_components : (sheet : BalanceSheet) → Valid sheet → (after : BalanceSheet) → ((name : List ℕ) → IsHeld sheet name → IsHeld after name) → AllByRecursion (λ s. AllByRecursion (λ c. IsHeld after c.0) s.fund.components) sheet.funds
+kept_components sheet valid after kept = All-map _ _ sheet.funds (λ s all. All-map _ _ s.fund.components (λ c h. kept c.0 h) all) valid.known.components
+
+-- one of two still holds
+or_kept : (a b c d : Bool) → (a ≡ true → c ≡ true) → (b ≡ true → d ≡ true) → (a || b) ≡ true → (c || d) ≡ true
+or_kept true b c d left right h = ap (λ t. t || d) (left refl)
+or_kept false b true d left right h = refl
+or_kept false b false d left right h = right h
+
+or_right : (a b : Bool) → b ≡ true → (a || b) ≡ true
+or_right true b h = refl
+or_right false b h = h
+
 -- ---- securities
 
 within_duration : (z : ℤ) → outside quantities.Duration (pos 0) MAX_DURATION z ≡ None → pos (natural z) ≤ℤ MAX_DURATION
@@ -299,11 +344,11 @@ module _ (sheet : BalanceSheet) (valid : Valid sheet) where
   changed_securities change name named grouped priced keeps within =
       let securities : List Position = changed position_name change name sheet.securities in
       valid-securities sheet valid securities (All-changed position_name IsSecurity change name sheet.securities (λ position e h. keeps position h) valid.securities)
-      (let same : names_of sheet ≡ names_of (record sheet { securities = securities }) = ap (λ ns. map group_name sheet.groups ++ (ns ++ (map line_name sheet.lines ++ (map bank_name sheet.banks ++ map rein_name sheet.reinsurers)))) (sym (names-changed position_name change name sheet.securities named)) in
+      (let same : names_of sheet ≡ names_of (record sheet { securities = securities }) = ap (λ ns. map group_name sheet.groups ++ (ns ++ (map line_name sheet.lines ++ (map bank_name sheet.banks ++ (map rein_name sheet.reinsurers ++ map stake_name sheet.funds))))) (sym (names-changed position_name change name sheet.securities named)) in
       subst (IsDistinct same_name) same valid.named_once)
       (All-changed position_name (λ s. HasGroupOrNone sheet.groups s.security.group) change name sheet.securities (λ position e h. subst (HasGroupOrNone sheet.groups) (sym (grouped position)) h) valid.known.security_groups)
       (All-changed position_name (λ s. HasCurrency sheet.curves s.security.currency) change name sheet.securities (λ position e h. subst (HasCurrency sheet.curves) (sym (priced position)) h) valid.known.security_currencies)
-      within
+      (kept_components sheet valid (record sheet { securities = securities }) (λ other h. or_kept _ _ _ _ (has_row-changed position_name other change name sheet.securities) (λ e. e) h)) within
 
 valid_security : (new : Position) (duration : ℤ) (sheet : BalanceSheet) → new.security.duration ≡ natural duration → new.security.flows ≡ kept_flows new.security.name sheet.securities
     → Formed (edits.Security new.security.name new.security.class new.security.group new.security.currency duration) → Valid sheet
@@ -319,7 +364,8 @@ valid_security new duration sheet long flows formed valid p within =
     valid-securities sheet valid (with_row position_name new sheet.securities) (All-with_row position_name IsSecurity new sheet.securities own valid.securities)
     (named-with_position sheet valid.named_once new (λ out. new_name tables.Security new.security.name sheet kind.0 out))
     (All-with_row position_name (λ s. HasGroupOrNone sheet.groups s.security.group) new sheet.securities (group_or_none new.security.group sheet known.0 kind.1) valid.known.security_groups)
-    (All-with_row position_name (λ s. HasCurrency sheet.curves s.security.currency) new sheet.securities currency valid.known.security_currencies) within
+    (All-with_row position_name (λ s. HasCurrency sheet.curves s.security.currency) new sheet.securities currency valid.known.security_currencies)
+    (kept_components sheet valid (record sheet { securities = with_row position_name new sheet.securities }) (λ other h. or_kept _ _ _ _ (has_row-with_row position_name other new sheet.securities) (λ e. e) h)) within
 
 valid_flows : (security : List ℕ) (flows : List (Day × ℤ)) (sheet : BalanceSheet) → Formed (edits.Flows security flows) → Valid sheet → Passes (edits.Flows security flows) sheet → Valid (applied (edits.Flows security flows) sheet)
 valid_flows security flows sheet formed valid p =
@@ -330,9 +376,86 @@ valid_flows security flows sheet formed valid p =
     changed_securities sheet valid (λ s. record s { security = record s.security { flows = flows } }) security (λ s. refl) (λ s. refl) (λ s. refl)
     (λ s h. (h.0, h.1, h.2, h.3, promise)) (within_after (edits.Flows security flows) sheet valid p)
 
+-- ---- funds
+
+-- what it says that the components have no fault: there are not too many, none is one of those met before, and no two are one
+pub record AreOnce (left : ℕ) (met : List (List ℕ)) (components : List (List ℕ × ℤ)) : Type 0 where
+  pub count : length components ≤ left
+  pub new : AllByRecursion (λ c. list_any (same_name c.0) met ≡ false) components
+  pub apart : IsDistinct same_name (map (λ c. c.0) components)
+
+fresh_components : (name : List ℕ) (met : List (List ℕ)) (components : List (List ℕ × ℤ)) → AllByRecursion (λ c. list_any (same_name c.0) (name ∷ met) ≡ false) components
+    → IsFresh name (map (λ c. c.0) components) × AllByRecursion (λ c. list_any (same_name c.0) met ≡ false) components
+fresh_components name met [] new = (tt, tt)
+fresh_components name met (c ∷ cs) new =
+    let both = or_false (same_name c.0 name) (list_any (same_name c.0) met) new.0 in
+    let rest = fresh_components name met cs new.1 in
+    ((same_name-flip name c.0 ∙ both.0, rest.0), (both.1, rest.1))
+
+once : (field left : ℕ) (met : List (List ℕ)) (components : List (List ℕ × ℤ)) → components_fault field left met components ≡ None → AreOnce left met components
+unfolding IsDistinct
+once field left met [] none = record { count = omega arith; new = tt; apart = tt }
+once field zero met (c ∷ cs) none = absurd (cc)
+once field (suc left) met (c ∷ cs) none =
+    let both = failed_first _ _ _ none in
+    let rest = once (field + 2) left (c.0 ∷ met) cs both.1 in
+    let apart = fresh_components c.0 met cs rest.new in
+    let count = rest.count in
+    record { count = omega (arith, count); new = (both.0, apart.1); apart = (apart.0, rest.apart) }
+
+-- a component is the fund itself, or exists and may be held
+pub known_component : (name : List ℕ) (sheet : BalanceSheet) (c : List ℕ × ℤ) → unknown_component name sheet c ≡ None → misplaced_component name sheet c ≡ None → (same_name c.0 name ≡ true) ⊎ IsHeld sheet c.0
+known_component name sheet c known kind = by (same_name c.0 name) known kind
+  where
+    by : (t : Bool) → (if t then None else unknown_row c.0 sheet) ≡ None → (if t then None else misplaced_holding c.0 sheet) ≡ None → (t ≡ true) ⊎ IsHeld sheet c.0
+    by true known kind = inl refl
+    by false known kind = inr (right_holding c.0 sheet known kind)
+
+valid_fund : (name : List ℕ) (components : List (List ℕ × ℤ)) (sheet : BalanceSheet) → Formed (edits.Fund name components) → Valid sheet → Passes (edits.Fund name components) sheet → Valid (applied (edits.Fund name components) sheet)
+valid_fund name components sheet formed valid p =
+    let new : Stake = record { fund = record { name = name; components = components }; held = option_map_or (λ s. s.held) (row_of stake_name name sheet.funds) 0 } in
+    let after : BalanceSheet = applied (edits.Fund name components) sheet in
+    let kind = neither _ _ p.kind in
+    let listed = once 2 MAX_FUND_COMPONENTS [] components p.list in
+    let weighed = all_from_first_fault outside_weight components p.fields in
+    let own : IsStake new =
+    (formed.0, All-both _ _ (λ c. IsName c.0 × IsBetween MIN_WEIGHT MAX_WEIGHT c.1) components (λ c h w. (h.0, between_from_outside quantities.Weight MIN_WEIGHT MAX_WEIGHT c.1 w)) formed.1 weighed, listed.count, listed.apart) in
+    let kept : (other : List ℕ) → IsHeld sheet other → IsHeld after other = λ other h. or_kept _ _ _ _ (λ e. e) (has_row-with_row stake_name other new sheet.funds) h in
+    let known : AllByRecursion (λ c. IsHeld after c.0) components =
+    All-both _ _ (λ c. IsHeld after c.0) components (λ c known kind. held_component kept c (known_component name sheet c known kind)) (all_from_first_fault (unknown_component name sheet) components p.known)
+    (all_from_first_fault (misplaced_component name sheet) components kind.1) in
+    valid-funds sheet valid (with_row stake_name new sheet.funds) (All-with_row stake_name IsStake new sheet.funds own valid.funds)
+    (named-with_fund sheet valid.named_once new (λ out. new_name tables.Fund name sheet kind.0 out))
+    (All-with_row stake_name (λ s. AllByRecursion (λ c. IsHeld after c.0) s.fund.components) new sheet.funds known (kept_components sheet valid after kept))
+    (acyclic-with_fund sheet.funds valid.acyclic name components (no_chain _ p.ending)) (within_after (edits.Fund name components) sheet valid p)
+  where
+    held_component : ((other : List ℕ) → IsHeld sheet other → IsHeld (applied (edits.Fund name components) sheet) other) → (c : List ℕ × ℤ) → (same_name c.0 name ≡ true) ⊎ IsHeld sheet c.0
+        → IsHeld (applied (edits.Fund name components) sheet) c.0
+    held_component kept c (inl e) =
+        let found : has_row stake_name c.0 (with_fund name components sheet.funds) ≡ true = ap (λ n. has_row stake_name n (with_fund name components sheet.funds)) (same_name-is c.0 name e) ∙ ap is_some (row_of-with_row_own stake_name _ sheet.funds) in
+        or_right (has_row position_name c.0 sheet.securities) _ found
+    held_component kept c (inr h) = kept c.0 h
+
+-- ---- what is held
+
 valid_hold : (name : List ℕ) (cents : ℤ) (sheet : BalanceSheet) → Valid sheet → Passes (edits.Hold name cents) sheet → Valid (applied (edits.Hold name cents) sheet)
 valid_hold name cents sheet valid p =
-    changed_securities sheet valid (λ s. record s { held = natural cents }) name (λ s. refl) (λ s. refl) (λ s. refl) (λ s h. h) (within_after (edits.Hold name cents) sheet valid p)
+    let position_now : Position → Position = λ s. record s { held = natural cents } in
+    let stake_now : Stake → Stake = λ s. record s { held = natural cents } in
+    let after : BalanceSheet = applied (edits.Hold name cents) sheet in
+    let same_positions : map position_name after.securities ≡ map position_name sheet.securities = names-changed position_name position_now name sheet.securities (λ s. refl) in
+    let same_stakes : map stake_name after.funds ≡ map stake_name sheet.funds = names-changed stake_name stake_now name sheet.funds (λ s. refl) in
+    let same : names_of sheet ≡ names_of after =
+    ap (λ ns. map group_name sheet.groups ++ (ns ++ (map line_name sheet.lines ++ (map bank_name sheet.banks ++ (map rein_name sheet.reinsurers ++ map stake_name sheet.funds))))) (sym same_positions)
+    ∙ ap (λ ns. map group_name sheet.groups ++ (map position_name after.securities ++ (map line_name sheet.lines ++ (map bank_name sheet.banks ++ (map rein_name sheet.reinsurers ++ ns))))) (sym same_stakes) in
+    let kept : (other : List ℕ) → IsHeld sheet other → IsHeld after other =
+    λ other h. or_kept _ _ _ _ (has_row-changed position_name other position_now name sheet.securities) (has_row-changed stake_name other stake_now name sheet.funds) h in
+    valid-holdings sheet valid after.securities after.funds (All-changed position_name IsSecurity position_now name sheet.securities (λ s e h. h) valid.securities)
+    (All-changed stake_name IsStake stake_now name sheet.funds (λ s e h. h) valid.funds) (subst (IsDistinct same_name) same valid.named_once)
+    (All-changed position_name (λ s. HasGroupOrNone sheet.groups s.security.group) position_now name sheet.securities (λ s e h. h) valid.known.security_groups)
+    (All-changed position_name (λ s. HasCurrency sheet.curves s.security.currency) position_now name sheet.securities (λ s e h. h) valid.known.security_currencies)
+    (All-changed stake_name (λ s. AllByRecursion (λ c. IsHeld after c.0) s.fund.components) stake_now name sheet.funds (λ s e h. h) (kept_components sheet valid after kept))
+    (acyclic-changed sheet.funds valid.acyclic stake_now name (λ s. refl) (λ s. refl)) (within_after (edits.Hold name cents) sheet valid p)
 
 -- ---- lines
 
@@ -363,7 +486,7 @@ valid_line_flows line q flows sheet formed valid p =
     let keeps : (l : Liability) → row_of line_name line sheet.lines ≡ Some l → IsLine l → IsLine (change l) =
     λ l e h. (h.0, h.1, suits-with_flows l.kind flows l.flows q (has l e) h.2, each-with_flows IsProjected flows l.flows q new h.3) in
     let same : names_of sheet ≡ names_of (record sheet { lines = lines }) =
-    ap (λ ns. map group_name sheet.groups ++ (map position_name sheet.securities ++ (ns ++ (map bank_name sheet.banks ++ map rein_name sheet.reinsurers)))) (sym (names-changed line_name change line sheet.lines (λ l. refl))) in
+    ap (λ ns. map group_name sheet.groups ++ (map position_name sheet.securities ++ (ns ++ (map bank_name sheet.banks ++ (map rein_name sheet.reinsurers ++ map stake_name sheet.funds))))) (sym (names-changed line_name change line sheet.lines (λ l. refl))) in
     valid-lines sheet valid lines (All-changed line_name IsLine change line sheet.lines keeps valid.lines) (subst (IsDistinct same_name) same valid.named_once)
     (All-changed line_name (λ l. HasCurrency sheet.curves l.currency) change line sheet.lines (λ l e h. h) valid.known.line_currencies) (within_after (edits.LineFlows line q flows) sheet valid p)
 
@@ -446,11 +569,33 @@ without_curve name sheet valid p =
     (All-both _ _ (λ l. HasCurrency curves l.currency) sheet.lines (λ l h apart. kept l.currency h apart) valid.known.line_currencies free.lines)
     (kept sheet.numbers.currency valid.known.reporting free.reporting) (within_after (edits.Remove tables.Curve name) sheet valid p)
 
+-- no component is the name that goes, so each is there still
+module _ (name : List ℕ) (sheet : BalanceSheet) (valid : Valid sheet) (unused : holder_of name sheet ≡ None) (after : BalanceSheet) (kept : (other : List ℕ) → same_name name other ≡ false → IsHeld sheet other → IsHeld after other) where
+  unused_components : AllByRecursion (λ s. AllByRecursion (λ c. IsHeld after c.0) s.fund.components) sheet.funds
+  unused_components =
+      All-both _ _ (λ s. AllByRecursion (λ c. IsHeld after c.0) s.fund.components) sheet.funds
+      (λ s all apart. All-both _ _ (λ c. IsHeld after c.0) s.fund.components (λ c h e. kept c.0 e h) all apart) valid.known.components (no_holder name sheet unused)
+
+without_security : (name : List ℕ) (sheet : BalanceSheet) → Valid sheet → Passes (edits.Remove tables.Security name) sheet → Valid (applied (edits.Remove tables.Security name) sheet)
+without_security name sheet valid p =
+    let after : BalanceSheet = applied (edits.Remove tables.Security name) sheet in
+    let kept : (other : List ℕ) → same_name name other ≡ false → IsHeld sheet other → IsHeld after other = λ other apart h. or_kept _ _ _ _ (has_row-without position_name other name sheet.securities apart) (λ e. e) h in
+    valid-securities sheet valid (without position_name name sheet.securities) (All-without position_name IsSecurity name sheet.securities valid.securities) (named-without_position sheet valid.named_once name)
+    (All-without position_name _ name sheet.securities valid.known.security_groups) (All-without position_name _ name sheet.securities valid.known.security_currencies)
+    (unused_components name sheet valid (no_user _ name p.free) after kept) (within_after (edits.Remove tables.Security name) sheet valid p)
+
+without_fund : (name : List ℕ) (sheet : BalanceSheet) → Valid sheet → Passes (edits.Remove tables.Fund name) sheet → Valid (applied (edits.Remove tables.Fund name) sheet)
+without_fund name sheet valid p =
+    let after : BalanceSheet = applied (edits.Remove tables.Fund name) sheet in
+    let kept : (other : List ℕ) → same_name name other ≡ false → IsHeld sheet other → IsHeld after other = λ other apart h. or_kept _ _ _ _ (λ e. e) (has_row-without stake_name other name sheet.funds apart) h in
+    valid-funds sheet valid (without stake_name name sheet.funds) (All-without stake_name IsStake name sheet.funds valid.funds) (named-without_fund sheet valid.named_once name)
+    (All-without stake_name (λ s. AllByRecursion (λ c. IsHeld after c.0) s.fund.components) name sheet.funds (unused_components name sheet valid (no_user _ name p.free) after kept))
+    (acyclic-without sheet.funds valid.acyclic name (distinct-funds sheet valid.named_once)) (within_after (edits.Remove tables.Fund name) sheet valid p)
+
 valid_drop : (table : Table) (name : List ℕ) (sheet : BalanceSheet) → Valid sheet → Passes (edits.Remove table name) sheet → Valid (applied (edits.Remove table name) sheet)
 valid_drop tables.Group name sheet valid p = without_group name sheet valid p
-valid_drop tables.Security name sheet valid p =
-    valid-securities sheet valid (without position_name name sheet.securities) (All-without position_name IsSecurity name sheet.securities valid.securities) (named-without_position sheet valid.named_once name)
-    (All-without position_name _ name sheet.securities valid.known.security_groups) (All-without position_name _ name sheet.securities valid.known.security_currencies) (within_after (edits.Remove tables.Security name) sheet valid p)
+valid_drop tables.Security name sheet valid p = without_security name sheet valid p
+valid_drop tables.Fund name sheet valid p = without_fund name sheet valid p
 valid_drop tables.Line name sheet valid p =
     valid-lines sheet valid (without line_name name sheet.lines) (All-without line_name IsLine name sheet.lines valid.lines) (named-without_line sheet valid.named_once name)
     (All-without line_name _ name sheet.lines valid.known.line_currencies) (within_after (edits.Remove tables.Line name) sheet valid p)
@@ -470,9 +615,10 @@ Valid-applied (edits.Curve currency rates) sheet formed valid none = valid_curve
 Valid-applied (edits.Group name kind step) sheet formed valid none = valid_group (record { name = name; kind = kind; step = step }) sheet formed valid (passes (edits.Group name kind step) sheet none)
 Valid-applied (edits.Security name class group currency duration) sheet formed valid none =
     let p = passes (edits.Security name class group currency duration) sheet none in
-    let new : Position = record { security = record { name = name; class = class; group = group; currency = currency; duration = natural duration; flows = kept_flows name sheet.securities }; held = held_of sheet name } in
+    let new : Position = record { security = record { name = name; class = class; group = group; currency = currency; duration = natural duration; flows = kept_flows name sheet.securities }; held = kept_hold name sheet.securities } in
     valid_security new duration sheet refl refl formed valid p (within_after (edits.Security name class group currency duration) sheet valid p)
 Valid-applied (edits.Flows security flows) sheet formed valid none = valid_flows security flows sheet formed valid (passes _ sheet none)
+Valid-applied (edits.Fund name components) sheet formed valid none = valid_fund name components sheet formed valid (passes _ sheet none)
 Valid-applied (edits.Hold name cents) sheet formed valid none = valid_hold name cents sheet valid (passes _ sheet none)
 Valid-applied (edits.Line name kind currency) sheet formed valid none = valid_line name kind currency sheet formed valid (passes _ sheet none)
 Valid-applied (edits.LineFlows line projection flows) sheet formed valid none = valid_line_flows line projection flows sheet formed valid (passes _ sheet none)
@@ -562,6 +708,7 @@ Valid-opening =
     record {
       groups = tt;
       securities = tt;
+      funds = tt;
       lines = tt;
       banks = tt;
       reinsurers = tt;
@@ -586,7 +733,8 @@ Valid-opening =
       };
       named_once = tt;
       currencies_once = (tt, tt);
-      known = record { security_groups = tt; bank_groups = tt; rein_groups = tt; security_currencies = tt; line_currencies = tt; reporting = refl };
+      known = record { security_groups = tt; bank_groups = tt; rein_groups = tt; security_currencies = tt; line_currencies = tt; components = tt; reporting = refl };
+      acyclic = acyclic-none;
       within = record {
         held = omega arith;
         line_flows = nothing_projected;
@@ -595,6 +743,8 @@ Valid-opening =
         years = omega arith;
         currencies = omega arith;
         securities = omega arith;
+        funds = omega arith;
+        components = omega arith;
         lines = omega arith;
         groups = omega arith;
         exposures = omega arith;

@@ -1,6 +1,6 @@
 -- Which quantities of the whole book a record can take outside their limits. From a valid sheet, all others stay
 -- within them.
-use Rattle.std.proofs.Common.{◌≡◌, ℕ, ℤ, ◌+◌, ◌-◌, ◌≤◌, ◌<◌, Bool, true, false, List, [], ◌∷◌, length, map, Option, Some, None, is_some, if◌then◌else◌, nat_le, set, refl, sym, ap, subst, ◌∙◌, arith}
+use Rattle.std.proofs.Common.{◌≡◌, ℕ, ℤ, ◌+◌, ◌-◌, ◌≤◌, ◌<◌, Bool, true, false, ◌||◌, List, [], ◌∷◌, length, map, Option, Some, None, is_some, if◌then◌else◌, nat_le, set, refl, sym, ap, subst, ◌∙◌, arith}
 use Rattle.std.specs.Prelude.{max}
 use Rattle.std.specs.Option.{option_or, option_map_or}
 use Rattle.std.proofs.lemmas.Bool.{leb-true, leb-false}
@@ -9,8 +9,8 @@ use Rattle.scr_dates.specs.declared.day.Day.{Day}
 use Rattle.scr_factors.specs.declared.set.Set.{Set}
 use Rattle.scr_sheet.specs.Tables.{row_of, with_row, without}
 use Rattle.scr_sheet.specs.CashFlows.{total, greatest_years, with_flows, no_flows}
-use Rattle.scr_sheet.specs.BalanceSheet.{BalanceSheet, group_name, position_name, line_name, bank_name, rein_name, curve_name, held_of, held_total, line_flows_total, volumes_total, defaults_total, greatest, security_years, line_years, years_total, is_in}
-use Rattle.scr_sheet.specs.Records.{applied, natural, changed, kept_flows, with_absorb}
+use Rattle.scr_sheet.specs.BalanceSheet.{BalanceSheet, group_name, position_name, stake_name, line_name, bank_name, rein_name, curve_name, held_of, held_total, line_flows_total, volumes_total, defaults_total, components_total, greatest, security_years, line_years, years_total, is_in}
+use Rattle.scr_sheet.specs.Records.{applied, natural, changed, kept_flows, kept_hold, with_absorb}
 use Rattle.scr_sheet.specs.Faults.{above, sheet_outside}
 use Rattle.scr_sheet.specs.Validity.{Valid}
 use Rattle.scr_sheet.specs.declared.edit.Edit.{Edit}
@@ -32,70 +32,75 @@ use Rattle.scr_sheet.specs.declared.rows.Liability.{Liability}
 use Rattle.scr_sheet.specs.declared.rows.LineKind.{LineKind}
 use Rattle.scr_sheet.specs.declared.rows.Position.{Position}
 use Rattle.scr_sheet.specs.declared.rows.Rein.{Rein}
-use Rattle.scr_sheet.specs.declared.limits.TheConstants.{MAX_AMOUNT, MAX_HELD, MAX_LINE_FLOWS, MAX_YEARS, MAX_CURRENCIES, MAX_SECURITIES, MAX_LINES, MAX_GROUPS, MAX_EXPOSURES}
+use Rattle.scr_sheet.specs.declared.rows.Stake.{Stake}
+use Rattle.scr_sheet.specs.declared.limits.TheConstants.{MAX_AMOUNT, MAX_HELD, MAX_LINE_FLOWS, MAX_YEARS, MAX_CURRENCIES, MAX_SECURITIES, MAX_FUNDS, MAX_COMPONENTS, MAX_LINES, MAX_GROUPS, MAX_EXPOSURES}
 use Rattle.scr_sheet.proofs.TableRows.{added, passes_or_fails, names-changed, sum-without, length-with_row, without-here, without-later, same_or_other}
 use Rattle.scr_sheet.proofs.Bounds.{above-within, option_or-none}
 use Rattle.scr_sheet.proofs.Greatest.{greatest-with_row-le, row_of-le-greatest, greatest-without-le, greatest-changed-le, le-greatest-changed, line_years-with_flows-le, le-line_years-with_flows}
-use Rattle.scr_sheet.proofs.Sums.{held-hold, held-part, held-same, line_total, line_flows-own, line_flows-part, volumes-segment, volumes-part, rein_total, defaults-bank, defaults-rein, defaults-part_bank, defaults-part_rein}
+use Rattle.scr_sheet.proofs.Sums.{in_one_table, held-hold, held-part, held-same, stake_components, components-fund, components-drop, components-part, components-hold, line_total, line_flows-own, line_flows-part, volumes-segment, volumes-part, rein_total, defaults-bank, defaults-rein, defaults-part_bank, defaults-part_rein}
 use Rattle.scr_sheet.specs.Volumes.{volumes_in}
 
 -- ---- the tests of the whole book, one after another, where all but one or two pass
 
--- the first of ten faults, in their order
-abbrev first_of : Option Fault → Option Fault → Option Fault → Option Fault → Option Fault → Option Fault → Option Fault → Option Fault → Option Fault → Option Fault → Option Fault
-first_of a b c d e f g h i j = option_or a (option_or b (option_or c (option_or d (option_or e (option_or f (option_or g (option_or h (option_or i j))))))))
+-- the first of twelve faults, in their order
+abbrev first_of : Option Fault → Option Fault → Option Fault → Option Fault → Option Fault → Option Fault → Option Fault → Option Fault → Option Fault → Option Fault → Option Fault → Option Fault → Option Fault
+first_of a b c d e f g h i j k l = option_or a (option_or b (option_or c (option_or d (option_or e (option_or f (option_or g (option_or h (option_or i (option_or j (option_or k l))))))))))
 
-first_of-same : {a b c d e f g h i j a' b' c' d' e' f' g' h' i' j' : Option Fault} → a ≡ a' → b ≡ b' → c ≡ c' → d ≡ d' → e ≡ e' → f ≡ f' → g ≡ g' → h ≡ h' → i ≡ i' → j ≡ j'
-    → first_of a b c d e f g h i j ≡ first_of a' b' c' d' e' f' g' h' i' j'
-first_of-same p q r s t u v w x y = cc
+first_of-same : {a b c d e f g h i j k l a' b' c' d' e' f' g' h' i' j' k' l' : Option Fault} → a ≡ a' → b ≡ b' → c ≡ c' → d ≡ d' → e ≡ e' → f ≡ f' → g ≡ g' → h ≡ h' → i ≡ i' → j ≡ j' → k ≡ k' → l ≡ l'
+    → first_of a b c d e f g h i j k l ≡ first_of a' b' c' d' e' f' g' h' i' j' k' l'
+first_of-same p q r s t u v w x y z o = cc
 
-module _ (held : ℕ) (line_flows volumes : Option Fault) (defaults years currencies securities lines groups exposures : ℕ) where
+module _ (held : ℕ) (line_flows volumes : Option Fault) (defaults years currencies securities funds components lines groups exposures : ℕ) where
   -- the first of the tests that fails, in their order
   abbrev first_outside : Option Fault
   first_outside =
       first_of (above quantities.Held held MAX_HELD) line_flows volumes (above quantities.Defaults defaults MAX_AMOUNT) (above quantities.Years years MAX_YEARS)
-      (above quantities.Currencies currencies MAX_CURRENCIES) (above quantities.Securities securities MAX_SECURITIES) (above quantities.Lines lines MAX_LINES) (above quantities.Groups groups MAX_GROUPS)
-      (above quantities.Exposures exposures MAX_EXPOSURES)
+      (above quantities.Currencies currencies MAX_CURRENCIES) (above quantities.Securities securities MAX_SECURITIES) (above quantities.Funds funds MAX_FUNDS)
+      (above quantities.Components components MAX_COMPONENTS) (above quantities.Lines lines MAX_LINES) (above quantities.Groups groups MAX_GROUPS) (above quantities.Exposures exposures MAX_EXPOSURES)
 
-  first_outside-none : held ≤ MAX_HELD → line_flows ≡ None → volumes ≡ None → defaults ≤ MAX_AMOUNT → years ≤ MAX_YEARS → currencies ≤ MAX_CURRENCIES → securities ≤ MAX_SECURITIES → lines ≤ MAX_LINES → groups ≤ MAX_GROUPS → exposures ≤ MAX_EXPOSURES → first_outside ≡ None
-  first_outside-none h_held h_line_flows h_volumes h_defaults h_years h_currencies h_securities h_lines h_groups h_exposures =
-      first_of-same (above-within quantities.Held held MAX_HELD h_held) h_line_flows h_volumes (above-within quantities.Defaults defaults MAX_AMOUNT h_defaults) (above-within quantities.Years years MAX_YEARS h_years) (above-within quantities.Currencies currencies MAX_CURRENCIES h_currencies) (above-within quantities.Securities securities MAX_SECURITIES h_securities) (above-within quantities.Lines lines MAX_LINES h_lines) (above-within quantities.Groups groups MAX_GROUPS h_groups) (above-within quantities.Exposures exposures MAX_EXPOSURES h_exposures)
+  first_outside-none : held ≤ MAX_HELD → line_flows ≡ None → volumes ≡ None → defaults ≤ MAX_AMOUNT → years ≤ MAX_YEARS → currencies ≤ MAX_CURRENCIES → securities ≤ MAX_SECURITIES → funds ≤ MAX_FUNDS → components ≤ MAX_COMPONENTS → lines ≤ MAX_LINES → groups ≤ MAX_GROUPS → exposures ≤ MAX_EXPOSURES → first_outside ≡ None
+  first_outside-none h_held h_line_flows h_volumes h_defaults h_years h_currencies h_securities h_funds h_components h_lines h_groups h_exposures =
+      first_of-same (above-within quantities.Held held MAX_HELD h_held) h_line_flows h_volumes (above-within quantities.Defaults defaults MAX_AMOUNT h_defaults) (above-within quantities.Years years MAX_YEARS h_years) (above-within quantities.Currencies currencies MAX_CURRENCIES h_currencies) (above-within quantities.Securities securities MAX_SECURITIES h_securities) (above-within quantities.Funds funds MAX_FUNDS h_funds) (above-within quantities.Components components MAX_COMPONENTS h_components) (above-within quantities.Lines lines MAX_LINES h_lines) (above-within quantities.Groups groups MAX_GROUPS h_groups) (above-within quantities.Exposures exposures MAX_EXPOSURES h_exposures)
 
-  first_outside-held : line_flows ≡ None → volumes ≡ None → defaults ≤ MAX_AMOUNT → years ≤ MAX_YEARS → currencies ≤ MAX_CURRENCIES → securities ≤ MAX_SECURITIES → lines ≤ MAX_LINES → groups ≤ MAX_GROUPS → exposures ≤ MAX_EXPOSURES → first_outside ≡ above quantities.Held held MAX_HELD
-  first_outside-held h_line_flows h_volumes h_defaults h_years h_currencies h_securities h_lines h_groups h_exposures =
-      first_of-same refl h_line_flows h_volumes (above-within quantities.Defaults defaults MAX_AMOUNT h_defaults) (above-within quantities.Years years MAX_YEARS h_years) (above-within quantities.Currencies currencies MAX_CURRENCIES h_currencies) (above-within quantities.Securities securities MAX_SECURITIES h_securities) (above-within quantities.Lines lines MAX_LINES h_lines) (above-within quantities.Groups groups MAX_GROUPS h_groups) (above-within quantities.Exposures exposures MAX_EXPOSURES h_exposures) ∙ option_or-none (above quantities.Held held MAX_HELD)
+  first_outside-held : line_flows ≡ None → volumes ≡ None → defaults ≤ MAX_AMOUNT → years ≤ MAX_YEARS → currencies ≤ MAX_CURRENCIES → securities ≤ MAX_SECURITIES → funds ≤ MAX_FUNDS → components ≤ MAX_COMPONENTS → lines ≤ MAX_LINES → groups ≤ MAX_GROUPS → exposures ≤ MAX_EXPOSURES → first_outside ≡ above quantities.Held held MAX_HELD
+  first_outside-held h_line_flows h_volumes h_defaults h_years h_currencies h_securities h_funds h_components h_lines h_groups h_exposures =
+      first_of-same refl h_line_flows h_volumes (above-within quantities.Defaults defaults MAX_AMOUNT h_defaults) (above-within quantities.Years years MAX_YEARS h_years) (above-within quantities.Currencies currencies MAX_CURRENCIES h_currencies) (above-within quantities.Securities securities MAX_SECURITIES h_securities) (above-within quantities.Funds funds MAX_FUNDS h_funds) (above-within quantities.Components components MAX_COMPONENTS h_components) (above-within quantities.Lines lines MAX_LINES h_lines) (above-within quantities.Groups groups MAX_GROUPS h_groups) (above-within quantities.Exposures exposures MAX_EXPOSURES h_exposures) ∙ option_or-none (above quantities.Held held MAX_HELD)
 
-  first_outside-line_flows : held ≤ MAX_HELD → volumes ≡ None → defaults ≤ MAX_AMOUNT → currencies ≤ MAX_CURRENCIES → securities ≤ MAX_SECURITIES → lines ≤ MAX_LINES → groups ≤ MAX_GROUPS → exposures ≤ MAX_EXPOSURES → first_outside ≡ option_or line_flows (above quantities.Years years MAX_YEARS)
-  first_outside-line_flows h_held h_volumes h_defaults h_currencies h_securities h_lines h_groups h_exposures =
-      first_of-same (above-within quantities.Held held MAX_HELD h_held) refl h_volumes (above-within quantities.Defaults defaults MAX_AMOUNT h_defaults) refl (above-within quantities.Currencies currencies MAX_CURRENCIES h_currencies) (above-within quantities.Securities securities MAX_SECURITIES h_securities) (above-within quantities.Lines lines MAX_LINES h_lines) (above-within quantities.Groups groups MAX_GROUPS h_groups) (above-within quantities.Exposures exposures MAX_EXPOSURES h_exposures) ∙ ap (option_or line_flows) (option_or-none (above quantities.Years years MAX_YEARS))
+  first_outside-line_flows : held ≤ MAX_HELD → volumes ≡ None → defaults ≤ MAX_AMOUNT → currencies ≤ MAX_CURRENCIES → securities ≤ MAX_SECURITIES → funds ≤ MAX_FUNDS → components ≤ MAX_COMPONENTS → lines ≤ MAX_LINES → groups ≤ MAX_GROUPS → exposures ≤ MAX_EXPOSURES → first_outside ≡ option_or line_flows (above quantities.Years years MAX_YEARS)
+  first_outside-line_flows h_held h_volumes h_defaults h_currencies h_securities h_funds h_components h_lines h_groups h_exposures =
+      first_of-same (above-within quantities.Held held MAX_HELD h_held) refl h_volumes (above-within quantities.Defaults defaults MAX_AMOUNT h_defaults) refl (above-within quantities.Currencies currencies MAX_CURRENCIES h_currencies) (above-within quantities.Securities securities MAX_SECURITIES h_securities) (above-within quantities.Funds funds MAX_FUNDS h_funds) (above-within quantities.Components components MAX_COMPONENTS h_components) (above-within quantities.Lines lines MAX_LINES h_lines) (above-within quantities.Groups groups MAX_GROUPS h_groups) (above-within quantities.Exposures exposures MAX_EXPOSURES h_exposures) ∙ ap (option_or line_flows) (option_or-none (above quantities.Years years MAX_YEARS))
 
-  first_outside-volumes : held ≤ MAX_HELD → line_flows ≡ None → defaults ≤ MAX_AMOUNT → years ≤ MAX_YEARS → currencies ≤ MAX_CURRENCIES → securities ≤ MAX_SECURITIES → lines ≤ MAX_LINES → groups ≤ MAX_GROUPS → exposures ≤ MAX_EXPOSURES → first_outside ≡ volumes
-  first_outside-volumes h_held h_line_flows h_defaults h_years h_currencies h_securities h_lines h_groups h_exposures =
-      first_of-same (above-within quantities.Held held MAX_HELD h_held) h_line_flows refl (above-within quantities.Defaults defaults MAX_AMOUNT h_defaults) (above-within quantities.Years years MAX_YEARS h_years) (above-within quantities.Currencies currencies MAX_CURRENCIES h_currencies) (above-within quantities.Securities securities MAX_SECURITIES h_securities) (above-within quantities.Lines lines MAX_LINES h_lines) (above-within quantities.Groups groups MAX_GROUPS h_groups) (above-within quantities.Exposures exposures MAX_EXPOSURES h_exposures) ∙ option_or-none (volumes)
+  first_outside-volumes : held ≤ MAX_HELD → line_flows ≡ None → defaults ≤ MAX_AMOUNT → years ≤ MAX_YEARS → currencies ≤ MAX_CURRENCIES → securities ≤ MAX_SECURITIES → funds ≤ MAX_FUNDS → components ≤ MAX_COMPONENTS → lines ≤ MAX_LINES → groups ≤ MAX_GROUPS → exposures ≤ MAX_EXPOSURES → first_outside ≡ volumes
+  first_outside-volumes h_held h_line_flows h_defaults h_years h_currencies h_securities h_funds h_components h_lines h_groups h_exposures =
+      first_of-same (above-within quantities.Held held MAX_HELD h_held) h_line_flows refl (above-within quantities.Defaults defaults MAX_AMOUNT h_defaults) (above-within quantities.Years years MAX_YEARS h_years) (above-within quantities.Currencies currencies MAX_CURRENCIES h_currencies) (above-within quantities.Securities securities MAX_SECURITIES h_securities) (above-within quantities.Funds funds MAX_FUNDS h_funds) (above-within quantities.Components components MAX_COMPONENTS h_components) (above-within quantities.Lines lines MAX_LINES h_lines) (above-within quantities.Groups groups MAX_GROUPS h_groups) (above-within quantities.Exposures exposures MAX_EXPOSURES h_exposures) ∙ option_or-none volumes
 
-  first_outside-years : held ≤ MAX_HELD → line_flows ≡ None → volumes ≡ None → defaults ≤ MAX_AMOUNT → currencies ≤ MAX_CURRENCIES → securities ≤ MAX_SECURITIES → lines ≤ MAX_LINES → groups ≤ MAX_GROUPS → exposures ≤ MAX_EXPOSURES → first_outside ≡ above quantities.Years years MAX_YEARS
-  first_outside-years h_held h_line_flows h_volumes h_defaults h_currencies h_securities h_lines h_groups h_exposures =
-      first_of-same (above-within quantities.Held held MAX_HELD h_held) h_line_flows h_volumes (above-within quantities.Defaults defaults MAX_AMOUNT h_defaults) refl (above-within quantities.Currencies currencies MAX_CURRENCIES h_currencies) (above-within quantities.Securities securities MAX_SECURITIES h_securities) (above-within quantities.Lines lines MAX_LINES h_lines) (above-within quantities.Groups groups MAX_GROUPS h_groups) (above-within quantities.Exposures exposures MAX_EXPOSURES h_exposures) ∙ option_or-none (above quantities.Years years MAX_YEARS)
+  first_outside-years : held ≤ MAX_HELD → line_flows ≡ None → volumes ≡ None → defaults ≤ MAX_AMOUNT → currencies ≤ MAX_CURRENCIES → securities ≤ MAX_SECURITIES → funds ≤ MAX_FUNDS → components ≤ MAX_COMPONENTS → lines ≤ MAX_LINES → groups ≤ MAX_GROUPS → exposures ≤ MAX_EXPOSURES → first_outside ≡ above quantities.Years years MAX_YEARS
+  first_outside-years h_held h_line_flows h_volumes h_defaults h_currencies h_securities h_funds h_components h_lines h_groups h_exposures =
+      first_of-same (above-within quantities.Held held MAX_HELD h_held) h_line_flows h_volumes (above-within quantities.Defaults defaults MAX_AMOUNT h_defaults) refl (above-within quantities.Currencies currencies MAX_CURRENCIES h_currencies) (above-within quantities.Securities securities MAX_SECURITIES h_securities) (above-within quantities.Funds funds MAX_FUNDS h_funds) (above-within quantities.Components components MAX_COMPONENTS h_components) (above-within quantities.Lines lines MAX_LINES h_lines) (above-within quantities.Groups groups MAX_GROUPS h_groups) (above-within quantities.Exposures exposures MAX_EXPOSURES h_exposures) ∙ option_or-none (above quantities.Years years MAX_YEARS)
 
-  first_outside-currencies : held ≤ MAX_HELD → line_flows ≡ None → volumes ≡ None → defaults ≤ MAX_AMOUNT → years ≤ MAX_YEARS → securities ≤ MAX_SECURITIES → lines ≤ MAX_LINES → groups ≤ MAX_GROUPS → exposures ≤ MAX_EXPOSURES → first_outside ≡ above quantities.Currencies currencies MAX_CURRENCIES
-  first_outside-currencies h_held h_line_flows h_volumes h_defaults h_years h_securities h_lines h_groups h_exposures =
-      first_of-same (above-within quantities.Held held MAX_HELD h_held) h_line_flows h_volumes (above-within quantities.Defaults defaults MAX_AMOUNT h_defaults) (above-within quantities.Years years MAX_YEARS h_years) refl (above-within quantities.Securities securities MAX_SECURITIES h_securities) (above-within quantities.Lines lines MAX_LINES h_lines) (above-within quantities.Groups groups MAX_GROUPS h_groups) (above-within quantities.Exposures exposures MAX_EXPOSURES h_exposures) ∙ option_or-none (above quantities.Currencies currencies MAX_CURRENCIES)
+  first_outside-currencies : held ≤ MAX_HELD → line_flows ≡ None → volumes ≡ None → defaults ≤ MAX_AMOUNT → years ≤ MAX_YEARS → securities ≤ MAX_SECURITIES → funds ≤ MAX_FUNDS → components ≤ MAX_COMPONENTS → lines ≤ MAX_LINES → groups ≤ MAX_GROUPS → exposures ≤ MAX_EXPOSURES → first_outside ≡ above quantities.Currencies currencies MAX_CURRENCIES
+  first_outside-currencies h_held h_line_flows h_volumes h_defaults h_years h_securities h_funds h_components h_lines h_groups h_exposures =
+      first_of-same (above-within quantities.Held held MAX_HELD h_held) h_line_flows h_volumes (above-within quantities.Defaults defaults MAX_AMOUNT h_defaults) (above-within quantities.Years years MAX_YEARS h_years) refl (above-within quantities.Securities securities MAX_SECURITIES h_securities) (above-within quantities.Funds funds MAX_FUNDS h_funds) (above-within quantities.Components components MAX_COMPONENTS h_components) (above-within quantities.Lines lines MAX_LINES h_lines) (above-within quantities.Groups groups MAX_GROUPS h_groups) (above-within quantities.Exposures exposures MAX_EXPOSURES h_exposures) ∙ option_or-none (above quantities.Currencies currencies MAX_CURRENCIES)
 
-  first_outside-securities : held ≤ MAX_HELD → line_flows ≡ None → volumes ≡ None → defaults ≤ MAX_AMOUNT → years ≤ MAX_YEARS → currencies ≤ MAX_CURRENCIES → lines ≤ MAX_LINES → groups ≤ MAX_GROUPS → exposures ≤ MAX_EXPOSURES → first_outside ≡ above quantities.Securities securities MAX_SECURITIES
-  first_outside-securities h_held h_line_flows h_volumes h_defaults h_years h_currencies h_lines h_groups h_exposures =
-      first_of-same (above-within quantities.Held held MAX_HELD h_held) h_line_flows h_volumes (above-within quantities.Defaults defaults MAX_AMOUNT h_defaults) (above-within quantities.Years years MAX_YEARS h_years) (above-within quantities.Currencies currencies MAX_CURRENCIES h_currencies) refl (above-within quantities.Lines lines MAX_LINES h_lines) (above-within quantities.Groups groups MAX_GROUPS h_groups) (above-within quantities.Exposures exposures MAX_EXPOSURES h_exposures) ∙ option_or-none (above quantities.Securities securities MAX_SECURITIES)
+  first_outside-securities : held ≤ MAX_HELD → line_flows ≡ None → volumes ≡ None → defaults ≤ MAX_AMOUNT → years ≤ MAX_YEARS → currencies ≤ MAX_CURRENCIES → funds ≤ MAX_FUNDS → components ≤ MAX_COMPONENTS → lines ≤ MAX_LINES → groups ≤ MAX_GROUPS → exposures ≤ MAX_EXPOSURES → first_outside ≡ above quantities.Securities securities MAX_SECURITIES
+  first_outside-securities h_held h_line_flows h_volumes h_defaults h_years h_currencies h_funds h_components h_lines h_groups h_exposures =
+      first_of-same (above-within quantities.Held held MAX_HELD h_held) h_line_flows h_volumes (above-within quantities.Defaults defaults MAX_AMOUNT h_defaults) (above-within quantities.Years years MAX_YEARS h_years) (above-within quantities.Currencies currencies MAX_CURRENCIES h_currencies) refl (above-within quantities.Funds funds MAX_FUNDS h_funds) (above-within quantities.Components components MAX_COMPONENTS h_components) (above-within quantities.Lines lines MAX_LINES h_lines) (above-within quantities.Groups groups MAX_GROUPS h_groups) (above-within quantities.Exposures exposures MAX_EXPOSURES h_exposures) ∙ option_or-none (above quantities.Securities securities MAX_SECURITIES)
 
-  first_outside-lines : held ≤ MAX_HELD → line_flows ≡ None → volumes ≡ None → defaults ≤ MAX_AMOUNT → years ≤ MAX_YEARS → currencies ≤ MAX_CURRENCIES → securities ≤ MAX_SECURITIES → groups ≤ MAX_GROUPS → exposures ≤ MAX_EXPOSURES → first_outside ≡ above quantities.Lines lines MAX_LINES
-  first_outside-lines h_held h_line_flows h_volumes h_defaults h_years h_currencies h_securities h_groups h_exposures =
-      first_of-same (above-within quantities.Held held MAX_HELD h_held) h_line_flows h_volumes (above-within quantities.Defaults defaults MAX_AMOUNT h_defaults) (above-within quantities.Years years MAX_YEARS h_years) (above-within quantities.Currencies currencies MAX_CURRENCIES h_currencies) (above-within quantities.Securities securities MAX_SECURITIES h_securities) refl (above-within quantities.Groups groups MAX_GROUPS h_groups) (above-within quantities.Exposures exposures MAX_EXPOSURES h_exposures) ∙ option_or-none (above quantities.Lines lines MAX_LINES)
+  first_outside-funds : held ≤ MAX_HELD → line_flows ≡ None → volumes ≡ None → defaults ≤ MAX_AMOUNT → years ≤ MAX_YEARS → currencies ≤ MAX_CURRENCIES → securities ≤ MAX_SECURITIES → lines ≤ MAX_LINES → groups ≤ MAX_GROUPS → exposures ≤ MAX_EXPOSURES → first_outside ≡ option_or (above quantities.Funds funds MAX_FUNDS) (above quantities.Components components MAX_COMPONENTS)
+  first_outside-funds h_held h_line_flows h_volumes h_defaults h_years h_currencies h_securities h_lines h_groups h_exposures =
+      first_of-same (above-within quantities.Held held MAX_HELD h_held) h_line_flows h_volumes (above-within quantities.Defaults defaults MAX_AMOUNT h_defaults) (above-within quantities.Years years MAX_YEARS h_years) (above-within quantities.Currencies currencies MAX_CURRENCIES h_currencies) (above-within quantities.Securities securities MAX_SECURITIES h_securities) refl refl (above-within quantities.Lines lines MAX_LINES h_lines) (above-within quantities.Groups groups MAX_GROUPS h_groups) (above-within quantities.Exposures exposures MAX_EXPOSURES h_exposures) ∙ ap (option_or (above quantities.Funds funds MAX_FUNDS)) (option_or-none (above quantities.Components components MAX_COMPONENTS))
 
-  first_outside-groups : held ≤ MAX_HELD → line_flows ≡ None → volumes ≡ None → defaults ≤ MAX_AMOUNT → years ≤ MAX_YEARS → currencies ≤ MAX_CURRENCIES → securities ≤ MAX_SECURITIES → lines ≤ MAX_LINES → exposures ≤ MAX_EXPOSURES → first_outside ≡ above quantities.Groups groups MAX_GROUPS
-  first_outside-groups h_held h_line_flows h_volumes h_defaults h_years h_currencies h_securities h_lines h_exposures =
-      first_of-same (above-within quantities.Held held MAX_HELD h_held) h_line_flows h_volumes (above-within quantities.Defaults defaults MAX_AMOUNT h_defaults) (above-within quantities.Years years MAX_YEARS h_years) (above-within quantities.Currencies currencies MAX_CURRENCIES h_currencies) (above-within quantities.Securities securities MAX_SECURITIES h_securities) (above-within quantities.Lines lines MAX_LINES h_lines) refl (above-within quantities.Exposures exposures MAX_EXPOSURES h_exposures) ∙ option_or-none (above quantities.Groups groups MAX_GROUPS)
+  first_outside-lines : held ≤ MAX_HELD → line_flows ≡ None → volumes ≡ None → defaults ≤ MAX_AMOUNT → years ≤ MAX_YEARS → currencies ≤ MAX_CURRENCIES → securities ≤ MAX_SECURITIES → funds ≤ MAX_FUNDS → components ≤ MAX_COMPONENTS → groups ≤ MAX_GROUPS → exposures ≤ MAX_EXPOSURES → first_outside ≡ above quantities.Lines lines MAX_LINES
+  first_outside-lines h_held h_line_flows h_volumes h_defaults h_years h_currencies h_securities h_funds h_components h_groups h_exposures =
+      first_of-same (above-within quantities.Held held MAX_HELD h_held) h_line_flows h_volumes (above-within quantities.Defaults defaults MAX_AMOUNT h_defaults) (above-within quantities.Years years MAX_YEARS h_years) (above-within quantities.Currencies currencies MAX_CURRENCIES h_currencies) (above-within quantities.Securities securities MAX_SECURITIES h_securities) (above-within quantities.Funds funds MAX_FUNDS h_funds) (above-within quantities.Components components MAX_COMPONENTS h_components) refl (above-within quantities.Groups groups MAX_GROUPS h_groups) (above-within quantities.Exposures exposures MAX_EXPOSURES h_exposures) ∙ option_or-none (above quantities.Lines lines MAX_LINES)
 
-  first_outside-exposures : held ≤ MAX_HELD → line_flows ≡ None → volumes ≡ None → years ≤ MAX_YEARS → currencies ≤ MAX_CURRENCIES → securities ≤ MAX_SECURITIES → lines ≤ MAX_LINES → groups ≤ MAX_GROUPS → first_outside ≡ option_or (above quantities.Defaults defaults MAX_AMOUNT) (above quantities.Exposures exposures MAX_EXPOSURES)
-  first_outside-exposures h_held h_line_flows h_volumes h_years h_currencies h_securities h_lines h_groups =
-      first_of-same (above-within quantities.Held held MAX_HELD h_held) h_line_flows h_volumes refl (above-within quantities.Years years MAX_YEARS h_years) (above-within quantities.Currencies currencies MAX_CURRENCIES h_currencies) (above-within quantities.Securities securities MAX_SECURITIES h_securities) (above-within quantities.Lines lines MAX_LINES h_lines) (above-within quantities.Groups groups MAX_GROUPS h_groups) refl
+  first_outside-groups : held ≤ MAX_HELD → line_flows ≡ None → volumes ≡ None → defaults ≤ MAX_AMOUNT → years ≤ MAX_YEARS → currencies ≤ MAX_CURRENCIES → securities ≤ MAX_SECURITIES → funds ≤ MAX_FUNDS → components ≤ MAX_COMPONENTS → lines ≤ MAX_LINES → exposures ≤ MAX_EXPOSURES → first_outside ≡ above quantities.Groups groups MAX_GROUPS
+  first_outside-groups h_held h_line_flows h_volumes h_defaults h_years h_currencies h_securities h_funds h_components h_lines h_exposures =
+      first_of-same (above-within quantities.Held held MAX_HELD h_held) h_line_flows h_volumes (above-within quantities.Defaults defaults MAX_AMOUNT h_defaults) (above-within quantities.Years years MAX_YEARS h_years) (above-within quantities.Currencies currencies MAX_CURRENCIES h_currencies) (above-within quantities.Securities securities MAX_SECURITIES h_securities) (above-within quantities.Funds funds MAX_FUNDS h_funds) (above-within quantities.Components components MAX_COMPONENTS h_components) (above-within quantities.Lines lines MAX_LINES h_lines) refl (above-within quantities.Exposures exposures MAX_EXPOSURES h_exposures) ∙ option_or-none (above quantities.Groups groups MAX_GROUPS)
+
+  first_outside-exposures : held ≤ MAX_HELD → line_flows ≡ None → volumes ≡ None → years ≤ MAX_YEARS → currencies ≤ MAX_CURRENCIES → securities ≤ MAX_SECURITIES → funds ≤ MAX_FUNDS → components ≤ MAX_COMPONENTS → lines ≤ MAX_LINES → groups ≤ MAX_GROUPS → first_outside ≡ option_or (above quantities.Defaults defaults MAX_AMOUNT) (above quantities.Exposures exposures MAX_EXPOSURES)
+  first_outside-exposures h_held h_line_flows h_volumes h_years h_currencies h_securities h_funds h_components h_lines h_groups =
+      first_of-same (above-within quantities.Held held MAX_HELD h_held) h_line_flows h_volumes refl (above-within quantities.Years years MAX_YEARS h_years) (above-within quantities.Currencies currencies MAX_CURRENCIES h_currencies) (above-within quantities.Securities securities MAX_SECURITIES h_securities) (above-within quantities.Funds funds MAX_FUNDS h_funds) (above-within quantities.Components components MAX_COMPONENTS h_components) (above-within quantities.Lines lines MAX_LINES h_lines) (above-within quantities.Groups groups MAX_GROUPS h_groups) refl
 
 -- ---- numbers of rows
 
@@ -166,7 +171,7 @@ module _ (sheet : BalanceSheet) (valid : Valid sheet) where
       sheet_outside edit (applied edit sheet) ≡ above quantities.Years (years_total (applied edit sheet)) MAX_YEARS
   outside-asof date currency =
       let w = valid.within in
-      first_outside-years _ _ _ _ _ _ _ _ _ _ w.held refl refl w.defaults w.currencies w.securities w.lines w.groups w.exposures
+      first_outside-years _ _ _ _ _ _ _ _ _ _ _ _ w.held refl refl w.defaults w.currencies w.securities w.funds w.components w.lines w.groups w.exposures
 
   pub outside-curve : (currency : List ℕ) (rates : List ℤ) → let edit = edits.Curve currency rates in
       sheet_outside edit (applied edit sheet) ≡ above quantities.Currencies (length sheet.curves + added (row_of curve_name currency sheet.curves)) MAX_CURRENCIES
@@ -174,7 +179,7 @@ module _ (sheet : BalanceSheet) (valid : Valid sheet) where
       let w = valid.within in
       let old : Option Curve = row_of curve_name currency sheet.curves in
       let new : Curve = record { currency = currency; rates = rates; absorb_up = option_map_or (λ c. c.absorb_up) old 0; absorb_down = option_map_or (λ c. c.absorb_down) old 0 } in
-      first_outside-currencies _ _ _ _ _ _ _ _ _ _ w.held refl refl w.defaults w.years w.securities w.lines w.groups w.exposures
+      first_outside-currencies _ _ _ _ _ _ _ _ _ _ _ _ w.held refl refl w.defaults w.years w.securities w.funds w.components w.lines w.groups w.exposures
       ∙ ap (λ n. above quantities.Currencies n MAX_CURRENCIES) (length-with_row curve_name new sheet.curves)
 
   pub outside-group : (name : List ℕ) (kind : GroupKind) (step : Option ℕ) → let edit = edits.Group name kind step in
@@ -182,7 +187,7 @@ module _ (sheet : BalanceSheet) (valid : Valid sheet) where
   outside-group name kind step =
       let w = valid.within in
       let new : Group = record { name = name; kind = kind; step = step } in
-      first_outside-groups _ _ _ _ _ _ _ _ _ _ w.held refl refl w.defaults w.years w.currencies w.securities w.lines w.exposures
+      first_outside-groups _ _ _ _ _ _ _ _ _ _ _ _ w.held refl refl w.defaults w.years w.currencies w.securities w.funds w.components w.lines w.exposures
       ∙ ap (λ n. above quantities.Groups n MAX_GROUPS) (length-with_row group_name new sheet.groups)
 
   pub outside-security : (name : List ℕ) (class : Class) (group : Option (List ℕ)) (currency : List ℕ) (duration : ℤ) → let edit = edits.Security name class group currency duration in
@@ -190,14 +195,14 @@ module _ (sheet : BalanceSheet) (valid : Valid sheet) where
   outside-security name class group currency duration =
       let w = valid.within in
       let edit : Edit = edits.Security name class group currency duration in
-      let new : Position = record { security = record { name = name; class = class; group = group; currency = currency; duration = natural duration; flows = kept_flows name sheet.securities }; held = held_of sheet name } in
+      let new : Position = record { security = record { name = name; class = class; group = group; currency = currency; duration = natural duration; flows = kept_flows name sheet.securities }; held = kept_hold name sheet.securities } in
       let same : held_total (applied edit sheet) ≡ held_total sheet = held-same edit sheet refl refl in
       let held : held_total (applied edit sheet) ≤ MAX_HELD = subst (λ (n : ℕ). n ≤ MAX_HELD) (sym same) w.held in
       let kept : greatest (security_years asof) (with_row position_name new sheet.securities) ≤ security_most =
       greatest-with_row-le (security_years asof) position_name security_most new sheet.securities (own (row_of position_name name sheet.securities) refl) (omega arith) in
       let few = w.years in
       let years : years_total (applied edit sheet) ≤ MAX_YEARS = omega arith in
-      first_outside-securities _ _ _ _ _ _ _ _ _ _ held refl refl w.defaults years w.currencies w.lines w.groups w.exposures
+      first_outside-securities _ _ _ _ _ _ _ _ _ _ _ _ held refl refl w.defaults years w.currencies w.funds w.components w.lines w.groups w.exposures
       ∙ ap (λ n. above quantities.Securities n MAX_SECURITIES) (length-with_row position_name new sheet.securities)
     where
       own : (found : Option Position) → row_of position_name name sheet.securities ≡ found → greatest_years asof (option_map_or (λ p. p.security.flows) found []) ≤ security_most
@@ -226,33 +231,52 @@ module _ (sheet : BalanceSheet) (valid : Valid sheet) where
           let low : own ≤ greatest (security_years asof) after = le-greatest-changed (security_years asof) position_name change security sheet.securities p e in
           let high : greatest (security_years asof) after ≤ most = greatest-changed-le (security_years asof) position_name most change security sheet.securities (λ s h. omega arith) (omega arith) in
           let before = w.years in
-          first_outside-years _ _ _ _ _ _ _ _ _ _ held refl refl w.defaults w.currencies few w.lines w.groups w.exposures
+          first_outside-years _ _ _ _ _ _ _ _ _ _ _ _ held refl refl w.defaults w.currencies few w.funds w.components w.lines w.groups w.exposures
           ∙ above-part quantities.Years (years_total (applied edit sheet)) own MAX_YEARS (omega arith) (omega arith)
 
-  -- where the security exists, a hold fails by what is then held in all alone
-  pub outside-hold : (name : List ℕ) (cents : ℤ) → is_in tables.Security name sheet ≡ true → let edit = edits.Hold name cents in
+  -- a fund fails by the number of funds, or by that of the components of all of them
+  pub outside-fund : (name : List ℕ) (components : List (List ℕ × ℤ)) → let edit = edits.Fund name components in
+      sheet_outside edit (applied edit sheet)
+      ≡ option_or (above quantities.Funds (length sheet.funds + added (row_of stake_name name sheet.funds)) MAX_FUNDS)
+      (above quantities.Components (components_total sheet - option_map_or stake_components (row_of stake_name name sheet.funds) 0 + length components) MAX_COMPONENTS)
+  outside-fund name components =
+      let w = valid.within in
+      let edit : Edit = edits.Fund name components in
+      let new : Stake = record { fund = record { name = name; components = components }; held = option_map_or (λ s. s.held) (row_of stake_name name sheet.funds) 0 } in
+      let old : ℕ = option_map_or stake_components (row_of stake_name name sheet.funds) 0 in
+      let same : held_total (applied edit sheet) ≡ held_total sheet = held-same edit sheet refl refl in
+      let held : held_total (applied edit sheet) ≤ MAX_HELD = subst (λ (n : ℕ). n ≤ MAX_HELD) (sym same) w.held in
+      let sum = components-fund name components sheet in
+      let part = components-part name sheet in
+      let value : components_total (applied edit sheet) ≡ components_total sheet - old + length components = omega arith in
+      let number : length (applied edit sheet).funds ≡ length sheet.funds + added (row_of stake_name name sheet.funds) = length-with_row stake_name new sheet.funds in
+      first_outside-funds _ _ _ _ _ _ _ (length (applied edit sheet).funds) (components_total (applied edit sheet)) _ _ _ held refl refl w.defaults w.years w.currencies w.securities w.lines w.groups w.exposures
+      ∙ ap (λ n. option_or (above quantities.Funds n MAX_FUNDS) (above quantities.Components (components_total (applied edit sheet)) MAX_COMPONENTS)) number
+      ∙ ap (λ n. option_or (above quantities.Funds (length sheet.funds + added (row_of stake_name name sheet.funds)) MAX_FUNDS) (above quantities.Components n MAX_COMPONENTS)) value
+
+  -- where the security or the fund exists, a hold fails by what is then held in all alone
+  pub outside-hold : (name : List ℕ) (cents : ℤ) → (is_in tables.Security name sheet || is_in tables.Fund name sheet) ≡ true → let edit = edits.Hold name cents in
       sheet_outside edit (applied edit sheet) ≡ above quantities.Held (held_total sheet - held_of sheet name + natural cents) MAX_HELD
-  outside-hold name cents known = by (row_of position_name name sheet.securities) refl known
-    where
-      by : (found : Option Position) → row_of position_name name sheet.securities ≡ found → is_some found ≡ true → let edit = edits.Hold name cents in
-          sheet_outside edit (applied edit sheet) ≡ above quantities.Held (held_total sheet - held_of sheet name + natural cents) MAX_HELD
-      by None e some = absurd (cc)
-      by (Some p) e some =
-          let w = valid.within in
-          let edit : Edit = edits.Hold name cents in
-          let change : Position → Position = λ s. record s { held = natural cents } in
-          let after : List Position = changed position_name change name sheet.securities in
-          let sum = held-hold name cents sheet p e in
-          let part : held_of sheet name ≡ p.held = ap (λ o. option_map_or (λ q. q.held) o 0) e in
-          let all = held-part name sheet in
-          let held : held_total (applied edit sheet) ≡ held_total sheet - held_of sheet name + natural cents = omega arith in
-          let long : length after ≡ length sheet.securities = length-changed position_name change name sheet.securities (λ s. refl) in
-          let few : length after ≤ MAX_SECURITIES = subst (λ (n : ℕ). n ≤ MAX_SECURITIES) (sym long) w.securities in
-          let high : greatest (security_years asof) after ≤ security_most = greatest-changed-le (security_years asof) position_name security_most change name sheet.securities (λ s h. h) (omega arith) in
-          let before = w.years in
-          let years : years_total (applied edit sheet) ≤ MAX_YEARS = omega arith in
-          first_outside-held _ _ _ _ _ _ _ _ _ _ refl refl w.defaults years w.currencies few w.lines w.groups w.exposures
-          ∙ ap (λ n. above quantities.Held n MAX_HELD) held
+  outside-hold name cents known =
+      let w = valid.within in
+      let edit : Edit = edits.Hold name cents in
+      let change : Position → Position = λ p. record p { held = natural cents } in
+      let change_stake : Stake → Stake = λ s. record s { held = natural cents } in
+      let after : List Position = changed position_name change name sheet.securities in
+      let after_funds : List Stake = changed stake_name change_stake name sheet.funds in
+      let sum = held-hold name cents sheet known (in_one_table sheet valid name) in
+      let all = held-part name sheet in
+      let held : held_total (applied edit sheet) ≡ held_total sheet - held_of sheet name + natural cents = omega arith in
+      let long : length after ≡ length sheet.securities = length-changed position_name change name sheet.securities (λ p. refl) in
+      let few : length after ≤ MAX_SECURITIES = subst (λ (n : ℕ). n ≤ MAX_SECURITIES) (sym long) w.securities in
+      let long_funds : length after_funds ≡ length sheet.funds = length-changed stake_name change_stake name sheet.funds (λ s. refl) in
+      let few_funds : length after_funds ≤ MAX_FUNDS = subst (λ (n : ℕ). n ≤ MAX_FUNDS) (sym long_funds) w.funds in
+      let components : components_total (applied edit sheet) ≤ MAX_COMPONENTS = subst (λ (n : ℕ). n ≤ MAX_COMPONENTS) (sym (components-hold name cents sheet)) w.components in
+      let high : greatest (security_years asof) after ≤ security_most = greatest-changed-le (security_years asof) position_name security_most change name sheet.securities (λ p h. h) (omega arith) in
+      let before = w.years in
+      let years : years_total (applied edit sheet) ≤ MAX_YEARS = omega arith in
+      first_outside-held _ _ _ _ _ _ _ _ _ _ _ _ refl refl w.defaults years w.currencies few few_funds components w.lines w.groups w.exposures
+      ∙ ap (λ n. above quantities.Held n MAX_HELD) held
 
   pub outside-line : (name : List ℕ) (kind : LineKind) (currency : List ℕ) → let edit = edits.Line name kind currency in
       sheet_outside edit (applied edit sheet) ≡ above quantities.Lines (length sheet.lines + added (row_of line_name name sheet.lines)) MAX_LINES
@@ -264,7 +288,7 @@ module _ (sheet : BalanceSheet) (valid : Valid sheet) where
       greatest-with_row-le (line_years asof) line_name line_most new sheet.lines (own (row_of line_name name sheet.lines) refl) (omega arith) in
       let before = w.years in
       let years : years_total (applied edit sheet) ≤ MAX_YEARS = omega arith in
-      first_outside-lines _ _ _ _ _ _ _ _ _ _ w.held refl refl w.defaults years w.currencies w.securities w.groups w.exposures
+      first_outside-lines _ _ _ _ _ _ _ _ _ _ _ _ w.held refl refl w.defaults years w.currencies w.securities w.funds w.components w.groups w.exposures
       ∙ ap (λ n. above quantities.Lines n MAX_LINES) (length-with_row line_name new sheet.lines)
     where
       own : (found : Option Liability) → row_of line_name name sheet.lines ≡ found → line_years asof (record { name = name; kind = kind; currency = currency; flows = option_map_or (λ l. l.flows) found no_flows }) ≤ line_most
@@ -302,7 +326,7 @@ module _ (sheet : BalanceSheet) (valid : Valid sheet) where
           let high : greatest (line_years asof) after ≤ most =
           greatest-changed-le (line_years asof) line_name most change line sheet.lines (λ m h. line_years-with_flows-le asof most projection flows m (omega arith) h) (omega arith) in
           let before = w.years in
-          first_outside-line_flows _ _ _ _ _ _ _ _ _ _ w.held refl w.defaults w.currencies w.securities few w.groups w.exposures
+          first_outside-line_flows _ _ _ _ _ _ _ _ _ _ _ _ w.held refl w.defaults w.currencies w.securities w.funds w.components few w.groups w.exposures
           ∙ ap (λ n. option_or (above quantities.LineFlows n MAX_LINE_FLOWS) (above quantities.Years (years_total (applied edit sheet)) MAX_YEARS)) value
           ∙ ap (λ o. option_or (above quantities.LineFlows (line_flows_total projection sheet - option_map_or (line_total projection) (row_of line_name line sheet.lines) 0 + total flows) MAX_LINE_FLOWS) o)
           (above-part quantities.Years (years_total (applied edit sheet)) own MAX_YEARS (omega arith) (omega arith))
@@ -315,7 +339,7 @@ module _ (sheet : BalanceSheet) (valid : Valid sheet) where
       let sum = volumes-segment set number region premium reserve sheet old is in
       let all = volumes-part set number region sheet old is in
       let value : volumes_total set (applied edit sheet) ≡ volumes_total set sheet - (old.0 + old.1) + (natural premium + natural reserve) = omega arith in
-      first_outside-volumes _ _ _ _ _ _ _ _ _ _ w.held refl w.defaults w.years w.currencies w.securities w.lines w.groups w.exposures
+      first_outside-volumes _ _ _ _ _ _ _ _ _ _ _ _ w.held refl w.defaults w.years w.currencies w.securities w.funds w.components w.lines w.groups w.exposures
       ∙ ap (λ n. above quantities.Volumes n MAX_AMOUNT) value
 
   pub outside-bank : (name group : List ℕ) (cents : ℤ) → let edit = edits.Bank name group cents in
@@ -332,7 +356,7 @@ module _ (sheet : BalanceSheet) (valid : Valid sheet) where
       let value : defaults_total (applied edit sheet) ≡ defaults_total sheet - old + natural cents = omega arith in
       let long = length-with_row bank_name new sheet.banks in
       let number : length (applied edit sheet).banks + length sheet.reinsurers ≡ exposures + added (row_of bank_name name sheet.banks) = omega arith in
-      first_outside-exposures _ _ _ _ _ _ _ _ _ _ w.held refl refl w.years w.currencies w.securities w.lines w.groups
+      first_outside-exposures _ _ _ _ _ _ _ _ _ _ _ _ w.held refl refl w.years w.currencies w.securities w.funds w.components w.lines w.groups
       ∙ ap (λ n. option_or (above quantities.Defaults n MAX_AMOUNT) (above quantities.Exposures (length (applied edit sheet).banks + length sheet.reinsurers) MAX_EXPOSURES)) value
       ∙ ap (λ n. option_or (above quantities.Defaults (defaults_total sheet - old + natural cents) MAX_AMOUNT) (above quantities.Exposures n MAX_EXPOSURES)) number
 
@@ -350,7 +374,7 @@ module _ (sheet : BalanceSheet) (valid : Valid sheet) where
       let value : defaults_total (applied edit sheet) ≡ defaults_total sheet - old + (natural recoverables + natural mitigation) = omega arith in
       let long = length-with_row rein_name new sheet.reinsurers in
       let number : length sheet.banks + length (applied edit sheet).reinsurers ≡ exposures + added (row_of rein_name name sheet.reinsurers) = omega arith in
-      first_outside-exposures _ _ _ _ _ _ _ _ _ _ w.held refl refl w.years w.currencies w.securities w.lines w.groups
+      first_outside-exposures _ _ _ _ _ _ _ _ _ _ _ _ w.held refl refl w.years w.currencies w.securities w.funds w.components w.lines w.groups
       ∙ ap (λ n. option_or (above quantities.Defaults n MAX_AMOUNT) (above quantities.Exposures (length sheet.banks + length (applied edit sheet).reinsurers) MAX_EXPOSURES)) value
       ∙ ap (λ n. option_or (above quantities.Defaults (defaults_total sheet - old + (natural recoverables + natural mitigation)) MAX_AMOUNT) (above quantities.Exposures n MAX_EXPOSURES)) number
 
@@ -365,14 +389,14 @@ module _ (sheet : BalanceSheet) (valid : Valid sheet) where
   outside-absorb key cents =
       let w = valid.within in
       let few : length (with_absorb key (natural cents) sheet.curves) ≤ MAX_CURRENCIES = subst (λ (n : ℕ). n ≤ MAX_CURRENCIES) (sym (length-with_absorb key (natural cents))) w.currencies in
-      first_outside-none _ _ _ _ _ _ _ _ _ _ w.held refl refl w.defaults w.years few w.securities w.lines w.groups w.exposures
+      first_outside-none _ _ _ _ _ _ _ _ _ _ _ _ w.held refl refl w.defaults w.years few w.securities w.funds w.components w.lines w.groups w.exposures
 
   outside-remove : (table : Table) (name : List ℕ) → let edit = edits.Remove table name in sheet_outside edit (applied edit sheet) ≡ None
   outside-remove tables.Group name =
       let w = valid.within in
       let fewer = length-without-le group_name name sheet.groups in
       let groups : length (without group_name name sheet.groups) ≤ MAX_GROUPS = let before = w.groups in omega arith in
-      first_outside-none _ _ _ _ _ _ _ _ _ _ w.held refl refl w.defaults w.years w.currencies w.securities w.lines groups w.exposures
+      first_outside-none _ _ _ _ _ _ _ _ _ _ _ _ w.held refl refl w.defaults w.years w.currencies w.securities w.funds w.components w.lines groups w.exposures
   outside-remove tables.Security name =
       let w = valid.within in
       let edit : Edit = edits.Remove tables.Security name in
@@ -382,7 +406,17 @@ module _ (sheet : BalanceSheet) (valid : Valid sheet) where
       let held : held_total (applied edit sheet) ≤ MAX_HELD = let before = w.held in omega arith in
       let sooner = greatest-without-le (security_years asof) position_name name sheet.securities in
       let years : years_total (applied edit sheet) ≤ MAX_YEARS = let before = w.years in omega arith in
-      first_outside-none _ _ _ _ _ _ _ _ _ _ held refl refl w.defaults years w.currencies securities w.lines w.groups w.exposures
+      first_outside-none _ _ _ _ _ _ _ _ _ _ _ _ held refl refl w.defaults years w.currencies securities w.funds w.components w.lines w.groups w.exposures
+  outside-remove tables.Fund name =
+      let w = valid.within in
+      let edit : Edit = edits.Remove tables.Fund name in
+      let fewer = length-without-le stake_name name sheet.funds in
+      let funds : length (without stake_name name sheet.funds) ≤ MAX_FUNDS = let before = w.funds in omega arith in
+      let sum = sum-without stake_name (λ s. s.held) name sheet.funds in
+      let held : held_total (applied edit sheet) ≤ MAX_HELD = let before = w.held in omega arith in
+      let count = components-drop name sheet in
+      let components : components_total (applied edit sheet) ≤ MAX_COMPONENTS = let before = w.components in omega arith in
+      first_outside-none _ _ _ _ _ _ _ _ _ _ _ _ held refl refl w.defaults w.years w.currencies w.securities funds components w.lines w.groups w.exposures
   outside-remove tables.Line name =
       let w = valid.within in
       let edit : Edit = edits.Remove tables.Line name in
@@ -390,7 +424,7 @@ module _ (sheet : BalanceSheet) (valid : Valid sheet) where
       let lines : length (without line_name name sheet.lines) ≤ MAX_LINES = let before = w.lines in omega arith in
       let sooner = greatest-without-le (line_years asof) line_name name sheet.lines in
       let years : years_total (applied edit sheet) ≤ MAX_YEARS = let before = w.years in omega arith in
-      first_outside-none _ _ _ _ _ _ _ _ _ _ w.held refl refl w.defaults years w.currencies w.securities lines w.groups w.exposures
+      first_outside-none _ _ _ _ _ _ _ _ _ _ _ _ w.held refl refl w.defaults years w.currencies w.securities w.funds w.components lines w.groups w.exposures
   outside-remove tables.Bank name =
       let w = valid.within in
       let edit : Edit = edits.Remove tables.Bank name in
@@ -398,7 +432,7 @@ module _ (sheet : BalanceSheet) (valid : Valid sheet) where
       let exposures_after : length (without bank_name name sheet.banks) + length sheet.reinsurers ≤ MAX_EXPOSURES = let before = w.exposures in omega arith in
       let sum = sum-without bank_name (λ b. b.cents) name sheet.banks in
       let defaults : defaults_total (applied edit sheet) ≤ MAX_AMOUNT = let before = w.defaults in omega arith in
-      first_outside-none _ _ _ _ _ _ _ _ _ _ w.held refl refl defaults w.years w.currencies w.securities w.lines w.groups exposures_after
+      first_outside-none _ _ _ _ _ _ _ _ _ _ _ _ w.held refl refl defaults w.years w.currencies w.securities w.funds w.components w.lines w.groups exposures_after
   outside-remove tables.Rein name =
       let w = valid.within in
       let edit : Edit = edits.Remove tables.Rein name in
@@ -406,18 +440,18 @@ module _ (sheet : BalanceSheet) (valid : Valid sheet) where
       let exposures_after : length sheet.banks + length (without rein_name name sheet.reinsurers) ≤ MAX_EXPOSURES = let before = w.exposures in omega arith in
       let sum = sum-without rein_name rein_total name sheet.reinsurers in
       let defaults : defaults_total (applied edit sheet) ≤ MAX_AMOUNT = let before = w.defaults in omega arith in
-      first_outside-none _ _ _ _ _ _ _ _ _ _ w.held refl refl defaults w.years w.currencies w.securities w.lines w.groups exposures_after
+      first_outside-none _ _ _ _ _ _ _ _ _ _ _ _ w.held refl refl defaults w.years w.currencies w.securities w.funds w.components w.lines w.groups exposures_after
   outside-remove tables.Curve name =
       let w = valid.within in
       let fewer = length-without-le curve_name name sheet.curves in
       let currencies : length (without curve_name name sheet.curves) ≤ MAX_CURRENCIES = let before = w.currencies in omega arith in
-      first_outside-none _ _ _ _ _ _ _ _ _ _ w.held refl refl w.defaults w.years currencies w.securities w.lines w.groups w.exposures
+      first_outside-none _ _ _ _ _ _ _ _ _ _ _ _ w.held refl refl w.defaults w.years currencies w.securities w.funds w.components w.lines w.groups w.exposures
 
   -- other numbers, of the same reference date
-  outside-numbers : first_outside (held_total sheet) None None (defaults_total sheet) (years_total sheet) (length sheet.curves) (length sheet.securities) (length sheet.lines) (length sheet.groups) exposures ≡ None
+  outside-numbers : first_outside (held_total sheet) None None (defaults_total sheet) (years_total sheet) (length sheet.curves) (length sheet.securities) (length sheet.funds) (components_total sheet) (length sheet.lines) (length sheet.groups) exposures ≡ None
   outside-numbers =
       let w = valid.within in
-      first_outside-none _ _ _ _ _ _ _ _ _ _ w.held refl refl w.defaults w.years w.currencies w.securities w.lines w.groups w.exposures
+      first_outside-none _ _ _ _ _ _ _ _ _ _ _ _ w.held refl refl w.defaults w.years w.currencies w.securities w.funds w.components w.lines w.groups w.exposures
 
   pub outside-quiet : (edit : Edit) → is_quiet edit ≡ true → sheet_outside edit (applied edit sheet) ≡ None
   outside-quiet (edits.Absorb key cents) quiet = outside-absorb key cents

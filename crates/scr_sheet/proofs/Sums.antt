@@ -1,14 +1,18 @@
 -- How the sums of a balance sheet move under each record.
-use Rattle.std.proofs.Common.{◌≡◌, ℕ, ℤ, zero, suc, ◌+◌, ◌-◌, ◌≤◌, ◌==◌, Bool, true, false, List, [], ◌∷◌, ◌⊎◌, inl, inr, Option, Some, None, if◌then◌else◌, slice_get, set, get_or, sum_by, refl, sym, ap, ◌∙◌, arith}
+use Rattle.std.proofs.Common.{◌≡◌, ℕ, ℤ, zero, suc, ◌+◌, ◌-◌, ◌≤◌, ◌==◌, ◌&&◌, ◌||◌, ◌++◌, Bool, true, false, List, [], ◌∷◌, ◌⊎◌, inl, inr, Option, Some, None, is_some, if◌then◌else◌, length, map, slice_get, set, get_or, sum_by, refl, sym, ap, subst, ◌∙◌, arith}
 use Rattle.std.proofs.lemmas.Bool.{eqb-true}
 use Rattle.std.proofs.lemmas.List.Sums.{sum_by-cons}
-use Rattle.std.specs.Option.{option_map, option_map_or}
+use Rattle.std.specs.List.{AllByRecursion, IsDistinct}
+use Rattle.std.specs.Option.{option_or, option_map, option_map_or}
 use Rattle.scr_dates.specs.declared.day.Day.{Day}
-use Rattle.scr_sheet.specs.Tables.{row_of, with_row}
+use Rattle.scr_sheet.specs.Names.{same_name}
+use Rattle.scr_sheet.specs.Tables.{row_of, has_row, with_row}
 use Rattle.scr_sheet.specs.CashFlows.{total, flows_under, with_flows, no_flows}
-use Rattle.scr_sheet.specs.BalanceSheet.{BalanceSheet, position_name, line_name, bank_name, rein_name, volumes_of, held_of, held_total, line_flows_total, volumes_total, defaults_total}
-use Rattle.scr_sheet.specs.Records.{applied, dropped, changed, natural, kept_flows, with_volumes}
+use Rattle.scr_sheet.specs.BalanceSheet.{BalanceSheet, group_name, position_name, stake_name, line_name, bank_name, rein_name, volumes_of, is_in, held_of, held_total, line_flows_total, volumes_total, defaults_total, components_total}
+use Rattle.scr_sheet.specs.Records.{applied, dropped, changed, natural, kept_flows, kept_hold, with_volumes}
+use Rattle.scr_sheet.specs.Users.{holder_of, first_row, names_of_holders}
 use Rattle.scr_sheet.specs.Faults.{in_use}
+use Rattle.scr_sheet.specs.Validity.{Valid}
 use Rattle.scr_sheet.specs.Volumes.{volumes_in}
 use Rattle.scr_factors.specs.declared.set.Set.{Set}
 use Rattle.scr_factors.specs.declared.set.Set.TheVariants as sets
@@ -27,7 +31,8 @@ use Rattle.scr_sheet.specs.declared.rows.Liability.{Liability}
 use Rattle.scr_sheet.specs.declared.rows.LineKind.{LineKind}
 use Rattle.scr_sheet.specs.declared.rows.Position.{Position}
 use Rattle.scr_sheet.specs.declared.rows.Rein.{Rein}
-use Rattle.scr_sheet.proofs.TableRows.{passes_or_fails, same_name-is, name_of-row_of, sum-with_row, sum-without, sum-changed}
+use Rattle.scr_sheet.specs.declared.rows.Stake.{Stake}
+use Rattle.scr_sheet.proofs.TableRows.{IsFresh, passes_or_fails, same_or_other, same_name-is, name_of-row_of, row_of-later, sum-with_row, sum-without, sum-changed}
 use Rattle.scr_sheet.proofs.Projections.{one_or_other, under-with, under-no_flows}
 
 -- ---- sums over rows and lists
@@ -52,6 +57,34 @@ module _ {Row : Type 0} (name_of : Row → List ℕ) where
       let own : option_map_or f (row_of name_of name rows) 0 ≡ f row = ap (λ o. option_map_or f o 0) is in
       let part = part-le f name rows in
       omega arith
+
+  -- where there is no row of the name, none is changed
+  pub changed-none : (change : Row → Row) (name : List ℕ) (rows : List Row) → has_row name_of name rows ≡ false → changed name_of change name rows ≡ rows
+  changed-none change name rows has = by (row_of name_of name rows) has
+    where
+      by : (found : Option Row) → is_some found ≡ false → option_map_or (λ row. with_row name_of (change row) rows) found rows ≡ rows
+      by None none = refl
+      by (Some row) none = absurd (cc)
+
+  pub part-none : (f : Row → ℕ) (name : List ℕ) (rows : List Row) → has_row name_of name rows ≡ false → option_map_or f (row_of name_of name rows) 0 ≡ 0
+  part-none f name rows has = by (row_of name_of name rows) has
+    where
+      by : (found : Option Row) → is_some found ≡ false → option_map_or f found 0 ≡ 0
+      by None none = refl
+      by (Some row) none = absurd (cc)
+
+  -- what stands for the row of a name, if there is one, goes out of the sum, and a number comes in
+  pub sum-put : (f : Row → ℕ) (change : Row → Row) (n : ℕ) (name : List ℕ) (rows : List Row) → ((other : Row) → name_of (change other) ≡ name_of other) → ((other : Row) → f (change other) ≡ n) → has_row name_of name rows ≡ true
+      → sum_by f (changed name_of change name rows) + option_map_or f (row_of name_of name rows) 0 ≡ sum_by f rows + n
+  sum-put f change n name rows named put has = by (row_of name_of name rows) refl has
+    where
+      by : (found : Option Row) → row_of name_of name rows ≡ found → is_some found ≡ true → sum_by f (changed name_of change name rows) + option_map_or f (row_of name_of name rows) 0 ≡ sum_by f rows + n
+      by None e some = absurd (cc)
+      by (Some row) e some =
+          let sum = sum-change f change name rows row named e in
+          let old : option_map_or f (row_of name_of name rows) 0 ≡ f row = ap (λ o. option_map_or f o 0) e in
+          let new : f (change row) ≡ n = put row in
+          omega arith
 
 -- a member written in its place
 pub sum-set : {X : Type 0} (f : X → ℕ) (xs : List X) (k : ℕ) (old new : X) → slice_get xs k ≡ Some old → sum_by f (set xs k new) + f old ≡ sum_by f xs + f new
@@ -90,6 +123,43 @@ get_or-missing [] k d is = refl
 get_or-missing (y ∷ ys) zero d is = absurd (cc)
 get_or-missing (y ∷ ys) (suc k) d is = get_or-missing ys k d is
 
+-- ---- a name stands in one table
+
+All-right : {X : Type 0} (P : X → Type 0) (xs ys : List X) → AllByRecursion P (xs ++ ys) → AllByRecursion P ys
+All-right P [] ys all = all
+All-right P (x ∷ xs) ys all = All-right P xs ys all.1
+
+apart-right : (xs ys : List (List ℕ)) → IsDistinct same_name (xs ++ ys) → IsDistinct same_name ys
+unfolding IsDistinct
+apart-right [] ys apart = apart
+apart-right (x ∷ xs) ys apart = apart-right xs ys apart.1
+
+module _ {Row : Type 0} (name_of : Row → List ℕ) where
+  -- the name of a row is none of the names after those of its table
+  fresh-after : (name : List ℕ) (rows : List Row) (after : List (List ℕ)) → IsDistinct same_name (map name_of rows ++ after) → has_row name_of name rows ≡ true → IsFresh name after
+  unfolding IsDistinct
+  fresh-after name [] after apart has = absurd (cc)
+  fresh-after name (row ∷ rows) after apart has =
+      same_or_other name (name_of row)
+      (λ e. subst (λ n. IsFresh n after) (sym (same_name-is name (name_of row) e)) (All-right (λ other. same_name (name_of row) other ≡ false) (map name_of rows) after apart.0))
+      (λ e. fresh-after name rows after apart.1 (ap is_some (sym (row_of-later name_of name row rows e)) ∙ has))
+
+  has_row_from_fresh : (name : List ℕ) (rows : List Row) → IsFresh name (map name_of rows) → has_row name_of name rows ≡ false
+  has_row_from_fresh name [] fresh = refl
+  has_row_from_fresh name (row ∷ rows) fresh = ap is_some (row_of-later name_of name row rows fresh.0) ∙ has_row_from_fresh name rows fresh.1
+
+-- no security and fund have one name
+pub in_one_table : (sheet : BalanceSheet) → Valid sheet → (name : List ℕ) → (is_in tables.Security name sheet && is_in tables.Fund name sheet) ≡ false
+in_one_table sheet valid name =
+    passes_or_fails (is_in tables.Security name sheet)
+    (λ e. let apart = apart-right (map group_name sheet.groups) _ valid.named_once in
+    let after = fresh-after position_name name sheet.securities _ apart e in
+    let banks = All-right _ (map line_name sheet.lines) _ after in
+    let reinsurers = All-right _ (map bank_name sheet.banks) _ banks in
+    let funds = All-right _ (map rein_name sheet.reinsurers) _ reinsurers in
+    ap (λ t. t && is_in tables.Fund name sheet) e ∙ has_row_from_fresh stake_name name sheet.funds funds)
+    (λ e. ap (λ t. t && is_in tables.Fund name sheet) e)
+
 -- ---- all that is held directly
 
 -- the records that move it
@@ -97,25 +167,79 @@ abbrev pub moves_held : Edit → Bool
 moves_held (edits.Hold name cents) = true
 moves_held edit = false
 
-pub held-hold : (name : List ℕ) (cents : ℤ) (sheet : BalanceSheet) (p : Position) → row_of position_name name sheet.securities ≡ Some p
-    → held_total (applied (edits.Hold name cents) sheet) + p.held ≡ held_total sheet + natural cents
-held-hold name cents sheet p is = sum-change position_name (λ q. q.held) (λ q. record q { held = natural cents }) name sheet.securities p (λ q. refl) is
+module _ (name : List ℕ) (cents : ℤ) (sheet : BalanceSheet) where
+  -- a hold of a security
+  pub held-hold_security : is_in tables.Security name sheet ≡ true → is_in tables.Fund name sheet ≡ false → held_total (applied (edits.Hold name cents) sheet) + held_of sheet name ≡ held_total sheet + natural cents
+  held-hold_security has other =
+      let securities = sum-put position_name (λ p. p.held) (λ p. record p { held = natural cents }) (natural cents) name sheet.securities (λ p. refl) (λ p. refl) has in
+      let funds : sum_by (λ s. s.held) (applied (edits.Hold name cents) sheet).funds ≡ sum_by (λ s. s.held) sheet.funds = ap (sum_by (λ s. s.held)) (changed-none stake_name (λ s. record s { held = natural cents }) name sheet.funds other) in
+      let none = part-none stake_name (λ s. s.held) name sheet.funds other in
+      omega arith
+
+  -- and of a fund
+  pub held-hold_fund : is_in tables.Security name sheet ≡ false → is_in tables.Fund name sheet ≡ true → held_total (applied (edits.Hold name cents) sheet) + held_of sheet name ≡ held_total sheet + natural cents
+  held-hold_fund other has =
+      let funds = sum-put stake_name (λ s. s.held) (λ s. record s { held = natural cents }) (natural cents) name sheet.funds (λ s. refl) (λ s. refl) has in
+      let securities : sum_by (λ p. p.held) (applied (edits.Hold name cents) sheet).securities ≡ sum_by (λ p. p.held) sheet.securities = ap (sum_by (λ p. p.held)) (changed-none position_name (λ p. record p { held = natural cents }) name sheet.securities other) in
+      let none = part-none position_name (λ p. p.held) name sheet.securities other in
+      omega arith
+
+  -- what was held under the name goes out of the sum, and the record's cents come in
+  pub held-hold : (is_in tables.Security name sheet || is_in tables.Fund name sheet) ≡ true → (is_in tables.Security name sheet && is_in tables.Fund name sheet) ≡ false
+      → held_total (applied (edits.Hold name cents) sheet) + held_of sheet name ≡ held_total sheet + natural cents
+  held-hold some once =
+      passes_or_fails (is_in tables.Security name sheet) (λ e. held-hold_security e (sym (ap (λ t. t && is_in tables.Fund name sheet) e) ∙ once))
+      (λ e. held-hold_fund e (sym (ap (λ t. t || is_in tables.Fund name sheet) e) ∙ some))
 
 pub held-part : (name : List ℕ) (sheet : BalanceSheet) → held_of sheet name ≤ held_total sheet
-held-part name sheet = part-le position_name (λ p. p.held) name sheet.securities
+held-part name sheet =
+    let securities = part-le position_name (λ p. p.held) name sheet.securities in
+    let funds = part-le stake_name (λ s. s.held) name sheet.funds in
+    omega arith
 
+-- what is held of a security or a fund is what its row says
+pub held_of-security : (name : List ℕ) (sheet : BalanceSheet) (p : Position) → row_of position_name name sheet.securities ≡ Some p → is_in tables.Fund name sheet ≡ false → held_of sheet name ≡ p.held
+held_of-security name sheet p is other =
+    let own : option_map_or (λ q. q.held) (row_of position_name name sheet.securities) 0 ≡ p.held = ap (λ o. option_map_or (λ q. q.held) o 0) is in
+    let none = part-none stake_name (λ s. s.held) name sheet.funds other in
+    omega arith
+
+pub held_of-fund : (name : List ℕ) (sheet : BalanceSheet) (s : Stake) → is_in tables.Security name sheet ≡ false → row_of stake_name name sheet.funds ≡ Some s → held_of sheet name ≡ s.held
+held_of-fund name sheet s other is =
+    let own : option_map_or (λ t. t.held) (row_of stake_name name sheet.funds) 0 ≡ s.held = ap (λ o. option_map_or (λ t. t.held) o 0) is in
+    let none = part-none position_name (λ p. p.held) name sheet.securities other in
+    omega arith
+
+-- a security that is made or replaced keeps what is held of it
 held-security : (name : List ℕ) (class : Class) (group : Option (List ℕ)) (currency : List ℕ) (duration : ℤ) (sheet : BalanceSheet) → held_total (applied (edits.Security name class group currency duration) sheet) ≡ held_total sheet
 held-security name class group currency duration sheet =
-    let new : Position = record { security = record { name = name; class = class; group = group; currency = currency; duration = natural duration; flows = kept_flows name sheet.securities }; held = held_of sheet name } in
+    let new : Position = record { security = record { name = name; class = class; group = group; currency = currency; duration = natural duration; flows = kept_flows name sheet.securities }; held = kept_hold name sheet.securities } in
     let sum = sum-with_row position_name (λ p. p.held) new sheet.securities in
     omega arith
 
--- a security that may be dropped is not held
-pub held_of-unused : (name : List ℕ) (sheet : BalanceSheet) → in_use (edits.Remove tables.Security name) sheet ≡ None → held_of sheet name ≡ 0
-held_of-unused name sheet free =
+-- and so does a fund
+held-fund : (name : List ℕ) (components : List (List ℕ × ℤ)) (sheet : BalanceSheet) → held_total (applied (edits.Fund name components) sheet) ≡ held_total sheet
+held-fund name components sheet =
+    let new : Stake = record { fund = record { name = name; components = components }; held = option_map_or (λ s. s.held) (row_of stake_name name sheet.funds) 0 } in
+    let sum = sum-with_row stake_name (λ s. s.held) new sheet.funds in
+    omega arith
+
+-- nothing is held under a name that no hold uses
+held_of-idle : (name : List ℕ) (sheet : BalanceSheet) → option_map (λ user. faults.InUse name user) (holder_of name sheet) ≡ None → held_of sheet name ≡ 0
+held_of-idle name sheet free =
     let cents : ℕ = held_of sheet name in
     passes_or_fails (cents == 0) (λ e. eqb-true cents 0 e)
-    (λ e. let held : Some (faults.InUse name users.Hold) ≡ None = sym (ap (λ t. option_map (λ user. faults.InUse name user) (if t then None else Some users.Hold)) e) ∙ free in absurd (cc))
+    (λ e. let held : Some (faults.InUse name users.Hold) ≡ None =
+    sym (ap (λ t. option_map (λ user. faults.InUse name user) (option_or (if t then None else Some users.Hold) (first_row (names_of_holders name sheet)))) e) ∙ free in
+    absurd (cc))
+
+-- a security that may be dropped is not held
+pub held_of-unused : (name : List ℕ) (sheet : BalanceSheet) → in_use (edits.Remove tables.Security name) sheet ≡ None → held_of sheet name ≡ 0
+held_of-unused name sheet free = held_of-idle name sheet free
+
+-- and neither is such a fund
+pub held_of-unused_fund : (name : List ℕ) (sheet : BalanceSheet) → in_use (edits.Remove tables.Fund name) sheet ≡ None → held_of sheet name ≡ 0
+held_of-unused_fund name sheet free = held_of-idle name sheet free
 
 held-drop : (name : List ℕ) (sheet : BalanceSheet) → in_use (edits.Remove tables.Security name) sheet ≡ None → held_total (applied (edits.Remove tables.Security name) sheet) ≡ held_total sheet
 held-drop name sheet free =
@@ -123,19 +247,74 @@ held-drop name sheet free =
     let none = held_of-unused name sheet free in
     omega arith
 
+held-drop_fund : (name : List ℕ) (sheet : BalanceSheet) → in_use (edits.Remove tables.Fund name) sheet ≡ None → held_total (applied (edits.Remove tables.Fund name) sheet) ≡ held_total sheet
+held-drop_fund name sheet free =
+    let sum = sum-without stake_name (λ s. s.held) name sheet.funds in
+    let none = held_of-unused_fund name sheet free in
+    omega arith
+
+held-flows : (security : List ℕ) (flows : List (Day × ℤ)) (sheet : BalanceSheet) → held_total (applied (edits.Flows security flows) sheet) ≡ held_total sheet
+held-flows security flows sheet =
+    let same = sum-changed position_name (λ p. p.held) (λ p. record p { security = record p.security { flows = flows } }) security sheet.securities (λ p. refl) (λ p. refl) in
+    omega arith
+
 -- every other record leaves it
 pub held-same : (edit : Edit) (sheet : BalanceSheet) → moves_held edit ≡ false → in_use edit sheet ≡ None → held_total (applied edit sheet) ≡ held_total sheet
 held-same (edits.Hold name cents) sheet other free = absurd (cc)
 held-same (edits.Security name class group currency duration) sheet other free = held-security name class group currency duration sheet
-held-same (edits.Flows security flows) sheet other free =
-    sum-changed position_name (λ p. p.held) (λ p. record p { security = record p.security { flows = flows } }) security sheet.securities (λ p. refl) (λ p. refl)
+held-same (edits.Flows security flows) sheet other free = held-flows security flows sheet
+held-same (edits.Fund name components) sheet other free = held-fund name components sheet
 held-same (edits.Remove tables.Security name) sheet other free = held-drop name sheet free
+held-same (edits.Remove tables.Fund name) sheet other free = held-drop_fund name sheet free
 held-same (edits.Remove tables.Group name) sheet other free = refl
 held-same (edits.Remove tables.Line name) sheet other free = refl
 held-same (edits.Remove tables.Bank name) sheet other free = refl
 held-same (edits.Remove tables.Rein name) sheet other free = refl
 held-same (edits.Remove tables.Curve name) sheet other free = refl
 held-same edit sheet other free = refl
+
+-- ---- the components of all funds
+
+abbrev pub moves_components : Edit → Bool
+moves_components (edits.Fund name components) = true
+moves_components (edits.Remove tables.Fund name) = true
+moves_components (edits.Remove table name) = false
+moves_components edit = false
+
+-- how many a fund has
+abbrev pub stake_components : Stake → ℕ
+stake_components stake = length stake.fund.components
+
+-- those of the fund that is replaced go out of the sum, and those of the record come in
+pub components-fund : (name : List ℕ) (components : List (List ℕ × ℤ)) (sheet : BalanceSheet)
+    → components_total (applied (edits.Fund name components) sheet) + option_map_or stake_components (row_of stake_name name sheet.funds) 0 ≡ components_total sheet + length components
+components-fund name components sheet =
+    let new : Stake = record { fund = record { name = name; components = components }; held = option_map_or (λ s. s.held) (row_of stake_name name sheet.funds) 0 } in
+    sum-with_row stake_name stake_components new sheet.funds
+
+pub components-drop : (name : List ℕ) (sheet : BalanceSheet)
+    → components_total (applied (edits.Remove tables.Fund name) sheet) + option_map_or stake_components (row_of stake_name name sheet.funds) 0 ≡ components_total sheet
+components-drop name sheet = sum-without stake_name stake_components name sheet.funds
+
+-- those of a fund are a part of the sum
+pub components-part : (name : List ℕ) (sheet : BalanceSheet) → option_map_or stake_components (row_of stake_name name sheet.funds) 0 ≤ components_total sheet
+components-part name sheet = part-le stake_name stake_components name sheet.funds
+
+-- a hold leaves what funds hold
+pub components-hold : (name : List ℕ) (cents : ℤ) (sheet : BalanceSheet) → components_total (applied (edits.Hold name cents) sheet) ≡ components_total sheet
+components-hold name cents sheet = sum-changed stake_name stake_components (λ s. record s { held = natural cents }) name sheet.funds (λ s. refl) (λ s. refl)
+
+pub components-same : (edit : Edit) (sheet : BalanceSheet) → moves_components edit ≡ false → components_total (applied edit sheet) ≡ components_total sheet
+components-same (edits.Fund name components) sheet other = absurd (cc)
+components-same (edits.Hold name cents) sheet other = components-hold name cents sheet
+components-same (edits.Remove tables.Fund name) sheet other = absurd (cc)
+components-same (edits.Remove tables.Group name) sheet other = refl
+components-same (edits.Remove tables.Security name) sheet other = refl
+components-same (edits.Remove tables.Line name) sheet other = refl
+components-same (edits.Remove tables.Bank name) sheet other = refl
+components-same (edits.Remove tables.Rein name) sheet other = refl
+components-same (edits.Remove tables.Curve name) sheet other = refl
+components-same edit sheet other = refl
 
 -- ---- the absolute flows of all lines under a projection
 
@@ -191,6 +370,7 @@ line_flows-same projection (edits.Line name kind currency) sheet other = line_fl
 line_flows-same projection (edits.Remove tables.Line name) sheet other = absurd (cc)
 line_flows-same projection (edits.Remove tables.Group name) sheet other = refl
 line_flows-same projection (edits.Remove tables.Security name) sheet other = refl
+line_flows-same projection (edits.Remove tables.Fund name) sheet other = refl
 line_flows-same projection (edits.Remove tables.Bank name) sheet other = refl
 line_flows-same projection (edits.Remove tables.Rein name) sheet other = refl
 line_flows-same projection (edits.Remove tables.Curve name) sheet other = refl
@@ -268,6 +448,7 @@ volumes-same set (edits.Remove table name) sheet other = ap (λ (n : Numbers). s
     numbers-dropped : (table : Table) (name : List ℕ) (sheet : BalanceSheet) → (dropped table name sheet).numbers ≡ sheet.numbers
     numbers-dropped tables.Group name sheet = refl
     numbers-dropped tables.Security name sheet = refl
+    numbers-dropped tables.Fund name sheet = refl
     numbers-dropped tables.Line name sheet = refl
     numbers-dropped tables.Bank name sheet = refl
     numbers-dropped tables.Rein name sheet = refl
@@ -326,6 +507,7 @@ defaults-same (edits.Remove tables.Bank name) sheet other = absurd (cc)
 defaults-same (edits.Remove tables.Rein name) sheet other = absurd (cc)
 defaults-same (edits.Remove tables.Group name) sheet other = refl
 defaults-same (edits.Remove tables.Security name) sheet other = refl
+defaults-same (edits.Remove tables.Fund name) sheet other = refl
 defaults-same (edits.Remove tables.Line name) sheet other = refl
 defaults-same (edits.Remove tables.Curve name) sheet other = refl
 defaults-same edit sheet other = refl

@@ -291,3 +291,61 @@ module _ {Row : Type 0} (name_of : Row → List ℕ) where
       let has : added (row_of name_of (name_of new) (row ∷ rows)) ≡ added (row_of name_of (name_of new) rows) = ap added (row_of-later (name_of new) row rows e) in
       let rest = length-with_row new rows in
       omega arith)
+
+  -- ---- what a look-up finds afterwards
+
+  pub row_of-with_row_own : (new : Row) (rows : List Row) → row_of name_of (name_of new) (with_row name_of new rows) ≡ Some new
+  row_of-with_row_own new [] = row_of-here (name_of new) new [] (same_name-itself (name_of new))
+  row_of-with_row_own new (row ∷ rows) =
+      same_or_other (name_of new) (name_of row) (λ e. ap (row_of name_of (name_of new)) (with_row-here new row rows e) ∙ row_of-here (name_of new) new rows (same_name-itself (name_of new)))
+      (λ e. ap (row_of name_of (name_of new)) (with_row-later new row rows e) ∙ row_of-later (name_of new) row (with_row name_of new rows) e ∙ row_of-with_row_own new rows)
+
+  pub row_of-with_row_other : (name : List ℕ) (new : Row) (rows : List Row) → same_name name (name_of new) ≡ false → row_of name_of name (with_row name_of new rows) ≡ row_of name_of name rows
+  row_of-with_row_other name new [] apart = row_of-later name new [] apart
+  row_of-with_row_other name new (row ∷ rows) apart =
+      same_or_other (name_of new) (name_of row)
+      (λ e. let differs : same_name name (name_of row) ≡ false = ap (same_name name) (sym (same_name-is (name_of new) (name_of row) e)) ∙ apart in
+      ap (row_of name_of name) (with_row-here new row rows e) ∙ row_of-later name new rows apart ∙ sym (row_of-later name row rows differs))
+      (λ e. ap (row_of name_of name) (with_row-later new row rows e)
+      ∙ same_or_other name (name_of row) (λ s. row_of-here name row (with_row name_of new rows) s ∙ sym (row_of-here name row rows s))
+      (λ s. row_of-later name row (with_row name_of new rows) s ∙ row_of-with_row_other name new rows apart ∙ sym (row_of-later name row rows s)))
+
+  pub row_of-without_other : (name other : List ℕ) (rows : List Row) → same_name other name ≡ false → row_of name_of name (without name_of other rows) ≡ row_of name_of name rows
+  row_of-without_other name other [] apart = refl
+  row_of-without_other name other (row ∷ rows) apart =
+      same_or_other other (name_of row)
+      (λ e. let differs : same_name name (name_of row) ≡ false = same_name-flip name (name_of row) ∙ ap (λ n. same_name n name) (sym (same_name-is other (name_of row) e)) ∙ apart in
+      ap (row_of name_of name) (without-here other row rows e) ∙ sym (row_of-later name row rows differs))
+      (λ e. ap (row_of name_of name) (without-later other row rows e)
+      ∙ same_or_other name (name_of row) (λ s. row_of-here name row (without name_of other rows) s ∙ sym (row_of-here name row rows s))
+      (λ s. row_of-later name row (without name_of other rows) s ∙ row_of-without_other name other rows apart ∙ sym (row_of-later name row rows s)))
+
+  -- a name that is none of the rows' has no row
+  pub row_of-fresh : (name : List ℕ) (rows : List Row) → IsFresh name (map name_of rows) → row_of name_of name rows ≡ None
+  row_of-fresh name [] fresh = refl
+  row_of-fresh name (row ∷ rows) fresh = row_of-later name row rows fresh.0 ∙ row_of-fresh name rows fresh.1
+
+  pub row_of-without_own : (name : List ℕ) (rows : List Row) → IsDistinct same_name (map name_of rows) → row_of name_of name (without name_of name rows) ≡ None
+  unfolding IsDistinct
+  row_of-without_own name [] apart = refl
+  row_of-without_own name (row ∷ rows) apart =
+      same_or_other name (name_of row)
+      (λ e. let fresh : IsFresh name (map name_of rows) = subst (λ n. IsFresh n (map name_of rows)) (sym (same_name-is name (name_of row) e)) apart.0 in
+      ap (row_of name_of name) (without-here name row rows e) ∙ row_of-fresh name rows fresh)
+      (λ e. ap (row_of name_of name) (without-later name row rows e) ∙ row_of-later name row (without name_of name rows) e ∙ row_of-without_own name rows apart.1)
+
+  -- what a change leaves of a row is found as before
+  pub found-changed : {X : Type 0} (part : Row → X) (none : X) (change : Row → Row) (name : List ℕ) (rows : List Row) → ((row : Row) → name_of (change row) ≡ name_of row) → ((row : Row) → part (change row) ≡ part row)
+      → (other : List ℕ) → option_map_or part (row_of name_of other (changed name_of change name rows)) none ≡ option_map_or part (row_of name_of other rows) none
+  found-changed {X} part none change name rows named same other = by (row_of name_of name rows) refl
+    where
+      by : (found : Option Row) → row_of name_of name rows ≡ found
+          → option_map_or part (row_of name_of other (option_map_or (λ row. with_row name_of (change row) rows) found rows)) none ≡ option_map_or part (row_of name_of other rows) none
+      by None e = refl
+      by (Some row) e =
+          let own : name ≡ name_of (change row) = same_name-is name (name_of row) (name_of-row_of name rows row e) ∙ sym (named row) in
+          same_or_other other (name_of (change row))
+          (λ s. let one : other ≡ name_of (change row) = same_name-is other (name_of (change row)) s in
+          ap (λ o. option_map_or part o none) (ap (λ n. row_of name_of n (with_row name_of (change row) rows)) one ∙ row_of-with_row_own (change row) rows)
+          ∙ same row ∙ sym (ap (λ o. option_map_or part o none) (ap (λ n. row_of name_of n rows) (one ∙ sym own) ∙ e)))
+          (λ s. ap (λ o. option_map_or part o none) (row_of-with_row_other other (change row) rows s))

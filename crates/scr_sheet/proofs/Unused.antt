@@ -2,15 +2,16 @@
 use Rattle.std.proofs.Common.{◌≡◌, ℕ, Bool, true, false, List, [], ◌∷◌, ◌++◌, Option, Some, None, is_some, if◌then◌else◌, cond, map, refl, sym, ap, ◌∙◌}
 use Rattle.std.specs.Ordering.{nat_cmp, is_lt}
 use Rattle.std.specs.Cmp.Lexicographic.{slice_cmp}
-use Rattle.std.specs.List.{fold, filter, AllByRecursion}
+use Rattle.std.specs.List.{fold, filter, list_any, AllByRecursion}
 use Rattle.std.specs.Option.{option_map}
 use Rattle.scr_sheet.specs.Names.{same_name, earlier}
-use Rattle.scr_sheet.specs.BalanceSheet.{BalanceSheet, position_name, line_name, bank_name, rein_name}
-use Rattle.scr_sheet.specs.Users.{is_of_group, names_of_group, names_in_currency, first_row, user_of}
+use Rattle.scr_sheet.specs.BalanceSheet.{BalanceSheet, position_name, line_name, bank_name, rein_name, stake_name}
+use Rattle.scr_sheet.specs.Users.{is_of_group, names_of_group, names_in_currency, has_component, names_of_holders, holder_of, first_row, user_of}
 use Rattle.scr_sheet.specs.declared.fault.User.TheVariants as users
 use Rattle.scr_sheet.specs.declared.keys.Table.TheVariants as tables
-use Rattle.scr_sheet.proofs.TableRows.{passes_or_fails}
+use Rattle.scr_sheet.proofs.TableRows.{All-map, passes_or_fails}
 use Rattle.scr_sheet.proofs.Bounds.{neither}
+use Rattle.scr_sheet.proofs.Projections.{or_false}
 
 some_stays : (first : List ℕ) (names : List (List ℕ)) → is_some (fold earlier (Some first) names) ≡ true
 some_stays first [] = refl
@@ -75,3 +76,14 @@ idle currency sheet h =
       securities = filter_none (λ p. same_name currency p.security.currency) position_name sheet.securities all.0;
       lines = filter_none (λ l. same_name currency l.currency) line_name sheet.lines all.1;
     }
+
+pub none_passes : {X : Type 0} (test : X → Bool) (xs : List X) → list_any test xs ≡ false → AllByRecursion (λ x. test x ≡ false) xs
+none_passes test [] h = tt
+none_passes test (x ∷ xs) h = let both = or_false (test x) (list_any test xs) h in (both.0, none_passes test xs both.1)
+
+-- no fund has the component
+pub no_holder : (name : List ℕ) (sheet : BalanceSheet) → holder_of name sheet ≡ None → AllByRecursion (λ s. AllByRecursion (λ c. same_name name c.0 ≡ false) s.fund.components) sheet.funds
+no_holder name sheet h =
+    let rows = neither _ _ h in
+    All-map _ _ sheet.funds (λ s none. none_passes (λ c. same_name name c.0) s.fund.components none)
+    (filter_none (has_component name) stake_name sheet.funds (none_from_first_row (names_of_holders name sheet) rows.1))

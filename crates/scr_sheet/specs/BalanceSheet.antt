@@ -1,5 +1,5 @@
 -- The balance sheet that a book keeps (this project's own).
-use Rattle.std.specs.Prelude.{ℕ, ℤ, pos, ◌+◌, ◌++◌, ◌||◌, Bool, List, [], ◌∷◌, Option, map, max, replicate, sum_by}
+use Rattle.std.specs.Prelude.{ℕ, ℤ, pos, ◌+◌, ◌++◌, ◌||◌, Bool, List, [], ◌∷◌, Option, map, length, max, replicate, sum_by}
 use Rattle.std.specs.Option.{option_map_or}
 use Rattle.scr_sheet.specs.Tables.{row_of, has_row}
 use Rattle.scr_sheet.specs.CashFlows.{total, flows_under, greatest_years, all_projections}
@@ -10,6 +10,7 @@ use Rattle.scr_sheet.specs.declared.keys.Table.TheVariants as tables
 use Rattle.scr_sheet.specs.declared.keys.Projection.{Projection}
 use Rattle.scr_sheet.specs.declared.rows.Group.{Group}
 use Rattle.scr_sheet.specs.declared.rows.Position.{Position}
+use Rattle.scr_sheet.specs.declared.rows.Stake.{Stake}
 use Rattle.scr_sheet.specs.declared.rows.Liability.{Liability}
 use Rattle.scr_sheet.specs.declared.rows.Bank.{Bank}
 use Rattle.scr_sheet.specs.declared.rows.Rein.{Rein}
@@ -21,6 +22,7 @@ use Rattle.scr_sheet.specs.declared.numbers.Regions.{Regions}
 pub record BalanceSheet : Type 0 where
   pub groups : List Group
   pub securities : List Position
+  pub funds : List Stake
   pub lines : List Liability
   pub banks : List Bank
   pub reinsurers : List Rein
@@ -63,6 +65,7 @@ abbrev pub opening : BalanceSheet
 opening = record {
   groups = [];
   securities = [];
+  funds = [];
   lines = [];
   banks = [];
   reinsurers = [];
@@ -77,6 +80,9 @@ group_name group = group.name
 
 abbrev pub position_name : Position → List ℕ
 position_name position = position.security.name
+
+abbrev pub stake_name : Stake → List ℕ
+stake_name stake = stake.fund.name
 
 abbrev pub line_name : Liability → List ℕ
 line_name line = line.name
@@ -94,14 +100,20 @@ curve_name curve = curve.currency
 abbrev pub position_of : List ℕ → List Position → Option Position
 position_of name positions = row_of position_name name positions
 
--- the cents held directly under a name, 0 where nothing is held
+-- the fund of this name, with what is held of it
+abbrev pub stake_of : List ℕ → List Stake → Option Stake
+stake_of name stakes = row_of stake_name name stakes
+
+-- the cents held directly under a name, of a security or a fund; 0 where nothing is held
 abbrev pub held_of : BalanceSheet → List ℕ → ℕ
-held_of sheet name = option_map_or (λ p. p.held) (position_of name sheet.securities) 0
+held_of sheet name =
+    option_map_or (λ p. p.held) (position_of name sheet.securities) 0 + option_map_or (λ s. s.held) (stake_of name sheet.funds) 0
 
 -- the name stands in this table
 abbrev pub is_in : Table → List ℕ → BalanceSheet → Bool
 is_in tables.Group name sheet = has_row group_name name sheet.groups
 is_in tables.Security name sheet = has_row position_name name sheet.securities
+is_in tables.Fund name sheet = has_row stake_name name sheet.funds
 is_in tables.Line name sheet = has_row line_name name sheet.lines
 is_in tables.Bank name sheet = has_row bank_name name sheet.banks
 is_in tables.Rein name sheet = has_row rein_name name sheet.reinsurers
@@ -111,19 +123,19 @@ is_in tables.Curve name sheet = has_row curve_name name sheet.curves
 abbrev pub is_named : List ℕ → BalanceSheet → Bool
 is_named name sheet =
     is_in tables.Group name sheet || is_in tables.Security name sheet || is_in tables.Line name sheet
-    || is_in tables.Bank name sheet || is_in tables.Rein name sheet
+    || is_in tables.Bank name sheet || is_in tables.Rein name sheet || is_in tables.Fund name sheet
 
 -- the names of these tables
 abbrev pub names_of : BalanceSheet → List (List ℕ)
 names_of sheet =
     map group_name sheet.groups ++ (map position_name sheet.securities ++ (map line_name sheet.lines
-    ++ (map bank_name sheet.banks ++ map rein_name sheet.reinsurers)))
+    ++ (map bank_name sheet.banks ++ (map rein_name sheet.reinsurers ++ map stake_name sheet.funds))))
 
 -- ---- sums, in cents
 
 -- all that is held directly
 abbrev pub held_total : BalanceSheet → ℕ
-held_total sheet = sum_by (λ p. p.held) sheet.securities
+held_total sheet = sum_by (λ p. p.held) sheet.securities + sum_by (λ s. s.held) sheet.funds
 
 -- the absolute flows of all lines under a projection
 abbrev pub line_flows_total : Projection → BalanceSheet → ℕ
@@ -140,6 +152,16 @@ volumes_total set sheet = sum_by (λ segment. sum_by (λ v. v.0 + v.1) segment.v
 -- what banks hold, and the recoverables and the risk-mitigating effects of all reinsurers
 abbrev pub defaults_total : BalanceSheet → ℕ
 defaults_total sheet = sum_by (λ b. b.cents) sheet.banks + sum_by (λ r. r.recoverables + r.mitigation) sheet.reinsurers
+
+-- ---- what funds hold
+
+-- the components of all funds, counted
+abbrev pub components_total : BalanceSheet → ℕ
+components_total sheet = sum_by (λ s. length s.fund.components) sheet.funds
+
+-- the names of the components of the fund of this name, in the order of its record; none where no fund has the name
+abbrev pub components_of : List Stake → List ℕ → List (List ℕ)
+components_of funds name = option_map_or (λ s. map (λ c. c.0) s.fund.components) (stake_of name funds) []
 
 -- ---- the greatest number of years from the reference date to a payment
 

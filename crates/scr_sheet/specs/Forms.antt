@@ -38,6 +38,10 @@ AreOnDays flows = AllByRecursion (λ flow. IsDay flow.0.number) flows
 abbrev pub AreFlows : List (Day × ℤ) → Type 0
 AreFlows flows = AllByRecursion (λ flow. IsDay flow.0.number × IsNumber flow.1) flows
 
+-- components of a fund with their weights
+abbrev pub AreComponents : List (List ℕ × ℤ) → Type 0
+AreComponents components = AllByRecursion (λ c. IsName c.0 × IsNumber c.1) components
+
 -- the segments of a set, numbered from 1
 abbrev pub segments : Set → ℕ
 segments sets.Nl = 12
@@ -56,6 +60,7 @@ Formed (edits.Curve currency rates) = IsCurrency currency × AllByRecursion IsNu
 Formed (edits.Group name kind step) = IsName name × IsStepOrNone step
 Formed (edits.Security name class group currency duration) = IsName name × IsNameOrNone group × IsCurrency currency × IsNumber duration
 Formed (edits.Flows security flows) = IsName security × AreFlows flows
+Formed (edits.Fund name components) = IsName name × AreComponents components
 Formed (edits.Hold name cents) = IsName name × IsNumber cents
 Formed (edits.Line name kind currency) = IsName name × IsCurrency currency
 Formed (edits.LineFlows line projection flows) = IsName line × AreFlows flows

@@ -10,3 +10,4 @@ pub mod Faults
 pub mod Validity
 pub mod Volumes
 pub mod Absorptions
+pub mod Totals

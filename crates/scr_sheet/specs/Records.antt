@@ -5,7 +5,7 @@ use Rattle.std.specs.Option.{option_map_or}
 use Rattle.scr_dates.specs.declared.day.Day.{Day}
 use Rattle.scr_sheet.specs.Tables.{row_of, with_row, without}
 use Rattle.scr_sheet.specs.CashFlows.{with_flows, no_flows}
-use Rattle.scr_sheet.specs.BalanceSheet.{BalanceSheet, group_name, position_name, line_name, bank_name, rein_name, curve_name, held_of}
+use Rattle.scr_sheet.specs.BalanceSheet.{BalanceSheet, group_name, position_name, line_name, bank_name, rein_name, curve_name, stake_name}
 use Rattle.scr_sheet.specs.declared.edit.Edit.{Edit}
 use Rattle.scr_sheet.specs.declared.edit.Edit.TheVariants as edits
 use Rattle.scr_factors.specs.declared.set.Set.{Set}
@@ -19,6 +19,7 @@ use Rattle.scr_sheet.specs.declared.rows.Curve.{Curve}
 use Rattle.scr_sheet.specs.declared.numbers.Regions.{Regions}
 use Rattle.scr_sheet.specs.declared.keys.CatKey.TheVariants as cats
 use Rattle.scr_sheet.specs.declared.rows.Position.{Position}
+use Rattle.scr_sheet.specs.declared.rows.Stake.{Stake}
 
 -- a number that is at least 0; one below 0 is a fault where none may be, so what stands for it here is never kept
 abbrev pub natural : ℤ → ℕ
@@ -109,6 +110,18 @@ lapse_place sets.Nslt = 1
 abbrev pub kept_flows : List ℕ → List Position → List (Day × ℤ)
 kept_flows name positions = option_map_or (λ p. p.security.flows) (row_of position_name name positions) []
 
+-- what was held of it before, nothing where it is new
+abbrev pub kept_hold : List ℕ → List Position → ℕ
+kept_hold name positions = option_map_or (λ p. p.held) (row_of position_name name positions) 0
+
+-- the funds with one more, or with other components in the place of its own; what is held of it stays
+abbrev pub with_fund : List ℕ → List (List ℕ × ℤ) → List Stake → List Stake
+with_fund name components funds =
+    with_row stake_name (record {
+      fund = record { name = name; components = components };
+      held = option_map_or (λ s. s.held) (row_of stake_name name funds) 0;
+    }) funds
+
 -- a row changed, where there is one of this name
 abbrev pub changed : {Row : Type 0} → (Row → List ℕ) → (Row → Row) → List ℕ → List Row → List Row
 changed name_of change name rows = option_map_or (λ row. with_row name_of (change row) rows) (row_of name_of name rows) rows
@@ -125,13 +138,14 @@ with_absorb key cents curves = curves
 abbrev pub dropped : Table → List ℕ → BalanceSheet → BalanceSheet
 dropped tables.Group name sheet = record sheet { groups = without group_name name sheet.groups }
 dropped tables.Security name sheet = record sheet { securities = without position_name name sheet.securities }
+dropped tables.Fund name sheet = record sheet { funds = without stake_name name sheet.funds }
 dropped tables.Line name sheet = record sheet { lines = without line_name name sheet.lines }
 dropped tables.Bank name sheet = record sheet { banks = without bank_name name sheet.banks }
 dropped tables.Rein name sheet = record sheet { reinsurers = without rein_name name sheet.reinsurers }
 dropped tables.Curve name sheet = record sheet { curves = without curve_name name sheet.curves }
 
 -- A row is made, last in its table, or replaced in its place. A replaced security keeps its flows and what is held of
--- it, a replaced line its flows, a replaced curve its two absorptions.
+-- it, a replaced fund what is held of it, a replaced line its flows, a replaced curve its two absorptions.
 abbrev pub applied : Edit → BalanceSheet → BalanceSheet
 applied (edits.Asof date currency) sheet = record sheet { numbers = record sheet.numbers { asof = date; currency = currency } }
 applied (edits.Curve currency rates) sheet =
@@ -142,12 +156,17 @@ applied (edits.Security name class group currency duration) sheet =
     record sheet {
       securities = with_row position_name (record {
         security = record { name = name; class = class; group = group; currency = currency; duration = natural duration; flows = kept_flows name sheet.securities };
-        held = held_of sheet name;
+        held = kept_hold name sheet.securities;
       }) sheet.securities;
     }
 applied (edits.Flows security flows) sheet =
     record sheet { securities = changed position_name (λ p. record p { security = record p.security { flows = flows } }) security sheet.securities }
-applied (edits.Hold name cents) sheet = record sheet { securities = changed position_name (λ p. record p { held = natural cents }) name sheet.securities }
+applied (edits.Fund name components) sheet = record sheet { funds = with_fund name components sheet.funds }
+applied (edits.Hold name cents) sheet =
+    record sheet {
+      securities = changed position_name (λ p. record p { held = natural cents }) name sheet.securities;
+      funds = changed stake_name (λ s. record s { held = natural cents }) name sheet.funds;
+    }
 applied (edits.Line name kind currency) sheet =
     record sheet {
       lines = with_row line_name (record {

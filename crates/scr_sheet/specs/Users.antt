@@ -1,15 +1,17 @@
 -- What uses a row that a record would drop, or a line whose kind it would change (this project's own).
 use Rattle.std.specs.Prelude.{ℕ, ◌++◌, ◌==◌, Bool, false, List, Option, Some, None, if◌then◌else◌, map, filter}
+use Rattle.std.specs.List.{list_any}
 use Rattle.std.specs.Option.{option_or, option_map, option_map_or}
 use Rattle.scr_sheet.specs.Names.{same_name, first_in_order}
 use Rattle.scr_sheet.specs.Tables.{row_of}
-use Rattle.scr_sheet.specs.BalanceSheet.{BalanceSheet, position_name, line_name, bank_name, rein_name, curve_name, held_of}
+use Rattle.scr_sheet.specs.BalanceSheet.{BalanceSheet, position_name, line_name, bank_name, rein_name, curve_name, stake_name, held_of}
 use Rattle.scr_sheet.specs.declared.fault.User.{User}
 use Rattle.scr_sheet.specs.declared.fault.User.TheVariants as users
 use Rattle.scr_sheet.specs.declared.keys.AbsorbKey.TheVariants as absorb
 use Rattle.scr_sheet.specs.declared.keys.Table.{Table}
 use Rattle.scr_sheet.specs.declared.keys.Table.TheVariants as tables
 use Rattle.scr_sheet.specs.declared.rows.Position.{Position}
+use Rattle.scr_sheet.specs.declared.rows.Stake.{Stake}
 
 -- a security is of this group
 abbrev pub is_of_group : List ℕ → Position → Bool
@@ -28,6 +30,14 @@ names_in_currency currency sheet =
     map position_name (filter (λ p. same_name currency p.security.currency) sheet.securities)
     ++ map line_name (filter (λ l. same_name currency l.currency) sheet.lines)
 
+-- a fund has this component
+abbrev pub has_component : List ℕ → Stake → Bool
+has_component name stake = list_any (λ c. same_name name c.0) stake.fund.components
+
+-- the names of the funds that have the security or fund of this name as a component
+abbrev pub names_of_holders : List ℕ → BalanceSheet → List (List ℕ)
+names_of_holders name sheet = map stake_name (filter (has_component name) sheet.funds)
+
 -- the first of the names in byte order
 abbrev pub first_row : List (List ℕ) → Option User
 first_row names = option_map (λ name. users.Row name) (first_in_order names)
@@ -43,11 +53,16 @@ absorption_of currency sheet =
     option_or (unless_none (option_map_or (λ c. c.absorb_down) curve 0) (users.Absorb (absorb.CurrencyDown currency)))
     (unless_none (option_map_or (λ c. c.absorb_up) curve 0) (users.Absorb (absorb.CurrencyUp currency)))
 
+-- what uses a security or a fund: a hold, and then a fund
+abbrev pub holder_of : List ℕ → BalanceSheet → Option User
+holder_of name sheet = option_or (unless_none (held_of sheet name) users.Hold) (first_row (names_of_holders name sheet))
+
 -- The user that is told, if there is one: the reporting currency, then a hold, then an absorption, then the rows in
 -- the byte order of their names.
 abbrev pub user_of : Table → List ℕ → BalanceSheet → Option User
 user_of tables.Group name sheet = first_row (names_of_group name sheet)
-user_of tables.Security name sheet = unless_none (held_of sheet name) users.Hold
+user_of tables.Security name sheet = holder_of name sheet
+user_of tables.Fund name sheet = holder_of name sheet
 user_of tables.Curve name sheet =
     option_or (if same_name name sheet.numbers.currency then Some users.Asof else None)
     (option_or (absorption_of name sheet) (first_row (names_in_currency name sheet)))

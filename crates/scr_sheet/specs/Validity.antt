@@ -1,24 +1,26 @@
 -- What is true of every balance sheet that a book keeps (this project's own).
-use Rattle.std.specs.Prelude.{ℕ, ℤ, pos, neg_ℤ, ◌+◌, ◌≤◌, ◌≤ℤ◌, IsTrue, List, Option, Some, None, length, map}
+use Rattle.std.specs.Prelude.{ℕ, ℤ, pos, neg_ℤ, ◌+◌, ◌≤◌, ◌≤ℤ◌, ◌||◌, IsTrue, List, Option, Some, None, length, map}
 use Rattle.std.specs.List.{AllByRecursion, IsDistinct}
 use Rattle.scr_dates.specs.declared.day.Day.{Day}
 use Rattle.scr_dates.specs.Civil.{IsDay}
+use Rattle.scr_funds.specs.Chains.{IsAcyclic}
 use Rattle.scr_sheet.specs.Names.{same_name}
 use Rattle.scr_sheet.specs.Tables.{has_row}
 use Rattle.scr_sheet.specs.Forms.{IsName, IsCurrency, IsNameOrNone, IsStepOrNone, AreOnDays}
 use Rattle.scr_sheet.specs.CashFlows.{total, flows_under, suits}
-use Rattle.scr_sheet.specs.BalanceSheet.{BalanceSheet, group_name, curve_name, names_of, held_total, line_flows_total, volumes_total, defaults_total, years_total}
+use Rattle.scr_sheet.specs.BalanceSheet.{BalanceSheet, group_name, position_name, stake_name, curve_name, names_of, components_of, components_total, held_total, line_flows_total, volumes_total, defaults_total, years_total}
 use Rattle.scr_factors.specs.declared.set.Set.{Set}
 use Rattle.scr_sheet.specs.declared.keys.Projection.{Projection}
 use Rattle.scr_sheet.specs.declared.rows.Group.{Group}
 use Rattle.scr_sheet.specs.declared.rows.Position.{Position}
+use Rattle.scr_sheet.specs.declared.rows.Stake.{Stake}
 use Rattle.scr_sheet.specs.declared.rows.Liability.{Liability}
 use Rattle.scr_sheet.specs.declared.rows.Bank.{Bank}
 use Rattle.scr_sheet.specs.declared.rows.Rein.{Rein}
 use Rattle.scr_sheet.specs.declared.rows.Curve.{Curve}
 use Rattle.scr_sheet.specs.declared.numbers.Numbers.{Numbers}
 use Rattle.scr_sheet.specs.declared.numbers.Regions.{Regions}
-use Rattle.scr_sheet.specs.declared.limits.TheConstants.{MIN_RATE, MAX_RATE, MAX_RATES, MAX_DURATION, MAX_FLOWS, MAX_PROMISED, MAX_AMOUNT, MAX_SYM, MAX_TAX, MAX_HELD, MAX_LINE_FLOWS, MAX_YEARS, MAX_CURRENCIES, MAX_SECURITIES, MAX_LINES, MAX_GROUPS, MAX_EXPOSURES}
+use Rattle.scr_sheet.specs.declared.limits.TheConstants.{MIN_RATE, MAX_RATE, MAX_RATES, MAX_DURATION, MAX_FLOWS, MAX_PROMISED, MAX_AMOUNT, MAX_SYM, MAX_TAX, MAX_HELD, MAX_LINE_FLOWS, MAX_YEARS, MAX_CURRENCIES, MAX_SECURITIES, MAX_FUNDS, MAX_COMPONENTS, MAX_FUND_COMPONENTS, MIN_WEIGHT, MAX_WEIGHT, MAX_LINES, MAX_GROUPS, MAX_EXPOSURES}
 
 -- ---- rows, each with its form and within its own limits
 
@@ -40,6 +42,13 @@ abbrev pub IsSecurity : Position → Type 0
 IsSecurity position =
     let security = position.security in
     IsName security.name × IsNameOrNone security.group × IsCurrency security.currency × (pos security.duration ≤ℤ MAX_DURATION) × IsPromise security.flows
+
+-- no component comes twice, and each has a weight above 0
+abbrev pub IsStake : Stake → Type 0
+IsStake stake =
+    let components = stake.fund.components in
+    IsName stake.fund.name × AllByRecursion (λ c. IsName c.0 × IsBetween MIN_WEIGHT MAX_WEIGHT c.1) components × (length components ≤ MAX_FUND_COMPONENTS)
+    × IsDistinct same_name (map (λ c. c.0) components)
 
 -- on days of the calendar, and not too many
 abbrev pub IsProjected : List (Day × ℤ) → Type 0
@@ -94,12 +103,17 @@ HasGroupOrNone groups (Some name) = HasGroup groups name
 abbrev pub HasCurrency : List Curve → List ℕ → Type 0
 HasCurrency curves currency = IsTrue (has_row curve_name currency curves)
 
+-- a security or a fund
+abbrev pub IsHeld : BalanceSheet → List ℕ → Type 0
+IsHeld sheet name = IsTrue (has_row position_name name sheet.securities || has_row stake_name name sheet.funds)
+
 pub record AreKnown (sheet : BalanceSheet) : Type 0 where
   pub security_groups : AllByRecursion (λ p. HasGroupOrNone sheet.groups p.security.group) sheet.securities
   pub bank_groups : AllByRecursion (λ b. HasGroup sheet.groups b.group) sheet.banks
   pub rein_groups : AllByRecursion (λ r. HasGroup sheet.groups r.group) sheet.reinsurers
   pub security_currencies : AllByRecursion (λ p. HasCurrency sheet.curves p.security.currency) sheet.securities
   pub line_currencies : AllByRecursion (λ l. HasCurrency sheet.curves l.currency) sheet.lines
+  pub components : AllByRecursion (λ s. AllByRecursion (λ c. IsHeld sheet c.0) s.fund.components) sheet.funds
   pub reporting : HasCurrency sheet.curves sheet.numbers.currency
 
 -- ---- the quantities of the whole book are within their limits
@@ -112,16 +126,20 @@ pub record AreWithin (sheet : BalanceSheet) : Type 0 where
   pub years : years_total sheet ≤ MAX_YEARS
   pub currencies : length sheet.curves ≤ MAX_CURRENCIES
   pub securities : length sheet.securities ≤ MAX_SECURITIES
+  pub funds : length sheet.funds ≤ MAX_FUNDS
+  pub components : components_total sheet ≤ MAX_COMPONENTS
   pub lines : length sheet.lines ≤ MAX_LINES
   pub groups : length sheet.groups ≤ MAX_GROUPS
   pub exposures : length sheet.banks + length sheet.reinsurers ≤ MAX_EXPOSURES
 
 -- Each row has its form, no two rows of the tables that share one set of names have one name and no two curves one
--- currency, what is used exists, and every quantity is within its limits. That no security is held twice, that what is
--- held is a security's, and that no security has two lists of flows lie in the form of the sheet.
+-- currency, what is used exists, no fund leads to itself, and every quantity is within its limits. That nothing is held
+-- twice, that what is held is a security's or a fund's, and that no security has two lists of flows lie in the form of
+-- the sheet.
 pub record Valid (sheet : BalanceSheet) : Type 0 where
   pub groups : AllByRecursion IsGroup sheet.groups
   pub securities : AllByRecursion IsSecurity sheet.securities
+  pub funds : AllByRecursion IsStake sheet.funds
   pub lines : AllByRecursion IsLine sheet.lines
   pub banks : AllByRecursion IsBank sheet.banks
   pub reinsurers : AllByRecursion IsRein sheet.reinsurers
@@ -130,4 +148,5 @@ pub record Valid (sheet : BalanceSheet) : Type 0 where
   pub named_once : IsDistinct same_name (names_of sheet)
   pub currencies_once : IsDistinct same_name (map curve_name sheet.curves)
   pub known : AreKnown sheet
+  pub acyclic : IsAcyclic (components_of sheet.funds)
   pub within : AreWithin sheet

@@ -1,6 +1,9 @@
 //! The records that change a balance sheet.
 
-use crate::{AbsorbKey, CatKey, Class, Flows, GroupKind, LineKind, Name, Projection, Rates, Table};
+use crate::{
+    AbsorbKey, CatKey, Class, Components, Flows, GroupKind, LineKind, Name, Projection, Rates,
+    Table,
+};
 use scr_dates::Day;
 use scr_factors::Set;
 
@@ -36,7 +39,13 @@ pub enum Edit {
         security: Name,
         flows: Flows,
     },
-    /// `hold`: the cents held directly of a security from now on.
+    /// `fund`: makes a fund with its components and their weights, or replaces those of the one of its name, which keeps
+    /// what is held of it.
+    Fund {
+        name: Name,
+        components: Components,
+    },
+    /// `hold`: the cents held directly of a security or a fund from now on.
     Hold {
         name: Name,
         cents: i64,

@@ -1,10 +1,10 @@
 //! Why a record is refused.
 
-use crate::{AbsorbKey, Name};
+use crate::{AbsorbKey, Name, Names};
 
 /// Why a record is refused. Where several faults stand together, the first in the order of the variants is told,
 /// and a refused record changes nothing.
-#[derive(Clone, Copy, Debug, PartialEq, Eq)]
+#[derive(Debug, PartialEq, Eq, Drop)]
 pub enum Fault {
     /// The field of this number is not of its form; 0 stands for the verb or for a byte that no record has.
     Syntax(u32),
@@ -14,6 +14,8 @@ pub enum Fault {
     WrongKind(Name),
     /// The name is used, and so can't be dropped, or its line can't change its kind.
     InUse(Name, User),
+    /// The fund would hold itself: the first of the shortest chains of components from it back to itself.
+    Cycle(Names),
     /// The quantity, its value in the book as the record would leave it, and the bound that the value crosses.
     Range(Quantity, i128, i128),
     /// Memory was refused. It may come in place of any other answer.
@@ -40,6 +42,7 @@ pub enum User {
 pub enum Quantity {
     Rate,
     Duration,
+    Weight,
     Flow,
     Hold,
     Amount,
@@ -54,6 +57,8 @@ pub enum Quantity {
     Years,
     Currencies,
     Securities,
+    Funds,
+    Components,
     Lines,
     Groups,
     Exposures,

@@ -7,6 +7,7 @@ use crate::Name;
 pub enum Table {
     Group,
     Security,
+    Fund,
     Line,
     Bank,
     Rein,

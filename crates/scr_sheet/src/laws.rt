@@ -1,5 +1,5 @@
 //! What the definitions of the balance sheet come to, whatever a program does.
-ghost use Rattle.std.specs.Prelude.{◌≡◌, ℕ, None, slice_get, sum_by};
+ghost use Rattle.std.specs.Prelude.{◌≡◌, ℕ, ◌+◌, None, slice_get, sum_by};
 ghost use Rattle.scr_sheet.specs.BalanceSheet.{BalanceSheet, opening, held_of, held_total};
 ghost use Rattle.scr_sheet.specs.Records.{applied};
 ghost use Rattle.scr_sheet.specs.Faults.{fault_of};
@@ -7,6 +7,7 @@ ghost use Rattle.scr_sheet.specs.Forms.{Formed};
 ghost use Rattle.scr_sheet.specs.Validity.{Valid};
 ghost use Rattle.scr_sheet.specs.declared.edit.Edit.{Edit};
 ghost use Rattle.scr_sheet.specs.declared.rows.Position.{Position};
+ghost use Rattle.scr_sheet.specs.declared.rows.Stake.{Stake};
 
 /// The opening balance sheet is valid, and a record that has its form and no fault leads from a valid balance
 /// sheet to a valid one.
@@ -15,9 +16,11 @@ pub fn validity()
     ensures applied { (edit : Edit) (sheet : BalanceSheet) → Formed edit → Valid sheet → fault_of edit sheet ≡ None → Valid (applied edit sheet) }
 {}
 
-/// What is held under a security's name is what its row says, and over all securities it sums to all that is held
-/// directly.
+/// What is held under the name of a security or a fund is what its row says, and over all securities and funds it sums
+/// to all that is held directly.
 pub fn holds()
     ensures row { (sheet : BalanceSheet) (k : ℕ) (p : Position) → Valid sheet → slice_get sheet.securities k ≡ Some p → held_of sheet p.security.name ≡ p.held }
-    ensures sum { (sheet : BalanceSheet) → Valid sheet → sum_by (λ p. held_of sheet p.security.name) sheet.securities ≡ held_total sheet }
+    ensures fund { (sheet : BalanceSheet) (k : ℕ) (s : Stake) → Valid sheet → slice_get sheet.funds k ≡ Some s → held_of sheet s.fund.name ≡ s.held }
+    ensures sum { (sheet : BalanceSheet) → Valid sheet
+        → sum_by (λ p. held_of sheet p.security.name) sheet.securities + sum_by (λ s. held_of sheet s.fund.name) sheet.funds ≡ held_total sheet }
 {}

@@ -20,15 +20,17 @@ pub use edit::Edit;
 pub use fault::{Fault, Quantity, User};
 pub use keys::{AbsorbKey, CatKey, Projection, Table};
 pub use limits::{
-    MAX_AMOUNT, MAX_CURRENCIES, MAX_DURATION, MAX_EXPOSURES, MAX_FLOWS, MAX_GROUPS, MAX_HELD,
-    MAX_LINE_FLOWS, MAX_LINES, MAX_PROMISED, MAX_RATE, MAX_RATES, MAX_SECURITIES, MAX_SYM, MAX_TAX,
-    MAX_YEARS, MIN_RATE,
+    MAX_AMOUNT, MAX_COMPONENTS, MAX_CURRENCIES, MAX_DURATION, MAX_EXPOSURES, MAX_FLOWS,
+    MAX_FUND_COMPONENTS, MAX_FUNDS, MAX_GROUPS, MAX_HELD, MAX_LINE_FLOWS, MAX_LINES, MAX_PROMISED,
+    MAX_RATE, MAX_RATES, MAX_SECURITIES, MAX_SYM, MAX_TAX, MAX_WEIGHT, MAX_YEARS, MIN_RATE,
+    MIN_WEIGHT,
 };
-pub use lists::{Flows, Rates};
+pub use lists::{Components, Flows, Names, Rates};
 pub use name::Name;
 pub use numbers::{Numbers, OpInput, Regions};
 pub use rows::{
-    Bank, Class, Curve, Group, GroupKind, Liability, LineFlows, LineKind, Position, Rein, Security,
+    Bank, Class, Curve, Fund, Group, GroupKind, Liability, LineFlows, LineKind, Position, Rein,
+    Security, Stake,
 };
 pub use table::{Row, Rows};
 pub use writes::natural;

@@ -43,6 +43,21 @@ pub const MAX_CURRENCIES: u32 = 32;
 /// The most securities.
 pub const MAX_SECURITIES: u32 = 20_000;
 
+/// The most funds.
+pub const MAX_FUNDS: u32 = 2_000;
+
+/// The most components of all funds together.
+pub const MAX_COMPONENTS: u32 = 100_000;
+
+/// The most components of one fund.
+pub const MAX_FUND_COMPONENTS: u32 = 1_000;
+
+/// The least weight of a component.
+pub const MIN_WEIGHT: i64 = 1;
+
+/// The greatest weight of a component.
+pub const MAX_WEIGHT: i64 = 1_000_000_000;
+
 /// The most lines.
 pub const MAX_LINES: u32 = 2_000;
 

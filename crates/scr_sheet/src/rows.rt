@@ -1,6 +1,6 @@
 //! The rows of the tables.
 
-use crate::{Flows, Name, Rates};
+use crate::{Components, Flows, Name, Rates};
 
 /// What a group of counterparties is taken to be in the concentration sub-module (Articles 182 to 187 of Delegated
 /// Regulation (EU) 2015/35).
@@ -64,6 +64,20 @@ pub struct Security {
 #[derive(Debug, Drop)]
 pub struct Position {
     pub security: Security,
+    pub held: u64,
+}
+
+/// A fund: what it holds, in parts by weight (Article 84). A fund without components is closed.
+#[derive(Debug, Drop)]
+pub struct Fund {
+    pub name: Name,
+    pub components: Components,
+}
+
+/// A fund with the cents held directly of it, 0 where nothing is held.
+#[derive(Debug, Drop)]
+pub struct Stake {
+    pub fund: Fund,
     pub held: u64,
 }
 

@@ -3,10 +3,10 @@ ghost use Rattle.std.specs.Prelude.{◌≡◌, ℕ, ◌<◌, ◌^◌, ◌↔◌,
 ghost use Rattle.std.specs.Option.{option_copied, option_map};
 ghost use Rattle.std.specs.Map.Iter.{deref, ShowsInOrder};
 ghost use Rattle.std.specs.Fn.{FnOnceReturnsAtMut};
-ghost use Rattle.scr_sheet.specs.BalanceSheet.{group_name, position_name, line_name, bank_name, rein_name, curve_name};
+ghost use Rattle.scr_sheet.specs.BalanceSheet.{group_name, position_name, line_name, bank_name, rein_name, curve_name, stake_name};
 ghost use Rattle.scr_sheet.specs.Tables.{row_of, has_row, with_row, without};
 
-use crate::{Bank, Curve, Group, Liability, Name, Position, Rein};
+use crate::{Bank, Curve, Group, Liability, Name, Position, Rein, Stake};
 use indexmap::IndexMap;
 use indexmap::map::Values;
 use std::alloc::{AllocError as NoMemory, Global};
@@ -34,6 +34,14 @@ impl Row for Position {
 
     fn name(&self) -> Name {
         self.security.name
+    }
+}
+
+impl Row for Stake {
+    ghost name_of = { stake_name };
+
+    fn name(&self) -> Name {
+        self.fund.name
     }
 }
 

@@ -1,5 +1,5 @@
 use Rattle.std.proofs.Common.{ℕ, List, ◌++◌, length, drop, replicate, ap, ◌∙◌}
-use Rattle.scr_sheet.proofs.Names.{padded-copy, padded-cells}
+use Rattle.scr_sheet.proofs.NameBytes.{padded-copy, padded-cells}
 use Rattle.scr_sheet.proofs.name.Name.of_bytes.Goals as goal
 
 pub invariant_of-result : goal.invariant_of-result
