@@ -1,9 +1,10 @@
 -- What a record without a fault makes of a book: the sheet as the record leaves it, valid, with the sums of its rows.
-use Rattle.std.proofs.Common.{◌≡◌, ℕ, true, false, List, Option, Some, None, MatchOption, refl, sym, ap, subst, ◌∙◌}
+use Rattle.std.proofs.Common.{◌≡◌, ℕ, ◌||◌, Bool, true, false, List, Option, Some, None, MatchOption, refl, sym, ap, subst, ◌∙◌}
 use Rattle.std.specs.Option.{option_map_or}
 use Rattle.scr_sheet.specs.BalanceSheet.{BalanceSheet}
 use Rattle.scr_sheet.specs.Faults.{fault_of}
 use Rattle.scr_sheet.specs.Forms.{Formed}
+use Rattle.scr_sheet.specs.declared.rows.Curve.{Curve}
 use Rattle.scr_sheet.specs.Records.{applied, changed, with_absorb}
 use Rattle.scr_sheet.specs.Tables.{row_of, has_row, with_row}
 use Rattle.scr_sheet.specs.Validity.{Valid}
@@ -11,18 +12,16 @@ use Rattle.scr_sheet.specs.declared.edit.Edit.{Edit}
 use Rattle.scr_sheet.specs.declared.edit.Edit.TheVariants as edits
 use Rattle.scr_sheet.specs.declared.keys.AbsorbKey.{AbsorbKey}
 use Rattle.scr_sheet.specs.declared.keys.AbsorbKey.TheVariants as absorb
-use Rattle.scr_book.specs.Verbs.{is_of_numbers}
+use Rattle.scr_book.specs.Verbs.{is_of_numbers, is_of_graph}
 use Rattle.scr_sheet.specs.declared.numbers.Numbers.{Numbers}
-use Rattle.scr_sheet.specs.declared.rows.Group.{Group}
-use Rattle.scr_sheet.specs.declared.rows.Position.{Position}
-use Rattle.scr_sheet.specs.declared.rows.Liability.{Liability}
-use Rattle.scr_sheet.specs.declared.rows.Bank.{Bank}
-use Rattle.scr_sheet.specs.declared.rows.Rein.{Rein}
-use Rattle.scr_sheet.specs.declared.rows.Curve.{Curve}
 use Rattle.scr_sheet.proofs.Preserved.{Valid-applied, passes}
+use Rattle.scr_sheet.proofs.Projections.{or_false}
 use Rattle.scr_sheet.proofs.TableRows.{same_name-is, name_of-row_of}
 use Rattle.scr_book.proofs.Moved.{row_there, moves_a_sum, sums-same}
 use Rattle.scr_book.specs.Kept.{sheet_of, IsKept}
+use Rattle.scr_book.specs.Holders.{IsGraphOf}
+use Rattle.scr_graph.specs.Graph.{Graph}
+use Rattle.scr_book.proofs.Holders.{graph-same}
 use Rattle.scr_book.specs.Sums.{AreSumsOf}
 use Rattle.scr_book.specs.declared.book.Book.TheInside.{Inside}
 
@@ -43,42 +42,58 @@ replaced name_of change new name rows has is =
     let named = same_name-is name (name_of row.0) (name_of-row_of name_of name rows row.0 row.1) in
     ap (λ o. option_map_or (λ other. with_row name_of (change other) rows) o rows) row.1 ∙ ap (λ other. with_row name_of other rows) (is row.0 row.1 named)
 
--- two sheets of the same tables and numbers are one
-same_sheet : (a b : BalanceSheet) → a.groups ≡ b.groups → a.securities ≡ b.securities → a.lines ≡ b.lines → a.banks ≡ b.banks → a.reinsurers ≡ b.reinsurers → a.curves ≡ b.curves → a.numbers ≡ b.numbers → a ≡ b
-same_sheet a b groups securities lines banks reinsurers curves numbers =
-    ap (λ (x : List Group). let sheet : BalanceSheet = record a { groups = x } in sheet) groups
-    ∙ ap (λ (x : List Position). let sheet : BalanceSheet = record a { groups = b.groups; securities = x } in sheet) securities
-    ∙ ap (λ (x : List Liability). let sheet : BalanceSheet = record a { groups = b.groups; securities = b.securities; lines = x } in sheet) lines
-    ∙ ap (λ (x : List Bank). let sheet : BalanceSheet = record b { banks = x; reinsurers = a.reinsurers; curves = a.curves; numbers = a.numbers } in sheet) banks
-    ∙ ap (λ (x : List Rein). let sheet : BalanceSheet = record b { reinsurers = x; curves = a.curves; numbers = a.numbers } in sheet) reinsurers
-    ∙ ap (λ (x : List Curve). let sheet : BalanceSheet = record b { curves = x; numbers = a.numbers } in sheet) curves
-    ∙ ap (λ (x : Numbers). let sheet : BalanceSheet = record b { numbers = x } in sheet) numbers
-
 -- the sums of the book are those of its sheet
 pub sums_now : (book : Inside) (now : BalanceSheet) → sheet_of book ≡ now → IsKept book → AreSumsOf now book.sums
 sums_now book now view kept = subst (λ sheet. AreSumsOf sheet book.sums) view kept.sums
 
-module _ (old new : Inside) (now : BalanceSheet) (view : sheet_of old ≡ now) (kept : IsKept old) (edit : Edit) (formed : Formed edit) (none : fault_of edit now ≡ None) where
-  abbrev after : BalanceSheet
-  after = applied edit (sheet_of old)
+-- and so is its graph
+pub graph_now : (book : Inside) (now : BalanceSheet) → sheet_of book ≡ now → IsKept book → IsGraphOf now book.graph
+graph_now book now view kept = subst (λ sheet. IsGraphOf sheet book.graph) view kept.graph
 
-  pub kept-applied : new.groups ≡ after.groups → new.securities ≡ after.securities → new.lines ≡ after.lines → new.banks ≡ after.banks → new.reinsurers ≡ after.reinsurers → new.curves ≡ after.curves → new.numbers ≡ after.numbers
-      → AreSumsOf (applied edit now) new.sums → IsKept new × (sheet_of new ≡ applied edit now)
-  kept-applied groups securities lines banks reinsurers curves numbers sums =
-      let is : sheet_of new ≡ applied edit now = same_sheet (sheet_of new) after groups securities lines banks reinsurers curves numbers ∙ ap (applied edit) view in (
+-- a book whose sheet has another graph
+pub kept-graph : (book : Inside) (now : BalanceSheet) → sheet_of book ≡ now → IsKept book → (graph : Graph) → IsGraphOf now graph → IsKept (record book { graph = graph })
+kept-graph book now view kept graph is = record { valid = kept.valid; sums = kept.sums; graph = subst (λ sheet. IsGraphOf sheet graph) (sym view) is }
+
+-- the records that move neither a sum nor the graph
+abbrev pub moves_beside : Edit → Bool
+moves_beside edit = moves_a_sum edit || is_of_graph edit
+
+module _ (old new : Inside) (now : BalanceSheet) (view : sheet_of old ≡ now) (kept : IsKept old) (edit : Edit) (formed : Formed edit) (none : fault_of edit now ≡ None) where
+  -- the tables and numbers are as the record leaves them, and so is each sum and the graph
+  pub kept-whole : sheet_of new ≡ applied edit (sheet_of old) → AreSumsOf (applied edit now) new.sums → IsGraphOf (applied edit now) new.graph → IsKept new × (sheet_of new ≡ applied edit now)
+  kept-whole rows sums graph =
+      let is : sheet_of new ≡ applied edit now = rows ∙ ap (applied edit) view in (
         record {
           valid = subst Valid (sym is) (Valid-applied edit now formed (subst Valid view kept.valid) none);
           sums = subst (λ sheet. AreSumsOf sheet new.sums) (sym is) sums;
+          graph = subst (λ sheet. IsGraphOf sheet new.graph) (sym is) graph;
         },
         is,
       )
 
-  -- where the record moves no sum
-  pub kept-still : moves_a_sum edit ≡ false → new.groups ≡ after.groups → new.securities ≡ after.securities → new.lines ≡ after.lines → new.banks ≡ after.banks → new.reinsurers ≡ after.reinsurers → new.curves ≡ after.curves → new.numbers ≡ after.numbers
-      → new.sums ≡ old.sums → IsKept new × (sheet_of new ≡ applied edit now)
-  kept-still still groups securities lines banks reinsurers curves numbers sums =
-      kept-applied groups securities lines banks reinsurers curves numbers
-      (subst (AreSumsOf (applied edit now)) (sym sums) (sums-same edit now old.sums (sums_now old now view kept) still (passes edit now none).free))
+  -- the sums are as they were
+  pub sums_kept : moves_a_sum edit ≡ false → new.sums ≡ old.sums → AreSumsOf (applied edit now) new.sums
+  sums_kept still sums =
+      subst (AreSumsOf (applied edit now)) (sym sums) (sums-same edit now old.sums (sums_now old now view kept) still (passes edit now none).free)
+
+  -- where the record leaves the graph
+  pub kept-applied : is_of_graph edit ≡ false → sheet_of new ≡ applied edit (sheet_of old) → AreSumsOf (applied edit now) new.sums
+      → let same : Inside = record new { graph = old.graph } in IsKept same × (sheet_of same ≡ applied edit now)
+  kept-applied apart rows sums =
+      let is : sheet_of new ≡ applied edit now = rows ∙ ap (applied edit) view in (
+        record {
+          valid = subst Valid (sym is) (Valid-applied edit now formed (subst Valid view kept.valid) none);
+          sums = subst (λ sheet. AreSumsOf sheet new.sums) (sym is) sums;
+          graph = subst (λ sheet. IsGraphOf sheet old.graph) (sym is) (graph-same edit now old.graph (graph_now old now view kept) apart);
+        },
+        is,
+      )
+
+  -- where the record moves no sum either
+  pub kept-still : moves_beside edit ≡ false → sheet_of new ≡ applied edit (sheet_of old) → new.sums ≡ old.sums
+      → let same : Inside = record new { graph = old.graph } in IsKept same × (sheet_of same ≡ applied edit now)
+  kept-still still rows sums =
+      let apart = or_false (moves_a_sum edit) (is_of_graph edit) still in kept-applied apart.1 rows (sums_kept apart.0 sums)
 
 -- ---- records of the single numbers
 
@@ -94,7 +109,7 @@ only_numbers (edits.Fdb cents) sheet only = refl
 only_numbers (edits.Intangible cents) sheet only = refl
 only_numbers edit sheet only = absurd (cc)
 
-still_numbers : (edit : Edit) → is_of_numbers edit ≡ true → moves_a_sum edit ≡ false
+still_numbers : (edit : Edit) → is_of_numbers edit ≡ true → moves_beside edit ≡ false
 still_numbers (edits.Asof date currency) only = refl
 still_numbers (edits.Cat key cents) only = refl
 still_numbers (edits.Lapse set cents) only = refl
@@ -110,10 +125,8 @@ pub kept-numbers : (old : Inside) (now : BalanceSheet) (view : sheet_of old ≡ 
     → (numbers : Numbers) → (applied edit (sheet_of old)).numbers ≡ numbers → let new : Inside = record old { numbers = numbers } in IsKept new × (sheet_of new ≡ applied edit now)
 kept-numbers old now view kept edit formed none only numbers is =
     let new : Inside = record old { numbers = numbers } in
-    let rows : applied edit (sheet_of old) ≡ record (sheet_of old) { numbers = (applied edit (sheet_of old)).numbers } = only_numbers edit (sheet_of old) only in
     kept-still old new now view kept edit formed none (still_numbers edit only)
-    (sym (ap (λ (s : BalanceSheet). s.groups) rows)) (sym (ap (λ (s : BalanceSheet). s.securities) rows)) (sym (ap (λ (s : BalanceSheet). s.lines) rows)) (sym (ap (λ (s : BalanceSheet). s.banks) rows))
-    (sym (ap (λ (s : BalanceSheet). s.reinsurers) rows)) (sym (ap (λ (s : BalanceSheet). s.curves) rows)) (sym is) refl
+    (sym (only_numbers edit (sheet_of old) only ∙ ap (λ n. sheet_of (record old { numbers = n })) is)) refl
 
 -- an absorption that is none of a currency leaves the curves
 pub with_absorb-other : (key : AbsorbKey) (cents : ℕ) (curves : List Curve) → ((currency : List ℕ) → key ≡ absorb.CurrencyUp currency → ⊥) → ((currency : List ℕ) → key ≡ absorb.CurrencyDown currency → ⊥) → with_absorb key cents curves ≡ curves

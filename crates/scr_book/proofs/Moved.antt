@@ -1,14 +1,15 @@
 -- How the sums of a sheet are carried along by a record without a fault: what goes out and what comes in.
-use Rattle.std.proofs.Common.{◌≡◌, ℕ, ℤ, ◌+◌, ◌-◌, ◌≤◌, ◌==◌, ◌||◌, ◌⊎◌, inl, inr, Bool, true, false, List, map, Option, Some, None, is_some, if◌then◌else◌, set, get_or, refl, sym, ap, subst, ◌∙◌, arith}
+use Rattle.std.proofs.Common.{◌≡◌, ℕ, ℤ, ◌+◌, ◌-◌, ◌≤◌, ◌==◌, ◌&&◌, ◌||◌, ◌⊎◌, inl, inr, Bool, true, false, not, List, map, Option, Some, None, is_some, if◌then◌else◌, length, set, get_or, refl, sym, ap, subst, ◌∙◌, arith}
 use Rattle.std.specs.Option.{option_map_or}
 use Rattle.scr_dates.specs.declared.day.Day.{Day}
 use Rattle.scr_factors.specs.declared.set.Set.{Set}
 use Rattle.scr_factors.specs.declared.set.Set.TheVariants as sets
 use Rattle.scr_sheet.specs.Tables.{row_of, has_row}
 use Rattle.scr_sheet.specs.CashFlows.{total, flows_under, all_projections}
-use Rattle.scr_sheet.specs.BalanceSheet.{BalanceSheet, position_name, line_name, bank_name, rein_name, held_of, held_total, line_flows_total, volumes_total, defaults_total}
-use Rattle.scr_sheet.specs.Faults.{fault_of, in_use, misplaced}
+use Rattle.scr_sheet.specs.BalanceSheet.{BalanceSheet, stake_name, line_name, bank_name, rein_name, is_in, is_named, held_of, held_total, line_flows_total, volumes_total, defaults_total, components_total}
+use Rattle.scr_sheet.specs.Faults.{fault_of, in_use, unknown_row, misplaced, misplaced_holding}
 use Rattle.scr_sheet.specs.Records.{applied, natural}
+use Rattle.scr_sheet.specs.Validity.{Valid}
 use Rattle.scr_sheet.specs.Volumes.{volumes_in}
 use Rattle.scr_sheet.specs.declared.edit.Edit.{Edit}
 use Rattle.scr_sheet.specs.declared.edit.Edit.TheVariants as edits
@@ -19,9 +20,9 @@ use Rattle.scr_sheet.specs.declared.rows.Liability.{Liability}
 use Rattle.scr_sheet.specs.declared.fault.Quantity.TheVariants as quantities
 use Rattle.scr_sheet.specs.declared.limits.TheConstants.{MAX_LINE_FLOWS}
 use Rattle.scr_sheet.proofs.Bounds.{neither, within_from_above}
-use Rattle.scr_sheet.proofs.Preserved.{passes, right_table}
+use Rattle.scr_sheet.proofs.Preserved.{passes, passed, failed, right_table}
 use Rattle.scr_sheet.proofs.Projections.{or_false}
-use Rattle.scr_sheet.proofs.Sums.{moves_held, moves_line_flows, moves_volumes, moves_defaults, held-hold, held-part, held-same, line_total, line_flows-own, line_flows-other, line_flows-part, line_flows-drop, line_flows-same, volumes-segment, volumes-part, volumes-same, defaults-bank, defaults-rein, defaults-drop_bank, defaults-drop_rein, defaults-part_bank, defaults-part_rein, defaults-same}
+use Rattle.scr_sheet.proofs.Sums.{moves_held, moves_line_flows, moves_volumes, moves_defaults, moves_components, in_one_table, held-hold, held-part, held-same, stake_components, components-fund, components-drop, components-part, components-same, line_total, line_flows-own, line_flows-other, line_flows-part, line_flows-drop, line_flows-same, volumes-segment, volumes-part, volumes-same, defaults-bank, defaults-rein, defaults-drop_bank, defaults-drop_rein, defaults-part_bank, defaults-part_rein, defaults-same}
 use Rattle.scr_book.specs.Sums.{AreSumsOf, place_of, volumes_sum, with_volumes_sum}
 use Rattle.scr_book.specs.declared.sums.Sums.{Sums}
 
@@ -43,7 +44,7 @@ none_there {Row} name_of name rows has = by (row_of name_of name rows) has
 -- ---- records that move no sum
 
 abbrev pub moves_a_sum : Edit → Bool
-moves_a_sum edit = moves_held edit || moves_line_flows edit || moves_volumes edit || moves_defaults edit
+moves_a_sum edit = moves_held edit || moves_line_flows edit || moves_volumes edit || moves_defaults edit || moves_components edit
 
 same_flows : (f g : Projection → ℕ) → ((projection : Projection) → f projection ≡ g projection) → (ps : List Projection) → map f ps ≡ map g ps
 same_flows f g same ps = ap (λ h. map h ps) (λ i projection. same projection i)
@@ -64,23 +65,41 @@ module _ (edit : Edit) (sheet : BalanceSheet) (sums : Sums) (are : AreSumsOf she
   defaults_stay : moves_defaults edit ≡ false → sums.defaults ≡ defaults_total (applied edit sheet)
   defaults_stay still = are.defaults ∙ sym (defaults-same edit sheet still)
 
+  components_stay : moves_components edit ≡ false → sums.components ≡ components_total (applied edit sheet)
+  components_stay still = are.components ∙ sym (components-same edit sheet still)
+
   pub sums-same : moves_a_sum edit ≡ false → in_use edit sheet ≡ None → AreSumsOf (applied edit sheet) sums
   sums-same still free =
-      let defaults = or_false (moves_held edit || moves_line_flows edit || moves_volumes edit) (moves_defaults edit) still in
+      let components = or_false (moves_held edit || moves_line_flows edit || moves_volumes edit || moves_defaults edit) (moves_components edit) still in
+      let defaults = or_false (moves_held edit || moves_line_flows edit || moves_volumes edit) (moves_defaults edit) components.0 in
       let volumes = or_false (moves_held edit || moves_line_flows edit) (moves_volumes edit) defaults.0 in
       let flows = or_false (moves_held edit) (moves_line_flows edit) volumes.0 in
-      record { held = held_stays flows.0 free; line_flows = flows_stay flows.1; nl = nl_stays volumes.1; nslt = nslt_stays volumes.1; defaults = defaults_stay defaults.1 }
+      record {
+        held = held_stays flows.0 free;
+        line_flows = flows_stay flows.1;
+        nl = nl_stays volumes.1;
+        nslt = nslt_stays volumes.1;
+        defaults = defaults_stay defaults.1;
+        components = components_stay components.1;
+      }
 
 -- ---- what is held
 
-module _ (name : List ℕ) (cents : ℤ) (sheet : BalanceSheet) (none : fault_of (edits.Hold name cents) sheet ≡ None) where
+-- what exists, and may be held, is a security or a fund
+pub right_holding : (name : List ℕ) (sheet : BalanceSheet) → unknown_row name sheet ≡ None → misplaced_holding name sheet ≡ None → (is_in tables.Security name sheet || is_in tables.Fund name sheet) ≡ true
+right_holding name sheet known none = by (is_named name sheet) (is_in tables.Security name sheet || is_in tables.Fund name sheet) (passed _ _ known) (failed _ _ none)
+  where
+    by : (named here : Bool) → named ≡ true → (named && not here) ≡ false → here ≡ true
+    by named true e h = refl
+    by true false e h = absurd (cc)
+    by false false e h = absurd (cc)
+
+module _ (name : List ℕ) (cents : ℤ) (sheet : BalanceSheet) (valid : Valid sheet) (none : fault_of (edits.Hold name cents) sheet ≡ None) where
   pub held-moved : held_total (applied (edits.Hold name cents) sheet) ≡ held_total sheet - held_of sheet name + natural cents
   held-moved =
       let p = passes (edits.Hold name cents) sheet none in
-      let row = row_there position_name name sheet.securities (right_table tables.Security name sheet p.known p.kind) in
-      let own : held_of sheet name ≡ row.0.held = ap (λ o. option_map_or (λ q. q.held) o 0) row.1 in
       let part = held-part name sheet in
-      let sum = held-hold name cents sheet row.0 row.1 in
+      let sum = held-hold name cents sheet (right_holding name sheet p.known p.kind) (in_one_table sheet valid name) in
       omega arith
 
   pub sums-hold : (sums : Sums) (held : ℕ) → AreSumsOf sheet sums → held ≡ sums.held - held_of sheet name + natural cents → AreSumsOf (applied (edits.Hold name cents) sheet) (record sums { held = held })
@@ -92,6 +111,7 @@ module _ (name : List ℕ) (cents : ℤ) (sheet : BalanceSheet) (none : fault_of
         nl = nl_stays edit sheet sums are refl;
         nslt = nslt_stays edit sheet sums are refl;
         defaults = defaults_stay edit sheet sums are refl;
+        components = components_stay edit sheet sums are refl;
       }
 
 -- ---- the flows of lines
@@ -227,6 +247,7 @@ module _ (line : List ℕ) (projection : Projection) (flows : List (Day × ℤ))
         nl = nl_stays edit sheet sums are refl;
         nslt = nslt_stays edit sheet sums are refl;
         defaults = defaults_stay edit sheet sums are refl;
+        components = components_stay edit sheet sums are refl;
       }
 
 -- a line that a record drops is there
@@ -252,6 +273,7 @@ module _ (line : List ℕ) (sheet : BalanceSheet) (l : Liability) (is : row_of l
         nl = nl_stays edit sheet sums are refl;
         nslt = nslt_stays edit sheet sums are refl;
         defaults = defaults_stay edit sheet sums are refl;
+        components = components_stay edit sheet sums are refl;
       }
 
 -- ---- volumes
@@ -269,21 +291,22 @@ module _ (set : Set) (number region : ℕ) (premium reserve : ℤ) (sheet : Bala
 
 pub sums-segment : (set : Set) (number region : ℕ) (premium reserve : ℤ) (sheet : BalanceSheet) (sums : Sums) (n : ℕ) → AreSumsOf sheet sums → n ≡ volumes_total set (applied (edits.Segment set number region premium reserve) sheet)
     → AreSumsOf (applied (edits.Segment set number region premium reserve) sheet) (with_volumes_sum set n sums)
-sums-segment sets.Nl number region premium reserve sheet sums n are is = record { held = are.held; line_flows = are.line_flows; nl = is; nslt = are.nslt; defaults = are.defaults }
-sums-segment sets.Nslt number region premium reserve sheet sums n are is = record { held = are.held; line_flows = are.line_flows; nl = are.nl; nslt = is; defaults = are.defaults }
+sums-segment sets.Nl number region premium reserve sheet sums n are is = record { held = are.held; line_flows = are.line_flows; nl = is; nslt = are.nslt; defaults = are.defaults; components = are.components }
+sums-segment sets.Nslt number region premium reserve sheet sums n are is = record { held = are.held; line_flows = are.line_flows; nl = are.nl; nslt = is; defaults = are.defaults; components = are.components }
 
 -- ---- exposures
 
 -- the sums with others than the old exposures
-sums-defaults : (edit : Edit) (sheet : BalanceSheet) (sums : Sums) (n : ℕ) → moves_held edit ≡ false → moves_line_flows edit ≡ false → moves_volumes edit ≡ false → in_use edit sheet ≡ None → AreSumsOf sheet sums → n ≡ defaults_total (applied edit sheet)
+sums-defaults : (edit : Edit) (sheet : BalanceSheet) (sums : Sums) (n : ℕ) → moves_held edit ≡ false → moves_line_flows edit ≡ false → moves_volumes edit ≡ false → moves_components edit ≡ false → in_use edit sheet ≡ None → AreSumsOf sheet sums → n ≡ defaults_total (applied edit sheet)
     → AreSumsOf (applied edit sheet) (record sums { defaults = n })
-sums-defaults edit sheet sums n held flows volumes free are is =
+sums-defaults edit sheet sums n held flows volumes components free are is =
     record {
       held = held_stays edit sheet sums are held free;
       line_flows = flows_stay edit sheet sums are flows;
       nl = nl_stays edit sheet sums are volumes;
       nslt = nslt_stays edit sheet sums are volumes;
       defaults = is;
+      components = components_stay edit sheet sums are components;
     }
 
 -- what stands for a bank or a reinsurer, 0 where there is none
@@ -299,7 +322,7 @@ sums-bank name group cents sheet sums n are is =
     let part = defaults-part_bank name sheet in
     let sum = defaults-bank name group cents sheet in
     let own = are.defaults in
-    sums-defaults (edits.Bank name group cents) sheet sums n refl refl refl refl are (omega arith)
+    sums-defaults (edits.Bank name group cents) sheet sums n refl refl refl refl refl are (omega arith)
 
 pub sums-rein : (name group : List ℕ) (recoverables mitigation collateral : ℤ) (sheet : BalanceSheet) (sums : Sums) (n : ℕ) → AreSumsOf sheet sums → n ≡ sums.defaults - rein_part name sheet + natural recoverables + natural mitigation
     → AreSumsOf (applied (edits.Rein name group recoverables mitigation collateral) sheet) (record sums { defaults = n })
@@ -307,16 +330,51 @@ sums-rein name group recoverables mitigation collateral sheet sums n are is =
     let part = defaults-part_rein name sheet in
     let sum = defaults-rein name group recoverables mitigation collateral sheet in
     let own = are.defaults in
-    sums-defaults (edits.Rein name group recoverables mitigation collateral) sheet sums n refl refl refl refl are (omega arith)
+    sums-defaults (edits.Rein name group recoverables mitigation collateral) sheet sums n refl refl refl refl refl are (omega arith)
 
 pub sums-drop_bank : (name : List ℕ) (sheet : BalanceSheet) (sums : Sums) (n : ℕ) → AreSumsOf sheet sums → n ≡ sums.defaults - bank_part name sheet → AreSumsOf (applied (edits.Remove tables.Bank name) sheet) (record sums { defaults = n })
 sums-drop_bank name sheet sums n are is =
     let sum = defaults-drop_bank name sheet in
     let own = are.defaults in
-    sums-defaults (edits.Remove tables.Bank name) sheet sums n refl refl refl refl are (omega arith)
+    sums-defaults (edits.Remove tables.Bank name) sheet sums n refl refl refl refl refl are (omega arith)
 
 pub sums-drop_rein : (name : List ℕ) (sheet : BalanceSheet) (sums : Sums) (n : ℕ) → AreSumsOf sheet sums → n ≡ sums.defaults - rein_part name sheet → AreSumsOf (applied (edits.Remove tables.Rein name) sheet) (record sums { defaults = n })
 sums-drop_rein name sheet sums n are is =
     let sum = defaults-drop_rein name sheet in
     let own = are.defaults in
-    sums-defaults (edits.Remove tables.Rein name) sheet sums n refl refl refl refl are (omega arith)
+    sums-defaults (edits.Remove tables.Rein name) sheet sums n refl refl refl refl refl are (omega arith)
+
+-- ---- the components of funds
+
+-- the sums with another number of components
+sums-components : (edit : Edit) (sheet : BalanceSheet) (sums : Sums) (n : ℕ) → moves_held edit ≡ false → moves_line_flows edit ≡ false → moves_volumes edit ≡ false → moves_defaults edit ≡ false → in_use edit sheet ≡ None → AreSumsOf sheet sums → n ≡ components_total (applied edit sheet)
+    → AreSumsOf (applied edit sheet) (record sums { components = n })
+sums-components edit sheet sums n held flows volumes defaults free are is =
+    record {
+      held = held_stays edit sheet sums are held free;
+      line_flows = flows_stay edit sheet sums are flows;
+      nl = nl_stays edit sheet sums are volumes;
+      nslt = nslt_stays edit sheet sums are volumes;
+      defaults = defaults_stay edit sheet sums are defaults;
+      components = is;
+    }
+
+-- how many components stand for a fund, 0 where there is none
+abbrev pub components_part : List ℕ → BalanceSheet → ℕ
+components_part name sheet = option_map_or stake_components (row_of stake_name name sheet.funds) 0
+
+pub sums-fund : (name : List ℕ) (components : List (List ℕ × ℤ)) (sheet : BalanceSheet) (sums : Sums) (n : ℕ) → AreSumsOf sheet sums → n ≡ sums.components - components_part name sheet + length components
+    → AreSumsOf (applied (edits.Fund name components) sheet) (record sums { components = n })
+sums-fund name components sheet sums n are is =
+    let part = components-part name sheet in
+    let sum = components-fund name components sheet in
+    let own = are.components in
+    sums-components (edits.Fund name components) sheet sums n refl refl refl refl refl are (omega arith)
+
+pub sums-drop_fund : (name : List ℕ) (sheet : BalanceSheet) (sums : Sums) (n : ℕ) → fault_of (edits.Remove tables.Fund name) sheet ≡ None → AreSumsOf sheet sums → n ≡ sums.components - components_part name sheet
+    → AreSumsOf (applied (edits.Remove tables.Fund name) sheet) (record sums { components = n })
+sums-drop_fund name sheet sums n none are is =
+    let edit : Edit = edits.Remove tables.Fund name in
+    let sum = components-drop name sheet in
+    let own = are.components in
+    sums-components edit sheet sums n refl refl refl refl (passes edit sheet none).free are (omega arith)

@@ -3,7 +3,7 @@ use Rattle.std.specs.Prelude.{◌≡◌, ℕ, ◌-◌, map, slice_index, slice_s
 use Rattle.scr_factors.specs.declared.set.Set.{Set}
 use Rattle.scr_factors.specs.declared.set.Set.TheVariants as sets
 use Rattle.scr_sheet.specs.CashFlows.{total, flows_under, all_projections}
-use Rattle.scr_sheet.specs.BalanceSheet.{BalanceSheet, held_total, line_flows_total, volumes_total, defaults_total}
+use Rattle.scr_sheet.specs.BalanceSheet.{BalanceSheet, held_total, line_flows_total, volumes_total, defaults_total, components_total}
 use Rattle.scr_sheet.specs.declared.keys.Projection.{Projection}
 use Rattle.scr_sheet.specs.declared.keys.Projection.TheVariants as projections
 use Rattle.scr_sheet.specs.declared.rows.LineFlows.{LineFlows}
@@ -48,3 +48,4 @@ pub record AreSumsOf (sheet : BalanceSheet) (sums : Sums) : Type 0 where
   pub nl : sums.nl ≡ volumes_total sets.Nl sheet
   pub nslt : sums.nslt ≡ volumes_total sets.Nslt sheet
   pub defaults : sums.defaults ≡ defaults_total sheet
+  pub components : sums.components ≡ components_total sheet

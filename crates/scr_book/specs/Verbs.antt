@@ -2,6 +2,7 @@
 use Rattle.std.specs.Prelude.{Bool, true, false}
 use Rattle.scr_sheet.specs.declared.edit.Edit.{Edit}
 use Rattle.scr_sheet.specs.declared.edit.Edit.TheVariants as edits
+use Rattle.scr_sheet.specs.declared.keys.Table.TheVariants as tables
 
 -- the records that change the single numbers alone, and none of the sums that a book keeps
 abbrev pub is_of_numbers : Edit → Bool
@@ -16,12 +17,21 @@ is_of_numbers (edits.Fdb cents) = true
 is_of_numbers (edits.Intangible cents) = true
 is_of_numbers edit = false
 
+-- the records that make or change a fund, or make a security
+abbrev pub is_of_graph : Edit → Bool
+is_of_graph (edits.Fund name components) = true
+is_of_graph (edits.Security name class group currency duration) = true
+is_of_graph (edits.Remove tables.Fund name) = true
+is_of_graph (edits.Remove table name) = false
+is_of_graph edit = false
+
 -- the records that neither make a row nor hand in a list
 abbrev pub takes_no_memory : Edit → Bool
 takes_no_memory (edits.Curve currency rates) = false
 takes_no_memory (edits.Group name kind step) = false
 takes_no_memory (edits.Security name class group currency duration) = false
 takes_no_memory (edits.Flows security flows) = false
+takes_no_memory (edits.Fund name components) = false
 takes_no_memory (edits.Line name kind currency) = false
 takes_no_memory (edits.LineFlows line projection flows) = false
 takes_no_memory (edits.Rein name group recoverables mitigation collateral) = false

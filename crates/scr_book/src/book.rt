@@ -1,8 +1,8 @@
 //! The book as it is kept.
 ghost use Rattle.std.specs.Prelude.{◌≡◌, ◌<◌, ◌↔◌, length, map, slice_get, Some, IsNone, IfOk, OnOk, OnErr, IfSome, IsTrue, false};
-ghost use Rattle.std.specs.Option.{option_map, option_copied};
+ghost use Rattle.std.specs.Option.{option_map, option_map_or, option_copied};
 ghost use Rattle.scr_sheet.specs.Tables.{row_of};
-ghost use Rattle.scr_sheet.specs.BalanceSheet.{opening, group_name, position_name, line_name, bank_name, rein_name, curve_name, is_in, is_named, held_of, held_total, line_flows_total, volumes_total, defaults_total};
+ghost use Rattle.scr_sheet.specs.BalanceSheet.{opening, position_of, stake_of, group_name, position_name, line_name, bank_name, rein_name, curve_name, stake_name, is_in, is_named, held_of, held_total, line_flows_total, volumes_total, defaults_total, components_total};
 ghost use Rattle.scr_sheet.specs.Records.{applied};
 ghost use Rattle.scr_sheet.specs.Faults.{fault_of, Answers};
 ghost use Rattle.scr_sheet.specs.Forms.{Formed};
@@ -12,10 +12,11 @@ ghost use Rattle.scr_book.specs.Places.{names_in, shares_names};
 use crate::checks::check;
 use crate::sums::{Sums, place_of};
 use crate::{
-    Bank, Curve, Edit, Fault, Group, Liability, Name, Numbers, Position, Projection, Rein,
-    Security, Table, opening,
+    Bank, Curve, Edit, Fault, Fund, Group, Liability, Name, Numbers, Position, Projection, Rein,
+    Security, Stake, Table, opening,
 };
 use scr_factors::Set;
+use scr_graph::FundGraph;
 use scr_sheet::Rows;
 use std::alloc::{AllocError as NoMemory, Global};
 use std::marker::Model;
@@ -25,12 +26,14 @@ use std::marker::Model;
 pub struct Book {
     pub(crate) groups: Rows<Group>,
     pub(crate) securities: Rows<Position>,
+    pub(crate) funds: Rows<Stake>,
     pub(crate) lines: Rows<Liability>,
     pub(crate) banks: Rows<Bank>,
     pub(crate) reinsurers: Rows<Rein>,
     pub(crate) curves: Rows<Curve>,
     pub(crate) numbers: Numbers,
     pub(crate) sums: Sums,
+    pub(crate) graph: FundGraph,
 }
 
 impl Model for Book {
@@ -50,11 +53,13 @@ impl Book {
     pub fn new(alloc: Global) -> Result<Book, NoMemory>
         ensures { IfOk result (λ book. book ≡ opening) }
     {
+        let graph = FundGraph::new(alloc)?;
         let mut curves = Rows::new(alloc);
         curves.put(opening::curve(alloc)?)?;
         Ok(Book {
             groups: Rows::new(alloc),
             securities: Rows::new(alloc),
+            funds: Rows::new(alloc),
             lines: Rows::new(alloc),
             banks: Rows::new(alloc),
             reinsurers: Rows::new(alloc),
@@ -66,7 +71,9 @@ impl Book {
                 nl: 0,
                 nslt: 0,
                 defaults: 0,
+                components: 0,
             },
+            graph,
         })
     }
 
@@ -116,6 +123,22 @@ impl Book {
         ensures { option_map (λ p. p.security) (slice_get self.now.securities k) ≡ Some result.now }
     {
         &self.securities.at(k as usize).security
+    }
+
+    /// The number of funds.
+    pub fn funds(&self) -> u32
+        ensures count { result ≡ length self.now.funds }
+        ensures valid { Valid self.now }
+    {
+        self.funds.len() as u32
+    }
+
+    /// The fund at place `k`, in the order in which the names first came.
+    pub fn fund(&self, k: u32) -> &Fund
+        requires { k < length self.now.funds }
+        ensures { option_map (λ s. s.fund) (slice_get self.now.funds k) ≡ Some result.now }
+    {
+        &self.funds.at(k as usize).fund
     }
 
     /// The number of lines.
@@ -182,8 +205,8 @@ impl Book {
         self.curves.at(k as usize)
     }
 
-    /// The table and the place of the name, among the five tables that share one set of names; a currency is not
-    /// looked for. None exactly where none of the five has the name.
+    /// The table and the place of the name, among the six tables that share one set of names; a currency is not
+    /// looked for. None exactly where none of the six has the name.
     pub fn find(&self, name: &Name) -> Option<(Table, u32)>
         ensures found { IfSome result (λ at. slice_get (names_in at.0 self.now) at.1 ≡ Some name.now) }
         ensures shared { IfSome result (λ at. IsTrue (shares_names at.0)) }
@@ -201,18 +224,18 @@ impl Book {
         if let Some(k) = self.banks.place(name) {
             return Some((Table::Bank, k as u32));
         }
-        let k = self.reinsurers.place(name)?;
-        Some((Table::Rein, k as u32))
+        if let Some(k) = self.reinsurers.place(name) {
+            return Some((Table::Rein, k as u32));
+        }
+        let k = self.funds.place(name)?;
+        Some((Table::Fund, k as u32))
     }
 
-    /// The cents held directly under the name, 0 where nothing is held.
+    /// The cents held directly of the security or the fund of this name, 0 where nothing is held.
     pub fn held(&self, name: &Name) -> u64
         ensures { result ≡ held_of self.now name.now }
     {
-        match self.securities.get(name) {
-            Some(position) => position.held,
-            None => 0,
-        }
+        self.security_hold(name) + self.fund_hold(name)
     }
 
     /// The amounts that stand in no row, the reference date and the reporting currency.
@@ -237,6 +260,13 @@ impl Book {
         ensures valid { Valid self.now }
     {
         &self.securities
+    }
+
+    pub(crate) fn fund_rows(&self) -> &Rows<Stake>
+        ensures rows { result.now ≡ self.now.funds }
+        ensures valid { Valid self.now }
+    {
+        &self.funds
     }
 
     pub(crate) fn line_rows(&self) -> &Rows<Liability>
@@ -311,6 +341,34 @@ impl Book {
         self.curves.get(currency)
     }
 
+    pub(crate) fn fund_row(&self, name: &Name) -> Option<&Stake>
+        ensures found { option_copied result ≡ row_of stake_name name.now self.now.funds }
+        ensures valid { Valid self.now }
+    {
+        self.funds.get(name)
+    }
+
+    // The cents held of a security, and those held of a fund.
+    fn security_hold(&self, name: &Name) -> u64
+        ensures held { result ≡ option_map_or (λ p. p.held) (position_of name.now self.now.securities) 0 }
+        ensures valid { Valid self.now }
+    {
+        match self.securities.get(name) {
+            Some(position) => position.held,
+            None => 0,
+        }
+    }
+
+    pub(crate) fn fund_hold(&self, name: &Name) -> u64
+        ensures held { result ≡ option_map_or (λ s. s.held) (stake_of name.now self.now.funds) 0 }
+        ensures valid { Valid self.now }
+    {
+        match self.funds.get(name) {
+            Some(stake) => stake.held,
+            None => 0,
+        }
+    }
+
     // The name stands in this table.
     pub(crate) fn has(&self, table: Table, name: &Name) -> bool
         ensures { result ≡ is_in table name.now self.now }
@@ -318,6 +376,7 @@ impl Book {
         match table {
             Table::Group => self.groups.contains(name),
             Table::Security => self.securities.contains(name),
+            Table::Fund => self.funds.contains(name),
             Table::Line => self.lines.contains(name),
             Table::Bank => self.banks.contains(name),
             Table::Rein => self.reinsurers.contains(name),
@@ -334,6 +393,7 @@ impl Book {
             || self.has(Table::Line, name)
             || self.has(Table::Bank, name)
             || self.has(Table::Rein, name)
+            || self.has(Table::Fund, name)
     }
 
     // All cents held directly.
@@ -361,6 +421,14 @@ impl Book {
             Set::Nl => self.sums.nl,
             Set::Nslt => self.sums.nslt,
         }
+    }
+
+    // The components of all funds, counted.
+    pub(crate) fn components_total(&self) -> u64
+        ensures total { result ≡ components_total self.now }
+        ensures valid { Valid self.now }
+    {
+        self.sums.components
     }
 
     // The exposures to banks and reinsurers, in cents.

@@ -1,26 +1,27 @@
 //! Whether a record may be applied.
-ghost use Rattle.std.specs.Prelude.{◌≡◌, ◌+◌, ◌*◌, ◌<◌, ◌^◌, true, Some, None, if◌then◌else◌};
+ghost use Rattle.std.specs.Prelude.{◌≡◌, ◌+◌, ◌*◌, ◌<◌, ◌^◌, true, [], Some, None, if◌then◌else◌};
 ghost use Rattle.std.specs.Option.{option_or, option_map_or};
 ghost use Rattle.scr_sheet.specs.Tables.{row_of};
 ghost use Rattle.scr_sheet.specs.CashFlows.{suits};
 ghost use Rattle.scr_sheet.specs.BalanceSheet.{line_name};
-ghost use Rattle.scr_sheet.specs.Faults.{too_long, rates_fault, list_fault, unknown_row, unknown_currency, unknown_group, unknown_in_key, unknown_in_table, unknown_name, misplaced, misplaced_group, misplaced_drop, lacking, wrong_kind, in_use, fault_of, Answers};
+ghost use Rattle.scr_sheet.specs.Faults.{too_long, rates_fault, list_fault, unknown_row, unknown_currency, unknown_group, unknown_in_key, unknown_in_table, unknown_name, misplaced, misplaced_group, misplaced_drop, lacking, wrong_kind, in_use, components_fault, unknown_component, misplaced_holding, misplaced_component, first_fault, cycle, fault_of, Answers};
 ghost use Rattle.scr_sheet.specs.Forms.{Formed};
 
 use crate::ranges::check_ranges;
 use crate::users::user_of;
 use crate::{
-    AbsorbKey, Book, Edit, Fault, LineKind, MAX_FLOWS, MAX_RATES, Name, Projection, Rates, Table,
-    User,
+    AbsorbKey, Book, Components, Edit, Fault, LineKind, MAX_FLOWS, MAX_FUND_COMPONENTS, MAX_RATES,
+    Name, Projection, Rates, Table, User,
 };
+use indexmap::IndexMap;
 use std::alloc::Global;
 
 /// The first fault of the record in the book, or none.
-pub fn check(_alloc: Global, book: &Book, edit: &Edit) -> Result<(), Fault>
+pub fn check(alloc: Global, book: &Book, edit: &Edit) -> Result<(), Fault>
     requires { Formed edit.now }
     ensures { Answers (fault_of edit.now book.now) result }
 {
-    if let Err(fault) = check_lists(edit) {
+    if let Err(fault) = check_lists(alloc, edit) {
         return Err(fault);
     }
     if let Err(fault) = check_names(book, edit) {
@@ -32,17 +33,21 @@ pub fn check(_alloc: Global, book: &Book, edit: &Edit) -> Result<(), Fault>
     if let Err(fault) = check_uses(book, edit) {
         return Err(fault);
     }
+    if let Err(fault) = check_cycle(alloc, book, edit) {
+        return Err(fault);
+    }
     check_ranges(book, edit)
 }
 
 // ---- the length of a list
 
-fn check_lists(edit: &Edit) -> Result<(), Fault>
+fn check_lists(alloc: Global, edit: &Edit) -> Result<(), Fault>
     ensures { Answers (list_fault edit.now) result }
 {
     match edit {
         Edit::Curve { rates, .. } => check_rates(rates),
         Edit::Flows { flows, .. } => check_length(2, 2, MAX_FLOWS, flows.as_slice().len()),
+        Edit::Fund { components, .. } => check_components(alloc, components.as_slice()),
         Edit::LineFlows { flows, .. } => check_length(3, 2, MAX_FLOWS, flows.as_slice().len()),
         _ => Ok(()),
     }
@@ -55,6 +60,25 @@ fn check_rates(rates: &Rates) -> Result<(), Fault>
         return Err(Fault::Syntax(2));
     }
     check_length(2, 1, MAX_RATES, rates.as_slice().len())
+}
+
+// No component comes twice, and there are not too many.
+fn check_components(alloc: Global, components: &[(Name, i64)]) -> Result<(), Fault>
+    ensures { Answers (components_fault 2 MAX_FUND_COMPONENTS [] components.now) result }
+{
+    let mut met = IndexMap::new(alloc);
+    let mut field = 2;
+    for (name, _) in components {
+        if field == 2 + 2 * MAX_FUND_COMPONENTS || met.contains_key(name) {
+            return Err(Fault::Syntax(field));
+        }
+        match met.insert(*name, ()) {
+            Ok(_) => {}
+            Err(_) => return Err(Fault::NoMemory),
+        }
+        field += 2;
+    }
+    Ok(())
 }
 
 // The list's first field has this number, and each member has so many fields.
@@ -85,6 +109,7 @@ fn check_names(book: &Book, edit: &Edit) -> Result<(), Fault>
         | Edit::LineFlows { line: name, .. }
         | Edit::Rein { group: name, .. }
         | Edit::Bank { group: name, .. } => known_row(book, name),
+        Edit::Fund { name, components } => known_components(book, name, components.as_slice()),
         Edit::Absorb { key, .. } => known_key(book, key),
         Edit::Remove { table, name } => known_in_table(book, *table, name),
         _ => Ok(()),
@@ -139,6 +164,18 @@ fn known_key(book: &Book, key: &AbsorbKey) -> Result<(), Fault>
     }
 }
 
+// A fund's own name counts as existing.
+fn known_components(book: &Book, fund: &Name, components: &[(Name, i64)]) -> Result<(), Fault>
+    ensures { Answers (first_fault (unknown_component fund.now book.now) components.now) result }
+{
+    for (name, _) in components {
+        if *name != *fund && !book.is_named(name) {
+            return Err(Fault::UnknownName(*name));
+        }
+    }
+    Ok(())
+}
+
 fn known_in_table(book: &Book, table: Table, name: &Name) -> Result<(), Fault>
     ensures { Answers (unknown_in_table table name.now book.now) result }
 {
@@ -157,7 +194,8 @@ fn check_kinds(book: &Book, edit: &Edit) -> Result<(), Fault>
         Edit::Group { name, .. } => only_in(book, Table::Group, name),
         Edit::Security { name, group, .. } => only_a_security(book, name, group),
         Edit::Flows { security, .. } => only_in(book, Table::Security, security),
-        Edit::Hold { name, .. } => only_in(book, Table::Security, name),
+        Edit::Fund { name, components } => only_a_fund(book, name, components.as_slice()),
+        Edit::Hold { name, .. } => only_a_holding(book, name),
         Edit::Line { name, .. } => only_in(book, Table::Line, name),
         Edit::LineFlows {
             line,
@@ -188,6 +226,40 @@ fn only_a_security(book: &Book, name: &Name, group: &Option<Name>) -> Result<(),
         return Err(fault);
     }
     only_a_group(book, group)
+}
+
+// A security or a fund, where the name stands in a table at all.
+fn only_a_holding(book: &Book, name: &Name) -> Result<(), Fault>
+    ensures { Answers (misplaced_holding name.now book.now) result }
+{
+    if book.is_named(name) && !book.has(Table::Security, name) && !book.has(Table::Fund, name) {
+        return Err(Fault::WrongKind(*name));
+    }
+    Ok(())
+}
+
+fn only_a_fund(book: &Book, name: &Name, components: &[(Name, i64)]) -> Result<(), Fault>
+    ensures { Answers (option_or (misplaced (Table.Fund) name.now book.now) (first_fault (misplaced_component name.now book.now) components.now)) result }
+{
+    if let Err(fault) = only_in(book, Table::Fund, name) {
+        return Err(fault);
+    }
+    only_holdings(book, name, components)
+}
+
+// A fund's own name counts as a fund.
+fn only_holdings(book: &Book, fund: &Name, components: &[(Name, i64)]) -> Result<(), Fault>
+    ensures { Answers (first_fault (misplaced_component fund.now book.now) components.now) result }
+{
+    for (name, _) in components {
+        if *name == *fund {
+            continue;
+        }
+        if let Err(fault) = only_a_holding(book, name) {
+            return Err(fault);
+        }
+    }
+    Ok(())
 }
 
 fn only_a_line(book: &Book, line: &Name, projection: Projection) -> Result<(), Fault>
@@ -259,4 +331,25 @@ fn suits_flows(book: &Book, line: &Name, kind: LineKind) -> Result<(), Fault>
         Some(row) if !kind.suits(&row.flows) => Err(Fault::InUse(*line, User::Lflow)),
         _ => Ok(()),
     }
+}
+
+// ---- no fund holds itself
+
+fn check_cycle(alloc: Global, book: &Book, edit: &Edit) -> Result<(), Fault>
+    requires known { unknown_name edit.now book.now ≡ None }
+    requires kind { wrong_kind edit.now book.now ≡ None }
+    ensures { Answers (cycle edit.now book.now) result }
+{
+    match edit {
+        Edit::Fund { name, components } => no_cycle(alloc, book, name, components),
+        _ => Ok(()),
+    }
+}
+
+fn no_cycle(alloc: Global, book: &Book, name: &Name, components: &Components) -> Result<(), Fault>
+    requires known { unknown_name (Edit.Fund name.now components.now) book.now ≡ None }
+    requires kind { wrong_kind (Edit.Fund name.now components.now) book.now ≡ None }
+    ensures { Answers (cycle (Edit.Fund name.now components.now) book.now) result }
+{
+    book.graph.check(alloc, name, components.as_slice())
 }

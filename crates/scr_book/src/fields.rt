@@ -1,11 +1,11 @@
 //! The quantities that a record gives itself.
 ghost use Rattle.std.specs.Prelude.{◌≡◌, ◌^◌, ◌<◌, [], ◌∷◌};
 ghost use Rattle.std.specs.Option.{option_or};
-ghost use Rattle.scr_sheet.specs.Faults.{outside, above, below_zero, outside_amounts, outside_provisions, first_fault, fields_outside};
+ghost use Rattle.scr_sheet.specs.Faults.{outside, above, below_zero, outside_amounts, outside_provisions, outside_weight, first_fault, fields_outside};
 
 use crate::{
     Edit, Fault, Flows, MAX_AMOUNT, MAX_DURATION, MAX_PROMISED, MAX_RATE, MAX_SYM, MAX_TAX,
-    MIN_RATE, Quantity,
+    MAX_WEIGHT, MIN_RATE, MIN_WEIGHT, Name, Quantity,
 };
 
 // The greatest amount and the greatest payment of a security, as numbers of a record.
@@ -22,6 +22,7 @@ pub(crate) fn fields_outside(edit: &Edit) -> Option<Fault>
             first_outside(Quantity::Rate, MIN_RATE, MAX_RATE, rates.as_slice())
         }
         Edit::Security { duration, .. } => outside(Quantity::Duration, 0, MAX_DURATION, duration),
+        Edit::Fund { ref components, .. } => outside_weights(components.as_slice()),
         Edit::Flows { ref flows, .. } => outside_promise(flows),
         Edit::Hold { cents, .. } => below_zero(cents),
         Edit::Absorb { cents, .. }
@@ -62,6 +63,18 @@ pub(crate) fn fields_outside(edit: &Edit) -> Option<Fault>
         | Edit::LineFlows { .. }
         | Edit::Remove { .. } => None,
     }
+}
+
+fn outside_weights(components: &[(Name, i64)]) -> Option<Fault>
+    ensures { result ≡ first_fault outside_weight components.now }
+{
+    for (_, weight) in components {
+        let fault = outside(Quantity::Weight, MIN_WEIGHT, MAX_WEIGHT, *weight);
+        if fault.is_some() {
+            return fault;
+        }
+    }
+    None
 }
 
 fn outside_promise(flows: &Flows) -> Option<Fault>

@@ -1,8 +1,8 @@
 //! What a record without a fault makes of the book. All memory is taken before the first change, and each sum moves by
 //! what goes out and what comes in.
-ghost use Rattle.std.specs.Prelude.{◌≡◌, ◌+◌, None, true, OnOk, OnErr};
+ghost use Rattle.std.specs.Prelude.{◌≡◌, ◌+◌, None, length, true, OnOk, OnErr};
 ghost use Rattle.std.specs.Option.{option_map_or};
-ghost use Rattle.scr_sheet.specs.BalanceSheet.{line_name, bank_name, rein_name, curve_name};
+ghost use Rattle.scr_sheet.specs.BalanceSheet.{stake_name, line_name, bank_name, rein_name, curve_name};
 ghost use Rattle.scr_sheet.specs.CashFlows.{total, flows_under};
 ghost use Rattle.scr_sheet.specs.Faults.{fault_of};
 ghost use Rattle.scr_sheet.specs.Forms.{Formed};
@@ -11,8 +11,9 @@ ghost use Rattle.scr_sheet.specs.Tables.{row_of};
 ghost use Rattle.scr_book.specs.Verbs.{is_of_numbers, takes_no_memory};
 
 use crate::{
-    AbsorbKey, Bank, Book, Class, Curve, Edit, Flows, Group, GroupKind, Liability, LineFlows,
-    LineKind, Name, Position, Projection, Rates, Rein, Security, Table,
+    AbsorbKey, Bank, Book, Class, Components, Curve, Edit, Flows, Fund, Group, GroupKind,
+    Liability, LineFlows, LineKind, Name, Position, Projection, Rates, Rein, Security, Stake,
+    Table,
 };
 use scr_factors::Set;
 use scr_sheet::natural;
@@ -37,6 +38,7 @@ impl Book {
                 duration,
             } => self.put_security(alloc, name, *class, *group, currency, *duration),
             Edit::Flows { security, flows } => self.put_promise(alloc, security, flows),
+            Edit::Fund { name, components } => self.put_fund(alloc, name, components),
             Edit::Line {
                 name,
                 kind,
@@ -149,6 +151,7 @@ impl Book {
             });
             return Ok(());
         }
+        self.graph.enter(*name)?;
         let security = Security {
             name: *name,
             class,
@@ -173,6 +176,35 @@ impl Book {
         Ok(())
     }
 
+    fn put_fund(
+        &mut self,
+        alloc: Global,
+        name: &Name,
+        components: &Components,
+    ) -> Result<(), NoMemory>
+        requires formed { Formed (Edit.Fund name.now components.now) }
+        requires no_fault { fault_of (Edit.Fund name.now components.now) self.old ≡ None }
+        ensures ok { OnOk result (self.new ≡ applied (Edit.Fund name.now components.now) self.old) }
+        ensures err { OnErr result (self.new ≡ self.old) }
+    {
+        let components = components.copy(alloc)?;
+        let new = components.as_slice().len() as u64;
+        let old = self.component_count(name);
+        let held = self.fund_hold(name);
+        self.graph.enter(*name)?;
+        self.graph.put(alloc, name, components.as_slice())?;
+        let fund = Fund {
+            name: *name,
+            components,
+        };
+        let Ok(()) = self.funds.put(Stake { fund, held }) else {
+            self.graph.clear(name);
+            return Err(NoMemory);
+        };
+        self.sums.components = self.sums.components - old + new;
+        Ok(())
+    }
+
     fn put_held(&mut self, name: &Name, cents: i64)
         requires formed { Formed (Edit.Hold name.now cents) }
         requires no_fault { fault_of (Edit.Hold name.now cents) self.old ≡ None }
@@ -181,6 +213,7 @@ impl Book {
         let old = self.held(name);
         let new = natural(cents);
         self.securities.change(name, |position| position.held = new);
+        self.funds.change(name, |stake| stake.held = new);
         self.sums.held = self.sums.held - old + new;
     }
 
@@ -317,11 +350,23 @@ impl Book {
         match table {
             Table::Group => self.groups.remove(name),
             Table::Security => self.securities.remove(name),
+            Table::Fund => self.remove_fund(name),
             Table::Line => self.remove_line(name),
             Table::Bank => self.remove_bank(name),
             Table::Rein => self.remove_rein(name),
             Table::Curve => self.curves.remove(name),
         }
+    }
+
+    fn remove_fund(&mut self, name: &Name)
+        requires formed { Formed (Edit.Remove Table.Fund name.now) }
+        requires no_fault { fault_of (Edit.Remove Table.Fund name.now) self.old ≡ None }
+        ensures { self.new ≡ applied (Edit.Remove Table.Fund name.now) self.old }
+    {
+        let old = self.component_count(name);
+        self.graph.clear(name);
+        self.funds.remove(name);
+        self.sums.components -= old;
     }
 
     fn remove_line(&mut self, name: &Name)
@@ -354,6 +399,17 @@ impl Book {
         let old = self.rein_total(name);
         self.reinsurers.remove(name);
         self.sums.defaults -= old;
+    }
+
+    // The number of components of the fund of this name, 0 where there is none.
+    fn component_count(&self, name: &Name) -> u64
+        ensures { result
+            ≡ option_map_or (λ s. length s.fund.components) (row_of stake_name name.now self.now.funds) 0 }
+    {
+        match self.fund_row(name) {
+            Some(stake) => stake.fund.components.as_slice().len() as u64,
+            None => 0,
+        }
     }
 
     // The absorptions of a currency, 0 where it has no curve yet.

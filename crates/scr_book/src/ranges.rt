@@ -6,7 +6,7 @@ ghost use Rattle.scr_dates.specs.Civil.{IsDay};
 ghost use Rattle.scr_sheet.specs.Tables.{row_of};
 ghost use Rattle.scr_sheet.specs.CashFlows as cash;
 ghost use Rattle.scr_sheet.specs.CashFlows.{greatest_years, flows_under};
-ghost use Rattle.scr_sheet.specs.BalanceSheet.{group_name, position_name, line_name, bank_name, rein_name, curve_name, held_of, held_total, line_flows_total, volumes_total, defaults_total, greatest, security_years, line_years};
+ghost use Rattle.scr_sheet.specs.BalanceSheet.{group_name, position_name, line_name, bank_name, rein_name, curve_name, held_of, held_total, line_flows_total, volumes_total, defaults_total, components_total, stake_name, greatest, security_years, line_years};
 ghost use Rattle.scr_sheet.specs.Faults.{Answers, list_fault, unknown_name, wrong_kind, in_use, out_of_range, sheet_outside, above};
 ghost use Rattle.scr_sheet.specs.Forms.{Formed, AreOnDays};
 ghost use Rattle.scr_sheet.specs.Records.{applied, natural};
@@ -15,9 +15,9 @@ ghost use Rattle.scr_book.specs.Counts.{rows_with};
 
 use crate::fields::{above, fields_outside, first_of};
 use crate::{
-    Book, Edit, Fault, Flows, Liability, MAX_AMOUNT, MAX_CURRENCIES, MAX_EXPOSURES, MAX_GROUPS,
-    MAX_HELD, MAX_LINE_FLOWS, MAX_LINES, MAX_SECURITIES, MAX_YEARS, Name, Position, Projection,
-    Quantity, Table,
+    Book, Components, Edit, Fault, Flows, Liability, MAX_AMOUNT, MAX_COMPONENTS, MAX_CURRENCIES,
+    MAX_EXPOSURES, MAX_FUNDS, MAX_GROUPS, MAX_HELD, MAX_LINE_FLOWS, MAX_LINES, MAX_SECURITIES,
+    MAX_YEARS, Name, Position, Projection, Quantity, Table,
 };
 use scr_dates::{Day, Maturity, maturity};
 use scr_factors::Set;
@@ -54,6 +54,10 @@ fn sheet_outside(book: &Book, edit: &Edit) -> Option<Fault>
         Edit::Curve { currency, .. } => outside_currencies(book, &currency),
         Edit::Group { name, .. } => outside_groups(book, &name),
         Edit::Security { name, .. } => outside_securities(book, &name),
+        Edit::Fund {
+            name,
+            ref components,
+        } => outside_funds(book, &name, components),
         Edit::Line { name, .. } => outside_lines(book, &name),
         Edit::Flows { ref flows, .. } => outside_years(years(asof, flows.as_slice())),
         Edit::Hold { name, cents } => outside_held(book, &name, cents),
@@ -126,6 +130,36 @@ fn outside_securities(book: &Book, name: &Name) -> Option<Fault>
         is_there,
         MAX_SECURITIES,
     )
+}
+
+fn outside_funds(book: &Book, name: &Name, components: &Components) -> Option<Fault>
+    ensures { result ≡ option_or
+        (above Quantity.Funds (rows_with stake_name name.now book.now.funds) MAX_FUNDS)
+        (above Quantity.Components
+        (components_total book.now
+        - option_map_or (λ s. length s.fund.components) (row_of stake_name name.now book.now.funds) 0
+        + length components.now) MAX_COMPONENTS) }
+{
+    let is_there = book.has(Table::Fund, name);
+    let funds = outside_count(Quantity::Funds, book.funds(), is_there, MAX_FUNDS);
+    let others = book.components_total() - component_count(book, name);
+    let total = u128::from(others) + components.as_slice().len() as u128;
+    first_of(
+        funds,
+        above(Quantity::Components, total, u64::from(MAX_COMPONENTS)),
+    )
+}
+
+// The number of components of the fund of this name, 0 where there is none.
+fn component_count(book: &Book, name: &Name) -> u64
+    ensures value { result
+        ≡ option_map_or (λ s. length s.fund.components) (row_of stake_name name.now book.now.funds) 0 }
+    ensures part { result ≤ components_total book.now }
+{
+    match book.fund_row(name) {
+        Some(stake) => stake.fund.components.as_slice().len() as u64,
+        None => 0,
+    }
 }
 
 fn outside_lines(book: &Book, name: &Name) -> Option<Fault>

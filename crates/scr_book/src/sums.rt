@@ -19,6 +19,8 @@ pub(crate) struct Sums {
     pub(crate) nslt: u64,
     /// What banks hold, and the recoverables and risk-mitigating effects of reinsurers.
     pub(crate) defaults: u64,
+    /// The components of all funds, counted.
+    pub(crate) components: u64,
 }
 
 // The place of a projection among the sums of flows.

@@ -1,10 +1,10 @@
 //! Each call succeeds where memory is ample, and the readers show what the records left.
-ghost use Rattle.std.specs.Prelude.{◌≡◌};
+ghost use Rattle.std.specs.Prelude.{◌≡◌, IfOk};
 ghost use Rattle.scr_sheet.specs.Forms.{Formed, IsNumber, IsName, IsCurrency};
 
 use crate::{
-    Book, Class, Edit, Fault, GroupKind, LineKind, MAX_HELD, Name, Quantity, Table, User, check,
-    opening,
+    Book, Class, Components, Edit, Fault, GroupKind, LineKind, MAX_HELD, Name, Quantity, Table,
+    User, check, opening,
 };
 use std::alloc::{AllocError as NoMemory, Global};
 use std::process::Abort;
@@ -85,6 +85,24 @@ fn rein(name: Name, group: Name) -> Edit
     }
 }
 
+// A fund of two components.
+fn fund(
+    alloc: Global,
+    name: Name,
+    first: (Name, i64),
+    second: (Name, i64),
+) -> Result<Edit, NoMemory>
+    requires named { IsName name }
+    requires first { IsName first.0 × IsNumber first.1 }
+    requires second { IsName second.0 × IsNumber second.1 }
+    ensures { IfOk result (λ edit. Formed edit) }
+{
+    Ok(Edit::Fund {
+        name,
+        components: Components::new(vec![in alloc; first, second]?),
+    })
+}
+
 fn remove(table: Table, name: Name) -> Edit
     requires { IsName name }
     ensures { Formed result }
@@ -105,6 +123,22 @@ fn is_taken(answer: Result<(), Fault>) -> bool {
         Ok(()) => true,
         Err(_) => false,
     }
+}
+
+fn put_fund(
+    rt: &(impl Abort + AllocGlobal),
+    book: &mut Book,
+    name: Name,
+    first: (Name, i64),
+    second: (Name, i64),
+) -> Result<(), NoMemory>
+    requires named { IsName name }
+    requires first { IsName first.0 × IsNumber first.1 }
+    requires second { IsName second.0 × IsNumber second.1 }
+{
+    let edit = fund(rt.alloc(), name, first, second)?;
+    put(rt, book, &edit);
+    Ok(())
 }
 
 // `check` and `apply` refuse the record for this fault.
@@ -132,6 +166,11 @@ fn shown(alloc: Global, book: &Book) -> Result<String, NoMemory> {
         let security = book.security(k);
         let (held, place) = (book.held(&security.name), book.find(&security.name));
         text.push_str(format!(in alloc; "{security:?}{held}{place:?}")?.as_str())?;
+    }
+    for k in 0..book.funds() {
+        let fund = book.fund(k);
+        let (held, place) = (book.held(&fund.name), book.find(&fund.name));
+        text.push_str(format!(in alloc; "{fund:?}{held}{place:?}")?.as_str())?;
     }
     for k in 0..book.lines() {
         text.push_str(format!(in alloc; "{:?}", book.line(k))?.as_str())?;
@@ -162,7 +201,7 @@ fn the_opening_book_has_the_euro_alone(rt: HostRuntime) -> Result<(), Fail> {
 
 fn show_the_euro(rt: &impl Abort, book: &Book) {
     assert_eq!(rt; (book.groups(), book.securities(), book.lines()), (0, 0, 0));
-    assert_eq!(rt; (book.banks(), book.reinsurers()), (0, 0));
+    assert_eq!(rt; (book.banks(), book.reinsurers(), book.funds()), (0, 0, 0));
     assert_eq!(rt; book.curves(), 1);
     assert_eq!(rt; book.curve(0).currency.as_bytes(), b"EUR".as_slice());
     assert_eq!(rt; book.curve(0).rates.as_slice(), [0].as_slice());
@@ -255,4 +294,101 @@ fn drop_a_security(rt: &(impl Abort + AllocGlobal), book: &mut Book) {
     assert_eq!(rt; book.securities(), 1);
     assert_eq!(rt; book.security(0).name, b);
     assert_eq!(rt; book.find(&a), None);
+}
+
+#[test]
+fn a_fund_of_wrong_components_is_refused(rt: HostRuntime) -> Result<(), Fail> {
+    let mut book = Book::new(rt.alloc())?;
+    furnish(&rt, &mut book);
+    let ended = refuse_funds(&rt, &mut book);
+    assert!(rt; ended.is_ok(), "memory is ample");
+    Ok(())
+}
+
+fn refuse_funds(rt: &(impl Abort + AllocGlobal), book: &mut Book) -> Result<(), NoMemory> {
+    put(rt, book, &sec(name(rt, "S"), Class::Bond));
+    let before = shown(rt.alloc(), book)?;
+    refuse_each_fund(rt, book)?;
+    assert_eq!(rt; shown(rt.alloc(), book)?.as_str(), before.as_str());
+    Ok(())
+}
+
+fn refuse_each_fund(rt: &(impl Abort + AllocGlobal), book: &mut Book) -> Result<(), NoMemory> {
+    let (f, g) = (name(rt, "F"), name(rt, "G"));
+    let (s, x) = (name(rt, "S"), name(rt, "X"));
+    refuse_fund(rt, book, f, (s, 1), (s, 2), &Fault::Syntax(4))?;
+    refuse_fund(rt, book, f, (s, 1), (x, 2), &Fault::UnknownName(x))?;
+    refuse_fund(rt, book, f, (s, 1), (g, 2), &Fault::WrongKind(g))?;
+    refuse_fund(rt, book, g, (s, 1), (g, 2), &Fault::WrongKind(g))?;
+    refuse_fund(rt, book, s, (f, 1), (g, 2), &Fault::UnknownName(f))
+}
+
+// The fund of these two components is refused for this fault.
+fn refuse_fund(
+    rt: &(impl Abort + AllocGlobal),
+    book: &mut Book,
+    name: Name,
+    first: (Name, i64),
+    second: (Name, i64),
+    fault: &Fault,
+) -> Result<(), NoMemory>
+    requires named { IsName name }
+    requires first { IsName first.0 × IsNumber first.1 }
+    requires second { IsName second.0 × IsNumber second.1 }
+{
+    let edit = fund(rt.alloc(), name, first, second)?;
+    refuse(rt, book, &edit, fault);
+    Ok(())
+}
+
+#[test]
+fn a_fund_keeps_its_hold_and_its_components(rt: HostRuntime) -> Result<(), Fail> {
+    let mut book = Book::new(rt.alloc())?;
+    let ended = keep_a_fund(&rt, &mut book);
+    assert!(rt; ended.is_ok(), "memory is ample");
+    Ok(())
+}
+
+fn keep_a_fund(rt: &(impl Abort + AllocGlobal), book: &mut Book) -> Result<(), NoMemory> {
+    let (a, b, f) = (name(rt, "A"), name(rt, "B"), name(rt, "F"));
+    put(rt, book, &sec(a, Class::Bond));
+    put(rt, book, &sec(b, Class::Bond));
+    put_fund(rt, book, f, (a, 500_000_000), (b, 1))?;
+    put(rt, book, &hold(f, 100));
+    put_fund(rt, book, f, (b, 1_000_000_000), (a, 2))?;
+    assert_eq!(rt; book.funds(), 1);
+    assert_eq!(rt; book.fund(0).name, f);
+    assert_eq!(rt;
+        book.fund(0).components.as_slice(),
+        [(b, 1_000_000_000), (a, 2)].as_slice()
+    );
+    assert_eq!(rt; (book.held(&f), book.held(&a)), (100, 0));
+    assert_eq!(rt; book.find(&f), Some((Table::Fund, 0)));
+    Ok(())
+}
+
+#[test]
+fn what_a_fund_holds_stays(rt: HostRuntime) -> Result<(), Fail> {
+    let mut book = Book::new(rt.alloc())?;
+    let ended = keep_components(&rt, &mut book);
+    assert!(rt; ended.is_ok(), "memory is ample");
+    Ok(())
+}
+
+fn keep_components(rt: &(impl Abort + AllocGlobal), book: &mut Book) -> Result<(), NoMemory> {
+    keep_a_fund(rt, book)?;
+    let (a, b, f) = (name(rt, "A"), name(rt, "B"), name(rt, "F"));
+    let by_the_fund = Fault::InUse(a, User::Row(f));
+    refuse(rt, book, &remove(Table::Security, a), &by_the_fund);
+    let by_the_hold = Fault::InUse(f, User::Hold);
+    refuse(rt, book, &remove(Table::Fund, f), &by_the_hold);
+    let low = Fault::Range(Quantity::Weight, 0, 1);
+    refuse_fund(rt, book, f, (a, 1), (b, 0), &low)?;
+    let high = Fault::Range(Quantity::Weight, 1_000_000_001, 1_000_000_000);
+    refuse_fund(rt, book, f, (a, 1_000_000_001), (b, 0), &high)?;
+    put(rt, book, &hold(f, 0));
+    put(rt, book, &remove(Table::Fund, f));
+    put(rt, book, &remove(Table::Security, a));
+    assert_eq!(rt; (book.funds(), book.securities()), (0, 1));
+    Ok(())
 }

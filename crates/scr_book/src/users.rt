@@ -1,10 +1,10 @@
 //! What uses a row that a record would drop.
 ghost use Rattle.std.specs.Prelude.{◌≡◌, if◌then◌else◌, Some, map, filter, fold};
 ghost use Rattle.scr_sheet.specs.Names.{same_name, earlier, first_in_order};
-ghost use Rattle.scr_sheet.specs.BalanceSheet.{position_name, line_name, bank_name, rein_name};
-ghost use Rattle.scr_sheet.specs.Users.{is_of_group, names_of_group, names_in_currency, absorption_of, unless_none, user_of};
+ghost use Rattle.scr_sheet.specs.BalanceSheet.{position_name, line_name, bank_name, rein_name, stake_name};
+ghost use Rattle.scr_sheet.specs.Users.{has_component, holder_of, is_of_group, names_of_group, names_in_currency, absorption_of, unless_none, user_of};
 
-use crate::{AbsorbKey, Bank, Book, Liability, Name, Position, Rein, Table, User};
+use crate::{AbsorbKey, Bank, Book, Liability, Name, Position, Rein, Stake, Table, User};
 use scr_sheet::Rows;
 
 /// What uses the row of this name in this table, if there is anything: the reporting currency, then a hold, then an
@@ -14,10 +14,40 @@ pub(crate) fn user_of(book: &Book, table: Table, name: &Name) -> Option<User>
 {
     match table {
         Table::Group => first_of_group(book, name).map(|first| User::Row(first)),
-        Table::Security => unless_none(book.held(name), User::Hold),
+        Table::Security | Table::Fund => holder_of(book, name),
         Table::Curve => user_of_currency(book, name),
         Table::Line | Table::Bank | Table::Rein => None,
     }
+}
+
+// What uses a security or a fund: a hold, and then the first in byte order of the funds that have it as a component.
+fn holder_of(book: &Book, name: &Name) -> Option<User>
+    ensures { result ≡ holder_of name.now book.now }
+{
+    if book.held(name) != 0 {
+        return Some(User::Hold);
+    }
+    holding_fund(book.fund_rows(), name).map(|first| User::Row(first))
+}
+
+fn holding_fund(rows: &Rows<Stake>, name: &Name) -> Option<Name>
+    ensures { result ≡ first_in_order (map stake_name (filter (has_component name.now) rows.now)) }
+{
+    rows.iter().fold(
+        None,
+        |first, s| earlier_if(has_component(name, s), first, s.fund.name),
+    )
+}
+
+fn has_component(name: &Name, stake: &Stake) -> bool
+    ensures { result ≡ has_component name.now stake.now }
+{
+    stake
+        .fund
+        .components
+        .as_slice()
+        .iter()
+        .any(|c| *name == c.0)
 }
 
 fn user_of_currency(book: &Book, currency: &Name) -> Option<User>

@@ -1,19 +1,20 @@
-use Rattle.std.proofs.Common.{◌≡◌, ℕ, ◌+◌, ◌-◌, true, Some, sym, ap, ◌∙◌, arith, rules, FitsSigned, w64}
+use Rattle.std.proofs.Common.{◌≡◌, ℕ, ◌+◌, ◌-◌, length, true, Some, sym, ap, ◌∙◌, arith, rules, FitsSigned, w64}
 use Rattle.std.proofs.lemmas.Int.{to_z-of_z}
 use Rattle.std.specs.Option.{option_or, option_map_or}
 use Rattle.scr_sheet.specs.CashFlows.{total, greatest_years}
 use Rattle.scr_sheet.specs.Tables.{row_of}
-use Rattle.scr_sheet.specs.BalanceSheet.{group_name, position_name, line_name, curve_name, line_flows_total, volumes_total}
+use Rattle.scr_sheet.specs.BalanceSheet.{group_name, position_name, stake_name, line_name, curve_name, line_flows_total, volumes_total, components_total}
 use Rattle.scr_sheet.specs.Faults.{above}
 use Rattle.scr_sheet.specs.Records.{natural}
 use Rattle.scr_sheet.specs.Volumes.{volumes_in}
 use Rattle.scr_sheet.specs.declared.fault.Quantity.TheVariants as quantities
 use Rattle.scr_sheet.specs.declared.keys.Table.TheVariants as tables
-use Rattle.scr_sheet.specs.declared.limits.TheConstants.{MAX_AMOUNT, MAX_LINE_FLOWS, MAX_YEARS, MAX_CURRENCIES, MAX_SECURITIES, MAX_LINES, MAX_GROUPS}
+use Rattle.scr_sheet.specs.declared.limits.TheConstants.{MAX_AMOUNT, MAX_LINE_FLOWS, MAX_YEARS, MAX_CURRENCIES, MAX_SECURITIES, MAX_FUNDS, MAX_COMPONENTS, MAX_LINES, MAX_GROUPS}
 use Rattle.scr_sheet.proofs.Bounds.{neither}
 use Rattle.scr_sheet.proofs.Preserved.{right_table}
-use Rattle.scr_sheet.proofs.Sums.{line_total, volumes-part}
-use Rattle.scr_sheet.proofs.Quiet.{is_quiet, outside-quiet, outside-curve, outside-group, outside-security, outside-line, outside-flows, outside-hold, outside-line_flows, outside-segment, outside-bank, outside-rein}
+use Rattle.scr_sheet.proofs.Sums.{stake_components, line_total, volumes-part}
+use Rattle.scr_sheet.proofs.Quiet.{is_quiet, outside-quiet, outside-curve, outside-group, outside-security, outside-fund, outside-line, outside-flows, outside-hold, outside-line_flows, outside-segment, outside-bank, outside-rein}
+use Rattle.scr_book.proofs.Moved.{right_holding}
 use Rattle.scr_book.proofs.Reduced.{first_by_is, above-with, banks-with, reinsurers-with, years-is, both-is}
 use Rattle.scr_book.proofs.ranges.sheet_outside.Goals as goal
 
@@ -44,6 +45,17 @@ returns-in-Security c =
     ∙ sym (outside-security book c.numbers.ensures.valid op.name op.class op.group op.currency op.duration))
     c.requires.known c.requires.kind
 
+pub returns-in-Fund : goal.returns-in-Fund
+returns-in-Fund c =
+    let book = c.args.book.now in
+    let op = c.in-Fund in
+    let old : ℕ = option_map_or stake_components (row_of stake_name op.name book.funds) 0 in
+    first_by_is book c.outside_funds.result c.args.edit.now _ op.is
+    (λ known kind. c.outside_funds.ensures
+    ∙ ap (λ o. option_or o (above quantities.Components (components_total book - old + length op.components) MAX_COMPONENTS)) (above-with quantities.Funds MAX_FUNDS stake_name op.name book.funds)
+    ∙ sym (outside-fund book c.numbers.ensures.valid op.name op.components))
+    c.requires.known c.requires.kind
+
 pub returns-in-Line : goal.returns-in-Line
 returns-in-Line c =
     let book = c.args.book.now in
@@ -60,7 +72,7 @@ returns-in-Hold c =
     let fits : FitsSigned w64 op.cents = search rules in
     let told = simp to_z-of_z at c.outside_held.ensures in
     first_by_is book c.outside_held.result c.args.edit.now _ op.is
-    (λ known kind. told ∙ sym (outside-hold book c.numbers.ensures.valid op.name op.cents (right_table tables.Security op.name book known kind)))
+    (λ known kind. told ∙ sym (outside-hold book c.numbers.ensures.valid op.name op.cents (right_holding op.name book known kind)))
     c.requires.known c.requires.kind
 
 pub returns-in-Absorb : goal.returns-in-Absorb

@@ -1,4 +1,4 @@
-use Rattle.std.proofs.Common.{◌≡◌, ℕ, ◌+◌, ◌-◌, refl, ap, ◌∙◌, arith, w64}
+use Rattle.std.proofs.Common.{◌≡◌, ℕ, ◌+◌, ◌-◌, ap, ◌∙◌, arith, w64, refl}
 use Rattle.std.proofs.lemmas.Int.{to_z-of_z}
 use Rattle.scr_sheet.specs.BalanceSheet.{bank_name}
 use Rattle.scr_sheet.specs.Tables.{with_row}
@@ -22,8 +22,8 @@ kept c =
     let bank : ℕ → Bank = λ n. record { name = c.args.name.now; group = c.args.group.now; cents = n } in
     let sum : defaults ≡ c.self.inside.sums.defaults - bank_part c.args.name.now c.args.self.now + natural c.args.cents =
     ap (λ n. c.self.inside.sums.defaults - n + c.natural-cents.result) c.bank_total-old.ensures ∙ ap (λ n. c.self.inside.sums.defaults - bank_part c.args.name.now c.args.self.now + n) amount in
-    kept-applied c.self.inside new c.args.self.now c.self.view_is c.self.invariant (edits.Bank c.args.name.now c.args.group.now c.args.cents) c.requires.formed c.requires.no_fault
-    refl refl refl (c.in_ok-put.ensures.ok ∙ ap (λ n. with_row bank_name (bank n) c.self.inside.banks) amount) refl refl refl
+    kept-applied c.self.inside new c.args.self.now c.self.view_is c.self.invariant (edits.Bank c.args.name.now c.args.group.now c.args.cents) c.requires.formed c.requires.no_fault refl
+    (ap (λ rows. sheet_of (record c.self.inside { banks = rows })) (c.in_ok-put.ensures.ok ∙ ap (λ n. with_row bank_name (bank n) c.self.inside.banks) amount))
     (sums-bank c.args.name.now c.args.group.now c.args.cents c.args.self.now c.self.inside.sums defaults (sums_now c.self.inside c.args.self.now c.self.view_is c.self.invariant) sum)
 
 pub overflow_sub-self : goal.overflow_sub-self

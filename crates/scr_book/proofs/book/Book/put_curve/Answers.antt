@@ -20,10 +20,10 @@ kept c =
     let old_down : ℕ = option_map_or (λ r. r.absorb_down) (row_of curve_name c.args.currency.now c.self.inside.curves) 0 in
     let down : c.absorptions-absorb_up.result.1 ≡ old_down = c.absorptions-absorb_up.ensures.down ∙ ap (λ (s : BalanceSheet). option_map_or (λ r. r.absorb_down) (row_of curve_name c.args.currency.now s.curves) 0) (sym c.self.view_is) in
     kept-still c.self.inside new c.args.self.now c.self.view_is c.self.invariant (edits.Curve c.args.currency.now c.args.rates.now) c.requires.formed c.requires.no_fault refl
-    refl refl refl refl refl
+    (ap (λ rows. sheet_of (record c.self.inside { curves = rows }))
     (c.in_ok-put.ensures.ok ∙ ap (λ r. put r c.absorptions-absorb_up.result.0 c.absorptions-absorb_up.result.1) c.in_ok-rates.ensures
-    ∙ ap (λ n. put c.args.rates.now n c.absorptions-absorb_up.result.1) up ∙ ap (λ n. put c.args.rates.now old_up n) down)
-    refl refl
+    ∙ ap (λ n. put c.args.rates.now n c.absorptions-absorb_up.result.1) up ∙ ap (λ n. put c.args.rates.now old_up n) down))
+    refl
 
 pub invariant_of-self-2 : goal.invariant_of-self-2
 invariant_of-self-2 c = (kept c).0

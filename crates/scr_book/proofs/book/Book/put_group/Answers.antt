@@ -1,4 +1,4 @@
-use Rattle.std.proofs.Common.{◌≡◌, refl}
+use Rattle.std.proofs.Common.{◌≡◌, refl, ap}
 use Rattle.scr_sheet.specs.Records.{applied}
 use Rattle.scr_book.specs.Kept.{sheet_of, IsKept}
 use Rattle.scr_book.specs.declared.book.Book.TheInside.{Inside}
@@ -10,7 +10,7 @@ kept : (c : goal.In_ok-put) → let new : Inside = record c.self.inside { groups
 kept c =
     let new : Inside = record c.self.inside { groups = c.put.new.self } in
     kept-still c.self.inside new c.args.self.now c.self.view_is c.self.invariant (edits.Group c.args.name.now c.args.kind c.args.step) c.requires.formed c.requires.no_fault refl
-    c.in_ok-put.ensures.ok refl refl refl refl refl refl refl
+    (ap (λ rows. sheet_of (record c.self.inside { groups = rows })) c.in_ok-put.ensures.ok) refl
 
 pub invariant_of-self-2 : goal.invariant_of-self-2
 invariant_of-self-2 c = (kept c).0

@@ -24,7 +24,7 @@ kept-replaced c =
     replaced line_name change (line c.args.name.now kept) c.args.name.now c.self.inside.lines (sym c.contains.ensures ∙ c.if-contains.true)
     (λ l is named. ap (λ n. line n l.flows) (sym named) ∙ ap (line c.args.name.now) (sym (ap (λ o. option_map_or (λ m. m.flows) o no_flows) is))) in
     kept-still c.self.inside new c.args.self.now c.self.view_is c.self.invariant (edits.Line c.args.name.now c.args.kind c.args.currency.now) c.requires.formed c.requires.no_fault refl
-    refl refl (written ∙ same) refl refl refl refl refl
+    (ap (λ rows. sheet_of (record c.self.inside { lines = rows })) (written ∙ same)) refl
 
 kept-made : (c : goal.In_ok-put) → let new : Inside = record c.self.inside { lines = c.put.new.self } in IsKept new × (sheet_of new ≡ applied (edits.Line c.args.name.now c.args.kind c.args.currency.now) c.args.self.now)
 kept-made c =
@@ -32,10 +32,10 @@ kept-made c =
     let line : LineFlows → Liability = λ flows. record { name = c.args.name.now; kind = c.args.kind; currency = c.args.currency.now; flows = flows } in
     let none = none_there line_name c.args.name.now c.self.inside.lines (sym c.contains.ensures ∙ c.if-contains.false) in
     kept-still c.self.inside new c.args.self.now c.self.view_is c.self.invariant (edits.Line c.args.name.now c.args.kind c.args.currency.now) c.requires.formed c.requires.no_fault refl
-    refl refl
+    (ap (λ rows. sheet_of (record c.self.inside { lines = rows }))
     (c.in_ok-put.ensures.ok ∙ ap (λ flows. with_row line_name (line flows) c.self.inside.lines) c.none.ensures
-    ∙ ap (λ o. with_row line_name (line (option_map_or (λ m. m.flows) o no_flows)) c.self.inside.lines) (sym none))
-    refl refl refl refl refl
+    ∙ ap (λ o. with_row line_name (line (option_map_or (λ m. m.flows) o no_flows)) c.self.inside.lines) (sym none)))
+    refl
 
 pub invariant_of-self : goal.invariant_of-self
 invariant_of-self c = (kept-replaced c).0

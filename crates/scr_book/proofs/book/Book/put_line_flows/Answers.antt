@@ -1,4 +1,4 @@
-use Rattle.std.proofs.Common.{◌≡◌, ℕ, ℤ, ◌+◌, ◌-◌, List, get_or, refl, sym, ap, subst, ◌∙◌, arith, rules}
+use Rattle.std.proofs.Common.{◌≡◌, ℕ, ℤ, ◌+◌, ◌-◌, List, get_or, sym, ap, subst, ◌∙◌, arith, rules, refl}
 use Rattle.scr_dates.specs.declared.day.Day.{Day}
 use Rattle.scr_sheet.specs.BalanceSheet.{line_name}
 use Rattle.scr_sheet.specs.CashFlows.{total, with_flows}
@@ -42,8 +42,8 @@ kept c =
     let sum : n ≡ get_or c.self.inside.sums.line_flows (place_of c.args.projection) 0 - line_part c.args.projection c.args.name.now c.args.self.now + total c.args.flows.now =
     ap (λ m. get_or c.self.inside.sums.line_flows (place_of c.args.projection) 0 - m + c.total-new.result) c.line_total-old.ensures
     ∙ ap (λ m. get_or c.self.inside.sums.line_flows (place_of c.args.projection) 0 - line_part c.args.projection c.args.name.now c.args.self.now + m) c.total-new.ensures.sum in
-    kept-applied c.self.inside new c.args.self.now c.self.view_is c.self.invariant edit c.requires.formed c.requires.no_fault
-    refl refl (written ∙ ap (λ flows. changed line_name (change flows) c.args.name.now c.self.inside.lines) c.in_ok-projected.ensures) refl refl refl refl
+    kept-applied c.self.inside new c.args.self.now c.self.view_is c.self.invariant edit c.requires.formed c.requires.no_fault refl
+    (ap (λ rows. sheet_of (record c.self.inside { lines = rows })) (written ∙ ap (λ flows. changed line_name (change flows) c.args.name.now c.self.inside.lines) c.in_ok-projected.ensures))
     (subst (AreSumsOf (applied edit c.args.self.now)) (sym c.exchange_line_flows.ensures)
     (sums-line_flows c.args.name.now c.args.projection c.args.flows.now c.args.self.now c.requires.no_fault c.self.inside.sums n (sums_now c.self.inside c.args.self.now c.self.view_is c.self.invariant) sum))
 

@@ -16,7 +16,9 @@ kept : (c : goal.After-change) → let new : Inside = record c.self.inside { sec
 kept c =
     let new : Inside = record c.self.inside { securities = c.change.new.self } in
     kept-still c.self.inside new c.args.self.now c.self.view_is c.self.invariant (edits.Flows c.args.name.now c.args.flows.now) c.requires.formed c.requires.no_fault refl
-    refl (written c ∙ ap (λ flows. changed position_name (λ p. record p { security = record p.security { flows = flows } }) c.args.name.now c.self.inside.securities) c.in_ok-promised.ensures) refl refl refl refl refl refl
+    (ap (λ rows. sheet_of (record c.self.inside { securities = rows }))
+    (written c ∙ ap (λ flows. changed position_name (λ p. record p { security = record p.security { flows = flows } }) c.args.name.now c.self.inside.securities) c.in_ok-promised.ensures))
+    refl
 
 pub invariant_of-self : goal.invariant_of-self
 invariant_of-self c = (kept c).0

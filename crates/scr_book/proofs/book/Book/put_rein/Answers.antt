@@ -1,4 +1,4 @@
-use Rattle.std.proofs.Common.{◌≡◌, ℕ, ◌+◌, ◌-◌, refl, ap, ◌∙◌, arith, w64}
+use Rattle.std.proofs.Common.{◌≡◌, ℕ, ◌+◌, ◌-◌, ap, ◌∙◌, arith, w64, refl}
 use Rattle.std.proofs.lemmas.Int.{to_z-of_z}
 use Rattle.scr_sheet.specs.BalanceSheet.{rein_name}
 use Rattle.scr_sheet.specs.Tables.{with_row}
@@ -27,11 +27,10 @@ kept c =
     ap (λ n. c.self.inside.sums.defaults - n + c.natural-recoverables.result + c.natural-mitigation.result) c.rein_total-old.ensures
     ∙ ap (λ n. c.self.inside.sums.defaults - rein_part c.args.name.now c.args.self.now + n + c.natural-mitigation.result) recoverables
     ∙ ap (λ n. c.self.inside.sums.defaults - rein_part c.args.name.now c.args.self.now + natural c.args.recoverables + n) mitigation in
-    kept-applied c.self.inside new c.args.self.now c.self.view_is c.self.invariant (edits.Rein c.args.name.now c.args.group.now c.args.recoverables c.args.mitigation c.args.collateral) c.requires.formed c.requires.no_fault
-    refl refl refl refl
+    kept-applied c.self.inside new c.args.self.now c.self.view_is c.self.invariant (edits.Rein c.args.name.now c.args.group.now c.args.recoverables c.args.mitigation c.args.collateral) c.requires.formed c.requires.no_fault refl
+    (ap (λ rows. sheet_of (record c.self.inside { reinsurers = rows }))
     (c.in_ok-put.ensures.ok ∙ ap (λ n. rows n c.natural-mitigation.result c.natural.result) recoverables ∙ ap (λ n. rows (natural c.args.recoverables) n c.natural.result) mitigation
-    ∙ ap (λ n. rows (natural c.args.recoverables) (natural c.args.mitigation) n) collateral)
-    refl refl
+    ∙ ap (λ n. rows (natural c.args.recoverables) (natural c.args.mitigation) n) collateral))
     (sums-rein c.args.name.now c.args.group.now c.args.recoverables c.args.mitigation c.args.collateral c.args.self.now c.self.inside.sums defaults (sums_now c.self.inside c.args.self.now c.self.view_is c.self.invariant) sum)
 
 pub overflow_sub-self : goal.overflow_sub-self

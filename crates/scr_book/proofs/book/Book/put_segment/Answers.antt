@@ -1,4 +1,4 @@
-use Rattle.std.proofs.Common.{◌≡◌, ℕ, ◌+◌, ◌-◌, refl, sym, ap, subst, ◌∙◌, arith, w64}
+use Rattle.std.proofs.Common.{◌≡◌, ℕ, ◌+◌, ◌-◌, sym, ap, subst, ◌∙◌, arith, w64, refl}
 use Rattle.std.proofs.lemmas.Int.{to_z-of_z}
 use Rattle.scr_factors.specs.declared.set.Set.TheVariants as sets
 use Rattle.scr_sheet.specs.BalanceSheet.{BalanceSheet, volumes_total}
@@ -45,9 +45,9 @@ kept c =
     ∙ ap (λ r. volumes_total c.args.set (sheet_of c.self.inside) - old + (natural c.args.premium + r)) reserve
     ∙ sym (volumes-moved c.args.set c.args.number c.args.region c.args.premium c.args.reserve (sheet_of c.self.inside) c.volumes-old.result c.volumes-old.ensures)
     ∙ ap (λ (s : BalanceSheet). volumes_total c.args.set (applied edit s)) c.self.view_is in
-    kept-applied c.self.inside new c.args.self.now c.self.view_is c.self.invariant edit c.requires.formed c.requires.no_fault
-    refl refl refl refl refl refl
-    (c.put_volumes.ensures ∙ ap (λ p. numbers p c.natural-2.result) premium ∙ ap (λ r. numbers (natural c.args.premium) r) reserve)
+    kept-applied c.self.inside new c.args.self.now c.self.view_is c.self.invariant edit c.requires.formed c.requires.no_fault refl
+    (ap (λ n. sheet_of (record c.self.inside { numbers = n }))
+    (c.put_volumes.ensures ∙ ap (λ p. numbers p c.natural-2.result) premium ∙ ap (λ r. numbers (natural c.args.premium) r) reserve))
     (subst (AreSumsOf (applied edit c.args.self.now)) (sym c.exchange_volumes.ensures)
     (sums-segment c.args.set c.args.number c.args.region c.args.premium c.args.reserve c.args.self.now c.self.inside.sums n (sums_now c.self.inside c.args.self.now c.self.view_is c.self.invariant) moved))
 

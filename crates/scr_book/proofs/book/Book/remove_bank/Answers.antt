@@ -1,4 +1,4 @@
-use Rattle.std.proofs.Common.{◌≡◌, ℕ, ◌-◌, refl, ap, arith}
+use Rattle.std.proofs.Common.{◌≡◌, ℕ, ◌-◌, ap, arith, refl}
 use Rattle.scr_sheet.specs.Records.{applied}
 use Rattle.scr_sheet.proofs.Sums.{defaults-part_bank}
 use Rattle.scr_sheet.specs.declared.keys.Table.TheVariants as tables
@@ -14,8 +14,8 @@ kept : (c : goal.After-self-1) → let defaults : ℕ = c.self.inside.sums.defau
 kept c =
     let defaults : ℕ = c.self.inside.sums.defaults - c.bank_total-old.result in
     let new : Inside = record c.self.inside { banks = c.remove.new.self; sums = record c.self.inside.sums { defaults = defaults } } in
-    kept-applied c.self.inside new c.args.self.now c.self.view_is c.self.invariant (edits.Remove tables.Bank c.args.name.now) c.requires.formed c.requires.no_fault
-    refl refl refl c.remove.ensures refl refl refl
+    kept-applied c.self.inside new c.args.self.now c.self.view_is c.self.invariant (edits.Remove tables.Bank c.args.name.now) c.requires.formed c.requires.no_fault refl
+    (ap (λ rows. sheet_of (record c.self.inside { banks = rows })) c.remove.ensures)
     (sums-drop_bank c.args.name.now c.args.self.now c.self.inside.sums defaults (sums_now c.self.inside c.args.self.now c.self.view_is c.self.invariant) (ap (λ n. c.self.inside.sums.defaults - n) c.bank_total-old.ensures))
 
 pub overflow_sub-self : goal.overflow_sub-self

@@ -1,4 +1,4 @@
-use Rattle.std.proofs.Common.{◌≡◌, Some, refl, sym, ap, subst, ◌∙◌}
+use Rattle.std.proofs.Common.{◌≡◌, Some, sym, ap, subst, ◌∙◌, refl}
 use Rattle.scr_sheet.specs.BalanceSheet.{BalanceSheet, line_name}
 use Rattle.scr_sheet.specs.Records.{applied}
 use Rattle.scr_sheet.specs.Tables.{row_of}
@@ -21,8 +21,8 @@ kept c =
     let new : Inside = record c.self.inside { lines = c.remove.new.self; sums = c.take_line.new.self } in
     let edit : Edit = edits.Remove tables.Line c.args.name.now in
     let found : row_of line_name c.args.name.now c.args.self.now.lines ≡ Some c.in-Some.line.now = ap (λ (s : BalanceSheet). row_of line_name c.args.name.now s.lines) (sym c.self.view_is) ∙ sym c.in-Some.ensures in
-    kept-applied c.self.inside new c.args.self.now c.self.view_is c.self.invariant edit c.requires.formed c.requires.no_fault
-    refl refl c.remove.ensures refl refl refl refl
+    kept-applied c.self.inside new c.args.self.now c.self.view_is c.self.invariant edit c.requires.formed c.requires.no_fault refl
+    (ap (λ rows. sheet_of (record c.self.inside { lines = rows })) c.remove.ensures)
     (subst (AreSumsOf (applied edit c.args.self.now)) (sym c.take_line.ensures)
     (sums-drop_line c.args.name.now c.args.self.now c.in-Some.line.now found c.self.inside.sums (sums_now c.self.inside c.args.self.now c.self.view_is c.self.invariant)))
 
