@@ -1,14 +1,11 @@
 -- Lists in a line, member by member.
 use Rattle.std.proofs.Common.{◌≡◌, ◌≢◌, ℕ, ℤ, ◌+◌, ◌<◌, List, [], ◌∷◌, ◌++◌, length, Option, Result, Ok, Err, refl, ap, sym, append_assoc, arith}
-use Rattle.std.specs.Prelude.{ok_or}
 use Rattle.std.specs.List.{AllByRecursion}
 use Rattle.std.proofs.lemmas.List.{append-nil}
-use Rattle.scr_dates.specs.declared.day.Day.{Day}
-use Rattle.scr_dates.specs.Text.{day_of_text}
 use Rattle.scr_csv.specs.declared.fault.LineFault.{LineFault}
 use Rattle.scr_csv.specs.declared.fault.LineFault.TheVariants.{Syntax, NoMemory}
 use Rattle.scr_csv.specs.Numbers.{number_value}
-use Rattle.scr_csv.specs.Reading.{Rest, field, next, read_to, made, listed, number_in, day_in, numbers_from, pairs_from, Answers}
+use Rattle.scr_csv.specs.Reading.{Rest, field, next, read_to, made, listed, value_in, numbers_from, pairs_from, Answers}
 
 -- the members so far, and those that follow them
 abbrev pub behind : {A : Type 0} → List A → Result (List A) LineFault → Result (List A) LineFault
@@ -56,7 +53,7 @@ pub next-shorter : {A : Type 0} (form : List ℕ → Option A) (number : ℕ) (f
 unfolding next field
 next-shorter form number [] a after h = absurd (cc)
 next-shorter form number (first ∷ fields) a after h =
-    let read = read_ok (ok_or (form first) (Syntax number)) a (record { number = number + 1; fields = fields }) after h in
+    let read = read_ok (value_in form number first) a (record { number = number + 1; fields = fields }) after h in
     rw (← read.same) (omega arith)
 
 listed_ok : {A : Type 0} (a : A) (more : Result (List A) LineFault) → listed (Ok a) more ≡ made (λ rest. a ∷ rest) more
@@ -68,47 +65,47 @@ pub numbers-next : (number : ℕ) (fields : List (List ℕ)) (z : ℤ) (after : 
 unfolding next field
 numbers-next number [] z after h = absurd (cc)
 numbers-next number (first ∷ fields) z after h =
-    let read = read_ok (number_in number first) z (record { number = number + 1; fields = fields }) after h in
+    let read = read_ok (value_in number_value number first) z (record { number = number + 1; fields = fields }) after h in
     rw (read.value, ← read.same) (listed_ok z (numbers_from (number + 1) fields))
 
 pub numbers-fault : (number : ℕ) (fields : List (List ℕ)) (fault : LineFault)
     → next number_value (record { number = number; fields = fields }) ≡ Err fault → (fields ≢ []) → numbers_from number fields ≡ Err fault
 unfolding next field
 numbers-fault number [] fault h some = absurd (some refl)
-numbers-fault number (first ∷ fields) fault h some = rw (read_err (number_in number first) _ fault h) refl
+numbers-fault number (first ∷ fields) fault h some = rw (read_err (value_in number_value number first) _ fault h) refl
 
 plus_two : (n : ℕ) → (n + 1) + 1 ≡ n + 2
 plus_two n = omega arith
 
-pub pairs-next : (number : ℕ) (fields : List (List ℕ)) (day : Day) (mid : Rest) (z : ℤ) (after : Rest)
-    → next day_of_text (record { number = number; fields = fields }) ≡ Ok (day, mid) → next number_value mid ≡ Ok (z, after)
-    → pairs_from number fields ≡ made (λ rest. (day, z) ∷ rest) (pairs_from after.number after.fields)
+pub pairs-next : {A : Type 0} (form : List ℕ → Option A) (number : ℕ) (fields : List (List ℕ)) (a : A) (mid : Rest) (z : ℤ) (after : Rest)
+    → next form (record { number = number; fields = fields }) ≡ Ok (a, mid) → next number_value mid ≡ Ok (z, after)
+    → pairs_from form number fields ≡ made (λ rest. (a, z) ∷ rest) (pairs_from form after.number after.fields)
 unfolding next field
-pairs-next number [] day mid z after h k = absurd (cc)
-pairs-next number (first ∷ []) day mid z after h k =
-    let read = read_ok (day_in number first) day (record { number = number + 1; fields = [] }) mid h in
+pairs-next form number [] a mid z after h k = absurd (cc)
+pairs-next form number (first ∷ []) a mid z after h k =
+    let read = read_ok (value_in form number first) a (record { number = number + 1; fields = [] }) mid h in
     absurd (cc (rw (← read.same) at k))
-pairs-next number (first ∷ second ∷ fields) day mid z after h k =
-    let read = read_ok (day_in number first) day (record { number = number + 1; fields = second ∷ fields }) mid h in
-    let amount = read_ok (number_in (number + 1) second) z (record { number = (number + 1) + 1; fields = fields }) after (rw (← read.same) at k) in
-    rw (read.value, amount.value, ← amount.same, plus_two number) (listed_ok (day, z) (pairs_from (number + 2) fields))
+pairs-next form number (first ∷ second ∷ fields) a mid z after h k =
+    let read = read_ok (value_in form number first) a (record { number = number + 1; fields = second ∷ fields }) mid h in
+    let amount = read_ok (value_in number_value (number + 1) second) z (record { number = (number + 1) + 1; fields = fields }) after (rw (← read.same) at k) in
+    rw (read.value, amount.value, ← amount.same, plus_two number) (listed_ok (a, z) (pairs_from form (number + 2) fields))
 
-pub pairs-day_fault : (number : ℕ) (fields : List (List ℕ)) (fault : LineFault)
-    → next day_of_text (record { number = number; fields = fields }) ≡ Err fault → (fields ≢ []) → pairs_from number fields ≡ Err fault
+pub pairs-value_fault : {A : Type 0} (form : List ℕ → Option A) (number : ℕ) (fields : List (List ℕ)) (fault : LineFault)
+    → next form (record { number = number; fields = fields }) ≡ Err fault → (fields ≢ []) → pairs_from form number fields ≡ Err fault
 unfolding next field
-pairs-day_fault number [] fault h some = absurd (some refl)
-pairs-day_fault number (first ∷ []) fault h some = rw (read_err (day_in number first) _ fault h) refl
-pairs-day_fault number (first ∷ second ∷ fields) fault h some = rw (read_err (day_in number first) _ fault h) refl
+pairs-value_fault form number [] fault h some = absurd (some refl)
+pairs-value_fault form number (first ∷ []) fault h some = rw (read_err (value_in form number first) _ fault h) refl
+pairs-value_fault form number (first ∷ second ∷ fields) fault h some = rw (read_err (value_in form number first) _ fault h) refl
 
-pub pairs-number_fault : (number : ℕ) (fields : List (List ℕ)) (day : Day) (mid : Rest) (fault : LineFault)
-    → next day_of_text (record { number = number; fields = fields }) ≡ Ok (day, mid) → next number_value mid ≡ Err fault → pairs_from number fields ≡ Err fault
+pub pairs-number_fault : {A : Type 0} (form : List ℕ → Option A) (number : ℕ) (fields : List (List ℕ)) (a : A) (mid : Rest) (fault : LineFault)
+    → next form (record { number = number; fields = fields }) ≡ Ok (a, mid) → next number_value mid ≡ Err fault → pairs_from form number fields ≡ Err fault
 unfolding next field
-pairs-number_fault number [] day mid fault h k = absurd (cc)
-pairs-number_fault number (first ∷ []) day mid fault h k =
-    let read = read_ok (day_in number first) day (record { number = number + 1; fields = [] }) mid h in
+pairs-number_fault form number [] a mid fault h k = absurd (cc)
+pairs-number_fault form number (first ∷ []) a mid fault h k =
+    let read = read_ok (value_in form number first) a (record { number = number + 1; fields = [] }) mid h in
     let lacking = rw (← read.same) at k in
     let same : Syntax (number + 1) ≡ fault = cc in
     rw (read.value, same) refl
-pairs-number_fault number (first ∷ second ∷ fields) day mid fault h k =
-    let read = read_ok (day_in number first) day (record { number = number + 1; fields = second ∷ fields }) mid h in
-    rw (read.value, read_err (number_in (number + 1) second) _ fault (rw (← read.same) at k)) refl
+pairs-number_fault form number (first ∷ second ∷ fields) a mid fault h k =
+    let read = read_ok (value_in form number first) a (record { number = number + 1; fields = second ∷ fields }) mid h in
+    rw (read.value, read_err (value_in number_value (number + 1) second) _ fault (rw (← read.same) at k)) refl

@@ -3,8 +3,6 @@ use Rattle.std.specs.Prelude.{◌≡◌, ℕ, ℤ, ◌+◌, ◌∷◌, List, [],
 use Rattle.std.specs.Borrow.{Bor}
 use Rattle.scr_csv.specs.declared.fault.LineFault.{LineFault}
 use Rattle.scr_csv.specs.declared.fault.LineFault.TheVariants.{Syntax, NoMemory}
-use Rattle.scr_dates.specs.declared.day.Day.{Day}
-use Rattle.scr_dates.specs.Text.{day_of_text}
 use Rattle.scr_csv.specs.Numbers.{number_value}
 
 -- the fields of a line that are still to be read, and the number of the first of them; the verb has number 0
@@ -43,9 +41,13 @@ first_field number (field ∷ fields) = Ok ((number, field), record { number = n
 unfoldable pub field : Reader (ℕ × List ℕ)
 field rest = first_field rest.number rest.fields
 
--- the next field in this form; where it has another, its number is the fault's
+-- what a field in this form stands for; where it has another, its number is the fault's
+abbrev pub value_in : {A : Type 0} → (List ℕ → Option A) → ℕ → List ℕ → Result A LineFault
+value_in form number field = ok_or (form field) (Syntax number)
+
+-- the next field in this form
 unfoldable pub next : {A : Type 0} → (List ℕ → Option A) → Reader A
-next form = field >>= (λ found. read_to (ok_or (form found.1) (Syntax found.0)))
+next form = field >>= (λ found. read_to (value_in form found.0 found.1))
 
 abbrev pub last : {A : Type 0} → A → ℕ → List (List ℕ) → Result A LineFault
 last value number [] = Ok value
@@ -71,24 +73,16 @@ made f (Err fault) = Err fault
 abbrev pub listed : {A : Type 0} → Result A LineFault → Result (List A) LineFault → Result (List A) LineFault
 listed a more = made (λ p. p.0 ∷ p.1) (both a more)
 
--- the number in a field
-abbrev pub number_in : ℕ → List ℕ → Result ℤ LineFault
-number_in number field = ok_or (number_value field) (Syntax number)
-
--- the day in a field
-abbrev pub day_in : ℕ → List ℕ → Result Day LineFault
-day_in number field = ok_or (day_of_text field) (Syntax number)
-
 -- each field is a number
 abbrev pub numbers_from : ℕ → List (List ℕ) → Result (List ℤ) LineFault
 numbers_from number [] = Ok []
-numbers_from number (field ∷ fields) = listed (number_in number field) (numbers_from (number + 1) fields)
+numbers_from number (field ∷ fields) = listed (value_in number_value number field) (numbers_from (number + 1) fields)
 
--- each two fields are a day and a number; half a pair lacks the number
-abbrev pub pairs_from : ℕ → List (List ℕ) → Result (List (Day × ℤ)) LineFault
-pairs_from number [] = Ok []
-pairs_from number (day ∷ []) = listed (both (day_in number day) (Err (Syntax (number + 1)))) (Ok [])
-pairs_from number (day ∷ amount ∷ fields) = listed (both (day_in number day) (number_in (number + 1) amount)) (pairs_from (number + 2) fields)
+-- each two fields are a value in this form and a number; half a pair lacks the number
+abbrev pub pairs_from : {A : Type 0} → (List ℕ → Option A) → ℕ → List (List ℕ) → Result (List (A × ℤ)) LineFault
+pairs_from form number [] = Ok []
+pairs_from form number (value ∷ []) = listed (both (value_in form number value) (Err (Syntax (number + 1)))) (Ok [])
+pairs_from form number (value ∷ amount ∷ fields) = listed (both (value_in form number value) (value_in number_value (number + 1) amount)) (pairs_from form (number + 2) fields)
 
 -- ---- answers
 

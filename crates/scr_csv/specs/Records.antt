@@ -48,7 +48,12 @@ security_record = do
 abbrev pub flows_record : Record
 flows_record = do
   security ← next name_of
-  (λ rest. made (edits.Flows security) (pairs_from rest.number rest.fields))
+  (λ rest. made (edits.Flows security) (pairs_from day_of_text rest.number rest.fields))
+
+abbrev pub fund_record : Record
+fund_record = do
+  name ← next name_of
+  (λ rest. made (edits.Fund name) (pairs_from name_of rest.number rest.fields))
 
 abbrev pub hold_record : Record
 hold_record = do
@@ -67,7 +72,7 @@ abbrev pub line_flows_record : Record
 line_flows_record = do
   line ← next name_of
   projection ← next (value_of projection_word all_projections)
-  (λ rest. made (edits.LineFlows line projection) (pairs_from rest.number rest.fields))
+  (λ rest. made (edits.LineFlows line projection) (pairs_from day_of_text rest.number rest.fields))
 
 abbrev pub absorb_record : Record
 absorb_record = do
@@ -165,6 +170,7 @@ record_of verbs.Curve = curve_record
 record_of verbs.Group = group_record
 record_of verbs.Security = security_record
 record_of verbs.Flows = flows_record
+record_of verbs.Fund = fund_record
 record_of verbs.Hold = hold_record
 record_of verbs.Line = line_record
 record_of verbs.LineFlows = line_flows_record

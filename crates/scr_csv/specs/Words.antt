@@ -34,6 +34,7 @@ verb_word verbs.Curve = codes "curve"
 verb_word verbs.Group = codes "group"
 verb_word verbs.Security = codes "sec"
 verb_word verbs.Flows = codes "flows"
+verb_word verbs.Fund = codes "fund"
 verb_word verbs.Hold = codes "hold"
 verb_word verbs.Line = codes "line"
 verb_word verbs.LineFlows = codes "lflow"
@@ -53,13 +54,14 @@ verb_word verbs.Remove = codes "drop"
 
 abbrev pub all_verbs : List Verb
 all_verbs =
-    verbs.Asof ∷ verbs.Curve ∷ verbs.Group ∷ verbs.Security ∷ verbs.Flows ∷ verbs.Hold ∷ verbs.Line ∷
-    verbs.LineFlows ∷ verbs.Absorb ∷ verbs.Segment ∷ verbs.Cat ∷ verbs.Lapse ∷ verbs.Rein ∷ verbs.Bank ∷
-    verbs.Due ∷ verbs.Op ∷ verbs.Sym ∷ verbs.Tax ∷ verbs.Fdb ∷ verbs.Intangible ∷ verbs.Remove ∷ []
+    verbs.Asof ∷ verbs.Curve ∷ verbs.Group ∷ verbs.Security ∷ verbs.Flows ∷ verbs.Fund ∷ verbs.Hold ∷
+    verbs.Line ∷ verbs.LineFlows ∷ verbs.Absorb ∷ verbs.Segment ∷ verbs.Cat ∷ verbs.Lapse ∷ verbs.Rein ∷
+    verbs.Bank ∷ verbs.Due ∷ verbs.Op ∷ verbs.Sym ∷ verbs.Tax ∷ verbs.Fdb ∷ verbs.Intangible ∷ verbs.Remove ∷ []
 
 abbrev pub table_word : Table → List ℕ
 table_word tables.Group = codes "group"
 table_word tables.Security = codes "sec"
+table_word tables.Fund = codes "fund"
 table_word tables.Line = codes "line"
 table_word tables.Bank = codes "bank"
 table_word tables.Rein = codes "rein"
@@ -67,7 +69,7 @@ table_word tables.Curve = codes "curve"
 
 abbrev pub all_tables : List Table
 all_tables =
-    tables.Group ∷ tables.Security ∷ tables.Line ∷ tables.Bank ∷ tables.Rein ∷ tables.Curve ∷ []
+    tables.Group ∷ tables.Security ∷ tables.Fund ∷ tables.Line ∷ tables.Bank ∷ tables.Rein ∷ tables.Curve ∷ []
 
 abbrev pub group_kind_word : GroupKind → List ℕ
 group_kind_word groups.Name = codes "name"

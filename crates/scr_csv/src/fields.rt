@@ -20,7 +20,8 @@ use csv::ByteRecord;
 use scr_dates::{Day, parse_day};
 use scr_factors::Set;
 use scr_sheet::{
-    AbsorbKey, CatKey, Class, Edit, Flows, GroupKind, LineKind, Name, Projection, Rates, Table,
+    AbsorbKey, CatKey, Class, Components, Edit, Flows, GroupKind, LineKind, Name, Projection,
+    Rates, Table,
 };
 use std::alloc::Global;
 use std::marker::Model;
@@ -244,7 +245,7 @@ impl<'a> Fields<'a> {
 
     /// The fields that are left, in pairs of a date and a number.
     pub fn flows(&mut self, alloc: Global) -> Result<Flows, LineFault>
-        ensures answer { Answers (pairs_from self.old.number self.old.fields) result }
+        ensures answer { Answers (pairs_from day_of_text self.old.number self.old.fields) result }
         ensures formed { IfOk result formed.AreFlows }
     {
         let mut flows = Vec::new(alloc);
@@ -254,5 +255,21 @@ impl<'a> Fields<'a> {
             flows.push((date, amount)).map_err(|_| LineFault::NoMemory)?;
         }
         Ok(Flows::new(flows))
+    }
+
+    /// The fields that are left, in pairs of a name and a number.
+    pub fn components(&mut self, alloc: Global) -> Result<Components, LineFault>
+        ensures answer { Answers (pairs_from forms_of.name_of self.old.number self.old.fields) result }
+        ensures formed { IfOk result formed.AreComponents }
+    {
+        let mut components = Vec::new(alloc);
+        'components: while !self.is_at_end() {
+            let name = self.name()?;
+            let weight = self.number()?;
+            components
+                .push((name, weight))
+                .map_err(|_| LineFault::NoMemory)?;
+        }
+        Ok(Components::new(components))
     }
 }

@@ -12,7 +12,7 @@ use std::alloc::Global;
 
 /// The record that a line of at most 64 MiB spells, or its first fault. The line's bytes are those from 20 to 7E, and
 /// csv splits it into fields: the verb, and what the verb asks for. Each record that is read has its form; whether a
-/// list is too long, and whether the record may be applied, is for the book to say.
+/// list is too long or has a component twice, and whether the record may be applied, is for the book to say.
 ///
 /// Memory is taken for the members of a list and for a line with double quotes. Want of it may be told in place of
 /// any answer.

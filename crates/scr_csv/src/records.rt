@@ -72,7 +72,17 @@ fn flows_record(alloc: Global, fields: &mut Fields<'_>) -> Result<Edit, LineFaul
     Ok(Edit::Flows { security, flows })
 }
 
-/// The cents held directly of a security.
+/// A fund with its components and their weights.
+fn fund_record(alloc: Global, fields: &mut Fields<'_>) -> Result<Edit, LineFault>
+    ensures answer { Answers (spec.fund_record fields.old) result }
+    ensures formed { IfOk result Formed }
+{
+    let name = fields.name()?;
+    let components = fields.components(alloc)?;
+    Ok(Edit::Fund { name, components })
+}
+
+/// The cents held directly of a security or a fund.
 fn hold_record(fields: &mut Fields<'_>) -> Result<Edit, LineFault>
     ensures value { result ≡ spec.hold_record fields.old }
     ensures formed { IfOk result Formed }
@@ -288,6 +298,7 @@ pub fn read_record(alloc: Global, fields: &mut Fields<'_>) -> Result<Edit, LineF
         Verb::Group => group_record(fields),
         Verb::Security => security_record(fields),
         Verb::Flows => flows_record(alloc, fields),
+        Verb::Fund => fund_record(alloc, fields),
         Verb::Hold => hold_record(fields),
         Verb::Line => line_record(fields),
         Verb::LineFlows => line_flows_record(alloc, fields),

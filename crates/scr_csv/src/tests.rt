@@ -3,7 +3,8 @@ use crate::{LineFault, lines, read_line};
 use scr_dates::Day;
 use scr_factors::Set;
 use scr_sheet::{
-    AbsorbKey, CatKey, Class, Edit, Flows, GroupKind, LineKind, Name, Projection, Rates, Table,
+    AbsorbKey, CatKey, Class, Components, Edit, Flows, GroupKind, LineKind, Name, Projection,
+    Rates, Table,
 };
 use std::alloc::AllocError;
 use std::process::Abort;
@@ -34,10 +35,11 @@ fn spells(rt: &(impl Abort + AllocGlobal), line: &str, edit: &Edit) -> Result<bo
 #[test]
 fn records_of_assets_spell_their_fields(rt: HostRuntime) -> Result<(), Fail> {
     let alloc = rt.alloc();
-    let (security, currency) = (name(&rt, "S"), name(&rt, "USD"));
+    let (security, fund, currency) = (name(&rt, "S"), name(&rt, "F.1"), name(&rt, "USD"));
     let rates = Rates::new(vec![in alloc; 20_000, -5]?);
     let none = Rates::new(Vec::new(alloc));
     let flows = Flows::new(vec![in alloc; (NEW_YEARS_EVE, 7), (Day { number: 1 }, -7)]?);
+    let components = Components::new(vec![in alloc; (security, 600_000), (currency, -4)]?);
     for (line, edit) in [
         (
             "asof,2034-12-31,USD",
@@ -102,10 +104,31 @@ fn records_of_assets_spell_their_fields(rt: HostRuntime) -> Result<(), Fail> {
             },
         ),
         (
+            "fund,F.1,S,600000,USD,-4",
+            Edit::Fund {
+                name: fund,
+                components,
+            },
+        ),
+        (
+            "fund,F.1",
+            Edit::Fund {
+                name: fund,
+                components: Components::new(Vec::new(alloc)),
+            },
+        ),
+        (
             "hold,S,100",
             Edit::Hold {
                 name: security,
                 cents: 100,
+            },
+        ),
+        (
+            "drop,fund,F.1",
+            Edit::Remove {
+                table: Table::Fund,
+                name: fund,
             },
         ),
         (
@@ -335,7 +358,7 @@ fn verbs_and_bytes_outside_their_lists_are_refused(rt: HostRuntime) {
         "HOLD,S,5",
         "hold ,S,5",
         " hold,S,5",
-        "fund,F,S",
+        "funds,F,S,5",
         "form,1",
         "\"hold,S,5",
         "hold,S,5\0",
@@ -365,6 +388,10 @@ fn fields_that_are_missing_or_surplus_are_refused(rt: HostRuntime) {
         ("flows,S,2034-12-31", 3),
         ("flows,S,2034-12-31,5,2034-12-31", 5),
         ("lflow,L,base,2034-12-31", 4),
+        ("fund", 1),
+        ("fund,F,S", 3),
+        ("fund,F,S,5,T", 5),
+        ("fund,F,S,5,", 4),
     ] {
         assert_eq!(rt; refused(&rt, line), Some(field), "{line}");
     }
@@ -390,6 +417,12 @@ fn fields_of_another_form_are_refused(rt: HostRuntime) {
         ("asof,2024-12-31,EURO", 2),
         ("flows,S,2034-12-31,5,x,y", 4),
         ("flows,S,2034-12-31,x", 3),
+        ("fund,,S,5", 1),
+        ("fund,F,-,5", 2),
+        ("fund,F,-", 2),
+        ("fund,F,S,x", 3),
+        ("fund,F,S,5,T,1000000000000000000", 5),
+        ("fund,F,5,S", 3),
     ] {
         assert_eq!(rt; refused(&rt, line), Some(field), "{line}");
     }
@@ -418,7 +451,8 @@ fn words_and_small_numbers_outside_their_lists_are_refused(rt: HostRuntime) {
         ("absorb,currency.EUR,1", 1),
         ("absorb,currency.EUR.up.,1", 1),
         ("cat,life,1", 1),
-        ("drop,fund,F", 1),
+        ("drop,funds,F", 1),
+        ("drop,fund,-", 2),
     ] {
         assert_eq!(rt; refused(&rt, line), Some(field), "{line}");
     }

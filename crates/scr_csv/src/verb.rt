@@ -6,6 +6,7 @@ pub enum Verb {
     Group,
     Security,
     Flows,
+    Fund,
     Hold,
     Line,
     LineFlows,

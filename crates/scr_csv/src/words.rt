@@ -8,12 +8,13 @@ use crate::verb::Verb;
 use scr_factors::Set;
 use scr_sheet::{AbsorbKey, CatKey, Class, GroupKind, LineKind, Projection, Table};
 
-const VERBS: [Verb; 21] = [
+const VERBS: [Verb; 22] = [
     Verb::Asof,
     Verb::Curve,
     Verb::Group,
     Verb::Security,
     Verb::Flows,
+    Verb::Fund,
     Verb::Hold,
     Verb::Line,
     Verb::LineFlows,
@@ -41,6 +42,7 @@ fn verb_word(verb: Verb) -> &'static [u8]
         Verb::Group => b"group",
         Verb::Security => b"sec",
         Verb::Flows => b"flows",
+        Verb::Fund => b"fund",
         Verb::Hold => b"hold",
         Verb::Line => b"line",
         Verb::LineFlows => b"lflow",
@@ -66,9 +68,10 @@ pub fn verb(text: &[u8]) -> Option<Verb>
     VERBS.iter().copied().find(|verb| verb_word(*verb) == text)
 }
 
-const TABLES: [Table; 6] = [
+const TABLES: [Table; 7] = [
     Table::Group,
     Table::Security,
+    Table::Fund,
     Table::Line,
     Table::Bank,
     Table::Rein,
@@ -81,6 +84,7 @@ fn table_word(table: Table) -> &'static [u8]
     match table {
         Table::Group => b"group",
         Table::Security => b"sec",
+        Table::Fund => b"fund",
         Table::Line => b"line",
         Table::Bank => b"bank",
         Table::Rein => b"rein",

@@ -28,6 +28,7 @@ read_verb verbs.Curve = refl
 read_verb verbs.Group = refl
 read_verb verbs.Security = refl
 read_verb verbs.Flows = refl
+read_verb verbs.Fund = refl
 read_verb verbs.Hold = refl
 read_verb verbs.Line = refl
 read_verb verbs.LineFlows = refl
@@ -52,6 +53,7 @@ read_table : (table : Table) → value_of table_word all_tables (table_word tabl
 unfolding value_of
 read_table tables.Group = refl
 read_table tables.Security = refl
+read_table tables.Fund = refl
 read_table tables.Line = refl
 read_table tables.Bank = refl
 read_table tables.Rein = refl
