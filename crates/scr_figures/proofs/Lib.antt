@@ -1,0 +1,16 @@
+pub mod HolderNames
+pub mod FundRows
+pub mod SeenThrough
+pub mod RateLemmas
+pub mod PaymentLemmas
+pub mod CurrencyLemmas
+pub mod CellLemmas
+pub mod ClassTotals
+pub mod Millions
+pub mod Dues
+pub mod Securities
+pub mod Lines
+pub mod RowSums
+pub mod Currencies
+pub mod LowEnds
+pub mod Displayed

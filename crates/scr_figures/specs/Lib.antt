@@ -1,0 +1,10 @@
+pub mod Amounts
+pub mod Equity
+pub mod Interest
+pub mod InterestWorked
+pub mod Cells
+pub mod CellNames
+pub mod Shown
+pub mod CurrencyRates
+pub mod Losses
+pub mod ByNumber
