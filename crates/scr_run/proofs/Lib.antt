@@ -1,5 +1,3 @@
-pub mod ClassTotals
-pub mod BlockText
 pub mod Bounds
 pub mod Printed
 pub mod Outcomes

@@ -191,7 +191,7 @@ module _ (text : List ℕ) (refused : Bool) (old new : Option (List ℕ)) (befor
 
 all_enclose : (sheets : List BalanceSheet) → AllByRecursion Valid sheets → AllByRecursion BoundsEnclose sheets
 all_enclose [] valid = tt
-all_enclose (sheet ∷ sheets) valid = (bounds_enclose sheet, all_enclose sheets valid.1)
+all_enclose (sheet ∷ sheets) valid = (bounds_enclose sheet valid.0, all_enclose sheets valid.1)
 
 -- the run came to the report
 module _ (content : List ℕ → Content) (book_name edits_name book edits : List ℕ) (sheet : BalanceSheet)

@@ -13,6 +13,7 @@ Recorded due old (Err (faults.Syntax k)) new = (due ≡ Err (faults.Syntax k)) �
 Recorded due old (Err (faults.UnknownName name)) new = (due ≡ Err (faults.UnknownName name)) × (new ≡ old)
 Recorded due old (Err (faults.WrongKind name)) new = (due ≡ Err (faults.WrongKind name)) × (new ≡ old)
 Recorded due old (Err (faults.InUse name user)) new = (due ≡ Err (faults.InUse name user)) × (new ≡ old)
+Recorded due old (Err (faults.Cycle path)) new = (due ≡ Err (faults.Cycle path)) × (new ≡ old)
 Recorded due old (Err (faults.Range quantity value limit)) new = (due ≡ Err (faults.Range quantity value limit)) × (new ≡ old)
 Recorded due old (Err faults.NoMemory) new = new ≡ old
 

@@ -1,7 +1,6 @@
 pub mod BookFile
 pub mod Amounts
 pub mod Words
-pub mod Equity
 pub mod Report
 pub mod BookAnswers
 pub mod Codes

@@ -1,9 +1,12 @@
 //! What the definitions of the report come to, whatever a program does.
 ghost use Rattle.scr_sheet.specs.BalanceSheet.{BalanceSheet};
-ghost use Rattle.scr_run.specs.Report.{WorkedEncloses, BoundsEnclose};
+ghost use Rattle.scr_sheet.specs.Validity.{Valid};
+ghost use Rattle.scr_figures.specs.Cells.{equity_cells};
+ghost use Rattle.scr_run.specs.Report.{AreBounded, BoundsEnclose};
 
-/// For every balance sheet each cell's figure as worked out encloses the exact figure, and so do its printed bounds.
+/// For every valid balance sheet the printed bounds of each cell enclose its exact figure. Those of equity risk do for every
+/// balance sheet.
 pub fn enclosure()
-    ensures worked { (sheet : BalanceSheet) → WorkedEncloses sheet }
-    ensures printed { (sheet : BalanceSheet) → BoundsEnclose sheet }
+    ensures printed { (sheet : BalanceSheet) → Valid sheet → BoundsEnclose sheet }
+    ensures equity { (sheet : BalanceSheet) → AreBounded (equity_cells sheet) }
 {}

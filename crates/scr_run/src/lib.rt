@@ -4,7 +4,6 @@
 mod factor_file;
 mod file;
 mod files;
-mod holdings;
 pub mod laws;
 mod printing;
 mod replies;

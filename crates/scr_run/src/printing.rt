@@ -1,14 +1,15 @@
 //! How figures and faults are printed.
 ghost use Rattle.std.specs.Prelude.{◌≡◌, ℕ, ◌++◌, ◌<◌, ◌^◌, decimal, unsigned_abs, OnOk};
 ghost use Rattle.std.specs.Fmt.{signed_decimal};
-ghost use Rattle.scr_num.specs.Rounding.{ends};
 ghost use Rattle.scr_run.specs.Amounts.{amount, euros};
-ghost use Rattle.scr_run.specs.FaultTexts.{fault_number, fault_text, syntax_text, labelled_name, in_use_text, absorb_user, user_text, range_text, quantity_name};
+ghost use Rattle.scr_run.specs.FaultTexts.{fault_number, fault_text, syntax_text, labelled_name, in_use_text, cycle_text, next_name, path_text, absorb_user, user_text, range_text, quantity_name};
 ghost use Rattle.scr_csv.specs.KeyWords.{absorb_text};
-ghost use Rattle.scr_run.specs.Report.{ends_line, bounds_line, bound};
+ghost use Rattle.scr_figures.specs.Shown.{shown};
+ghost use Rattle.scr_run.specs.Report.{cell_line, bounds_line, close_mark, bound};
 
-use scr_book::{AbsorbKey, Fault, Name, Quantity, User};
+use scr_book::{AbsorbKey, Fault, Name, Names, Quantity, User};
 use scr_csv::push_absorb_key;
+use scr_figures::Cell;
 use scr_num::{Span, scale};
 use std::alloc::{AllocError as NoMemory, Global};
 
@@ -31,24 +32,39 @@ pub fn push_number(alloc: Global, out: &mut Vec<u8>, number: u32) -> Result<(), 
     push(out, digits.as_str())
 }
 
-/// Appends a cell's line: its name, and a span of grains as a lower and an upper bound in cents.
-#[tactic(auto, unfolding(crate::specs::Report::ends_line))]
-pub fn push_cell(alloc: Global, out: &mut Vec<u8>, name: &str, span: Span) -> Result<(), NoMemory>
-    requires low_fits { unsigned_abs span.low < 2 ^ 127 }
-    requires high_fits { unsigned_abs span.high < 2 ^ 127 }
-    ensures { OnOk result (out.new.items ≡ out.old.items ++ ends_line name.now (ends span)) }
+/// Appends a cell's line: its name, its span of grains as a lower and an upper bound in cents, and the mark of a choice
+/// that is left open.
+#[tactic(auto, unfolding(crate::specs::Report::cell_line))]
+pub fn push_cell(alloc: Global, out: &mut Vec<u8>, cell: Cell) -> Result<(), NoMemory>
+    requires low_fits { unsigned_abs cell.span.low < 2 ^ 127 }
+    requires high_fits { unsigned_abs cell.span.high < 2 ^ 127 }
+    ensures { OnOk result (out.new.items ≡ out.old.items ++ cell_line (shown cell)) }
 {
-    push_bounds(alloc, out, name, scale(span, 1, 1000))
+    let cents = scale(cell.span, 1, 1000);
+    push_bounds(alloc, out, cell.name.as_str(), cents, cell.close)
 }
 
 #[tactic(auto, unfolding(crate::specs::Report::bounds_line))]
-fn push_bounds(alloc: Global, out: &mut Vec<u8>, name: &str, cents: Span) -> Result<(), NoMemory>
-    ensures { OnOk result (out.new.items ≡ out.old.items ++ bounds_line name.now cents.low cents.high) }
+fn push_bounds(
+    alloc: Global,
+    out: &mut Vec<u8>,
+    name: &str,
+    cents: Span,
+    close: bool,
+) -> Result<(), NoMemory>
+    ensures { OnOk result (out.new.items ≡ out.old.items ++ bounds_line name.now cents.low cents.high close) }
 {
     push(out, name)?;
     push_bound(alloc, out, Cents(cents.low))?;
     push_bound(alloc, out, Cents(cents.high))?;
+    push(out, close_mark(close))?;
     push(out, "\n")
+}
+
+fn close_mark(close: bool) -> &'static str
+    ensures { result.now ≡ close_mark close }
+{
+    if close { " close" } else { "" }
 }
 
 #[tactic(auto, unfolding(crate::specs::Report::bound))]
@@ -88,6 +104,7 @@ pub fn number_of(fault: &Fault) -> u32
         Fault::UnknownName(_) => 2,
         Fault::WrongKind(_) => 3,
         Fault::InUse(..) => 4,
+        Fault::Cycle(_) => 5,
         Fault::Range(..) => 6,
         Fault::NoMemory => 7,
     }
@@ -102,6 +119,7 @@ pub fn push_fault(alloc: Global, out: &mut Vec<u8>, fault: &Fault) -> Result<(),
         Fault::UnknownName(name) => push_named(out, "unknown name ", name),
         Fault::WrongKind(name) => push_named(out, "wrong kind ", name),
         Fault::InUse(name, user) => push_in_use(out, name, user),
+        Fault::Cycle(path) => push_cycle(out, path),
         Fault::Range(quantity, value, limit) => {
             push_range(alloc, out, *quantity, *value, *limit)
         }
@@ -138,6 +156,36 @@ fn push_in_use(out: &mut Vec<u8>, name: &Name, user: &User) -> Result<(), NoMemo
     push_name(out, name)?;
     push(out, " in use by ")?;
     push_user(out, user)
+}
+
+#[tactic(auto, unfolding(crate::specs::FaultTexts::cycle_text))]
+fn push_cycle(out: &mut Vec<u8>, path: &Names) -> Result<(), NoMemory>
+    ensures { OnOk result (out.new.items ≡ out.old.items ++ cycle_text path.now) }
+{
+    push(out, "cycle ")?;
+    push_path(out, path.as_slice())
+}
+
+// The names one after another, with a mark before each but the first.
+fn push_path(out: &mut Vec<u8>, names: &[Name]) -> Result<(), NoMemory>
+    ensures { OnOk result (out.new.items ≡ out.old.items ++ path_text names.now) }
+{
+    let Some((first, others)) = names.split_first() else {
+        return Ok(());
+    };
+    push_name(out, first)?;
+    for name in others {
+        push_next_name(out, name)?;
+    }
+    Ok(())
+}
+
+#[tactic(auto, unfolding(crate::specs::FaultTexts::next_name))]
+fn push_next_name(out: &mut Vec<u8>, name: &Name) -> Result<(), NoMemory>
+    ensures { OnOk result (out.new.items ≡ out.old.items ++ next_name name.now) }
+{
+    push(out, " > ")?;
+    push_name(out, name)
 }
 
 fn push_user(out: &mut Vec<u8>, user: &User) -> Result<(), NoMemory>
@@ -182,6 +230,7 @@ fn name_of(quantity: Quantity) -> &'static str
     match quantity {
         Quantity::Rate => "rate",
         Quantity::Duration => "duration",
+        Quantity::Weight => "weight",
         Quantity::Flow => "flow",
         Quantity::Hold => "hold",
         Quantity::Amount => "amount",
@@ -196,6 +245,8 @@ fn name_of(quantity: Quantity) -> &'static str
         Quantity::Years => "years",
         Quantity::Currencies => "currencies",
         Quantity::Securities => "securities",
+        Quantity::Funds => "funds",
+        Quantity::Components => "components",
         Quantity::Lines => "lines",
         Quantity::Groups => "groups",
         Quantity::Exposures => "exposures",

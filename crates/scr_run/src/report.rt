@@ -1,15 +1,15 @@
 //! The blocks of the report.
-ghost use Rattle.std.specs.Prelude.{◌≡◌, ℕ, ◌≤◌, ◌<◌, ◌++◌, length, slice_index_or, is_err, OnOk, IfOk};
+ghost use Rattle.std.specs.Prelude.{◌≡◌, ℕ, ◌≤◌, ◌<◌, ◌^◌, ◌++◌, flat_map, length, map, unsigned_abs, is_err, OnOk, IfOk};
+ghost use Rattle.std.specs.List.{All};
 ghost use Rattle.scr_sheet.specs.Validity.{Valid};
 ghost use Rattle.scr_run.specs.BookFile.{recorded};
-ghost use Rattle.scr_run.specs.Report.{block_text, opening_text, reply_start, accepted_text, refused_text, reply_text, after};
+ghost use Rattle.scr_figures.specs.Shown.{shown};
+ghost use Rattle.scr_run.specs.Report.{block_text, cell_line, opening_text, reply_start, accepted_text, refused_text, reply_text, after};
 
 use crate::file::record;
-use crate::holdings::equity_sums;
 use crate::printing::{number_of, push, push_cell, push_fault, push_number};
-use scr_agg::net;
-use scr_book::{AbsorbKey, Book, Fault};
-use scr_market::equity;
+use scr_book::{Book, Fault};
+use scr_figures::{Cell, cells};
 use std::alloc::{AllocError as NoMemory, Global};
 
 /// The reply to a record of the edits.
@@ -89,18 +89,21 @@ fn start(alloc: Global, number: u32) -> Result<Vec<u8>, NoMemory>
 }
 
 /// Appends the lines of all cells of the book.
+#[tactic(auto, unfolding(crate::specs::Report::block_text))]
 fn push_block(alloc: Global, out: &mut Vec<u8>, book: &Book) -> Result<(), NoMemory>
     ensures text { OnOk result (out.new.items ≡ out.old.items ++ block_text book.now) }
-    ensures valid { Valid book.now }
+    ensures valid { OnOk result (Valid book.now) }
 {
-    let numbers = book.numbers();
-    let equity = equity(&equity_sums(book), numbers.sym);
-    let net = net(equity.all, numbers.absorbed(AbsorbKey::Equity));
-    push_cell(alloc, out, "S2601.equity.type1", equity.type1)?;
-    push_cell(alloc, out, "S2601.equity.type2", equity.type2)?;
-    push_cell(alloc, out, "S2601.equity.infra", equity.infra)?;
-    push_cell(alloc, out, "S2601.equity.infracorp", equity.infracorp)?;
-    push_cell(alloc, out, "S2601.equity.gross", equity.all)?;
-    push_cell(alloc, out, "S2601.equity.net", net)?;
+    let block = cells(alloc, book)?;
+    push_cells(alloc, out, &block)
+}
+
+fn push_cells(alloc: Global, out: &mut Vec<u8>, cells: &[Cell]) -> Result<(), NoMemory>
+    requires { All (λ c. (unsigned_abs c.span.low < 2 ^ 127) × (unsigned_abs c.span.high < 2 ^ 127)) cells.now }
+    ensures { OnOk result (out.new.items ≡ out.old.items ++ flat_map cell_line (map shown cells.now)) }
+{
+    for cell in cells {
+        push_cell(alloc, out, *cell)?;
+    }
     Ok(())
 }

@@ -13,7 +13,7 @@ pub enum Which {
 }
 
 /// How a run ended.
-#[derive(Clone, Copy, Debug, PartialEq, Eq)]
+#[derive(Debug, PartialEq, Eq, Drop)]
 pub enum Status {
     /// All was read and written, and every edit was accepted.
     Done,

@@ -14,6 +14,12 @@ const BOOK: &str =
     "sec,ALPHA,eq1,-,EUR,0\nhold,ALPHA,100000\nsec,BETA,eq2,-,EUR,0\nhold,BETA,50000\n";
 
 const OPENING: &str = "# 0 book
+S2601.interest.up.gross 0.00 0.00
+S2601.interest.up.net 0.00 0.00
+S2601.interest.down.gross 0.00 0.00
+S2601.interest.down.net 0.00 0.00
+S2601.interest.gross 0.00 0.00
+S2601.interest.net 0.00 0.00
 S2601.equity.type1 390.00 390.00
 S2601.equity.type2 245.00 245.00
 S2601.equity.infra 0.00 0.00
@@ -23,7 +29,13 @@ S2601.equity.net 596.19 596.20
 ";
 
 /// The block of a book in which nothing is held.
-const NOTHING: &str = "S2601.equity.type1 0.00 0.00
+const NOTHING: &str = "S2601.interest.up.gross 0.00 0.00
+S2601.interest.up.net 0.00 0.00
+S2601.interest.down.gross 0.00 0.00
+S2601.interest.down.net 0.00 0.00
+S2601.interest.gross 0.00 0.00
+S2601.interest.net 0.00 0.00
+S2601.equity.type1 0.00 0.00
 S2601.equity.type2 0.00 0.00
 S2601.equity.infra 0.00 0.00
 S2601.equity.infracorp 0.00 0.00
@@ -32,7 +44,13 @@ S2601.equity.net 0.00 0.00
 ";
 
 /// The block of a book in which 1,000 euros of listed shares are held.
-const SHARES: &str = "S2601.equity.type1 390.00 390.00
+const SHARES: &str = "S2601.interest.up.gross 0.00 0.00
+S2601.interest.up.net 0.00 0.00
+S2601.interest.down.gross 0.00 0.00
+S2601.interest.down.net 0.00 0.00
+S2601.interest.gross 0.00 0.00
+S2601.interest.net 0.00 0.00
+S2601.equity.type1 390.00 390.00
 S2601.equity.type2 0.00 0.00
 S2601.equity.infra 0.00 0.00
 S2601.equity.infracorp 0.00 0.00
@@ -41,7 +59,13 @@ S2601.equity.net 390.00 390.00
 ";
 
 /// The block of a book in which as much is held of listed shares as may be.
-const MOST: &str = "S2601.equity.type1 195000000000.00 195000000000.00
+const MOST: &str = "S2601.interest.up.gross 0.00 0.00
+S2601.interest.up.net 0.00 0.00
+S2601.interest.down.gross 0.00 0.00
+S2601.interest.down.net 0.00 0.00
+S2601.interest.gross 0.00 0.00
+S2601.interest.net 0.00 0.00
+S2601.equity.type1 195000000000.00 195000000000.00
 S2601.equity.type2 0.00 0.00
 S2601.equity.infra 0.00 0.00
 S2601.equity.infracorp 0.00 0.00

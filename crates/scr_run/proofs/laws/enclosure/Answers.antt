@@ -1,8 +1,5 @@
-use Rattle.scr_run.proofs.Bounds.{worked_encloses, bounds_enclose}
+use Rattle.scr_run.proofs.Bounds.{bounds_enclose, equity_bounded}
 use Rattle.scr_run.proofs.laws.enclosure.Goals as goal
 
-pub returns-clause-worked : goal.returns-clause-worked
-returns-clause-worked c = worked_encloses
-
-pub returns-clause-printed : goal.returns-clause-printed
-returns-clause-printed c = bounds_enclose
+pub returns : goal.returns
+returns c = record { printed = bounds_enclose; equity = equity_bounded }
