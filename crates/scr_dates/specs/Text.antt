@@ -1,4 +1,4 @@
--- The text of a date, `YYYY-MM-DD`.
+-- The text of a date, `YYYY-MM-DD` (this project's own).
 use Rattle.std.specs.Prelude.{ℕ, ◌+◌, ◌-◌, ◌*◌, nat_le, Bool, ◌&&◌, ◌==◌, if◌then◌else◌, List, length, slice_index, Option, Some, None, pos}
 use Rattle.std.specs.Char.{is_ascii_digit}
 use Rattle.jiff_core.specs.Calendar.{days_in_month}

@@ -1,8 +1,7 @@
 -- What is read has its form.
-use Rattle.std.proofs.Common.{◌≡◌, ℕ, zero, suc, ◌+◌, ◌<◌, ◌≤◌, Bool, true, false, List, [], ◌∷◌, ◌++◌, map, replicate, length, get_or, Option, Some, None, Result, Ok, Err, All, cond, inl, inr, refl, sym, ap, ◌∙◌, arith, rules, nat_eq, pos}
+use Rattle.std.proofs.Common.{◌≡◌, ℕ, suc, ◌<◌, ◌≤◌, Bool, true, false, List, [], ◌∷◌, ◌++◌, map, replicate, length, get_or, Option, Some, None, Result, Ok, Err, All, cond, refl, sym, ap, ◌∙◌, arith, rules, nat_eq, pos}
 use Rattle.std.specs.Prelude.{option_and_then, ok_or}
-use Rattle.std.specs.List.{list_all, range_with_len}
-use Rattle.std.proofs.lemmas.Bool.{cases_lt, and_parts, eqb-true}
+use Rattle.std.proofs.lemmas.Bool.{eqb-true}
 use Rattle.std.proofs.lemmas.List.{get_or_append_left, get_or-map, length-map}
 use Rattle.std.proofs.lemmas.Int.{ints}
 use Rattle.std.proofs.lemmas.List.Elements.{All-cons, All-nil}
@@ -17,6 +16,7 @@ use Rattle.scr_factors.specs.Matrix.{entry, IsCorrelation}
 use Rattle.scr_factors.specs.Reading.{◌>>=◌, formed, taken, numbers, rows, matrix_of, padded}
 use Rattle.scr_factors.specs.Values.{IsRow}
 use Rattle.scr_factors.proofs.FormLemmas.{list_of-all, whole_number-bound}
+use Rattle.scr_factors.proofs.Ranges.{all-range}
 use Rattle.scr_factors.proofs.SegmentLemmas.{coefficient_same}
 
 ok_or-ok : {A : Type 0} (o : Option A) (fault : FactorFault) (a : A) → ok_or o fault ≡ Ok a → o ≡ Some a
@@ -92,15 +92,6 @@ entry-matrix_of found i j h a b =
     let cell : get_or (padded (get_or found i [])) j (pos 0) ≡ pos (get_or (get_or found i []) j 0) =
     get_or_append_left (map pos (get_or found i [])) (replicate 4 (pos 0)) (pos 0) j (rw length-map within) ∙ get_or-map pos (get_or found i []) j 0 (pos 0) within in
     rw row cell
-
-all-range : (p : ℕ → Bool) (a n k : ℕ) → list_all p (range_with_len a n) ≡ true → a ≤ k → k < a + n → p k ≡ true
-all-range p a zero k h low high = absurd (omega arith)
-all-range p a (suc n) k h low high =
-    let (here, more) = and_parts (p a) (list_all p (range_with_len (a + 1) n)) h in
-    elim (cases_lt a k) [
-      | inl lt ↦ all-range p (a + 1) n k more (omega arith) (omega arith)
-      | inr ge ↦ let same : k ≡ a = omega arith in rw same here
-    ]
 
 -- and is a matrix of correlation coefficients where they are symmetric
 pub matrix_of-correlation : (found : List (List ℕ)) → AreCorrelations found → first_asymmetry found ≡ None → IsCorrelation (matrix_of found)

@@ -5,6 +5,7 @@ use Rattle.std.proofs.lemmas.Bool.Decides.{eqb_tells}
 use Rattle.std.specs.List.{find, flat_map, range_with_len}
 use Rattle.std.specs.Option.{option_or}
 use Rattle.std.proofs.lemmas.List.Folds.{find-append}
+use Rattle.scr_factors.proofs.Ranges.{find-range}
 use Rattle.scr_factors.specs.Forms.{coefficient, differs, pairs_in_row, pairs, first_asymmetry}
 
 chosen : {A B : Type 0} (f : A → B) (b : Bool) (x : A) (o : Option A) (r : Option B) → r ≡ option_map f o → cond b (Some (f x)) r ≡ option_map f (cond b (Some x) o)
@@ -51,23 +52,6 @@ searched_to-next rows i lt h e = record { rest = searched_to-row rows i lt h ∙
 
 pub searched_to-end : (rows : List (List ℕ)) → SearchedTo rows 12 → first_asymmetry rows ≡ None
 searched_to-end rows h = h.rest
-
-find-cons : {A : Type 0} (p : A → Bool) (x : A) (xs : List A) → find p (x ∷ xs) ≡ None → (p x ≡ false) × (find p xs ≡ None)
-find-cons p x xs h = go (p x) refl h
-  where
-    go : (b : Bool) → p x ≡ b → cond b (Some x) (find p xs) ≡ None → (p x ≡ false) × (find p xs ≡ None)
-    go true e none = cc
-    go false e none = (e, none)
-
--- where a search over numbers in a row finds none, none of them passes
-find-range : (p : ℕ → Bool) (a n k : ℕ) → find p (range_with_len a n) ≡ None → a ≤ k → k < a + n → p k ≡ false
-find-range p a zero k h low high = absurd (omega arith)
-find-range p a (suc n) k h low high =
-    let (here, more) = find-cons p a (range_with_len (a + 1) n) h in
-    elim (cases_lt a k) [
-      | inl lt ↦ find-range p (a + 1) n k more (omega arith) (omega arith)
-      | inr ge ↦ let same : k ≡ a = omega arith in rw same here
-    ]
 
 both_none : {A : Type 0} (o r : Option A) → option_or o r ≡ None → (o ≡ None) × (r ≡ None)
 both_none None r h = (refl, h)

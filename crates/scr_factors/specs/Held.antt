@@ -1,4 +1,4 @@
--- What contracts see of a `Factors`.
+-- What contracts see of a `Factors` (this project's own).
 use Rattle.scr_factors.specs.declared.values.Factors.TheInside.{Inside}
 use Rattle.scr_factors.specs.Values.{FactorValues}
 

@@ -1,4 +1,5 @@
--- The stresses of risk-free interest rates of Delegated Regulation (EU) 2015/35.
+-- The stresses of risk-free interest rates (Delegated Regulation (EU) 2015/35, Articles 166 and 167; seventieths of a percent
+-- are this project's own).
 use Rattle.std.specs.Prelude.{ℕ, ◌-◌, ◌*◌, nat_le, if◌then◌else◌, List, [], ◌∷◌, slice_index}
 
 -- the rise of the rates of 1 to 20 years, in percent of the rate: Article 166

@@ -1,4 +1,4 @@
--- The keys of the factor file, and where they stand in it.
+-- The keys of the factor file, and where they stand in it (this project's own).
 use Rattle.std.specs.Prelude.{ℕ, List, Option, Some, None, codes, option_and_then}
 use Rattle.toml.specs.Data.{Data, Members, get_member, as_table}
 use Rattle.scr_factors.specs.declared.key.Key.{Key}

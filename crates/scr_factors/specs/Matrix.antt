@@ -1,4 +1,5 @@
--- Matrices of correlation coefficients.
+-- Matrices of correlation coefficients, as those of Directive 2009/138/EC, Annex IV, and of Delegated Regulation (EU) 2015/35
+-- (whole numbers over a denominator are this project's own).
 use Rattle.std.specs.Prelude.{◌≡◌, ℕ, ◌<◌, ◌≤◌, [], ℤ, pos, neg_ℤ, ◌<ℤ◌, ◌≤ℤ◌, slice_index_or}
 use Rattle.scr_factors.specs.declared.matrix.Matrix.{Matrix}
 

@@ -1,4 +1,4 @@
--- What a factor file holds, or the first fault that it has.
+-- What a factor file holds, or the first fault that it has (this project's own).
 use Rattle.std.specs.Prelude.{◌≡◌, ℕ, ◌+◌, if◌then◌else◌, List, [], ◌∷◌, ◌++◌, map, replicate, Option, Some, None, Result, Ok, Err, ok_or, ℤ, pos}
 use Rattle.std.specs.Str.{is_utf8}
 use Rattle.toml.specs.Data.{Data, Members}

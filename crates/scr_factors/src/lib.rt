@@ -5,6 +5,7 @@ mod correlations;
 mod fault;
 mod forms;
 mod key;
+pub mod laws;
 mod matrix;
 mod read;
 mod segments;

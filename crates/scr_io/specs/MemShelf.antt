@@ -1,4 +1,4 @@
--- How the fields of a `MemShelf` stand for what it holds.
+-- How the fields of a `MemShelf` stand for what it holds (this project's own).
 use Rattle.std.specs.Prelude.{ℕ, ◌<◌, ◌≤◌, List, [], length, drop, Option, None, Some, String, slice_get, map}
 use Rattle.std.specs.Option.{option_map_or, ForSome}
 use Rattle.std.specs.Global.{Global, Vec}

@@ -1,4 +1,4 @@
--- How the fields of a `MemSink` stand for what it holds.
+-- How the fields of a `MemSink` stand for what it holds (this project's own).
 use Rattle.std.specs.Prelude.{◌≤◌, length, vec_capacity}
 use Rattle.scr_io.specs.Memory.{SinkState}
 use Rattle.scr_io.specs.declared.memory.TheConstants.{RESERVE}
@@ -13,7 +13,7 @@ state_of s = record {
   faults = s.faults;
 }
 
--- the reserved room is there, and no more than it is taken
+-- the reserved room is there, and no more than that is taken
 pub record HasRoom (s : Inside) : Type 0 where
   pub reserved : RESERVE ≤ vec_capacity s.bytes
   pub within : length s.bytes.items ≤ RESERVE
