@@ -117,38 +117,26 @@ module _ (components : ℕ → List ℕ) (from to : ℕ) where
           by (inl m) = absurd (at_member (λ f. Contains (components f) to → ⊥) done (tip components from s) h.apart m end)
           by (inr l) = l
 
+      own : length (onto cur []) ≡ length cur
+      own = let steps : length (onto cur []) ≡ length cur + 0 = length-onto cur [] in omega (arith, steps)
+
+      its : (other : List ℕ) (w : Way other) → length w.0 ≡ length other
+      its other w = let steps : length (onto w.0 []) ≡ length w.0 + 0 = length-onto w.0 [] in omega (arith, steps, ap length w.3)
+
       shortest : (other : List ℕ) → Way other → length (onto cur []) ≤ length other
       shortest other w = by (not_later w.0 w.1 w.2)
         where
-          own : length (onto cur []) ≡ length cur + 0
-          own = length-onto cur []
-
-          its : length (onto w.0 []) ≡ length w.0 + 0
-          its = length-onto w.0 []
-
-          same : length (onto w.0 []) ≡ length other
-          same = ap length w.3
-
           by : IsNotLater components from cur w.0 → length (onto cur []) ≤ length other
-          by (inl e) = let k : length cur ≡ length w.0 = ap length e in omega (arith, own, its, same)
-          by (inr (inl l)) = omega (arith, own, its, same)
-          by (inr (inr l)) = let k : length cur ≡ length w.0 = l.0 in omega (arith, own, its, same)
+          by (inl e) = let k : length cur ≡ length w.0 = ap length e in omega (arith, own, its other w)
+          by (inr (inl l)) = omega (arith, own, its other w)
+          by (inr (inr l)) = let k : length cur ≡ length w.0 = l.0 in omega (arith, own, its other w)
 
       first : (other : List ℕ) → Way other → length other ≡ length (onto cur []) → (other ≡ onto cur []) ⊎ ComesEarlier components from (onto cur []) other
       first other w equal = by (not_later w.0 w.1 w.2)
         where
-          own : length (onto cur []) ≡ length cur + 0
-          own = length-onto cur []
-
-          its : length (onto w.0 []) ≡ length w.0 + 0
-          its = length-onto w.0 []
-
-          same : length (onto w.0 []) ≡ length other
-          same = ap length w.3
-
           by : IsNotLater components from cur w.0 → (other ≡ onto cur []) ⊎ ComesEarlier components from (onto cur []) other
           by (inl e) = inl (sym w.3 ∙ ap (λ s. onto s []) (sym e))
-          by (inr (inl l)) = absurd (omega (arith, own, its, same, equal))
+          by (inr (inl l)) = absurd (omega (arith, own, its other w, equal))
           by (inr (inr l)) = inr (subst (ComesEarlier components from (onto cur [])) w.3 (comes_earlier components from cur w.0 [] [] l.1))
 
   -- ---- one component of the current fund is looked at

@@ -1,5 +1,5 @@
 -- What is held of each name, directly and through funds: the one answer to its equation, and no cent is lost.
-use Rattle.std.proofs.Common.{◌≡◌, ℕ, zero, suc, ◌+◌, ◌<◌, ◌≤◌, Bool, true, false, IsTrue, cond, List, [], ◌∷◌, map, length, sum, sum_by, filter, nat_eq, if◌then◌else◌, All, Contains, refl, sym, ap, subst, ◌∙◌, inl, inr, arith, add-one, zero-add}
+use Rattle.std.proofs.Common.{◌≡◌, ℕ, zero, suc, ◌+◌, ◌<◌, ◌≤◌, Bool, true, false, IsTrue, List, [], ◌∷◌, map, length, sum, sum_by, filter, nat_eq, if◌then◌else◌, All, Contains, refl, sym, ap, subst, ◌∙◌, inl, inr, arith, add-one, zero-add}
 use Rattle.std.specs.List.{AllByRecursion, IsDistinct, range_with_len}
 use Rattle.std.specs.Set.{is_member}
 use Rattle.std.proofs.lemmas.Bool.{true≢false, ne_eqb}
@@ -13,7 +13,7 @@ use Rattle.scr_funds.specs.Parts.{first_parts, part_of}
 use Rattle.scr_funds.proofs.Climbs.{acyclic-by_rank, same_or_other, same-equivalence, is_member-from_IsMember, IsMember-from_is_member, IsClimb, climb_on, climb-short}
 use Rattle.scr_funds.proofs.Members.{IsMember, IsMember-from_Contains, Contains-from_IsMember, IsMember-mapped, IsMember-map, at_member}
 use Rattle.scr_funds.proofs.Shares.{first_parts-none, first_parts-step, first_parts-all}
-use Rattle.scr_funds.proofs.SumsBy.{sum_by-same, sum_by-none, sum_by-add, sum_by-swap}
+use Rattle.scr_funds.proofs.SumsBy.{sum_by-same, sum_by-none, sum_by-add, sum_by-swap, sum_by-filter}
 
 -- ---- the parts of a value
 
@@ -26,18 +26,6 @@ parts-so_far value weights (suc k) =
 
 pub parts-whole : (value : ℕ) (weights : List ℕ) → 0 < sum weights → sum (parts_of value weights) ≡ value
 parts-whole value weights positive = parts-so_far value weights (length weights) ∙ first_parts-all value weights positive
-
-sum_by-filter : {X : Type 0} (f : X → ℕ) (p : X → Bool) (xs : List X) → sum_by f (filter p xs) ≡ sum_by (λ x. if p x then f x else 0) xs
-sum_by-filter f p [] = refl
-sum_by-filter f p (x ∷ xs) = by (p x) refl (sum_by-filter f p xs)
-  where
-    by : (t : Bool) → p x ≡ t → sum_by f (filter p xs) ≡ sum_by (λ y. if p y then f y else 0) xs → sum_by f (filter p (x ∷ xs)) ≡ sum_by (λ y. if p y then f y else 0) (x ∷ xs)
-    by true e later =
-        ap (λ b. sum_by f (cond b (x ∷ filter p xs) (filter p xs))) e ∙ sum_by-cons f x (filter p xs) ∙ ap (λ n. f x + n) later
-        ∙ ap (λ b. (if b then f x else 0) + sum_by (λ y. if p y then f y else 0) xs) (sym e) ∙ sym (sum_by-cons (λ y. if p y then f y else 0) x xs)
-    by false e later =
-        ap (λ b. sum_by f (cond b (x ∷ filter p xs) (filter p xs))) e ∙ later ∙ sym (zero-add (sum_by (λ y. if p y then f y else 0) xs))
-        ∙ ap (λ b. (if b then f x else 0) + sum_by (λ y. if p y then f y else 0) xs) (sym e) ∙ sym (sum_by-cons (λ y. if p y then f y else 0) x xs)
 
 -- all that a fund with components has is passed on
 pub passed-whole : {A : Type 0} (value : ℕ) (components : Weighted A) → (0 < length components → 0 < sum (map (λ c. c.1) components))

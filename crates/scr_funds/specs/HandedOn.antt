@@ -1,4 +1,4 @@
--- How far funds have handed out what they have.
+-- How far funds have handed out what they have (this project's own order of the reckoning).
 use Rattle.std.specs.Prelude.{◌≡◌, ℕ, ◌<◌, Contains, List, count_by, nat_eq, slice_index}
 use Rattle.std.specs.List.{IsDistinct}
 use Rattle.scr_funds.specs.LookThrough.{Weighted}

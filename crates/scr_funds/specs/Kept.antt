@@ -1,4 +1,4 @@
--- How the order of funds is kept: a row for each fund.
+-- How the order of funds is kept (this project's own): a row for each fund.
 use Rattle.scr_funds.specs.Components.{Components, IsOrder}
 use Rattle.scr_funds.specs.Search.{rows_of}
 use Rattle.scr_funds.specs.declared.order.FundOrder.TheInside.{Inside}

@@ -1,4 +1,4 @@
--- What the search for a chain notes down.
+-- What the search for a chain notes down (this project's own).
 use Rattle.std.specs.Prelude.{◌≡◌, ℕ, ◌<◌, List, [], ◌∷◌, Vec, Some, map, nat_eq, is_some, if◌then◌else◌, slice_get}
 use Rattle.std.specs.Global.{Global}
 use Rattle.std.specs.Map.{lookup}

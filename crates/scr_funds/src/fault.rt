@@ -51,12 +51,4 @@ impl Places {
     {
         &self.0
     }
-
-    /// Gives the numbers back, without memory.
-    pub fn into_vec(self) -> Vec<u32>
-        ensures { result.items ≡ self }
-    {
-        let Places(numbers) = self;
-        numbers
-    }
 }

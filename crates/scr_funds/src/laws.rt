@@ -55,13 +55,17 @@ pub fn edges()
 {}
 
 /// Where each fund has a name of its own and none leads to itself, the total of a name is what is held of it directly and
-/// its parts in the totals of all funds. Where moreover each fund with components has weights to share by, the totals of
+/// its parts in the totals of all funds, and nothing else satisfies this. Where moreover each fund with components has weights to share by, the totals of
 /// the securities and the closed funds sum to all that is held directly: looking through loses no cent and makes none.
 pub fn look_through()
     ensures equation { (held : List ℕ → ℕ) (funds : List (Shared (List ℕ)))
         → IsDistinct (pointwise nat_eq) (map (λ fund. fund.0) funds) → IsAcyclic (names_in (pointwise nat_eq) funds) → (name : List ℕ)
         → total (pointwise nat_eq) held funds name
         ≡ held name + sum_by (λ fund. part_in (pointwise nat_eq) (total (pointwise nat_eq) held funds fund.0) fund.1 name) funds }
+    ensures only { (held : List ℕ → ℕ) (funds : List (Shared (List ℕ)))
+        → IsDistinct (pointwise nat_eq) (map (λ fund. fund.0) funds) → IsAcyclic (names_in (pointwise nat_eq) funds) → (found : List ℕ → ℕ)
+        → ((name : List ℕ) → found name ≡ held name + sum_by (λ fund. part_in (pointwise nat_eq) (found fund.0) fund.1 name) funds)
+        → (name : List ℕ) → found name ≡ total (pointwise nat_eq) held funds name }
     ensures whole { (held : List ℕ → ℕ) (funds : List (Shared (List ℕ)))
         → IsDistinct (pointwise nat_eq) (map (λ fund. fund.0) funds) → IsAcyclic (names_in (pointwise nat_eq) funds)
         → (names : List (List ℕ)) → IsDistinct (pointwise nat_eq) names → All (λ fund. Contains names fund.0) funds

@@ -1,4 +1,5 @@
-//! Funds: the parts of a fund's value, and the order of funds that hold funds.
+//! Funds: the parts of a fund's value, the order of funds that hold funds, and what is held through them (Article 84 of
+//! Delegated Regulation (EU) 2015/35).
 #![tactic(auto)]
 
 mod fault;

@@ -1,6 +1,4 @@
 //! Worked values, and that each call succeeds where memory is ample.
-ghost use Rattle.std.specs.Prelude.{◌≡◌, []};
-ghost use Rattle.scr_funds.specs.Components.{components_of};
 
 use crate::{FundOrder, Kept, OrderFault, Places, allocate, totals};
 use std::alloc::Global;
@@ -59,9 +57,9 @@ fn set(order: &mut FundOrder, alloc: Global, from: u32, to: &[u32]) -> Result<()
     order.add_edges(alloc, from, to)
 }
 
-fn refused_path(rt: &impl Abort, answer: Result<(), OrderFault>) -> Vec<u32> {
+fn refused_path(rt: &impl Abort, answer: Result<(), OrderFault>) -> Places {
     match answer {
-        Err(OrderFault::Cycle(path)) => path.into_vec(),
+        Err(OrderFault::Cycle(path)) => path,
         _ => panic!(rt; "no cycle"),
     }
 }
@@ -189,7 +187,8 @@ fn a_chain_of_two_thousand_funds_is_walked(rt: HostRuntime) -> Result<(), Fail> 
     for fund in 0..1999 {
         set(&mut order, alloc, fund, &[fund + 1])?;
     }
-    let path = refused_path(&rt, set(&mut order, alloc, 1999, &[0]));
+    let refused = refused_path(&rt, set(&mut order, alloc, 1999, &[0]));
+    let path = refused.as_slice();
     assert_eq!(rt; path.len(), 2001);
     assert_eq!(rt; path[0], 1999);
     for place in 1..2001 {
