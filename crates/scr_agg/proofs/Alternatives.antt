@@ -1,7 +1,7 @@
 -- Which alternatives something beats, and the lists of those that nothing beats.
 use Rattle.std.proofs.Common.{◌≡◌, ℕ, zero, suc, ◌+◌, ◌^◌, ◌<◌, ◌≤◌, pos, Bool, true, false, ltb, inl, inr, ◌⊎◌, subst, List, [], ◌∷◌, ◌++◌, length, get_or, sum_by, refl, sym, ap, ◌∙◌, arith, add-one, length-append}
 use Rattle.std.specs.List.{range_with_len}
-use Rattle.std.proofs.lemmas.Bool.{false_from_ne_true, true≢false, cond-true, cond-false, cases_Bool}
+use Rattle.std.proofs.lemmas.Bool.{cond-true, cond-false, cases_Bool}
 use Rattle.std.proofs.lemmas.List.{length-map, get_or-map}
 use Rattle.std.proofs.lemmas.List.Sums.{sum_by-append}
 use Rattle.std.proofs.lemmas.List.Folds.{list_any_at, list_any_none}
@@ -34,10 +34,6 @@ is_beaten-none list place h =
     (λ k d lt. let below : k < length list = rw length-range_with_len at lt in
     ap (λ n. Beats list n place) (get_or-range_with_len 0 (length list) k d below ∙ omega arith) ∙ h k below)
 
-pub is_beaten-each : (list : List Alternative) (place : ℕ) → is_beaten list place ≡ false → (j : ℕ) → j < length list → Beats list j place ≡ false
-is_beaten-each list place h j lt =
-    false_from_ne_true (Beats list j place) (λ e. true≢false (sym (is_beaten-found list place j lt e) ∙ h))
-
 -- ---- the places that nothing beats
 pub unbeaten-skip : (list : List Alternative) (n : ℕ) → is_beaten list n ≡ true → unbeaten_below list (n + 1) ≡ unbeaten_below list n
 unfolding unbeaten_below
@@ -50,6 +46,16 @@ unbeaten-next list n e = rw add-one (cond-false (is_beaten list n) (unbeaten_bel
 pub unbeaten_below-zero : (list : List Alternative) → unbeaten_below list 0 ≡ []
 unfolding unbeaten_below
 unbeaten_below-zero list = refl
+
+-- place by place: what holds of no place stays with one more, be it beaten or not
+pub by_place : (list : List Alternative) (P : ℕ → Type 0) → P 0 → ((n : ℕ) → is_beaten list n ≡ true → P n → P (n + 1)) → ((n : ℕ) → is_beaten list n ≡ false → P n → P (n + 1))
+    → (n : ℕ) → P n
+by_place list P none skip next zero = none
+by_place list P none skip next (suc n) = subst P (add-one n) (step (cases_Bool (is_beaten list n)) (by_place list P none skip next n))
+  where
+    step : (is_beaten list n ≡ true) ⊎ (is_beaten list n ≡ false) → P n → P (n + 1)
+    step (inl e) before = skip n e before
+    step (inr e) before = next n e before
 
 -- ---- the mask
 pub twice : (n : ℕ) → 2 ^ (n + 1) ≡ 2 ^ n + 2 ^ n
@@ -64,17 +70,10 @@ mask-skip list n e = ap (λ ks. sum_by (λ k. 2 ^ k) ks) (unbeaten-skip list n e
 pub mask-next : (list : List Alternative) (n : ℕ) → is_beaten list n ≡ false → mask_below list (n + 1) ≡ mask_below list n + 2 ^ n
 mask-next list n e = ap (λ ks. sum_by (λ k. 2 ^ k) ks) (unbeaten-next list n e) ∙ sum_by-append (λ k. 2 ^ k) (unbeaten_below list n) (n ∷ []) ∙ omega arith
 
-IsBelow : List Alternative → ℕ → Type 0
-IsBelow list n = mask_below list n < 2 ^ n
-
 pub mask_below-lt : (list : List Alternative) (n : ℕ) → mask_below list n < 2 ^ n
-unfolding IsBelow
-mask_below-lt list zero = rw unbeaten_below-zero (omega arith)
-mask_below-lt list (suc n) = subst (IsBelow list) (add-one n) (step (cases_Bool (is_beaten list n)) (mask_below-lt list n))
-  where
-    step : (is_beaten list n ≡ true) ⊎ (is_beaten list n ≡ false) → mask_below list n < 2 ^ n → mask_below list (n + 1) < 2 ^ (n + 1)
-    step (inl e) before = omega (arith, mask-skip list n e, twice n)
-    step (inr e) before = omega (arith, mask-next list n e, twice n)
+mask_below-lt list =
+    by_place list (λ n. mask_below list n < 2 ^ n) (rw unbeaten_below-zero (omega arith))
+    (λ n e before. omega (arith, mask-skip list n e, twice n, before)) (λ n e before. omega (arith, mask-next list n e, twice n, before))
 
 -- ---- their number
 pub count-skip : (list : List Alternative) (n : ℕ) → is_beaten list n ≡ true → length (unbeaten_below list (n + 1)) ≡ length (unbeaten_below list n)
@@ -83,14 +82,7 @@ count-skip list n e = ap length (unbeaten-skip list n e)
 pub count-next : (list : List Alternative) (n : ℕ) → is_beaten list n ≡ false → length (unbeaten_below list (n + 1)) ≡ length (unbeaten_below list n) + 1
 count-next list n e = ap length (unbeaten-next list n e) ∙ length-append (unbeaten_below list n) (n ∷ [])
 
-IsAtMost : List Alternative → ℕ → Type 0
-IsAtMost list n = length (unbeaten_below list n) ≤ n
-
 pub count-le : (list : List Alternative) (n : ℕ) → length (unbeaten_below list n) ≤ n
-unfolding IsAtMost
-count-le list zero = rw unbeaten_below-zero (omega arith)
-count-le list (suc n) = subst (IsAtMost list) (add-one n) (step (cases_Bool (is_beaten list n)) (count-le list n))
-  where
-    step : (is_beaten list n ≡ true) ⊎ (is_beaten list n ≡ false) → length (unbeaten_below list n) ≤ n → length (unbeaten_below list (n + 1)) ≤ n + 1
-    step (inl e) before = omega (arith, count-skip list n e)
-    step (inr e) before = omega (arith, count-next list n e)
+count-le list =
+    by_place list (λ n. length (unbeaten_below list n) ≤ n) (rw unbeaten_below-zero (omega arith))
+    (λ n e before. omega (arith, count-skip list n e, before)) (λ n e before. omega (arith, count-next list n e, before))

@@ -1,5 +1,5 @@
 -- The bits of the mask.
-use Rattle.std.proofs.Common.{◌≡◌, ◌↔◌, ℕ, zero, suc, ◌+◌, ◌-◌, ◌*◌, ◌^◌, ◌<◌, ◌≤◌, true, false, inl, inr, ◌⊎◌, subst, refl, sym, ap, ◌∙◌, arith, add-one, List, [], ◌∷◌, length, sum_by, bit_and}
+use Rattle.std.proofs.Common.{◌≡◌, ◌↔◌, ℕ, ◌+◌, ◌-◌, ◌*◌, ◌^◌, ◌<◌, ◌≤◌, true, false, inl, inr, refl, sym, ap, ◌∙◌, arith, List, [], ◌∷◌, length, sum_by, bit_and}
 use Rattle.std.specs.Prelude.{IsBitSet}
 use Rattle.std.specs.Int.{bit_at}
 use Rattle.std.proofs.Math.Nat.{one-le-pow}
@@ -7,7 +7,7 @@ use Rattle.std.proofs.lemmas.Bool.{cases_Bool, cases_lt, true≢false}
 use Rattle.std.proofs.lemmas.List.Sums.{sum_by-cons}
 use Rattle.std.proofs.lemmas.Nat.Bits.{bit_at_above, bit_at_cat_low, bit_at_cat_high, and_pow}
 use Rattle.scr_agg.specs.Unbeaten.{Alternative, is_beaten, unbeaten, mask_of}
-use Rattle.scr_agg.proofs.Alternatives.{mask_below, mask-skip, mask-next, mask_below-lt}
+use Rattle.scr_agg.proofs.Alternatives.{by_place, mask_below, mask-skip, mask-next, mask_below-lt}
 
 -- one more bit, above all those of b
 above_all : (k b i : ℕ) → b < 2 ^ k → i < k → bit_at (b + 2 ^ k) i ≡ bit_at b i
@@ -48,12 +48,9 @@ bits-next list n e h = record {
 }
 
 bits_below : (list : List Alternative) (n : ℕ) → BitsBelow list n
-bits_below list zero = record { set = λ i lt. absurd (omega arith); clear = λ i lt. absurd (omega arith) }
-bits_below list (suc n) = subst (BitsBelow list) (add-one n) (step (cases_Bool (is_beaten list n)) (bits_below list n))
-  where
-    step : (is_beaten list n ≡ true) ⊎ (is_beaten list n ≡ false) → BitsBelow list n → BitsBelow list (n + 1)
-    step (inl e) h = bits-skip list n e h
-    step (inr e) h = bits-next list n e h
+bits_below list =
+    by_place list (BitsBelow list) (record { set = λ i lt. absurd (omega arith); clear = λ i lt. absurd (omega arith) })
+    (bits-skip list) (bits-next list)
 
 set_from_bit : (m i : ℕ) → bit_at m i ≡ 1 → IsBitSet m i
 set_from_bit m i e zero_and =

@@ -2,9 +2,9 @@
 use Rattle.std.proofs.Common.{◌≡◌, ℕ, zero, suc, ◌<◌, ◌≤◌, ℤ, pos, ◌*ℤ◌, ◌≤ℤ◌, Bool, true, false, not, ◌&&◌, int_lt, inl, inr, ◌⊎◌, List, length, cond, refl, arith}
 use Rattle.std.proofs.lemmas.Int.{ints}
 use Rattle.std.proofs.lemmas.Bool.{cases_lt, or_cases, or_parts, and_parts, and_cases, not-true, not-false}
-use Rattle.scr_num.specs.Fraction.{Fraction, ◌≼◌}
+use Rattle.scr_num.specs.Fraction.{Fraction, ◌≼◌, is_less}
 use Rattle.scr_num.proofs.Fractions.{≼_refl, ≼_trans}
-use Rattle.scr_agg.specs.Choice.{Outcome, outcome_at, IsChosen, is_less, surpasses, chosen_below, chosen}
+use Rattle.scr_agg.specs.Choice.{Outcome, outcome_at, IsChosen, surpasses, chosen_below, chosen}
 
 -- ---- the order of fractions, as a test
 pub not_less : (p q : Fraction) → is_less p q ≡ false → q ≼ p

@@ -1,11 +1,10 @@
--- Figures of fractions that come to a fraction.
+-- The greater of two fractions, and what an absorption leaves of one, as figures that come to a fraction.
 use Rattle.std.proofs.Common.{◌≡◌, ℕ, ℤ, pos, Bool, true, false, cond, inl, inr, refl}
-use Rattle.scr_num.specs.Fraction.{Fraction, ◌≼◌, over, plus, minus, whole, zero_fraction}
-use Rattle.scr_num.specs.Figure.{Frac, Sum, Diff, Max, AtMost}
+use Rattle.scr_num.specs.Fraction.{Fraction, ◌≼◌, over, minus, whole, zero_fraction, is_less, greater}
+use Rattle.scr_num.specs.Figure.{Frac, Max, AtMost}
 use Rattle.scr_num.specs.Enclosure.{Encloses}
-use Rattle.scr_num.proofs.Fractions.{≼_refl, ≼_trans, plus_mono, minus_mono}
-use Rattle.scr_agg.specs.Choice.{is_less}
-use Rattle.scr_agg.specs.Absorbed.{net_figure, greater, net_amount}
+use Rattle.scr_num.proofs.Fractions.{≼_refl, ≼_trans, minus_mono}
+use Rattle.scr_agg.specs.Absorbed.{net_figure, net_amount}
 use Rattle.scr_agg.proofs.Chosen.{not_less, less_le}
 
 -- ---- the greater of two fractions
@@ -31,28 +30,6 @@ greater-least p q r h k = of (is_less p q)
     of false = h
 
 -- ---- figures
-pub Encloses-plus : (unit : ℕ) (low high : ℤ) (p q : Fraction) → Encloses unit low high (Sum (Frac p) (Frac q)) → Encloses unit low high (Frac (plus p q))
-unfolding AtMost
-Encloses-plus unit low high p q h =
-    let a = h.at_most in
-    let b = h.at_least in
-    record {
-      positive = h.positive;
-      at_most = ≼_trans (over low unit h.positive) (plus a.0 a.1) (plus p q) a.4 (plus_mono a.0 p a.1 q a.2 a.3);
-      at_least = ≼_trans (plus p q) (plus b.0 b.1) (over high unit h.positive) (plus_mono p b.0 q b.1 b.2 b.3) b.4;
-    }
-
-pub Encloses-minus : (unit : ℕ) (low high : ℤ) (p q : Fraction) → Encloses unit low high (Diff (Frac p) (Frac q)) → Encloses unit low high (Frac (minus p q))
-unfolding AtMost
-Encloses-minus unit low high p q h =
-    let a = h.at_most in
-    let b = h.at_least in
-    record {
-      positive = h.positive;
-      at_most = ≼_trans (over low unit h.positive) (minus a.0 a.1) (minus p q) a.4 (minus_mono a.0 p a.1 q a.2 a.3);
-      at_least = ≼_trans (minus p q) (minus b.0 b.1) (over high unit h.positive) (minus_mono p b.0 q b.1 b.2 b.3) b.4;
-    }
-
 pub Encloses-greater : (unit : ℕ) (low high : ℤ) (p q : Fraction) → Encloses unit low high (Max (Frac p) (Frac q)) → Encloses unit low high (Frac (greater p q))
 unfolding AtMost
 Encloses-greater unit low high p q h = record {

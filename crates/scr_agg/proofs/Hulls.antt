@@ -1,17 +1,18 @@
 -- The hull and the greatest of several ends.
-use Rattle.std.proofs.Common.{pos, ◌≡◌, ℕ, zero, suc, ◌+◌, ◌<◌, ℤ, ◌≤ℤ◌, List, [], ◌∷◌, ◌++◌, map, fold, length, get_or, sym, ap, ap₂, ◌∙◌, arith, true, false, Option, Some, None, inl, inr, ◌⊎◌, subst, add-one}
+use Rattle.std.proofs.Common.{pos, ◌≡◌, ℕ, zero, suc, ◌+◌, ◌<◌, ℤ, ◌≤ℤ◌, List, [], ◌∷◌, ◌++◌, map, fold, length, get_or, sym, ap, ap₂, ◌∙◌, arith, true, false, Option, Some, None, inl, inr, ◌⊎◌}
 use Rattle.std.specs.Prelude.{IfSome, IfNone}
 use Rattle.std.specs.Int.{int_max}
 use Rattle.std.specs.Int.Signed.{≤ℤ_refl}
 use Rattle.std.proofs.lemmas.Int.{ints, clamps}
 use Rattle.std.proofs.lemmas.List.{map-append, length-map, get_or-map}
 use Rattle.std.proofs.lemmas.List.Sums.{fold-append}
-use Rattle.std.proofs.lemmas.Bool.{cases_Bool, cases_lt, true≢false}
+use Rattle.std.proofs.lemmas.Bool.{cases_lt, true≢false}
 use Rattle.scr_num.specs.declared.span.Span.{Span}
 use Rattle.scr_num.specs.Fraction.{Fraction, ◌≼◌, over}
 use Rattle.scr_num.specs.Rounding.{Ends, ends, exact_ends, hull_ends, max_ends}
+use Rattle.scr_num.proofs.Enclosing.{either_max}
 use Rattle.scr_agg.specs.Unbeaten.{Holds, chosen_gross, chosen_net, Alternative, alternative_at, hull_of, is_beaten, unbeaten_below, unbeaten, greatest_of}
-use Rattle.scr_agg.proofs.Alternatives.{unbeaten-skip, unbeaten-next, unbeaten_below-zero, count-skip, count-next}
+use Rattle.scr_agg.proofs.Alternatives.{by_place, unbeaten-skip, unbeaten-next, unbeaten_below-zero, count-skip, count-next}
 
 -- ---- the hull
 holds_same : (e : Ends) → Holds e e
@@ -74,12 +75,9 @@ holds-next list n e h =
     }
 
 holds_below : (list : List Alternative) (n : ℕ) → HoldsBelow list n
-holds_below list zero = record { each = λ i lt. absurd (omega arith); some = λ i lt. absurd (omega arith) }
-holds_below list (suc n) = subst (HoldsBelow list) (add-one n) (step (cases_Bool (is_beaten list n)) (holds_below list n))
-  where
-    step : (is_beaten list n ≡ true) ⊎ (is_beaten list n ≡ false) → HoldsBelow list n → HoldsBelow list (n + 1)
-    step (inl e) h = holds-skip list n e h
-    step (inr e) h = holds-next list n e h
+holds_below list =
+    by_place list (HoldsBelow list) (record { each = λ i lt. absurd (omega arith); some = λ i lt. absurd (omega arith) })
+    (holds-skip list) (holds-next list)
 
 pub hull_holds : (list : List Alternative) (n i : ℕ) → i < n → is_beaten list i ≡ false → Holds (hull_below list n) (gross_at list i)
 hull_holds list n = (holds_below list n).each
@@ -139,35 +137,37 @@ greatest_below unit positive q e (x ∷ xs) here there =
     greatest_below unit positive q (max_ends e x) xs
     (either (either_max e.low x.low) here (there 0 x (omega arith))) (λ k d lt. there (suc k) d (omega arith))
   where
-    either_max : (a c : ℤ) → (int_max a c ≡ a) ⊎ (int_max a c ≡ c)
-    either_max a c = grind (arith, ints, clamps)
-
     either : (int_max e.low x.low ≡ e.low) ⊎ (int_max e.low x.low ≡ x.low) → over e.low unit positive ≼ q → over x.low unit positive ≼ q → over (int_max e.low x.low) unit positive ≼ q
     either (inl same) a b = rw same a
     either (inr same) a b = rw same b
 
 -- ---- what holds each holds the one chosen
-hull_within : (wide e : Ends) (es : List Ends) → Holds wide e → ((k : ℕ) (d : Ends) → k < length es → Holds wide (get_or es k d)) → Holds wide (fold hull_ends e es)
-hull_within wide e [] here there = here
-hull_within wide e (x ∷ xs) here there = hull_within wide (hull_ends e x) xs (both (there 0 x (omega arith))) (λ k d lt. there (suc k) d (omega arith))
-  where
-    both : Holds wide x → Holds wide (hull_ends e x)
-    both h = record { low = omega (arith, ints, clamps, here.low, h.low); high = omega (arith, ints, clamps, here.high, h.high) }
+-- an operator on ends whose answer lies between all ends that its arguments lie between
+KeepsWithin : (Ends → Ends → Ends) → Type 0
+KeepsWithin op = (wide a b : Ends) → Holds wide a → Holds wide b → Holds wide (op a b)
 
-max_within : (wide e : Ends) (es : List Ends) → Holds wide e → ((k : ℕ) (d : Ends) → k < length es → Holds wide (get_or es k d)) → Holds wide (fold max_ends e es)
-max_within wide e [] here there = here
-max_within wide e (x ∷ xs) here there = max_within wide (max_ends e x) xs (both (there 0 x (omega arith))) (λ k d lt. there (suc k) d (omega arith))
-  where
-    both : Holds wide x → Holds wide (max_ends e x)
-    both h = record { low = omega (arith, ints, clamps, here.low, h.low); high = omega (arith, ints, clamps, here.high, h.high) }
+hull_keeps : KeepsWithin hull_ends
+unfolding KeepsWithin
+hull_keeps wide a b h k = record { low = omega (arith, ints, clamps, h.low, k.low); high = omega (arith, ints, clamps, h.high, k.high) }
+
+max_keeps : KeepsWithin max_ends
+unfolding KeepsWithin
+max_keeps wide a b h k = record { low = omega (arith, ints, clamps, h.low, k.low); high = omega (arith, ints, clamps, h.high, k.high) }
+
+fold_within : (op : Ends → Ends → Ends) → KeepsWithin op → (wide e : Ends) (es : List Ends) → Holds wide e → ((k : ℕ) (d : Ends) → k < length es → Holds wide (get_or es k d))
+    → Holds wide (fold op e es)
+unfolding KeepsWithin
+fold_within op keeps wide e [] here there = here
+fold_within op keeps wide e (x ∷ xs) here there =
+    fold_within op keeps wide (op e x) xs (keeps wide e x here (there 0 x (omega arith))) (λ k d lt. there (suc k) d (omega arith))
 
 hull_of-within : (wide : Ends) (es : List Ends) → Holds wide (exact_ends (pos 0)) → ((k : ℕ) (d : Ends) → k < length es → Holds wide (get_or es k d)) → Holds wide (hull_of es)
 hull_of-within wide [] none each = none
-hull_of-within wide (e ∷ es) none each = hull_within wide e es (each 0 e (omega arith)) (λ k d lt. each (suc k) d (omega arith))
+hull_of-within wide (e ∷ es) none each = fold_within hull_ends hull_keeps wide e es (each 0 e (omega arith)) (λ k d lt. each (suc k) d (omega arith))
 
 greatest_of-within : (wide : Ends) (es : List Ends) → Holds wide (exact_ends (pos 0)) → ((k : ℕ) (d : Ends) → k < length es → Holds wide (get_or es k d)) → Holds wide (greatest_of es)
 greatest_of-within wide [] none each = none
-greatest_of-within wide (e ∷ es) none each = max_within wide e es (each 0 e (omega arith)) (λ k d lt. each (suc k) d (omega arith))
+greatest_of-within wide (e ∷ es) none each = fold_within max_ends max_keeps wide e es (each 0 e (omega arith)) (λ k d lt. each (suc k) d (omega arith))
 
 -- a place that nothing beats is one of the list
 record PlacesBelow (ks : List ℕ) (n : ℕ) : Type 0 where
@@ -187,12 +187,10 @@ one_more (j ∷ ks) n h = record {
     at rest (suc k) lt = rest k (omega arith)
 
 places : (list : List Alternative) (n : ℕ) → PlacesBelow (unbeaten_below list n) n
-places list zero = rw unbeaten_below-zero (record { each = λ k lt. absurd (omega arith) })
-places list (suc n) = subst (λ m. PlacesBelow (unbeaten_below list m) m) (add-one n) (step (cases_Bool (is_beaten list n)) (places list n))
-  where
-    step : (is_beaten list n ≡ true) ⊎ (is_beaten list n ≡ false) → PlacesBelow (unbeaten_below list n) n → PlacesBelow (unbeaten_below list (n + 1)) (n + 1)
-    step (inl e) h = rw (unbeaten-skip list n e) (record { each = λ k lt. let below = h.each k lt in omega arith })
-    step (inr e) h = rw (unbeaten-next list n e) (one_more (unbeaten_below list n) n h)
+places list =
+    by_place list (λ n. PlacesBelow (unbeaten_below list n) n) (rw unbeaten_below-zero (record { each = λ k lt. absurd (omega arith) }))
+    (λ n e h. rw (unbeaten-skip list n e) (record { each = λ k lt. let below = h.each k lt in omega arith }))
+    (λ n e h. rw (unbeaten-next list n e) (one_more (unbeaten_below list n) n h))
 
 pub chosen_gross-within : (wide : Ends) (list : List Alternative) → Holds wide (exact_ends (pos 0)) → ((k : ℕ) → k < length list → Holds wide (alternative_at list k).gross)
     → Holds wide (chosen_gross list)

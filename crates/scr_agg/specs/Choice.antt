@@ -1,8 +1,8 @@
 -- The choice among alternative scenarios, after Article 206(2) of Delegated Regulation (EU) 2015/35: the scenario with
 -- the greatest net requirement decides. Among those with one net requirement the one with the greatest gross requirement
 -- does, and then the first listed (this project's own).
-use Rattle.std.specs.Prelude.{ℕ, zero, suc, ◌<◌, ◌≤◌, pos, ◌*ℤ◌, Bool, not, ◌&&◌, ◌||◌, int_lt, List, length, slice_index_or, if◌then◌else◌}
-use Rattle.scr_num.specs.Fraction.{Fraction, ◌≼◌, zero_fraction}
+use Rattle.std.specs.Prelude.{ℕ, zero, suc, ◌<◌, ◌≤◌, Bool, not, ◌&&◌, ◌||◌, List, length, slice_index_or, if◌then◌else◌}
+use Rattle.scr_num.specs.Fraction.{Fraction, ◌≼◌, zero_fraction, is_less}
 
 -- what a scenario costs before and after absorption
 pub record Outcome : Type 0 where
@@ -22,10 +22,7 @@ pub record IsChosen (list : List Outcome) (place : ℕ) : Type 0 where
   pub first : (j : ℕ) → j < length list → (outcome_at list place).net ≼ (outcome_at list j).net
       → (outcome_at list place).gross ≼ (outcome_at list j).gross → place ≤ j
 
--- the same, worked out place by place
-abbrev pub is_less : Fraction → Fraction → Bool
-is_less p q = int_lt (p.num *ℤ pos q.den) (q.num *ℤ pos p.den)
-
+-- ---- the same, worked out place by place
 -- the first is to be taken in place of the second, which is listed before it
 abbrev pub surpasses : Outcome → Outcome → Bool
 surpasses a b = is_less b.net a.net || (not (is_less a.net b.net) && is_less b.gross a.gross)

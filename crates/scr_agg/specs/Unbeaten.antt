@@ -71,7 +71,7 @@ chosen_gross list = hull_of (map (λ k. (alternative_at list k).gross) (unbeaten
 abbrev pub chosen_net : List Alternative → Ends
 chosen_net list = greatest_of (map (λ a. a.net) list)
 
--- the first ends lie no nearer than the others
+-- the second ends lie between the first ones
 pub record Holds (wide e : Ends) : Type 0 where
   pub low : wide.low ≤ℤ e.low
   pub high : e.high ≤ℤ wide.high

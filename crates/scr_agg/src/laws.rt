@@ -2,11 +2,11 @@
 //! does nothing, whose contract is the law.
 
 ghost use Rattle.std.specs.Prelude.{◌≡◌, ◌↔◌, ℕ, ℤ, pos, ◌<◌, false, length, List, IsBitSet};
-ghost use Rattle.scr_num.specs.Fraction.{Fraction, zero_fraction, plus, minus};
+ghost use Rattle.scr_num.specs.Fraction.{Fraction, plus, minus, greater};
 ghost use Rattle.scr_num.specs.Figure.{Figure, Frac, Sum, Diff, Max};
 ghost use Rattle.scr_num.specs.Enclosure.{Encloses};
 ghost use Rattle.scr_num.specs.Rounding.{Ends, exact_ends};
-ghost use Rattle.scr_agg.specs.Absorbed.{net_figure, net_ends, greater, net_amount};
+ghost use Rattle.scr_agg.specs.Absorbed.{net_figure, net_ends, net_amount};
 ghost use Rattle.scr_agg.specs.Choice.{Outcome, IsChosen, chosen, outcome_at};
 ghost use Rattle.scr_agg.specs.Unbeaten.{Alternative, EncloseOutcomes, Holds, alternative_at, is_beaten, mask_of, chosen_gross, chosen_net};
 

@@ -1,6 +1,6 @@
 -- The stressed rates in whole parts are those of the rule.
 use Rattle.std.proofs.Common.{◌≡◌, ℕ, ◌+◌, ◌*◌, ◌<◌, ◌≤◌, nat_le, Bool, true, false, refl, ap, ◌∙◌, get_or, ℤ, pos, negsuc, ◌+ℤ◌, ◌-ℤ◌, ◌*ℤ◌, ◌≤ℤ◌, ◌<ℤ◌, arith, leb-true, lit<, le_refl}
-use Rattle.std.specs.Prelude.{int_le, int_lt, if◌then◌else◌}
+use Rattle.std.specs.Prelude.{int_lt, if◌then◌else◌}
 use Rattle.std.specs.Int.{int_max}
 use Rattle.std.proofs.lemmas.Int.{ints, clamps}
 use Rattle.std.proofs.lemmas.Bool.{cond_both}
@@ -8,13 +8,13 @@ use Rattle.std.proofs.lemmas.List.FromFn.{get_or-map-range_with_len}
 use Rattle.std.proofs.lemmas.List.Sums.{AllPass-from_list_all}
 use Rattle.std.specs.List.{AllPass}
 use Rattle.std.proofs.lemmas.Nat.{mul-le}
-use Rattle.scr_num.specs.Fraction.{over, zero_fraction, plus, minus}
+use Rattle.scr_num.specs.Fraction.{over, zero_fraction, percent, millionths, plus, minus, greater}
 use Rattle.scr_num.specs.Enclosure.{Measures}
 use Rattle.scr_num.proofs.Quotients.{times_le}
 use Rattle.scr_factors.specs.declared.tables.TheConstants.{INTEREST_UP, INTEREST_DOWN}
 use Rattle.scr_factors.specs.Interest.{rise, fall, stress}
 use Rattle.scr_factors.proofs.StressRules.{interest_up, interest_down}
-use Rattle.scr_curve.specs.Rate.{millionths, one_percentage_point, greater, raised, lowered}
+use Rattle.scr_curve.specs.Rate.{raised, lowered}
 use Rattle.scr_curve.specs.Parts.{parts, IsRateInMillionths, IsRateInParts}
 
 -- ---- the tables
@@ -43,12 +43,12 @@ millionths_exact r n e = record { positive = lit< tt; equal = omega (arith, ints
 
 -- z parts are the share of the rate
 raised_by : (r z n : ℤ) (positive : 0 < 7000000000) → n ≡ r *ℤ pos 7000 +ℤ int_max z (pos 70000000)
-    → Measures parts n (plus (millionths r) (greater (over z 7000000000 positive) one_percentage_point))
+    → Measures parts n (plus (millionths r) (greater (over z 7000000000 positive) (percent 1)))
 raised_by r z n positive e =
-    cond_both (int_le (pos 1 *ℤ pos 7000000000) (z *ℤ pos 100)) (over z 7000000000 positive) one_percentage_point
+    cond_both (int_lt (z *ℤ pos 100) (pos 1 *ℤ pos 7000000000)) (percent 1) (over z 7000000000 positive)
     (λ f. Measures parts n (plus (millionths r) f))
-    (λ test. let above : (pos 1 *ℤ pos 7000000000) ≤ℤ (z *ℤ pos 100) = grind (arith, ints, test) in record { positive = lit< tt; equal = omega (arith, ints, clamps, e, above) })
     (λ test. let below : (z *ℤ pos 100) <ℤ (pos 1 *ℤ pos 7000000000) = grind (arith, ints, test) in record { positive = lit< tt; equal = omega (arith, ints, clamps, e, below) })
+    (λ test. let above : (pos 1 *ℤ pos 7000000000) ≤ℤ (z *ℤ pos 100) = grind (arith, ints, test) in record { positive = lit< tt; equal = omega (arith, ints, clamps, e, above) })
 
 pub raised_exact : (r n : ℤ) (years share : ℕ) → share ≡ stress rise years → n ≡ r *ℤ pos 7000 +ℤ int_max (r *ℤ pos share) (pos 70000000)
     → Measures parts n (raised years (millionths r))

@@ -1,15 +1,11 @@
 -- The risk-free interest rate of a maturity and its stresses, after Articles 166 and 167 of Delegated Regulation
 -- (EU) 2015/35. Nothing is rounded.
-use Rattle.std.specs.Prelude.{ℕ, ◌-◌, min, length, ℤ, pos, ◌*ℤ◌, int_le, int_lt, if◌then◌else◌, List, slice_index_or}
+use Rattle.std.specs.Prelude.{ℕ, ◌-◌, min, length, ℤ, pos, int_lt, if◌then◌else◌, List, slice_index_or}
 use Rattle.std.proofs.Common.{lit<}
-use Rattle.scr_num.specs.Fraction.{Fraction, over, zero_fraction, plus, minus, product}
+use Rattle.scr_num.specs.Fraction.{Fraction, over, zero_fraction, percent, millionths, plus, minus, product, greater}
 use Rattle.scr_factors.specs.Interest.{rise, fall, stress}
 use Rattle.scr_curve.specs.declared.tilt.Tilt.{Tilt}
 use Rattle.scr_curve.specs.declared.tilt.Tilt.TheVariants.{Base, Up, Down}
-
--- so many millionths
-abbrev pub millionths : ℤ → Fraction
-millionths count = over count 1000000 (lit< tt)
 
 -- The rate of a curve at a maturity in years, from 1 on. Beyond the curve's last rate it is flat, this project's own.
 abbrev pub base_rate : List ℤ → ℕ → Fraction
@@ -19,15 +15,9 @@ base_rate rates years = millionths (slice_index_or rates (min years (length rate
 abbrev pub share_at : List ℕ → ℕ → Fraction
 share_at percentages years = over (pos (stress percentages years)) 7000 (lit< tt)
 
-abbrev pub one_percentage_point : Fraction
-one_percentage_point = over (pos 1) 100 (lit< tt)
-
-abbrev pub greater : Fraction → Fraction → Fraction
-greater p q = if int_le (q.num *ℤ pos p.den) (p.num *ℤ pos q.den) then p else q
-
 -- the rise by that share of the rate, and by one percentage point at least: Article 166
 unfoldable pub raised : ℕ → Fraction → Fraction
-raised years base = plus base (greater (product base (share_at rise years)) one_percentage_point)
+raised years base = plus base (greater (product base (share_at rise years)) (percent 1))
 
 -- the fall of a rate above 0 by that share of it; no other rate falls: Article 167
 unfoldable pub lowered : ℕ → Fraction → Fraction

@@ -1,9 +1,10 @@
 ghost use Rattle.std.specs.Prelude.{◌≡◌, ◌<◌, ◌≤◌, ◌+◌, ◌-◌, min, ℤ, pos, ◌+ℤ◌, ◌-ℤ◌, ◌*ℤ◌, length, map, All, slice_index_or};
 ghost use Rattle.std.specs.Int.{int_max};
 ghost use Rattle.std.specs.List.{range_with_len};
+ghost use Rattle.scr_num.specs.Fraction.{millionths};
 ghost use Rattle.scr_num.specs.Enclosure.{Measures};
 ghost use Rattle.scr_factors.specs.Interest.{rise, fall, stress};
-ghost use Rattle.scr_curve.specs.Rate.{millionths, tilted, rate};
+ghost use Rattle.scr_curve.specs.Rate.{tilted, rate};
 ghost use Rattle.scr_curve.specs.Parts.{parts, in_parts, IsRateInMillionths, IsRateInParts, AreRates};
 
 use crate::Tilt;

@@ -7,10 +7,10 @@ use Rattle.scr_num.specs.Figure.{Frac, Times, Max, AtMost}
 use Rattle.scr_num.specs.Rounding.{Ends, exact_ends, add_ends, max_ends}
 use Rattle.scr_num.specs.Enclosure.{Encloses}
 use Rattle.scr_num.proofs.Fractions.{≼_refl, ≼_trans, times_mono}
-use Rattle.scr_num.proofs.Enclosing.{Encloses-exact, Encloses-add, Encloses-sub, Encloses-max, Encloses-scale}
+use Rattle.scr_num.proofs.Enclosing.{Encloses-exact, Encloses-add, Encloses-plus, Encloses-sub, Encloses-minus, Encloses-max, Encloses-scale}
 use Rattle.scr_curve.specs.Table.{one}
 use Rattle.scr_curve.specs.declared.tilt.Tilt.{Tilt}
-use Rattle.scr_agg.proofs.ExactAmounts.{Encloses-plus, Encloses-minus, Encloses-greater}
+use Rattle.scr_agg.proofs.ExactAmounts.{Encloses-greater}
 use Rattle.scr_rate.specs.InterestRisk.{counted}
 use Rattle.scr_rate.specs.InterestEnds.{EncloseLosses}
 use Rattle.scr_sheet.specs.Names.{same_name}

@@ -5,10 +5,10 @@ use Rattle.std.specs.Int.{int_max}
 use Rattle.std.specs.List.{AllByRecursion, range_with_len}
 use Rattle.std.proofs.lemmas.Int.{ints}
 use Rattle.std.proofs.lemmas.List.FromFn.{length-map-range_with_len, get_or-map-range_with_len}
-use Rattle.scr_num.specs.Fraction.{Fraction}
+use Rattle.scr_num.specs.Fraction.{Fraction, millionths}
 use Rattle.scr_num.specs.Enclosure.{Measures}
 use Rattle.scr_factors.specs.declared.tables.TheConstants.{INTEREST_UP, INTEREST_DOWN}
-use Rattle.scr_curve.specs.Rate.{millionths, tilted, rate}
+use Rattle.scr_curve.specs.Rate.{tilted, rate}
 use Rattle.scr_curve.specs.Parts.{parts, in_parts, IsRateInMillionths, IsRateInParts, AreRates}
 use Rattle.scr_curve.specs.declared.tilt.Tilt.{Tilt}
 use Rattle.scr_curve.specs.declared.tilt.Tilt.TheVariants.{Base, Up, Down}

@@ -13,7 +13,8 @@ use Rattle.scr_curve.specs.Table.{one, EncloseDiscounts}
 use Rattle.scr_curve.proofs.SameRates.{Same-rates, Same-discount, Same-below, Same-turned}
 use Rattle.scr_flow.specs.Loss.{discount_fall}
 use Rattle.scr_flow.specs.Sums.{difference, differences}
-use Rattle.scr_flow.proofs.SumLemmas.{Encloses-minus, Encloses-equal, get_or-differences}
+use Rattle.scr_num.proofs.Enclosing.{Encloses-sub, Encloses-minus}
+use Rattle.scr_flow.proofs.SumLemmas.{Encloses-equal, get_or-differences}
 
 difference_encloses : (n m : ℤ) (e f : Ends) (p q : Fraction) (years : ℕ) → Measures parts n p → Measures parts m q
     → Encloses one e.low e.high (Frac (discount p years)) → Encloses one f.low f.high (Frac (discount q years))
@@ -26,7 +27,8 @@ difference_encloses n m e f p q years h k x y =
     let same = Same-discount p q years (Same-rates n p q h turned) in
     Encloses-equal one (lit< tt) (discount p years) (discount q years) (Same-below (discount p years) (discount q years) same)
     (Same-below (discount q years) (discount p years) (Same-turned (discount p years) (discount q years) same)))
-    (λ other. Encloses-minus one e.low e.high f.low f.high (discount p years) (discount q years) x y)
+    (λ other. Encloses-minus one _ _ (discount p years) (discount q years)
+    (Encloses-sub one e.low e.high f.low f.high (Frac (discount p years)) (Frac (discount q years)) x y))
 
 -- each place of the falls is one of all four lists
 record IsPlace (bases : List ℤ) (froms : List Ends) (stresseds : List ℤ) (tos : List Ends) (k : ℕ) : Type 0 where

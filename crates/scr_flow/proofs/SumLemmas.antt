@@ -1,15 +1,16 @@
 -- Sums of payments times spans: what they enclose, how a loop makes them, and how large they are.
-use Rattle.std.proofs.Common.{◌≡◌, ℕ, zero, suc, ◌+◌, ◌*◌, ◌<◌, ◌≤◌, refl, ap, ap₂, sym, subst, ◌∙◌, List, [], ◌∷◌, length, get_or, drop, drop-cons, add-zero, add-one, mul-le-mul_right, ℤ, pos, negsuc, ◌+ℤ◌, ◌-ℤ◌, ◌*ℤ◌, ◌≤ℤ◌, ◌<ℤ◌, unsigned_abs, arith}
+use Rattle.std.proofs.Common.{◌≡◌, ℕ, zero, suc, ◌+◌, ◌*◌, ◌<◌, ◌≤◌, refl, ap, sym, subst, ◌∙◌, List, [], ◌∷◌, length, get_or, drop, drop-cons, add-zero, add-one, mul-le-mul_right, ℤ, pos, negsuc, ◌+ℤ◌, ◌-ℤ◌, ◌*ℤ◌, ◌≤ℤ◌, ◌<ℤ◌, unsigned_abs, arith}
 use Rattle.std.specs.Prelude.{sum_by}
-use Rattle.std.proofs.Math.IntN.{+ℤ_assoc}
 use Rattle.std.proofs.lemmas.Int.{ints, unsigned_abs-mul}
 use Rattle.std.proofs.lemmas.List.{drop_all}
 use Rattle.std.proofs.lemmas.List.Sums.{sum_by-cons}
-use Rattle.scr_num.specs.Fraction.{Fraction, ◌≼◌, over, whole, zero_fraction, plus, minus, product}
+use Rattle.scr_num.specs.Fraction.{Fraction, ◌≼◌, over, whole, zero_fraction, minus, product}
 use Rattle.scr_num.specs.Figure.{Frac, AtMost}
 use Rattle.scr_num.specs.Rounding.{Ends, exact_ends, add_ends}
 use Rattle.scr_num.specs.Enclosure.{Encloses}
-use Rattle.scr_num.proofs.Fractions.{≼_refl, ≼_trans, plus_mono, minus_mono, multiple_mono, negative_multiple_mono, over-plus_le, over-plus_ge, over-minus_le, over-minus_ge}
+use Rattle.scr_num.proofs.Fractions.{≼_refl, ≼_trans, multiple_mono, negative_multiple_mono}
+use Rattle.scr_num.proofs.Enclosing.{Encloses-exact, Encloses-add, Encloses-plus}
+use Rattle.scr_num.proofs.AddedEnds.{add_ends-assoc, zero-add_ends, add_ends-zero}
 use Rattle.scr_num.proofs.Quotients.{times_le}
 use borrow.Author.Differences.{up, down}
 use Rattle.scr_curve.specs.Discount.{weighted_sum}
@@ -18,32 +19,7 @@ use Rattle.scr_flow.specs.Sums.{flow_ends, weighted_ends, difference, difference
 -- ---- fractions that spans enclose
 module _ (unit : ℕ) where
   Encloses-zero : 0 < unit → Encloses unit (pos 0) (pos 0) (Frac zero_fraction)
-  unfolding AtMost
-  Encloses-zero positive = record { positive = positive; at_most = record { cross = omega (arith, ints) }; at_least = record { cross = omega (arith, ints) } }
-
-  Encloses-plus : (a b c d : ℤ) (p q : Fraction) → Encloses unit a b (Frac p) → Encloses unit c d (Frac q) → Encloses unit (a +ℤ c) (b +ℤ d) (Frac (plus p q))
-  unfolding AtMost
-  Encloses-plus a b c d p q h k = record {
-    positive = h.positive;
-    at_most =
-        ≼_trans (over (a +ℤ c) unit h.positive) (plus (over a unit h.positive) (over c unit k.positive)) (plus p q)
-        (over-plus_le a c unit h.positive h.positive k.positive) (plus_mono (over a unit h.positive) p (over c unit k.positive) q h.at_most k.at_most);
-    at_least =
-        ≼_trans (plus p q) (plus (over b unit h.positive) (over d unit k.positive)) (over (b +ℤ d) unit h.positive)
-        (plus_mono p (over b unit h.positive) q (over d unit k.positive) h.at_least k.at_least) (over-plus_ge b d unit h.positive h.positive k.positive);
-  }
-
-  pub Encloses-minus : (a b c d : ℤ) (p q : Fraction) → Encloses unit a b (Frac p) → Encloses unit c d (Frac q) → Encloses unit (a -ℤ d) (b -ℤ c) (Frac (minus p q))
-  unfolding AtMost
-  Encloses-minus a b c d p q h k = record {
-    positive = h.positive;
-    at_most =
-        ≼_trans (over (a -ℤ d) unit h.positive) (minus (over a unit h.positive) (over d unit k.positive)) (minus p q)
-        (over-minus_le a d unit h.positive h.positive k.positive) (minus_mono (over a unit h.positive) p (over d unit k.positive) q h.at_most k.at_least);
-    at_least =
-        ≼_trans (minus p q) (minus (over b unit h.positive) (over c unit k.positive)) (over (b -ℤ c) unit h.positive)
-        (minus_mono p (over b unit h.positive) q (over c unit k.positive) h.at_least k.at_most) (over-minus_ge b c unit h.positive h.positive k.positive);
-  }
+  Encloses-zero positive = Encloses-exact unit (pos 0) zero_fraction (record { positive = positive; equal = omega (arith, ints) })
 
   -- fractions of one value differ by exactly 0
   pub Encloses-equal : 0 < unit → (p q : Fraction) → p ≼ q → q ≼ p → Encloses unit (pos 0) (pos 0) (Frac (minus p q))
@@ -86,11 +62,13 @@ module _ (unit : ℕ) where
   Encloses-weighted positive worth years [] es e h = Encloses-zero positive
   Encloses-weighted positive worth years (flow ∷ flows) [] e h = absurd (omega (arith, e))
   Encloses-weighted positive worth years (flow ∷ flows) (x ∷ es) e h =
-      Encloses-plus (flow_ends flow x).low (flow_ends flow x).high (weighted_ends flows es).low (weighted_ends flows es).high
-      (product (whole flow) (worth years)) (weighted_sum worth (years + 1) flows)
+      let here = product (whole flow) (worth years) in
+      let rest = weighted_sum worth (years + 1) flows in
+      Encloses-plus unit _ _ here rest
+      (Encloses-add unit (flow_ends flow x).low (flow_ends flow x).high (weighted_ends flows es).low (weighted_ends flows es).high (Frac here) (Frac rest)
       (Encloses-flow flow x (worth years) (rw add-zero at (h 0 x (omega arith))))
       (Encloses-weighted positive worth (years + 1) flows es (omega (arith, e))
-      (λ k d within. subst (λ (y : ℕ). Encloses unit (get_or es k d).low (get_or es k d).high (Frac (worth y))) (omega arith) (h (suc k) d (omega (arith, within)))))
+      (λ k d within. subst (λ (y : ℕ). Encloses unit (get_or es k d).low (get_or es k d).high (Frac (worth y))) (omega arith) (h (suc k) d (omega (arith, within))))))
 
 -- ---- the falls of the discounts, place by place
 pub length-differences : (bases : List ℤ) (froms : List Ends) (stresseds : List ℤ) (tos : List Ends) → length froms ≡ length bases → length stresseds ≡ length bases → length tos ≡ length bases
@@ -116,12 +94,6 @@ get_or-differences (n ∷ bases) (p ∷ froms) (m ∷ stresseds) (q ∷ tos) (su
     get_or-differences bases froms stresseds tos k d x y e f (omega (arith, a)) (omega (arith, b)) (omega (arith, c)) (omega (arith, g))
 
 -- ---- a loop that adds place by place
-same_ends : (a b c d : ℤ) → a ≡ c → b ≡ d → ◌≡◌ {A = Ends} (record { low = a; high = b }) (record { low = c; high = d })
-same_ends a b c d e f = ap₂ (λ (x : ℤ) (y : ℤ). let r : Ends = record { low = x; high = y } in r) e f
-
-add_ends_assoc : (a b c : Ends) → add_ends (add_ends a b) c ≡ add_ends a (add_ends b c)
-add_ends_assoc a b c = same_ends _ _ _ _ (+ℤ_assoc a.low b.low c.low) (+ℤ_assoc a.high b.high c.high)
-
 pub weighted_ends-drop : (flows : List ℤ) (es : List Ends) (i : ℕ) (z : ℤ) (d : Ends) → i < length flows → i < length es
     → weighted_ends (drop i flows) (drop i es) ≡ add_ends (flow_ends (get_or flows i z) (get_or es i d)) (weighted_ends (drop (i + 1) flows) (drop (i + 1) es))
 unfolding weighted_ends
@@ -133,14 +105,11 @@ pub one_more : (sum term whole : Ends) (flows : List ℤ) (es : List Ends) (i : 
     → add_ends (add_ends sum term) (weighted_ends (drop (i + 1) flows) (drop (i + 1) es)) ≡ whole
 one_more sum term whole flows es i z d a b is h =
     let rest = weighted_ends (drop (i + 1) flows) (drop (i + 1) es) in
-    add_ends_assoc sum term rest ∙ ap (λ (t : Ends). add_ends sum (add_ends t rest)) is ∙ ap (add_ends sum) (sym (weighted_ends-drop flows es i z d a b)) ∙ h
+    add_ends-assoc sum term rest ∙ ap (λ (t : Ends). add_ends sum (add_ends t rest)) is ∙ ap (add_ends sum) (sym (weighted_ends-drop flows es i z d a b)) ∙ h
 
 pub all_added : (sum whole : Ends) (flows : List ℤ) (es : List Ends) (i : ℕ) → length flows ≤ i → add_ends sum (weighted_ends (drop i flows) (drop i es)) ≡ whole → sum ≡ whole
 unfolding weighted_ends
-all_added sum whole flows es i le h = same_ends sum.low sum.high _ _ (omega (arith, ints)) (omega (arith, ints)) ∙ (rw (drop_all i flows le) at h)
-
-pub none_added : (e : Ends) → add_ends (exact_ends (pos 0)) e ≡ e
-none_added e = same_ends _ _ e.low e.high (omega (arith, ints)) (omega (arith, ints))
+all_added sum whole flows es i le h = sym (add_ends-zero sum) ∙ (rw (drop_all i flows le) at h)
 
 -- ---- sizes
 pub sum_by-drop : {A : Type 0} (f : A → ℕ) (xs : List A) (i : ℕ) (d : A) → i < length xs → sum_by f (drop i xs) ≡ f (get_or xs i d) + sum_by f (drop (i + 1) xs)
@@ -187,7 +156,7 @@ pub record IsSumBefore (i : ℕ) (flows : List ℤ) (es : List Ends) (sum : Ends
   pub high : unsigned_abs sum.high + most * sum_by unsigned_abs (drop i flows) ≤ most * sum_by unsigned_abs flows
 
 pub sum_begun : (flows : List ℤ) (es : List Ends) → IsSumBefore 0 flows es (exact_ends (pos 0))
-sum_begun flows es = record { places = λ some. absurd (omega (arith, some)); so_far = none_added (weighted_ends flows es); low = omega arith; high = omega arith }
+sum_begun flows es = record { places = λ some. absurd (omega (arith, some)); so_far = zero-add_ends (weighted_ends flows es); low = omega arith; high = omega arith }
 
 size_more : (f rest all : ℕ) (b x y : ℤ) → b ≡ x +ℤ y → unsigned_abs y ≤ most * f → unsigned_abs x + most * (f + rest) ≤ all → unsigned_abs b + most * rest ≤ all
 size_more f rest all b x y e small h = omega (arith, ints, e, small, h)

@@ -2,21 +2,18 @@
 use Rattle.std.proofs.Common.{◌≡◌, ℕ, ◌+◌, ◌*◌, ◌<◌, ℤ, pos, negsuc, ◌+ℤ◌, ◌*ℤ◌, ◌≤ℤ◌, List, [], ◌∷◌, ap, arith, lit<, lit≤, suc, ◌≤◌, mul-le-mul_right}
 use Rattle.std.specs.Prelude.{slice_index, unsigned_abs}
 use Rattle.std.proofs.lemmas.Int.{ints}
-use Rattle.scr_num.specs.Fraction.{Fraction, plus, product}
+use Rattle.scr_num.specs.Fraction.{Fraction, percent, millionths, plus, product}
 use Rattle.scr_num.specs.Figure.{Frac, Sum, more, none}
-use Rattle.scr_num.specs.Rounding.{exact_ends, scale_ends, floor_div, ceil_div, or_zero}
+use Rattle.scr_num.specs.Rounding.{exact_ends, scale_ends, floor_div, or_zero}
 use Rattle.scr_num.specs.Enclosure.{Encloses, Measures}
-use Rattle.scr_num.proofs.Enclosing.{Encloses-exact, Encloses-same, Encloses-coarser, Encloses-add}
+use Rattle.scr_num.proofs.Enclosing.{Encloses-exact, Encloses-divided, Encloses-add}
 use Rattle.scr_num.proofs.Quadratic.{Encloses-quad}
-use Rattle.scr_market.specs.Equity.{percent, millionths, part_of, fall_of, type1_figure, type2_figure, infra_figure, infracorp_figure, others_figure, equity_correlations}
+use Rattle.scr_market.specs.Equity.{part_of, fall_of, type1_figure, type2_figure, infra_figure, infracorp_figure, others_figure, equity_correlations}
 use Rattle.scr_market.specs.EquityEnds.{fall_ends, infrastructure_ends, type1_ends, type2_ends, infra_ends, infracorp_ends, others_ends, equity_ends, EncloseEquity}
 
 -- a whole number of a finer unit, rounded outward to grains
 grains : (k : ℕ) (v : ℤ) (p : Fraction) → 0 < k → Measures (1000 * k) v p → let e = scale_ends (exact_ends v) 1 k in Encloses 1000 e.low e.high (Frac p)
-grains k v p positive h =
-    let once : v *ℤ pos 1 ≡ v = omega (arith, ints) in
-    Encloses-same 1000 _ _ _ _ (Frac p) (ap (λ z. floor_div z k) once) (ap (λ z. ceil_div z k) once)
-    (Encloses-coarser 1000 k v v (Frac p) positive (Encloses-exact (1000 * k) v p h))
+grains k v p positive h = Encloses-divided 1000 k (exact_ends v) (Frac p) positive (Encloses-exact (1000 * k) v p h)
 
 -- where the one share is a hundred times the other
 fall_numbers : (cents strategic : ℕ) (w u : ℤ) → u ≡ w *ℤ pos 100

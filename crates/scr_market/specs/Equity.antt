@@ -3,18 +3,11 @@
 -- in type 2 equities and in strategic ones of type 2, and in equities of qualifying infrastructure and of qualifying
 -- infrastructure corporates. The symmetric adjustment of Article 172 is in millionths.
 use Rattle.std.specs.Prelude.{ℕ, ℤ, pos, List, [], ◌∷◌, slice_index}
-use Rattle.std.proofs.Common.{lit<}
-use Rattle.scr_num.specs.Fraction.{Fraction, over, whole, plus, product}
+use Rattle.scr_num.specs.Fraction.{Fraction, whole, percent, millionths, plus, product}
 use Rattle.scr_num.specs.Figure.{Figure}
 use Rattle.scr_num.specs.Figure.Figure.{Frac, Sum, Root}
 use Rattle.scr_num.specs.Figure.Figures.{more, none}
 use Rattle.scr_num.specs.Table.{Table}
-
-abbrev pub percent : ℕ → Fraction
-percent n = over (pos n) 100 (lit< tt)
-
-abbrev pub millionths : ℤ → Fraction
-millionths z = over z 1_000_000 (lit< tt)
 
 -- that share of so many cents
 abbrev pub part_of : ℕ → Fraction → Fraction

@@ -9,7 +9,8 @@ use scr_num::{Span, exact, scale};
 /// The most grains of one part.
 const MAX_PART: u128 = 50_000_000_000_000_000;
 
-/// Twenty-two percent, in millionths: the fall in value of strategic equities (Article 169).
+/// Twenty-two percent, in millionths: the fall in value of strategic equities (Delegated Regulation (EU) 2015/35,
+/// Articles 169 and 171).
 const STRATEGIC: u128 = 220_000;
 
 /// The capital requirement for equity risk and its four parts, in grains: thousandths of a cent.

@@ -19,7 +19,7 @@ use scr_num::add;
 pub const MAX_HELD: u64 = 50_000_000_000_000;
 
 /// The capital requirement for equity risk and its parts, in grains, thousandths of a cent: Delegated Regulation (EU)
-/// 2015/35, Articles 168 to 173.
+/// 2015/35, Articles 164a, 164b and 168 to 173.
 ///
 /// `sums` are the cents held in type 1 equities and in strategic ones of type 1, in type 2 equities (closed funds among
 /// them) and in strategic ones of type 2, and in equities of qualifying infrastructure and of qualifying infrastructure

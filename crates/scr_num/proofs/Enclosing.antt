@@ -5,13 +5,13 @@ use Rattle.std.specs.Int.Signed.{≤ℤ_refl}
 use Rattle.std.specs.Int.{int_max, int_min}
 use Rattle.std.proofs.lemmas.Int.{clamps}
 use borrow.Author.Differences.{up, down, at_most_in}
-use Rattle.scr_num.specs.Fraction.{Fraction, Share, ◌≼◌, over, zero_fraction}
+use Rattle.scr_num.specs.Fraction.{Fraction, Share, ◌≼◌, over, zero_fraction, plus, minus}
 use Rattle.scr_num.specs.Figure.{Figure, Frac, Sum, Diff, Times, Max, Min, RootOf, AtMost, AtLeast}
-use Rattle.scr_num.specs.Rounding.{floor_div, ceil_div, floor_root, ceil_root, or_zero}
+use Rattle.scr_num.specs.Rounding.{Ends, scale_ends, floor_div, ceil_div, floor_root, ceil_root, or_zero}
 use Rattle.scr_num.specs.Enclosure.{Encloses, Measures, Converts}
 use Rattle.scr_num.proofs.Roots.{floor_root-zero, floor_root-square, ceil_root-square}
 use Rattle.scr_num.proofs.Quotients.{floor_div-times, ceil_div-times}
-use Rattle.scr_num.proofs.Fractions.{over_mono, over-plus_le, over-plus_ge, over-minus_le, over-minus_ge, times_split}
+use Rattle.scr_num.proofs.Fractions.{≼_trans, plus_mono, minus_mono, over_mono, over-plus_le, over-plus_ge, over-minus_le, over-minus_ge, times_split}
 use Rattle.scr_num.proofs.Witnesses.{lower-le-upper, AtMost-down, AtLeast-up}
 
 -- ---- one number
@@ -40,6 +40,29 @@ Encloses-sub unit a b c d f g h k = record {
   at_most = (over a unit h.positive, over d unit k.positive, h.at_most, k.at_least, over-minus_le a d unit h.positive h.positive k.positive);
   at_least = (over b unit h.positive, over c unit k.positive, h.at_least, k.at_most, over-minus_ge b c unit h.positive h.positive k.positive);
 }
+
+-- ---- a sum and a difference of fractions, each of which comes to a fraction
+pub Encloses-plus : (unit : ℕ) (low high : ℤ) (p q : Fraction) → Encloses unit low high (Sum (Frac p) (Frac q)) → Encloses unit low high (Frac (plus p q))
+unfolding AtMost
+Encloses-plus unit low high p q h =
+    let a = h.at_most in
+    let b = h.at_least in
+    record {
+      positive = h.positive;
+      at_most = ≼_trans (over low unit h.positive) (plus a.0 a.1) (plus p q) a.4 (plus_mono a.0 p a.1 q a.2 a.3);
+      at_least = ≼_trans (plus p q) (plus b.0 b.1) (over high unit h.positive) (plus_mono p b.0 q b.1 b.2 b.3) b.4;
+    }
+
+pub Encloses-minus : (unit : ℕ) (low high : ℤ) (p q : Fraction) → Encloses unit low high (Diff (Frac p) (Frac q)) → Encloses unit low high (Frac (minus p q))
+unfolding AtMost
+Encloses-minus unit low high p q h =
+    let a = h.at_most in
+    let b = h.at_least in
+    record {
+      positive = h.positive;
+      at_most = ≼_trans (over low unit h.positive) (minus a.0 a.1) (minus p q) a.4 (minus_mono a.0 p a.1 q a.2 a.3);
+      at_least = ≼_trans (minus p q) (minus b.0 b.1) (over high unit h.positive) (minus_mono p b.0 q b.1 b.2 b.3) b.4;
+    }
 
 -- ---- a product with a fraction, which may change the unit
 share_below : (q v : ℤ) (num den old new pn pd : ℕ) → 0 < den → pn * (den * new) ≡ pd * (num * old) → (q *ℤ pos den) ≤ℤ (v *ℤ pos num)
@@ -154,6 +177,17 @@ Encloses-coarser unit k low high f positive h =
     factor zero n h = absurd (omega arith)
     factor (suc m) n h = omega arith
 
+-- the same of a quotient as it is worked out
+pub Encloses-divided : (unit k : ℕ) (e : Ends) (f : Figure) → 0 < k → Encloses (unit * k) e.low e.high f → Encloses unit (scale_ends e 1 k).low (scale_ends e 1 k).high f
+Encloses-divided unit k e f positive h =
+    let once : (z : ℤ) → z *ℤ pos 1 ≡ z = λ z. omega (arith, ints) in
+    let coarser = Encloses-coarser unit k e.low e.high f positive h in
+    record {
+      positive = coarser.positive;
+      at_most = rw (once e.low) coarser.at_most;
+      at_least = rw (once e.high) coarser.at_least;
+    }
+
 -- ---- the greater and the smaller of two figures
 at_most_at : (unit : ℕ) (v w : ℤ) (f : Figure) (positive positive' : 0 < unit) → v ≤ℤ w → AtMost (over w unit positive') f → AtMost (over v unit positive) f
 at_most_at unit v w f positive positive' h below = AtMost-down f (over v unit positive) (over w unit positive') (over_mono v w unit positive positive' h) below
@@ -161,7 +195,7 @@ at_most_at unit v w f positive positive' h below = AtMost-down f (over v unit po
 at_least_at : (unit : ℕ) (v w : ℤ) (f : Figure) (positive positive' : 0 < unit) → v ≤ℤ w → AtLeast (over v unit positive') f → AtLeast (over w unit positive) f
 at_least_at unit v w f positive positive' h above = AtLeast-up f (over v unit positive') (over w unit positive) (over_mono v w unit positive' positive h) above
 
-either_max : (a c : ℤ) → (int_max a c ≡ a) ⊎ (int_max a c ≡ c)
+pub either_max : (a c : ℤ) → (int_max a c ≡ a) ⊎ (int_max a c ≡ c)
 either_max a c = grind (arith, ints, clamps)
 
 either_min : (a c : ℤ) → (int_min a c ≡ a) ⊎ (int_min a c ≡ c)

@@ -1,10 +1,10 @@
 -- The ends of a root over a table of correlations enclose the root of the figures that the parts enclose.
-use Rattle.std.proofs.Common.{◌≡◌, ℕ, ◌*◌, ◌<◌, ◌≤◌, inl, inr, ℤ, pos, negsuc, ◌+ℤ◌, ◌*ℤ◌, ◌≤ℤ◌, List, [], ◌∷◌, map, arith, refl, mul-pos, mul-le-mul_right, sym, ap₂}
+use Rattle.std.proofs.Common.{◌≡◌, ℕ, ◌*◌, ◌<◌, ◌≤◌, inl, inr, ℤ, pos, negsuc, ◌+ℤ◌, ◌*ℤ◌, ◌≤ℤ◌, List, [], ◌∷◌, map, arith, refl, mul-pos, mul-le-mul_right, sym}
 use Rattle.std.proofs.lemmas.Int.{ints}
 use Rattle.scr_num.specs.Fraction.{Fraction, ◌≼◌, over, whole, zero_fraction, plus, product}
-use Rattle.scr_num.specs.Table.{Table, row_sum, sum_over}
+use Rattle.scr_num.specs.Table.{Table}
 use Rattle.scr_num.specs.Figure.{Figures, Root, none, more, Bounds, lower_term, upper_term, lower_form, upper_form, scaled_square, AtMost, AtLeast, AreBounds}
-use Rattle.scr_num.specs.Rounding.{Ends, floor_div, ceil_div, floor_root, ceil_root, or_zero, low_term, high_term, low_form, high_form, quad_ends, root_ends}
+use Rattle.scr_num.specs.Rounding.{Ends, floor_div, ceil_div, floor_root, ceil_root, or_zero, low_term, high_term, low_form, high_form, quad_ends}
 use Rattle.scr_num.specs.Enclosure.{Encloses, EncloseAll}
 use Rattle.scr_num.proofs.Roots.{floor_root-zero, floor_root-square, ceil_root-square}
 use Rattle.scr_num.proofs.Quotients.{floor_div-times, ceil_div-times, times_le}
@@ -153,22 +153,3 @@ module _ (unit : ℕ) (positive : 0 < unit) where
         at_least = AtLeast-quad fs table bounds (high_form table parts) (ceil_div (high_form table parts) table.den) den_positive within
             (high_forms table parts).below (ceil_div-times (high_form table parts) table.den den_positive);
       }
-
--- ---- two parts, whose correlations are not negative
-abbrev pub two_form : (p q r s : ℕ) → ℤ → ℤ → ℤ
-two_form p q r s x y = pos p *ℤ (x *ℤ x) +ℤ pos q *ℤ (x *ℤ y) +ℤ pos r *ℤ (y *ℤ x) +ℤ pos s *ℤ (y *ℤ y)
-
-two_sums : (a b c d : ℤ) → (a +ℤ (b +ℤ pos 0)) +ℤ ((c +ℤ (d +ℤ pos 0)) +ℤ pos 0) ≡ a +ℤ b +ℤ c +ℤ d
-two_sums a b c d = omega (arith, ints)
-
-pub quad_ends-two : (a b : Ends) (den p q r s : ℕ)
-    → quad_ends (a ∷ b ∷ []) (record { den = den; rows = (pos p ∷ pos q ∷ []) ∷ (pos r ∷ pos s ∷ []) ∷ [] })
-    ≡ root_ends (record {
-      low = floor_div (two_form p q r s a.low b.low) den;
-      high = ceil_div (two_form p q r s a.high b.high) den;
-    })
-unfolding quad_ends low_form high_form sum_over row_sum
-quad_ends-two a b den p q r s =
-    ap₂ (λ (x : ℤ) (y : ℤ). let e : Ends = record { low = floor_div x den; high = ceil_div y den } in root_ends e)
-    (two_sums (pos p *ℤ (a.low *ℤ a.low)) (pos q *ℤ (a.low *ℤ b.low)) (pos r *ℤ (b.low *ℤ a.low)) (pos s *ℤ (b.low *ℤ b.low)))
-    (two_sums (pos p *ℤ (a.high *ℤ a.high)) (pos q *ℤ (a.high *ℤ b.high)) (pos r *ℤ (b.high *ℤ a.high)) (pos s *ℤ (b.high *ℤ b.high)))

@@ -100,11 +100,10 @@ floor_div-size v n d h = size (floor_div (v *ℤ pos n) d) v n d (floor_div-time
     size (negsuc q) (pos v) n d a b = omega (arith, ints)
     size (negsuc q) (negsuc v) n d a b = omega (arith, ints)
 
+size_turned : (z : ℤ) → unsigned_abs (neg_ℤ z) ≡ unsigned_abs z
+size_turned z = omega (arith, ints)
+
 pub ceil_div-size : (v : ℤ) (n d : ℕ) → 0 < d → unsigned_abs (ceil_div (v *ℤ pos n) d) * d < unsigned_abs v * n + d
-ceil_div-size v n d h = size (ceil_div (v *ℤ pos n) d) v n d (ceil_div-times (v *ℤ pos n) d h) (ceil_div-next (v *ℤ pos n) d h)
-  where
-    size : (q v : ℤ) (n d : ℕ) → (v *ℤ pos n) ≤ℤ (q *ℤ pos d) → (q *ℤ pos d) <ℤ (v *ℤ pos n +ℤ pos d) → unsigned_abs q * d < unsigned_abs v * n + d
-    size (pos q) (pos v) n d a b = omega (arith, ints)
-    size (pos q) (negsuc v) n d a b = omega (arith, ints)
-    size (negsuc q) (pos v) n d a b = omega (arith, ints)
-    size (negsuc q) (negsuc v) n d a b = omega (arith, ints)
+ceil_div-size v n d h =
+    let turned : floor_div (neg_ℤ (v *ℤ pos n)) d ≡ floor_div (neg_ℤ v *ℤ pos n) d = ap (λ (z : ℤ). floor_div z d) (sym (neg-*ℤ-pos v n)) in
+    rw (turned, size_turned (floor_div (neg_ℤ v *ℤ pos n) d)) (rw (size_turned v) at (floor_div-size (neg_ℤ v) n d h))

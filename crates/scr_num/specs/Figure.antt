@@ -41,7 +41,8 @@ abbrev pub upper_term : ℤ → Bounds → Bounds → Fraction
 upper_term (pos c) x y = product (whole (pos c)) (product x.high y.high)
 upper_term (negsuc c) x y = product (whole (negsuc c)) (product x.low y.low)
 
--- the least and the greatest value of the form of a table within the bounds of its parts
+-- what no value of a table's form within the bounds of its parts is below, and what none is above: each cell's least
+-- term, and each cell's greatest
 unfoldable pub lower_form : Table → List Bounds → Fraction
 lower_form table parts = sum_over zero_fraction plus lower_term table.rows parts parts
 

@@ -1,6 +1,6 @@
 -- Fractions of any size, this project's own: the exact figures are made of them, and nothing of them is
 -- rounded. A fraction is a pair of whole numbers with a positive denominator; it need not be in lowest terms.
-use Rattle.std.specs.Prelude.{ℕ, ◌*◌, ◌<◌, ℤ, pos, ◌+ℤ◌, ◌-ℤ◌, ◌*ℤ◌, ◌≤ℤ◌}
+use Rattle.std.specs.Prelude.{ℕ, ◌*◌, ◌<◌, ℤ, pos, ◌+ℤ◌, ◌-ℤ◌, ◌*ℤ◌, ◌≤ℤ◌, Bool, int_lt, if◌then◌else◌}
 use Rattle.std.proofs.Common.{mul-pos, lit<}
 
 pub record Fraction : Type 0 where
@@ -29,6 +29,12 @@ whole z = over z 1 (lit< tt)
 abbrev pub zero_fraction : Fraction
 zero_fraction = whole (pos 0)
 
+abbrev pub percent : ℕ → Fraction
+percent n = over (pos n) 100 (lit< tt)
+
+abbrev pub millionths : ℤ → Fraction
+millionths z = over z 1_000_000 (lit< tt)
+
 abbrev pub plus : Fraction → Fraction → Fraction
 plus p q = over (p.num *ℤ pos q.den +ℤ q.num *ℤ pos p.den) (p.den * q.den) (mul-pos p.positive q.positive)
 
@@ -40,6 +46,14 @@ product p q = over (p.num *ℤ q.num) (p.den * q.den) (mul-pos p.positive q.posi
 
 abbrev pub square : Fraction → Fraction
 square p = product p p
+
+-- p is below q, as a test
+abbrev pub is_less : Fraction → Fraction → Bool
+is_less p q = int_lt (p.num *ℤ pos q.den) (q.num *ℤ pos p.den)
+
+-- the greater of the two
+abbrev pub greater : Fraction → Fraction → Fraction
+greater p q = if is_less p q then q else p
 
 -- that share of p
 abbrev pub times : Fraction → Share → Fraction

@@ -1,6 +1,6 @@
 -- Outward rounding, this project's own: each operator answers the narrowest pair of whole ends that
--- encloses what the ends handed in enclose. The arithmetic of the code and the model share these
--- definitions, which speak of one operator at a time.
+-- encloses what the ends handed in enclose; a root over a table with negative cells may answer a wider one. The
+-- arithmetic of the code and the model share these definitions, which speak of one operator at a time.
 use Rattle.std.specs.Prelude.{List, ℕ, zero, suc, ◌*◌, ◌/◌, ℤ, pos, negsuc, ◌+ℤ◌, ◌-ℤ◌, ◌*ℤ◌, neg_ℤ, nat_le, if◌then◌else◌}
 use Rattle.std.specs.Int.{int_max, int_min}
 use Rattle.scr_num.specs.Table.{Table, sum_over}
@@ -80,9 +80,8 @@ ceil_root n = ceil_root_from n n
 abbrev pub root_ends : Ends → Ends
 root_ends a = record { low = pos (floor_root (or_zero a.low)); high = pos (ceil_root (or_zero a.high)) }
 
--- The least and the greatest value, within ends that are not negative, of the sum over all cells of a table of the
--- cell times the part of its row times the part of its column: a product is least with both lows, and
--- with both highs where its cell is negative.
+-- The least and the greatest value, within ends that are not negative, of a cell times the part of its row times the
+-- part of its column: it is least with both lows, and with both highs where the cell is negative.
 abbrev pub low_term : ℤ → Ends → Ends → ℤ
 low_term (pos c) x y = pos c *ℤ (x.low *ℤ y.low)
 low_term (negsuc c) x y = negsuc c *ℤ (x.high *ℤ y.high)
@@ -91,13 +90,14 @@ abbrev pub high_term : ℤ → Ends → Ends → ℤ
 high_term (pos c) x y = pos c *ℤ (x.high *ℤ y.high)
 high_term (negsuc c) x y = negsuc c *ℤ (x.low *ℤ y.low)
 
+-- the sums of these over all cells of a table, between which lies the sum of the products of any parts within their ends
 unfoldable pub low_form : Table → List Ends → ℤ
 low_form table parts = sum_over (pos 0) ◌+ℤ◌ low_term table.rows parts parts
 
 unfoldable pub high_form : Table → List Ends → ℤ
 high_form table parts = sum_over (pos 0) ◌+ℤ◌ high_term table.rows parts parts
 
--- the root of that sum over the table's denominator; a sum below 0 counts as 0
+-- the roots of the two sums over the table's denominator; a sum below 0 counts as 0
 unfoldable pub quad_ends : List Ends → Table → Ends
 quad_ends parts table = root_ends (record {
   low = floor_div (low_form table parts) table.den;

@@ -1,14 +1,14 @@
 -- What a rise and a fall cost lies within their ends.
-use Rattle.std.proofs.Common.{◌≡◌, ℕ, ℤ, pos, ◌*ℤ◌, List, [], ◌∷◌, ap, arith, lit<}
+use Rattle.std.proofs.Common.{ℕ, pos, List, [], ◌∷◌, arith, lit<}
 use Rattle.std.proofs.lemmas.Int.{ints}
 use Rattle.scr_num.specs.Fraction.{Fraction, zero_fraction}
 use Rattle.scr_num.specs.Figure.{Frac}
-use Rattle.scr_num.specs.Rounding.{Ends, floor_div, ceil_div}
+use Rattle.scr_num.specs.Rounding.{Ends}
 use Rattle.scr_num.specs.Enclosure.{Encloses}
-use Rattle.scr_num.proofs.Enclosing.{Encloses-exact, Encloses-add, Encloses-same, Encloses-coarser}
+use Rattle.scr_num.proofs.Enclosing.{Encloses-exact, Encloses-add, Encloses-plus, Encloses-divided}
 use Rattle.scr_agg.specs.Unbeaten.{EncloseOutcome, EncloseOutcomes}
 use Rattle.scr_agg.proofs.NetAmounts.{Encloses-net}
-use Rattle.scr_agg.proofs.ExactAmounts.{Encloses-plus, Encloses-net_amount}
+use Rattle.scr_agg.proofs.ExactAmounts.{Encloses-net_amount}
 use Rattle.scr_rate.specs.InterestRisk.{counted, total_loss, scenario_outcome, interest_outcomes}
 use Rattle.scr_rate.specs.InterestEnds.{sum_ends, gross_ends, scenario_ends, interest_ends, EncloseLosses}
 
@@ -26,11 +26,7 @@ sum_encloses (e ∷ es) (loss ∷ losses) h =
 pub gross_encloses : (es : List Ends) (losses : List Fraction) → EncloseLosses es losses
     → Encloses 1000 (gross_ends es).low (gross_ends es).high (Frac (total_loss losses))
 gross_encloses es losses h =
-    let sum = sum_ends es in
-    let once : (z : ℤ) → z *ℤ pos 1 ≡ z = λ z. omega (arith, ints) in
-    Encloses-same 1000 _ _ _ _ (Frac (total_loss losses))
-    (ap (λ z. floor_div z 1000000000000000) (once sum.low)) (ap (λ z. ceil_div z 1000000000000000) (once sum.high))
-    (Encloses-coarser 1000 1000000000000000 sum.low sum.high (Frac (total_loss losses)) (lit< tt) (sum_encloses es losses h))
+    Encloses-divided 1000 1000000000000000 (sum_ends es) (Frac (total_loss losses)) (lit< tt) (sum_encloses es losses h)
 
 scenario_encloses : (es : List Ends) (losses : List Fraction) (absorb : ℕ) → EncloseLosses es losses → EncloseOutcome 1000 (scenario_ends es absorb) (scenario_outcome losses absorb)
 scenario_encloses es losses absorb h = record {

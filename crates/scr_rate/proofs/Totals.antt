@@ -1,10 +1,11 @@
 -- The sum of the losses, as the code goes.
-use Rattle.std.proofs.Common.{◌≡◌, ℕ, ◌+◌, ◌^◌, ◌<◌, ◌≤◌, ℤ, pos, ◌+ℤ◌, List, ◌∷◌, length, get_or, drop, sum_by, unsigned_abs, sym, ap, ap₂, ◌∙◌, arith}
+use Rattle.std.proofs.Common.{◌≡◌, ℕ, ◌+◌, ◌^◌, ◌<◌, ◌≤◌, ℤ, pos, ◌+ℤ◌, List, ◌∷◌, length, get_or, drop, sum_by, unsigned_abs, sym, ap, ◌∙◌, arith}
 use Rattle.std.proofs.lemmas.Int.{ints}
 use Rattle.std.proofs.lemmas.List.{drop_more, drop_all}
 use Rattle.std.proofs.lemmas.List.Sums.{sum_by-cons}
 use Rattle.scr_num.specs.declared.span.Span.{Span}
 use Rattle.scr_num.specs.Rounding.{Ends, ends, add_ends, exact_ends}
+use Rattle.scr_num.proofs.AddedEnds.{add_ends-assoc, zero-add_ends, add_ends-zero}
 use Rattle.scr_agg.specs.Correlated.{all_ends}
 use Rattle.scr_rate.specs.InterestEnds.{sum_ends}
 
@@ -14,28 +15,16 @@ pub record SummedTo (losses : List Span) (sum : Span) (i : ℕ) : Type 0 where
   pub low : unsigned_abs sum.low + sum_by (λ (loss : Span). unsigned_abs loss.low) (drop i losses) ≤ 10 ^ 33
   pub high : unsigned_abs sum.high + sum_by (λ (loss : Span). unsigned_abs loss.high) (drop i losses) ≤ 10 ^ 33
 
-regroup : (a b c : Ends) → add_ends (add_ends a b) c ≡ add_ends a (add_ends b c)
-regroup a b c = ap₂ (λ (x : ℤ) (y : ℤ). let e : Ends = record { low = x; high = y } in e) (three a.low b.low c.low) (three a.high b.high c.high)
-  where
-    three : (x y z : ℤ) → (x +ℤ y) +ℤ z ≡ x +ℤ (y +ℤ z)
-    three x y z = omega (arith, ints)
-
 pub summed-start : (losses : List Span) (sum : Span) → ends sum ≡ exact_ends (pos 0) → sum_by (λ (loss : Span). unsigned_abs loss.low) losses ≤ 10 ^ 33 → sum_by (λ (loss : Span). unsigned_abs loss.high) losses ≤ 10 ^ 33
     → SummedTo losses sum 0
 summed-start losses sum e h k =
     let low : sum.low ≡ pos 0 = ap (λ (x : Ends). x.low) e in
     let high : sum.high ≡ pos 0 = ap (λ (x : Ends). x.high) e in
     record {
-      total = ap (λ (x : Ends). add_ends x (sum_ends (all_ends losses))) e ∙ nothing (sum_ends (all_ends losses));
+      total = ap (λ (x : Ends). add_ends x (sum_ends (all_ends losses))) e ∙ zero-add_ends (sum_ends (all_ends losses));
       low = rw low (omega (arith, h));
       high = rw high (omega (arith, k));
     }
-  where
-    zero_plus : (z : ℤ) → pos 0 +ℤ z ≡ z
-    zero_plus z = omega (arith, ints)
-
-    nothing : (x : Ends) → add_ends (exact_ends (pos 0)) x ≡ x
-    nothing x = ap₂ (λ (a : ℤ) (b : ℤ). let e : Ends = record { low = a; high = b } in e) (zero_plus x.low) (zero_plus x.high)
 
 abs_plus : (a b : ℤ) → unsigned_abs (a +ℤ b) ≤ unsigned_abs a + unsigned_abs b
 abs_plus a b = omega (arith, ints)
@@ -50,7 +39,7 @@ summed-next losses sum loss next i lt at e h =
     let highs = ap (λ l. sum_by (λ (s : Span). unsigned_abs s.high) l) split ∙ sum_by-cons (λ (s : Span). unsigned_abs s.high) loss (drop (i + 1) losses) in
     record {
       total = ap (λ (x : Ends). add_ends x (sum_ends (all_ends (drop (i + 1) losses)))) e
-          ∙ regroup (ends sum) (ends loss) (sum_ends (all_ends (drop (i + 1) losses)))
+          ∙ add_ends-assoc (ends sum) (ends loss) (sum_ends (all_ends (drop (i + 1) losses)))
           ∙ ap (λ l. add_ends (ends sum) (sum_ends (all_ends l))) (sym split)
           ∙ h.total;
       low = rw low (omega (arith, abs_plus sum.low loss.low, lows, h.low));
@@ -59,10 +48,4 @@ summed-next losses sum loss next i lt at e h =
 
 pub summed-end : (losses : List Span) (sum : Span) (i : ℕ) → length losses ≤ i → SummedTo losses sum i → ends sum ≡ sum_ends (all_ends losses)
 summed-end losses sum i most h =
-    sym (ap (λ l. add_ends (ends sum) (sum_ends (all_ends l))) (drop_all i losses most) ∙ nothing (ends sum)) ∙ h.total
-  where
-    plus_zero : (z : ℤ) → z +ℤ pos 0 ≡ z
-    plus_zero z = omega (arith, ints)
-
-    nothing : (x : Ends) → add_ends x (exact_ends (pos 0)) ≡ x
-    nothing x = ap₂ (λ (a : ℤ) (b : ℤ). let e : Ends = record { low = a; high = b } in e) (plus_zero x.low) (plus_zero x.high)
+    sym (ap (λ l. add_ends (ends sum) (sum_ends (all_ends l))) (drop_all i losses most) ∙ add_ends-zero (ends sum)) ∙ h.total

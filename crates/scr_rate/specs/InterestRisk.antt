@@ -2,8 +2,8 @@
 -- (EU) 2015/35. Nothing is rounded. A rise and a fall of interest rates each cost the sum of the losses in all currencies,
 -- and the one that costs more after absorption decides.
 use Rattle.std.specs.Prelude.{ℕ, List, [], ◌∷◌}
-use Rattle.scr_num.specs.Fraction.{Fraction, zero_fraction, plus}
-use Rattle.scr_agg.specs.Absorbed.{greater, net_amount}
+use Rattle.scr_num.specs.Fraction.{Fraction, zero_fraction, plus, greater}
+use Rattle.scr_agg.specs.Absorbed.{net_amount}
 use Rattle.scr_agg.specs.Choice.{Outcome, outcome_at, chosen}
 
 -- what counts of a currency's loss: a gain counts as nil (this project's own)

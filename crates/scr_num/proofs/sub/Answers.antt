@@ -1,11 +1,8 @@
-use Rattle.std.proofs.Common.{◌≡◌, ℤ, ap₂, arith}
+use Rattle.std.proofs.Common.{arith}
 use Rattle.std.proofs.lemmas.Int.{ints}
-use Rattle.scr_num.specs.Rounding.{Ends}
+use Rattle.scr_num.proofs.AddedEnds.{same_ends}
 use Rattle.scr_num.proofs.Enclosing.{Encloses-same, Encloses-sub}
 use Rattle.scr_num.proofs.sub.Goals as goal
-
-same_ends : (a b c d : ℤ) → a ≡ c → b ≡ d → ◌≡◌ {A = Ends} (record { low = a; high = b }) (record { low = c; high = d })
-same_ends a b c d e f = ap₂ (λ (x : ℤ) (y : ℤ). let r : Ends = record { low = x; high = y } in r) e f
 
 pub returns-clause-low : goal.returns-clause-low
 returns-clause-low c = omega (arith, ints)

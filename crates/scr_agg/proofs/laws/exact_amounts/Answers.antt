@@ -1,4 +1,5 @@
-use Rattle.scr_agg.proofs.ExactAmounts.{Encloses-plus, Encloses-minus, Encloses-greater, Encloses-net_amount}
+use Rattle.scr_num.proofs.Enclosing.{Encloses-plus, Encloses-minus}
+use Rattle.scr_agg.proofs.ExactAmounts.{Encloses-greater, Encloses-net_amount}
 use Rattle.scr_agg.proofs.laws.exact_amounts.Goals as goal
 
 pub returns-clause-sum : goal.returns-clause-sum
