@@ -1,4 +1,4 @@
--- How the state of a walk over a file shows the records that are left of it.
+-- How the state of a walk over a file shows the records that are left of it (this project's own).
 use Rattle.std.specs.Prelude.{ℕ, ◌+◌, List}
 use Rattle.scr_csv.specs.Lines.{records_from}
 use Rattle.scr_csv.specs.declared.walk.Line.{Line}

@@ -1,4 +1,4 @@
--- How the state of a walk over a line shows the fields that are left of it.
+-- How the state of a walk over a line shows the fields that are left of it (this project's own).
 use Rattle.std.specs.Prelude.{ℕ, ◌==◌, List, [], drop, Option}
 use Rattle.std.specs.Borrow.{Bor}
 use Rattle.std.specs.List.{slice_split}

@@ -1,5 +1,5 @@
 //! What files and lines spell, compared with values worked by hand.
-use crate::{LineFault, lines, read_line};
+use crate::{LineFault, lines, push_absorb_key, read_line};
 use scr_dates::Day;
 use scr_factors::Set;
 use scr_sheet::{
@@ -32,241 +32,317 @@ fn spells(rt: &(impl Abort + AllocGlobal), line: &str, edit: &Edit) -> Result<bo
     Ok(shown.as_str() == expected.as_str())
 }
 
+/// Each line spells the record beside it.
+fn all_spell(rt: &(impl Abort + AllocGlobal), cases: &[(&str, Edit)]) -> Result<(), AllocError> {
+    for (line, edit) in cases {
+        assert!(rt; spells(rt, line, edit)?, "{line}");
+    }
+    Ok(())
+}
+
 #[test]
-fn records_of_assets_spell_their_fields(rt: HostRuntime) -> Result<(), Fail> {
+fn dates_and_rates(rt: HostRuntime) -> Result<(), Fail> {
     let alloc = rt.alloc();
-    let (security, fund, currency) = (name(&rt, "S"), name(&rt, "F.1"), name(&rt, "USD"));
+    let (date, currency) = (NEW_YEARS_EVE, name(&rt, "USD"));
     let rates = Rates::new(vec![in alloc; 20_000, -5]?);
     let none = Rates::new(Vec::new(alloc));
-    let flows = Flows::new(vec![in alloc; (NEW_YEARS_EVE, 7), (Day { number: 1 }, -7)]?);
-    let components = Components::new(vec![in alloc; (security, 600_000), (currency, -4)]?);
-    for (line, edit) in [
-        (
-            "asof,2034-12-31,USD",
-            Edit::Asof {
-                date: NEW_YEARS_EVE,
-                currency,
-            },
-        ),
-        ("curve,USD,20000,-5", Edit::Curve { currency, rates }),
-        (
-            "curve,USD",
-            Edit::Curve {
-                currency,
-                rates: none,
-            },
-        ),
-        (
-            "group,S,covered,6",
-            Edit::Group {
-                name: security,
-                kind: GroupKind::Covered,
-                step: Some(6),
-            },
-        ),
-        (
-            "group,S,state,-",
-            Edit::Group {
-                name: security,
-                kind: GroupKind::State,
-                step: None,
-            },
-        ),
-        (
-            "sec,S,infracorp,-,USD,7500",
-            Edit::Security {
-                name: security,
-                class: Class::InfrastructureCorporate,
-                group: None,
-                currency,
-                duration: 7_500,
-            },
-        ),
-        (
-            "sec,S,eq2s,USD,USD,0",
-            Edit::Security {
-                name: security,
-                class: Class::Type2Strategic,
-                group: Some(currency),
-                currency,
-                duration: 0,
-            },
-        ),
-        (
-            "flows,S,2034-12-31,7,1970-01-02,-7",
-            Edit::Flows { security, flows },
-        ),
-        (
-            "flows,S",
-            Edit::Flows {
-                security,
-                flows: Flows::new(Vec::new(alloc)),
-            },
-        ),
-        (
-            "fund,F.1,S,600000,USD,-4",
-            Edit::Fund {
-                name: fund,
-                components,
-            },
-        ),
-        (
-            "fund,F.1",
-            Edit::Fund {
-                name: fund,
-                components: Components::new(Vec::new(alloc)),
-            },
-        ),
-        (
-            "hold,S,100",
-            Edit::Hold {
-                name: security,
-                cents: 100,
-            },
-        ),
-        (
-            "drop,fund,F.1",
-            Edit::Remove {
-                table: Table::Fund,
-                name: fund,
-            },
-        ),
-        (
-            "drop,curve,S",
-            Edit::Remove {
-                table: Table::Curve,
-                name: security,
-            },
-        ),
-    ] {
-        assert!(rt; spells(&rt, line, &edit)?, "{line}");
-    }
+    all_spell(
+        &rt,
+        &[
+            ("asof,2034-12-31,USD", Edit::Asof { date, currency }),
+            ("curve,USD,20000,-5", Edit::Curve { currency, rates }),
+            (
+                "curve,USD",
+                Edit::Curve {
+                    currency,
+                    rates: none,
+                },
+            ),
+        ],
+    )?;
     Ok(())
 }
 
 #[test]
-fn records_of_insurance_spell_their_fields(rt: HostRuntime) -> Result<(), Fail> {
-    let (line_name, group, currency) = (name(&rt, "L"), name(&rt, "G"), name(&rt, "USD"));
+fn groups_with_and_without_a_step(rt: HostRuntime) -> Result<(), Fail> {
+    let name = name(&rt, "G");
+    let (covered, state) = (GroupKind::Covered, GroupKind::State);
+    all_spell(
+        &rt,
+        &[
+            (
+                "group,G,covered,6",
+                Edit::Group {
+                    name,
+                    kind: covered,
+                    step: Some(6),
+                },
+            ),
+            (
+                "group,G,state,-",
+                Edit::Group {
+                    name,
+                    kind: state,
+                    step: None,
+                },
+            ),
+        ],
+    )?;
+    Ok(())
+}
+
+#[test]
+fn securities_with_and_without_a_group(rt: HostRuntime) -> Result<(), Fail> {
+    let (security, group, currency) = (name(&rt, "S"), name(&rt, "G"), name(&rt, "USD"));
+    let alone = Edit::Security {
+        name: security,
+        class: Class::InfrastructureCorporate,
+        group: None,
+        currency,
+        duration: 7_500,
+    };
+    let grouped = Edit::Security {
+        name: security,
+        class: Class::Type2Strategic,
+        group: Some(group),
+        currency,
+        duration: 0,
+    };
+    all_spell(
+        &rt,
+        &[
+            ("sec,S,infracorp,-,USD,7500", alone),
+            ("sec,S,eq2s,G,USD,0", grouped),
+        ],
+    )?;
+    Ok(())
+}
+
+#[test]
+fn payments_and_holdings_of_a_security(rt: HostRuntime) -> Result<(), Fail> {
+    let alloc = rt.alloc();
+    let (security, cents) = (name(&rt, "S"), 100);
+    let flows = Flows::new(vec![in alloc; (NEW_YEARS_EVE, 7), (Day { number: 1 }, -7)]?);
+    let none = Flows::new(Vec::new(alloc));
+    all_spell(
+        &rt,
+        &[
+            (
+                "flows,S,2034-12-31,7,1970-01-02,-7",
+                Edit::Flows { security, flows },
+            ),
+            (
+                "flows,S",
+                Edit::Flows {
+                    security,
+                    flows: none,
+                },
+            ),
+            (
+                "hold,S,100",
+                Edit::Hold {
+                    name: security,
+                    cents,
+                },
+            ),
+        ],
+    )?;
+    Ok(())
+}
+
+#[test]
+fn funds_with_and_without_components(rt: HostRuntime) -> Result<(), Fail> {
+    let alloc = rt.alloc();
+    let (fund, one, two) = (name(&rt, "F.1"), name(&rt, "S"), name(&rt, "USD"));
+    let components = Components::new(vec![in alloc; (one, 600_000), (two, -4)]?);
+    let none = Components::new(Vec::new(alloc));
+    all_spell(
+        &rt,
+        &[
+            (
+                "fund,F.1,S,600000,USD,-4",
+                Edit::Fund {
+                    name: fund,
+                    components,
+                },
+            ),
+            (
+                "fund,F.1",
+                Edit::Fund {
+                    name: fund,
+                    components: none,
+                },
+            ),
+        ],
+    )?;
+    Ok(())
+}
+
+#[test]
+fn rows_taken_out_of_their_tables(rt: HostRuntime) -> Result<(), Fail> {
+    let name = name(&rt, "F.1");
+    let (fund, curve, rein) = (Table::Fund, Table::Curve, Table::Rein);
+    all_spell(
+        &rt,
+        &[
+            ("drop,fund,F.1", Edit::Remove { table: fund, name }),
+            ("drop,curve,F.1", Edit::Remove { table: curve, name }),
+            ("drop,rein,F.1", Edit::Remove { table: rein, name }),
+        ],
+    )?;
+    Ok(())
+}
+
+#[test]
+fn lines_and_their_flows(rt: HostRuntime) -> Result<(), Fail> {
+    let (line, currency) = (name(&rt, "L"), name(&rt, "USD"));
+    let (kind, projection) = (LineKind::Health, Projection::LapseMass);
     let flows = Flows::new(vec![in rt.alloc(); (NEW_YEARS_EVE, 100_000)]?);
-    for (line, edit) in [
-        (
-            "line,L,health,USD",
-            Edit::Line {
-                name: line_name,
-                kind: LineKind::Health,
-                currency,
-            },
-        ),
-        (
-            "lflow,L,mass,2034-12-31,100000",
-            Edit::LineFlows {
-                line: line_name,
-                projection: Projection::LapseMass,
-                flows,
-            },
-        ),
-        (
-            "absorb,life.lapse.mass,40000",
-            Edit::Absorb {
-                key: AbsorbKey::LifeLapseMass,
-                cents: 40_000,
-            },
-        ),
-        (
-            "absorb,health.cat,1",
-            Edit::Absorb {
-                key: AbsorbKey::HealthCatastrophe,
-                cents: 1,
-            },
-        ),
-        (
-            "absorb,currency.USD.up,2",
-            Edit::Absorb {
-                key: AbsorbKey::CurrencyUp(currency),
-                cents: 2,
-            },
-        ),
+    all_spell(
+        &rt,
+        &[
+            (
+                "line,L,health,USD",
+                Edit::Line {
+                    name: line,
+                    kind,
+                    currency,
+                },
+            ),
+            (
+                "lflow,L,mass,2034-12-31,100000",
+                Edit::LineFlows {
+                    line,
+                    projection,
+                    flows,
+                },
+            ),
+        ],
+    )?;
+    Ok(())
+}
+
+#[test]
+fn absorptions_of_scenarios_and_of_currencies(rt: HostRuntime) -> Result<(), Fail> {
+    let currency = name(&rt, "USD");
+    for (line, key) in [
+        ("absorb,life.lapse.mass,3", AbsorbKey::LifeLapseMass),
+        ("absorb,health.cat,3", AbsorbKey::HealthCatastrophe),
+        ("absorb,currency.USD.up,3", AbsorbKey::CurrencyUp(currency)),
         (
             "absorb,currency.USD.down,3",
-            Edit::Absorb {
-                key: AbsorbKey::CurrencyDown(currency),
-                cents: 3,
-            },
-        ),
-        (
-            "seg,nl,12,18,100000,50000",
-            Edit::Segment {
-                set: Set::Nl,
-                number: 12,
-                region: 18,
-                premium: 100_000,
-                reserve: 50_000,
-            },
-        ),
-        (
-            "seg,nslt,04,01,5,6",
-            Edit::Segment {
-                set: Set::Nslt,
-                number: 4,
-                region: 1,
-                premium: 5,
-                reserve: 6,
-            },
-        ),
-        (
-            "cat,npproperty,10000",
-            Edit::Cat {
-                key: CatKey::NonProportionalProperty,
-                cents: 10_000,
-            },
-        ),
-        (
-            "cat,pandemic,4",
-            Edit::Cat {
-                key: CatKey::Pandemic,
-                cents: 4,
-            },
-        ),
-        (
-            "lapse,nslt,5",
-            Edit::Lapse {
-                set: Set::Nslt,
-                cents: 5,
-            },
-        ),
-        (
-            "rein,L,G,100000,40000,10000",
-            Edit::Rein {
-                name: line_name,
-                group,
-                recoverables: 100_000,
-                mitigation: 40_000,
-                collateral: 10_000,
-            },
-        ),
-        (
-            "bank,L,G,7",
-            Edit::Bank {
-                name: line_name,
-                group,
-                cents: 7,
-            },
-        ),
-        (
-            "drop,rein,L",
-            Edit::Remove {
-                table: Table::Rein,
-                name: line_name,
-            },
+            AbsorbKey::CurrencyDown(currency),
         ),
     ] {
-        assert!(rt; spells(&rt, line, &edit)?, "{line}");
+        assert!(rt;
+            spells(&rt, line, &Edit::Absorb { key, cents: 3 })?,
+            "{line}"
+        );
     }
     Ok(())
 }
 
 #[test]
-fn records_of_single_numbers_spell_their_fields(rt: HostRuntime) -> Result<(), Fail> {
+fn absorption_keys_as_they_are_written(rt: HostRuntime) -> Result<(), Fail> {
+    let mut out = Vec::new(rt.alloc());
+    for key in [AbsorbKey::Spread, AbsorbKey::CurrencyDown(name(&rt, "USD"))] {
+        push_absorb_key(rt.alloc(), &mut out, key)?;
+    }
+    assert_eq!(rt; out.as_slice(), b"spreadcurrency.USD.down".as_slice());
+    Ok(())
+}
+
+#[test]
+fn volumes_of_the_last_segment_of_each_set(rt: HostRuntime) -> Result<(), Fail> {
+    let (premium, reserve) = (100_000, 50_000);
+    let (nl, nslt) = (Set::Nl, Set::Nslt);
+    all_spell(
+        &rt,
+        &[
+            (
+                "seg,nl,12,18,100000,50000",
+                Edit::Segment {
+                    set: nl,
+                    number: 12,
+                    region: 18,
+                    premium,
+                    reserve,
+                },
+            ),
+            (
+                "seg,nslt,04,01,100000,50000",
+                Edit::Segment {
+                    set: nslt,
+                    number: 4,
+                    region: 1,
+                    premium,
+                    reserve,
+                },
+            ),
+        ],
+    )?;
+    Ok(())
+}
+
+#[test]
+fn charges_for_catastrophes_and_lapse(rt: HostRuntime) -> Result<(), Fail> {
+    let (property, pandemic) = (CatKey::NonProportionalProperty, CatKey::Pandemic);
+    let (set, cents) = (Set::Nslt, 5);
+    all_spell(
+        &rt,
+        &[
+            (
+                "cat,npproperty,5",
+                Edit::Cat {
+                    key: property,
+                    cents,
+                },
+            ),
+            (
+                "cat,pandemic,5",
+                Edit::Cat {
+                    key: pandemic,
+                    cents,
+                },
+            ),
+            ("lapse,nslt,5", Edit::Lapse { set, cents }),
+        ],
+    )?;
+    Ok(())
+}
+
+#[test]
+fn exposures_to_default(rt: HostRuntime) -> Result<(), Fail> {
+    let (name, group) = (name(&rt, "L"), name(&rt, "G"));
+    let (recoverables, mitigation, collateral) = (100_000, 40_000, 10_000);
+    let (overdue, other) = (10_000, 20_000);
+    let arrangement = Edit::Rein {
+        name,
+        group,
+        recoverables,
+        mitigation,
+        collateral,
+    };
+    all_spell(
+        &rt,
+        &[
+            ("rein,L,G,100000,40000,10000", arrangement),
+            (
+                "bank,L,G,7",
+                Edit::Bank {
+                    name,
+                    group,
+                    cents: 7,
+                },
+            ),
+            ("due,10000,20000", Edit::Due { overdue, other }),
+        ],
+    )?;
+    Ok(())
+}
+
+#[test]
+fn records_of_single_numbers(rt: HostRuntime) -> Result<(), Fail> {
     let op = Edit::Op {
         tpl: -1,
         tpul: 2,
@@ -279,33 +355,22 @@ fn records_of_single_numbers_spell_their_fields(rt: HostRuntime) -> Result<(), F
         pen: 9,
         expul: 10,
     };
-    for (line, edit) in [
-        (
-            "due,10000,20000",
-            Edit::Due {
-                overdue: 10_000,
-                other: 20_000,
-            },
-        ),
-        ("op,-1,2,3,4,5,6,7,8,9,10", op),
-        (
-            "sym,-20000",
-            Edit::Sym {
-                millionths: -20_000,
-            },
-        ),
-        (
-            "tax,250000,100000",
-            Edit::Tax {
-                millionths: 250_000,
-                cap: 100_000,
-            },
-        ),
-        ("fdb,5000", Edit::Fdb { cents: 5_000 }),
-        ("intangible,0", Edit::Intangible { cents: 0 }),
-    ] {
-        assert!(rt; spells(&rt, line, &edit)?, "{line}");
-    }
+    let (millionths, cap) = (250_000, 100_000);
+    all_spell(
+        &rt,
+        &[
+            ("op,-1,2,3,4,5,6,7,8,9,10", op),
+            (
+                "sym,-20000",
+                Edit::Sym {
+                    millionths: -20_000,
+                },
+            ),
+            ("tax,250000,100000", Edit::Tax { millionths, cap }),
+            ("fdb,5000", Edit::Fdb { cents: 5_000 }),
+            ("intangible,0", Edit::Intangible { cents: 0 }),
+        ],
+    )?;
     Ok(())
 }
 

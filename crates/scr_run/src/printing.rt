@@ -118,7 +118,7 @@ pub fn push_fault(alloc: Global, out: &mut Vec<u8>, fault: &Fault) -> Result<(),
         Fault::Syntax(field) => push_syntax(alloc, out, *field),
         Fault::UnknownName(name) => push_named(out, "unknown name ", name),
         Fault::WrongKind(name) => push_named(out, "wrong kind ", name),
-        Fault::InUse(name, user) => push_in_use(out, name, user),
+        Fault::InUse(name, user) => push_in_use(alloc, out, name, user),
         Fault::Cycle(path) => push_cycle(out, path),
         Fault::Range(quantity, value, limit) => {
             push_range(alloc, out, *quantity, *value, *limit)
@@ -150,12 +150,12 @@ fn push_name(out: &mut Vec<u8>, name: &Name) -> Result<(), NoMemory>
 }
 
 #[tactic(auto, unfolding(crate::specs::FaultTexts::in_use_text))]
-fn push_in_use(out: &mut Vec<u8>, name: &Name, user: &User) -> Result<(), NoMemory>
+fn push_in_use(alloc: Global, out: &mut Vec<u8>, name: &Name, user: &User) -> Result<(), NoMemory>
     ensures { OnOk result (out.new.items ≡ out.old.items ++ in_use_text name.now user.now) }
 {
     push_name(out, name)?;
     push(out, " in use by ")?;
-    push_user(out, user)
+    push_user(alloc, out, user)
 }
 
 #[tactic(auto, unfolding(crate::specs::FaultTexts::cycle_text))]
@@ -188,24 +188,24 @@ fn push_next_name(out: &mut Vec<u8>, name: &Name) -> Result<(), NoMemory>
     push_name(out, name)
 }
 
-fn push_user(out: &mut Vec<u8>, user: &User) -> Result<(), NoMemory>
+fn push_user(alloc: Global, out: &mut Vec<u8>, user: &User) -> Result<(), NoMemory>
     ensures { OnOk result (out.new.items ≡ out.old.items ++ user_text user.now) }
 {
     match user {
         User::Asof => push(out, "asof"),
         User::Hold => push(out, "hold"),
         User::Lflow => push(out, "lflow"),
-        User::Absorb(key) => push_absorb_user(out, *key),
+        User::Absorb(key) => push_absorb_user(alloc, out, *key),
         User::Row(name) => push_name(out, name),
     }
 }
 
 #[tactic(auto, unfolding(crate::specs::FaultTexts::absorb_user))]
-fn push_absorb_user(out: &mut Vec<u8>, key: AbsorbKey) -> Result<(), NoMemory>
+fn push_absorb_user(alloc: Global, out: &mut Vec<u8>, key: AbsorbKey) -> Result<(), NoMemory>
     ensures { OnOk result (out.new.items ≡ out.old.items ++ absorb_user (absorb_text key)) }
 {
     push(out, "absorb.")?;
-    push_absorb_key(out, key)
+    push_absorb_key(alloc, out, key)
 }
 
 /// Appends a quantity, its value and its limit.
