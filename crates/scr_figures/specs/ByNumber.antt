@@ -1,5 +1,5 @@
--- The funds and the securities of a balance sheet by numbers: the funds come first, in their order, and the securities after
--- them.
+-- The funds and the securities of a balance sheet by numbers (this project's own): the funds come first, in their order, and
+-- the securities after them.
 use Rattle.std.specs.Prelude.{ℕ, ℤ, suc, List, [], ◌∷◌, ◌++◌, map, if◌then◌else◌}
 use Rattle.scr_funds.specs.LookThrough.{Weighted}
 use Rattle.scr_sheet.specs.Names.{same_name}

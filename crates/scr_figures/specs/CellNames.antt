@@ -1,4 +1,5 @@
--- The names of the cells of the report as they are printed.
+-- The names of the cells of the report as they are printed (this project's own), after the template S.26.01 of the public
+-- disclosure.
 use Rattle.std.specs.Prelude.{ℕ, List, codes}
 use Rattle.scr_figures.specs.declared.cell.CellName.{CellName}
 use Rattle.scr_figures.specs.declared.cell.CellName.TheVariants as names

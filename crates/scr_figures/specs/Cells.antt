@@ -1,5 +1,5 @@
 -- The cells of a block of the report (this project's own), with the exact figure of each.
-use Rattle.std.specs.Prelude.{ℕ, ℤ, pos, negsuc, Bool, false, List, [], ◌∷◌, ◌++◌, map, codes}
+use Rattle.std.specs.Prelude.{ℕ, ℤ, pos, negsuc, Bool, false, List, [], ◌∷◌, ◌++◌, map}
 use Rattle.std.specs.Int.{int_max, int_min}
 use Rattle.std.specs.List.{AllByRecursion}
 use Rattle.scr_num.specs.Rounding.{Ends}
@@ -12,6 +12,9 @@ use Rattle.scr_market.specs.EquityEnds.{type1_ends, type2_ends, infra_ends, infr
 use Rattle.scr_sheet.specs.BalanceSheet.{BalanceSheet}
 use Rattle.scr_sheet.specs.Absorptions.{absorbed}
 use Rattle.scr_sheet.specs.declared.keys.AbsorbKey.TheVariants as absorb
+use Rattle.scr_figures.specs.CellNames.{name_text}
+use Rattle.scr_figures.specs.declared.cell.CellName.{CellName}
+use Rattle.scr_figures.specs.declared.cell.CellName.TheVariants as names
 use Rattle.scr_figures.specs.Equity.{equity_sums}
 use Rattle.scr_figures.specs.Interest.{rise_outcome, fall_outcome, decisive_outcome}
 use Rattle.scr_figures.specs.InterestWorked.{rise_ends, fall_ends, interest_gross, interest_net, interest_is_close}
@@ -48,32 +51,32 @@ exact_equity sheet = equity_figure (equity_sums sheet) (adjustment sheet)
 -- ---- the cells
 
 -- a cell that rests on no choice
-abbrev pub cell : List ℕ → Ends → Figure → Cell
-cell name worked exact = record { shown = record { name = name; worked = worked; close = false }; exact = exact }
+abbrev pub cell : CellName → Ends → Figure → Cell
+cell name worked exact = record { shown = record { name = name_text name; worked = worked; close = false }; exact = exact }
 
 -- a cell that rests on the choice between the rise and the fall of interest rates
-abbrev pub chosen_cell : BalanceSheet → List ℕ → Ends → Figure → Cell
-chosen_cell sheet name worked exact = record { shown = record { name = name; worked = worked; close = interest_is_close sheet }; exact = exact }
+abbrev pub chosen_cell : BalanceSheet → CellName → Ends → Figure → Cell
+chosen_cell sheet name worked exact = record { shown = record { name = name_text name; worked = worked; close = interest_is_close sheet }; exact = exact }
 
 unfoldable pub interest_cells : BalanceSheet → List Cell
 interest_cells sheet =
-    cell (codes "S2601.interest.up.gross") (rise_ends sheet).gross (Frac (rise_outcome sheet).gross)
-    ∷ cell (codes "S2601.interest.up.net") (rise_ends sheet).net (Frac (rise_outcome sheet).net)
-    ∷ cell (codes "S2601.interest.down.gross") (fall_ends sheet).gross (Frac (fall_outcome sheet).gross)
-    ∷ cell (codes "S2601.interest.down.net") (fall_ends sheet).net (Frac (fall_outcome sheet).net)
-    ∷ chosen_cell sheet (codes "S2601.interest.gross") (interest_gross sheet) (Frac (decisive_outcome sheet).gross)
-    ∷ chosen_cell sheet (codes "S2601.interest.net") (interest_net sheet) (Frac (decisive_outcome sheet).net) ∷ []
+    cell names.InterestUpGross (rise_ends sheet).gross (Frac (rise_outcome sheet).gross)
+    ∷ cell names.InterestUpNet (rise_ends sheet).net (Frac (rise_outcome sheet).net)
+    ∷ cell names.InterestDownGross (fall_ends sheet).gross (Frac (fall_outcome sheet).gross)
+    ∷ cell names.InterestDownNet (fall_ends sheet).net (Frac (fall_outcome sheet).net)
+    ∷ chosen_cell sheet names.InterestGross (interest_gross sheet) (Frac (decisive_outcome sheet).gross)
+    ∷ chosen_cell sheet names.InterestNet (interest_net sheet) (Frac (decisive_outcome sheet).net) ∷ []
 
 unfoldable pub equity_cells : BalanceSheet → List Cell
 equity_cells sheet =
     let sums = equity_sums sheet in
     let sym = adjustment sheet in
-    cell (codes "S2601.equity.type1") (type1_ends sums sym) (type1_figure sums sym)
-    ∷ cell (codes "S2601.equity.type2") (type2_ends sums sym) (type2_figure sums sym)
-    ∷ cell (codes "S2601.equity.infra") (infra_ends sums sym) (infra_figure sums sym)
-    ∷ cell (codes "S2601.equity.infracorp") (infracorp_ends sums sym) (infracorp_figure sums sym)
-    ∷ cell (codes "S2601.equity.gross") (worked_equity sheet) (exact_equity sheet)
-    ∷ cell (codes "S2601.equity.net") (net_ends (worked_equity sheet) (equity_absorption sheet)) (net_figure (exact_equity sheet) (equity_absorption sheet)) ∷ []
+    cell names.EquityType1 (type1_ends sums sym) (type1_figure sums sym)
+    ∷ cell names.EquityType2 (type2_ends sums sym) (type2_figure sums sym)
+    ∷ cell names.EquityInfrastructure (infra_ends sums sym) (infra_figure sums sym)
+    ∷ cell names.EquityInfrastructureCorporate (infracorp_ends sums sym) (infracorp_figure sums sym)
+    ∷ cell names.EquityGross (worked_equity sheet) (exact_equity sheet)
+    ∷ cell names.EquityNet (net_ends (worked_equity sheet) (equity_absorption sheet)) (net_figure (exact_equity sheet) (equity_absorption sheet)) ∷ []
 
 -- the cells in the order of their lines
 unfoldable pub cells : BalanceSheet → List Cell

@@ -1,4 +1,4 @@
--- What a cell of the report, as it is handed out, shows.
+-- What a cell of the report, as it is handed out, shows (this project's own).
 use Rattle.scr_num.specs.Rounding.{ends}
 use Rattle.scr_figures.specs.declared.cell.Cell.{Cell}
 use Rattle.scr_figures.specs.CellNames.{name_text}
