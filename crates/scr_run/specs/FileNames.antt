@@ -1,4 +1,4 @@
--- The names of the files as the code holds them.
+-- The names of the files as the code holds them (this project's own).
 use Rattle.std.specs.Prelude.{ℕ, List, map, String, string_bytes}
 use Rattle.std.specs.Borrow.{Bor}
 use Rattle.std.specs.declared.alloc.Global.{Global}

@@ -1,5 +1,5 @@
 pub mod BookFile
-pub mod Amounts
+pub mod AmountTexts
 pub mod Words
 pub mod Report
 pub mod BookAnswers

@@ -11,7 +11,7 @@ use Rattle.scr_run.specs.BookFile.{recorded}
 use Rattle.scr_run.specs.FaultTexts.{fault_number, fault_text}
 use Rattle.scr_csv.specs.Lines.{records}
 use Rattle.scr_figures.specs.Cells.{Shown, Cell, cells, shown_cells}
-use Rattle.scr_run.specs.Amounts.{amount}
+use Rattle.scr_run.specs.AmountTexts.{amount}
 
 -- the printed bounds, in cents: the lower one is rounded down, and the upper one up
 abbrev pub lower_bound : Ends → ℤ

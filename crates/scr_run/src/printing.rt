@@ -1,7 +1,7 @@
 //! How figures and faults are printed.
 ghost use Rattle.std.specs.Prelude.{◌≡◌, ℕ, ◌++◌, ◌<◌, ◌^◌, decimal, unsigned_abs, OnOk};
 ghost use Rattle.std.specs.Fmt.{signed_decimal};
-ghost use Rattle.scr_run.specs.Amounts.{amount, euros};
+ghost use Rattle.scr_run.specs.AmountTexts.{amount, euros};
 ghost use Rattle.scr_run.specs.FaultTexts.{fault_number, fault_text, syntax_text, labelled_name, in_use_text, cycle_text, next_name, path_text, absorb_user, user_text, range_text, quantity_name};
 ghost use Rattle.scr_csv.specs.KeyWords.{absorb_text};
 ghost use Rattle.scr_figures.specs.Shown.{shown};
@@ -76,7 +76,7 @@ fn push_bound(alloc: Global, out: &mut Vec<u8>, cents: Cents) -> Result<(), NoMe
 }
 
 /// Appends an amount, in euros with two decimals.
-#[tactic(auto, unfolding(crate::specs::Amounts::amount))]
+#[tactic(auto, unfolding(crate::specs::AmountTexts::amount))]
 pub fn push_amount(alloc: Global, out: &mut Vec<u8>, cents: Cents) -> Result<(), NoMemory>
     ensures { OnOk result (out.new.items ≡ out.old.items ++ amount cents.0) }
 {
@@ -86,7 +86,7 @@ pub fn push_amount(alloc: Global, out: &mut Vec<u8>, cents: Cents) -> Result<(),
     push_euros(alloc, out, cents.0.unsigned_abs())
 }
 
-#[tactic(auto, unfolding(crate::specs::Amounts::euros))]
+#[tactic(auto, unfolding(crate::specs::AmountTexts::euros))]
 fn push_euros(alloc: Global, out: &mut Vec<u8>, cents: u128) -> Result<(), NoMemory>
     ensures { OnOk result (out.new.items ≡ out.old.items ++ euros cents) }
 {

@@ -1,5 +1,5 @@
 //! How a status is told.
-ghost use Rattle.std.specs.Prelude.{◌≡◌, ℕ, ◌++◌, OnOk};
+ghost use Rattle.std.specs.Prelude.{◌≡◌, ℕ, ◌++◌, is_ok, if◌then◌else◌, OnOk};
 ghost use Rattle.scr_run.specs.StatusTexts.{factor_fault_text, key_text, labelled_key, labelled_pair, labelled_record, status_text, too_long_text};
 
 use crate::printing::{number_of, push, push_fault, push_number};
@@ -8,8 +8,17 @@ use scr_book::Fault;
 use scr_factors::{FactorFault, Key};
 use std::alloc::{AllocError as NoMemory, Global};
 
-/// Appends the line by which a status is told, without its end; nothing for a run that ended with its whole report.
+/// Appends the line by which a status is told, without its end; nothing for a run that ended with its whole report. Where
+/// memory is refused, nothing is appended.
 pub fn status_line(alloc: Global, status: &Status, out: &mut Vec<u8>) -> Result<(), NoMemory>
+    ensures { out.new.items ≡ (if is_ok result then out.old.items ++ status_text status.now else out.old.items) }
+{
+    let mut line = Vec::new(alloc);
+    push_status(alloc, &mut line, status)?;
+    out.extend_from_slice(line.as_slice())
+}
+
+fn push_status(alloc: Global, out: &mut Vec<u8>, status: &Status) -> Result<(), NoMemory>
     ensures { OnOk result (out.new.items ≡ out.old.items ++ status_text status.now) }
 {
     match status {

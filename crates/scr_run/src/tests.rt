@@ -13,14 +13,17 @@ use std::thread::Threads;
 const BOOK: &str =
     "sec,ALPHA,eq1,-,EUR,0\nhold,ALPHA,100000\nsec,BETA,eq2,-,EUR,0\nhold,BETA,50000\n";
 
-const OPENING: &str = "# 0 book
-S2601.interest.up.gross 0.00 0.00
+/// The lines of interest rate risk where there is none.
+const NO_INTEREST: &str = "S2601.interest.up.gross 0.00 0.00
 S2601.interest.up.net 0.00 0.00
 S2601.interest.down.gross 0.00 0.00
 S2601.interest.down.net 0.00 0.00
 S2601.interest.gross 0.00 0.00
 S2601.interest.net 0.00 0.00
-S2601.equity.type1 390.00 390.00
+";
+
+/// The lines of equity risk of the book above.
+const BOTH: &str = "S2601.equity.type1 390.00 390.00
 S2601.equity.type2 245.00 245.00
 S2601.equity.infra 0.00 0.00
 S2601.equity.infracorp 0.00 0.00
@@ -28,14 +31,8 @@ S2601.equity.gross 596.19 596.20
 S2601.equity.net 596.19 596.20
 ";
 
-/// The block of a book in which nothing is held.
-const NOTHING: &str = "S2601.interest.up.gross 0.00 0.00
-S2601.interest.up.net 0.00 0.00
-S2601.interest.down.gross 0.00 0.00
-S2601.interest.down.net 0.00 0.00
-S2601.interest.gross 0.00 0.00
-S2601.interest.net 0.00 0.00
-S2601.equity.type1 0.00 0.00
+/// Where nothing is held.
+const NOTHING: &str = "S2601.equity.type1 0.00 0.00
 S2601.equity.type2 0.00 0.00
 S2601.equity.infra 0.00 0.00
 S2601.equity.infracorp 0.00 0.00
@@ -43,14 +40,8 @@ S2601.equity.gross 0.00 0.00
 S2601.equity.net 0.00 0.00
 ";
 
-/// The block of a book in which 1,000 euros of listed shares are held.
-const SHARES: &str = "S2601.interest.up.gross 0.00 0.00
-S2601.interest.up.net 0.00 0.00
-S2601.interest.down.gross 0.00 0.00
-S2601.interest.down.net 0.00 0.00
-S2601.interest.gross 0.00 0.00
-S2601.interest.net 0.00 0.00
-S2601.equity.type1 390.00 390.00
+/// Where 1,000 euros of listed shares are held.
+const SHARES: &str = "S2601.equity.type1 390.00 390.00
 S2601.equity.type2 0.00 0.00
 S2601.equity.infra 0.00 0.00
 S2601.equity.infracorp 0.00 0.00
@@ -58,14 +49,8 @@ S2601.equity.gross 390.00 390.00
 S2601.equity.net 390.00 390.00
 ";
 
-/// The block of a book in which as much is held of listed shares as may be.
-const MOST: &str = "S2601.interest.up.gross 0.00 0.00
-S2601.interest.up.net 0.00 0.00
-S2601.interest.down.gross 0.00 0.00
-S2601.interest.down.net 0.00 0.00
-S2601.interest.gross 0.00 0.00
-S2601.interest.net 0.00 0.00
-S2601.equity.type1 195000000000.00 195000000000.00
+/// Where as much is held of listed shares as may be.
+const MOST: &str = "S2601.equity.type1 195000000000.00 195000000000.00
 S2601.equity.type2 0.00 0.00
 S2601.equity.infra 0.00 0.00
 S2601.equity.infracorp 0.00 0.00
@@ -301,6 +286,11 @@ fn outcome<R: Threads + Sync>(
     })
 }
 
+/// The block of a book without interest rate risk, behind the line that it answers.
+fn block(alloc: Global, line: &str, equity: &str) -> Result<String, AllocError> {
+    format!(in alloc; "# {line}\n{NO_INTEREST}{equity}")
+}
+
 fn files_of<'a>(book: &'a str, edits: &'a str) -> [(&'a str, &'a [u8]); 3] {
     files_holding(book.as_bytes(), edits.as_bytes())
 }
@@ -311,6 +301,7 @@ fn files_holding<'a>(book: &'a [u8], edits: &'a [u8]) -> [(&'a str, &'a [u8]); 3
 
 #[test]
 fn two_equities_are_aggregated(rt: HostRuntime) -> Result<(), Fail> {
+    let due = block(rt.alloc(), "0 book", BOTH)?;
     for piece in [1, 7, 4096] {
         let outside = Outside { piece, ..SOUND };
         let end = outcome(&rt, rt.alloc(), &WORDS, &files_of(BOOK, ""), &outside)?;
@@ -320,7 +311,7 @@ fn two_equities_are_aggregated(rt: HostRuntime) -> Result<(), Fail> {
             "want of memory is no answer here"
         );
         assert_eq!(rt; end.status.code(), 0);
-        assert_eq!(rt; end.written.as_slice(), OPENING.as_bytes());
+        assert_eq!(rt; end.written.as_slice(), due.as_bytes());
     }
     Ok(())
 }
@@ -336,7 +327,8 @@ fn an_edit_changes_the_next_block(rt: HostRuntime) -> Result<(), Fail> {
         &SOUND,
     )?;
     assert_eq!(rt; end.status, Status::Done);
-    let due = format!(in alloc; "{OPENING}# 1 ok\n{SHARES}")?;
+    let (opening, reply) = (block(alloc, "0 book", BOTH)?, block(alloc, "1 ok", SHARES)?);
+    let due = format!(in alloc; "{opening}{reply}")?;
     assert_eq!(rt; end.written.as_slice(), due.as_bytes());
     Ok(())
 }
@@ -350,12 +342,12 @@ fn a_refused_edit_changes_nothing(rt: HostRuntime) -> Result<(), Fail> {
     let end = outcome(&rt, rt.alloc(), &WORDS, &files_of(book, edits), &SOUND)?;
     assert_eq!(rt; end.status, Status::Refused);
     assert_eq!(rt; end.status.code(), 1);
-    let due = format!(in alloc;
-        "# 0 book\n{NOTHING}# 1 refused 6 held is 50000000000001, limit 50000000000000\n# 4 ok\n{NOTHING}# 5 ok\n{MOST}"
-    )?;
+    let opening = block(alloc, "0 book", NOTHING)?;
+    let (fourth, fifth) = (block(alloc, "4 ok", NOTHING)?, block(alloc, "5 ok", MOST)?);
+    let first = "# 1 refused 6 held is 50000000000001, limit 50000000000000\n";
     let last =
         "# 6 refused 1 syntax in field 0\n# 7 refused 2 unknown name W\n# 8 refused 6 hold is -1, limit 0\n";
-    let whole = format!(in alloc; "{due}{last}")?;
+    let whole = format!(in alloc; "{opening}{first}{fourth}{fifth}{last}")?;
     assert_eq!(rt; end.written.as_slice(), whole.as_bytes());
     Ok(())
 }
@@ -371,7 +363,24 @@ fn each_kind_of_fault_has_its_text(rt: HostRuntime) -> Result<(), Fail> {
         &SOUND,
     )?;
     assert_eq!(rt; end.status, Status::Refused);
-    let due = format!(in alloc; "# 0 book\n{NOTHING}{FAULTS}")?;
+    let opening = block(alloc, "0 book", NOTHING)?;
+    let due = format!(in alloc; "{opening}{FAULTS}")?;
+    assert_eq!(rt; end.written.as_slice(), due.as_bytes());
+    Ok(())
+}
+
+#[test]
+fn a_cycle_of_funds_is_told_by_its_path(rt: HostRuntime) -> Result<(), Fail> {
+    let alloc = rt.alloc();
+    let book = "fund,B\nfund,A,B,1\n";
+    let edits = "fund,B,A,1\nfund,C,C,1\n";
+    let end = outcome(&rt, rt.alloc(), &WORDS, &files_of(book, edits), &SOUND)?;
+    assert_eq!(rt; end.status, Status::Refused);
+    assert_eq!(rt; end.status.code(), 1);
+    let opening = block(alloc, "0 book", NOTHING)?;
+    let due = format!(in alloc;
+        "{opening}# 1 refused 5 cycle B > A > B\n# 2 refused 5 cycle C > C\n"
+    )?;
     assert_eq!(rt; end.written.as_slice(), due.as_bytes());
     Ok(())
 }
@@ -461,6 +470,7 @@ fn each_failing_read_is_told(rt: HostRuntime) -> Result<(), Fail> {
 
 #[test]
 fn each_failing_write_leaves_a_front(rt: HostRuntime) -> Result<(), Fail> {
+    let due = block(rt.alloc(), "0 book", BOTH)?;
     let files = files_of(BOOK, "");
     let narrow = outcome(
         &rt,
@@ -472,7 +482,7 @@ fn each_failing_write_leaves_a_front(rt: HostRuntime) -> Result<(), Fail> {
             ..SOUND
         },
     )?;
-    assert_eq!(rt; narrow.written.as_slice(), OPENING.as_bytes());
+    assert_eq!(rt; narrow.written.as_slice(), due.as_bytes());
     for call in 1..3 {
         let end = outcome(
             &rt,
@@ -487,10 +497,7 @@ fn each_failing_write_leaves_a_front(rt: HostRuntime) -> Result<(), Fail> {
         )?;
         assert_eq!(rt; end.status, Status::Write);
         assert_eq!(rt; end.status.code(), 6);
-        assert_eq!(rt;
-            OPENING.as_bytes().starts_with(end.written.as_slice()),
-            true
-        );
+        assert_eq!(rt; due.as_bytes().starts_with(end.written.as_slice()), true);
         assert_eq!(rt; end.written.len() <= 100, true);
     }
     Ok(())
@@ -503,7 +510,7 @@ fn a_file_of_64_mib_is_the_longest(rt: HostRuntime) -> Result<(), Fail> {
     let files = files_holding(lines.as_slice(), b"");
     let whole = outcome(&rt, rt.alloc(), &WORDS, &files, &LONG_PIECES)?;
     assert_eq!(rt; whole.status, Status::Done);
-    let empty = format!(in alloc; "# 0 book\n{NOTHING}")?;
+    let empty = block(alloc, "0 book", NOTHING)?;
     assert_eq!(rt; whole.written.as_slice(), empty.as_bytes());
     lines.push(b'\n')?;
     let files = files_holding(lines.as_slice(), b"");
