@@ -7,6 +7,7 @@ use Rattle.std.proofs.lemmas.List.{append-nil}
 use Rattle.std.proofs.lemmas.Bool.{le-leb}
 use Rattle.std.proofs.lemmas.Bool.Decides.{nat_tests}
 use Rattle.std.specs.List.{AllByRecursion}
+use Rattle.scr_io.specs.Cause.{Rose}
 use Rattle.scr_io.specs.Content.{Content, Untold, Absent, Holds, IsPresentAnd, RisesOnlyIfAbsent}
 use Rattle.scr_io.specs.Front.{AppendsFront}
 use Rattle.scr_io.specs.declared.reading.TheConstants.{MAX_BYTES}
@@ -16,7 +17,7 @@ use Rattle.scr_factors.specs.Values.{FactorValues}
 use Rattle.scr_factors.specs.declared.fault.FactorFault.{FactorFault}
 use Rattle.scr_run.specs.BookFile.{sheet_of}
 use Rattle.scr_csv.specs.Lines.{records}
-use Rattle.scr_run.specs.Outcome.{OfBytes, OfFile, OfFactors, OfBook, OfFiles, OfBookAndEdits, Replied, Answered, IsEnded, Reports, AnsweredAt, IsBeforeBook, IsQuiet, record_status, RisesOnlyIf, is_absent, factors_refusal, fault_status, book_refusal, refusal_of, ended_status, status_on, status_of_book, status_due, text_on, text_of_book, text_due}
+use Rattle.scr_run.specs.Outcome.{OfBytes, OfFactors, OfBook, OfFiles, OfBookAndEdits, HasFile, HasFactors, HasFiles, HasBookAndEdits, any_absent, Replied, Answered, IsEnded, Reports, AnsweredAt, IsBeforeBook, IsQuiet, record_status, RisesOnlyIf, is_absent, factors_refusal, fault_status, book_refusal, refusal_of, ended_status, status_on, status_of_book, status_due, text_on, text_of_book, text_due}
 use Rattle.scr_run.specs.Report.{report_text, any_refused, printed, BoundsEnclose}
 use Rattle.scr_run.specs.Words.{Names}
 use Rattle.scr_run.specs.declared.status.Which.TheVariants as files
@@ -55,6 +56,24 @@ of_read : (content : Content) (P : List ℕ → Type 0) (read : List ℕ) → Is
 of_read Untold P read present holds = tt
 of_read Absent P read present holds = tt
 of_read (Holds bytes) P read present holds = subst P present holds
+
+-- the file is there, and what holds of the bytes that were read holds of its own
+pub has_read : (content : Content) (P : List ℕ → Type 0) (read : List ℕ) → IsPresentAnd content (λ bytes. read ≡ bytes) → P read → IsPresentAnd content P
+has_read Untold P read present holds = tt
+has_read Absent P read present holds = present
+has_read (Holds bytes) P read present holds = subst P present holds
+
+is_there : (content : Content) (P : List ℕ → Type 0) → IsPresentAnd content P → is_absent content ≡ false
+is_there Untold P present = refl
+is_there Absent P present = absurd present
+is_there (Holds bytes) P present = refl
+
+both_there : (a b : Bool) → a ≡ false → b ≡ false → (a || b) ≡ true → ⊥
+both_there true b ha hb h = absurd (cc)
+both_there false b ha hb h = absurd (cc)
+
+pub none_absent : (book edits : Content) (P Q : List ℕ → Type 0) → IsPresentAnd book P → IsPresentAnd edits Q → (is_absent book || is_absent edits) ≡ true → ⊥
+none_absent book edits P Q book_is edits_are = both_there (is_absent book) (is_absent edits) (is_there book P book_is) (is_there edits Q edits_are)
 
 -- what was read is what the shelf tells
 of_both : (content : List ℕ → Content) (book_name edits_name book edits : List ℕ) (P : List ℕ → List ℕ → Type 0)
@@ -96,8 +115,8 @@ of_such Absent P Q f present = tt
 of_such (Holds bytes) P Q f present = f bytes present
 
 -- what is said of a file, on a shelf that tells the same
-pub said_before : (before later : List ℕ → Content) (name : List ℕ) (P : List ℕ → Type 0) → later ≡ before → IsPresentAnd (later name) P → OfBytes (before name) P
-said_before before later name P stays present = of_such (before name) P P (λ bytes p. p) (subst (λ told. IsPresentAnd (told name) P) stays present)
+pub said_before : (before later : List ℕ → Content) (name : List ℕ) (P : List ℕ → Type 0) → later ≡ before → IsPresentAnd (later name) P → IsPresentAnd (before name) P
+said_before before later name P stays present = subst (λ told. IsPresentAnd (told name) P) stays present
 
 too_long_is : (bytes : List ℕ) → MAX_BYTES < length bytes → nat_le (length bytes) MAX_BYTES ≡ false
 too_long_is bytes long = grind (arith, nat_tests)
@@ -106,6 +125,9 @@ module _ (book : List ℕ) (sheet : BalanceSheet) (book_short : length book ≤ 
   no_book_refusal : book_refusal book ≡ None
   no_book_refusal =
       ap (λ b. cond b (record_status (sheet_of book)) (Some (statuses.TooLong files.Book))) (fits book book_short) ∙ ap record_status is_sheet
+
+  pub good_book : (content : Content) → IsPresentAnd content (λ bytes. book ≡ bytes) → IsPresentAnd content (λ b. book_refusal b ≡ None)
+  good_book content present = has_read content (λ b. book_refusal b ≡ None) book present no_book_refusal
 
   -- a book without a fault ends no run
   pub passed_book : (content : Content) (Risen : Type 0) (result : Status) → IsPresentAnd content (λ bytes. book ≡ bytes) → OfBytes content (λ b. (Risen → ⊥) → AnsweredAt (book_refusal b) result)
@@ -134,56 +156,36 @@ is_ended true = inr refl
 is_ended false = inl refl
 
 module _ (text : List ℕ) (refused : Bool) (old new : Option (List ℕ)) (before now : ℕ) where
+  -- what holds of each of the four ways in which replies end
+  module _ (P : Status → Type 0) (done : Appends old new text × (refused ≡ false) → P statuses.Done) (turned : Appends old new text × (refused ≡ true) → P statuses.Refused)
+      (unwritten : AppendsFront old new text × Rose before now → P statuses.Write) (no_memory : AppendsFront old new text → P statuses.NoMemory) where
+    by_reply : (result : Status) → Replied text refused old new before now result → P result
+    by_reply statuses.Done r = done r
+    by_reply statuses.Refused r = turned r
+    by_reply statuses.Write r = unwritten r
+    by_reply statuses.NoMemory r = no_memory r
+    by_reply statuses.Usage r = absurd r
+    by_reply (statuses.Factors fault) r = absurd r
+    by_reply statuses.FactorsTooLong r = absurd r
+    by_reply (statuses.Book line fault) r = absurd r
+    by_reply (statuses.TooLong which) r = absurd r
+    by_reply statuses.Read r = absurd r
+
   answered : (result : Status) → Replied text refused old new before now result → Answered (ended_status refused) result
-  answered statuses.Done r = inl (sym (ap ended_status r.1))
-  answered statuses.Refused r = inl (sym (ap ended_status r.1))
-  answered statuses.Write r = inr (inr (is_ended refused, refl))
-  answered statuses.NoMemory r = inr (inl refl)
-  answered statuses.Usage r = absurd r
-  answered (statuses.Factors fault) r = absurd r
-  answered statuses.FactorsTooLong r = absurd r
-  answered (statuses.Book line fault) r = absurd r
-  answered (statuses.TooLong which) r = absurd r
-  answered statuses.Read r = absurd r
+  answered = by_reply (Answered (ended_status refused)) (λ r. inl (sym (ap ended_status r.1))) (λ r. inl (sym (ap ended_status r.1)))
+      (λ r. inr (inr (is_ended refused, refl))) (λ r. inr (inl refl))
 
   front_of_all : Appends old new text → AppendsFront old new text
   front_of_all appended = (text, ([], sym (append-nil text)), appended)
 
   front : (result : Status) → Replied text refused old new before now result → AppendsFront old new text
-  front statuses.Done r = front_of_all r.0
-  front statuses.Refused r = front_of_all r.0
-  front statuses.Write r = r.0
-  front statuses.NoMemory r = r
-  front statuses.Usage r = absurd r
-  front (statuses.Factors fault) r = absurd r
-  front statuses.FactorsTooLong r = absurd r
-  front (statuses.Book line fault) r = absurd r
-  front (statuses.TooLong which) r = absurd r
-  front statuses.Read r = absurd r
+  front = by_reply (λ result. AppendsFront old new text) (λ r. front_of_all r.0) (λ r. front_of_all r.0) (λ r. r.0) (λ r. r)
 
   pub begun : (result : Status) → Replied text refused old new before now result → IsBeforeBook result → ⊥
-  begun statuses.Done r b = b
-  begun statuses.Refused r b = b
-  begun statuses.Write r b = b
-  begun statuses.NoMemory r b = b
-  begun statuses.Usage r b = r
-  begun (statuses.Factors fault) r b = r
-  begun statuses.FactorsTooLong r b = r
-  begun (statuses.Book line fault) r b = b
-  begun (statuses.TooLong which) r b = b
-  begun statuses.Read r b = b
+  begun = by_reply (λ result. IsBeforeBook result → ⊥) (λ r b. b) (λ r b. b) (λ r b. b) (λ r b. b)
 
   pub not_quiet : (result : Status) → Replied text refused old new before now result → IsQuiet result → ⊥
-  not_quiet statuses.Done r q = q
-  not_quiet statuses.Refused r q = q
-  not_quiet statuses.Write r q = q
-  not_quiet statuses.NoMemory r q = q
-  not_quiet statuses.Usage r q = r
-  not_quiet (statuses.Factors fault) r q = r
-  not_quiet statuses.FactorsTooLong r q = r
-  not_quiet (statuses.Book line fault) r q = r
-  not_quiet (statuses.TooLong which) r q = r
-  not_quiet statuses.Read r q = r
+  not_quiet = by_reply (λ result. IsQuiet result → ⊥) (λ r q. q) (λ r q. q) (λ r q. q) (λ r q. q)
 
   whole : (result : Status) → Replied text refused old new before now result → IsEnded result → Appends old new text × (result ≡ ended_status refused)
   whole result r (inl e) = let d = subst (Replied text refused old new before now) e r in (d.0, e ∙ sym (ap ended_status d.1))
@@ -212,13 +214,14 @@ module _ (content : List ℕ → Content) (book_name edits_name book edits : Lis
       of_both content book_name edits_name book edits _ book_is edits_are
       (subst (AppendsFront old new) (sym (text_is book edits sheet book_short edits_short is_sheet)) (front _ _ old new before now result replied))
 
-  pub replied-ended : IsEnded result → OfBookAndEdits content book_name edits_name (λ b e. (result ≡ status_of_book b e) × Reports e (sheet_of b) old new)
+  pub replied-ended : IsEnded result → HasBookAndEdits content book_name edits_name (λ b e. (result ≡ status_of_book b e) × Reports e (sheet_of b) old new)
   replied-ended ended =
       let w = whole _ _ old new before now result replied ended in
-      of_both content book_name edits_name book edits (λ b e. (result ≡ status_of_book b e) × Reports e (sheet_of b) old new) book_is edits_are (
+      has_read (content book_name) (λ b. IsPresentAnd (content edits_name) (λ e. (result ≡ status_of_book b e) × Reports e (sheet_of b) old new)) book book_is
+      (has_read (content edits_name) (λ e. (result ≡ status_of_book book e) × Reports e (sheet_of book) old new) edits edits_are (
         w.1 ∙ is_due,
         subst (λ s. Reports edits s old new) (sym is_sheet) (w.0, all_enclose (printed edits sheet) (valid ended)),
-      )
+      ))
 
 -- what a shelf tells stays while another file is read, and a slice has the bytes of its vector
 pub told_later : (before later : List ℕ → Content) (name items slice : List ℕ) → later ≡ before → slice ≡ items → IsPresentAnd (later name) (λ bytes. items ≡ bytes)
@@ -233,14 +236,42 @@ map_bytes Untold P Q f h = tt
 map_bytes Absent P Q f h = tt
 map_bytes (Holds bytes) P Q f h = f bytes h
 
+map_present : (content : Content) (P Q : List ℕ → Type 0) → ((bytes : List ℕ) → P bytes → Q bytes) → IsPresentAnd content P → IsPresentAnd content Q
+map_present Untold P Q f h = tt
+map_present Absent P Q f h = h
+map_present (Holds bytes) P Q f h = f bytes h
+
+or_rest : (a b c : Bool) → a ≡ false → ((a || b) || c) ≡ true → (b || c) ≡ true
+or_rest true b c there h = absurd (cc)
+or_rest false b c there h = h
+
 -- what a run on the book and the edits promises of a later shelf holds of the shelf before, beside the factor file
 module _ (names : Option Names) (named : Names) (content later : List ℕ → Content) (stays : later ≡ content) (is_named : Some named ≡ names) where
-  pub lift_file : (file : Names → List ℕ) (P : List ℕ → Type 0) → OfBytes (later (file named)) P → OfFile file names content P
-  lift_file file P h = subst (λ n. OfFile file n content P) is_named (subst (λ told. OfBytes (told (file named)) P) stays h)
+  pub has_file : (file : Names → List ℕ) (P : List ℕ → Type 0) → IsPresentAnd (later (file named)) P → HasFile file names content P
+  has_file file P h = subst (λ n. HasFile file n content P) is_named (subst (λ told. IsPresentAnd (told (file named)) P) stays h)
 
   module _ (factors : List ℕ) (factors_are : IsPresentAnd (content named.factors) (λ bytes. factors ≡ bytes)) where
     pub lift_none : (Q : List ℕ → Type 0) → Q factors → OfFactors names content Q
     lift_none Q q = subst (λ n. OfFactors n content Q) is_named (of_read (content named.factors) Q factors factors_are q)
+
+    pub has_factors : (P : List ℕ → Type 0) → P factors → HasFactors names content P
+    has_factors P p = subst (λ n. HasFactors n content P) is_named (has_read (content named.factors) P factors factors_are p)
+
+    pub has_all : (P : List ℕ → List ℕ → Type 0) (Q : List ℕ → List ℕ → List ℕ → Type 0) → ((book edits : List ℕ) → P book edits → Q factors book edits)
+        → HasBookAndEdits later named.book named.edits P → HasFiles names content Q
+    has_all P Q f h =
+        subst (λ n. HasFiles n content Q) is_named
+        (has_read (content named.factors) (λ fs. IsPresentAnd (content named.book) (λ b. IsPresentAnd (content named.edits) (Q fs b))) factors factors_are
+        (map_present (content named.book) (λ b. IsPresentAnd (content named.edits) (P b)) (λ b. IsPresentAnd (content named.edits) (Q factors b))
+        (λ b hb. map_present (content named.edits) (P b) (Q factors b) (f b) hb)
+        (subst (λ told. HasBookAndEdits told named.book named.edits P) stays h)))
+
+    -- where a file is absent, it is the book or the edits
+    pub absent_later : any_absent names content ≡ true → (is_absent (later named.book) || is_absent (later named.edits)) ≡ true
+    absent_later =
+        subst (λ n. any_absent n content ≡ true → (is_absent (later named.book) || is_absent (later named.edits)) ≡ true) is_named
+        (λ h. subst (λ told. (is_absent (told named.book) || is_absent (told named.edits)) ≡ true) (sym stays)
+        (or_rest (is_absent (content named.factors)) (is_absent (content named.book)) (is_absent (content named.edits)) (is_there (content named.factors) _ factors_are) h))
 
     pub lift_book : (P : List ℕ → Type 0) (Q : List ℕ → List ℕ → Type 0) → ((book : List ℕ) → P book → Q factors book)
         → OfBytes (later named.book) P → OfFactors names content (λ f. OfBook names content (Q f))

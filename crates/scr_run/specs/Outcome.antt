@@ -4,7 +4,7 @@ use Rattle.std.specs.Option.{option_or}
 use Rattle.std.specs.List.{AllByRecursion}
 use Rattle.std.specs.Io.KnownBytes.{Appends}
 use Rattle.scr_io.specs.Cause.{Rose}
-use Rattle.scr_io.specs.Content.{Content, Untold, Absent, Holds}
+use Rattle.scr_io.specs.Content.{Content, Untold, Absent, Holds, IsPresentAnd}
 use Rattle.scr_io.specs.Front.{AppendsFront}
 use Rattle.scr_io.specs.declared.reading.TheConstants.{MAX_BYTES}
 use Rattle.scr_sheet.specs.BalanceSheet.{BalanceSheet}
@@ -49,6 +49,28 @@ OfFiles names content P = OfFactors names content (λ factors. OfBook names cont
 -- P holds of the bytes of a book and of edits by these names, where the shelf tells both
 abbrev pub OfBookAndEdits : (List ℕ → Content) → List ℕ → List ℕ → (List ℕ → List ℕ → Type 0) → Type 0
 OfBookAndEdits content book edits P = OfBytes (content book) (λ b. OfBytes (content edits) (P b))
+
+-- the words name the files and the shelf does not lack this one, and P holds of its bytes where the shelf tells them
+abbrev pub HasFile : (Names → List ℕ) → Option Names → (List ℕ → Content) → (List ℕ → Type 0) → Type 0
+HasFile file None content P = ⊥
+HasFile file (Some names) content P = IsPresentAnd (content (file names)) P
+
+abbrev pub HasFactors : Option Names → (List ℕ → Content) → (List ℕ → Type 0) → Type 0
+HasFactors names content P = HasFile (λ n. n.factors) names content P
+
+abbrev pub HasBook : Option Names → (List ℕ → Content) → (List ℕ → Type 0) → Type 0
+HasBook names content P = HasFile (λ n. n.book) names content P
+
+abbrev pub HasEdits : Option Names → (List ℕ → Content) → (List ℕ → Type 0) → Type 0
+HasEdits names content P = HasFile (λ n. n.edits) names content P
+
+-- the same of all three files
+abbrev pub HasFiles : Option Names → (List ℕ → Content) → (List ℕ → List ℕ → List ℕ → Type 0) → Type 0
+HasFiles names content P = HasFactors names content (λ factors. HasBook names content (λ book. HasEdits names content (P factors book)))
+
+-- and of a book and of edits by these names
+abbrev pub HasBookAndEdits : (List ℕ → Content) → List ℕ → List ℕ → (List ℕ → List ℕ → Type 0) → Type 0
+HasBookAndEdits content book edits P = IsPresentAnd (content book) (λ b. IsPresentAnd (content edits) (P b))
 
 -- ---- what is due
 
@@ -136,23 +158,14 @@ IsQuiet statuses.FactorsTooLong = Unit {0}
 IsQuiet (statuses.Book line fault) = Unit {0}
 IsQuiet (statuses.TooLong which) = Unit {0}
 IsQuiet statuses.Read = Unit {0}
-IsQuiet statuses.Done = ⊥
-IsQuiet statuses.Refused = ⊥
-IsQuiet statuses.Write = ⊥
-IsQuiet statuses.NoMemory = ⊥
+IsQuiet status = ⊥
 
 -- with these statuses neither the book nor the edits were opened
 abbrev pub IsBeforeBook : Status → Type 0
 IsBeforeBook statuses.Usage = Unit {0}
 IsBeforeBook (statuses.Factors fault) = Unit {0}
 IsBeforeBook statuses.FactorsTooLong = Unit {0}
-IsBeforeBook (statuses.Book line fault) = ⊥
-IsBeforeBook (statuses.TooLong which) = ⊥
-IsBeforeBook statuses.Read = ⊥
-IsBeforeBook statuses.Done = ⊥
-IsBeforeBook statuses.Refused = ⊥
-IsBeforeBook statuses.Write = ⊥
-IsBeforeBook statuses.NoMemory = ⊥
+IsBeforeBook status = ⊥
 
 -- with these statuses the edits were not opened
 abbrev pub IsBeforeEdits : Status → Type 0
@@ -161,12 +174,25 @@ IsBeforeEdits (statuses.Factors fault) = Unit {0}
 IsBeforeEdits statuses.FactorsTooLong = Unit {0}
 IsBeforeEdits (statuses.Book line fault) = Unit {0}
 IsBeforeEdits (statuses.TooLong files.Book) = Unit {0}
-IsBeforeEdits (statuses.TooLong files.Edits) = ⊥
-IsBeforeEdits statuses.Read = ⊥
-IsBeforeEdits statuses.Done = ⊥
-IsBeforeEdits statuses.Refused = ⊥
-IsBeforeEdits statuses.Write = ⊥
-IsBeforeEdits statuses.NoMemory = ⊥
+IsBeforeEdits status = ⊥
+
+-- with these statuses the report was begun
+abbrev pub IsPastEdits : Status → Type 0
+IsPastEdits statuses.Done = Unit {0}
+IsPastEdits statuses.Refused = Unit {0}
+IsPastEdits statuses.Write = Unit {0}
+IsPastEdits status = ⊥
+
+-- with these statuses the edits were opened
+abbrev pub IsPastBook : Status → Type 0
+IsPastBook (statuses.TooLong files.Edits) = Unit {0}
+IsPastBook status = IsPastEdits status
+
+-- with these statuses the book was opened
+abbrev pub IsPastFactors : Status → Type 0
+IsPastFactors (statuses.TooLong files.Book) = Unit {0}
+IsPastFactors (statuses.Book line fault) = Unit {0}
+IsPastFactors status = IsPastBook status
 
 -- the shelf says that it has no such file
 abbrev pub is_absent : Content → Bool
@@ -205,9 +231,4 @@ Replied text refused old new before now statuses.Done = Appends old new text × 
 Replied text refused old new before now statuses.Refused = Appends old new text × (refused ≡ true)
 Replied text refused old new before now statuses.Write = AppendsFront old new text × Rose before now
 Replied text refused old new before now statuses.NoMemory = AppendsFront old new text
-Replied text refused old new before now statuses.Usage = ⊥
-Replied text refused old new before now (statuses.Factors fault) = ⊥
-Replied text refused old new before now statuses.FactorsTooLong = ⊥
-Replied text refused old new before now (statuses.Book line fault) = ⊥
-Replied text refused old new before now (statuses.TooLong which) = ⊥
-Replied text refused old new before now statuses.Read = ⊥
+Replied text refused old new before now status = ⊥

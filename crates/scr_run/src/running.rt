@@ -1,5 +1,5 @@
 //! A run of the program: from its words to its status.
-ghost use Rattle.std.specs.Prelude.{◌≡◌, ℕ, ◌<◌, ◌↔◌, None, Err, length};
+ghost use Rattle.std.specs.Prelude.{◌≡◌, ℕ, ◌<◌, ◌≤◌, ◌↔◌, None, Err, true, length};
 ghost use Rattle.std.specs.Io.KnownBytes.{IsAtEnd};
 ghost use Rattle.scr_io.specs.Cause.{Rose};
 ghost use Rattle.scr_io.specs.Front.{AppendsFront};
@@ -10,7 +10,7 @@ ghost use Rattle.scr_factors.specs.Reading.{values_in};
 ghost use Rattle.scr_factors.specs.declared.fault.FactorFault.{FactorFault};
 ghost use Rattle.scr_factors.specs.declared.fault.FactorFault.TheVariants as factor_faults;
 ghost use Rattle.scr_run.specs.BookFile.{sheet_of};
-ghost use Rattle.scr_run.specs.Outcome.{OfFactors, OfBook, OfEdits, OfFiles, RisesOnlyIf, factors_absent, book_absent, any_absent, IsBeforeBook, IsBeforeEdits, IsEnded, IsQuiet, Answered, AnsweredAt, Reports, factors_refusal, refusal_of, status_due, text_due};
+ghost use Rattle.scr_run.specs.Outcome.{OfFactors, OfBook, OfFiles, HasFactors, HasBook, HasEdits, HasFiles, RisesOnlyIf, factors_absent, book_absent, any_absent, IsBeforeBook, IsBeforeEdits, IsPastFactors, IsPastBook, IsPastEdits, IsEnded, IsQuiet, Answered, AnsweredAt, Reports, factors_refusal, book_refusal, refusal_of, status_due, text_due};
 ghost use Rattle.scr_run.specs.Words.{named_files as words_say};
 
 use crate::factor_file::factor_fault;
@@ -44,20 +44,25 @@ pub fn run<R: Threads + Sync, F: Shelf, K: Sink, G: Gate + Sync>(
 
     // Each status has its cause.
     ensures factors { (fault : FactorFault) → result ≡ Status.Factors fault →
-        OfFactors (words_say words.now) (F.content shelf.old) (λ factors. values_in factors ≡ Err fault) }
+        HasFactors (words_say words.now) (F.content shelf.old) (λ factors. values_in factors ≡ Err fault) }
     ensures factors_too_long { result ≡ Status.FactorsTooLong →
-        OfFactors (words_say words.now) (F.content shelf.old) (λ factors. MAX_BYTES < length factors) }
+        HasFactors (words_say words.now) (F.content shelf.old) (λ factors. MAX_BYTES < length factors) }
     ensures book { (line : ℕ) (fault : Fault) → result ≡ Status.Book line fault →
-        OfBook (words_say words.now) (F.content shelf.old) (λ book. sheet_of book ≡ Err (line, fault)) }
+        HasBook (words_say words.now) (F.content shelf.old) (λ book. sheet_of book ≡ Err (line, fault)) }
     ensures too_long { result ≡ Status.TooLong Which.Book →
-        OfBook (words_say words.now) (F.content shelf.old) (λ book. MAX_BYTES < length book) }
+        HasBook (words_say words.now) (F.content shelf.old) (λ book. MAX_BYTES < length book) }
     ensures too_long_edits { result ≡ Status.TooLong Which.Edits →
-        OfEdits (words_say words.now) (F.content shelf.old) (λ edits. MAX_BYTES < length edits) }
+        HasEdits (words_say words.now) (F.content shelf.old) (λ edits. MAX_BYTES < length edits) }
     ensures never_memory { (result ≡ Status.Factors factor_faults.NoMemory → ⊥) × ((line : ℕ) → result ≡ Status.Book line faults.NoMemory → ⊥) }
     ensures read { result ≡ Status.Read → Rose (F.faults shelf.old) (F.faults shelf.new) }
     ensures write { result ≡ Status.Write → Rose (K.faults sink.old) (K.faults sink.new) }
 
-    // No other file is opened than those that the words name, and each only after those before it.
+    // A status that comes after a file was read has that file, and the file ends no run.
+    ensures past_factors { IsPastFactors result → HasFactors (words_say words.now) (F.content shelf.old) (λ factors. factors_refusal factors ≡ None) }
+    ensures past_book { IsPastBook result → HasBook (words_say words.now) (F.content shelf.old) (λ book. book_refusal book ≡ None) }
+    ensures past_edits { IsPastEdits result → HasEdits (words_say words.now) (F.content shelf.old) (λ edits. length edits ≤ MAX_BYTES) }
+
+    // No name that the shelf lacks is opened but those that the words name, and each only after those before it.
     ensures strays { RisesOnlyIf (any_absent (words_say words.now) (F.content shelf.old)) (F.strays shelf.old) (F.strays shelf.new) }
     ensures strays_at_book { IsBeforeEdits result →
         RisesOnlyIf (book_absent (words_say words.now) (F.content shelf.old)) (F.strays shelf.old) (F.strays shelf.new) }
@@ -67,12 +72,13 @@ pub fn run<R: Threads + Sync, F: Shelf, K: Sink, G: Gate + Sync>(
 
     // What is written is the report, whose bounds enclose the exact figures of the book at each moment, or a front of
     // it, or nothing.
-    ensures ended { IsEnded result → OfFiles (words_say words.now) (F.content shelf.old) (λ factors book edits.
+    ensures ended { IsEnded result → HasFiles (words_say words.now) (F.content shelf.old) (λ factors book edits.
         (result ≡ status_due factors book edits) × Reports edits (sheet_of book) (K.written sink.old) (K.written sink.new)) }
     ensures read_to_end { IsEnded result → IsAtEnd (F.left shelf.new) }
     ensures front { OfFiles (words_say words.now) (F.content shelf.old) (λ factors book edits.
         AppendsFront (K.written sink.old) (K.written sink.new) (text_due factors book edits)) }
     ensures quiet { IsQuiet result → sink.new ≡ sink.old }
+    ensures absent { any_absent (words_say words.now) (F.content shelf.old) ≡ true → sink.new ≡ sink.old }
 {
     let Some(files) = named_files(words) else {
         return Status::Usage;

@@ -1,5 +1,6 @@
-use Rattle.std.proofs.Common.{Err, ap, refl, arith}
-use Rattle.scr_run.proofs.Outcomes.{nothing_reported, told_later, unread_book, unread_both, passed_book, long_edits, said_before, begun, not_quiet, replied-answered, replied-front, replied-ended}
+use Rattle.std.proofs.Common.{ℕ, ◌≤◌, List, length, Err, ap, refl, arith}
+use Rattle.scr_io.specs.declared.reading.TheConstants.{MAX_BYTES}
+use Rattle.scr_run.proofs.Outcomes.{none_absent, good_book, has_read, nothing_reported, told_later, unread_book, unread_both, passed_book, long_edits, said_before, begun, not_quiet, replied-answered, replied-front, replied-ended}
 use Rattle.scr_run.proofs.Pieces.{rose_later}
 use Rattle.scr_run.proofs.files.report_on.Goals as goal
 
@@ -90,6 +91,31 @@ returns-clause-answered_at_book g c =
     passed_book c.as_slice.result.now c.in-Ok-read_book.book (omega (arith, c.as_slice.ensures.len, c.in-Ok.ensures.short)) c.in-Ok-read_book.ensures.answer
     (g.F.Shelf.content c.args.shelf.now c.args.files.book.now) _ c.write_report.result
     (told_later (g.F.Shelf.content c.args.shelf.now) (g.F.Shelf.content c.args.shelf.now) _ _ _ refl c.as_slice.ensures.value c.in-Ok.ensures.bytes)
+
+pub returns-in-Err-TooLong-read_all-clause-past_book : goal.returns-in-Err-TooLong-read_all-clause-past_book
+returns-in-Err-TooLong-read_all-clause-past_book g c = λ past.
+    good_book c.as_slice.result.now c.in-Ok-read_book.book (omega (arith, c.as_slice.ensures.len, c.in-Ok.ensures.short)) c.in-Ok-read_book.ensures.answer
+    (g.F.Shelf.content c.args.shelf.now c.args.files.book.now)
+    (told_later (g.F.Shelf.content c.args.shelf.now) (g.F.Shelf.content c.args.shelf.now) _ _ _ refl c.as_slice.ensures.value c.in-Ok.ensures.bytes)
+
+pub returns-clause-past_book : goal.returns-clause-past_book
+returns-clause-past_book g c = λ past.
+    good_book c.as_slice.result.now c.in-Ok-read_book.book (omega (arith, c.as_slice.ensures.len, c.in-Ok.ensures.short)) c.in-Ok-read_book.ensures.answer
+    (g.F.Shelf.content c.args.shelf.now c.args.files.book.now)
+    (told_later (g.F.Shelf.content c.args.shelf.now) (g.F.Shelf.content c.args.shelf.now) _ _ _ refl c.as_slice.ensures.value c.in-Ok.ensures.bytes)
+
+pub returns-clause-past_edits : goal.returns-clause-past_edits
+returns-clause-past_edits g c = λ past.
+    has_read (g.F.Shelf.content c.args.shelf.now c.args.files.edits.now) (λ (edits : List ℕ). length edits ≤ MAX_BYTES) c.as_slice-2.result.now
+    (told_later (g.F.Shelf.content c.args.shelf.now) (g.F.Shelf.content c.read_all.new.shelf) _ _ _ c.read_all.ensures.content_stays c.as_slice-2.ensures.value c.in-Ok-read_all.ensures.bytes)
+    (omega (arith, c.as_slice-2.ensures.len, c.in-Ok-read_all.ensures.short))
+
+pub returns-clause-absent : goal.returns-clause-absent
+returns-clause-absent g c = λ absent. absurd
+    (none_absent (g.F.Shelf.content c.args.shelf.now c.args.files.book.now) (g.F.Shelf.content c.args.shelf.now c.args.files.edits.now) _ _
+    (told_later (g.F.Shelf.content c.args.shelf.now) (g.F.Shelf.content c.args.shelf.now) _ _ _ refl c.as_slice.ensures.value c.in-Ok.ensures.bytes)
+    (told_later (g.F.Shelf.content c.args.shelf.now) (g.F.Shelf.content c.read_all.new.shelf) _ _ _ c.read_all.ensures.content_stays c.as_slice-2.ensures.value c.in-Ok-read_all.ensures.bytes)
+    absent)
 
 pub returns-clause-begun : goal.returns-clause-begun
 returns-clause-begun g c = begun _ _ _ _ _ _ c.write_report.result c.write_report.ensures.outcome

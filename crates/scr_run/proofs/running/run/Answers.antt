@@ -1,11 +1,12 @@
-use Rattle.std.proofs.Common.{◌≡◌, ◌||◌, refl, sym, subst, ◌∙◌, arith}
+use Rattle.std.proofs.Common.{◌≡◌, ◌||◌, ◌≤◌, None, length, refl, sym, subst, ◌∙◌, arith}
+use Rattle.scr_io.specs.declared.reading.TheConstants.{MAX_BYTES}
 use Rattle.scr_io.specs.Cause.{Rose}
 use Rattle.scr_io.specs.Front.{AppendsFront}
 use Rattle.scr_run.specs.BookFile.{sheet_of}
 use Rattle.scr_run.specs.FileNames.{names_of}
 use Rattle.scr_run.specs.Outcome.{Answered, AnsweredAt, Reports, RisesOnlyIf, is_absent, any_absent, book_absent, factors_refusal, refusal_of, book_refusal, status_due, status_of_book, text_due, text_of_book}
 use Rattle.scr_run.specs.Words.{named_files}
-use Rattle.scr_run.proofs.Outcomes.{nothing_written, told_later, lift_none, lift_book, lift_both, no_refusal, due_at_book, due_beyond, text_beyond, rises_once, rises_twice}
+use Rattle.scr_run.proofs.Outcomes.{nothing_written, told_later, has_file, has_factors, has_all, absent_later, lift_none, lift_book, lift_both, no_refusal, due_at_book, due_beyond, text_beyond, rises_once, rises_twice}
 use Rattle.scr_run.proofs.Pieces.{rose_later}
 use Rattle.scr_run.proofs.ReplySteps.{or_assoc}
 use Rattle.scr_run.proofs.running.run.Goals as goal
@@ -54,12 +55,33 @@ returns-clause-answered g c =
 
 pub returns-clause-ended : goal.returns-clause-ended
 returns-clause-ended g c ended =
-    lift_both (named_files c.args.words.now) (names_of c.in-Some.files) (g.F.Shelf.content c.args.shelf.now) (g.F.Shelf.content c.read_all.new.shelf)
+    has_all (named_files c.args.words.now) (names_of c.in-Some.files) (g.F.Shelf.content c.args.shelf.now) (g.F.Shelf.content c.read_all.new.shelf)
     c.read_all.ensures.content_stays c.in-Some.ensures c.as_slice.result.now (told_later (g.F.Shelf.content c.args.shelf.now) (g.F.Shelf.content c.args.shelf.now) _ _ _ refl c.as_slice.ensures.value c.in-Ok.ensures.bytes)
     (λ b e. (c.report_on.result ≡ status_of_book b e) × Reports e (sheet_of b) (g.K.Sink.written c.args.sink.now) (g.K.Sink.written c.report_on.new.sink))
     (λ f b e. (c.report_on.result ≡ status_due f b e) × Reports e (sheet_of b) (g.K.Sink.written c.args.sink.now) (g.K.Sink.written c.report_on.new.sink))
     (λ b e h. (h.0 ∙ sym (due_beyond c.as_slice.result.now (omega (arith, c.as_slice.ensures.len, c.in-Ok.ensures.short)) (rw c.in-Ok-None.field-0-is at c.in-Ok-None.ensures.answer) b e), h.1))
     (c.report_on.ensures.ended ended)
+
+pub returns-clause-past_factors : goal.returns-clause-past_factors
+returns-clause-past_factors g c = λ past.
+    has_factors (named_files c.args.words.now) (names_of c.in-Some.files) (g.F.Shelf.content c.args.shelf.now) (g.F.Shelf.content c.read_all.new.shelf)
+    c.read_all.ensures.content_stays c.in-Some.ensures c.as_slice.result.now (told_later (g.F.Shelf.content c.args.shelf.now) (g.F.Shelf.content c.args.shelf.now) _ _ _ refl c.as_slice.ensures.value c.in-Ok.ensures.bytes)
+    (λ f. factors_refusal f ≡ None) (no_refusal c.as_slice.result.now (omega (arith, c.as_slice.ensures.len, c.in-Ok.ensures.short)) (rw c.in-Ok-None.field-0-is at c.in-Ok-None.ensures.answer))
+
+pub returns-clause-past_book : goal.returns-clause-past_book
+returns-clause-past_book g c = λ past.
+    has_file (named_files c.args.words.now) (names_of c.in-Some.files) (g.F.Shelf.content c.args.shelf.now) (g.F.Shelf.content c.read_all.new.shelf)
+    c.read_all.ensures.content_stays c.in-Some.ensures (λ n. n.book) (λ b. book_refusal b ≡ None) (c.report_on.ensures.past_book past)
+
+pub returns-clause-past_edits : goal.returns-clause-past_edits
+returns-clause-past_edits g c = λ past.
+    has_file (named_files c.args.words.now) (names_of c.in-Some.files) (g.F.Shelf.content c.args.shelf.now) (g.F.Shelf.content c.read_all.new.shelf)
+    c.read_all.ensures.content_stays c.in-Some.ensures (λ n. n.edits) (λ e. length e ≤ MAX_BYTES) (c.report_on.ensures.past_edits past)
+
+pub returns-clause-absent : goal.returns-clause-absent
+returns-clause-absent g c = λ absent. c.report_on.ensures.absent
+    (absent_later (named_files c.args.words.now) (names_of c.in-Some.files) (g.F.Shelf.content c.args.shelf.now) (g.F.Shelf.content c.read_all.new.shelf)
+    c.read_all.ensures.content_stays c.in-Some.ensures c.as_slice.result.now (told_later (g.F.Shelf.content c.args.shelf.now) (g.F.Shelf.content c.args.shelf.now) _ _ _ refl c.as_slice.ensures.value c.in-Ok.ensures.bytes) absent)
 
 pub returns-clause-front : goal.returns-clause-front
 returns-clause-front g c =
