@@ -1,7 +1,7 @@
 -- The map behind a table: each row stands in it under its own name.
-use Rattle.std.proofs.Common.{◌≡◌, ℕ, true, false, cond, List, [], ◌∷◌, Option, Some, None, IfSome, is_some, slice_get, refl, sym, ap, ◌∙◌}
+use Rattle.std.proofs.Common.{◌≡◌, ℕ, true, false, cond, List, [], ◌∷◌, Option, Some, None, IfSome, is_some, slice_get, map, refl, sym, ap, ◌∙◌}
 use Rattle.std.specs.Option.{option_map}
-use Rattle.std.specs.Map.{lookup, set_value, remove_entry, values_of}
+use Rattle.std.specs.Map.{lookup, set_value, remove_entry, keys_of, values_of}
 use Rattle.indexmap.specs.IndexMap.{insert_entry}
 use Rattle.scr_sheet.specs.Names.{same_name}
 use Rattle.scr_sheet.specs.Tables.{row_of, with_row, without}
@@ -57,6 +57,10 @@ module _ {Row : Type 0} (name_of : Row → List ℕ) where
       ∙ ap (λ es. (name_of row, row) ∷ es) (set_value-by_name new rows old (sym (row_of-later name_of (name_of new) row rows e) ∙ is))
       ∙ sym (ap (by_name name_of) (with_row-later name_of new row rows e)))
 
+  pub keys-by_name : (rows : List Row) → keys_of (by_name name_of rows) ≡ map name_of rows
+  keys-by_name [] = refl
+  keys-by_name (row ∷ rows) = ap (λ ns. name_of row ∷ ns) (keys-by_name rows)
+
   -- ---- a map that keeps a table
 
   -- a map of these rows keeps them
@@ -68,6 +72,9 @@ module _ {Row : Type 0} (name_of : Row → List ℕ) where
   module _ (entries : List (List ℕ × Row)) (now : List Row) (view : values_of entries ≡ now) (kept : entries ≡ by_name name_of (values_of entries)) where
     keyed : entries ≡ by_name name_of now
     keyed = kept ∙ ap (by_name name_of) view
+
+    pub keys-kept : keys_of entries ≡ map name_of now
+    keys-kept = ap keys_of keyed ∙ keys-by_name now
 
     pub lookup-kept : (name : List ℕ) → lookup (same_name name) entries ≡ row_of name_of name now
     lookup-kept name = ap (lookup (same_name name)) keyed ∙ lookup-by_name name now

@@ -1,9 +1,11 @@
 //! A table of rows, each under its own name.
-ghost use Rattle.std.specs.Prelude.{◌≡◌, ℕ, ◌<◌, ◌^◌, ◌↔◌, IsTrue, List, [], length, slice_get, is_some, Some, IfSome, false, OnOk, OnErr, MatchOption};
+ghost use Rattle.std.specs.Prelude.{◌≡◌, ℕ, ◌<◌, ◌^◌, ◌↔◌, IsTrue, List, [], length, map, slice_get, is_some, Some, IfSome, false, OnOk, OnErr, MatchOption};
+ghost use Rattle.std.specs.List.{IsDistinct};
 ghost use Rattle.std.specs.Option.{option_copied, option_map};
 ghost use Rattle.std.specs.Map.Iter.{deref, ShowsInOrder};
 ghost use Rattle.std.specs.Fn.{FnOnceReturnsAtMut};
 ghost use Rattle.scr_sheet.specs.BalanceSheet.{group_name, position_name, line_name, bank_name, rein_name, curve_name, stake_name};
+ghost use Rattle.scr_sheet.specs.Names.{same_name};
 ghost use Rattle.scr_sheet.specs.Tables.{row_of, has_row, with_row, without};
 
 use crate::{Bank, Curve, Group, Liability, Name, Position, Rein, Stake};
@@ -105,9 +107,10 @@ impl<R: Row> Rows<R> {
         }
     }
 
-    /// The number of rows.
+    /// The number of rows, of which no two have one name.
     pub fn len(&self) -> usize
         ensures count { result ≡ length self.now }
+        ensures apart { IsDistinct same_name (map R.name_of self.now) }
     {
         self.map.len()
     }
