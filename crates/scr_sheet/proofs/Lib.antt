@@ -9,6 +9,7 @@ pub mod FundChains
 pub mod Changes
 pub mod Unused
 pub mod Preserved
+pub mod FundLists
 pub mod Holds
 pub mod Greatest
 pub mod Quiet

@@ -384,7 +384,7 @@ pub record AreOnce (left : ℕ) (met : List (List ℕ)) (components : List (List
   pub new : AllByRecursion (λ c. list_any (same_name c.0) met ≡ false) components
   pub apart : IsDistinct same_name (map (λ c. c.0) components)
 
-fresh_components : (name : List ℕ) (met : List (List ℕ)) (components : List (List ℕ × ℤ)) → AllByRecursion (λ c. list_any (same_name c.0) (name ∷ met) ≡ false) components
+pub fresh_components : (name : List ℕ) (met : List (List ℕ)) (components : List (List ℕ × ℤ)) → AllByRecursion (λ c. list_any (same_name c.0) (name ∷ met) ≡ false) components
     → IsFresh name (map (λ c. c.0) components) × AllByRecursion (λ c. list_any (same_name c.0) met ≡ false) components
 fresh_components name met [] new = (tt, tt)
 fresh_components name met (c ∷ cs) new =
@@ -392,7 +392,7 @@ fresh_components name met (c ∷ cs) new =
     let rest = fresh_components name met cs new.1 in
     ((same_name-flip name c.0 ∙ both.0, rest.0), (both.1, rest.1))
 
-once : (field left : ℕ) (met : List (List ℕ)) (components : List (List ℕ × ℤ)) → components_fault field left met components ≡ None → AreOnce left met components
+pub once : (field left : ℕ) (met : List (List ℕ)) (components : List (List ℕ × ℤ)) → components_fault field left met components ≡ None → AreOnce left met components
 unfolding IsDistinct
 once field left met [] none = record { count = omega arith; new = tt; apart = tt }
 once field zero met (c ∷ cs) none = absurd (cc)

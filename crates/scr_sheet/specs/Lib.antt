@@ -7,6 +7,7 @@ pub mod Records
 pub mod Forms
 pub mod Users
 pub mod Faults
+pub mod FundLists
 pub mod Validity
 pub mod Volumes
 pub mod Absorptions
