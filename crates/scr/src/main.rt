@@ -3,7 +3,7 @@
 
 use scr_io::{HostShelf, HostSink, OpenGate};
 use scr_run::{Status, run, status_line};
-use std::io::Write;
+use std::io::{ErrorKind, Write};
 use std::process::ExitCode;
 use std::{env, io};
 
@@ -17,6 +17,7 @@ fn main(rt: HostRuntime) -> ExitCode {
             &mut HostSink::new(rt.stdout()),
             &OpenGate,
         ),
+        Err(error) if error.kind() == ErrorKind::OutOfMemory => Status::NoMemory,
         Err(_) => Status::Usage,
     };
     tell(&rt, &status);
