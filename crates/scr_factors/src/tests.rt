@@ -115,11 +115,8 @@ fn each_key_may_be_missing(rt: HostRuntime) -> Result<(), Fail> {
 }
 
 #[test]
-fn each_key_may_have_a_bad_value(rt: HostRuntime) -> Result<(), Fail> {
+fn each_row_of_spread_stresses_may_have_a_bad_value(rt: HostRuntime) -> Result<(), Fail> {
     for (place, line, key) in [
-        (0, "form = 2", Key::Form),
-        (0, "form = 1.0", Key::Form),
-        (0, "form = true", Key::Form),
         (2, "s0 = [0, 0, 0, 0, 0, 0, 0, 0, 0]", Key::SpreadS0),
         (3, "s1 = [0, 0, 0, 0, 0, 0, 0, 0, 0, 0, 0]", Key::SpreadS1),
         (4, "s2 = [0, 0, 0, 0, 0, 0, 0, 0, 0, 0.5]", Key::SpreadS2),
@@ -136,6 +133,19 @@ fn each_key_may_have_a_bad_value(rt: HostRuntime) -> Result<(), Fail> {
             "none = [0, 0, 0, 0, 0, 0, 0, 0, 0, [0]]",
             Key::SpreadNone,
         ),
+    ] {
+        let found = fault(rt.alloc(), &[(place, line)])?;
+        assert_eq!(rt; found, Some(FactorFault::BadValue(key)), "{line}");
+    }
+    Ok(())
+}
+
+#[test]
+fn each_other_key_may_have_a_bad_value(rt: HostRuntime) -> Result<(), Fail> {
+    for (place, line, key) in [
+        (0, "form = 2", Key::Form),
+        (0, "form = 1.0", Key::Form),
+        (0, "form = true", Key::Form),
         (11, "premium = [1, 2, 3, 4]", Key::NlPremium),
         (12, "reserve = \"\"", Key::NlReserve),
         (14, "", Key::NlCorr),
