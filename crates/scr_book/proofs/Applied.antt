@@ -1,27 +1,27 @@
 -- What a record without a fault makes of a book: the sheet as the record leaves it, valid, with the sums of its rows.
 use Rattle.std.proofs.Common.{◌≡◌, ℕ, ◌||◌, Bool, true, false, List, Option, Some, None, MatchOption, refl, sym, ap, subst, ◌∙◌}
 use Rattle.std.specs.Option.{option_map_or}
-use Rattle.scr_sheet.specs.BalanceSheet.{BalanceSheet}
+use Rattle.scr_sheet.specs.declared.sheet.BalanceSheet.{BalanceSheet}
 use Rattle.scr_sheet.specs.Faults.{fault_of}
 use Rattle.scr_sheet.specs.Forms.{Formed}
 use Rattle.scr_sheet.specs.declared.rows.Curve.{Curve}
-use Rattle.scr_sheet.specs.Records.{applied, changed, with_absorb}
-use Rattle.scr_sheet.specs.Tables.{row_of, has_row, with_row}
+use Rattle.scr_sheet.specs.Records.{applied, with_absorb}
+use Rattle.scr_names.specs.Tables.{row_of, has_row, with_row, changed}
 use Rattle.scr_sheet.specs.Validity.{Valid}
 use Rattle.scr_sheet.specs.declared.edit.Edit.{Edit}
 use Rattle.scr_sheet.specs.declared.edit.Edit.TheVariants as edits
 use Rattle.scr_sheet.specs.declared.keys.AbsorbKey.{AbsorbKey}
 use Rattle.scr_sheet.specs.declared.keys.AbsorbKey.TheVariants as absorb
-use Rattle.scr_book.specs.Verbs.{is_of_numbers, is_of_graph}
+use Rattle.scr_book.specs.Verbs.{is_of_numbers}
 use Rattle.scr_sheet.specs.declared.numbers.Numbers.{Numbers}
 use Rattle.scr_sheet.proofs.Preserved.{Valid-applied, passes}
 use Rattle.scr_sheet.proofs.Projections.{or_false}
-use Rattle.scr_sheet.proofs.TableRows.{same_name-is, name_of-row_of}
+use Rattle.scr_names.proofs.TableRows.{same_name-is, name_of-row_of}
 use Rattle.scr_book.proofs.Moved.{row_there, moves_a_sum, sums-same}
-use Rattle.scr_book.specs.Kept.{sheet_of, IsKept}
+use Rattle.scr_book.specs.Kept.{IsKept}
 use Rattle.scr_book.specs.Holders.{IsGraphOf}
 use Rattle.scr_graph.specs.Graph.{Graph}
-use Rattle.scr_book.proofs.Holders.{graph-same}
+use Rattle.scr_book.proofs.Holders.{is_of_graph, graph-same}
 use Rattle.scr_book.specs.Sums.{AreSumsOf}
 use Rattle.scr_book.specs.declared.book.Book.TheInside.{Inside}
 
@@ -43,26 +43,26 @@ replaced name_of change new name rows has is =
     ap (λ o. option_map_or (λ other. with_row name_of (change other) rows) o rows) row.1 ∙ ap (λ other. with_row name_of other rows) (is row.0 row.1 named)
 
 -- the sums of the book are those of its sheet
-pub sums_now : (book : Inside) (now : BalanceSheet) → sheet_of book ≡ now → IsKept book → AreSumsOf now book.sums
+pub sums_now : (book : Inside) (now : BalanceSheet) → book.sheet ≡ now → IsKept book → AreSumsOf now book.sums
 sums_now book now view kept = subst (λ sheet. AreSumsOf sheet book.sums) view kept.sums
 
 -- and so is its graph
-pub graph_now : (book : Inside) (now : BalanceSheet) → sheet_of book ≡ now → IsKept book → IsGraphOf now book.graph
+pub graph_now : (book : Inside) (now : BalanceSheet) → book.sheet ≡ now → IsKept book → IsGraphOf now book.graph
 graph_now book now view kept = subst (λ sheet. IsGraphOf sheet book.graph) view kept.graph
 
 -- a book whose sheet has another graph
-pub kept-graph : (book : Inside) (now : BalanceSheet) → sheet_of book ≡ now → IsKept book → (graph : Graph) → IsGraphOf now graph → IsKept (record book { graph = graph })
+pub kept-graph : (book : Inside) (now : BalanceSheet) → book.sheet ≡ now → IsKept book → (graph : Graph) → IsGraphOf now graph → IsKept (record book { graph = graph })
 kept-graph book now view kept graph is = record { valid = kept.valid; sums = kept.sums; graph = subst (λ sheet. IsGraphOf sheet graph) (sym view) is }
 
 -- the records that move neither a sum nor the graph
 abbrev pub moves_beside : Edit → Bool
 moves_beside edit = moves_a_sum edit || is_of_graph edit
 
-module _ (old new : Inside) (now : BalanceSheet) (view : sheet_of old ≡ now) (kept : IsKept old) (edit : Edit) (formed : Formed edit) (none : fault_of edit now ≡ None) where
+module _ (old new : Inside) (now : BalanceSheet) (view : old.sheet ≡ now) (kept : IsKept old) (edit : Edit) (formed : Formed edit) (none : fault_of edit now ≡ None) where
   -- the tables and numbers are as the record leaves them, and so is each sum and the graph
-  pub kept-whole : sheet_of new ≡ applied edit (sheet_of old) → AreSumsOf (applied edit now) new.sums → IsGraphOf (applied edit now) new.graph → IsKept new × (sheet_of new ≡ applied edit now)
+  pub kept-whole : new.sheet ≡ applied edit old.sheet → AreSumsOf (applied edit now) new.sums → IsGraphOf (applied edit now) new.graph → IsKept new × (new.sheet ≡ applied edit now)
   kept-whole rows sums graph =
-      let is : sheet_of new ≡ applied edit now = rows ∙ ap (applied edit) view in (
+      let is : new.sheet ≡ applied edit now = rows ∙ ap (applied edit) view in (
         record {
           valid = subst Valid (sym is) (Valid-applied edit now formed (subst Valid view kept.valid) none);
           sums = subst (λ sheet. AreSumsOf sheet new.sums) (sym is) sums;
@@ -77,10 +77,10 @@ module _ (old new : Inside) (now : BalanceSheet) (view : sheet_of old ≡ now) (
       subst (AreSumsOf (applied edit now)) (sym sums) (sums-same edit now old.sums (sums_now old now view kept) still (passes edit now none).free)
 
   -- where the record leaves the graph
-  pub kept-applied : is_of_graph edit ≡ false → sheet_of new ≡ applied edit (sheet_of old) → AreSumsOf (applied edit now) new.sums
-      → let same : Inside = record new { graph = old.graph } in IsKept same × (sheet_of same ≡ applied edit now)
+  pub kept-applied : is_of_graph edit ≡ false → new.sheet ≡ applied edit old.sheet → AreSumsOf (applied edit now) new.sums
+      → let same : Inside = record new { graph = old.graph } in IsKept same × (same.sheet ≡ applied edit now)
   kept-applied apart rows sums =
-      let is : sheet_of new ≡ applied edit now = rows ∙ ap (applied edit) view in (
+      let is : new.sheet ≡ applied edit now = rows ∙ ap (applied edit) view in (
         record {
           valid = subst Valid (sym is) (Valid-applied edit now formed (subst Valid view kept.valid) none);
           sums = subst (λ sheet. AreSumsOf sheet new.sums) (sym is) sums;
@@ -90,8 +90,8 @@ module _ (old new : Inside) (now : BalanceSheet) (view : sheet_of old ≡ now) (
       )
 
   -- where the record moves no sum either
-  pub kept-still : moves_beside edit ≡ false → sheet_of new ≡ applied edit (sheet_of old) → new.sums ≡ old.sums
-      → let same : Inside = record new { graph = old.graph } in IsKept same × (sheet_of same ≡ applied edit now)
+  pub kept-still : moves_beside edit ≡ false → new.sheet ≡ applied edit old.sheet → new.sums ≡ old.sums
+      → let same : Inside = record new { graph = old.graph } in IsKept same × (same.sheet ≡ applied edit now)
   kept-still still rows sums =
       let apart = or_false (moves_a_sum edit) (is_of_graph edit) still in kept-applied apart.1 rows (sums_kept apart.0 sums)
 
@@ -121,12 +121,12 @@ still_numbers (edits.Fdb cents) only = refl
 still_numbers (edits.Intangible cents) only = refl
 still_numbers edit only = absurd (cc)
 
-pub kept-numbers : (old : Inside) (now : BalanceSheet) (view : sheet_of old ≡ now) (kept : IsKept old) (edit : Edit) (formed : Formed edit) (none : fault_of edit now ≡ None) → is_of_numbers edit ≡ true
-    → (numbers : Numbers) → (applied edit (sheet_of old)).numbers ≡ numbers → let new : Inside = record old { numbers = numbers } in IsKept new × (sheet_of new ≡ applied edit now)
+pub kept-numbers : (old : Inside) (now : BalanceSheet) (view : old.sheet ≡ now) (kept : IsKept old) (edit : Edit) (formed : Formed edit) (none : fault_of edit now ≡ None) → is_of_numbers edit ≡ true
+    → (numbers : Numbers) → (applied edit old.sheet).numbers ≡ numbers → let new : Inside = record old { sheet = record old.sheet { numbers = numbers } } in IsKept new × (new.sheet ≡ applied edit now)
 kept-numbers old now view kept edit formed none only numbers is =
-    let new : Inside = record old { numbers = numbers } in
+    let new : Inside = record old { sheet = record old.sheet { numbers = numbers } } in
     kept-still old new now view kept edit formed none (still_numbers edit only)
-    (sym (only_numbers edit (sheet_of old) only ∙ ap (λ n. sheet_of (record old { numbers = n })) is)) refl
+    (sym (only_numbers edit old.sheet only ∙ ap (λ n. record old.sheet { numbers = n }) is)) refl
 
 -- an absorption that is none of a currency leaves the curves
 pub with_absorb-other : (key : AbsorbKey) (cents : ℕ) (curves : List Curve) → ((currency : List ℕ) → key ≡ absorb.CurrencyUp currency → ⊥) → ((currency : List ℕ) → key ≡ absorb.CurrencyDown currency → ⊥) → with_absorb key cents curves ≡ curves

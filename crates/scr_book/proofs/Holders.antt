@@ -6,9 +6,10 @@ use Rattle.std.specs.Option.{option_map, option_map_or}
 use Rattle.std.proofs.lemmas.List.{length-map}
 use Rattle.scr_funds.specs.Chains.{LeadsTo}
 use Rattle.scr_graph.specs.Graph.{Graph, entered_in, components_under, components_after, AreEnteredOr}
-use Rattle.scr_sheet.specs.Names.{same_name}
-use Rattle.scr_sheet.specs.Tables.{has_row, with_row, without}
-use Rattle.scr_sheet.specs.BalanceSheet.{BalanceSheet, position_name, stake_name, components_of}
+use Rattle.scr_names.specs.Names.{same_name}
+use Rattle.scr_names.specs.Tables.{has_row, with_row, without}
+use Rattle.scr_sheet.specs.BalanceSheet.{position_name, stake_name, components_of}
+use Rattle.scr_sheet.specs.declared.sheet.BalanceSheet.{BalanceSheet}
 use Rattle.scr_sheet.specs.Records.{applied, natural, with_fund}
 use Rattle.scr_sheet.specs.Faults.{fault_of, unknown_name, unknown_component, wrong_kind, misplaced, misplaced_component}
 use Rattle.scr_sheet.specs.Validity.{Valid, IsHeld}
@@ -22,10 +23,9 @@ use Rattle.scr_sheet.proofs.Bounds.{neither, all_from_first_fault}
 use Rattle.scr_sheet.proofs.FundChains.{holder-named, leads_not}
 use Rattle.scr_sheet.proofs.Holds.{distinct-funds}
 use Rattle.scr_sheet.proofs.Preserved.{passes, known_component}
-use Rattle.scr_sheet.proofs.TableRows.{All-map, All-both, All-with_row, All-without, All-row_of, All-changed, name_of-row_of, same_or_other, same_name-is, same_name-itself, row_of-with_row_own, row_of-with_row_other, row_of-without_own, row_of-without_other, found-changed}
+use Rattle.scr_names.proofs.TableRows.{All-map, All-both, All-with_row, All-without, All-row_of, All-changed, name_of-row_of, same_or_other, same_name-is, same_name-itself, row_of-with_row_own, row_of-with_row_other, row_of-without_own, row_of-without_other, found-changed}
 use Rattle.scr_book.proofs.Moved.{row_there, none_there}
 use Rattle.scr_book.specs.Holders.{IsGraphOf}
-use Rattle.scr_book.specs.Verbs.{is_of_graph}
 
 -- the names of a fund's components
 abbrev names_in : Stake → List (List ℕ)
@@ -36,6 +36,14 @@ each_same : (f g : List ℕ → List (List ℕ)) → ((x : List ℕ) → f x ≡
 each_same f g same = λ i x. same x i
 
 -- ---- records that leave the graph
+
+-- the records that make or change a fund, or make a security
+abbrev pub is_of_graph : Edit → Bool
+is_of_graph (edits.Fund name components) = true
+is_of_graph (edits.Security name class group currency duration) = true
+is_of_graph (edits.Remove tables.Fund name) = true
+is_of_graph (edits.Remove table name) = false
+is_of_graph edit = false
 
 module _ (sheet : BalanceSheet) (graph : Graph) (is : IsGraphOf sheet graph) where
   -- a hold changes rows of both tables in their places

@@ -4,9 +4,10 @@ use Rattle.std.specs.Option.{option_map_or}
 use Rattle.scr_dates.specs.declared.day.Day.{Day}
 use Rattle.scr_factors.specs.declared.set.Set.{Set}
 use Rattle.scr_factors.specs.declared.set.Set.TheVariants as sets
-use Rattle.scr_sheet.specs.Tables.{row_of, has_row}
+use Rattle.scr_names.specs.Tables.{row_of, has_row}
 use Rattle.scr_sheet.specs.CashFlows.{total, flows_under, all_projections}
-use Rattle.scr_sheet.specs.BalanceSheet.{BalanceSheet, stake_name, line_name, bank_name, rein_name, is_in, is_named, held_of, held_total, line_flows_total, volumes_total, defaults_total, components_total}
+use Rattle.scr_sheet.specs.BalanceSheet.{stake_name, line_name, bank_name, rein_name, is_in, is_named, held_of, held_total, line_flows_total, volumes_total, defaults_total, components_total}
+use Rattle.scr_sheet.specs.declared.sheet.BalanceSheet.{BalanceSheet}
 use Rattle.scr_sheet.specs.Faults.{fault_of, in_use, unknown_row, misplaced, misplaced_holding}
 use Rattle.scr_sheet.specs.Records.{applied, natural}
 use Rattle.scr_sheet.specs.Validity.{Valid}

@@ -1,8 +1,9 @@
 -- What the tests of a record's own kind say of the first quantity of the whole book outside its limits.
 use Rattle.std.proofs.Common.{◌≡◌, ℕ, ℤ, List, ◌+◌, ◌-◌, Option, None, length, sym, ap, subst, ◌∙◌, arith}
 use Rattle.std.specs.Option.{option_or, option_map_or}
-use Rattle.scr_sheet.specs.Tables.{row_of}
-use Rattle.scr_sheet.specs.BalanceSheet.{BalanceSheet, bank_name, rein_name, defaults_total}
+use Rattle.scr_names.specs.Tables.{row_of, rows_with}
+use Rattle.scr_sheet.specs.BalanceSheet.{bank_name, rein_name, defaults_total}
+use Rattle.scr_sheet.specs.declared.sheet.BalanceSheet.{BalanceSheet}
 use Rattle.scr_dates.specs.declared.day.Day.{Day}
 use Rattle.scr_sheet.specs.CashFlows.{greatest_years}
 use Rattle.scr_sheet.specs.declared.numbers.Numbers.{Numbers}
@@ -13,10 +14,9 @@ use Rattle.scr_sheet.specs.declared.fault.Fault.{Fault}
 use Rattle.scr_sheet.specs.declared.fault.Quantity.{Quantity}
 use Rattle.scr_sheet.specs.declared.fault.Quantity.TheVariants as quantities
 use Rattle.scr_sheet.specs.declared.limits.TheConstants.{MAX_AMOUNT, MAX_EXPOSURES}
-use Rattle.scr_sheet.proofs.TableRows.{added}
+use Rattle.scr_names.proofs.TableRows.{added}
 use Rattle.scr_sheet.proofs.Sums.{rein_total}
 use Rattle.scr_sheet.proofs.Quiet.{added-is}
-use Rattle.scr_book.specs.Counts.{rows_with}
 
 -- the fault is the first of the whole book, where the record names what is there
 abbrev pub IsFirst : BalanceSheet → Option Fault → Edit → Type 0

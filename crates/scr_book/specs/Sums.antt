@@ -1,9 +1,10 @@
--- The sums that a book keeps beside its rows, so that no record sums its tables anew.
+-- The sums that a book keeps beside its rows (this project's own), so that no record sums its tables anew.
 use Rattle.std.specs.Prelude.{◌≡◌, ℕ, ◌-◌, map, slice_index, slice_set}
 use Rattle.scr_factors.specs.declared.set.Set.{Set}
 use Rattle.scr_factors.specs.declared.set.Set.TheVariants as sets
 use Rattle.scr_sheet.specs.CashFlows.{total, flows_under, all_projections}
-use Rattle.scr_sheet.specs.BalanceSheet.{BalanceSheet, held_total, line_flows_total, volumes_total, defaults_total, components_total}
+use Rattle.scr_sheet.specs.BalanceSheet.{held_total, line_flows_total, volumes_total, defaults_total, components_total}
+use Rattle.scr_sheet.specs.declared.sheet.BalanceSheet.{BalanceSheet}
 use Rattle.scr_sheet.specs.declared.keys.Projection.{Projection}
 use Rattle.scr_sheet.specs.declared.keys.Projection.TheVariants as projections
 use Rattle.scr_sheet.specs.declared.rows.LineFlows.{LineFlows}

@@ -1,8 +1,7 @@
--- Groups of records.
+-- Groups of records, by what they change in a book (this project's own).
 use Rattle.std.specs.Prelude.{Bool, true, false}
 use Rattle.scr_sheet.specs.declared.edit.Edit.{Edit}
 use Rattle.scr_sheet.specs.declared.edit.Edit.TheVariants as edits
-use Rattle.scr_sheet.specs.declared.keys.Table.TheVariants as tables
 
 -- the records that change the single numbers alone, and none of the sums that a book keeps
 abbrev pub is_of_numbers : Edit → Bool
@@ -17,14 +16,6 @@ is_of_numbers (edits.Fdb cents) = true
 is_of_numbers (edits.Intangible cents) = true
 is_of_numbers edit = false
 
--- the records that make or change a fund, or make a security
-abbrev pub is_of_graph : Edit → Bool
-is_of_graph (edits.Fund name components) = true
-is_of_graph (edits.Security name class group currency duration) = true
-is_of_graph (edits.Remove tables.Fund name) = true
-is_of_graph (edits.Remove table name) = false
-is_of_graph edit = false
-
 -- the records that neither make a row nor hand in a list
 abbrev pub takes_no_memory : Edit → Bool
 takes_no_memory (edits.Curve currency rates) = false
@@ -37,3 +28,13 @@ takes_no_memory (edits.LineFlows line projection flows) = false
 takes_no_memory (edits.Rein name group recoverables mitigation collateral) = false
 takes_no_memory (edits.Bank name group cents) = false
 takes_no_memory edit = true
+
+-- a record of a line's flows under a projection
+abbrev pub is_line_flows : Edit → Bool
+is_line_flows (edits.LineFlows line projection flows) = true
+is_line_flows edit = false
+
+-- a record of the volumes of a segment in a region
+abbrev pub is_segment : Edit → Bool
+is_segment (edits.Segment set number region premium reserve) = true
+is_segment edit = false

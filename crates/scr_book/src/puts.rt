@@ -1,13 +1,13 @@
 //! What a record without a fault makes of the book. All memory is taken before the first change, and each sum moves by
 //! what goes out and what comes in.
-ghost use Rattle.std.specs.Prelude.{◌≡◌, ◌+◌, None, length, true, OnOk, OnErr};
+ghost use Rattle.std.specs.Prelude.{◌≡◌, ◌+◌, None, true, OnOk, OnErr};
 ghost use Rattle.std.specs.Option.{option_map_or};
-ghost use Rattle.scr_sheet.specs.BalanceSheet.{stake_name, line_name, bank_name, rein_name, curve_name};
-ghost use Rattle.scr_sheet.specs.CashFlows.{total, flows_under};
+ghost use Rattle.scr_sheet.specs.BalanceSheet.{curve_name};
+ghost use Rattle.scr_sheet.specs.CashFlows.{total};
 ghost use Rattle.scr_sheet.specs.Faults.{fault_of};
 ghost use Rattle.scr_sheet.specs.Forms.{Formed};
 ghost use Rattle.scr_sheet.specs.Records.{applied};
-ghost use Rattle.scr_sheet.specs.Tables.{row_of};
+ghost use Rattle.scr_names.specs.Tables.{row_of};
 ghost use Rattle.scr_book.specs.Verbs.{is_of_numbers, takes_no_memory};
 
 use crate::{
@@ -91,7 +91,7 @@ impl Book {
         requires no_fault { fault_of edit.now self.old ≡ None }
         ensures { self.new ≡ applied edit.now self.old }
     {
-        self.numbers.put(edit);
+        self.sheet.numbers.put(edit);
     }
 
     fn put_curve(&mut self, alloc: Global, currency: &Name, rates: &Rates) -> Result<(), NoMemory>
@@ -102,7 +102,7 @@ impl Book {
     {
         let rates = rates.copy(alloc)?;
         let (absorb_up, absorb_down) = self.absorptions(currency);
-        self.curves.put(Curve {
+        self.sheet.curves.put(Curve {
             currency: *currency,
             rates,
             absorb_up,
@@ -117,7 +117,7 @@ impl Book {
         ensures ok { OnOk result (self.new ≡ applied (Edit.Group name.now kind step) self.old) }
         ensures err { OnErr result (self.new ≡ self.old) }
     {
-        self.groups.put(Group {
+        self.sheet.groups.put(Group {
             name: *name,
             kind,
             step,
@@ -142,8 +142,8 @@ impl Book {
     {
         let duration = natural(duration) as u32;
         let currency = *currency;
-        if self.securities.contains(name) {
-            self.securities.change(name, |position| {
+        if self.sheet.securities.contains(name) {
+            self.sheet.securities.change(name, |position| {
                 position.security.class = class;
                 position.security.group = group;
                 position.security.currency = currency;
@@ -160,7 +160,7 @@ impl Book {
             duration,
             flows: Flows::new(Vec::new(alloc)),
         };
-        self.securities.put(Position { security, held: 0 })?;
+        self.sheet.securities.put(Position { security, held: 0 })?;
         Ok(())
     }
 
@@ -171,7 +171,8 @@ impl Book {
         ensures err { OnErr result (self.new ≡ self.old) }
     {
         let promised = flows.copy(alloc)?;
-        self.securities
+        self.sheet
+            .securities
             .change(name, |position| position.security.flows = promised);
         Ok(())
     }
@@ -190,14 +191,14 @@ impl Book {
         let components = components.copy(alloc)?;
         let new = components.as_slice().len() as u64;
         let old = self.component_count(name);
-        let held = self.fund_hold(name);
+        let held = self.sheet.fund_hold(name);
         self.graph.enter(*name)?;
         self.graph.put(alloc, name, components.as_slice())?;
         let fund = Fund {
             name: *name,
             components,
         };
-        let Ok(()) = self.funds.put(Stake { fund, held }) else {
+        let Ok(()) = self.sheet.funds.put(Stake { fund, held }) else {
             self.graph.clear(name);
             return Err(NoMemory);
         };
@@ -212,8 +213,10 @@ impl Book {
     {
         let old = self.held(name);
         let new = natural(cents);
-        self.securities.change(name, |position| position.held = new);
-        self.funds.change(name, |stake| stake.held = new);
+        self.sheet
+            .securities
+            .change(name, |position| position.held = new);
+        self.sheet.funds.change(name, |stake| stake.held = new);
         self.sums.held = self.sums.held - old + new;
     }
 
@@ -230,14 +233,14 @@ impl Book {
         ensures err { OnErr result (self.new ≡ self.old) }
     {
         let currency = *currency;
-        if self.lines.contains(name) {
-            self.lines.change(name, |line| {
+        if self.sheet.lines.contains(name) {
+            self.sheet.lines.change(name, |line| {
                 line.kind = kind;
                 line.currency = currency;
             });
             return Ok(());
         }
-        self.lines.put(Liability {
+        self.sheet.lines.put(Liability {
             name: *name,
             kind,
             currency,
@@ -262,7 +265,8 @@ impl Book {
         let projected = flows.copy(alloc)?;
         let old = self.line_total(name, projection);
         let new = flows.total() as u64;
-        self.lines
+        self.sheet
+            .lines
             .change(name, |line| line.flows.put(projection, projected));
         self.sums.exchange_line_flows(projection, old, new);
         Ok(())
@@ -276,12 +280,14 @@ impl Book {
         let cents = natural(cents);
         match key {
             AbsorbKey::CurrencyUp(currency) => self
+                .sheet
                 .curves
                 .change(&currency, |curve| curve.absorb_up = cents),
             AbsorbKey::CurrencyDown(currency) => self
+                .sheet
                 .curves
                 .change(&currency, |curve| curve.absorb_down = cents),
-            _ => self.numbers.put_absorb(key, cents),
+            _ => self.sheet.numbers.put_absorb(key, cents),
         }
     }
 
@@ -290,9 +296,9 @@ impl Book {
         requires no_fault { fault_of (Edit.Segment set number region premium reserve) self.old ≡ None }
         ensures { self.new ≡ applied (Edit.Segment set number region premium reserve) self.old }
     {
-        let old = self.numbers.volumes(set, number, region);
+        let old = self.sheet.numbers.volumes(set, number, region);
         let new = (natural(premium), natural(reserve));
-        self.numbers.put_volumes(set, number, region, new);
+        self.sheet.numbers.put_volumes(set, number, region, new);
         self.sums
             .exchange_volumes(set, old.0 + old.1, new.0 + new.1);
     }
@@ -314,7 +320,7 @@ impl Book {
         let recoverables = natural(recoverables);
         let mitigation = natural(mitigation);
         let old = self.rein_total(name);
-        self.reinsurers.put(Rein {
+        self.sheet.reinsurers.put(Rein {
             name: *name,
             group: *group,
             recoverables,
@@ -333,7 +339,7 @@ impl Book {
     {
         let cents = natural(cents);
         let old = self.bank_total(name);
-        self.banks.put(Bank {
+        self.sheet.banks.put(Bank {
             name: *name,
             group: *group,
             cents,
@@ -348,13 +354,13 @@ impl Book {
         ensures { self.new ≡ applied (Edit.Remove table name.now) self.old }
     {
         match table {
-            Table::Group => self.groups.remove(name),
-            Table::Security => self.securities.remove(name),
+            Table::Group => self.sheet.groups.remove(name),
+            Table::Security => self.sheet.securities.remove(name),
             Table::Fund => self.remove_fund(name),
             Table::Line => self.remove_line(name),
             Table::Bank => self.remove_bank(name),
             Table::Rein => self.remove_rein(name),
-            Table::Curve => self.curves.remove(name),
+            Table::Curve => self.sheet.curves.remove(name),
         }
     }
 
@@ -365,7 +371,7 @@ impl Book {
     {
         let old = self.component_count(name);
         self.graph.clear(name);
-        self.funds.remove(name);
+        self.sheet.funds.remove(name);
         self.sums.components -= old;
     }
 
@@ -374,11 +380,11 @@ impl Book {
         requires no_fault { fault_of (Edit.Remove Table.Line name.now) self.old ≡ None }
         ensures { self.new ≡ applied (Edit.Remove Table.Line name.now) self.old }
     {
-        let Some(line) = self.lines.get(name) else {
+        let Some(line) = self.sheet.lines.get(name) else {
             return;
         };
         self.sums.take_line(&line.flows);
-        self.lines.remove(name);
+        self.sheet.lines.remove(name);
     }
 
     fn remove_bank(&mut self, name: &Name)
@@ -387,7 +393,7 @@ impl Book {
         ensures { self.new ≡ applied (Edit.Remove Table.Bank name.now) self.old }
     {
         let old = self.bank_total(name);
-        self.banks.remove(name);
+        self.sheet.banks.remove(name);
         self.sums.defaults -= old;
     }
 
@@ -397,19 +403,8 @@ impl Book {
         ensures { self.new ≡ applied (Edit.Remove Table.Rein name.now) self.old }
     {
         let old = self.rein_total(name);
-        self.reinsurers.remove(name);
+        self.sheet.reinsurers.remove(name);
         self.sums.defaults -= old;
-    }
-
-    // The number of components of the fund of this name, 0 where there is none.
-    fn component_count(&self, name: &Name) -> u64
-        ensures { result
-            ≡ option_map_or (λ s. length s.fund.components) (row_of stake_name name.now self.now.funds) 0 }
-    {
-        match self.fund_row(name) {
-            Some(stake) => stake.fund.components.as_slice().len() as u64,
-            None => 0,
-        }
     }
 
     // The absorptions of a currency, 0 where it has no curve yet.
@@ -419,42 +414,9 @@ impl Book {
         ensures down { result.1
             ≡ option_map_or (λ c. c.absorb_down) (row_of curve_name currency.now self.now.curves) 0 }
     {
-        match self.curve_row(currency) {
+        match self.sheet().curves.get(currency) {
             Some(curve) => (curve.absorb_up, curve.absorb_down),
             None => (0, 0),
-        }
-    }
-
-    // What a line pays and receives under a projection.
-    fn line_total(&self, name: &Name, projection: Projection) -> u64
-        ensures { result
-            ≡ option_map_or (λ l. total (flows_under projection l.flows))
-            (row_of line_name name.now self.now.lines) 0 }
-    {
-        match self.line_row(name) {
-            Some(line) => line.flows.under(projection).total() as u64,
-            None => 0,
-        }
-    }
-
-    // What a bank and a reinsurer are of all exposures.
-    fn bank_total(&self, name: &Name) -> u64
-        ensures { result ≡ option_map_or (λ b. b.cents) (row_of bank_name name.now self.now.banks) 0 }
-    {
-        match self.bank_row(name) {
-            Some(bank) => bank.cents,
-            None => 0,
-        }
-    }
-
-    fn rein_total(&self, name: &Name) -> u64
-        ensures { result
-            ≡ option_map_or (λ r. r.recoverables + r.mitigation)
-            (row_of rein_name name.now self.now.reinsurers) 0 }
-    {
-        match self.rein_row(name) {
-            Some(rein) => rein.recoverables + rein.mitigation,
-            None => 0,
         }
     }
 }

@@ -1,9 +1,9 @@
 //! The quantities of the whole book, as a record would leave it.
-ghost use Rattle.std.specs.Prelude.{◌≡◌, ◌^◌, ◌+◌, ◌-◌, ◌<◌, ◌≤◌, None, if◌then◌else◌, length, max};
+ghost use Rattle.std.specs.Prelude.{◌≡◌, ◌^◌, ◌+◌, ◌-◌, ◌<◌, ◌≤◌, None, true, if◌then◌else◌, length, max};
 ghost use Rattle.std.specs.List.{AllByRecursion};
 ghost use Rattle.std.specs.Option.{option_or, option_map_or};
 ghost use Rattle.scr_dates.specs.Civil.{IsDay};
-ghost use Rattle.scr_sheet.specs.Tables.{row_of};
+ghost use Rattle.scr_names.specs.Tables.{row_of, rows_with};
 ghost use Rattle.scr_sheet.specs.CashFlows as cash;
 ghost use Rattle.scr_sheet.specs.CashFlows.{greatest_years, flows_under};
 ghost use Rattle.scr_sheet.specs.BalanceSheet.{group_name, position_name, line_name, bank_name, rein_name, curve_name, held_of, held_total, line_flows_total, volumes_total, defaults_total, components_total, stake_name, greatest, security_years, line_years};
@@ -11,9 +11,8 @@ ghost use Rattle.scr_sheet.specs.Faults.{Answers, list_fault, unknown_name, wron
 ghost use Rattle.scr_sheet.specs.Forms.{Formed, AreOnDays};
 ghost use Rattle.scr_sheet.specs.Records.{applied, natural};
 ghost use Rattle.scr_sheet.specs.Validity.{IsSecurity, IsLine};
-ghost use Rattle.scr_book.specs.Counts.{rows_with};
+ghost use Rattle.scr_book.specs.Verbs.{is_line_flows, is_segment};
 
-use crate::fields::{above, fields_outside, first_of};
 use crate::{
     Book, Components, Edit, Fault, Flows, Liability, MAX_AMOUNT, MAX_COMPONENTS, MAX_CURRENCIES,
     MAX_EXPOSURES, MAX_FUNDS, MAX_GROUPS, MAX_HELD, MAX_LINE_FLOWS, MAX_LINES, MAX_SECURITIES,
@@ -21,7 +20,7 @@ use crate::{
 };
 use scr_dates::{Day, Maturity, maturity};
 use scr_factors::Set;
-use scr_sheet::{Rows, natural};
+use scr_sheet::{PROJECTIONS, Rows, above, fields_outside, first_of, natural};
 
 /// The first quantity that lies outside its limits in the book as the record would leave it. Sums are those that the
 /// book keeps, so a record costs its own length, that of the flows that it replaces and some look-ups; only a new
@@ -61,24 +60,8 @@ fn sheet_outside(book: &Book, edit: &Edit) -> Option<Fault>
         Edit::Line { name, .. } => outside_lines(book, &name),
         Edit::Flows { ref flows, .. } => outside_years(years(asof, flows.as_slice())),
         Edit::Hold { name, cents } => outside_held(book, &name, cents),
-        Edit::LineFlows {
-            line,
-            projection,
-            ref flows,
-        } => {
-            let total = outside_line_flows(book, &line, projection, flows);
-            first_of(total, outside_years(years(asof, flows.as_slice())))
-        }
-        Edit::Segment {
-            set,
-            number,
-            region,
-            premium,
-            reserve,
-        } => {
-            let old = book.numbers().volumes(set, number, region);
-            outside_volumes(book, set, old, (natural(premium), natural(reserve)))
-        }
+        Edit::LineFlows { .. } => outside_projection(book, edit),
+        Edit::Segment { .. } => outside_segment(book, edit),
         Edit::Rein {
             name,
             recoverables,
@@ -99,12 +82,54 @@ fn sheet_outside(book: &Book, edit: &Edit) -> Option<Fault>
     }
 }
 
+// Where both the flows of all lines and the years are outside, the flows are told.
+fn outside_projection(book: &Book, edit: &Edit) -> Option<Fault>
+    requires line_flows { is_line_flows edit.now ≡ true }
+    requires formed { Formed edit.now }
+    requires known { unknown_name edit.now book.now ≡ None }
+    requires kind { wrong_kind edit.now book.now ≡ None }
+    ensures { result ≡ sheet_outside edit.now (applied edit.now book.now) }
+{
+    match *edit {
+        Edit::LineFlows {
+            line,
+            projection,
+            ref flows,
+        } => {
+            let asof = book.numbers().asof;
+            let total = outside_line_flows(book, &line, projection, flows);
+            first_of(total, outside_years(years(asof, flows.as_slice())))
+        }
+        _ => None,
+    }
+}
+
+fn outside_segment(book: &Book, edit: &Edit) -> Option<Fault>
+    requires segment { is_segment edit.now ≡ true }
+    requires formed { Formed edit.now }
+    ensures { result ≡ sheet_outside edit.now (applied edit.now book.now) }
+{
+    match *edit {
+        Edit::Segment {
+            set,
+            number,
+            region,
+            premium,
+            reserve,
+        } => {
+            let old = book.numbers().volumes(set, number, region);
+            outside_volumes(book, set, old, (natural(premium), natural(reserve)))
+        }
+        _ => None,
+    }
+}
+
 // ---- numbers of rows, each a row more, unless there is one of the name
 
 fn outside_currencies(book: &Book, currency: &Name) -> Option<Fault>
     ensures { result ≡ above Quantity.Currencies (rows_with curve_name currency.now book.now.curves) MAX_CURRENCIES }
 {
-    let is_there = book.has(Table::Curve, currency);
+    let is_there = book.sheet().has(Table::Curve, currency);
     outside_count(
         Quantity::Currencies,
         book.curves(),
@@ -116,14 +141,14 @@ fn outside_currencies(book: &Book, currency: &Name) -> Option<Fault>
 fn outside_groups(book: &Book, name: &Name) -> Option<Fault>
     ensures { result ≡ above Quantity.Groups (rows_with group_name name.now book.now.groups) MAX_GROUPS }
 {
-    let is_there = book.has(Table::Group, name);
+    let is_there = book.sheet().has(Table::Group, name);
     outside_count(Quantity::Groups, book.groups(), is_there, MAX_GROUPS)
 }
 
 fn outside_securities(book: &Book, name: &Name) -> Option<Fault>
     ensures { result ≡ above Quantity.Securities (rows_with position_name name.now book.now.securities) MAX_SECURITIES }
 {
-    let is_there = book.has(Table::Security, name);
+    let is_there = book.sheet().has(Table::Security, name);
     outside_count(
         Quantity::Securities,
         book.securities(),
@@ -140,9 +165,9 @@ fn outside_funds(book: &Book, name: &Name, components: &Components) -> Option<Fa
         - option_map_or (λ s. length s.fund.components) (row_of stake_name name.now book.now.funds) 0
         + length components.now) MAX_COMPONENTS) }
 {
-    let is_there = book.has(Table::Fund, name);
+    let is_there = book.sheet().has(Table::Fund, name);
     let funds = outside_count(Quantity::Funds, book.funds(), is_there, MAX_FUNDS);
-    let others = book.components_total() - component_count(book, name);
+    let others = book.components_total() - book.component_count(name);
     let total = u128::from(others) + components.as_slice().len() as u128;
     first_of(
         funds,
@@ -150,22 +175,10 @@ fn outside_funds(book: &Book, name: &Name, components: &Components) -> Option<Fa
     )
 }
 
-// The number of components of the fund of this name, 0 where there is none.
-fn component_count(book: &Book, name: &Name) -> u64
-    ensures value { result
-        ≡ option_map_or (λ s. length s.fund.components) (row_of stake_name name.now book.now.funds) 0 }
-    ensures part { result ≤ components_total book.now }
-{
-    match book.fund_row(name) {
-        Some(stake) => stake.fund.components.as_slice().len() as u64,
-        None => 0,
-    }
-}
-
 fn outside_lines(book: &Book, name: &Name) -> Option<Fault>
     ensures { result ≡ above Quantity.Lines (rows_with line_name name.now book.now.lines) MAX_LINES }
 {
-    let is_there = book.has(Table::Line, name);
+    let is_there = book.sheet().has(Table::Line, name);
     outside_count(Quantity::Lines, book.lines(), is_there, MAX_LINES)
 }
 
@@ -201,8 +214,12 @@ fn outside_line_flows(
         - option_map_or (λ l. cash.total (flows_under projection l.flows)) (row_of line_name line.now book.now.lines) 0
         + cash.total flows.now) MAX_LINE_FLOWS }
 {
-    let others = u128::from(book.line_flows_total(projection)) - line_total(book, line, projection);
-    above(Quantity::LineFlows, others + flows.total(), MAX_LINE_FLOWS)
+    let others = book.line_flows_total(projection) - book.line_total(line, projection);
+    above(
+        Quantity::LineFlows,
+        u128::from(others) + flows.total(),
+        MAX_LINE_FLOWS,
+    )
 }
 
 fn outside_volumes(book: &Book, set: Set, old: (u64, u64), new: (u64, u64)) -> Option<Fault>
@@ -225,8 +242,8 @@ fn outside_rein(book: &Book, name: &Name, new: (u64, u64)) -> Option<Fault>
         (above Quantity.Exposures
         (length book.now.banks + rows_with rein_name name.now book.now.reinsurers) MAX_EXPOSURES) }
 {
-    let is_there = book.has(Table::Rein, name);
-    outside_exposures(book, rein_total(book, name), sum(new), is_there)
+    let is_there = book.sheet().has(Table::Rein, name);
+    outside_exposures(book, book.rein_total(name), sum(new), is_there)
 }
 
 fn outside_bank(book: &Book, name: &Name, cents: u64) -> Option<Fault>
@@ -237,8 +254,8 @@ fn outside_bank(book: &Book, name: &Name, cents: u64) -> Option<Fault>
         (above Quantity.Exposures
         (rows_with bank_name name.now book.now.banks + length book.now.reinsurers) MAX_EXPOSURES) }
 {
-    let is_there = book.has(Table::Bank, name);
-    outside_exposures(book, bank_total(book, name), u128::from(cents), is_there)
+    let is_there = book.sheet().has(Table::Bank, name);
+    outside_exposures(book, book.bank_total(name), u128::from(cents), is_there)
 }
 
 fn outside_exposures(book: &Book, old: u64, new: u128, is_there: bool) -> Option<Fault>
@@ -264,41 +281,6 @@ fn sum(amounts: (u64, u64)) -> u128
     u128::from(amounts.0) + u128::from(amounts.1)
 }
 
-// What the line of this name pays and receives under the projection, 0 where there is none.
-fn line_total(book: &Book, line: &Name, projection: Projection) -> u128
-    ensures value { result
-        ≡ option_map_or (λ l. cash.total (flows_under projection l.flows)) (row_of line_name line.now book.now.lines) 0 }
-    ensures part { result ≤ line_flows_total projection book.now }
-{
-    match book.line_row(line) {
-        Some(line) => line.flows.under(projection).total(),
-        None => 0,
-    }
-}
-
-// What the bank of this name holds, 0 where there is none.
-fn bank_total(book: &Book, name: &Name) -> u64
-    ensures value { result ≡ option_map_or (λ b. b.cents) (row_of bank_name name.now book.now.banks) 0 }
-    ensures part { result ≤ defaults_total book.now }
-{
-    match book.bank_row(name) {
-        Some(bank) => bank.cents,
-        None => 0,
-    }
-}
-
-// The recoverables and the risk-mitigating effect of the reinsurer of this name, 0 where there is none.
-fn rein_total(book: &Book, name: &Name) -> u64
-    ensures value { result
-        ≡ option_map_or (λ r. r.recoverables + r.mitigation) (row_of rein_name name.now book.now.reinsurers) 0 }
-    ensures part { result ≤ defaults_total book.now }
-{
-    match book.rein_row(name) {
-        Some(rein) => rein.recoverables + rein.mitigation,
-        None => 0,
-    }
-}
-
 // ---- years
 
 fn outside_years(years: u16) -> Option<Fault>
@@ -313,8 +295,8 @@ fn years_at(book: &Book, asof: Day) -> u16
     ensures { result ≡ max (greatest (security_years asof.number) book.now.securities)
         (greatest (line_years asof.number) book.now.lines) }
 {
-    let securities = security_years(book.security_rows(), asof);
-    securities.max(all_line_years(book.line_rows(), asof))
+    let securities = security_years(&book.sheet().securities, asof);
+    securities.max(all_line_years(&book.sheet().lines, asof))
 }
 
 // The greatest number of years to a payment, none for one that is past.
@@ -363,19 +345,6 @@ fn all_line_years(lines: &Rows<Liability>, asof: Day) -> u16
     }
     most
 }
-
-const PROJECTIONS: [Projection; 10] = [
-    Projection::Base,
-    Projection::Mortality,
-    Projection::Longevity,
-    Projection::Disability,
-    Projection::Expense,
-    Projection::Revision,
-    Projection::LapseUp,
-    Projection::LapseDown,
-    Projection::LapseMass,
-    Projection::Catastrophe,
-];
 
 fn line_years(line: &Liability, projections: &[Projection], asof: Day) -> u16
     requires asof_in { IsDay asof.number }

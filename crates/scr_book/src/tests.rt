@@ -4,7 +4,7 @@ ghost use Rattle.scr_sheet.specs.Forms.{Formed, IsNumber, IsName, IsCurrency};
 
 use crate::{
     Book, Class, Components, Edit, Fault, GroupKind, LineKind, MAX_HELD, Name, Quantity, Table,
-    User, check, opening,
+    User, check,
 };
 use std::alloc::{AllocError as NoMemory, Global};
 use std::process::Abort;
@@ -14,6 +14,12 @@ fn name(rt: &impl Abort, text: &str) -> Name
     ensures { IsName result }
 {
     Name::parse(text.as_bytes()).expect(rt, "a name")
+}
+
+fn euro() -> Name
+    ensures { IsCurrency result }
+{
+    Name::parse(b"EUR").unwrap()
 }
 
 fn group(name: Name) -> Edit
@@ -35,7 +41,7 @@ fn sec(name: Name, class: Class) -> Edit
         name,
         class,
         group: None,
-        currency: opening::euro(),
+        currency: euro(),
         duration: 7_500,
     }
 }
@@ -55,7 +61,7 @@ fn line(name: Name) -> Edit
     Edit::Line {
         name,
         kind: LineKind::Health,
-        currency: opening::euro(),
+        currency: euro(),
     }
 }
 

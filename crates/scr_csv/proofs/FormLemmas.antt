@@ -4,7 +4,7 @@ use Rattle.std.specs.Prelude.{nat_le, find}
 use Rattle.std.specs.List.{list_all, AllByRecursion}
 use Rattle.std.specs.Char.{is_ascii_uppercase, is_ascii_alphanumeric}
 use Rattle.std.proofs.lemmas.Bool.{eqb-true}
-use Rattle.scr_sheet.specs.Names.{is_name, is_currency, is_name_byte}
+use Rattle.scr_names.specs.Names.{is_name, is_currency, is_name_byte}
 use Rattle.scr_csv.proofs.Decimals.{both_true}
 
 or_second : (a b c : Bool) → b ≡ true → ((a || b) || c) ≡ true

@@ -2,8 +2,8 @@
 use Rattle.std.specs.Prelude.{ℕ, ℤ, pos, negsuc, ◌&&◌, List, take, drop, Option, Some, None, if◌then◌else◌, codes, nat_le, option_and_then, option_map}
 use Rattle.std.specs.Option.{option_or}
 use Rattle.scr_factors.specs.declared.set.Set.{Set}
-use Rattle.scr_sheet.specs.Names.{is_name, is_currency}
-use Rattle.scr_sheet.specs.Forms.{segments}
+use Rattle.scr_names.specs.Names.{is_name, is_currency}
+use Rattle.scr_factors.specs.Values.{segments}
 use Rattle.scr_sheet.specs.declared.keys.AbsorbKey.{AbsorbKey}
 use Rattle.scr_sheet.specs.declared.keys.AbsorbKey.TheVariants as absorb
 use Rattle.scr_csv.specs.Numbers.{number_value}

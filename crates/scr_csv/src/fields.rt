@@ -6,6 +6,7 @@ ghost use Rattle.std.specs.List.{AllByRecursion, list_all, list_any};
 ghost use Rattle.csv.specs.Records.{fields_of};
 ghost use Rattle.scr_dates.specs.Civil.{IsDay};
 ghost use Rattle.scr_dates.specs.Text.{day_of_text};
+ghost use Rattle.scr_factors.specs.Values.{segments};
 ghost use Rattle.scr_sheet.specs.Forms as formed;
 ghost use Rattle.scr_csv.specs.FieldForms as forms_of;
 ghost use Rattle.scr_csv.specs.Numbers.{number_value};
@@ -204,7 +205,7 @@ impl<'a> Fields<'a> {
     pub fn segment(&mut self, set: Set) -> Result<u8, LineFault>
         ensures value { read_to result self.new ≡ next (forms_of.segment_of set) self.old }
         ensures low { IfOk result (λ n. 1 ≤ n) }
-        ensures high { IfOk result (λ n. n ≤ formed.segments set) }
+        ensures high { IfOk result (λ n. n ≤ segments set) }
     {
         let (number, field) = self.field()?;
         forms::segment(field, set).ok_or(LineFault::Syntax(number))

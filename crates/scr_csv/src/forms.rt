@@ -4,7 +4,8 @@
 ghost use Rattle.std.specs.Prelude.{◌≡◌, ◌≤◌, length, IfSome, codes};
 ghost use Rattle.std.specs.Char.{is_ascii_uppercase};
 ghost use Rattle.std.specs.List.{list_all};
-ghost use Rattle.scr_sheet.specs.Names as names;
+ghost use Rattle.scr_names.specs.Names as names;
+ghost use Rattle.scr_factors.specs.Values.{segments};
 ghost use Rattle.scr_sheet.specs.Forms as formed;
 ghost use Rattle.scr_csv.specs.FieldForms as spec;
 ghost use Rattle.scr_csv.specs.Words.{is_text};
@@ -92,7 +93,7 @@ pub fn step(text: &[u8]) -> Option<Option<u8>>
 pub fn segment(text: &[u8], set: Set) -> Option<u8>
     ensures value { result ≡ spec.segment_of set text.now }
     ensures low { IfSome result (λ n. 1 ≤ n) }
-    ensures high { IfSome result (λ n. n ≤ formed.segments set) }
+    ensures high { IfSome result (λ n. n ≤ segments set) }
 {
     match set {
         Set::Nl => small_number(text, 1, 12),

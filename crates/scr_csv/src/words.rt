@@ -6,7 +6,7 @@ ghost use Rattle.scr_csv.specs.Words as spec;
 
 use crate::verb::Verb;
 use scr_factors::Set;
-use scr_sheet::{AbsorbKey, CatKey, Class, GroupKind, LineKind, Projection, Table};
+use scr_sheet::{AbsorbKey, CatKey, Class, GroupKind, LineKind, PROJECTIONS, Projection, Table};
 
 const VERBS: [Verb; 22] = [
     Verb::Asof,
@@ -187,19 +187,6 @@ pub fn line_kind(text: &[u8]) -> Option<LineKind>
         .copied()
         .find(|kind| line_kind_word(*kind) == text)
 }
-
-const PROJECTIONS: [Projection; 10] = [
-    Projection::Base,
-    Projection::Mortality,
-    Projection::Longevity,
-    Projection::Disability,
-    Projection::Expense,
-    Projection::Revision,
-    Projection::LapseUp,
-    Projection::LapseDown,
-    Projection::LapseMass,
-    Projection::Catastrophe,
-];
 
 fn projection_word(projection: Projection) -> &'static [u8]
     ensures { result.now ≡ spec.projection_word projection }

@@ -13,9 +13,9 @@ use Rattle.scr_agg.proofs.Enclosed.{gross_encloses, net_encloses}
 use Rattle.scr_agg.proofs.NetAmounts.{Encloses-net}
 use Rattle.scr_rate.proofs.Costs.{outcomes_enclosed}
 use Rattle.scr_market.proofs.EquityBounds.{enclose_equity}
-use Rattle.scr_sheet.specs.BalanceSheet.{BalanceSheet}
+use Rattle.scr_sheet.specs.declared.sheet.BalanceSheet.{BalanceSheet}
 use Rattle.scr_sheet.specs.Validity.{Valid}
-use Rattle.scr_sheet.proofs.TableRows.{All-append}
+use Rattle.scr_names.proofs.TableRows.{All-append}
 use Rattle.scr_figures.specs.Equity.{equity_sums}
 use Rattle.scr_figures.specs.Interest.{losses, up_absorption, down_absorption, rise_outcome, fall_outcome, decisive_outcome}
 use Rattle.scr_figures.specs.InterestWorked.{losses_ends, rise_ends, fall_ends, rise_and_fall, interest_gross, interest_net}

@@ -2,7 +2,8 @@
 use Rattle.std.proofs.Common.{None, ◌≡◌, ℕ, ◌+◌, ◌≤◌, ◌<◌, Bool, true, false, cond, List, [], length, take, get_or, sum_by, ap, ◌∙◌, arith}
 use Rattle.std.specs.List.{sum}
 use Rattle.std.proofs.lemmas.List.Sums.{sum_by_more_le, sum_by-take-le, sum_by-le-sum_by, sum-map}
-use Rattle.scr_sheet.specs.BalanceSheet.{BalanceSheet, euro}
+use Rattle.scr_sheet.specs.BalanceSheet.{euro}
+use Rattle.scr_sheet.specs.declared.sheet.BalanceSheet.{BalanceSheet}
 use Rattle.scr_sheet.specs.declared.limits.TheConstants.{MAX_HELD}
 use Rattle.scr_sheet.specs.declared.rows.Class.{Class}
 use Rattle.scr_sheet.specs.declared.rows.Class.TheVariants.{Type1Equity}

@@ -11,14 +11,15 @@ use Rattle.scr_agg.specs.Unbeaten.{Alternative, unbeaten, chosen_gross, chosen_n
 use Rattle.scr_rate.specs.InterestEnds.{scenario_ends, interest_ends}
 use Rattle.scr_curve.specs.declared.tilt.Tilt.{Tilt}
 use Rattle.scr_curve.specs.declared.tilt.Tilt.TheVariants.{Up, Down}
-use Rattle.scr_sheet.specs.Names.{same_name}
-use Rattle.scr_sheet.specs.BalanceSheet.{BalanceSheet, curve_name}
+use Rattle.scr_names.specs.Names.{same_name}
+use Rattle.scr_sheet.specs.BalanceSheet.{curve_name}
+use Rattle.scr_sheet.specs.declared.sheet.BalanceSheet.{BalanceSheet}
 use Rattle.scr_sheet.specs.Validity.{Valid}
 use Rattle.scr_sheet.specs.declared.limits.TheConstants.{MAX_HELD}
 use Rattle.scr_sheet.specs.declared.rows.Curve.{Curve}
 use Rattle.scr_sheet.specs.declared.rows.Liability.{Liability}
 use Rattle.scr_sheet.specs.declared.rows.Position.{Position}
-use Rattle.scr_sheet.proofs.TableRows.{same_or_other, same_name-is}
+use Rattle.scr_names.proofs.TableRows.{same_or_other, same_name-is}
 use Rattle.scr_figures.specs.Amounts.{amounts_of}
 use Rattle.scr_figures.specs.Interest.{up_absorption, down_absorption}
 use Rattle.scr_figures.specs.InterestWorked.{sum_ends_in, security_ends, line_ends, currency_ends, losses_ends, rise_ends, fall_ends, rise_and_fall, interest_gross, interest_net, interest_is_close}

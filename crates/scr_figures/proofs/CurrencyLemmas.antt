@@ -13,8 +13,8 @@ use Rattle.scr_curve.specs.declared.tilt.Tilt.{Tilt}
 use Rattle.scr_agg.proofs.ExactAmounts.{Encloses-greater}
 use Rattle.scr_rate.specs.InterestRisk.{counted}
 use Rattle.scr_rate.specs.InterestEnds.{EncloseLosses}
-use Rattle.scr_sheet.specs.Names.{same_name}
-use Rattle.scr_sheet.specs.BalanceSheet.{BalanceSheet}
+use Rattle.scr_names.specs.Names.{same_name}
+use Rattle.scr_sheet.specs.declared.sheet.BalanceSheet.{BalanceSheet}
 use Rattle.scr_sheet.specs.Validity.{IsCurve}
 use Rattle.scr_sheet.specs.declared.rows.Position.{Position}
 use Rattle.scr_sheet.specs.declared.rows.Liability.{Liability}

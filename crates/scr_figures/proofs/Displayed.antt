@@ -7,7 +7,7 @@ use Rattle.scr_num.specs.Rounding.{Ends}
 use Rattle.scr_agg.specs.Absorbed.{net_ends}
 use Rattle.scr_agg.specs.Unbeaten.{Alternative}
 use Rattle.scr_market.specs.EquityEnds.{type1_ends, type2_ends, infra_ends, infracorp_ends, equity_ends}
-use Rattle.scr_sheet.specs.BalanceSheet.{BalanceSheet}
+use Rattle.scr_sheet.specs.declared.sheet.BalanceSheet.{BalanceSheet}
 use Rattle.scr_sheet.specs.Validity.{IsBetween}
 use Rattle.scr_sheet.specs.declared.limits.TheConstants.{MAX_SYM}
 use Rattle.scr_figures.specs.Cells.{Shown, cells, shown_cells, interest_cells, equity_cells, worked_equity, adjustment, equity_absorption}

@@ -15,7 +15,8 @@ use Rattle.scr_curve.specs.declared.tilt.Tilt.{Tilt}
 use Rattle.scr_curve.specs.declared.tilt.Tilt.TheVariants as tilts
 use Rattle.scr_flow.specs.Due.{due_in}
 use Rattle.scr_flow.specs.Sums.{differences, weighted_ends}
-use Rattle.scr_sheet.specs.BalanceSheet.{BalanceSheet, security_years, line_years}
+use Rattle.scr_sheet.specs.BalanceSheet.{security_years, line_years}
+use Rattle.scr_sheet.specs.declared.sheet.BalanceSheet.{BalanceSheet}
 use Rattle.scr_sheet.specs.CashFlows.{total, years_of, greatest_years}
 use Rattle.scr_sheet.specs.Forms.{AreOnDays}
 use Rattle.scr_sheet.specs.Validity.{Valid, IsSecurity, IsLine}

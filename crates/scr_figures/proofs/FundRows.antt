@@ -11,17 +11,18 @@ use Rattle.scr_funds.specs.Chains.{IsAcyclic}
 use Rattle.scr_funds.specs.LookThrough.{Weighted, names_in}
 use Rattle.scr_funds.proofs.Cycles.{acyclic_weaker}
 use Rattle.scr_funds.proofs.NamedTotals.{acyclic-by_number}
-use Rattle.scr_sheet.specs.Names.{same_name}
-use Rattle.scr_sheet.specs.Tables.{row_of}
+use Rattle.scr_names.specs.Names.{same_name}
+use Rattle.scr_names.specs.Tables.{row_of}
 use Rattle.scr_sheet.specs.Records.{natural}
 use Rattle.scr_sheet.specs.Forms.{IsName}
 use Rattle.scr_sheet.specs.Totals.{shared, shared_funds}
-use Rattle.scr_sheet.specs.BalanceSheet.{BalanceSheet, stake_name, position_name, components_of}
+use Rattle.scr_sheet.specs.BalanceSheet.{stake_name, position_name, components_of}
+use Rattle.scr_sheet.specs.declared.sheet.BalanceSheet.{BalanceSheet}
 use Rattle.scr_sheet.specs.Validity.{Valid, IsHeld, IsStake, IsBetween}
 use Rattle.scr_sheet.specs.declared.limits.TheConstants.{MIN_WEIGHT, MAX_WEIGHT}
 use Rattle.scr_sheet.specs.declared.rows.Fund.{Fund}
 use Rattle.scr_sheet.specs.declared.rows.Stake.{Stake}
-use Rattle.scr_sheet.proofs.TableRows.{same_name-is, same_name-itself, All-both}
+use Rattle.scr_names.proofs.TableRows.{same_name-is, same_name-itself, All-both}
 use Rattle.scr_figures.specs.ByNumber.{names_by_number, component_by_number, row_by_number, rows_by_number}
 use Rattle.scr_figures.proofs.HolderNames.{name_at, count-names, names-once, one_to_one, numbered-name}
 

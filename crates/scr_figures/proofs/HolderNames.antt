@@ -6,15 +6,16 @@ use Rattle.std.proofs.lemmas.List.{get_or_append_left, get_or-append-add, length
 use Rattle.std.proofs.lemmas.List.Elements.{All-from_recursion}
 use Rattle.std.proofs.lemmas.Option.{get_or_from_slice_get, slice_get_within, slice_get-get_or}
 use Rattle.scr_funds.proofs.Members.{IsMember, IsMember-left, IsMember-right, at_member}
-use Rattle.scr_sheet.specs.Names.{same_name}
-use Rattle.scr_sheet.specs.Tables.{has_row}
-use Rattle.scr_sheet.specs.BalanceSheet.{BalanceSheet, group_name, position_name, line_name, bank_name, rein_name, stake_name, names_of, stake_of}
+use Rattle.scr_names.specs.Names.{same_name}
+use Rattle.scr_names.specs.Tables.{has_row}
+use Rattle.scr_sheet.specs.BalanceSheet.{group_name, position_name, line_name, bank_name, rein_name, stake_name, names_of, stake_of}
+use Rattle.scr_sheet.specs.declared.sheet.BalanceSheet.{BalanceSheet}
 use Rattle.scr_sheet.specs.Validity.{IsHeld}
 use Rattle.scr_sheet.specs.declared.keys.Table.{Table}
 use Rattle.scr_sheet.specs.declared.keys.Table.TheVariants as tables
 use Rattle.scr_sheet.specs.declared.rows.Position.{Position}
 use Rattle.scr_sheet.proofs.Holds.{distinct-right, distinct-securities, distinct-funds, no_fund}
-use Rattle.scr_sheet.proofs.TableRows.{IsFresh, All-append, All-map, same_name-itself, same_name-flip, same_name-is, same_or_other, row_of-later, fresh_from_has_row}
+use Rattle.scr_names.proofs.TableRows.{IsFresh, All-append, All-map, same_name-itself, same_name-flip, same_name-is, same_or_other, row_of-later, fresh_from_has_row}
 use Rattle.scr_book.specs.Places.{names_in, shares_names}
 use Rattle.scr_figures.specs.ByNumber.{names_by_number, place_among, number_of}
 

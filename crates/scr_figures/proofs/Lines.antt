@@ -2,8 +2,9 @@
 use Rattle.std.proofs.Common.{◌≡◌, ℕ, ◌*◌, ◌≤◌, true, List, [], refl, ap, subst, ◌∙◌, arith, pos}
 use Rattle.scr_num.specs.Rounding.{Ends, exact_ends, sub_ends}
 use Rattle.scr_curve.specs.declared.tilt.Tilt.{Tilt}
-use Rattle.scr_sheet.specs.Names.{same_name}
-use Rattle.scr_sheet.specs.BalanceSheet.{BalanceSheet, euro}
+use Rattle.scr_names.specs.Names.{same_name}
+use Rattle.scr_sheet.specs.BalanceSheet.{euro}
+use Rattle.scr_sheet.specs.declared.sheet.BalanceSheet.{BalanceSheet}
 use Rattle.scr_sheet.specs.CashFlows.{total, no_flows}
 use Rattle.scr_sheet.specs.declared.rows.Curve.{Curve}
 use Rattle.scr_sheet.specs.declared.rows.Liability.{Liability}

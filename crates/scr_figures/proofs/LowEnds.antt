@@ -9,7 +9,7 @@ use Rattle.scr_agg.specs.Unbeaten.{Alternative, alternative_at, unbeaten, hull_o
 use Rattle.scr_rate.specs.InterestEnds.{sum_ends, gross_ends, scenario_ends}
 use Rattle.scr_curve.specs.declared.tilt.Tilt.{Tilt}
 use Rattle.scr_curve.specs.declared.tilt.Tilt.TheVariants.{Up, Down}
-use Rattle.scr_sheet.specs.BalanceSheet.{BalanceSheet}
+use Rattle.scr_sheet.specs.declared.sheet.BalanceSheet.{BalanceSheet}
 use Rattle.scr_sheet.specs.declared.rows.Curve.{Curve}
 use Rattle.scr_figures.specs.Interest.{up_absorption, down_absorption}
 use Rattle.scr_figures.specs.InterestWorked.{currency_ends, losses_ends, rise_ends, fall_ends, interest_gross, interest_net}

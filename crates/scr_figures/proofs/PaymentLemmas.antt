@@ -18,7 +18,7 @@ use Rattle.scr_flow.specs.Sums.{differences, weighted_ends}
 use Rattle.scr_flow.proofs.SumLemmas.{Encloses-weighted, length-differences}
 use Rattle.scr_flow.proofs.LossLemmas.{differences_enclose}
 use Rattle.std.specs.Prelude.{All}
-use Rattle.scr_sheet.specs.BalanceSheet.{BalanceSheet}
+use Rattle.scr_sheet.specs.declared.sheet.BalanceSheet.{BalanceSheet}
 use Rattle.scr_sheet.specs.Validity.{IsCurve}
 use Rattle.scr_sheet.specs.declared.rows.Curve.{Curve}
 use Rattle.scr_figures.specs.Interest.{due_yearly, payments_loss}

@@ -1,6 +1,6 @@
 -- What is held of each security and of the closed funds, directly and through funds: the totals by number are those by name,
 -- and together they are all that is held.
-use Rattle.std.proofs.Common.{◌≡◌, ℕ, suc, ◌+◌, ◌-◌, ◌*◌, ◌^◌, ◌<◌, ◌≤◌, ℤ, Bool, true, false, cond, List, [], ◌∷◌, ◌++◌, map, length, filter, get_or, take, drop, sum, sum_by, nat_eq, None, if◌then◌else◌, Contains, refl, sym, ap, subst, ◌∙◌, arith, zero-add}
+use Rattle.std.proofs.Common.{◌≡◌, ℕ, suc, ◌+◌, ◌-◌, ◌*◌, ◌^◌, ◌<◌, ◌≤◌, ℤ, Bool, true, List, [], ◌∷◌, ◌++◌, map, length, filter, get_or, take, drop, sum, sum_by, nat_eq, None, if◌then◌else◌, Contains, refl, sym, ap, subst, ◌∙◌, arith}
 use Rattle.std.specs.List.{All, AllByRecursion, IsDistinct, range_with_len}
 use Rattle.std.specs.Option.{option_map_or}
 use Rattle.std.proofs.lemmas.Bool.{ne_eqb}
@@ -14,36 +14,24 @@ use Rattle.scr_funds.specs.LookThrough.{Shared, is_last, total}
 use Rattle.scr_funds.proofs.LookThroughLaws.{totals_whole, names_in-own}
 use Rattle.scr_funds.proofs.Members.{IsMember, IsMember-left, IsMember-mapped, Contains-from_IsMember, at_member, each-from_members}
 use Rattle.scr_funds.proofs.NamedTotals.{total-named}
-use Rattle.scr_funds.proofs.SumsBy.{sum_by-same, sum_by-map}
-use Rattle.scr_sheet.specs.Names.{same_name}
+use Rattle.scr_funds.proofs.SumsBy.{sum_by-same, sum_by-map, sum_by-filter}
+use Rattle.scr_names.specs.Names.{same_name}
 use Rattle.scr_sheet.specs.Records.{natural}
 use Rattle.scr_sheet.specs.Forms.{IsName}
 use Rattle.scr_sheet.specs.Totals.{shared, shared_funds, total_of}
-use Rattle.scr_sheet.specs.BalanceSheet.{BalanceSheet, stake_name, position_name, stake_of, held_of, held_total}
+use Rattle.scr_sheet.specs.BalanceSheet.{stake_name, position_name, stake_of, held_of, held_total}
+use Rattle.scr_sheet.specs.declared.sheet.BalanceSheet.{BalanceSheet}
 use Rattle.scr_sheet.specs.Validity.{Valid, IsHeld, IsStake, IsBetween}
 use Rattle.scr_sheet.specs.declared.limits.TheConstants.{MAX_HELD, MIN_WEIGHT, MAX_WEIGHT}
 use Rattle.scr_sheet.specs.declared.rows.Position.{Position}
 use Rattle.scr_sheet.specs.declared.rows.Stake.{Stake}
 use Rattle.scr_sheet.proofs.Holds.{distinct-funds, no_fund, sum-held_of}
-use Rattle.scr_sheet.proofs.TableRows.{same_name-is, same_name-itself, All-map}
+use Rattle.scr_names.proofs.TableRows.{same_name-is, same_name-itself, All-map}
 use Rattle.scr_figures.specs.Amounts.{amount_of, amounts_of, is_closed, closed_total}
 use Rattle.scr_figures.specs.ByNumber.{names_by_number, rows_by_number}
 use Rattle.scr_figures.proofs.ClassTotals.{no_stake}
 use Rattle.scr_figures.proofs.FundRows.{each-map, weighted, weight-within, names-in-is, acyclic-names, apart-numbers, funds-named, funds-below, components-below}
 use Rattle.scr_figures.proofs.HolderNames.{name_at, map-names, names-once, holder-member}
-
--- the sum over those that pass a test
-sum_by-filter : {X : Type 0} (f : X → ℕ) (p : X → Bool) (xs : List X) → sum_by f (filter p xs) ≡ sum_by (λ x. if p x then f x else 0) xs
-sum_by-filter f p [] = refl
-sum_by-filter f p (x ∷ xs) = by (p x) refl (sum_by-filter f p xs)
-  where
-    by : (t : Bool) → p x ≡ t → sum_by f (filter p xs) ≡ sum_by (λ y. if p y then f y else 0) xs → sum_by f (filter p (x ∷ xs)) ≡ sum_by (λ y. if p y then f y else 0) (x ∷ xs)
-    by true e later =
-        ap (λ b. sum_by f (cond b (x ∷ filter p xs) (filter p xs))) e ∙ sum_by-cons f x (filter p xs) ∙ ap (λ n. f x + n) later
-        ∙ ap (λ b. (if b then f x else 0) + sum_by (λ y. if p y then f y else 0) xs) (sym e) ∙ sym (sum_by-cons (λ y. if p y then f y else 0) x xs)
-    by false e later =
-        ap (λ b. sum_by f (cond b (x ∷ filter p xs) (filter p xs))) e ∙ later ∙ sym (zero-add (sum_by (λ y. if p y then f y else 0) xs))
-        ∙ ap (λ b. (if b then f x else 0) + sum_by (λ y. if p y then f y else 0) xs) (sym e) ∙ sym (sum_by-cons (λ y. if p y then f y else 0) x xs)
 
 shared-names : (stakes : List Stake) → map (λ (fund : Shared (List ℕ)). fund.0) (map shared stakes) ≡ map stake_name stakes
 shared-names [] = refl

@@ -1,7 +1,7 @@
 -- What is held of each security and of the closed funds, directly and through funds, in cents: the look-through approach
 -- (Article 84 of Delegated Regulation (EU) 2015/35).
 use Rattle.std.specs.Prelude.{ℕ, Bool, true, false, List, [], ◌∷◌, map, sum_by, if◌then◌else◌}
-use Rattle.scr_sheet.specs.BalanceSheet.{BalanceSheet}
+use Rattle.scr_sheet.specs.declared.sheet.BalanceSheet.{BalanceSheet}
 use Rattle.scr_sheet.specs.Totals.{total_of}
 use Rattle.scr_sheet.specs.declared.rows.Position.{Position}
 use Rattle.scr_sheet.specs.declared.rows.Stake.{Stake}

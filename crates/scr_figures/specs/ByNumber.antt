@@ -2,8 +2,9 @@
 -- the securities after them.
 use Rattle.std.specs.Prelude.{ℕ, ℤ, suc, List, [], ◌∷◌, ◌++◌, map, if◌then◌else◌}
 use Rattle.scr_funds.specs.LookThrough.{Weighted}
-use Rattle.scr_sheet.specs.Names.{same_name}
-use Rattle.scr_sheet.specs.BalanceSheet.{BalanceSheet, stake_name, position_name}
+use Rattle.scr_names.specs.Names.{same_name}
+use Rattle.scr_sheet.specs.BalanceSheet.{stake_name, position_name}
+use Rattle.scr_sheet.specs.declared.sheet.BalanceSheet.{BalanceSheet}
 use Rattle.scr_sheet.specs.Records.{natural}
 use Rattle.scr_sheet.specs.declared.rows.Stake.{Stake}
 

@@ -9,7 +9,7 @@ use Rattle.scr_num.specs.Enclosure.{Encloses}
 use Rattle.scr_agg.specs.Absorbed.{net_ends, net_figure}
 use Rattle.scr_market.specs.Equity.{type1_figure, type2_figure, infra_figure, infracorp_figure, equity_figure}
 use Rattle.scr_market.specs.EquityEnds.{type1_ends, type2_ends, infra_ends, infracorp_ends, equity_ends}
-use Rattle.scr_sheet.specs.BalanceSheet.{BalanceSheet}
+use Rattle.scr_sheet.specs.declared.sheet.BalanceSheet.{BalanceSheet}
 use Rattle.scr_sheet.specs.Absorptions.{absorbed}
 use Rattle.scr_sheet.specs.declared.keys.AbsorbKey.TheVariants as absorb
 use Rattle.scr_figures.specs.CellNames.{name_text}

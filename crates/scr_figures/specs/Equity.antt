@@ -1,6 +1,6 @@
 -- What the equity risk sub-module takes from a balance sheet (Articles 168 to 173 of Delegated Regulation (EU) 2015/35).
 use Rattle.std.specs.Prelude.{ℕ, ◌+◌, Bool, true, false, List, [], ◌∷◌, if◌then◌else◌, sum_by}
-use Rattle.scr_sheet.specs.BalanceSheet.{BalanceSheet}
+use Rattle.scr_sheet.specs.declared.sheet.BalanceSheet.{BalanceSheet}
 use Rattle.scr_sheet.specs.declared.rows.Class.{Class}
 use Rattle.scr_sheet.specs.declared.rows.Class.TheVariants.{Type1Equity, Type1Strategic, Type2Equity, Type2Strategic, Infrastructure, InfrastructureCorporate, Property, Bond, Government, Other}
 use Rattle.scr_sheet.specs.declared.rows.Position.{Position}

@@ -12,8 +12,8 @@ use Rattle.scr_flow.specs.Due.{due_in}
 use Rattle.scr_flow.specs.Loss.{loss}
 use Rattle.scr_agg.specs.Choice.{Outcome}
 use Rattle.scr_rate.specs.InterestRisk.{scenario_outcome, interest_outcome}
-use Rattle.scr_sheet.specs.Names.{same_name}
-use Rattle.scr_sheet.specs.BalanceSheet.{BalanceSheet}
+use Rattle.scr_names.specs.Names.{same_name}
+use Rattle.scr_sheet.specs.declared.sheet.BalanceSheet.{BalanceSheet}
 use Rattle.scr_sheet.specs.Absorptions.{absorbed}
 use Rattle.scr_sheet.specs.declared.keys.AbsorbKey.TheVariants as absorb
 use Rattle.scr_sheet.specs.declared.rows.Position.{Position}

@@ -12,8 +12,8 @@ use Rattle.scr_curve.specs.declared.tilt.Tilt.TheVariants.{Base, Up, Down}
 use Rattle.scr_flow.specs.Sums.{differences, weighted_ends}
 use Rattle.scr_agg.specs.Unbeaten.{Alternative, unbeaten, chosen_gross, chosen_net}
 use Rattle.scr_rate.specs.InterestEnds.{scenario_ends}
-use Rattle.scr_sheet.specs.Names.{same_name}
-use Rattle.scr_sheet.specs.BalanceSheet.{BalanceSheet}
+use Rattle.scr_names.specs.Names.{same_name}
+use Rattle.scr_sheet.specs.declared.sheet.BalanceSheet.{BalanceSheet}
 use Rattle.scr_sheet.specs.declared.rows.Position.{Position}
 use Rattle.scr_sheet.specs.declared.rows.Liability.{Liability}
 use Rattle.scr_sheet.specs.declared.rows.Curve.{Curve}

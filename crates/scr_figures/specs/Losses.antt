@@ -1,8 +1,8 @@
 -- The losses of one row, and how large losses are (this project's own). All are in 10^-18 cents.
 use Rattle.std.specs.Prelude.{ℕ, pos, ◌+◌, ◌*◌, ◌≤◌, List, if◌then◌else◌, sum_by, unsigned_abs}
 use Rattle.scr_num.specs.Rounding.{Ends, exact_ends}
-use Rattle.scr_sheet.specs.Names.{same_name}
-use Rattle.scr_sheet.specs.BalanceSheet.{BalanceSheet}
+use Rattle.scr_names.specs.Names.{same_name}
+use Rattle.scr_sheet.specs.declared.sheet.BalanceSheet.{BalanceSheet}
 use Rattle.scr_sheet.specs.CashFlows.{total}
 use Rattle.scr_sheet.specs.declared.rows.Position.{Position}
 use Rattle.scr_sheet.specs.declared.rows.Liability.{Liability}

@@ -1,5 +1,5 @@
 //! What the definitions of the figures come to, whatever a program does.
-ghost use Rattle.scr_sheet.specs.BalanceSheet.{BalanceSheet};
+ghost use Rattle.scr_sheet.specs.declared.sheet.BalanceSheet.{BalanceSheet};
 ghost use Rattle.scr_sheet.specs.Validity.{Valid};
 ghost use Rattle.scr_figures.specs.Cells.{AreEnclosed, WorkedEncloses, equity_cells};
 

@@ -7,7 +7,7 @@ ghost use Rattle.scr_dates.specs.declared.term.Maturity.TheVariants.{TooFar};
 ghost use Rattle.scr_curve.specs.declared.tilt.Tilt.TheVariants.{Up, Down};
 ghost use Rattle.scr_flow.specs.Sums.{differences, weighted_ends};
 ghost use Rattle.scr_curve.specs.Table.{table_ends};
-ghost use Rattle.scr_sheet.specs.BalanceSheet.{BalanceSheet};
+ghost use Rattle.scr_sheet.specs.declared.sheet.BalanceSheet.{BalanceSheet};
 ghost use Rattle.scr_sheet.specs.CashFlows.{total};
 ghost use Rattle.scr_sheet.specs.declared.limits.TheConstants.{MAX_HELD};
 ghost use Rattle.scr_sheet.specs.declared.rows.Curve.{Curve};

@@ -11,8 +11,8 @@ use Rattle.scr_funds.proofs.Members.{IsMember, IsMember-from_Contains, IsMember-
 use Rattle.scr_funds.proofs.Rows.{with-other, none_left, with_edges-is, size_of-with_edges}
 use Rattle.scr_funds.proofs.Naming.{leads_to_named, leads_to_of_named}
 use Rattle.scr_funds.proofs.NamedPaths.{no_cycle_named, cycle_named}
-use Rattle.scr_sheet.specs.Names.{same_name}
-use Rattle.scr_sheet.proofs.TableRows.{same_name-itself, same_name-is, same_or_other}
+use Rattle.scr_names.specs.Names.{same_name}
+use Rattle.scr_names.proofs.TableRows.{same_name-itself, same_name-is, same_or_other}
 use Rattle.scr_graph.specs.Graph.{Graph, number_in, entered_in, components_under, components_after, AreEntered, AreEnteredOr}
 use Rattle.scr_graph.specs.GraphKept.{node_name, graph_of, IsKept}
 use Rattle.scr_graph.specs.declared.graph.FundGraph.TheInside.{Inside}

@@ -3,9 +3,9 @@ use Rattle.std.proofs.Common.{◌≡◌, ℕ, zero, suc, ◌<◌, false, ◌||�
 use Rattle.std.specs.List.{list_any}
 use Rattle.std.specs.Option.{option_map}
 use Rattle.std.proofs.lemmas.Bool.{true≢false}
-use Rattle.scr_sheet.specs.Names.{same_name}
-use Rattle.scr_sheet.specs.Tables.{has_row, with_row}
-use Rattle.scr_sheet.proofs.TableRows.{same_or_other, row_of-here, row_of-later, with_row-later}
+use Rattle.scr_names.specs.Names.{same_name}
+use Rattle.scr_names.specs.Tables.{has_row, with_row}
+use Rattle.scr_names.proofs.TableRows.{same_or_other, row_of-here, row_of-later, with_row-later}
 
 module _ {Row : Type 0} (name_of : Row → List ℕ) where
   -- the row at a place has that name

@@ -3,8 +3,8 @@ use Rattle.std.proofs.Common.{◌≡◌, ℕ, zero, suc, ◌<◌, ◌≤◌, Boo
 use Rattle.std.specs.List.{list_any, AllByRecursion, IsDistinct}
 use Rattle.std.proofs.lemmas.Bool.{true≢false}
 use Rattle.scr_funds.proofs.Members.{IsMember, Contains-from_IsMember}
-use Rattle.scr_sheet.specs.Names.{same_name}
-use Rattle.scr_sheet.proofs.TableRows.{same_name-itself, same_name-flip, same_name-is, same_or_other}
+use Rattle.scr_names.specs.Names.{same_name}
+use Rattle.scr_names.proofs.TableRows.{same_name-itself, same_name-flip, same_name-is, same_or_other}
 use Rattle.scr_graph.specs.Graph.{number_in}
 
 -- what holds of each holds of a member

@@ -3,7 +3,7 @@
 use Rattle.std.specs.Prelude.{ℕ, zero, suc, ℤ, ◌||◌, Bool, List, [], ◌∷◌, All, IsTrue, if◌then◌else◌, map, slice_index_or}
 use Rattle.std.specs.List.{list_any}
 use Rattle.scr_funds.specs.Components.{Components, components_of}
-use Rattle.scr_sheet.specs.Names.{same_name}
+use Rattle.scr_names.specs.Names.{same_name}
 
 -- the names that were entered, in their order, and for each number the numbers of its components
 pub record Graph : Type 0 where

@@ -1,8 +1,8 @@
--- How the graph of the funds is kept: a row for each name, and the order of their numbers.
+-- How the graph of the funds is kept (this project's own): a row for each name, and the order of their numbers.
 use Rattle.std.specs.Prelude.{ℕ, ◌≤◌, ◌<◌, ◌^◌, List, map, length}
 use Rattle.std.specs.List.{IsDistinct}
 use Rattle.scr_funds.specs.Components.{IsOrder, size_of}
-use Rattle.scr_sheet.specs.Names.{same_name}
+use Rattle.scr_names.specs.Names.{same_name}
 use Rattle.scr_graph.specs.Graph.{Graph}
 use Rattle.scr_graph.specs.declared.graph.Node.{Node}
 use Rattle.scr_graph.specs.declared.graph.FundGraph.TheInside.{Inside}

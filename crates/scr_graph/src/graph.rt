@@ -1,14 +1,14 @@
 //! Which funds hold which, by name.
 ghost use Rattle.std.specs.Prelude.{◌≡◌, ℕ, ◌+◌, ◌<◌, ◌≤◌, ◌^◌, ◌||◌, List, [], length, map, Contains, IsTrue, false, OnOk, OnErr, IfOk, slice_index_or};
-ghost use Rattle.std.specs.Option.{option_map};
 ghost use Rattle.scr_funds.specs.Chains.{IsAcyclic, LeadsTo};
 ghost use Rattle.scr_funds.specs.Paths.{path_within};
-ghost use Rattle.scr_sheet.specs.Faults.{Answers};
-ghost use Rattle.scr_sheet.specs.Names.{same_name};
+ghost use Rattle.scr_names.specs.Names.{same_name};
+ghost use Rattle.scr_graph.specs.Answers.{Answers};
 ghost use Rattle.scr_graph.specs.Graph.{number_in, entered_in, components_under, components_after, AreEntered, AreEnteredOr};
 
+use crate::GraphFault;
 use scr_funds::{FundOrder, OrderFault};
-use scr_sheet::{Fault, Name, Names, Row, Rows};
+use scr_names::{Name, Names, Row, Rows};
 use std::alloc::{AllocError as NoMemory, Global};
 use std::marker::Model;
 
@@ -85,23 +85,28 @@ impl FundGraph {
     /// would then hold itself, and tells the first shortest chain by which it would. The fund may be one that was
     /// not entered, and be a component of itself. `most` may be any number that is at least that of the names that would
     /// have components.
-    pub fn check(&self, alloc: Global, fund: &Name, components: &[(Name, i64)]) -> Result<(), Fault>
+    pub fn check(
+        &self,
+        alloc: Global,
+        fund: &Name,
+        components: &[(Name, i64)],
+    ) -> Result<(), GraphFault>
         requires { AreEnteredOr fund.now components.now self.now }
         ensures answer { let after = components_after fund.now components.now self.now in
             (most : ℕ) (holders : List (List ℕ)) → ((x : List ℕ) → ¬ (after x ≡ []) → Contains holders x) → length holders ≤ most
-            → Answers (option_map (λ path. Fault.Cycle path) (path_within same_name after most fund.now fund.now)) result }
+            → Answers (path_within same_name after most fund.now fund.now) result }
         ensures apart { OnOk result (¬ LeadsTo (components_after fund.now components.now self.now) fund.now fund.now) }
     {
         let numbers = match self.numbers(alloc, components) {
             Ok(numbers) => numbers,
-            Err(NoMemory) => return Err(Fault::NoMemory),
+            Err(NoMemory) => return Err(GraphFault::NoMemory),
         };
         match self.order.check_edges(alloc, self.number(fund), &numbers) {
             Ok(()) => Ok(()),
-            Err(OrderFault::NoMemory) => Err(Fault::NoMemory),
+            Err(OrderFault::NoMemory) => Err(GraphFault::NoMemory),
             Err(OrderFault::Cycle(path)) => match self.names(alloc, fund, path.as_slice()) {
-                Ok(names) => Err(Fault::Cycle(Names::new(names))),
-                Err(NoMemory) => Err(Fault::NoMemory),
+                Ok(names) => Err(GraphFault::Cycle(Names::new(names))),
+                Err(NoMemory) => Err(GraphFault::NoMemory),
             },
         }
     }

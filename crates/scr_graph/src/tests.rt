@@ -1,8 +1,8 @@
 //! A fund that would hold itself is refused with its path, and each call succeeds where memory is ample.
 ghost use Rattle.scr_graph.specs.Graph.{AreEnteredOr};
 
-use crate::FundGraph;
-use scr_sheet::{Fault, Name, Names};
+use crate::{FundGraph, GraphFault};
+use scr_names::{Name, Names};
 use std::alloc::{AllocError as NoMemory, Global};
 use std::process::Abort;
 use std::test::Fail;
@@ -17,32 +17,37 @@ fn set(
     alloc: Global,
     fund: Name,
     components: &[(Name, i64)],
-) -> Result<(), Fault>
+) -> Result<(), GraphFault>
     requires { AreEnteredOr fund components.now graph.old }
 {
     if let Err(fault) = graph.check(alloc, &fund, components) {
         return Err(fault);
     }
     if let Err(NoMemory) = graph.enter(fund) {
-        return Err(Fault::NoMemory);
+        return Err(GraphFault::NoMemory);
     }
     match graph.put(alloc, &fund, components) {
         Ok(()) => Ok(()),
-        Err(NoMemory) => Err(Fault::NoMemory),
+        Err(NoMemory) => Err(GraphFault::NoMemory),
     }
 }
 
 /// Enters the component, and gives the fund it alone.
-fn hold(graph: &mut FundGraph, alloc: Global, fund: Name, component: Name) -> Result<(), Fault> {
+fn hold(
+    graph: &mut FundGraph,
+    alloc: Global,
+    fund: Name,
+    component: Name,
+) -> Result<(), GraphFault> {
     if let Err(NoMemory) = graph.enter(component) {
-        return Err(Fault::NoMemory);
+        return Err(GraphFault::NoMemory);
     }
     set(graph, alloc, fund, &[(component, 1)])
 }
 
-fn refused_path(rt: &impl Abort, answer: Result<(), Fault>) -> Names {
+fn refused_path(rt: &impl Abort, answer: Result<(), GraphFault>) -> Names {
     match answer {
-        Err(Fault::Cycle(path)) => path,
+        Err(GraphFault::Cycle(path)) => path,
         _ => panic!(rt; "no cycle"),
     }
 }

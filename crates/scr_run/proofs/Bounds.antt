@@ -1,8 +1,8 @@
 -- Each pair of printed bounds encloses the exact figure of its cell.
-use Rattle.std.proofs.Common.{ℕ, lit<}
+use Rattle.std.proofs.Common.{lit<}
 use Rattle.std.specs.Prelude.{List, [], ◌∷◌}
 use Rattle.scr_num.proofs.Enclosing.{Encloses-coarser}
-use Rattle.scr_sheet.specs.BalanceSheet.{BalanceSheet}
+use Rattle.scr_sheet.specs.declared.sheet.BalanceSheet.{BalanceSheet}
 use Rattle.scr_sheet.specs.Validity.{Valid}
 use Rattle.scr_figures.specs.Cells.{Cell, AreEnclosed, cells, equity_cells}
 use Rattle.scr_figures.proofs.CellLemmas.{worked_encloses, equity_enclosed}

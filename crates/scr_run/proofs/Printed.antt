@@ -1,13 +1,12 @@
 -- Every balance sheet that a run prints is valid.
-use Rattle.std.proofs.Common.{◌≡◌, ◌⊎◌, inl, inr, ℕ, List, ◌∷◌, Result, Ok, Err, IfOk, sym, subst}
+use Rattle.std.proofs.Common.{◌≡◌, inl, inr, ℕ, List, ◌∷◌, Result, Ok, Err, IfOk, sym, subst}
 use Rattle.std.specs.List.{AllByRecursion}
-use Rattle.scr_sheet.specs.BalanceSheet.{BalanceSheet}
+use Rattle.scr_sheet.specs.declared.sheet.BalanceSheet.{BalanceSheet}
 use Rattle.scr_sheet.specs.Validity.{Valid}
 use Rattle.scr_sheet.specs.declared.fault.Fault.{Fault}
 use Rattle.scr_run.specs.BookFile.{recorded}
 use Rattle.scr_run.specs.Outcome.{IsEnded}
 use Rattle.scr_run.specs.Report.{accepted, if_accepted, after}
-use Rattle.scr_run.specs.declared.status.Status.{Status}
 use Rattle.scr_run.specs.declared.status.Status.TheVariants as statuses
 
 -- the sheet that a record leaves where it is accepted, and those that later ones leave

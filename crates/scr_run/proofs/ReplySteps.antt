@@ -2,7 +2,7 @@
 use Rattle.std.proofs.Common.{◌≡◌, ℕ, List, ◌∷◌, ◌++◌, ◌||◌, Bool, true, false, Option, is_err, refl, ap, sym, subst, ◌∙◌}
 use Rattle.std.specs.Io.KnownBytes.{Appends}
 use Rattle.scr_io.specs.Front.{AppendsFront}
-use Rattle.scr_sheet.specs.BalanceSheet.{BalanceSheet}
+use Rattle.scr_sheet.specs.declared.sheet.BalanceSheet.{BalanceSheet}
 use Rattle.scr_run.specs.BookFile.{recorded}
 use Rattle.scr_run.specs.Outcome.{Leaves}
 use Rattle.scr_run.specs.Report.{reply_text, replies, after, any_refused, opening_text, report_text}

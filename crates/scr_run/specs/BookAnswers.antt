@@ -1,7 +1,7 @@
 -- What the code answers where a balance sheet or a fault is due (this project's own). Want of memory may come in place of
 -- either.
 use Rattle.std.specs.Prelude.{◌≡◌, ℕ, Result, Ok, Err}
-use Rattle.scr_sheet.specs.BalanceSheet.{BalanceSheet}
+use Rattle.scr_sheet.specs.declared.sheet.BalanceSheet.{BalanceSheet}
 use Rattle.scr_sheet.specs.declared.fault.Fault.{Fault}
 use Rattle.scr_sheet.specs.declared.fault.Fault.TheVariants as faults
 use Rattle.scr_run.specs.declared.file.BookFault.{BookFault}

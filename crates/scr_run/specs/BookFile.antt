@@ -1,7 +1,8 @@
 -- The balance sheet that a book file gives (this project's own): its records are applied in order to the opening
 -- one, and the first that is refused is told with the number of its line.
 use Rattle.std.specs.Prelude.{ℕ, List, [], ◌∷◌, Option, Some, None, Result, Ok, Err}
-use Rattle.scr_sheet.specs.BalanceSheet.{BalanceSheet, opening}
+use Rattle.scr_sheet.specs.BalanceSheet.{opening}
+use Rattle.scr_sheet.specs.declared.sheet.BalanceSheet.{BalanceSheet}
 use Rattle.scr_sheet.specs.Records.{applied}
 use Rattle.scr_sheet.specs.Faults.{fault_of}
 use Rattle.scr_sheet.specs.declared.edit.Edit.{Edit}

@@ -7,7 +7,7 @@ use Rattle.scr_io.specs.Cause.{Rose}
 use Rattle.scr_io.specs.Content.{Content, Untold, Absent, Holds, IsPresentAnd}
 use Rattle.scr_io.specs.Front.{AppendsFront}
 use Rattle.scr_io.specs.declared.reading.TheConstants.{MAX_BYTES}
-use Rattle.scr_sheet.specs.BalanceSheet.{BalanceSheet}
+use Rattle.scr_sheet.specs.declared.sheet.BalanceSheet.{BalanceSheet}
 use Rattle.scr_sheet.specs.declared.fault.Fault.{Fault}
 use Rattle.scr_factors.specs.Reading.{values_in}
 use Rattle.scr_factors.specs.Values.{FactorValues}

@@ -5,7 +5,7 @@ use Rattle.std.specs.Prelude.{ℕ, ◌++◌, ◌||◌, Bool, true, false, List, 
 use Rattle.std.specs.List.{AllByRecursion}
 use Rattle.scr_num.specs.Rounding.{Ends, floor_div, ceil_div}
 use Rattle.scr_num.specs.Enclosure.{Encloses}
-use Rattle.scr_sheet.specs.BalanceSheet.{BalanceSheet}
+use Rattle.scr_sheet.specs.declared.sheet.BalanceSheet.{BalanceSheet}
 use Rattle.scr_sheet.specs.declared.fault.Fault.{Fault}
 use Rattle.scr_run.specs.BookFile.{recorded}
 use Rattle.scr_run.specs.FaultTexts.{fault_number, fault_text}

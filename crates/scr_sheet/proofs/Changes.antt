@@ -2,9 +2,10 @@
 use Rattle.std.proofs.Common.{◌≡◌, ℕ, false, List, [], ◌++◌, map, sym, subst, append_assoc, append-nil}
 use Rattle.std.specs.List.{AllByRecursion, IsDistinct}
 use Rattle.scr_funds.specs.Chains.{IsAcyclic}
-use Rattle.scr_sheet.specs.Names.{same_name}
-use Rattle.scr_sheet.specs.Tables.{has_row, with_row, without}
-use Rattle.scr_sheet.specs.BalanceSheet.{BalanceSheet, group_name, position_name, line_name, bank_name, rein_name, curve_name, stake_name, names_of, components_of, is_named}
+use Rattle.scr_names.specs.Names.{same_name}
+use Rattle.scr_names.specs.Tables.{has_row, with_row, without}
+use Rattle.scr_sheet.specs.BalanceSheet.{group_name, position_name, line_name, bank_name, rein_name, curve_name, stake_name, names_of, components_of, is_named}
+use Rattle.scr_sheet.specs.declared.sheet.BalanceSheet.{BalanceSheet}
 use Rattle.scr_sheet.specs.Validity.{Valid, AreWithin, AreNumbers, IsGroup, IsSecurity, IsStake, IsLine, IsBank, IsRein, IsCurve, HasGroup, HasGroupOrNone, HasCurrency, IsHeld}
 use Rattle.scr_sheet.specs.declared.rows.Group.{Group}
 use Rattle.scr_sheet.specs.declared.rows.Position.{Position}
@@ -14,7 +15,7 @@ use Rattle.scr_sheet.specs.declared.rows.Bank.{Bank}
 use Rattle.scr_sheet.specs.declared.rows.Rein.{Rein}
 use Rattle.scr_sheet.specs.declared.rows.Curve.{Curve}
 use Rattle.scr_sheet.specs.declared.numbers.Numbers.{Numbers}
-use Rattle.scr_sheet.proofs.TableRows.{IsFresh, All-append, fresh_from_has_row, distinct-with_row, distinct-without}
+use Rattle.scr_names.proofs.TableRows.{IsFresh, All-append, fresh_from_has_row, distinct-with_row, distinct-without}
 use Rattle.scr_sheet.proofs.Projections.{or_false}
 
 module _ (sheet : BalanceSheet) (valid : Valid sheet) where

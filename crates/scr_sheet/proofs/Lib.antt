@@ -1,7 +1,4 @@
-pub mod NameBytes
 pub mod Examples
-pub mod TableRows
-pub mod Entries
 pub mod Bounds
 pub mod Projections
 pub mod Amounts
@@ -14,3 +11,5 @@ pub mod Holds
 pub mod Greatest
 pub mod Quiet
 pub mod Sums
+pub mod MetNames
+pub mod Walks

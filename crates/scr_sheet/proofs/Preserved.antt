@@ -5,11 +5,12 @@ use Rattle.std.proofs.lemmas.Int.{ints}
 use Rattle.std.specs.List.{AllByRecursion, IsDistinct, list_any}
 use Rattle.std.specs.Option.{option_map, option_map_or}
 use Rattle.scr_dates.specs.declared.day.Day.{Day}
-use Rattle.scr_sheet.specs.Names.{same_name}
-use Rattle.scr_sheet.specs.Tables.{row_of, has_row, with_row, without}
+use Rattle.scr_names.specs.Names.{same_name}
+use Rattle.scr_names.specs.Tables.{row_of, has_row, with_row, without, changed}
 use Rattle.scr_sheet.specs.CashFlows.{total, flows_under, with_flows, no_flows, has_projection, suits}
-use Rattle.scr_sheet.specs.BalanceSheet.{BalanceSheet, opening, no_volumes, group_name, position_name, line_name, bank_name, rein_name, curve_name, stake_name, names_of, is_in, is_named, held_total, components_total, line_flows_total, volumes_total, defaults_total, years_total}
-use Rattle.scr_sheet.specs.Records.{applied, with_fund, natural, changed, kept_flows, kept_hold, absorb_place, cat_place, health_cat_place, with_absorb, lapse_place}
+use Rattle.scr_sheet.specs.BalanceSheet.{opening, no_volumes, group_name, position_name, line_name, bank_name, rein_name, curve_name, stake_name, names_of, is_in, is_named, held_total, components_total, line_flows_total, volumes_total, defaults_total, sheet_years}
+use Rattle.scr_sheet.specs.declared.sheet.BalanceSheet.{BalanceSheet}
+use Rattle.scr_sheet.specs.Records.{applied, with_fund, natural, kept_flows, kept_hold, absorb_place, cat_place, health_cat_place, with_absorb, lapse_place}
 use Rattle.scr_sheet.specs.Users.{holder_of}
 use Rattle.scr_sheet.specs.Forms.{Formed, IsName, AreFlows, AreOnDays}
 use Rattle.scr_sheet.specs.Faults.{fault_of, list_fault, too_long, components_fault, unknown_name, unknown_row, unknown_group, unknown_component, wrong_kind, misplaced, misplaced_group, misplaced_holding, misplaced_component, in_use, cycle, fields_outside, first_fault, outside, outside_rates, outside_weight, outside_promise, above, line_flows_outside, volumes_outside}
@@ -36,7 +37,7 @@ use Rattle.scr_sheet.specs.declared.rows.Bank.{Bank}
 use Rattle.scr_sheet.specs.declared.rows.Rein.{Rein}
 use Rattle.scr_sheet.specs.declared.rows.Curve.{Curve}
 use Rattle.scr_sheet.specs.declared.limits.TheConstants.{MIN_RATE, MAX_RATE, MAX_RATES, MAX_DURATION, MAX_FLOWS, MAX_PROMISED, MAX_AMOUNT, MAX_SYM, MAX_TAX, MAX_HELD, MAX_LINE_FLOWS, MAX_YEARS, MAX_CURRENCIES, MAX_SECURITIES, MAX_FUNDS, MAX_COMPONENTS, MAX_FUND_COMPONENTS, MIN_WEIGHT, MAX_WEIGHT, MAX_LINES, MAX_GROUPS, MAX_EXPOSURES}
-use Rattle.scr_sheet.proofs.TableRows.{IsFresh, same_name-is, same_name-flip, row_of-with_row_own, All-map, All-both, All-with_row, All-without, All-row_of, All-changed, has_row-with_row, has_row-without, has_row-changed, names-changed, sum-with_row, sum-without, sum-changed}
+use Rattle.scr_names.proofs.TableRows.{IsFresh, same_name-is, same_name-flip, row_of-with_row_own, All-map, All-both, All-with_row, All-without, All-row_of, All-changed, has_row-with_row, has_row-without, has_row-changed, names-changed, sum-with_row, sum-without, sum-changed}
 use Rattle.scr_sheet.proofs.Bounds.{neither, within_from_above, between_from_outside, all_from_first_fault, natural-le, natural-is}
 use Rattle.scr_sheet.proofs.Projections.{one_or_other, each-with_flows, suits-with_flows, suits-no_flows, under-no_flows}
 use Rattle.scr_sheet.proofs.Amounts.{All-set, All-placed, volumes-with_segment, with_asof, with_absorb as numbers-with_absorb, with_both_volumes, with_cats, with_lapse, with_due, with_op, with_sym, with_tax, with_fdb, with_intangible}
@@ -60,7 +61,7 @@ pub record Passes (edit : Edit) (sheet : BalanceSheet) : Type 0 where
   pub volumes : volumes_outside edit (applied edit sheet) ≡ None
   pub held : held_total (applied edit sheet) ≤ MAX_HELD
   pub defaults : defaults_total (applied edit sheet) ≤ MAX_AMOUNT
-  pub years : years_total (applied edit sheet) ≤ MAX_YEARS
+  pub years : sheet_years (applied edit sheet) ≤ MAX_YEARS
   pub currencies : length (applied edit sheet).curves ≤ MAX_CURRENCIES
   pub securities : length (applied edit sheet).securities ≤ MAX_SECURITIES
   pub funds : length (applied edit sheet).funds ≤ MAX_FUNDS
@@ -81,7 +82,7 @@ passes edit sheet none =
     let flows = neither (line_flows_outside edit (applied edit sheet)) _ held.1 in
     let volumes = neither (volumes_outside edit (applied edit sheet)) _ flows.1 in
     let defaults = neither (above quantities.Defaults (defaults_total (applied edit sheet)) MAX_AMOUNT) _ volumes.1 in
-    let years = neither (above quantities.Years (years_total (applied edit sheet)) MAX_YEARS) _ defaults.1 in
+    let years = neither (above quantities.Years (sheet_years (applied edit sheet)) MAX_YEARS) _ defaults.1 in
     let currencies = neither (above quantities.Currencies (length (applied edit sheet).curves) MAX_CURRENCIES) _ years.1 in
     let securities = neither (above quantities.Securities (length (applied edit sheet).securities) MAX_SECURITIES) _ currencies.1 in
     let funds = neither (above quantities.Funds (length (applied edit sheet).funds) MAX_FUNDS) _ securities.1 in

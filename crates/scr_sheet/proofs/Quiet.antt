@@ -7,10 +7,11 @@ use Rattle.std.proofs.lemmas.Bool.{leb-true, leb-false}
 use Rattle.std.proofs.lemmas.List.{length-map}
 use Rattle.scr_dates.specs.declared.day.Day.{Day}
 use Rattle.scr_factors.specs.declared.set.Set.{Set}
-use Rattle.scr_sheet.specs.Tables.{row_of, with_row, without}
+use Rattle.scr_names.specs.Tables.{row_of, with_row, without, changed}
 use Rattle.scr_sheet.specs.CashFlows.{total, greatest_years, with_flows, no_flows}
-use Rattle.scr_sheet.specs.BalanceSheet.{BalanceSheet, group_name, position_name, stake_name, line_name, bank_name, rein_name, curve_name, held_of, held_total, line_flows_total, volumes_total, defaults_total, components_total, greatest, security_years, line_years, years_total, is_in}
-use Rattle.scr_sheet.specs.Records.{applied, natural, changed, kept_flows, kept_hold, with_absorb}
+use Rattle.scr_sheet.specs.BalanceSheet.{group_name, position_name, stake_name, line_name, bank_name, rein_name, curve_name, held_of, held_total, line_flows_total, volumes_total, defaults_total, components_total, greatest, security_years, line_years, sheet_years, is_in}
+use Rattle.scr_sheet.specs.declared.sheet.BalanceSheet.{BalanceSheet}
+use Rattle.scr_sheet.specs.Records.{applied, natural, kept_flows, kept_hold, with_absorb}
 use Rattle.scr_sheet.specs.Faults.{above, sheet_outside}
 use Rattle.scr_sheet.specs.Validity.{Valid}
 use Rattle.scr_sheet.specs.declared.edit.Edit.{Edit}
@@ -34,7 +35,7 @@ use Rattle.scr_sheet.specs.declared.rows.Position.{Position}
 use Rattle.scr_sheet.specs.declared.rows.Rein.{Rein}
 use Rattle.scr_sheet.specs.declared.rows.Stake.{Stake}
 use Rattle.scr_sheet.specs.declared.limits.TheConstants.{MAX_AMOUNT, MAX_HELD, MAX_LINE_FLOWS, MAX_YEARS, MAX_CURRENCIES, MAX_SECURITIES, MAX_FUNDS, MAX_COMPONENTS, MAX_LINES, MAX_GROUPS, MAX_EXPOSURES}
-use Rattle.scr_sheet.proofs.TableRows.{added, passes_or_fails, names-changed, sum-without, length-with_row, without-here, without-later, same_or_other}
+use Rattle.scr_names.proofs.TableRows.{added, passes_or_fails, names-changed, sum-without, length-with_row, without-here, without-later, same_or_other}
 use Rattle.scr_sheet.proofs.Bounds.{above-within, option_or-none}
 use Rattle.scr_sheet.proofs.Greatest.{greatest-with_row-le, row_of-le-greatest, greatest-without-le, greatest-changed-le, le-greatest-changed, line_years-with_flows-le, le-line_years-with_flows}
 use Rattle.scr_sheet.proofs.Sums.{in_one_table, held-hold, held-part, held-same, stake_components, components-fund, components-drop, components-part, components-hold, line_total, line_flows-own, line_flows-part, volumes-segment, volumes-part, rein_total, defaults-bank, defaults-rein, defaults-part_bank, defaults-part_rein}
@@ -168,7 +169,7 @@ module _ (sheet : BalanceSheet) (valid : Valid sheet) where
   line_most = greatest (line_years asof) sheet.lines
 
   pub outside-asof : (date : Day) (currency : List ℕ) → let edit = edits.Asof date currency in
-      sheet_outside edit (applied edit sheet) ≡ above quantities.Years (years_total (applied edit sheet)) MAX_YEARS
+      sheet_outside edit (applied edit sheet) ≡ above quantities.Years (sheet_years (applied edit sheet)) MAX_YEARS
   outside-asof date currency =
       let w = valid.within in
       first_outside-years _ _ _ _ _ _ _ _ _ _ _ _ w.held refl refl w.defaults w.currencies w.securities w.funds w.components w.lines w.groups w.exposures
@@ -201,7 +202,7 @@ module _ (sheet : BalanceSheet) (valid : Valid sheet) where
       let kept : greatest (security_years asof) (with_row position_name new sheet.securities) ≤ security_most =
       greatest-with_row-le (security_years asof) position_name security_most new sheet.securities (own (row_of position_name name sheet.securities) refl) (omega arith) in
       let few = w.years in
-      let years : years_total (applied edit sheet) ≤ MAX_YEARS = omega arith in
+      let years : sheet_years (applied edit sheet) ≤ MAX_YEARS = omega arith in
       first_outside-securities _ _ _ _ _ _ _ _ _ _ _ _ held refl refl w.defaults years w.currencies w.funds w.components w.lines w.groups w.exposures
       ∙ ap (λ n. above quantities.Securities n MAX_SECURITIES) (length-with_row position_name new sheet.securities)
     where
@@ -232,7 +233,7 @@ module _ (sheet : BalanceSheet) (valid : Valid sheet) where
           let high : greatest (security_years asof) after ≤ most = greatest-changed-le (security_years asof) position_name most change security sheet.securities (λ s h. omega arith) (omega arith) in
           let before = w.years in
           first_outside-years _ _ _ _ _ _ _ _ _ _ _ _ held refl refl w.defaults w.currencies few w.funds w.components w.lines w.groups w.exposures
-          ∙ above-part quantities.Years (years_total (applied edit sheet)) own MAX_YEARS (omega arith) (omega arith)
+          ∙ above-part quantities.Years (sheet_years (applied edit sheet)) own MAX_YEARS (omega arith) (omega arith)
 
   -- a fund fails by the number of funds, or by that of the components of all of them
   pub outside-fund : (name : List ℕ) (components : List (List ℕ × ℤ)) → let edit = edits.Fund name components in
@@ -274,7 +275,7 @@ module _ (sheet : BalanceSheet) (valid : Valid sheet) where
       let components : components_total (applied edit sheet) ≤ MAX_COMPONENTS = subst (λ (n : ℕ). n ≤ MAX_COMPONENTS) (sym (components-hold name cents sheet)) w.components in
       let high : greatest (security_years asof) after ≤ security_most = greatest-changed-le (security_years asof) position_name security_most change name sheet.securities (λ p h. h) (omega arith) in
       let before = w.years in
-      let years : years_total (applied edit sheet) ≤ MAX_YEARS = omega arith in
+      let years : sheet_years (applied edit sheet) ≤ MAX_YEARS = omega arith in
       first_outside-held _ _ _ _ _ _ _ _ _ _ _ _ refl refl w.defaults years w.currencies few few_funds components w.lines w.groups w.exposures
       ∙ ap (λ n. above quantities.Held n MAX_HELD) held
 
@@ -287,7 +288,7 @@ module _ (sheet : BalanceSheet) (valid : Valid sheet) where
       let kept : greatest (line_years asof) (with_row line_name new sheet.lines) ≤ line_most =
       greatest-with_row-le (line_years asof) line_name line_most new sheet.lines (own (row_of line_name name sheet.lines) refl) (omega arith) in
       let before = w.years in
-      let years : years_total (applied edit sheet) ≤ MAX_YEARS = omega arith in
+      let years : sheet_years (applied edit sheet) ≤ MAX_YEARS = omega arith in
       first_outside-lines _ _ _ _ _ _ _ _ _ _ _ _ w.held refl refl w.defaults years w.currencies w.securities w.funds w.components w.groups w.exposures
       ∙ ap (λ n. above quantities.Lines n MAX_LINES) (length-with_row line_name new sheet.lines)
     where
@@ -327,9 +328,9 @@ module _ (sheet : BalanceSheet) (valid : Valid sheet) where
           greatest-changed-le (line_years asof) line_name most change line sheet.lines (λ m h. line_years-with_flows-le asof most projection flows m (omega arith) h) (omega arith) in
           let before = w.years in
           first_outside-line_flows _ _ _ _ _ _ _ _ _ _ _ _ w.held refl w.defaults w.currencies w.securities w.funds w.components few w.groups w.exposures
-          ∙ ap (λ n. option_or (above quantities.LineFlows n MAX_LINE_FLOWS) (above quantities.Years (years_total (applied edit sheet)) MAX_YEARS)) value
+          ∙ ap (λ n. option_or (above quantities.LineFlows n MAX_LINE_FLOWS) (above quantities.Years (sheet_years (applied edit sheet)) MAX_YEARS)) value
           ∙ ap (λ o. option_or (above quantities.LineFlows (line_flows_total projection sheet - option_map_or (line_total projection) (row_of line_name line sheet.lines) 0 + total flows) MAX_LINE_FLOWS) o)
-          (above-part quantities.Years (years_total (applied edit sheet)) own MAX_YEARS (omega arith) (omega arith))
+          (above-part quantities.Years (sheet_years (applied edit sheet)) own MAX_YEARS (omega arith) (omega arith))
 
   pub outside-segment : (set : Set) (number region : ℕ) (premium reserve : ℤ) (old : ℕ × ℕ) → volumes_in set number region sheet.numbers ≡ Some old → let edit = edits.Segment set number region premium reserve in
       sheet_outside edit (applied edit sheet) ≡ above quantities.Volumes (volumes_total set sheet - (old.0 + old.1) + (natural premium + natural reserve)) MAX_AMOUNT
@@ -405,7 +406,7 @@ module _ (sheet : BalanceSheet) (valid : Valid sheet) where
       let sum = sum-without position_name (λ p. p.held) name sheet.securities in
       let held : held_total (applied edit sheet) ≤ MAX_HELD = let before = w.held in omega arith in
       let sooner = greatest-without-le (security_years asof) position_name name sheet.securities in
-      let years : years_total (applied edit sheet) ≤ MAX_YEARS = let before = w.years in omega arith in
+      let years : sheet_years (applied edit sheet) ≤ MAX_YEARS = let before = w.years in omega arith in
       first_outside-none _ _ _ _ _ _ _ _ _ _ _ _ held refl refl w.defaults years w.currencies securities w.funds w.components w.lines w.groups w.exposures
   outside-remove tables.Fund name =
       let w = valid.within in
@@ -423,7 +424,7 @@ module _ (sheet : BalanceSheet) (valid : Valid sheet) where
       let fewer = length-without-le line_name name sheet.lines in
       let lines : length (without line_name name sheet.lines) ≤ MAX_LINES = let before = w.lines in omega arith in
       let sooner = greatest-without-le (line_years asof) line_name name sheet.lines in
-      let years : years_total (applied edit sheet) ≤ MAX_YEARS = let before = w.years in omega arith in
+      let years : sheet_years (applied edit sheet) ≤ MAX_YEARS = let before = w.years in omega arith in
       first_outside-none _ _ _ _ _ _ _ _ _ _ _ _ w.held refl refl w.defaults years w.currencies w.securities w.funds w.components lines w.groups w.exposures
   outside-remove tables.Bank name =
       let w = valid.within in
@@ -448,7 +449,7 @@ module _ (sheet : BalanceSheet) (valid : Valid sheet) where
       first_outside-none _ _ _ _ _ _ _ _ _ _ _ _ w.held refl refl w.defaults w.years currencies w.securities w.funds w.components w.lines w.groups w.exposures
 
   -- other numbers, of the same reference date
-  outside-numbers : first_outside (held_total sheet) None None (defaults_total sheet) (years_total sheet) (length sheet.curves) (length sheet.securities) (length sheet.funds) (components_total sheet) (length sheet.lines) (length sheet.groups) exposures ≡ None
+  outside-numbers : first_outside (held_total sheet) None None (defaults_total sheet) (sheet_years sheet) (length sheet.curves) (length sheet.securities) (length sheet.funds) (components_total sheet) (length sheet.lines) (length sheet.groups) exposures ≡ None
   outside-numbers =
       let w = valid.within in
       first_outside-none _ _ _ _ _ _ _ _ _ _ _ _ w.held refl refl w.defaults w.years w.currencies w.securities w.funds w.components w.lines w.groups w.exposures

@@ -5,11 +5,12 @@ use Rattle.std.proofs.lemmas.List.Sums.{sum_by-cons}
 use Rattle.std.specs.List.{AllByRecursion, IsDistinct}
 use Rattle.std.specs.Option.{option_or, option_map, option_map_or}
 use Rattle.scr_dates.specs.declared.day.Day.{Day}
-use Rattle.scr_sheet.specs.Names.{same_name}
-use Rattle.scr_sheet.specs.Tables.{row_of, has_row, with_row}
+use Rattle.scr_names.specs.Names.{same_name}
+use Rattle.scr_names.specs.Tables.{row_of, has_row, with_row, changed}
 use Rattle.scr_sheet.specs.CashFlows.{total, flows_under, with_flows, no_flows}
-use Rattle.scr_sheet.specs.BalanceSheet.{BalanceSheet, group_name, position_name, stake_name, line_name, bank_name, rein_name, volumes_of, is_in, held_of, held_total, line_flows_total, volumes_total, defaults_total, components_total}
-use Rattle.scr_sheet.specs.Records.{applied, dropped, changed, natural, kept_flows, kept_hold, with_volumes}
+use Rattle.scr_sheet.specs.BalanceSheet.{group_name, position_name, stake_name, line_name, bank_name, rein_name, volumes_of, is_in, held_of, held_total, line_flows_total, volumes_total, defaults_total, components_total}
+use Rattle.scr_sheet.specs.declared.sheet.BalanceSheet.{BalanceSheet}
+use Rattle.scr_sheet.specs.Records.{applied, dropped, natural, kept_flows, kept_hold, with_volumes}
 use Rattle.scr_sheet.specs.Users.{holder_of, first_row, names_of_holders}
 use Rattle.scr_sheet.specs.Faults.{in_use}
 use Rattle.scr_sheet.specs.Validity.{Valid}
@@ -32,7 +33,7 @@ use Rattle.scr_sheet.specs.declared.rows.LineKind.{LineKind}
 use Rattle.scr_sheet.specs.declared.rows.Position.{Position}
 use Rattle.scr_sheet.specs.declared.rows.Rein.{Rein}
 use Rattle.scr_sheet.specs.declared.rows.Stake.{Stake}
-use Rattle.scr_sheet.proofs.TableRows.{IsFresh, passes_or_fails, same_or_other, same_name-is, name_of-row_of, row_of-later, sum-with_row, sum-without, sum-changed}
+use Rattle.scr_names.proofs.TableRows.{IsFresh, passes_or_fails, same_or_other, same_name-is, name_of-row_of, row_of-later, sum-with_row, sum-without, sum-changed}
 use Rattle.scr_sheet.proofs.Projections.{one_or_other, under-with, under-no_flows}
 
 -- ---- sums over rows and lists

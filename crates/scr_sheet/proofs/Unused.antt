@@ -4,12 +4,13 @@ use Rattle.std.specs.Ordering.{nat_cmp, is_lt}
 use Rattle.std.specs.Cmp.Lexicographic.{slice_cmp}
 use Rattle.std.specs.List.{fold, filter, list_any, AllByRecursion}
 use Rattle.std.specs.Option.{option_map}
-use Rattle.scr_sheet.specs.Names.{same_name, earlier}
-use Rattle.scr_sheet.specs.BalanceSheet.{BalanceSheet, position_name, line_name, bank_name, rein_name, stake_name}
+use Rattle.scr_names.specs.Names.{same_name, earlier}
+use Rattle.scr_sheet.specs.BalanceSheet.{position_name, line_name, bank_name, rein_name, stake_name}
+use Rattle.scr_sheet.specs.declared.sheet.BalanceSheet.{BalanceSheet}
 use Rattle.scr_sheet.specs.Users.{is_of_group, names_of_group, names_in_currency, has_component, names_of_holders, holder_of, first_row, user_of}
 use Rattle.scr_sheet.specs.declared.fault.User.TheVariants as users
 use Rattle.scr_sheet.specs.declared.keys.Table.TheVariants as tables
-use Rattle.scr_sheet.proofs.TableRows.{All-map, passes_or_fails}
+use Rattle.scr_names.proofs.TableRows.{All-map, passes_or_fails}
 use Rattle.scr_sheet.proofs.Bounds.{neither}
 use Rattle.scr_sheet.proofs.Projections.{or_false}
 

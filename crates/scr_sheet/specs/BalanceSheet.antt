@@ -1,7 +1,8 @@
--- The balance sheet that a book keeps (this project's own).
+-- What is read of a balance sheet (this project's own): its tables, each as the list of its rows in the order in which their
+-- names first came, and the single numbers.
 use Rattle.std.specs.Prelude.{ℕ, ℤ, pos, ◌+◌, ◌++◌, ◌||◌, Bool, List, [], ◌∷◌, Option, map, length, max, replicate, sum_by}
 use Rattle.std.specs.Option.{option_map_or}
-use Rattle.scr_sheet.specs.Tables.{row_of, has_row}
+use Rattle.scr_names.specs.Tables.{row_of, has_row}
 use Rattle.scr_sheet.specs.CashFlows.{total, flows_under, greatest_years, all_projections}
 use Rattle.scr_factors.specs.declared.set.Set.{Set}
 use Rattle.scr_factors.specs.declared.set.Set.TheVariants as sets
@@ -17,17 +18,7 @@ use Rattle.scr_sheet.specs.declared.rows.Rein.{Rein}
 use Rattle.scr_sheet.specs.declared.rows.Curve.{Curve}
 use Rattle.scr_sheet.specs.declared.numbers.Numbers.{Numbers}
 use Rattle.scr_sheet.specs.declared.numbers.Regions.{Regions}
-
--- Each table as the list of its rows, in the order in which their names first came, and the single numbers.
-pub record BalanceSheet : Type 0 where
-  pub groups : List Group
-  pub securities : List Position
-  pub funds : List Stake
-  pub lines : List Liability
-  pub banks : List Bank
-  pub reinsurers : List Rein
-  pub curves : List Curve
-  pub numbers : Numbers
+use Rattle.scr_sheet.specs.declared.sheet.BalanceSheet.{BalanceSheet}
 
 -- ---- the sheet before the first record
 
@@ -141,11 +132,12 @@ held_total sheet = sum_by (λ p. p.held) sheet.securities + sum_by (λ s. s.held
 abbrev pub line_flows_total : Projection → BalanceSheet → ℕ
 line_flows_total projection sheet = sum_by (λ l. total (flows_under projection l.flows)) sheet.lines
 
--- the premium and reserve volumes of all segments and regions of a set
+-- the segments of a set, each with its volumes in each region
 abbrev pub volumes_of : Set → Numbers → List Regions
 volumes_of sets.Nl numbers = numbers.nl
 volumes_of sets.Nslt numbers = numbers.nslt
 
+-- the premium and reserve volumes of all segments and regions of a set
 abbrev pub volumes_total : Set → BalanceSheet → ℕ
 volumes_total set sheet = sum_by (λ segment. sum_by (λ v. v.0 + v.1) segment.volumes) (volumes_of set sheet.numbers)
 
@@ -175,7 +167,7 @@ security_years asof position = greatest_years asof position.security.flows
 abbrev pub line_years : ℤ → Liability → ℕ
 line_years asof line = greatest (λ projection. greatest_years asof (flows_under projection line.flows)) all_projections
 
-abbrev pub years_total : BalanceSheet → ℕ
-years_total sheet =
+abbrev pub sheet_years : BalanceSheet → ℕ
+sheet_years sheet =
     let asof = sheet.numbers.asof.number in
     max (greatest (security_years asof) sheet.securities) (greatest (line_years asof) sheet.lines)

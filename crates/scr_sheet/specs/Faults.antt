@@ -4,10 +4,11 @@ use Rattle.std.specs.List.{list_any}
 use Rattle.std.specs.Option.{option_or, option_map, option_map_or}
 use Rattle.scr_dates.specs.declared.day.Day.{Day}
 use Rattle.scr_funds.specs.Paths.{path_within}
-use Rattle.scr_sheet.specs.Names.{same_name}
-use Rattle.scr_sheet.specs.Tables.{row_of}
+use Rattle.scr_names.specs.Names.{same_name}
+use Rattle.scr_names.specs.Tables.{row_of}
 use Rattle.scr_sheet.specs.CashFlows.{total, has_projection, suits}
-use Rattle.scr_sheet.specs.BalanceSheet.{BalanceSheet, line_name, is_in, is_named, held_total, line_flows_total, volumes_total, defaults_total, components_total, components_of, years_total}
+use Rattle.scr_sheet.specs.BalanceSheet.{line_name, is_in, is_named, held_total, line_flows_total, volumes_total, defaults_total, components_total, components_of, sheet_years}
+use Rattle.scr_sheet.specs.declared.sheet.BalanceSheet.{BalanceSheet}
 use Rattle.scr_sheet.specs.Records.{applied, with_fund}
 use Rattle.scr_sheet.specs.Users.{user_of}
 use Rattle.scr_sheet.specs.declared.edit.Edit.{Edit}
@@ -222,7 +223,7 @@ sheet_outside edit after =
     (option_or (line_flows_outside edit after)
     (option_or (volumes_outside edit after)
     (option_or (above quantities.Defaults (defaults_total after) MAX_AMOUNT)
-    (option_or (above quantities.Years (years_total after) MAX_YEARS)
+    (option_or (above quantities.Years (sheet_years after) MAX_YEARS)
     (option_or (above quantities.Currencies (length after.curves) MAX_CURRENCIES)
     (option_or (above quantities.Securities (length after.securities) MAX_SECURITIES)
     (option_or (above quantities.Funds (length after.funds) MAX_FUNDS)

@@ -3,11 +3,10 @@ use Rattle.std.specs.Prelude.{ℕ, ℤ, ◌^◌, ◌<◌, ◌≤◌, List, Optio
 use Rattle.std.specs.List.{AllByRecursion}
 use Rattle.scr_dates.specs.declared.day.Day.{Day}
 use Rattle.scr_dates.specs.Civil.{IsDay}
-use Rattle.scr_sheet.specs.Names.{is_name, is_currency}
+use Rattle.scr_names.specs.Names.{is_name, is_currency}
 use Rattle.scr_sheet.specs.declared.edit.Edit.{Edit}
 use Rattle.scr_sheet.specs.declared.edit.Edit.TheVariants as edits
-use Rattle.scr_factors.specs.declared.set.Set.{Set}
-use Rattle.scr_factors.specs.declared.set.Set.TheVariants as sets
+use Rattle.scr_factors.specs.Values.{segments}
 use Rattle.scr_sheet.specs.declared.keys.AbsorbKey.{AbsorbKey}
 use Rattle.scr_sheet.specs.declared.keys.AbsorbKey.TheVariants as absorb
 
@@ -41,11 +40,6 @@ AreFlows flows = AllByRecursion (λ flow. IsDay flow.0.number × IsNumber flow.1
 -- components of a fund with their weights
 abbrev pub AreComponents : List (List ℕ × ℤ) → Type 0
 AreComponents components = AllByRecursion (λ c. IsName c.0 × IsNumber c.1) components
-
--- the segments of a set, numbered from 1
-abbrev pub segments : Set → ℕ
-segments sets.Nl = 12
-segments sets.Nslt = 4
 
 -- the currency of a key that has one
 abbrev pub IsAbsorbKey : AbsorbKey → Type 0

@@ -1,6 +1,3 @@
-pub mod Names
-pub mod Tables
-pub mod Kept
 pub mod CashFlows
 pub mod BalanceSheet
 pub mod Records
@@ -12,3 +9,4 @@ pub mod Validity
 pub mod Volumes
 pub mod Absorptions
 pub mod Totals
+pub mod Verbs

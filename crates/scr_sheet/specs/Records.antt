@@ -3,9 +3,10 @@ use Rattle.std.specs.Prelude.{ℕ, ℤ, pos, negsuc, ◌-◌, List, [], ◌∷�
 use Rattle.std.specs.List.{slice_index_or}
 use Rattle.std.specs.Option.{option_map_or}
 use Rattle.scr_dates.specs.declared.day.Day.{Day}
-use Rattle.scr_sheet.specs.Tables.{row_of, with_row, without}
+use Rattle.scr_names.specs.Tables.{row_of, with_row, without, changed}
 use Rattle.scr_sheet.specs.CashFlows.{with_flows, no_flows}
-use Rattle.scr_sheet.specs.BalanceSheet.{BalanceSheet, group_name, position_name, line_name, bank_name, rein_name, curve_name, stake_name}
+use Rattle.scr_sheet.specs.BalanceSheet.{group_name, position_name, line_name, bank_name, rein_name, curve_name, stake_name}
+use Rattle.scr_sheet.specs.declared.sheet.BalanceSheet.{BalanceSheet}
 use Rattle.scr_sheet.specs.declared.edit.Edit.{Edit}
 use Rattle.scr_sheet.specs.declared.edit.Edit.TheVariants as edits
 use Rattle.scr_factors.specs.declared.set.Set.{Set}
@@ -121,10 +122,6 @@ with_fund name components funds =
       fund = record { name = name; components = components };
       held = option_map_or (λ s. s.held) (row_of stake_name name funds) 0;
     }) funds
-
--- a row changed, where there is one of this name
-abbrev pub changed : {Row : Type 0} → (Row → List ℕ) → (Row → Row) → List ℕ → List Row → List Row
-changed name_of change name rows = option_map_or (λ row. with_row name_of (change row) rows) (row_of name_of name rows) rows
 
 -- ---- the sheet as the record would leave it
 

@@ -2,8 +2,9 @@
 -- (EU) 2015/35), in cents.
 use Rattle.std.specs.Prelude.{ℕ, List, map}
 use Rattle.scr_funds.specs.LookThrough.{Shared, total}
-use Rattle.scr_sheet.specs.Names.{same_name}
-use Rattle.scr_sheet.specs.BalanceSheet.{BalanceSheet, held_of}
+use Rattle.scr_names.specs.Names.{same_name}
+use Rattle.scr_sheet.specs.BalanceSheet.{held_of}
+use Rattle.scr_sheet.specs.declared.sheet.BalanceSheet.{BalanceSheet}
 use Rattle.scr_sheet.specs.Records.{natural}
 use Rattle.scr_sheet.specs.declared.rows.Stake.{Stake}
 

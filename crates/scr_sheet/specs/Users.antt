@@ -2,9 +2,10 @@
 use Rattle.std.specs.Prelude.{ℕ, ◌++◌, ◌==◌, Bool, false, List, Option, Some, None, if◌then◌else◌, map, filter}
 use Rattle.std.specs.List.{list_any}
 use Rattle.std.specs.Option.{option_or, option_map, option_map_or}
-use Rattle.scr_sheet.specs.Names.{same_name, first_in_order}
-use Rattle.scr_sheet.specs.Tables.{row_of}
-use Rattle.scr_sheet.specs.BalanceSheet.{BalanceSheet, position_name, line_name, bank_name, rein_name, curve_name, stake_name, held_of}
+use Rattle.scr_names.specs.Names.{same_name, first_in_order}
+use Rattle.scr_names.specs.Tables.{row_of}
+use Rattle.scr_sheet.specs.BalanceSheet.{position_name, line_name, bank_name, rein_name, curve_name, stake_name, held_of}
+use Rattle.scr_sheet.specs.declared.sheet.BalanceSheet.{BalanceSheet}
 use Rattle.scr_sheet.specs.declared.fault.User.{User}
 use Rattle.scr_sheet.specs.declared.fault.User.TheVariants as users
 use Rattle.scr_sheet.specs.declared.keys.AbsorbKey.TheVariants as absorb

@@ -4,11 +4,12 @@ use Rattle.std.specs.List.{AllByRecursion, IsDistinct}
 use Rattle.scr_dates.specs.declared.day.Day.{Day}
 use Rattle.scr_dates.specs.Civil.{IsDay}
 use Rattle.scr_funds.specs.Chains.{IsAcyclic}
-use Rattle.scr_sheet.specs.Names.{same_name}
-use Rattle.scr_sheet.specs.Tables.{has_row}
+use Rattle.scr_names.specs.Names.{same_name}
+use Rattle.scr_names.specs.Tables.{has_row}
 use Rattle.scr_sheet.specs.Forms.{IsName, IsCurrency, IsNameOrNone, IsStepOrNone, AreOnDays}
 use Rattle.scr_sheet.specs.CashFlows.{total, flows_under, suits}
-use Rattle.scr_sheet.specs.BalanceSheet.{BalanceSheet, group_name, position_name, stake_name, curve_name, names_of, components_of, components_total, held_total, line_flows_total, volumes_total, defaults_total, years_total}
+use Rattle.scr_sheet.specs.BalanceSheet.{group_name, position_name, stake_name, curve_name, names_of, components_of, components_total, held_total, line_flows_total, volumes_total, defaults_total, sheet_years}
+use Rattle.scr_sheet.specs.declared.sheet.BalanceSheet.{BalanceSheet}
 use Rattle.scr_factors.specs.declared.set.Set.{Set}
 use Rattle.scr_sheet.specs.declared.keys.Projection.{Projection}
 use Rattle.scr_sheet.specs.declared.rows.Group.{Group}
@@ -123,7 +124,7 @@ pub record AreWithin (sheet : BalanceSheet) : Type 0 where
   pub line_flows : (projection : Projection) → line_flows_total projection sheet ≤ MAX_LINE_FLOWS
   pub volumes : (set : Set) → volumes_total set sheet ≤ MAX_AMOUNT
   pub defaults : defaults_total sheet ≤ MAX_AMOUNT
-  pub years : years_total sheet ≤ MAX_YEARS
+  pub years : sheet_years sheet ≤ MAX_YEARS
   pub currencies : length sheet.curves ≤ MAX_CURRENCIES
   pub securities : length sheet.securities ≤ MAX_SECURITIES
   pub funds : length sheet.funds ≤ MAX_FUNDS

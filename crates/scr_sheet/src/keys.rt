@@ -30,6 +30,20 @@ pub enum Projection {
     Catastrophe,
 }
 
+/// Every projection, in the order of their variants.
+pub const PROJECTIONS: [Projection; 10] = [
+    Projection::Base,
+    Projection::Mortality,
+    Projection::Longevity,
+    Projection::Disability,
+    Projection::Expense,
+    Projection::Revision,
+    Projection::LapseUp,
+    Projection::LapseDown,
+    Projection::LapseMass,
+    Projection::Catastrophe,
+];
+
 /// The scenarios whose loss technical provisions and deferred taxes may absorb, each with the handed-in absorption.
 #[derive(Clone, Copy, Debug, PartialEq, Eq)]
 pub enum AbsorbKey {

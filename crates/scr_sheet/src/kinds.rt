@@ -2,21 +2,7 @@
 ghost use Rattle.std.specs.Prelude.{◌≡◌};
 ghost use Rattle.scr_sheet.specs.CashFlows.{has_projection, suits};
 
-use crate::{LineFlows, LineKind, Projection};
-
-/// Every projection.
-const PROJECTIONS: [Projection; 10] = [
-    Projection::Base,
-    Projection::Mortality,
-    Projection::Longevity,
-    Projection::Disability,
-    Projection::Expense,
-    Projection::Revision,
-    Projection::LapseUp,
-    Projection::LapseDown,
-    Projection::LapseMass,
-    Projection::Catastrophe,
-];
+use crate::{LineFlows, LineKind, PROJECTIONS, Projection};
 
 impl LineKind {
     /// Lines of this kind have the projection: the best estimate for each, the biometric stresses for life

@@ -1,6 +1,7 @@
 //! What the definitions of the balance sheet come to, whatever a program does.
 ghost use Rattle.std.specs.Prelude.{◌≡◌, ◌↔◌, ℕ, ℤ, ◌+◌, ◌*◌, ◌<◌, [], List, Some, None, length, slice_get, sum_by, take};
-ghost use Rattle.scr_sheet.specs.BalanceSheet.{BalanceSheet, opening, held_of, held_total};
+ghost use Rattle.scr_sheet.specs.BalanceSheet.{opening, held_of, held_total};
+ghost use Rattle.scr_sheet.specs.declared.sheet.BalanceSheet.{BalanceSheet};
 ghost use Rattle.scr_sheet.specs.Records.{applied};
 ghost use Rattle.scr_sheet.specs.Faults.{components_fault, fault_of};
 ghost use Rattle.scr_sheet.specs.Forms.{Formed};

@@ -1,9 +1,6 @@
 //! Lists in records and rows. Contracts see each as a list.
 ghost use Rattle.std.specs.Prelude.{◌≡◌, ◌+◌, ◌^◌, ◌≤◌, IfOk};
-ghost use Rattle.std.specs.Cmp.{partial_equiv_from_equiv};
-ghost use Rattle.std.specs.Cmp.Lexicographic.{pointwise, lists_equiv, lists_per, nat_list_eq_equiv};
 ghost use Rattle.scr_sheet.specs.CashFlows.{total};
-ghost use Rattle.scr_sheet.specs.Names.{same_name};
 
 use crate::Name;
 use scr_dates::Day;
@@ -160,55 +157,4 @@ impl Components {
             pairs: self.pairs.iter().copied().collect(alloc)?,
         })
     }
-}
-
-/// Names in an order.
-#[derive(Debug, Drop)]
-pub struct Names {
-    names: Vec<Name>,
-}
-
-impl Model for Names {
-    ghost use Rattle.std.specs.Prelude.{List, ℕ};
-
-    ghost Value = { List (List ℕ) };
-
-    ghost view = { λ list. list.names.items };
-}
-
-impl Names {
-    /// These names.
-    pub fn new(names: Vec<Name>) -> Names
-        ensures { result ≡ names.items }
-    {
-        Names { names }
-    }
-
-    /// The names in their order.
-    pub fn as_slice(&self) -> &[Name]
-        ensures { result.now ≡ self.now }
-    {
-        &self.names
-    }
-
-    /// The names, given back without memory.
-    pub fn into_vec(self) -> Vec<Name>
-        ensures { result.items ≡ self }
-    {
-        self.names
-    }
-}
-
-impl PartialEq for Names {
-    ghost eq = { λ a b. pointwise same_name a b };
-
-    ghost laws = { lists_per (partial_equiv_from_equiv nat_list_eq_equiv) };
-
-    fn eq(&self, other: &Self) -> bool {
-        self.as_slice() == other.as_slice()
-    }
-}
-
-impl Eq for Names {
-    ghost laws = { lists_equiv nat_list_eq_equiv };
 }

@@ -1,31 +1,13 @@
-//! Names have their form, lists give back what they were made of, and records are written into rows and numbers.
+//! Lists give back what they were made of, and records are written into rows and numbers.
 use crate::{
-    CatKey, Curve, Edit, Fault, Flows, Liability, LineFlows, Name, Numbers, Position, Projection,
-    Rates, Regions, natural,
+    BalanceSheet, CatKey, Curve, Edit, Fault, Flows, Liability, LineFlows, Numbers, Position,
+    Projection, Rates, natural, opening,
 };
 use scr_dates::Day;
 use scr_factors::Set;
-use std::process::Abort;
 use std::test::Fail;
 
-fn name(rt: &impl Abort, text: &str) -> Name {
-    Name::parse(text.as_bytes()).expect(rt, "a name")
-}
-
 fn shared<T: Send + Sync>() {}
-
-#[test]
-fn names_have_their_form(rt: HostRuntime) {
-    let longest = "a2345678901234567890123456789_.-";
-    for text in ["S", "7", "S1_.-", longest] {
-        assert_eq!(rt; name(&rt, text).as_bytes(), text.as_bytes(), "{text}");
-    }
-    let too_long = "a23456789012345678901234567890123";
-    for text in ["", "-a", ".a", "_a", "a b", "a,b", "ä", too_long] {
-        assert!(rt; Name::parse(text.as_bytes()).is_none(), "{text}");
-    }
-    assert!(rt; name(&rt, "A") < name(&rt, "A1") && name(&rt, "A1") < name(&rt, "B"));
-}
 
 #[test]
 fn lists_give_back_what_they_were_made_of(rt: HostRuntime) -> Result<(), Fail> {
@@ -63,27 +45,7 @@ fn flows_stand_under_their_projection(rt: HostRuntime) -> Result<(), Fail> {
 
 #[test]
 fn numbers_keep_what_a_record_says(rt: HostRuntime) {
-    let none = Regions {
-        volumes: [(0, 0); 18],
-    };
-    let mut numbers = Numbers {
-        asof: Day { number: 10_957 },
-        currency: name(&rt, "EUR"),
-        absorb: [0; 25],
-        nl: [none; 12],
-        nslt: [none; 4],
-        cat: [0; 13],
-        health_cat: [0; 3],
-        lapse: [0; 2],
-        due: [0; 2],
-        provisions: [0; 3],
-        earned: [0; 7],
-        sym: 0,
-        tax: 0,
-        cap: 0,
-        fdb: 0,
-        intangible: 0,
-    };
+    let mut numbers = opening::numbers();
     numbers.put_volumes(Set::Nslt, 4, 18, (30, 40));
     assert_eq!(rt; numbers.volumes(Set::Nslt, 4, 18), (30, 40));
     assert_eq!(rt; numbers.volumes(Set::Nl, 4, 18), (0, 0));
@@ -97,6 +59,7 @@ fn numbers_keep_what_a_record_says(rt: HostRuntime) {
 
 #[test]
 fn workers_may_share_rows_and_records(_rt: HostRuntime) {
+    shared::<BalanceSheet>();
     shared::<Edit>();
     shared::<Fault>();
     shared::<Position>();

@@ -1,11 +1,13 @@
 //! What a record changes within a row, or among the single numbers.
-ghost use Rattle.std.specs.Prelude.{◌≡◌, ℕ, ◌<◌, ◌≤◌, ◌-◌, slice_get, Some, None, IfSome, IfOk, slice_set};
+ghost use Rattle.std.specs.Prelude.{◌≡◌, ℕ, ◌<◌, ◌≤◌, ◌-◌, slice_get, Some, None, true, IfSome, IfOk, slice_set};
 ghost use Rattle.scr_sheet.specs.Absorptions.{absorbed};
-ghost use Rattle.scr_sheet.specs.BalanceSheet.{BalanceSheet};
+ghost use Rattle.scr_sheet.specs.declared.sheet.BalanceSheet.{BalanceSheet};
 ghost use Rattle.scr_sheet.specs.CashFlows.{flows_under, with_flows, no_flows};
 ghost use Rattle.scr_sheet.specs.Faults.{fields_outside};
-ghost use Rattle.scr_sheet.specs.Forms.{Formed, segments};
+ghost use Rattle.scr_factors.specs.Values.{segments};
+ghost use Rattle.scr_sheet.specs.Forms.{Formed};
 ghost use Rattle.scr_sheet.specs.Records.{applied, natural, placed, absorb_place, cat_place, health_cat_place, with_absorb, with_segment, lapse_place};
+ghost use Rattle.scr_sheet.specs.Verbs.{is_operational};
 ghost use Rattle.scr_sheet.specs.Volumes.{volumes_in};
 
 use crate::{AbsorbKey, CatKey, Edit, Flows, LineFlows, Numbers, Projection, Regions};
@@ -130,6 +132,24 @@ impl Numbers {
             Edit::Cat { key, cents } => self.put_cat(*key, natural(*cents)),
             Edit::Lapse { set, cents } => self.put_lapse(*set, natural(*cents)),
             Edit::Due { overdue, other } => self.due = [natural(*overdue), natural(*other)],
+            Edit::Op { .. } => self.put_operational(edit),
+            Edit::Sym { millionths } => self.sym = *millionths as i32,
+            Edit::Tax { millionths, cap } => {
+                self.tax = natural(*millionths) as u32;
+                self.cap = natural(*cap);
+            }
+            Edit::Fdb { cents } => self.fdb = natural(*cents),
+            Edit::Intangible { cents } => self.intangible = natural(*cents),
+            _ => {}
+        }
+    }
+
+    fn put_operational(&mut self, edit: &Edit)
+        requires { is_operational edit.now ≡ true }
+        ensures { (sheet : BalanceSheet) → sheet.numbers ≡ self.old
+            → (applied edit.now sheet).numbers ≡ self.new }
+    {
+        match edit {
             Edit::Op {
                 tpl,
                 tpul,
@@ -153,13 +173,6 @@ impl Numbers {
                     natural(*expul),
                 ];
             }
-            Edit::Sym { millionths } => self.sym = *millionths as i32,
-            Edit::Tax { millionths, cap } => {
-                self.tax = natural(*millionths) as u32;
-                self.cap = natural(*cap);
-            }
-            Edit::Fdb { cents } => self.fdb = natural(*cents),
-            Edit::Intangible { cents } => self.intangible = natural(*cents),
             _ => {}
         }
     }

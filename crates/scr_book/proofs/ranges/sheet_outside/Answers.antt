@@ -1,19 +1,16 @@
-use Rattle.std.proofs.Common.{◌≡◌, ℕ, ◌+◌, ◌-◌, length, true, Some, sym, ap, ◌∙◌, arith, rules, FitsSigned, w64}
+use Rattle.std.proofs.Common.{◌≡◌, ℕ, ◌+◌, ◌-◌, length, true, sym, ap, ◌∙◌, arith, rules, FitsSigned, w64}
 use Rattle.std.proofs.lemmas.Int.{to_z-of_z}
 use Rattle.std.specs.Option.{option_or, option_map_or}
-use Rattle.scr_sheet.specs.CashFlows.{total, greatest_years}
-use Rattle.scr_sheet.specs.Tables.{row_of}
-use Rattle.scr_sheet.specs.BalanceSheet.{group_name, position_name, stake_name, line_name, curve_name, line_flows_total, volumes_total, components_total}
+use Rattle.scr_sheet.specs.CashFlows.{greatest_years}
+use Rattle.scr_names.specs.Tables.{row_of}
+use Rattle.scr_sheet.specs.BalanceSheet.{group_name, position_name, stake_name, line_name, curve_name, components_total}
 use Rattle.scr_sheet.specs.Faults.{above}
-use Rattle.scr_sheet.specs.Records.{natural}
-use Rattle.scr_sheet.specs.Volumes.{volumes_in}
 use Rattle.scr_sheet.specs.declared.fault.Quantity.TheVariants as quantities
 use Rattle.scr_sheet.specs.declared.keys.Table.TheVariants as tables
-use Rattle.scr_sheet.specs.declared.limits.TheConstants.{MAX_AMOUNT, MAX_LINE_FLOWS, MAX_YEARS, MAX_CURRENCIES, MAX_SECURITIES, MAX_FUNDS, MAX_COMPONENTS, MAX_LINES, MAX_GROUPS}
-use Rattle.scr_sheet.proofs.Bounds.{neither}
+use Rattle.scr_sheet.specs.declared.limits.TheConstants.{MAX_YEARS, MAX_CURRENCIES, MAX_SECURITIES, MAX_FUNDS, MAX_COMPONENTS, MAX_LINES, MAX_GROUPS}
 use Rattle.scr_sheet.proofs.Preserved.{right_table}
-use Rattle.scr_sheet.proofs.Sums.{stake_components, line_total, volumes-part}
-use Rattle.scr_sheet.proofs.Quiet.{is_quiet, outside-quiet, outside-curve, outside-group, outside-security, outside-fund, outside-line, outside-flows, outside-hold, outside-line_flows, outside-segment, outside-bank, outside-rein}
+use Rattle.scr_sheet.proofs.Sums.{stake_components}
+use Rattle.scr_sheet.proofs.Quiet.{is_quiet, outside-quiet, outside-curve, outside-group, outside-security, outside-fund, outside-line, outside-flows, outside-hold, outside-bank, outside-rein}
 use Rattle.scr_book.proofs.Moved.{right_holding}
 use Rattle.scr_book.proofs.Reduced.{first_by_is, above-with, banks-with, reinsurers-with, years-is, both-is}
 use Rattle.scr_book.proofs.ranges.sheet_outside.Goals as goal
@@ -91,51 +88,14 @@ returns-in-Flows c =
     ∙ sym (outside-flows book c.numbers.ensures.valid op.security op.flows (right_table tables.Security op.security book known kind)))
     c.requires.known c.requires.kind
 
-pub returns-in-LineFlows : goal.returns-in-LineFlows
-returns-in-LineFlows c =
-    let book = c.args.book.now in
-    let op = c.in-LineFlows in
-    let years : c.years-in-LineFlows.result ≡ greatest_years book.numbers.asof.number op.flows =
-    years-is c.years-in-LineFlows.result c.numbers.result.now book.numbers c.as_slice-in-LineFlows.result.now op.flows c.years-in-LineFlows.ensures c.numbers.ensures.numbers c.as_slice-in-LineFlows.ensures in
-    first_by_is book c.first_of.result c.args.edit.now _ op.is
-    (λ known kind. c.first_of.ensures ∙ ap (λ o. option_or o c.outside_years-in-LineFlows.result) c.outside_line_flows-total.ensures
-    ∙ ap (λ o. option_or (above quantities.LineFlows (line_flows_total op.projection book - option_map_or (line_total op.projection) (row_of line_name op.line book.lines) 0 + total op.flows) MAX_LINE_FLOWS) o)
-    (c.outside_years-in-LineFlows.ensures ∙ ap (λ (n : ℕ). above quantities.Years n MAX_YEARS) years)
-    ∙ sym (outside-line_flows book c.numbers.ensures.valid op.line op.projection op.flows (right_table tables.Line op.line book known (neither _ _ kind).0)))
-    c.requires.known c.requires.kind
-
-pub outside_volumes-requires : goal.outside_volumes-requires
-outside_volumes-requires c =
-    let book = c.args.book.now in
-    let op = c.in-Segment in
-    let is : volumes_in op.set op.number op.region book.numbers ≡ Some c.volumes-old.result = cc in
-    volumes-part op.set op.number op.region book c.volumes-old.result is
-
-pub returns-in-Segment : goal.returns-in-Segment
-returns-in-Segment c =
-    let book = c.args.book.now in
-    let op = c.in-Segment in
-    let old : ℕ × ℕ = c.volumes-old.result in
-    let is : volumes_in op.set op.number op.region book.numbers ≡ Some old = cc in
-    let fits_premium : FitsSigned w64 op.premium = search rules in
-    let fits_reserve : FitsSigned w64 op.reserve = search rules in
-    let premium = simp to_z-of_z at c.natural.ensures in
-    let reserve = simp to_z-of_z at c.natural-in-Segment.ensures in
-    first_by_is book c.outside_volumes.result c.args.edit.now _ op.is
-    (λ known kind. c.outside_volumes.ensures
-    ∙ ap (λ (n : ℕ). above quantities.Volumes (volumes_total op.set book - (old.0 + old.1) + (n + c.natural-in-Segment.result)) MAX_AMOUNT) premium
-    ∙ ap (λ (n : ℕ). above quantities.Volumes (volumes_total op.set book - (old.0 + old.1) + (natural op.premium + n)) MAX_AMOUNT) reserve
-    ∙ sym (outside-segment book c.numbers.ensures.valid op.set op.number op.region op.premium op.reserve old is))
-    c.requires.known c.requires.kind
-
 pub returns-in-Rein : goal.returns-in-Rein
 returns-in-Rein c =
     let book = c.args.book.now in
     let op = c.in-Rein in
     let fits_recoverables : FitsSigned w64 op.recoverables = search rules in
     let fits_mitigation : FitsSigned w64 op.mitigation = search rules in
-    let recoverables = simp to_z-of_z at c.natural-in-Rein.ensures in
-    let mitigation = simp to_z-of_z at c.natural-in-Rein-2.ensures in
+    let recoverables = simp to_z-of_z at c.natural.ensures in
+    let mitigation = simp to_z-of_z at c.natural-in-Rein.ensures in
     first_by_is book c.outside_rein.result c.args.edit.now _ op.is
     (λ known kind. c.outside_rein.ensures
     ∙ reinsurers-with book op.name _ _ (both-is _ _ _ _ recoverables mitigation)

@@ -1,5 +1,5 @@
 use Rattle.std.proofs.Common.{◌≡◌, true, sym, ◌∙◌}
-use Rattle.scr_sheet.specs.Names.{is_currency}
+use Rattle.scr_names.specs.Names.{is_currency}
 use Rattle.scr_csv.specs.FieldForms.{currency_of}
 use Rattle.scr_csv.proofs.FormLemmas.{is_name-from_currency}
 use Rattle.scr_csv.proofs.forms.currency.Goals as goal

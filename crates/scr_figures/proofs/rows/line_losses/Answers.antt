@@ -3,7 +3,7 @@ use Rattle.std.proofs.lemmas.Option.{get_or_from_slice_get}
 use Rattle.std.proofs.lemmas.Int.{ints}
 use Rattle.scr_num.specs.Rounding.{Ends, ends, sub_ends}
 use Rattle.scr_curve.specs.declared.tilt.Tilt.TheVariants.{Up, Down}
-use Rattle.scr_sheet.specs.Names.{same_name}
+use Rattle.scr_names.specs.Names.{same_name}
 use Rattle.scr_sheet.specs.CashFlows.{total}
 use Rattle.scr_sheet.specs.declared.numbers.Numbers.{Numbers}
 use Rattle.scr_sheet.specs.declared.rows.Liability.{Liability}

@@ -1,5 +1,5 @@
 use Rattle.std.proofs.Common.{◌≡◌, ℕ, ◌≤◌, ◌*◌, true, ap, sym, ◌∙◌, get_or, arith, rules}
-use Rattle.scr_sheet.specs.Names.{same_name}
+use Rattle.scr_names.specs.Names.{same_name}
 use Rattle.scr_sheet.specs.declared.numbers.Numbers.{Numbers}
 use Rattle.scr_num.specs.Rounding.{ends}
 use Rattle.scr_curve.specs.declared.tilt.Tilt.TheVariants.{Up, Down}

@@ -2,14 +2,15 @@ use Rattle.std.proofs.Common.{◌≡◌, ℕ, ℤ, ◌+◌, ◌-◌, Bool, true,
 use Rattle.std.specs.Option.{option_map_or}
 use Rattle.scr_funds.specs.Chains.{LeadsTo}
 use Rattle.scr_graph.specs.Graph.{Graph, entered_in, components_under, components_after, AreEntered}
-use Rattle.scr_sheet.specs.Names.{same_name}
-use Rattle.scr_sheet.specs.BalanceSheet.{BalanceSheet, stake_name}
-use Rattle.scr_sheet.specs.Tables.{row_of, has_row, with_row}
+use Rattle.scr_names.specs.Names.{same_name}
+use Rattle.scr_sheet.specs.BalanceSheet.{stake_name}
+use Rattle.scr_sheet.specs.declared.sheet.BalanceSheet.{BalanceSheet}
+use Rattle.scr_names.specs.Tables.{row_of, has_row, with_row}
 use Rattle.scr_sheet.specs.Records.{applied}
 use Rattle.scr_sheet.specs.declared.rows.Stake.{Stake}
 use Rattle.scr_sheet.proofs.Preserved.{passes}
 use Rattle.scr_sheet.proofs.Sums.{components-part}
-use Rattle.scr_book.specs.Kept.{sheet_of, IsKept}
+use Rattle.scr_book.specs.Kept.{IsKept}
 use Rattle.scr_book.specs.declared.book.Book.TheInside.{Inside}
 use Rattle.scr_sheet.specs.declared.edit.Edit.{Edit}
 use Rattle.scr_sheet.specs.declared.edit.Edit.TheVariants as edits
@@ -49,29 +50,29 @@ invariant_of-self-in_default c =
     let others : (x : List ℕ) → same_name x name ≡ false → components_under c.clear.new.self x ≡ components_under c.enter.new.self x =
     λ x e. cleared x false e ∙ (λ i. c.in_ok-put.ensures.ok i x) ∙ ap (λ (t : Bool). cond t (map (λ p. p.0) c.as_slice-2.result.now) (components_under c.enter.new.self x)) e in
     let undone = graph-undone sheet c.enter.new.self c.clear.new.self graph (λ x e. (λ i. c.clear.ensures.entered i x) ∙ (λ i. c.put.ensures.entered i x) ∙ e) name fresh (λ x e. cleared x true e) others in
-    subst (λ (rows : List Stake). IsKept (record c.self.inside { funds = rows; graph = c.clear.new.self })) (sym c.in_default.ensures.err)
+    subst (λ (rows : List Stake). IsKept (record c.self.inside { sheet = record c.self.inside.sheet { funds = rows }; graph = c.clear.new.self })) (sym c.in_default.ensures.err)
     (kept-graph c.self.inside sheet c.self.view_is c.self.invariant c.clear.new.self undone)
 
 kept : (c : goal.After-self-1) → let components : ℕ = c.self.inside.sums.components - c.component_count-old.result + length c.as_slice.result.now in
-    let new : Inside = record c.self.inside { funds = c.put-2.new.self; graph = c.put.new.self; sums = record c.self.inside.sums { components = components } } in
-    IsKept new × (sheet_of new ≡ applied (edits.Fund c.args.name.now c.args.components.now) c.args.self.now)
+    let new : Inside = record c.self.inside { sheet = record c.self.inside.sheet { funds = c.put-2.new.self }; graph = c.put.new.self; sums = record c.self.inside.sums { components = components } } in
+    IsKept new × (new.sheet ≡ applied (edits.Fund c.args.name.now c.args.components.now) c.args.self.now)
 kept c =
     let sheet = c.args.self.now in
     let name = c.args.name.now in
     let components : ℕ = c.self.inside.sums.components - c.component_count-old.result + length c.as_slice.result.now in
-    let new : Inside = record c.self.inside { funds = c.put-2.new.self; graph = c.put.new.self; sums = record c.self.inside.sums { components = components } } in
+    let new : Inside = record c.self.inside { sheet = record c.self.inside.sheet { funds = c.put-2.new.self }; graph = c.put.new.self; sums = record c.self.inside.sums { components = components } } in
     let edit : Edit = edits.Fund name c.args.components.now in
-    let rows : List (List ℕ × ℤ) → ℕ → List Stake = λ parts held. with_row stake_name (record { fund = record { name = name; components = parts }; held = held }) c.self.inside.funds in
-    let held : c.fund_hold-held.result ≡ option_map_or (λ s. s.held) (row_of stake_name name c.self.inside.funds) 0 =
-    c.fund_hold-held.ensures.held ∙ ap (λ (s : BalanceSheet). option_map_or (λ t. t.held) (row_of stake_name name s.funds) 0) (sym c.self.view_is) in
+    let rows : List (List ℕ × ℤ) → ℕ → List Stake = λ parts held. with_row stake_name (record { fund = record { name = name; components = parts }; held = held }) c.self.inside.sheet.funds in
+    let held : c.fund_hold-held.result ≡ option_map_or (λ s. s.held) (row_of stake_name name c.self.inside.sheet.funds) 0 =
+    c.fund_hold-held.ensures in
     let count : length c.as_slice.result.now ≡ length c.args.components.now = ap length (c.as_slice.ensures ∙ c.in_ok-components.ensures) in
     let sum : components ≡ c.self.inside.sums.components - components_part name sheet + length c.args.components.now =
-    ap (λ n. c.self.inside.sums.components - n + length c.as_slice.result.now) c.component_count-old.ensures
+    ap (λ n. c.self.inside.sums.components - n + length c.as_slice.result.now) c.component_count-old.ensures.value
     ∙ ap (λ n. c.self.inside.sums.components - components_part name sheet + n) count in
     let graph = graph-entered sheet c.self.inside.graph c.enter.new.self (graph_now c.self.inside sheet c.self.view_is c.self.invariant) name c.in_ok-enter.ensures.entered c.in_ok-enter.ensures.components in
     let own : entered_in c.put.new.self name ≡ true = (λ i. c.put.ensures.entered i name) ∙ name_entered name c.self.inside.graph c.enter.new.self c.in_ok-enter.ensures.entered in
     kept-whole c.self.inside new sheet c.self.view_is c.self.invariant edit c.requires.formed c.requires.no_fault
-    (ap (λ funds. sheet_of (record c.self.inside { funds = funds }))
+    (ap (λ funds. record c.self.inside.sheet { funds = funds })
     (c.in-Ok.ensures.ok ∙ ap (λ parts. rows parts c.fund_hold-held.result) c.in_ok-components.ensures ∙ ap (rows c.args.components.now) held))
     (sums-fund name c.args.components.now sheet c.self.inside.sums components (sums_now c.self.inside sheet c.self.view_is c.self.invariant) sum)
     (graph-fund sheet c.enter.new.self c.put.new.self graph (λ x e. (λ i. c.put.ensures.entered i x) ∙ e) name c.args.components.now own
@@ -80,7 +81,7 @@ kept c =
 pub overflow_sub-self : goal.overflow_sub-self
 overflow_sub-self c =
     let are = sums_now c.self.inside c.args.self.now c.self.view_is c.self.invariant in
-    omega (arith, are.components, components-part c.args.name.now c.args.self.now, c.component_count-old.ensures)
+    omega (arith, are.components, components-part c.args.name.now c.args.self.now, c.component_count-old.ensures.value)
 
 pub invariant_of-self-2 : goal.invariant_of-self-2
 invariant_of-self-2 c = (kept c).0

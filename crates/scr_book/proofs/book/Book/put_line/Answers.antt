@@ -1,40 +1,40 @@
-use Rattle.std.proofs.Common.{◌≡◌, ℕ, List, refl, sym, ap, ◌∙◌, rules}
+use Rattle.std.proofs.Common.{◌≡◌, ℕ, List, refl, sym, ap, ◌∙◌, rules, subst}
 use Rattle.std.specs.Option.{option_map_or}
 use Rattle.scr_sheet.specs.BalanceSheet.{line_name}
 use Rattle.scr_sheet.specs.CashFlows.{no_flows}
-use Rattle.scr_sheet.specs.Records.{applied, changed}
-use Rattle.scr_sheet.specs.Tables.{row_of, with_row}
+use Rattle.scr_sheet.specs.Records.{applied}
+use Rattle.scr_names.specs.Tables.{row_of, with_row, changed}
 use Rattle.scr_sheet.specs.declared.rows.Liability.{Liability}
 use Rattle.scr_sheet.specs.declared.rows.LineFlows.{LineFlows}
-use Rattle.scr_book.specs.Kept.{sheet_of, IsKept}
+use Rattle.scr_book.specs.Kept.{IsKept}
 use Rattle.scr_book.specs.declared.book.Book.TheInside.{Inside}
 use Rattle.scr_sheet.specs.declared.edit.Edit.TheVariants as edits
 use Rattle.scr_book.proofs.Moved.{none_there}
 use Rattle.scr_book.proofs.Applied.{changed-from, replaced, kept-still}
 use Rattle.scr_book.proofs.book.Book.put_line.Goals as goal
 
-kept-replaced : (c : goal.After-change) → let new : Inside = record c.self.inside { lines = c.change.new.self } in IsKept new × (sheet_of new ≡ applied (edits.Line c.args.name.now c.args.kind c.args.currency.now) c.args.self.now)
+kept-replaced : (c : goal.After-change) → let new : Inside = record c.self.inside { sheet = record c.self.inside.sheet { lines = c.change.new.self } } in IsKept new × (new.sheet ≡ applied (edits.Line c.args.name.now c.args.kind c.args.currency.now) c.args.self.now)
 kept-replaced c =
-    let new : Inside = record c.self.inside { lines = c.change.new.self } in
+    let new : Inside = record c.self.inside { sheet = record c.self.inside.sheet { lines = c.change.new.self } } in
     let change : Liability → Liability = λ l. record l { kind = c.args.kind; currency = c.args.currency.now } in
     let line : List ℕ → LineFlows → Liability = λ n flows. record { name = n; kind = c.args.kind; currency = c.args.currency.now; flows = flows } in
-    let kept : LineFlows = option_map_or (λ l. l.flows) (row_of line_name c.args.name.now c.self.inside.lines) no_flows in
-    let written : c.change.new.self ≡ changed line_name change c.args.name.now c.self.inside.lines = changed-from line_name change _ c.args.name.now c.self.inside.lines c.change.new.self (λ old row ran. search rules) c.change.ensures in
-    let same : changed line_name change c.args.name.now c.self.inside.lines ≡ with_row line_name (line c.args.name.now kept) c.self.inside.lines =
-    replaced line_name change (line c.args.name.now kept) c.args.name.now c.self.inside.lines (sym c.contains.ensures ∙ c.if-contains.true)
+    let kept : LineFlows = option_map_or (λ l. l.flows) (row_of line_name c.args.name.now c.self.inside.sheet.lines) no_flows in
+    let written : c.change.new.self ≡ changed line_name change c.args.name.now c.self.inside.sheet.lines = changed-from line_name change _ c.args.name.now c.self.inside.sheet.lines c.change.new.self (λ old row ran. search rules) c.change.ensures in
+    let same : changed line_name change c.args.name.now c.self.inside.sheet.lines ≡ with_row line_name (line c.args.name.now kept) c.self.inside.sheet.lines =
+    replaced line_name change (line c.args.name.now kept) c.args.name.now c.self.inside.sheet.lines (sym c.contains.ensures ∙ c.if-contains.true)
     (λ l is named. ap (λ n. line n l.flows) (sym named) ∙ ap (line c.args.name.now) (sym (ap (λ o. option_map_or (λ m. m.flows) o no_flows) is))) in
     kept-still c.self.inside new c.args.self.now c.self.view_is c.self.invariant (edits.Line c.args.name.now c.args.kind c.args.currency.now) c.requires.formed c.requires.no_fault refl
-    (ap (λ rows. sheet_of (record c.self.inside { lines = rows })) (written ∙ same)) refl
+    (ap (λ rows. record c.self.inside.sheet { lines = rows }) (written ∙ same)) refl
 
-kept-made : (c : goal.In_ok-put) → let new : Inside = record c.self.inside { lines = c.put.new.self } in IsKept new × (sheet_of new ≡ applied (edits.Line c.args.name.now c.args.kind c.args.currency.now) c.args.self.now)
+kept-made : (c : goal.In_ok-put) → let new : Inside = record c.self.inside { sheet = record c.self.inside.sheet { lines = c.put.new.self } } in IsKept new × (new.sheet ≡ applied (edits.Line c.args.name.now c.args.kind c.args.currency.now) c.args.self.now)
 kept-made c =
-    let new : Inside = record c.self.inside { lines = c.put.new.self } in
+    let new : Inside = record c.self.inside { sheet = record c.self.inside.sheet { lines = c.put.new.self } } in
     let line : LineFlows → Liability = λ flows. record { name = c.args.name.now; kind = c.args.kind; currency = c.args.currency.now; flows = flows } in
-    let none = none_there line_name c.args.name.now c.self.inside.lines (sym c.contains.ensures ∙ c.if-contains.false) in
+    let none = none_there line_name c.args.name.now c.self.inside.sheet.lines (sym c.contains.ensures ∙ c.if-contains.false) in
     kept-still c.self.inside new c.args.self.now c.self.view_is c.self.invariant (edits.Line c.args.name.now c.args.kind c.args.currency.now) c.requires.formed c.requires.no_fault refl
-    (ap (λ rows. sheet_of (record c.self.inside { lines = rows }))
-    (c.in_ok-put.ensures.ok ∙ ap (λ flows. with_row line_name (line flows) c.self.inside.lines) c.none.ensures
-    ∙ ap (λ o. with_row line_name (line (option_map_or (λ m. m.flows) o no_flows)) c.self.inside.lines) (sym none)))
+    (ap (λ rows. record c.self.inside.sheet { lines = rows })
+    (c.in_ok-put.ensures.ok ∙ ap (λ flows. with_row line_name (line flows) c.self.inside.sheet.lines) c.none.ensures
+    ∙ ap (λ o. with_row line_name (line (option_map_or (λ m. m.flows) o no_flows)) c.self.inside.sheet.lines) (sym none)))
     refl
 
 pub invariant_of-self : goal.invariant_of-self
@@ -48,3 +48,7 @@ invariant_of-self-2 c = (kept-made c).0
 
 pub returns-clause-ok : goal.returns-clause-ok
 returns-clause-ok c = (kept-made c).1
+
+pub invariant_of-self-in_err-put : goal.invariant_of-self-in_err-put
+invariant_of-self-in_err-put c =
+    subst (λ (rows : List Liability). IsKept (record c.self.inside { sheet = record c.self.inside.sheet { lines = rows } })) (sym c.in_err-put.ensures.err) c.self.invariant

@@ -2,11 +2,12 @@ use Rattle.std.proofs.Common.{◌≡◌, ℕ, ℤ, ◌+◌, ◌-◌, List, get_o
 use Rattle.scr_dates.specs.declared.day.Day.{Day}
 use Rattle.scr_sheet.specs.BalanceSheet.{line_name}
 use Rattle.scr_sheet.specs.CashFlows.{total, with_flows}
-use Rattle.scr_sheet.specs.Records.{applied, changed}
+use Rattle.scr_names.specs.Tables.{changed}
+use Rattle.scr_sheet.specs.Records.{applied}
 use Rattle.scr_sheet.specs.declared.edit.Edit.{Edit}
 use Rattle.scr_sheet.specs.declared.rows.Liability.{Liability}
 use Rattle.scr_book.specs.Sums.{AreSumsOf, place_of}
-use Rattle.scr_book.specs.Kept.{sheet_of, IsKept}
+use Rattle.scr_book.specs.Kept.{IsKept}
 use Rattle.scr_book.specs.declared.book.Book.TheInside.{Inside}
 use Rattle.scr_sheet.specs.declared.edit.Edit.TheVariants as edits
 use Rattle.scr_book.proofs.Moved.{line_part, line_part-le, line_flows-moved, line_flows-most, line_flows-carried, sums-line_flows}
@@ -22,28 +23,28 @@ overflow_cast-new c =
 pub exchange_line_flows-requires-clause-part : goal.exchange_line_flows-requires-clause-part
 exchange_line_flows-requires-clause-part c =
     let part = line_part-le c.args.name.now c.args.projection c.args.flows.now c.args.self.now c.requires.no_fault c.self.inside.sums (sums_now c.self.inside c.args.self.now c.self.view_is c.self.invariant) in
-    omega (arith, c.line_total-old.ensures)
+    omega (arith, c.line_total-old.ensures.value)
 
 pub exchange_line_flows-requires-clause-fits : goal.exchange_line_flows-requires-clause-fits
 exchange_line_flows-requires-clause-fits c =
     let carried = line_flows-carried c.args.name.now c.args.projection c.args.flows.now c.args.self.now c.requires.no_fault c.self.inside.sums (sums_now c.self.inside c.args.self.now c.self.view_is c.self.invariant) in
     let most = line_flows-most c.args.name.now c.args.projection c.args.flows.now c.args.self.now c.requires.no_fault in
-    omega (arith, c.total-new.ensures.sum, c.line_total-old.ensures)
+    omega (arith, c.total-new.ensures.sum, c.line_total-old.ensures.value)
 
-kept : (c : goal.After-exchange_line_flows) → let new : Inside = record c.self.inside { lines = c.change.new.self; sums = c.exchange_line_flows.new.self } in
-    IsKept new × (sheet_of new ≡ applied (edits.LineFlows c.args.name.now c.args.projection c.args.flows.now) c.args.self.now)
+kept : (c : goal.After-exchange_line_flows) → let new : Inside = record c.self.inside { sheet = record c.self.inside.sheet { lines = c.change.new.self }; sums = c.exchange_line_flows.new.self } in
+    IsKept new × (new.sheet ≡ applied (edits.LineFlows c.args.name.now c.args.projection c.args.flows.now) c.args.self.now)
 kept c =
-    let new : Inside = record c.self.inside { lines = c.change.new.self; sums = c.exchange_line_flows.new.self } in
+    let new : Inside = record c.self.inside { sheet = record c.self.inside.sheet { lines = c.change.new.self }; sums = c.exchange_line_flows.new.self } in
     let edit : Edit = edits.LineFlows c.args.name.now c.args.projection c.args.flows.now in
     let change : List (Day × ℤ) → Liability → Liability = λ flows l. record l { flows = with_flows c.args.projection flows l.flows } in
-    let written : c.change.new.self ≡ changed line_name (change c.in_ok-projected.projected) c.args.name.now c.self.inside.lines =
-    changed-from line_name (change c.in_ok-projected.projected) _ c.args.name.now c.self.inside.lines c.change.new.self (λ old row ran. search rules) c.change.ensures in
+    let written : c.change.new.self ≡ changed line_name (change c.in_ok-projected.projected) c.args.name.now c.self.inside.sheet.lines =
+    changed-from line_name (change c.in_ok-projected.projected) _ c.args.name.now c.self.inside.sheet.lines c.change.new.self (λ old row ran. search rules) c.change.ensures in
     let n : ℕ = get_or c.self.inside.sums.line_flows (place_of c.args.projection) 0 - c.line_total-old.result + c.total-new.result in
     let sum : n ≡ get_or c.self.inside.sums.line_flows (place_of c.args.projection) 0 - line_part c.args.projection c.args.name.now c.args.self.now + total c.args.flows.now =
-    ap (λ m. get_or c.self.inside.sums.line_flows (place_of c.args.projection) 0 - m + c.total-new.result) c.line_total-old.ensures
+    ap (λ m. get_or c.self.inside.sums.line_flows (place_of c.args.projection) 0 - m + c.total-new.result) c.line_total-old.ensures.value
     ∙ ap (λ m. get_or c.self.inside.sums.line_flows (place_of c.args.projection) 0 - line_part c.args.projection c.args.name.now c.args.self.now + m) c.total-new.ensures.sum in
     kept-applied c.self.inside new c.args.self.now c.self.view_is c.self.invariant edit c.requires.formed c.requires.no_fault refl
-    (ap (λ rows. sheet_of (record c.self.inside { lines = rows })) (written ∙ ap (λ flows. changed line_name (change flows) c.args.name.now c.self.inside.lines) c.in_ok-projected.ensures))
+    (ap (λ rows. record c.self.inside.sheet { lines = rows }) (written ∙ ap (λ flows. changed line_name (change flows) c.args.name.now c.self.inside.sheet.lines) c.in_ok-projected.ensures))
     (subst (AreSumsOf (applied edit c.args.self.now)) (sym c.exchange_line_flows.ensures)
     (sums-line_flows c.args.name.now c.args.projection c.args.flows.now c.args.self.now c.requires.no_fault c.self.inside.sums n (sums_now c.self.inside c.args.self.now c.self.view_is c.self.invariant) sum))
 

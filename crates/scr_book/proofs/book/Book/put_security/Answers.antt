@@ -2,26 +2,27 @@ use Rattle.std.proofs.Common.{◌≡◌, ℕ, ℤ, true, List, [], refl, sym, ap
 use Rattle.std.proofs.lemmas.Int.{to_z-of_z}
 use Rattle.std.specs.Option.{option_map_or}
 use Rattle.scr_dates.specs.declared.day.Day.{Day}
-use Rattle.scr_sheet.specs.BalanceSheet.{BalanceSheet, position_name}
-use Rattle.scr_sheet.specs.Records.{applied, changed, natural, kept_flows, kept_hold}
-use Rattle.scr_sheet.specs.Tables.{has_row, with_row}
+use Rattle.scr_sheet.specs.BalanceSheet.{position_name}
+use Rattle.scr_sheet.specs.declared.sheet.BalanceSheet.{BalanceSheet}
+use Rattle.scr_sheet.specs.Records.{applied, natural, kept_flows, kept_hold}
+use Rattle.scr_names.specs.Tables.{has_row, with_row, changed}
 use Rattle.scr_sheet.specs.declared.rows.Position.{Position}
 use Rattle.scr_sheet.specs.declared.rows.Security.{Security}
 use Rattle.scr_sheet.specs.declared.edit.Edit.{Edit}
 use Rattle.scr_sheet.specs.declared.edit.Edit.TheVariants as edits
-use Rattle.scr_book.specs.Kept.{sheet_of, IsKept}
+use Rattle.scr_book.specs.Kept.{IsKept}
 use Rattle.scr_book.specs.declared.book.Book.TheInside.{Inside}
 use Rattle.scr_book.proofs.Moved.{none_there}
 use Rattle.scr_book.proofs.Applied.{changed-from, replaced, graph_now, kept-graph, sums_kept, kept-whole}
 use Rattle.scr_book.proofs.Holders.{graph-entered, graph-security, row_entered, name_entered, others_entered}
 use Rattle.scr_book.proofs.book.Book.put_security.Goals as goal
 
-kept-replaced : (c : goal.After-change) → let new : Inside = record c.self.inside { securities = c.change.new.self } in
-    IsKept new × (sheet_of new ≡ applied (edits.Security c.args.name.now c.args.class c.args.group c.args.currency.now c.args.duration) c.args.self.now)
+kept-replaced : (c : goal.After-change) → let new : Inside = record c.self.inside { sheet = record c.self.inside.sheet { securities = c.change.new.self } } in
+    IsKept new × (new.sheet ≡ applied (edits.Security c.args.name.now c.args.class c.args.group c.args.currency.now c.args.duration) c.args.self.now)
 kept-replaced c =
-    let new : Inside = record c.self.inside { securities = c.change.new.self } in
+    let new : Inside = record c.self.inside { sheet = record c.self.inside.sheet { securities = c.change.new.self } } in
     let edit : Edit = edits.Security c.args.name.now c.args.class c.args.group c.args.currency.now c.args.duration in
-    let rows : List Position = c.self.inside.securities in
+    let rows : List Position = c.self.inside.sheet.securities in
     let amount : c.natural.result ≡ natural c.args.duration = c.natural.ensures ∙ ap natural (to_z-of_z w64 c.args.duration c.ranges.duration) in
     let security : List ℕ → ℕ → List (Day × ℤ) → Security = λ n duration flows. record { name = n; class = c.args.class; group = c.args.group; currency = c.args.currency.now; duration = duration; flows = flows } in
     let position : List ℕ → ℕ → List (Day × ℤ) → ℕ → Position = λ n duration flows held. record { security = security n duration flows; held = held } in
@@ -39,16 +40,16 @@ kept-replaced c =
     ap (λ (s : BalanceSheet). has_row position_name c.args.name.now s.securities) (sym c.self.view_is) ∙ sym c.contains.ensures ∙ c.if-contains.true in
     let own = row_entered position_name c.self.inside.graph c.args.name.now c.args.self.now.securities has graph.securities in
     kept-whole c.self.inside new c.args.self.now c.self.view_is c.self.invariant edit c.requires.formed c.requires.no_fault
-    (ap (λ rows. sheet_of (record c.self.inside { securities = rows })) (written ∙ same))
+    (ap (λ rows. record c.self.inside.sheet { securities = rows }) (written ∙ same))
     (sums_kept c.self.inside new c.args.self.now c.self.view_is c.self.invariant edit c.requires.formed c.requires.no_fault refl refl)
     (graph-security c.args.self.now c.self.inside.graph c.self.inside.graph graph (λ x e. e) _ own refl)
 
-kept-made : (c : goal.In_ok-put) → let new : Inside = record c.self.inside { securities = c.put.new.self; graph = c.enter.new.self } in
-    IsKept new × (sheet_of new ≡ applied (edits.Security c.args.name.now c.args.class c.args.group c.args.currency.now c.args.duration) c.args.self.now)
+kept-made : (c : goal.In_ok-put) → let new : Inside = record c.self.inside { sheet = record c.self.inside.sheet { securities = c.put.new.self }; graph = c.enter.new.self } in
+    IsKept new × (new.sheet ≡ applied (edits.Security c.args.name.now c.args.class c.args.group c.args.currency.now c.args.duration) c.args.self.now)
 kept-made c =
-    let new : Inside = record c.self.inside { securities = c.put.new.self; graph = c.enter.new.self } in
+    let new : Inside = record c.self.inside { sheet = record c.self.inside.sheet { securities = c.put.new.self }; graph = c.enter.new.self } in
     let edit : Edit = edits.Security c.args.name.now c.args.class c.args.group c.args.currency.now c.args.duration in
-    let rows : List Position = c.self.inside.securities in
+    let rows : List Position = c.self.inside.sheet.securities in
     let amount : c.natural.result ≡ natural c.args.duration = c.natural.ensures ∙ ap natural (to_z-of_z w64 c.args.duration c.ranges.duration) in
     let security : ℕ → List (Day × ℤ) → Security = λ duration flows. record { name = c.args.name.now; class = c.args.class; group = c.args.group; currency = c.args.currency.now; duration = duration; flows = flows } in
     let position : ℕ → List (Day × ℤ) → ℕ → Position = λ duration flows held. record { security = security duration flows; held = held } in
@@ -58,7 +59,7 @@ kept-made c =
     let graph = graph_now c.self.inside c.args.self.now c.self.view_is c.self.invariant in
     let entered = c.in_ok-enter.ensures.entered in
     kept-whole c.self.inside new c.args.self.now c.self.view_is c.self.invariant edit c.requires.formed c.requires.no_fault
-    (ap (λ rows. sheet_of (record c.self.inside { securities = rows }))
+    (ap (λ rows. record c.self.inside.sheet { securities = rows })
     (c.in_ok-put.ensures.ok ∙ ap (λ d. with_row position_name (position d c.new-2.result 0) rows) amount ∙ ap (λ flows. with_row position_name (position (natural c.args.duration) flows 0) rows) promised
     ∙ ap (λ n. with_row position_name (position (natural c.args.duration) (kept_flows c.args.name.now rows) n) rows) held))
     (sums_kept c.self.inside new c.args.self.now c.self.view_is c.self.invariant edit c.requires.formed c.requires.no_fault refl refl)
@@ -82,5 +83,5 @@ invariant_of-self-in_err-put c =
     let sheet = c.args.self.now in
     let graph = graph_now c.self.inside sheet c.self.view_is c.self.invariant in
     let entered = graph-entered sheet c.self.inside.graph c.enter.new.self graph c.args.name.now c.in_ok-enter.ensures.entered c.in_ok-enter.ensures.components in
-    subst (λ (rows : List Position). IsKept (record c.self.inside { securities = rows; graph = c.enter.new.self })) (sym c.in_err-put.ensures.err)
+    subst (λ (rows : List Position). IsKept (record c.self.inside { sheet = record c.self.inside.sheet { securities = rows }; graph = c.enter.new.self })) (sym c.in_err-put.ensures.err)
     (kept-graph c.self.inside sheet c.self.view_is c.self.invariant c.enter.new.self entered)

@@ -4,32 +4,32 @@ use Rattle.scr_sheet.specs.Forms.{Formed}
 use Rattle.scr_sheet.specs.Records.{applied}
 use Rattle.scr_sheet.specs.declared.keys.Table.{Table}
 use Rattle.scr_sheet.specs.declared.keys.Table.TheVariants as tables
-use Rattle.scr_book.specs.Kept.{sheet_of, IsKept}
+use Rattle.scr_book.specs.Kept.{IsKept}
 use Rattle.scr_book.specs.declared.book.Book.TheInside.{Inside}
 use Rattle.scr_sheet.specs.declared.edit.Edit.TheVariants as edits
 use Rattle.scr_book.proofs.Applied.{kept-still}
 use Rattle.scr_book.proofs.book.Book.remove.Goals as goal
 
-kept-groups : (c : goal.After-remove) → let new : Inside = record c.self.inside { groups = c.remove.new.self } in IsKept new × (sheet_of new ≡ applied (edits.Remove tables.Group c.args.name.now) c.args.self.now)
+kept-groups : (c : goal.After-remove) → let new : Inside = record c.self.inside { sheet = record c.self.inside.sheet { groups = c.remove.new.self } } in IsKept new × (new.sheet ≡ applied (edits.Remove tables.Group c.args.name.now) c.args.self.now)
 kept-groups c =
-    let new : Inside = record c.self.inside { groups = c.remove.new.self } in
+    let new : Inside = record c.self.inside { sheet = record c.self.inside.sheet { groups = c.remove.new.self } } in
     kept-still c.self.inside new c.args.self.now c.self.view_is c.self.invariant (edits.Remove tables.Group c.args.name.now) (subst (λ (t : Table). Formed (edits.Remove t c.args.name.now)) c.in-Group.is c.requires.formed)
     (sym (ap (λ (t : Table). fault_of (edits.Remove t c.args.name.now) c.args.self.now) c.in-Group.is) ∙ c.requires.no_fault) refl
-    (ap (λ rows. sheet_of (record c.self.inside { groups = rows })) c.remove.ensures) refl
+    (ap (λ rows. record c.self.inside.sheet { groups = rows }) c.remove.ensures) refl
 
-kept-securities : (c : goal.After-remove-in-Security) → let new : Inside = record c.self-in-Security.inside { securities = c.remove-in-Security.new.self } in IsKept new × (sheet_of new ≡ applied (edits.Remove tables.Security c.args.name.now) c.args.self.now)
+kept-securities : (c : goal.After-remove-in-Security) → let new : Inside = record c.self-in-Security.inside { sheet = record c.self-in-Security.inside.sheet { securities = c.remove-in-Security.new.self } } in IsKept new × (new.sheet ≡ applied (edits.Remove tables.Security c.args.name.now) c.args.self.now)
 kept-securities c =
-    let new : Inside = record c.self-in-Security.inside { securities = c.remove-in-Security.new.self } in
+    let new : Inside = record c.self-in-Security.inside { sheet = record c.self-in-Security.inside.sheet { securities = c.remove-in-Security.new.self } } in
     kept-still c.self-in-Security.inside new c.args.self.now c.self-in-Security.view_is c.self-in-Security.invariant (edits.Remove tables.Security c.args.name.now) (subst (λ (t : Table). Formed (edits.Remove t c.args.name.now)) c.in-Security.is c.requires.formed)
     (sym (ap (λ (t : Table). fault_of (edits.Remove t c.args.name.now) c.args.self.now) c.in-Security.is) ∙ c.requires.no_fault) refl
-    (ap (λ rows. sheet_of (record c.self-in-Security.inside { securities = rows })) c.remove-in-Security.ensures) refl
+    (ap (λ rows. record c.self-in-Security.inside.sheet { securities = rows }) c.remove-in-Security.ensures) refl
 
-kept-curves : (c : goal.After-remove-in-Curve) → let new : Inside = record c.self-in-Curve.inside { curves = c.remove-in-Curve.new.self } in IsKept new × (sheet_of new ≡ applied (edits.Remove tables.Curve c.args.name.now) c.args.self.now)
+kept-curves : (c : goal.After-remove-in-Curve) → let new : Inside = record c.self-in-Curve.inside { sheet = record c.self-in-Curve.inside.sheet { curves = c.remove-in-Curve.new.self } } in IsKept new × (new.sheet ≡ applied (edits.Remove tables.Curve c.args.name.now) c.args.self.now)
 kept-curves c =
-    let new : Inside = record c.self-in-Curve.inside { curves = c.remove-in-Curve.new.self } in
+    let new : Inside = record c.self-in-Curve.inside { sheet = record c.self-in-Curve.inside.sheet { curves = c.remove-in-Curve.new.self } } in
     kept-still c.self-in-Curve.inside new c.args.self.now c.self-in-Curve.view_is c.self-in-Curve.invariant (edits.Remove tables.Curve c.args.name.now) (subst (λ (t : Table). Formed (edits.Remove t c.args.name.now)) c.in-Curve.is c.requires.formed)
     (sym (ap (λ (t : Table). fault_of (edits.Remove t c.args.name.now) c.args.self.now) c.in-Curve.is) ∙ c.requires.no_fault) refl
-    (ap (λ rows. sheet_of (record c.self-in-Curve.inside { curves = rows })) c.remove-in-Curve.ensures) refl
+    (ap (λ rows. record c.self-in-Curve.inside.sheet { curves = rows }) c.remove-in-Curve.ensures) refl
 
 pub invariant_of-self : goal.invariant_of-self
 invariant_of-self c = (kept-groups c).0

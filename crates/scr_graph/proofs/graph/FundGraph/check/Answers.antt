@@ -1,9 +1,7 @@
 use Rattle.std.proofs.Common.{◌≡◌, Err, map, get_or, Some, sym, ap, subst, ◌∙◌}
-use Rattle.std.specs.Option.{option_map}
 use Rattle.scr_funds.specs.Answers.{Answers as Found}
 use Rattle.scr_funds.specs.Chains.{LeadsTo, IsFirstShortest}
 use Rattle.scr_funds.specs.Components.{components_with}
-use Rattle.scr_sheet.specs.declared.fault.Fault.TheVariants as faults
 use Rattle.scr_graph.specs.Graph.{Graph, number_in}
 use Rattle.scr_graph.proofs.Graphs.{Sound, sound-from_kept, carried, apart_named, no_path, path}
 use Rattle.scr_graph.proofs.graph.FundGraph.check.Goals as goal
@@ -18,7 +16,7 @@ none c =
 pub returns-in-Ok-check_edges-clause-answer : goal.returns-in-Ok-check_edges-clause-answer
 returns-in-Ok-check_edges-clause-answer c = λ most holders holds enough.
     let s = subst Sound c.self.view_is (sound-from_kept c.self.inside c.self.invariant) in
-    ap (option_map (λ path. faults.Cycle path)) (no_path c.args.self.now.names c.args.self.now.components s.distinct s.few s.order c.args.fund.now c.args.components.now c.requires most (none c))
+    no_path c.args.self.now.names c.args.self.now.components s.distinct s.few s.order c.args.fund.now c.args.components.now c.requires most (none c)
 
 pub returns-in-Ok-check_edges-clause-apart : goal.returns-in-Ok-check_edges-clause-apart
 returns-in-Ok-check_edges-clause-apart c =
@@ -39,6 +37,5 @@ returns-in-Ok-names-clause-answer c = λ most holders holds enough.
     let s = subst Sound c.self.view_is (sound-from_kept c.self.inside c.self.invariant) in
     let names : c.new.result ≡ map (λ k. get_or c.args.self.now.names k c.args.fund.now) c.in-Err-Cycle.path =
     c.new.ensures ∙ c.in-Ok-names.ensures ∙ ap (map (λ k. get_or c.args.self.now.names k c.args.fund.now)) c.as_slice.ensures in
-    ap (option_map (λ path. faults.Cycle path))
-    (path c.args.self.now.names c.args.self.now.components s.distinct s.few s.order c.args.fund.now c.args.components.now c.requires most holders holds enough c.in-Err-Cycle.path (told c))
-    ∙ ap (λ path. Some (faults.Cycle path)) (sym names)
+    path c.args.self.now.names c.args.self.now.components s.distinct s.few s.order c.args.fund.now c.args.components.now c.requires most holders holds enough c.in-Err-Cycle.path (told c)
+    ∙ ap (λ path. Some path) (sym names)

@@ -1,9 +1,9 @@
 use Rattle.std.proofs.Common.{◌≡◌, ◌||◌, [], ◌∷◌, ◌++◌, Result, Ok, Err, OnErr, length, map, sym, ap, subst, ◌∙◌, arith}
 use Rattle.std.specs.List.{list_any, IsDistinct}
 use Rattle.std.proofs.lemmas.List.{length-append, length-map, map-append, append-nil}
-use Rattle.scr_sheet.specs.Names.{same_name}
-use Rattle.scr_sheet.specs.Tables.{with_row}
-use Rattle.scr_sheet.proofs.TableRows.{distinct-with_row}
+use Rattle.scr_names.specs.Names.{same_name}
+use Rattle.scr_names.specs.Tables.{with_row}
+use Rattle.scr_names.proofs.TableRows.{distinct-with_row}
 use Rattle.scr_graph.specs.Graph.{Graph, components_under, entered_in}
 use Rattle.scr_graph.specs.GraphKept.{node_name}
 use Rattle.scr_graph.proofs.Graphs.{under-entered}

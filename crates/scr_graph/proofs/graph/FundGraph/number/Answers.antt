@@ -1,7 +1,7 @@
 use Rattle.std.proofs.Common.{◌≡◌, ◌<◌, false, length, map, sym, ap, ◌∙◌, arith}
 use Rattle.std.proofs.lemmas.List.{length-map}
 use Rattle.std.specs.List.{list_any}
-use Rattle.scr_sheet.specs.Names.{same_name}
+use Rattle.scr_names.specs.Names.{same_name}
 use Rattle.scr_graph.specs.Graph.{Graph, number_in}
 use Rattle.scr_graph.specs.GraphKept.{node_name}
 use Rattle.scr_graph.proofs.Nodes.{placed, has_row-any}

@@ -1,0 +1,59 @@
+//! What the row of a name is of a sum that the book keeps.
+ghost use Rattle.std.specs.Prelude.{◌≡◌, ◌+◌, ◌≤◌, length};
+ghost use Rattle.std.specs.Option.{option_map_or};
+ghost use Rattle.scr_names.specs.Tables.{row_of};
+ghost use Rattle.scr_sheet.specs.CashFlows.{total, flows_under};
+ghost use Rattle.scr_sheet.specs.BalanceSheet.{stake_name, line_name, bank_name, rein_name, line_flows_total, defaults_total, components_total};
+
+use crate::{Book, Name, Projection};
+
+impl Book {
+    // The number of components of the fund of this name, 0 where there is none.
+    pub(crate) fn component_count(&self, name: &Name) -> u64
+        ensures value { result
+            ≡ option_map_or (λ s. length s.fund.components) (row_of stake_name name.now self.now.funds) 0 }
+        ensures part { result ≤ components_total self.now }
+    {
+        match self.sheet().funds.get(name) {
+            Some(stake) => stake.fund.components.as_slice().len() as u64,
+            None => 0,
+        }
+    }
+
+    // What the line of this name pays and receives under the projection, 0 where there is none.
+    pub(crate) fn line_total(&self, name: &Name, projection: Projection) -> u64
+        ensures value { result
+            ≡ option_map_or (λ l. total (flows_under projection l.flows))
+            (row_of line_name name.now self.now.lines) 0 }
+        ensures part { result ≤ line_flows_total projection self.now }
+    {
+        match self.sheet().lines.get(name) {
+            Some(line) => line.flows.under(projection).total() as u64,
+            None => 0,
+        }
+    }
+
+    // What the bank of this name holds, 0 where there is none.
+    pub(crate) fn bank_total(&self, name: &Name) -> u64
+        ensures value { result ≡ option_map_or (λ b. b.cents) (row_of bank_name name.now self.now.banks) 0 }
+        ensures part { result ≤ defaults_total self.now }
+    {
+        match self.sheet().banks.get(name) {
+            Some(bank) => bank.cents,
+            None => 0,
+        }
+    }
+
+    // The recoverables and the risk-mitigating effect of the reinsurer of this name, 0 where there is none.
+    pub(crate) fn rein_total(&self, name: &Name) -> u64
+        ensures value { result
+            ≡ option_map_or (λ r. r.recoverables + r.mitigation)
+            (row_of rein_name name.now self.now.reinsurers) 0 }
+        ensures part { result ≤ defaults_total self.now }
+    {
+        match self.sheet().reinsurers.get(name) {
+            Some(rein) => rein.recoverables + rein.mitigation,
+            None => 0,
+        }
+    }
+}

@@ -1,0 +1,3 @@
+pub mod NameBytes
+pub mod TableRows
+pub mod Entries

@@ -1,0 +1,18 @@
+use Rattle.std.proofs.Common.{ℕ, List, None, ◌++◌, sym, ap, ◌∙◌, map, filter, fold}
+use Rattle.std.proofs.lemmas.List.Sums.{fold-append}
+use Rattle.scr_names.specs.Names.{same_name, earlier}
+use Rattle.scr_sheet.specs.BalanceSheet.{position_name, bank_name, rein_name}
+use Rattle.scr_sheet.specs.Users.{is_of_group}
+use Rattle.scr_sheet.proofs.users.first_of_group.Goals as goal
+
+pub returns : goal.returns
+returns c =
+    let group = c.args.group.now in
+    let sheet = c.args.sheet.now in
+    let securities : List (List ℕ) = map position_name (filter (is_of_group group) sheet.securities) in
+    let banks : List (List ℕ) = map bank_name (filter (λ b. same_name group b.group) sheet.banks) in
+    let reinsurers : List (List ℕ) = map rein_name (filter (λ r. same_name group r.group) sheet.reinsurers) in
+    c.reinsurers_of_group.ensures
+    ∙ ap (λ first. fold earlier first reinsurers)
+    (c.banks_of_group-banks.ensures ∙ ap (λ first. fold earlier first banks) c.securities_of_group-securities.ensures ∙ sym (fold-append earlier None securities banks))
+    ∙ sym (fold-append earlier None (securities ++ banks) reinsurers)
