@@ -51,4 +51,12 @@ impl Places {
     {
         &self.0
     }
+
+    /// Gives the numbers back, without memory.
+    pub fn into_vec(self) -> Vec<u32>
+        ensures { result.items ≡ self }
+    {
+        let Places(numbers) = self;
+        numbers
+    }
 }

@@ -57,9 +57,9 @@ fn set(order: &mut FundOrder, alloc: Global, from: u32, to: &[u32]) -> Result<()
     order.add_edges(alloc, from, to)
 }
 
-fn refused_path(rt: &impl Abort, answer: Result<(), OrderFault>) -> Places {
+fn refused_path(rt: &impl Abort, answer: Result<(), OrderFault>) -> Vec<u32> {
     match answer {
-        Err(OrderFault::Cycle(path)) => path,
+        Err(OrderFault::Cycle(path)) => path.into_vec(),
         _ => panic!(rt; "no cycle"),
     }
 }

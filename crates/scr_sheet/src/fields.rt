@@ -44,7 +44,7 @@ pub fn fields_outside(edit: &Edit) -> Option<Fault>
             ..
         } => { outside_amounts(&[recoverables, mitigation, collateral]) }
         Edit::Due { overdue, other } => outside_amounts(&[overdue, other]),
-        Edit::Op { .. } => outside_operational(edit),
+        Edit::Op { .. } => outside_in_operational(edit),
         Edit::Sym { millionths } => outside(Quantity::Sym, -MAX_SYM, MAX_SYM, millionths),
         Edit::Tax { millionths, cap } => { outside_tax(millionths, cap) }
         Edit::Asof { .. }
@@ -79,7 +79,7 @@ fn outside_promise(flows: &Flows) -> Option<Fault>
     above(Quantity::SecFlows, flows.total(), MAX_PROMISED)
 }
 
-fn outside_operational(edit: &Edit) -> Option<Fault>
+fn outside_in_operational(edit: &Edit) -> Option<Fault>
     requires { is_operational edit.now ≡ true }
     ensures { result ≡ fields_outside edit.now }
 {
@@ -95,12 +95,15 @@ fn outside_operational(edit: &Edit) -> Option<Fault>
             en,
             pen,
             expul,
-        } => {
-            let amounts = outside_amounts(&[el, eul, pel, peul, en, pen, expul]);
-            first_of(amounts, outside_provisions(&[tpl, tpul, tpn]))
-        }
+        } => { outside_operational([el, eul, pel, peul, en, pen, expul], [tpl, tpul, tpn]) }
         _ => None,
     }
+}
+
+fn outside_operational(amounts: [i64; 7], provisions: [i64; 3]) -> Option<Fault>
+    ensures { result ≡ option_or (outside_amounts amounts) (outside_provisions provisions) }
+{
+    first_of(outside_amounts(&amounts), outside_provisions(&provisions))
 }
 
 fn outside_tax(millionths: i64, cap: i64) -> Option<Fault>
