@@ -1,5 +1,6 @@
 -- Which of several exact outcomes is chosen.
-use Rattle.std.proofs.Common.{◌≡◌, ℕ, zero, suc, ◌<◌, ◌≤◌, ℤ, pos, ◌*ℤ◌, ◌≤ℤ◌, Bool, true, false, not, ◌&&◌, int_lt, inl, inr, ◌⊎◌, List, length, cond, refl, arith}
+use Rattle.std.proofs.Common.{◌≡◌, ℕ, zero, suc, ◌<◌, ◌≤◌, ℤ, pos, ◌*ℤ◌, ◌≤ℤ◌, Bool, true, false, not, ◌&&◌, int_lt}
+use Rattle.std.proofs.Common.{inl, inr, ◌⊎◌, List, length, cond, refl, arith}
 use Rattle.std.proofs.lemmas.Int.{ints}
 use Rattle.std.proofs.lemmas.Bool.{cases_lt, or_cases, or_parts, and_parts, and_cases, not-true, not-false}
 use Rattle.scr_num.specs.Fraction.{Fraction, ◌≼◌, is_less}
@@ -32,15 +33,19 @@ same p = ≼_refl p p refl refl
 record IsChosenBelow (list : List Outcome) (n place : ℕ) : Type 0 where
   listed : (place < n) ⊎ (n ≡ 0)
   greatest_net : (j : ℕ) → j < n → (outcome_at list j).net ≼ (outcome_at list place).net
-  greatest_gross : (j : ℕ) → j < n → (outcome_at list place).net ≼ (outcome_at list j).net → (outcome_at list j).gross ≼ (outcome_at list place).gross
-  first : (j : ℕ) → j < n → (outcome_at list place).net ≼ (outcome_at list j).net → (outcome_at list place).gross ≼ (outcome_at list j).gross → place ≤ j
+  greatest_gross : (j : ℕ) → j < n → (outcome_at list place).net ≼ (outcome_at list j).net
+      → (outcome_at list j).gross ≼ (outcome_at list place).gross
+  first : (j : ℕ) → j < n → (outcome_at list place).net ≼ (outcome_at list j).net
+      → (outcome_at list place).gross ≼ (outcome_at list j).gross → place ≤ j
 
 -- places below suc n
 each : {P : ℕ → Type 0} (n : ℕ) → ((j : ℕ) → j < n → P j) → P n → (j : ℕ) → j < suc n → P j
-each {P} n before here j lt = elim (cases_lt j n) [ inl below ↦ before j below | inr above ↦ let at : j ≡ n = omega arith in rw at here ]
+each {P} n before here j lt = elim (cases_lt j n)
+    [ inl below ↦ before j below | inr above ↦ let at : j ≡ n = omega arith in rw at here ]
 
 -- the next one is not taken
-kept : (list : List Outcome) (n m : ℕ) → IsChosenBelow list n m → 0 < n → surpasses (outcome_at list n) (outcome_at list m) ≡ false → IsChosenBelow list (suc n) m
+kept : (list : List Outcome) (n m : ℕ) → IsChosenBelow list n m → 0 < n
+    → surpasses (outcome_at list n) (outcome_at list m) ≡ false → IsChosenBelow list (suc n) m
 kept list n m h some e =
     let x = outcome_at list n in
     let y = outcome_at list m in
@@ -59,7 +64,8 @@ kept list n m h some e =
     }
 
 -- the next one is taken, for its net or for its gross
-taken_for_net : (list : List Outcome) (n m : ℕ) → IsChosenBelow list n m → is_less (outcome_at list m).net (outcome_at list n).net ≡ true → IsChosenBelow list (suc n) n
+taken_for_net : (list : List Outcome) (n m : ℕ) → IsChosenBelow list n m
+    → is_less (outcome_at list m).net (outcome_at list n).net ≡ true → IsChosenBelow list (suc n) n
 taken_for_net list n m h less =
     let x = outcome_at list n in
     let y = outcome_at list m in
@@ -68,27 +74,36 @@ taken_for_net list n m h less =
     less_not y.net x.net less (≼_trans x.net (outcome_at list j).net y.net k (h.greatest_net j lt)) in
     record {
       listed = inl (omega arith);
-      greatest_net = each n (λ j lt. ≼_trans (outcome_at list j).net y.net x.net (h.greatest_net j lt) above) (same x.net);
+      greatest_net = each n (λ j lt. ≼_trans (outcome_at list j).net y.net x.net (h.greatest_net j lt) above)
+          (same x.net);
       greatest_gross = each n (λ j lt k. absurd (never j lt k)) (λ k. same x.gross);
       first = each n (λ j lt k l. absurd (never j lt k)) (λ k l. omega arith);
     }
 
-taken_for_gross : (list : List Outcome) (n m : ℕ) → IsChosenBelow list n m → (outcome_at list m).net ≼ (outcome_at list n).net
+taken_for_gross : (list : List Outcome) (n m : ℕ) → IsChosenBelow list n m
+    → (outcome_at list m).net ≼ (outcome_at list n).net
     → is_less (outcome_at list m).gross (outcome_at list n).gross ≡ true → IsChosenBelow list (suc n) n
 taken_for_gross list n m h net less =
     let x = outcome_at list n in
     let y = outcome_at list m in
     let above = less_le y.gross x.gross less in
-    let gross_below : (j : ℕ) → j < n → x.net ≼ (outcome_at list j).net → (outcome_at list j).gross ≼ y.gross = λ j lt k.
+    let gross_below : (j : ℕ) → j < n → x.net ≼ (outcome_at list j).net → (outcome_at list j).gross ≼ y.gross =
+    λ j lt k.
     h.greatest_gross j lt (≼_trans y.net x.net (outcome_at list j).net net k) in
     record {
       listed = inl (omega arith);
-      greatest_net = each n (λ j lt. ≼_trans (outcome_at list j).net y.net x.net (h.greatest_net j lt) net) (same x.net);
-      greatest_gross = each n (λ j lt k. ≼_trans (outcome_at list j).gross y.gross x.gross (gross_below j lt k) above) (λ k. same x.gross);
-      first = each n (λ j lt k l. absurd (less_not y.gross x.gross less (≼_trans x.gross (outcome_at list j).gross y.gross l (gross_below j lt k)))) (λ k l. omega arith);
+      greatest_net = each n (λ j lt. ≼_trans (outcome_at list j).net y.net x.net (h.greatest_net j lt) net)
+          (same x.net);
+      greatest_gross = each n (λ j lt k. ≼_trans (outcome_at list j).gross y.gross x.gross (gross_below j lt k) above)
+          (λ k. same x.gross);
+      first = each n
+          (λ j lt k l. absurd
+          (less_not y.gross x.gross less (≼_trans x.gross (outcome_at list j).gross y.gross l (gross_below j lt k))))
+          (λ k l. omega arith);
     }
 
-taken : (list : List Outcome) (n m : ℕ) → IsChosenBelow list n m → surpasses (outcome_at list n) (outcome_at list m) ≡ true → IsChosenBelow list (suc n) n
+taken : (list : List Outcome) (n m : ℕ) → IsChosenBelow list n m
+    → surpasses (outcome_at list n) (outcome_at list m) ≡ true → IsChosenBelow list (suc n) n
 taken list n m h e =
     let x = outcome_at list n in
     let y = outcome_at list m in
@@ -116,7 +131,8 @@ only list = record {
   first = each 0 (λ j lt. absurd (omega arith)) (λ k l. omega arith);
 }
 
-next : (list : List Outcome) (n m : ℕ) (b : Bool) → surpasses (outcome_at list n) (outcome_at list m) ≡ b → IsChosenBelow list n m → (0 < n) ⊎ ((n ≡ 0) × (m ≡ 0))
+next : (list : List Outcome) (n m : ℕ) (b : Bool) → surpasses (outcome_at list n) (outcome_at list m) ≡ b
+    → IsChosenBelow list n m → (0 < n) ⊎ ((n ≡ 0) × (m ≡ 0))
     → IsChosenBelow list (suc n) (cond b n m)
 next list n m true e h place = taken list n m h e
 next list n m false e h (inl some) = kept list n m h some e
@@ -131,7 +147,8 @@ below : (list : List Outcome) (n : ℕ) → IsChosenBelow list n (chosen_below l
 unfolding chosen_below
 below list zero = none list
 below list (suc n) =
-    next list n (chosen_below list n) (surpasses (outcome_at list n) (outcome_at list (chosen_below list n))) refl (below list n) (start list n)
+    next list n (chosen_below list n) (surpasses (outcome_at list n) (outcome_at list (chosen_below list n))) refl
+    (below list n) (start list n)
 
 pub chosen-is : (list : List Outcome) → 0 < length list → IsChosen list (chosen list)
 chosen-is list some =
@@ -146,6 +163,8 @@ chosen-is list some =
 -- no other place is
 pub chosen-unique : (list : List Outcome) (i j : ℕ) → IsChosen list i → IsChosen list j → i ≡ j
 chosen-unique list i j h k =
-    let a : i ≤ j = h.first j k.listed (k.greatest_net i h.listed) (k.greatest_gross i h.listed (h.greatest_net j k.listed)) in
-    let b : j ≤ i = k.first i h.listed (h.greatest_net j k.listed) (h.greatest_gross j k.listed (k.greatest_net i h.listed)) in
+    let a : i ≤ j = h.first j k.listed (k.greatest_net i h.listed)
+    (k.greatest_gross i h.listed (h.greatest_net j k.listed)) in
+    let b : j ≤ i = k.first i h.listed (h.greatest_net j k.listed)
+    (h.greatest_gross j k.listed (k.greatest_net i h.listed)) in
     omega arith

@@ -30,7 +30,8 @@ greater-least p q r h k = of (is_less p q)
     of false = h
 
 -- ---- figures
-pub Encloses-greater : (unit : ℕ) (low high : ℤ) (p q : Fraction) → Encloses unit low high (Max (Frac p) (Frac q)) → Encloses unit low high (Frac (greater p q))
+pub Encloses-greater : (unit : ℕ) (low high : ℤ) (p q : Fraction) → Encloses unit low high (Max (Frac p) (Frac q))
+    → Encloses unit low high (Frac (greater p q))
 unfolding AtMost
 Encloses-greater unit low high p q h = record {
   positive = h.positive;
@@ -42,7 +43,8 @@ Encloses-greater unit low high p q h = record {
 }
 
 -- what is at most and at least a difference, as one of the difference
-pub Encloses-net_amount : (unit : ℕ) (low high : ℤ) (gross : Fraction) (absorb : ℕ) → Encloses unit low high (net_figure (Frac gross) absorb)
+pub Encloses-net_amount : (unit : ℕ) (low high : ℤ) (gross : Fraction) (absorb : ℕ)
+    → Encloses unit low high (net_figure (Frac gross) absorb)
     → Encloses unit low high (Frac (net_amount gross absorb))
 unfolding AtMost
 Encloses-net_amount unit low high gross absorb h =
@@ -54,7 +56,12 @@ Encloses-net_amount unit low high gross absorb h =
       positive = h.positive;
       at_most = elim h.at_most [
         | inl a ↦ inl a
-        | inr a ↦ inr (≼_trans (over low unit h.positive) (minus a.0 a.1) left a.4 (minus_mono a.0 gross a.1 taken a.2 a.3))
+        | inr a ↦ inr
+            (≼_trans (over low unit h.positive) (minus a.0 a.1) left a.4 (minus_mono a.0 gross a.1 taken a.2 a.3))
       ];
-      at_least = (h.at_least.0, ≼_trans left (minus b.0 b.1) (over high unit h.positive) (minus_mono gross b.0 taken b.1 b.2 b.3) b.4);
+      at_least = (
+        h.at_least.0,
+        ≼_trans left (minus b.0 b.1) (over high unit h.positive)
+            (minus_mono gross b.0 taken b.1 b.2 b.3) b.4,
+      );
     })

@@ -10,3 +10,5 @@ pub mod Nets
 pub mod Enclosed
 pub mod Bits
 pub mod ExactAmounts
+pub mod RootSizes
+pub mod ChosenAmounts

@@ -1,7 +1,8 @@
 -- The choice among alternative scenarios, after Article 206(2) of Delegated Regulation (EU) 2015/35: the scenario with
--- the greatest net requirement decides. Among those with one net requirement the one with the greatest gross requirement
--- does, and then the first listed (this project's own).
-use Rattle.std.specs.Prelude.{ℕ, zero, suc, ◌<◌, ◌≤◌, Bool, not, ◌&&◌, ◌||◌, List, length, slice_index_or, if◌then◌else◌}
+-- the greatest net requirement decides. Among those with one net requirement the one with the greatest gross
+-- requirement does, and then the first listed (this project's own).
+use Rattle.std.specs.Prelude.{ℕ, zero, suc, ◌<◌, ◌≤◌, Bool, not, ◌&&◌, ◌||◌, List, length, slice_index_or}
+use Rattle.std.specs.Prelude.{if◌then◌else◌}
 use Rattle.scr_num.specs.Fraction.{Fraction, ◌≼◌, zero_fraction, is_less}
 
 -- what a scenario costs before and after absorption

@@ -1,14 +1,14 @@
 -- Matrices of correlation coefficients as tables, and what a root over one asks of its parts (this project's own).
-use Rattle.std.specs.Prelude.{ℕ, ◌+◌, ◌<◌, pos, neg_ℤ, ◌≤ℤ◌, List, [], ◌∷◌, map, take}
+use Rattle.std.specs.Prelude.{ℕ, ◌+◌, ◌<◌, pos, neg_ℤ, ◌≤ℤ◌, List, [], ◌∷◌, map}
 use Rattle.scr_num.specs.declared.span.Span.{Span}
 use Rattle.scr_num.specs.Rounding.{Ends, ends, or_zero}
 use Rattle.scr_num.specs.Table.{Table}
-use Rattle.scr_factors.specs.declared.matrix.Matrix.{Matrix}
-use Rattle.scr_factors.specs.Matrix.{entry}
+use Rattle.scr_profile.specs.declared.matrix.Matrix.{Matrix}
+use Rattle.scr_profile.specs.Matrix.{entry, coefficients}
 
--- the first n rows and columns
+-- its coefficients over its denominator
 abbrev pub table_of : Matrix → Table
-table_of m = record { den = or_zero m.den; rows = map (take m.n) (take m.n m.cells) }
+table_of m = record { den = or_zero m.den; rows = coefficients m }
 
 -- each coefficient of the first n rows and columns is from -1 to 1
 abbrev pub CellsWithin : Matrix → Type 0

@@ -1,8 +1,10 @@
 -- The alternatives that may be the one chosen, where of each gross and net requirement only two ends are known (this
 -- project's own).
-use Rattle.std.specs.Prelude.{ℕ, zero, suc, ◌^◌, ◌++◌, pos, ◌≤ℤ◌, Bool, ◌&&◌, ◌||◌, int_lt, nat_lt, List, [], ◌∷◌, map, fold, length, sum_by, slice_index_or, if◌then◌else◌}
+use Rattle.std.specs.Prelude.{ℕ, zero, suc, ◌^◌, ◌≤◌, ◌++◌, pos, ◌≤ℤ◌, Bool, ◌&&◌, ◌||◌, int_lt, nat_lt, List, [], ◌∷◌}
+use Rattle.std.specs.Prelude.{map, fold, length, sum_by, slice_index_or, if◌then◌else◌}
 use Rattle.std.specs.List.{list_any, range_with_len}
 use Rattle.std.specs.Ordering.{int_eq}
+use Rattle.std.specs.Int.RustNames.{count_ones}
 use Rattle.scr_num.specs.Figure.Figure.{Frac}
 use Rattle.scr_num.specs.Rounding.{Ends, ends, exact_ends, hull_ends, max_ends}
 use Rattle.scr_num.specs.Enclosure.{Encloses}
@@ -53,6 +55,10 @@ unbeaten list = unbeaten_below list (length list)
 -- one bit for each
 abbrev pub mask_of : List Alternative → ℕ
 mask_of list = sum_by (λ k. 2 ^ k) (unbeaten list)
+
+-- two or more bits of a mask are set: more than one alternative may be chosen
+abbrev pub HasSeveral : ℕ → Type 0
+HasSeveral mask = 2 ≤ count_ones mask
 
 -- the least ends that hold all of a list
 abbrev pub hull_of : List Ends → Ends

@@ -8,8 +8,8 @@ ghost use Rattle.scr_agg.specs.Absorbed.{net_figure, net_ends};
 
 use scr_num::{Span, exact, max, sub};
 
-/// The gross amount less an absorption, and no less than 0 (Delegated Regulation (EU) 2015/35, Article 206(2)). The
-/// amount is in grains, thousandths of a cent, and the absorption in cents.
+/// The gross amount less an absorption, and no less than 0 (Delegated Regulation (EU) 2015/35,
+/// Article 206(2)). The amount is in grains, thousandths of a cent, and the absorption in cents.
 pub fn net(gross: Span, absorb: u64) -> Span
     requires absorbed { absorb ≤ 10_000_000_000_000 }
     requires low_fits { unsigned_abs gross.low ≤ 2 ^ 100 }

@@ -1,19 +1,22 @@
 //! The choice among alternative scenarios.
 
-ghost use Rattle.std.specs.Prelude.{◌≡◌, ◌↔◌, ℕ, ◌+◌, ◌^◌, ◌<◌, ◌≤◌, pos, ◌≤ℤ◌, false, length, IsBitSet, IsTrue, IfSome, IfNone, List};
+ghost use Rattle.std.specs.Prelude.{◌≡◌, ◌↔◌, ℕ, ◌+◌, ◌^◌, ◌<◌, ◌≤◌, pos, ◌≤ℤ◌, false, length};
+ghost use Rattle.std.specs.Prelude.{IsBitSet, IsTrue, IfSome, IfNone, List};
 ghost use Rattle.scr_num.specs.Figure.{Frac};
 ghost use Rattle.scr_num.specs.Enclosure.{Encloses};
 ghost use Rattle.scr_num.specs.Rounding.{ends, hull_ends};
 ghost use Rattle.scr_agg.specs.Choice.{Outcome, IsChosen, outcome_at};
 ghost use Rattle.scr_agg.specs.Unbeaten as spec;
-ghost use Rattle.scr_agg.specs.Unbeaten.{alternative, alternatives, unbeaten, mask_of, chosen_gross, chosen_net, EncloseOutcomes};
+ghost use Rattle.scr_agg.specs.Unbeaten.{alternative, alternatives, unbeaten, mask_of};
+ghost use Rattle.scr_agg.specs.Unbeaten.{chosen_gross, chosen_net, EncloseOutcomes};
 
 use crate::{Picked, Scenario};
 use scr_num::{Span, hull, max};
 
-/// The scenario that decides: the one with the greatest net requirement, then the greatest gross one, then the first
-/// listed (Delegated Regulation (EU) 2015/35, Article 206(2)). Where the ends leave it open which one it is, the gross
-/// requirement spans those of all that may decide, and the net one is the greatest, end by end.
+/// The scenario that decides: the one with the greatest net requirement, then the greatest gross
+/// one, then the first listed (Delegated Regulation (EU) 2015/35, Article 206(2)). Where the ends
+/// leave it open which one it is, the gross requirement spans those of all that may decide, and the
+/// net one is the greatest, end by end.
 pub fn pick(list: &[Scenario]) -> Picked
     requires some { 1 ≤ length list.now }
     requires few { length list.now ≤ 8 }
@@ -26,7 +29,8 @@ pub fn pick(list: &[Scenario]) -> Picked
     ensures no_other_bits { result.mask < 2 ^ length list.now }
     ensures one_at_least { 1 ≤ result.mask }
     ensures chosen { (unit : ℕ) (outcomes : List Outcome) (place : ℕ)
-        → EncloseOutcomes unit (alternatives list.now) outcomes → IsChosen outcomes place → IsBitSet result.mask place
+        → EncloseOutcomes unit (alternatives list.now) outcomes → IsChosen outcomes place
+        → IsBitSet result.mask place
         × Encloses unit result.gross.low result.gross.high (Frac (outcome_at outcomes place).gross)
         × Encloses unit result.net.low result.net.high (Frac (outcome_at outcomes place).net) }
 {

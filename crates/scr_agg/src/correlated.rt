@@ -1,18 +1,22 @@
 //! Roots over correlated parts.
 
-ghost use Rattle.std.specs.Prelude.{◌≡◌, ℕ, ◌-◌, ◌*◌, ◌^◌, ◌<◌, ◌≤◌, pos, ◌<ℤ◌, ◌≤ℤ◌, length, unsigned_abs};
+ghost use Rattle.std.specs.Prelude.{◌≡◌, ℕ, ◌-◌, ◌*◌, ◌^◌, ◌<◌, ◌≤◌, pos, ◌<ℤ◌, ◌≤ℤ◌, length};
+ghost use Rattle.std.specs.Prelude.{unsigned_abs};
 ghost use Rattle.scr_num.specs.Figure.{Figures, Root};
+ghost use Rattle.scr_num.specs.Amounts.{IsAmount};
 ghost use Rattle.scr_num.specs.Enclosure.{Encloses, EncloseAll};
 ghost use Rattle.scr_num.specs.Rounding.{ends, or_zero, quad_ends};
-ghost use Rattle.scr_agg.specs.Correlated.{table_of, CellsWithin, NotNegative, total_high, all_ends};
+ghost use Rattle.scr_agg.specs.Correlated.{table_of, CellsWithin, NotNegative, total_high};
+ghost use Rattle.scr_agg.specs.Correlated.{all_ends};
 
 use crate::form::{Side, Sign, form};
-use scr_factors::Matrix;
 use scr_num::{Span, root_of, scale};
+use scr_profile::Matrix;
 
-/// The root of the sum, over all pairs of parts, of their correlation times both parts. A product takes the low ends of
-/// its parts for the low end of the sum and the high ones for the high end, and the other way round where its
-/// correlation is negative; a sum below 0 counts as 0. Both ends of the root are rounded outward to whole numbers.
+/// The root of the sum, over all pairs of parts, of their correlation times both parts. A product
+/// takes the low ends of its parts for the low end of the sum and the high ones for the high end,
+/// and the other way round where its correlation is negative; a sum below 0 counts as 0. Both ends
+/// of the root are rounded outward to whole numbers.
 pub fn quad(parts: &[Span], m: &Matrix) -> Span
     requires size { m.now.n ≤ 16 }
     requires denominator { pos 0 <ℤ m.now.den }
@@ -21,12 +25,14 @@ pub fn quad(parts: &[Span], m: &Matrix) -> Span
     requires lows { NotNegative parts.now }
     requires small { or_zero m.now.den * (total_high parts.now * total_high parts.now) < 2 ^ 127 }
     ensures ends { ends result ≡ quad_ends (all_ends parts.now) (table_of m.now) }
-    ensures encloses { (unit : ℕ) → 0 < unit → (figures : Figures) → EncloseAll unit (all_ends parts.now) figures
+    ensures encloses { (unit : ℕ) → 0 < unit → (figures : Figures)
+        → EncloseAll unit (all_ends parts.now) figures
         → Encloses unit result.low result.high (Root figures (table_of m.now)) }
     ensures not_negative { pos 0 ≤ℤ result.low }
     ensures low_size { unsigned_abs result.low < 2 ^ 64 }
     ensures high_size { unsigned_abs result.high ≤ 2 ^ 64 }
     ensures at_most_the_sum { result.high ≤ℤ pos (total_high parts.now) }
+    ensures size { IsAmount (total_high parts.now) (ends result) }
 {
     let low = less(
         form(parts, m, Side::Low, Sign::Positive),

@@ -3,8 +3,8 @@
 ghost use Rattle.std.specs.Prelude.{◌≡◌, ℕ, ◌*◌, ◌^◌, ◌<◌, ◌≤◌, length};
 ghost use Rattle.scr_agg.specs.Forms.{end_of, weight_of, row_of, form_of};
 
-use scr_factors::Matrix;
 use scr_num::Span;
+use scr_profile::Matrix;
 
 /// Which end of each part.
 #[derive(Clone, Copy)]

@@ -12,6 +12,3 @@ pub use absorbed::net;
 pub use choice::pick;
 pub use correlated::quad;
 pub use scenario::{Picked, Scenario};
-
-#[cfg(test)]
-mod tests;

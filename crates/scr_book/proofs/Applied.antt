@@ -46,13 +46,13 @@ replaced name_of change new name rows has is =
 pub sums_now : (book : Inside) (now : BalanceSheet) → book.sheet ≡ now → IsKept book → AreSumsOf now book.sums
 sums_now book now view kept = subst (λ sheet. AreSumsOf sheet book.sums) view kept.sums
 
--- and so is its graph
-pub graph_now : (book : Inside) (now : BalanceSheet) → book.sheet ≡ now → IsKept book → IsGraphOf now book.graph
-graph_now book now view kept = subst (λ sheet. IsGraphOf sheet book.graph) view kept.graph
+-- and so is its graph, where it is not due
+pub graph_now : (book : Inside) (now : BalanceSheet) → book.sheet ≡ now → IsKept book → book.is_graph_due ≡ false → IsGraphOf now book.graph
+graph_now book now view kept fresh = subst (λ sheet. IsGraphOf sheet book.graph) view (kept.graph fresh)
 
 -- a book whose sheet has another graph
-pub kept-graph : (book : Inside) (now : BalanceSheet) → book.sheet ≡ now → IsKept book → (graph : Graph) → IsGraphOf now graph → IsKept (record book { graph = graph })
-kept-graph book now view kept graph is = record { valid = kept.valid; sums = kept.sums; graph = subst (λ sheet. IsGraphOf sheet graph) (sym view) is }
+pub kept-graph : (book : Inside) (now : BalanceSheet) → book.sheet ≡ now → IsKept book → (graph : Graph) → (book.is_graph_due ≡ false → IsGraphOf now graph) → IsKept (record book { graph = graph })
+kept-graph book now view kept graph is = record { valid = kept.valid; sums = kept.sums; graph = λ fresh. subst (λ sheet. IsGraphOf sheet graph) (sym view) (is fresh) }
 
 -- the records that move neither a sum nor the graph
 abbrev pub moves_beside : Edit → Bool
@@ -60,13 +60,13 @@ moves_beside edit = moves_a_sum edit || is_of_graph edit
 
 module _ (old new : Inside) (now : BalanceSheet) (view : old.sheet ≡ now) (kept : IsKept old) (edit : Edit) (formed : Formed edit) (none : fault_of edit now ≡ None) where
   -- the tables and numbers are as the record leaves them, and so is each sum and the graph
-  pub kept-whole : new.sheet ≡ applied edit old.sheet → AreSumsOf (applied edit now) new.sums → IsGraphOf (applied edit now) new.graph → IsKept new × (new.sheet ≡ applied edit now)
+  pub kept-whole : new.sheet ≡ applied edit old.sheet → AreSumsOf (applied edit now) new.sums → (new.is_graph_due ≡ false → IsGraphOf (applied edit now) new.graph) → IsKept new × (new.sheet ≡ applied edit now)
   kept-whole rows sums graph =
       let is : new.sheet ≡ applied edit now = rows ∙ ap (applied edit) view in (
         record {
           valid = subst Valid (sym is) (Valid-applied edit now formed (subst Valid view kept.valid) none);
           sums = subst (λ sheet. AreSumsOf sheet new.sums) (sym is) sums;
-          graph = subst (λ sheet. IsGraphOf sheet new.graph) (sym is) graph;
+          graph = λ fresh. subst (λ sheet. IsGraphOf sheet new.graph) (sym is) (graph fresh);
         },
         is,
       )
@@ -78,20 +78,20 @@ module _ (old new : Inside) (now : BalanceSheet) (view : old.sheet ≡ now) (kep
 
   -- where the record leaves the graph
   pub kept-applied : is_of_graph edit ≡ false → new.sheet ≡ applied edit old.sheet → AreSumsOf (applied edit now) new.sums
-      → let same : Inside = record new { graph = old.graph } in IsKept same × (same.sheet ≡ applied edit now)
+      → let same : Inside = record new { graph = old.graph; is_graph_due = old.is_graph_due } in IsKept same × (same.sheet ≡ applied edit now)
   kept-applied apart rows sums =
       let is : new.sheet ≡ applied edit now = rows ∙ ap (applied edit) view in (
         record {
           valid = subst Valid (sym is) (Valid-applied edit now formed (subst Valid view kept.valid) none);
           sums = subst (λ sheet. AreSumsOf sheet new.sums) (sym is) sums;
-          graph = subst (λ sheet. IsGraphOf sheet old.graph) (sym is) (graph-same edit now old.graph (graph_now old now view kept) apart);
+          graph = λ fresh. subst (λ sheet. IsGraphOf sheet old.graph) (sym is) (graph-same edit now old.graph (graph_now old now view kept fresh) apart);
         },
         is,
       )
 
   -- where the record moves no sum either
   pub kept-still : moves_beside edit ≡ false → new.sheet ≡ applied edit old.sheet → new.sums ≡ old.sums
-      → let same : Inside = record new { graph = old.graph } in IsKept same × (same.sheet ≡ applied edit now)
+      → let same : Inside = record new { graph = old.graph; is_graph_due = old.is_graph_due } in IsKept same × (same.sheet ≡ applied edit now)
   kept-still still rows sums =
       let apart = or_false (moves_a_sum edit) (is_of_graph edit) still in kept-applied apart.1 rows (sums_kept apart.0 sums)
 

@@ -72,7 +72,7 @@ graph-same (edits.Remove tables.Security name) sheet graph is apart = record {
   funds = is.funds;
 }
 graph-same (edits.Remove tables.Group name) sheet graph is apart = record { components = is.components; securities = is.securities; funds = is.funds }
-graph-same (edits.Remove tables.Line name) sheet graph is apart = record { components = is.components; securities = is.securities; funds = is.funds }
+graph-same (edits.Remove tables.Liability name) sheet graph is apart = record { components = is.components; securities = is.securities; funds = is.funds }
 graph-same (edits.Remove tables.Bank name) sheet graph is apart = record { components = is.components; securities = is.securities; funds = is.funds }
 graph-same (edits.Remove tables.Rein name) sheet graph is apart = record { components = is.components; securities = is.securities; funds = is.funds }
 graph-same (edits.Remove tables.Curve name) sheet graph is apart = record { components = is.components; securities = is.securities; funds = is.funds }
@@ -198,12 +198,12 @@ no_path : (o : Option (List (List ℕ))) → option_map (λ path. faults.Cycle p
 no_path None e = refl
 no_path (Some path) e = absurd (cc)
 
-All-each : {X : Type 0} (P : X → Type 0) (xs : List X) → AllByRecursion P xs → All P xs
+pub All-each : {X : Type 0} (P : X → Type 0) (xs : List X) → AllByRecursion P xs → All P xs
 All-each P [] all k d l = absurd (omega (arith, l))
 All-each P (x ∷ xs) all zero d l = all.0
 All-each P (x ∷ xs) all (suc k) d l = All-each P xs all.1 k d (omega (arith, l))
 
-either_true : (a b : Bool) → (a || b) ≡ true → (a ≡ true) ⊎ (b ≡ true)
+pub either_true : (a b : Bool) → (a || b) ≡ true → (a ≡ true) ⊎ (b ≡ true)
 either_true true b e = inl refl
 either_true false b e = inr e
 

@@ -3,3 +3,4 @@ pub mod Reduced
 pub mod Moved
 pub mod Holders
 pub mod Applied
+pub mod Anew

@@ -2,11 +2,11 @@
 use Rattle.std.proofs.Common.{◌≡◌, ℕ, ℤ, ◌+◌, ◌-◌, ◌≤◌, ◌==◌, ◌&&◌, ◌||◌, ◌⊎◌, inl, inr, Bool, true, false, not, List, map, Option, Some, None, is_some, if◌then◌else◌, length, set, get_or, refl, sym, ap, subst, ◌∙◌, arith}
 use Rattle.std.specs.Option.{option_map_or}
 use Rattle.scr_dates.specs.declared.day.Day.{Day}
-use Rattle.scr_factors.specs.declared.set.Set.{Set}
-use Rattle.scr_factors.specs.declared.set.Set.TheVariants as sets
+use Rattle.scr_profile.specs.declared.set.Set.{Set}
+use Rattle.scr_profile.specs.declared.set.Set.TheVariants as sets
 use Rattle.scr_names.specs.Tables.{row_of, has_row}
 use Rattle.scr_sheet.specs.CashFlows.{total, flows_under, all_projections}
-use Rattle.scr_sheet.specs.BalanceSheet.{stake_name, line_name, bank_name, rein_name, is_in, is_named, held_of, held_total, line_flows_total, volumes_total, defaults_total, components_total}
+use Rattle.scr_sheet.specs.BalanceSheet.{stake_name, liability_name, bank_name, rein_name, is_in, is_named, held_of, held_total, liability_flows_total, volumes_total, defaults_total, components_total}
 use Rattle.scr_sheet.specs.declared.sheet.BalanceSheet.{BalanceSheet}
 use Rattle.scr_sheet.specs.Faults.{fault_of, in_use, unknown_row, misplaced, misplaced_holding}
 use Rattle.scr_sheet.specs.Records.{applied, natural}
@@ -19,11 +19,11 @@ use Rattle.scr_sheet.specs.declared.keys.Projection.TheVariants as projections
 use Rattle.scr_sheet.specs.declared.keys.Table.TheVariants as tables
 use Rattle.scr_sheet.specs.declared.rows.Liability.{Liability}
 use Rattle.scr_sheet.specs.declared.fault.Quantity.TheVariants as quantities
-use Rattle.scr_sheet.specs.declared.limits.TheConstants.{MAX_LINE_FLOWS}
+use Rattle.scr_profile.specs.declared.limits.TheConstants.{MAX_LIABILITY_FLOWS}
 use Rattle.scr_sheet.proofs.Bounds.{neither, within_from_above}
 use Rattle.scr_sheet.proofs.Preserved.{passes, passed, failed, right_table}
 use Rattle.scr_sheet.proofs.Projections.{or_false}
-use Rattle.scr_sheet.proofs.Sums.{moves_held, moves_line_flows, moves_volumes, moves_defaults, moves_components, in_one_table, held-hold, held-part, held-same, stake_components, components-fund, components-drop, components-part, components-same, line_total, line_flows-own, line_flows-other, line_flows-part, line_flows-drop, line_flows-same, volumes-segment, volumes-part, volumes-same, defaults-bank, defaults-rein, defaults-drop_bank, defaults-drop_rein, defaults-part_bank, defaults-part_rein, defaults-same}
+use Rattle.scr_sheet.proofs.Sums.{moves_held, moves_liability_flows, moves_volumes, moves_defaults, moves_components, in_one_table, held-hold, held-part, held-same, stake_components, components-fund, components-drop, components-part, components-same, liability_total, liability_flows-own, liability_flows-other, liability_flows-part, liability_flows-drop, liability_flows-same, volumes-segment, volumes-part, volumes-same, defaults-bank, defaults-rein, defaults-drop_bank, defaults-drop_rein, defaults-part_bank, defaults-part_rein, defaults-same}
 use Rattle.scr_book.specs.Sums.{AreSumsOf, place_of, volumes_sum, with_volumes_sum}
 use Rattle.scr_book.specs.declared.sums.Sums.{Sums}
 
@@ -45,7 +45,7 @@ none_there {Row} name_of name rows has = by (row_of name_of name rows) has
 -- ---- records that move no sum
 
 abbrev pub moves_a_sum : Edit → Bool
-moves_a_sum edit = moves_held edit || moves_line_flows edit || moves_volumes edit || moves_defaults edit || moves_components edit
+moves_a_sum edit = moves_held edit || moves_liability_flows edit || moves_volumes edit || moves_defaults edit || moves_components edit
 
 same_flows : (f g : Projection → ℕ) → ((projection : Projection) → f projection ≡ g projection) → (ps : List Projection) → map f ps ≡ map g ps
 same_flows f g same ps = ap (λ h. map h ps) (λ i projection. same projection i)
@@ -54,8 +54,8 @@ module _ (edit : Edit) (sheet : BalanceSheet) (sums : Sums) (are : AreSumsOf she
   held_stays : moves_held edit ≡ false → in_use edit sheet ≡ None → sums.held ≡ held_total (applied edit sheet)
   held_stays still free = are.held ∙ sym (held-same edit sheet still free)
 
-  flows_stay : moves_line_flows edit ≡ false → sums.line_flows ≡ map (λ projection. line_flows_total projection (applied edit sheet)) all_projections
-  flows_stay still = are.line_flows ∙ same_flows _ _ (λ projection. sym (line_flows-same projection edit sheet still)) all_projections
+  flows_stay : moves_liability_flows edit ≡ false → sums.liability_flows ≡ map (λ projection. liability_flows_total projection (applied edit sheet)) all_projections
+  flows_stay still = are.liability_flows ∙ same_flows _ _ (λ projection. sym (liability_flows-same projection edit sheet still)) all_projections
 
   nl_stays : moves_volumes edit ≡ false → sums.nl ≡ volumes_total sets.Nl (applied edit sheet)
   nl_stays still = are.nl ∙ sym (volumes-same sets.Nl edit sheet still)
@@ -71,13 +71,13 @@ module _ (edit : Edit) (sheet : BalanceSheet) (sums : Sums) (are : AreSumsOf she
 
   pub sums-same : moves_a_sum edit ≡ false → in_use edit sheet ≡ None → AreSumsOf (applied edit sheet) sums
   sums-same still free =
-      let components = or_false (moves_held edit || moves_line_flows edit || moves_volumes edit || moves_defaults edit) (moves_components edit) still in
-      let defaults = or_false (moves_held edit || moves_line_flows edit || moves_volumes edit) (moves_defaults edit) components.0 in
-      let volumes = or_false (moves_held edit || moves_line_flows edit) (moves_volumes edit) defaults.0 in
-      let flows = or_false (moves_held edit) (moves_line_flows edit) volumes.0 in
+      let components = or_false (moves_held edit || moves_liability_flows edit || moves_volumes edit || moves_defaults edit) (moves_components edit) still in
+      let defaults = or_false (moves_held edit || moves_liability_flows edit || moves_volumes edit) (moves_defaults edit) components.0 in
+      let volumes = or_false (moves_held edit || moves_liability_flows edit) (moves_volumes edit) defaults.0 in
+      let flows = or_false (moves_held edit) (moves_liability_flows edit) volumes.0 in
       record {
         held = held_stays flows.0 free;
-        line_flows = flows_stay flows.1;
+        liability_flows = flows_stay flows.1;
         nl = nl_stays volumes.1;
         nslt = nslt_stays volumes.1;
         defaults = defaults_stay defaults.1;
@@ -108,14 +108,14 @@ module _ (name : List ℕ) (cents : ℤ) (sheet : BalanceSheet) (valid : Valid s
       let edit : Edit = edits.Hold name cents in
       record {
         held = is ∙ ap (λ n. n - held_of sheet name + natural cents) are.held ∙ sym held-moved;
-        line_flows = flows_stay edit sheet sums are refl;
+        liability_flows = flows_stay edit sheet sums are refl;
         nl = nl_stays edit sheet sums are refl;
         nslt = nslt_stays edit sheet sums are refl;
         defaults = defaults_stay edit sheet sums are refl;
         components = components_stay edit sheet sums are refl;
       }
 
--- ---- the flows of lines
+-- ---- the flows of liabilities
 
 same_or_apart : (p q : Projection) → (p ≡ q) ⊎ ((place_of p == place_of q) ≡ false)
 same_or_apart projections.Base projections.Base = inl refl
@@ -193,84 +193,84 @@ exchanged f g p other = written f (g p) p ∙ same_flows (λ q. if place_of p ==
         ]
 
 -- the sum that is kept for a projection
-kept_flows_sum : (sheet : BalanceSheet) (sums : Sums) → AreSumsOf sheet sums → (projection : Projection) → get_or sums.line_flows (place_of projection) 0 ≡ line_flows_total projection sheet
-kept_flows_sum sheet sums are projection = ap (λ xs. get_or xs (place_of projection) 0) are.line_flows ∙ read (λ q. line_flows_total q sheet) projection
+kept_flows_sum : (sheet : BalanceSheet) (sums : Sums) → AreSumsOf sheet sums → (projection : Projection) → get_or sums.liability_flows (place_of projection) 0 ≡ liability_flows_total projection sheet
+kept_flows_sum sheet sums are projection = ap (λ xs. get_or xs (place_of projection) 0) are.liability_flows ∙ read (λ q. liability_flows_total q sheet) projection
 
-pub line-le : (line : List ℕ) (sheet : BalanceSheet) (l : Liability) → row_of line_name line sheet.lines ≡ Some l → (sums : Sums) → AreSumsOf sheet sums → (projection : Projection) → line_total projection l ≤ get_or sums.line_flows (place_of projection) 0
-line-le line sheet l is sums are projection =
+pub liability-le : (liability : List ℕ) (sheet : BalanceSheet) (l : Liability) → row_of liability_name liability sheet.liabilities ≡ Some l → (sums : Sums) → AreSumsOf sheet sums → (projection : Projection) → liability_total projection l ≤ get_or sums.liability_flows (place_of projection) 0
+liability-le liability sheet l is sums are projection =
     let own = kept_flows_sum sheet sums are projection in
-    let part = line_flows-part projection line sheet l is in
+    let part = liability_flows-part projection liability sheet l is in
     omega arith
 
--- what stands for a line under a projection, 0 where there is none
-abbrev pub line_part : Projection → List ℕ → BalanceSheet → ℕ
-line_part projection line sheet = option_map_or (λ l. total (flows_under projection l.flows)) (row_of line_name line sheet.lines) 0
+-- what stands for a liability under a projection, 0 where there is none
+abbrev pub liability_part : Projection → List ℕ → BalanceSheet → ℕ
+liability_part projection liability sheet = option_map_or (λ l. total (flows_under projection l.flows)) (row_of liability_name liability sheet.liabilities) 0
 
-module _ (line : List ℕ) (projection : Projection) (flows : List (Day × ℤ)) (sheet : BalanceSheet) (none : fault_of (edits.LineFlows line projection flows) sheet ≡ None) where
-  pub line_there : (l : Liability) × (row_of line_name line sheet.lines ≡ Some l)
-  line_there =
-      let p = passes (edits.LineFlows line projection flows) sheet none in
-      row_there line_name line sheet.lines (right_table tables.Line line sheet p.known (neither (misplaced tables.Line line sheet) _ p.kind).0)
+module _ (liability : List ℕ) (projection : Projection) (flows : List (Day × ℤ)) (sheet : BalanceSheet) (none : fault_of (edits.LiabilityFlows liability projection flows) sheet ≡ None) where
+  pub liability_there : (l : Liability) × (row_of liability_name liability sheet.liabilities ≡ Some l)
+  liability_there =
+      let p = passes (edits.LiabilityFlows liability projection flows) sheet none in
+      row_there liability_name liability sheet.liabilities (right_table tables.Liability liability sheet p.known (neither (misplaced tables.Liability liability sheet) _ p.kind).0)
 
-  pub line_flows-moved : line_flows_total projection (applied (edits.LineFlows line projection flows) sheet) ≡ line_flows_total projection sheet - line_part projection line sheet + total flows
-  line_flows-moved =
-      let row = line_there in
-      let own : line_part projection line sheet ≡ line_total projection row.0 = ap (λ o. option_map_or (line_total projection) o 0) row.1 in
-      let part = line_flows-part projection line sheet row.0 row.1 in
-      let sum = line_flows-own line flows sheet projection row.0 row.1 in
+  pub liability_flows-moved : liability_flows_total projection (applied (edits.LiabilityFlows liability projection flows) sheet) ≡ liability_flows_total projection sheet - liability_part projection liability sheet + total flows
+  liability_flows-moved =
+      let row = liability_there in
+      let own : liability_part projection liability sheet ≡ liability_total projection row.0 = ap (λ o. option_map_or (liability_total projection) o 0) row.1 in
+      let part = liability_flows-part projection liability sheet row.0 row.1 in
+      let sum = liability_flows-own liability flows sheet projection row.0 row.1 in
       omega arith
 
-  pub line_flows-most : line_flows_total projection (applied (edits.LineFlows line projection flows) sheet) ≤ MAX_LINE_FLOWS
-  line_flows-most = within_from_above quantities.LineFlows _ _ (passes (edits.LineFlows line projection flows) sheet none).line_flows
+  pub liability_flows-most : liability_flows_total projection (applied (edits.LiabilityFlows liability projection flows) sheet) ≤ MAX_LIABILITY_FLOWS
+  liability_flows-most = within_from_above quantities.LiabilityFlows _ _ (passes (edits.LiabilityFlows liability projection flows) sheet none).liability_flows
 
-  pub line_part-le : (sums : Sums) → AreSumsOf sheet sums → line_part projection line sheet ≤ get_or sums.line_flows (place_of projection) 0
-  line_part-le sums are =
-      let row = line_there in
-      let own : line_part projection line sheet ≡ line_total projection row.0 = ap (λ o. option_map_or (line_total projection) o 0) row.1 in
-      let part = line-le line sheet row.0 row.1 sums are projection in
+  pub liability_part-le : (sums : Sums) → AreSumsOf sheet sums → liability_part projection liability sheet ≤ get_or sums.liability_flows (place_of projection) 0
+  liability_part-le sums are =
+      let row = liability_there in
+      let own : liability_part projection liability sheet ≡ liability_total projection row.0 = ap (λ o. option_map_or (liability_total projection) o 0) row.1 in
+      let part = liability-le liability sheet row.0 row.1 sums are projection in
       omega arith
 
   -- the sum under the projection, as it is carried along
-  pub line_flows-carried : (sums : Sums) → AreSumsOf sheet sums → get_or sums.line_flows (place_of projection) 0 - line_part projection line sheet + total flows ≡ line_flows_total projection (applied (edits.LineFlows line projection flows) sheet)
-  line_flows-carried sums are =
-      ap (λ m. m - line_part projection line sheet + total flows) (kept_flows_sum sheet sums are projection) ∙ sym line_flows-moved
+  pub liability_flows-carried : (sums : Sums) → AreSumsOf sheet sums → get_or sums.liability_flows (place_of projection) 0 - liability_part projection liability sheet + total flows ≡ liability_flows_total projection (applied (edits.LiabilityFlows liability projection flows) sheet)
+  liability_flows-carried sums are =
+      ap (λ m. m - liability_part projection liability sheet + total flows) (kept_flows_sum sheet sums are projection) ∙ sym liability_flows-moved
 
-  pub sums-line_flows : (sums : Sums) (n : ℕ) → AreSumsOf sheet sums → n ≡ get_or sums.line_flows (place_of projection) 0 - line_part projection line sheet + total flows
-      → AreSumsOf (applied (edits.LineFlows line projection flows) sheet) (record sums { line_flows = set sums.line_flows (place_of projection) n })
-  sums-line_flows sums n are is =
-      let edit : Edit = edits.LineFlows line projection flows in
-      let before : Projection → ℕ = λ q. line_flows_total q sheet in
-      let after : Projection → ℕ = λ q. line_flows_total q (applied edit sheet) in
-      let new : n ≡ after projection = is ∙ line_flows-carried sums are in
+  pub sums-liability_flows : (sums : Sums) (n : ℕ) → AreSumsOf sheet sums → n ≡ get_or sums.liability_flows (place_of projection) 0 - liability_part projection liability sheet + total flows
+      → AreSumsOf (applied (edits.LiabilityFlows liability projection flows) sheet) (record sums { liability_flows = set sums.liability_flows (place_of projection) n })
+  sums-liability_flows sums n are is =
+      let edit : Edit = edits.LiabilityFlows liability projection flows in
+      let before : Projection → ℕ = λ q. liability_flows_total q sheet in
+      let after : Projection → ℕ = λ q. liability_flows_total q (applied edit sheet) in
+      let new : n ≡ after projection = is ∙ liability_flows-carried sums are in
       record {
         held = held_stays edit sheet sums are refl (passes edit sheet none).free;
-        line_flows = ap (λ xs. set xs (place_of projection) n) are.line_flows ∙ ap (set (map before all_projections) (place_of projection)) new ∙ exchanged before after projection (line_flows-other line flows sheet projection);
+        liability_flows = ap (λ xs. set xs (place_of projection) n) are.liability_flows ∙ ap (set (map before all_projections) (place_of projection)) new ∙ exchanged before after projection (liability_flows-other liability flows sheet projection);
         nl = nl_stays edit sheet sums are refl;
         nslt = nslt_stays edit sheet sums are refl;
         defaults = defaults_stay edit sheet sums are refl;
         components = components_stay edit sheet sums are refl;
       }
 
--- a line that a record drops is there
-pub dropped_line : (line : List ℕ) (sheet : BalanceSheet) → fault_of (edits.Remove tables.Line line) sheet ≡ None → (l : Liability) × (row_of line_name line sheet.lines ≡ Some l)
-dropped_line line sheet none = let p = passes (edits.Remove tables.Line line) sheet none in row_there line_name line sheet.lines (right_table tables.Line line sheet p.known p.kind)
+-- a liability that a record drops is there
+pub dropped_liability : (liability : List ℕ) (sheet : BalanceSheet) → fault_of (edits.Remove tables.Liability liability) sheet ≡ None → (l : Liability) × (row_of liability_name liability sheet.liabilities ≡ Some l)
+dropped_liability liability sheet none = let p = passes (edits.Remove tables.Liability liability) sheet none in row_there liability_name liability sheet.liabilities (right_table tables.Liability liability sheet p.known p.kind)
 
-module _ (line : List ℕ) (sheet : BalanceSheet) (l : Liability) (is : row_of line_name line sheet.lines ≡ Some l) where
-  line_flows-left : (projection : Projection) → line_flows_total projection (applied (edits.Remove tables.Line line) sheet) ≡ line_flows_total projection sheet - line_total projection l
-  line_flows-left projection =
-      let own : option_map_or (line_total projection) (row_of line_name line sheet.lines) 0 ≡ line_total projection l = ap (λ o. option_map_or (line_total projection) o 0) is in
-      let sum = line_flows-drop projection line sheet in
+module _ (liability : List ℕ) (sheet : BalanceSheet) (l : Liability) (is : row_of liability_name liability sheet.liabilities ≡ Some l) where
+  liability_flows-left : (projection : Projection) → liability_flows_total projection (applied (edits.Remove tables.Liability liability) sheet) ≡ liability_flows_total projection sheet - liability_total projection l
+  liability_flows-left projection =
+      let own : option_map_or (liability_total projection) (row_of liability_name liability sheet.liabilities) 0 ≡ liability_total projection l = ap (λ o. option_map_or (liability_total projection) o 0) is in
+      let sum = liability_flows-drop projection liability sheet in
       omega arith
 
-  pub sums-drop_line : (sums : Sums) → AreSumsOf sheet sums
-      → AreSumsOf (applied (edits.Remove tables.Line line) sheet) (record sums { line_flows = map (λ projection. get_or sums.line_flows (place_of projection) 0 - total (flows_under projection l.flows)) all_projections })
-  sums-drop_line sums are =
-      let edit : Edit = edits.Remove tables.Line line in
-      let each : (q : Projection) → get_or sums.line_flows (place_of q) 0 - line_total q l ≡ line_flows_total q (applied edit sheet) =
-      λ q. ap (λ m. m - line_total q l) (kept_flows_sum sheet sums are q) ∙ sym (line_flows-left q) in
+  pub sums-drop_liability : (sums : Sums) → AreSumsOf sheet sums
+      → AreSumsOf (applied (edits.Remove tables.Liability liability) sheet) (record sums { liability_flows = map (λ projection. get_or sums.liability_flows (place_of projection) 0 - total (flows_under projection l.flows)) all_projections })
+  sums-drop_liability sums are =
+      let edit : Edit = edits.Remove tables.Liability liability in
+      let each : (q : Projection) → get_or sums.liability_flows (place_of q) 0 - liability_total q l ≡ liability_flows_total q (applied edit sheet) =
+      λ q. ap (λ m. m - liability_total q l) (kept_flows_sum sheet sums are q) ∙ sym (liability_flows-left q) in
       record {
         held = held_stays edit sheet sums are refl refl;
-        line_flows = same_flows _ _ each all_projections;
+        liability_flows = same_flows _ _ each all_projections;
         nl = nl_stays edit sheet sums are refl;
         nslt = nslt_stays edit sheet sums are refl;
         defaults = defaults_stay edit sheet sums are refl;
@@ -292,18 +292,18 @@ module _ (set : Set) (number region : ℕ) (premium reserve : ℤ) (sheet : Bala
 
 pub sums-segment : (set : Set) (number region : ℕ) (premium reserve : ℤ) (sheet : BalanceSheet) (sums : Sums) (n : ℕ) → AreSumsOf sheet sums → n ≡ volumes_total set (applied (edits.Segment set number region premium reserve) sheet)
     → AreSumsOf (applied (edits.Segment set number region premium reserve) sheet) (with_volumes_sum set n sums)
-sums-segment sets.Nl number region premium reserve sheet sums n are is = record { held = are.held; line_flows = are.line_flows; nl = is; nslt = are.nslt; defaults = are.defaults; components = are.components }
-sums-segment sets.Nslt number region premium reserve sheet sums n are is = record { held = are.held; line_flows = are.line_flows; nl = are.nl; nslt = is; defaults = are.defaults; components = are.components }
+sums-segment sets.Nl number region premium reserve sheet sums n are is = record { held = are.held; liability_flows = are.liability_flows; nl = is; nslt = are.nslt; defaults = are.defaults; components = are.components }
+sums-segment sets.Nslt number region premium reserve sheet sums n are is = record { held = are.held; liability_flows = are.liability_flows; nl = are.nl; nslt = is; defaults = are.defaults; components = are.components }
 
 -- ---- exposures
 
 -- the sums with others than the old exposures
-sums-defaults : (edit : Edit) (sheet : BalanceSheet) (sums : Sums) (n : ℕ) → moves_held edit ≡ false → moves_line_flows edit ≡ false → moves_volumes edit ≡ false → moves_components edit ≡ false → in_use edit sheet ≡ None → AreSumsOf sheet sums → n ≡ defaults_total (applied edit sheet)
+sums-defaults : (edit : Edit) (sheet : BalanceSheet) (sums : Sums) (n : ℕ) → moves_held edit ≡ false → moves_liability_flows edit ≡ false → moves_volumes edit ≡ false → moves_components edit ≡ false → in_use edit sheet ≡ None → AreSumsOf sheet sums → n ≡ defaults_total (applied edit sheet)
     → AreSumsOf (applied edit sheet) (record sums { defaults = n })
 sums-defaults edit sheet sums n held flows volumes components free are is =
     record {
       held = held_stays edit sheet sums are held free;
-      line_flows = flows_stay edit sheet sums are flows;
+      liability_flows = flows_stay edit sheet sums are flows;
       nl = nl_stays edit sheet sums are volumes;
       nslt = nslt_stays edit sheet sums are volumes;
       defaults = is;
@@ -348,12 +348,12 @@ sums-drop_rein name sheet sums n are is =
 -- ---- the components of funds
 
 -- the sums with another number of components
-sums-components : (edit : Edit) (sheet : BalanceSheet) (sums : Sums) (n : ℕ) → moves_held edit ≡ false → moves_line_flows edit ≡ false → moves_volumes edit ≡ false → moves_defaults edit ≡ false → in_use edit sheet ≡ None → AreSumsOf sheet sums → n ≡ components_total (applied edit sheet)
+sums-components : (edit : Edit) (sheet : BalanceSheet) (sums : Sums) (n : ℕ) → moves_held edit ≡ false → moves_liability_flows edit ≡ false → moves_volumes edit ≡ false → moves_defaults edit ≡ false → in_use edit sheet ≡ None → AreSumsOf sheet sums → n ≡ components_total (applied edit sheet)
     → AreSumsOf (applied edit sheet) (record sums { components = n })
 sums-components edit sheet sums n held flows volumes defaults free are is =
     record {
       held = held_stays edit sheet sums are held free;
-      line_flows = flows_stay edit sheet sums are flows;
+      liability_flows = flows_stay edit sheet sums are flows;
       nl = nl_stays edit sheet sums are volumes;
       nslt = nslt_stays edit sheet sums are volumes;
       defaults = defaults_stay edit sheet sums are defaults;

@@ -11,15 +11,15 @@ use Rattle.scr_book.specs.declared.sums.Sums.{Sums}
 use Rattle.scr_book.specs.declared.book.Book.TheInside.{Inside}
 
 abbrev pub no_sums : Sums
-no_sums = record { held = 0; line_flows = 0 ∷ 0 ∷ 0 ∷ 0 ∷ 0 ∷ 0 ∷ 0 ∷ 0 ∷ 0 ∷ 0 ∷ []; nl = 0; nslt = 0; defaults = 0; components = 0 }
+no_sums = record { held = 0; liability_flows = 0 ∷ 0 ∷ 0 ∷ 0 ∷ 0 ∷ 0 ∷ 0 ∷ 0 ∷ 0 ∷ 0 ∷ []; nl = 0; nslt = 0; defaults = 0; components = 0 }
 
 sums-opening : AreSumsOf opening no_sums
-sums-opening = record { held = refl; line_flows = refl; nl = refl; nslt = refl; defaults = refl; components = refl }
+sums-opening = record { held = refl; liability_flows = refl; nl = refl; nslt = refl; defaults = refl; components = refl }
 
 pub kept-opening : (book : Inside) → book.sheet ≡ opening → book.sums ≡ no_sums → ((x : List ℕ) → components_under book.graph x ≡ []) → IsKept book
 kept-opening book is none empty =
     record {
       valid = subst Valid (sym is) Valid-opening;
       sums = subst (λ sheet. AreSumsOf sheet book.sums) (sym is) (subst (AreSumsOf opening) (sym none) sums-opening);
-      graph = subst (λ sheet. IsGraphOf sheet book.graph) (sym is) (record { components = λ i x. empty x i; securities = tt; funds = tt });
+      graph = λ fresh. subst (λ sheet. IsGraphOf sheet book.graph) (sym is) (record { components = λ i x. empty x i; securities = tt; funds = tt });
     }

@@ -13,7 +13,7 @@ use Rattle.scr_sheet.specs.declared.edit.Edit.{Edit}
 use Rattle.scr_sheet.specs.declared.fault.Fault.{Fault}
 use Rattle.scr_sheet.specs.declared.fault.Quantity.{Quantity}
 use Rattle.scr_sheet.specs.declared.fault.Quantity.TheVariants as quantities
-use Rattle.scr_sheet.specs.declared.limits.TheConstants.{MAX_AMOUNT, MAX_EXPOSURES}
+use Rattle.scr_profile.specs.declared.limits.TheConstants.{MAX_AMOUNT, MAX_EXPOSURES}
 use Rattle.scr_names.proofs.TableRows.{added}
 use Rattle.scr_sheet.proofs.Sums.{rein_total}
 use Rattle.scr_sheet.proofs.Quiet.{added-is}

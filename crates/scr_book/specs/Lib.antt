@@ -3,3 +3,4 @@ pub mod Places
 pub mod Kept
 pub mod Verbs
 pub mod Holders
+pub mod Undone

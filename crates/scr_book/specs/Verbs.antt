@@ -23,16 +23,16 @@ takes_no_memory (edits.Group name kind step) = false
 takes_no_memory (edits.Security name class group currency duration) = false
 takes_no_memory (edits.Flows security flows) = false
 takes_no_memory (edits.Fund name components) = false
-takes_no_memory (edits.Line name kind currency) = false
-takes_no_memory (edits.LineFlows line projection flows) = false
+takes_no_memory (edits.Liability name kind currency) = false
+takes_no_memory (edits.LiabilityFlows liability projection flows) = false
 takes_no_memory (edits.Rein name group recoverables mitigation collateral) = false
 takes_no_memory (edits.Bank name group cents) = false
 takes_no_memory edit = true
 
--- a record of a line's flows under a projection
-abbrev pub is_line_flows : Edit → Bool
-is_line_flows (edits.LineFlows line projection flows) = true
-is_line_flows edit = false
+-- a record of a liability's flows under a projection
+abbrev pub is_liability_flows : Edit → Bool
+is_liability_flows (edits.LiabilityFlows liability projection flows) = true
+is_liability_flows edit = false
 
 -- a record of the volumes of a segment in a region
 abbrev pub is_segment : Edit → Bool

@@ -1,7 +1,7 @@
 //! The book as it is kept.
 ghost use Rattle.std.specs.Prelude.{◌≡◌, ◌<◌, ◌↔◌, length, map, slice_get, Some, IsNone, IfOk, OnOk, OnErr, IfSome, IsTrue, false};
 ghost use Rattle.std.specs.Option.{option_map};
-ghost use Rattle.scr_sheet.specs.BalanceSheet.{opening, is_named, held_of, held_total, line_flows_total, volumes_total, defaults_total, components_total};
+ghost use Rattle.scr_sheet.specs.BalanceSheet.{opening, is_named, held_of, held_total, liability_flows_total, volumes_total, defaults_total, components_total};
 ghost use Rattle.scr_sheet.specs.Records.{applied};
 ghost use Rattle.scr_sheet.specs.Faults.{fault_of, Answers};
 ghost use Rattle.scr_sheet.specs.Forms.{Formed};
@@ -14,8 +14,8 @@ use crate::{
     BalanceSheet, Bank, Curve, Edit, Fault, Fund, Group, Liability, Name, Numbers, Projection,
     Rein, Security, Table,
 };
-use scr_factors::Set;
 use scr_graph::FundGraph;
+use scr_profile::Set;
 use std::alloc::{AllocError as NoMemory, Global};
 use std::marker::Model;
 
@@ -25,6 +25,8 @@ pub struct Book {
     pub(crate) sheet: BalanceSheet,
     pub(crate) sums: Sums,
     pub(crate) graph: FundGraph,
+    /// The graph is another's, and has to be made anew before it is used.
+    pub(crate) is_graph_due: bool,
 }
 
 impl Model for Book {
@@ -49,13 +51,14 @@ impl Book {
             sheet: BalanceSheet::opening(alloc)?,
             sums: Sums {
                 held: 0,
-                line_flows: [0; 10],
+                liability_flows: [0; 10],
                 nl: 0,
                 nslt: 0,
                 defaults: 0,
                 components: 0,
             },
             graph,
+            is_graph_due: false,
         })
     }
 
@@ -123,20 +126,20 @@ impl Book {
         &self.sheet.funds.at(k as usize).fund
     }
 
-    /// The number of lines.
+    /// The number of liabilities.
     pub fn lines(&self) -> u32
-        ensures count { result ≡ length self.now.lines }
+        ensures count { result ≡ length self.now.liabilities }
         ensures valid { Valid self.now }
     {
-        self.sheet.lines.len() as u32
+        self.sheet.liabilities.len() as u32
     }
 
-    /// The line at place `k`, in the order in which the names first came.
+    /// The liability at place `k`, in the order in which the names first came.
     pub fn line(&self, k: u32) -> &Liability
-        requires { k < length self.now.lines }
-        ensures { slice_get self.now.lines k ≡ Some result.now }
+        requires { k < length self.now.liabilities }
+        ensures { slice_get self.now.liabilities k ≡ Some result.now }
     {
-        self.sheet.lines.at(k as usize)
+        self.sheet.liabilities.at(k as usize)
     }
 
     /// The number of banks.
@@ -200,8 +203,8 @@ impl Book {
         if let Some(k) = self.sheet.securities.place(name) {
             return Some((Table::Security, k as u32));
         }
-        if let Some(k) = self.sheet.lines.place(name) {
-            return Some((Table::Line, k as u32));
+        if let Some(k) = self.sheet.liabilities.place(name) {
+            return Some((Table::Liability, k as u32));
         }
         if let Some(k) = self.sheet.banks.place(name) {
             return Some((Table::Bank, k as u32));
@@ -228,13 +231,16 @@ impl Book {
         &self.sheet.numbers
     }
 
-    // The tables and the numbers, to look up and to walk.
-    pub(crate) fn sheet(&self) -> &BalanceSheet
+    /// The tables and the numbers, to look up and to walk.
+    pub fn sheet(&self) -> &BalanceSheet
         ensures sheet { result.now ≡ self.now }
         ensures valid { Valid self.now }
     {
         &self.sheet
     }
+
+    /// Lets the book go.
+    pub fn close(self) {}
 
     // All cents held directly.
     pub(crate) fn held_total(&self) -> u64
@@ -244,12 +250,12 @@ impl Book {
         self.sums.held
     }
 
-    // The absolute flows of all lines under a projection, in cents.
-    pub(crate) fn line_flows_total(&self, projection: Projection) -> u64
-        ensures total { result ≡ line_flows_total projection self.now }
+    // The absolute flows of all liabilities under a projection, in cents.
+    pub(crate) fn liability_flows_total(&self, projection: Projection) -> u64
+        ensures total { result ≡ liability_flows_total projection self.now }
         ensures valid { Valid self.now }
     {
-        self.sums.line_flows[place_of(projection)]
+        self.sums.liability_flows[place_of(projection)]
     }
 
     // The premium and reserve volumes of a set, in cents.

@@ -2,12 +2,14 @@
 ghost use Rattle.std.specs.Prelude.{◌≡◌, None};
 ghost use Rattle.scr_sheet.specs.Faults.{unknown_name, wrong_kind, cycle, fault_of, Answers};
 ghost use Rattle.scr_sheet.specs.Forms.{Formed};
+ghost use Rattle.scr_book.specs.Holders.{IsGraphOf};
 
+use crate::due::graph_of;
 use crate::ranges::check_ranges;
-use crate::{Book, Components, Edit, Fault, Name};
-use scr_graph::GraphFault;
+use crate::{BalanceSheet, Book, Components, Edit, Fault, Name};
+use scr_graph::{FundGraph, GraphFault};
 use scr_sheet::{check_kinds, check_lists, check_names, check_uses};
-use std::alloc::Global;
+use std::alloc::{AllocError as NoMemory, Global};
 
 /// The first fault of the record in the book, or none.
 pub fn check(alloc: Global, book: &Book, edit: &Edit) -> Result<(), Fault>
@@ -50,7 +52,29 @@ fn no_cycle(alloc: Global, book: &Book, name: &Name, components: &Components) ->
     requires kind { wrong_kind (Edit.Fund name.now components.now) book.now ≡ None }
     ensures { Answers (cycle (Edit.Fund name.now components.now) book.now) result }
 {
-    match book.graph.check(alloc, name, components.as_slice()) {
+    if !book.is_graph_due {
+        return no_cycle_in(alloc, &book.graph, book.sheet(), name, components);
+    }
+    match graph_of(alloc, book.sheet()) {
+        Ok(graph) => no_cycle_in(alloc, &graph, book.sheet(), name, components),
+        Err(NoMemory) => Err(Fault::NoMemory),
+    }
+}
+
+// The graph is that of the funds of the sheet.
+fn no_cycle_in(
+    alloc: Global,
+    graph: &FundGraph,
+    sheet: &BalanceSheet,
+    name: &Name,
+    components: &Components,
+) -> Result<(), Fault>
+    requires graph { IsGraphOf sheet.now graph.now }
+    requires known { unknown_name (Edit.Fund name.now components.now) sheet.now ≡ None }
+    requires kind { wrong_kind (Edit.Fund name.now components.now) sheet.now ≡ None }
+    ensures { Answers (cycle (Edit.Fund name.now components.now) sheet.now) result }
+{
+    match graph.check(alloc, name, components.as_slice()) {
         Ok(()) => Ok(()),
         Err(GraphFault::Cycle(path)) => Err(Fault::Cycle(path)),
         Err(GraphFault::NoMemory) => Err(Fault::NoMemory),

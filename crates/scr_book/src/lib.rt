@@ -3,20 +3,24 @@
 
 mod book;
 mod checks;
+mod due;
 mod parts;
 mod puts;
 mod ranges;
+mod sharing;
 mod sums;
-#[cfg(test)]
-mod tests;
+mod undo;
 
 pub use book::Book;
 pub use checks::check;
 pub use scr_sheet::{
     AbsorbKey, BalanceSheet, Bank, CatKey, Class, Components, Curve, Edit, Fault, Flows, Fund,
-    Group, GroupKind, Liability, LineFlows, LineKind, MAX_AMOUNT, MAX_COMPONENTS, MAX_CURRENCIES,
-    MAX_DURATION, MAX_EXPOSURES, MAX_FLOWS, MAX_FUND_COMPONENTS, MAX_FUNDS, MAX_GROUPS, MAX_HELD,
-    MAX_LINE_FLOWS, MAX_LINES, MAX_PROMISED, MAX_RATE, MAX_RATES, MAX_SECURITIES, MAX_SYM, MAX_TAX,
-    MAX_WEIGHT, MAX_YEARS, MIN_RATE, MIN_WEIGHT, Name, Names, Numbers, OpInput, Position,
-    Projection, Quantity, Rates, Regions, Rein, Security, Stake, Table, User,
+    Group, GroupKind, Liability, LiabilityFlows, LiabilityKind, MAX_AMOUNT, MAX_COMPONENTS,
+    MAX_CURRENCIES, MAX_DURATION, MAX_EXPOSURES, MAX_FLOWS, MAX_FUND_COMPONENTS, MAX_FUNDS,
+    MAX_GROUPS, MAX_HELD, MAX_LIABILITIES, MAX_LIABILITY_FLOWS, MAX_PROMISED, MAX_RATE, MAX_RATES,
+    MAX_SECURITIES, MAX_SYM, MAX_TAX, MAX_WEIGHT, MAX_YEARS, MIN_RATE, MIN_WEIGHT, Name, Names,
+    Numbers, OpInput, Position, Projection, Quantity, Rates, Regions, Rein, Security, Stake, Table,
+    User,
 };
+pub use sharing::threads_share_books;
+pub use undo::Undo;

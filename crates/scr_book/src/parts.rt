@@ -3,7 +3,7 @@ ghost use Rattle.std.specs.Prelude.{◌≡◌, ◌+◌, ◌≤◌, length};
 ghost use Rattle.std.specs.Option.{option_map_or};
 ghost use Rattle.scr_names.specs.Tables.{row_of};
 ghost use Rattle.scr_sheet.specs.CashFlows.{total, flows_under};
-ghost use Rattle.scr_sheet.specs.BalanceSheet.{stake_name, line_name, bank_name, rein_name, line_flows_total, defaults_total, components_total};
+ghost use Rattle.scr_sheet.specs.BalanceSheet.{stake_name, liability_name, bank_name, rein_name, liability_flows_total, defaults_total, components_total};
 
 use crate::{Book, Name, Projection};
 
@@ -20,15 +20,15 @@ impl Book {
         }
     }
 
-    // What the line of this name pays and receives under the projection, 0 where there is none.
-    pub(crate) fn line_total(&self, name: &Name, projection: Projection) -> u64
+    // What the liability of this name pays and receives under the projection, 0 where there is none.
+    pub(crate) fn liability_total(&self, name: &Name, projection: Projection) -> u64
         ensures value { result
             ≡ option_map_or (λ l. total (flows_under projection l.flows))
-            (row_of line_name name.now self.now.lines) 0 }
-        ensures part { result ≤ line_flows_total projection self.now }
+            (row_of liability_name name.now self.now.liabilities) 0 }
+        ensures part { result ≤ liability_flows_total projection self.now }
     {
-        match self.sheet().lines.get(name) {
-            Some(line) => line.flows.under(projection).total() as u64,
+        match self.sheet().liabilities.get(name) {
+            Some(liability) => liability.flows.under(projection).total() as u64,
             None => 0,
         }
     }

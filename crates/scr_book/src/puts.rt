@@ -10,12 +10,13 @@ ghost use Rattle.scr_sheet.specs.Records.{applied};
 ghost use Rattle.scr_names.specs.Tables.{row_of};
 ghost use Rattle.scr_book.specs.Verbs.{is_of_numbers, takes_no_memory};
 
+use crate::due::refresh;
 use crate::{
     AbsorbKey, Bank, Book, Class, Components, Curve, Edit, Flows, Fund, Group, GroupKind,
-    Liability, LineFlows, LineKind, Name, Position, Projection, Rates, Rein, Security, Stake,
-    Table,
+    Liability, LiabilityFlows, LiabilityKind, Name, Position, Projection, Rates, Rein, Security,
+    Stake, Table,
 };
-use scr_factors::Set;
+use scr_profile::Set;
 use scr_sheet::natural;
 use std::alloc::{AllocError as NoMemory, Global};
 
@@ -39,16 +40,16 @@ impl Book {
             } => self.put_security(alloc, name, *class, *group, currency, *duration),
             Edit::Flows { security, flows } => self.put_promise(alloc, security, flows),
             Edit::Fund { name, components } => self.put_fund(alloc, name, components),
-            Edit::Line {
+            Edit::Liability {
                 name,
                 kind,
                 currency,
-            } => self.put_line(alloc, name, *kind, currency),
-            Edit::LineFlows {
-                line,
+            } => self.put_liability(alloc, name, *kind, currency),
+            Edit::LiabilityFlows {
+                liability,
                 projection,
                 flows,
-            } => self.put_line_flows(alloc, line, *projection, flows),
+            } => self.put_liability_flows(alloc, liability, *projection, flows),
             Edit::Rein {
                 name,
                 group,
@@ -192,6 +193,7 @@ impl Book {
         let new = components.as_slice().len() as u64;
         let old = self.component_count(name);
         let held = self.sheet.fund_hold(name);
+        refresh(&mut self.graph, self.is_graph_due, alloc, &self.sheet)?;
         self.graph.enter(*name)?;
         self.graph.put(alloc, name, components.as_slice())?;
         let fund = Fund {
@@ -203,6 +205,7 @@ impl Book {
             return Err(NoMemory);
         };
         self.sums.components = self.sums.components - old + new;
+        self.is_graph_due = false;
         Ok(())
     }
 
@@ -220,55 +223,53 @@ impl Book {
         self.sums.held = self.sums.held - old + new;
     }
 
-    fn put_line(
+    fn put_liability(
         &mut self,
         alloc: Global,
         name: &Name,
-        kind: LineKind,
+        kind: LiabilityKind,
         currency: &Name,
     ) -> Result<(), NoMemory>
-        requires formed { Formed (Edit.Line name.now kind currency.now) }
-        requires no_fault { fault_of (Edit.Line name.now kind currency.now) self.old ≡ None }
-        ensures ok { OnOk result (self.new ≡ applied (Edit.Line name.now kind currency.now) self.old) }
+        requires formed { Formed (Edit.Liability name.now kind currency.now) }
+        requires no_fault { fault_of (Edit.Liability name.now kind currency.now) self.old ≡ None }
+        ensures ok { OnOk result (self.new ≡ applied (Edit.Liability name.now kind currency.now) self.old) }
         ensures err { OnErr result (self.new ≡ self.old) }
     {
         let currency = *currency;
-        if self.sheet.lines.contains(name) {
-            self.sheet.lines.change(name, |line| {
-                line.kind = kind;
-                line.currency = currency;
+        if self.sheet.liabilities.contains(name) {
+            self.sheet.liabilities.change(name, |liability| {
+                liability.kind = kind;
+                liability.currency = currency;
             });
             return Ok(());
         }
-        self.sheet.lines.put(Liability {
+        self.sheet.liabilities.put(Liability {
             name: *name,
             kind,
             currency,
-            flows: LineFlows::none(alloc),
+            flows: LiabilityFlows::none(alloc),
         })?;
         Ok(())
     }
 
-    fn put_line_flows(
+    fn put_liability_flows(
         &mut self,
         alloc: Global,
         name: &Name,
         projection: Projection,
         flows: &Flows,
     ) -> Result<(), NoMemory>
-        requires formed { Formed (Edit.LineFlows name.now projection flows.now) }
-        requires no_fault { fault_of (Edit.LineFlows name.now projection flows.now) self.old ≡ None }
+        requires formed { Formed (Edit.LiabilityFlows name.now projection flows.now) }
+        requires no_fault { fault_of (Edit.LiabilityFlows name.now projection flows.now) self.old ≡ None }
         ensures ok { OnOk result (
-            self.new ≡ applied (Edit.LineFlows name.now projection flows.now) self.old) }
+            self.new ≡ applied (Edit.LiabilityFlows name.now projection flows.now) self.old) }
         ensures err { OnErr result (self.new ≡ self.old) }
     {
         let projected = flows.copy(alloc)?;
-        let old = self.line_total(name, projection);
+        let old = self.liability_total(name, projection);
         let new = flows.total() as u64;
-        self.sheet
-            .lines
-            .change(name, |line| line.flows.put(projection, projected));
-        self.sums.exchange_line_flows(projection, old, new);
+        self.sheet.liabilities.change(name, |liability| liability.flows.put(projection, projected));
+        self.sums.exchange_liability_flows(projection, old, new);
         Ok(())
     }
 
@@ -357,7 +358,7 @@ impl Book {
             Table::Group => self.sheet.groups.remove(name),
             Table::Security => self.sheet.securities.remove(name),
             Table::Fund => self.remove_fund(name),
-            Table::Line => self.remove_line(name),
+            Table::Liability => self.remove_liability(name),
             Table::Bank => self.remove_bank(name),
             Table::Rein => self.remove_rein(name),
             Table::Curve => self.sheet.curves.remove(name),
@@ -375,16 +376,16 @@ impl Book {
         self.sums.components -= old;
     }
 
-    fn remove_line(&mut self, name: &Name)
-        requires formed { Formed (Edit.Remove Table.Line name.now) }
-        requires no_fault { fault_of (Edit.Remove Table.Line name.now) self.old ≡ None }
-        ensures { self.new ≡ applied (Edit.Remove Table.Line name.now) self.old }
+    fn remove_liability(&mut self, name: &Name)
+        requires formed { Formed (Edit.Remove Table.Liability name.now) }
+        requires no_fault { fault_of (Edit.Remove Table.Liability name.now) self.old ≡ None }
+        ensures { self.new ≡ applied (Edit.Remove Table.Liability name.now) self.old }
     {
-        let Some(line) = self.sheet.lines.get(name) else {
+        let Some(liability) = self.sheet.liabilities.get(name) else {
             return;
         };
-        self.sums.take_line(&line.flows);
-        self.sheet.lines.remove(name);
+        self.sums.take_liability(&liability.flows);
+        self.sheet.liabilities.remove(name);
     }
 
     fn remove_bank(&mut self, name: &Name)

@@ -6,25 +6,25 @@ ghost use Rattle.scr_dates.specs.Civil.{IsDay};
 ghost use Rattle.scr_names.specs.Tables.{row_of, rows_with};
 ghost use Rattle.scr_sheet.specs.CashFlows as cash;
 ghost use Rattle.scr_sheet.specs.CashFlows.{greatest_years, flows_under};
-ghost use Rattle.scr_sheet.specs.BalanceSheet.{group_name, position_name, line_name, bank_name, rein_name, curve_name, held_of, held_total, line_flows_total, volumes_total, defaults_total, components_total, stake_name, greatest, security_years, line_years};
+ghost use Rattle.scr_sheet.specs.BalanceSheet.{group_name, position_name, liability_name, bank_name, rein_name, curve_name, held_of, held_total, liability_flows_total, volumes_total, defaults_total, components_total, stake_name, greatest, security_years, liability_years};
 ghost use Rattle.scr_sheet.specs.Faults.{Answers, list_fault, unknown_name, wrong_kind, in_use, out_of_range, sheet_outside, above};
 ghost use Rattle.scr_sheet.specs.Forms.{Formed, AreOnDays};
 ghost use Rattle.scr_sheet.specs.Records.{applied, natural};
-ghost use Rattle.scr_sheet.specs.Validity.{IsSecurity, IsLine};
-ghost use Rattle.scr_book.specs.Verbs.{is_line_flows, is_segment};
+ghost use Rattle.scr_sheet.specs.Validity.{IsSecurity, IsLiability};
+ghost use Rattle.scr_book.specs.Verbs.{is_liability_flows, is_segment};
 
 use crate::{
     Book, Components, Edit, Fault, Flows, Liability, MAX_AMOUNT, MAX_COMPONENTS, MAX_CURRENCIES,
-    MAX_EXPOSURES, MAX_FUNDS, MAX_GROUPS, MAX_HELD, MAX_LINE_FLOWS, MAX_LINES, MAX_SECURITIES,
-    MAX_YEARS, Name, Position, Projection, Quantity, Table,
+    MAX_EXPOSURES, MAX_FUNDS, MAX_GROUPS, MAX_HELD, MAX_LIABILITIES, MAX_LIABILITY_FLOWS,
+    MAX_SECURITIES, MAX_YEARS, Name, Position, Projection, Quantity, Table,
 };
 use scr_dates::{Day, Maturity, maturity};
-use scr_factors::Set;
+use scr_profile::Set;
 use scr_sheet::{PROJECTIONS, Rows, above, fields_outside, first_of, natural};
 
 /// The first quantity that lies outside its limits in the book as the record would leave it. Sums are those that the
 /// book keeps, so a record costs its own length, that of the flows that it replaces and some look-ups; only a new
-/// reference date walks all flows.
+/// reference date walks the rows, and looks at the last payment of each.
 pub(crate) fn check_ranges(book: &Book, edit: &Edit) -> Result<(), Fault>
     requires formed { Formed edit.now }
     requires list { list_fault edit.now ≡ None }
@@ -57,10 +57,10 @@ fn sheet_outside(book: &Book, edit: &Edit) -> Option<Fault>
             name,
             ref components,
         } => outside_funds(book, &name, components),
-        Edit::Line { name, .. } => outside_lines(book, &name),
-        Edit::Flows { ref flows, .. } => outside_years(years(asof, flows.as_slice())),
+        Edit::Liability { name, .. } => outside_liabilities(book, &name),
+        Edit::Flows { ref flows, .. } => outside_years(years(asof, flows)),
         Edit::Hold { name, cents } => outside_held(book, &name, cents),
-        Edit::LineFlows { .. } => outside_projection(book, edit),
+        Edit::LiabilityFlows { .. } => outside_projection(book, edit),
         Edit::Segment { .. } => outside_segment(book, edit),
         Edit::Rein {
             name,
@@ -82,23 +82,23 @@ fn sheet_outside(book: &Book, edit: &Edit) -> Option<Fault>
     }
 }
 
-// Where both the flows of all lines and the years are outside, the flows are told.
+// Where both the flows of all liabilities and the years are outside, the flows are told.
 fn outside_projection(book: &Book, edit: &Edit) -> Option<Fault>
-    requires line_flows { is_line_flows edit.now ≡ true }
+    requires liability_flows { is_liability_flows edit.now ≡ true }
     requires formed { Formed edit.now }
     requires known { unknown_name edit.now book.now ≡ None }
     requires kind { wrong_kind edit.now book.now ≡ None }
     ensures { result ≡ sheet_outside edit.now (applied edit.now book.now) }
 {
     match *edit {
-        Edit::LineFlows {
-            line,
+        Edit::LiabilityFlows {
+            liability,
             projection,
             ref flows,
         } => {
             let asof = book.numbers().asof;
-            let total = outside_line_flows(book, &line, projection, flows);
-            first_of(total, outside_years(years(asof, flows.as_slice())))
+            let total = outside_liability_flows(book, &liability, projection, flows);
+            first_of(total, outside_years(years(asof, flows)))
         }
         _ => None,
     }
@@ -175,11 +175,16 @@ fn outside_funds(book: &Book, name: &Name, components: &Components) -> Option<Fa
     )
 }
 
-fn outside_lines(book: &Book, name: &Name) -> Option<Fault>
-    ensures { result ≡ above Quantity.Lines (rows_with line_name name.now book.now.lines) MAX_LINES }
+fn outside_liabilities(book: &Book, name: &Name) -> Option<Fault>
+    ensures { result ≡ above Quantity.Liabilities (rows_with liability_name name.now book.now.liabilities) MAX_LIABILITIES }
 {
-    let is_there = book.sheet().has(Table::Line, name);
-    outside_count(Quantity::Lines, book.lines(), is_there, MAX_LINES)
+    let is_there = book.sheet().has(Table::Liability, name);
+    outside_count(
+        Quantity::Liabilities,
+        book.lines(),
+        is_there,
+        MAX_LIABILITIES,
+    )
 }
 
 fn outside_count(quantity: Quantity, rows: u32, is_there: bool, limit: u32) -> Option<Fault>
@@ -203,22 +208,23 @@ fn outside_held(book: &Book, name: &Name, cents: i64) -> Option<Fault>
     )
 }
 
-fn outside_line_flows(
+fn outside_liability_flows(
     book: &Book,
-    line: &Name,
+    liability: &Name,
     projection: Projection,
     flows: &Flows,
 ) -> Option<Fault>
-    ensures { result ≡ above Quantity.LineFlows
-        (line_flows_total projection book.now
-        - option_map_or (λ l. cash.total (flows_under projection l.flows)) (row_of line_name line.now book.now.lines) 0
-        + cash.total flows.now) MAX_LINE_FLOWS }
+    ensures { result ≡ above Quantity.LiabilityFlows
+        (liability_flows_total projection book.now
+        - option_map_or (λ l. cash.total (flows_under projection l.flows)) (row_of liability_name liability.now book.now.liabilities) 0
+        + cash.total flows.now) MAX_LIABILITY_FLOWS }
 {
-    let others = book.line_flows_total(projection) - book.line_total(line, projection);
+    let others = book.liability_flows_total(projection)
+        - book.liability_total(liability, projection);
     above(
-        Quantity::LineFlows,
+        Quantity::LiabilityFlows,
         u128::from(others) + flows.total(),
-        MAX_LINE_FLOWS,
+        MAX_LIABILITY_FLOWS,
     )
 }
 
@@ -293,23 +299,22 @@ fn outside_years(years: u16) -> Option<Fault>
 fn years_at(book: &Book, asof: Day) -> u16
     requires { IsDay asof.number }
     ensures { result ≡ max (greatest (security_years asof.number) book.now.securities)
-        (greatest (line_years asof.number) book.now.lines) }
+        (greatest (liability_years asof.number) book.now.liabilities) }
 {
     let securities = security_years(&book.sheet().securities, asof);
-    securities.max(all_line_years(&book.sheet().lines, asof))
+    securities.max(all_liability_years(&book.sheet().liabilities, asof))
 }
 
-// The greatest number of years to a payment, none for one that is past.
-fn years(asof: Day, flows: &[(Day, i64)]) -> u16
+// The greatest number of years to a payment, that of the last one; none where it is past.
+fn years(asof: Day, flows: &Flows) -> u16
     requires asof_in { IsDay asof.number }
     requires on_days { AreOnDays flows.now }
     ensures { result ≡ greatest_years asof.number flows.now }
 {
-    let mut most = 0;
-    for flow in flows {
-        most = most.max(years_of(maturity(asof, flow.0)));
+    match flows.last_day() {
+        Some(last) => years_of(maturity(asof, last)),
+        None => 0,
     }
-    most
 }
 
 fn years_of(maturity: Maturity) -> u16
@@ -329,32 +334,32 @@ fn security_years(securities: &Rows<Position>, asof: Day) -> u16
 {
     let mut most = 0;
     for position in securities.iter() {
-        most = most.max(years(asof, position.security.flows.as_slice()));
+        most = most.max(years(asof, &position.security.flows));
     }
     most
 }
 
-fn all_line_years(lines: &Rows<Liability>, asof: Day) -> u16
+fn all_liability_years(liabilities: &Rows<Liability>, asof: Day) -> u16
     requires asof_in { IsDay asof.number }
-    requires formed { AllByRecursion IsLine lines.now }
-    ensures { result ≡ greatest (line_years asof.number) lines.now }
+    requires formed { AllByRecursion IsLiability liabilities.now }
+    ensures { result ≡ greatest (liability_years asof.number) liabilities.now }
 {
     let mut most = 0;
-    for line in lines.iter() {
-        most = most.max(line_years(line, &PROJECTIONS, asof));
+    for liability in liabilities.iter() {
+        most = most.max(liability_years(liability, &PROJECTIONS, asof));
     }
     most
 }
 
-fn line_years(line: &Liability, projections: &[Projection], asof: Day) -> u16
+fn liability_years(liability: &Liability, projections: &[Projection], asof: Day) -> u16
     requires asof_in { IsDay asof.number }
-    requires formed { IsLine line.now }
+    requires formed { IsLiability liability.now }
     ensures { result
-        ≡ greatest (λ projection. greatest_years asof.number (flows_under projection line.now.flows)) projections.now }
+        ≡ greatest (λ projection. greatest_years asof.number (flows_under projection liability.now.flows)) projections.now }
 {
     let mut most = 0;
     for projection in projections {
-        most = most.max(years(asof, line.flows.under(*projection).as_slice()));
+        most = most.max(years(asof, liability.flows.under(*projection)));
     }
     most
 }

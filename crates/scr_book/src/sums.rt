@@ -1,18 +1,18 @@
 //! The sums that a book keeps beside its rows.
 ghost use Rattle.std.specs.Prelude.{◌≡◌, ◌<◌, ◌≤◌, ◌+◌, ◌-◌, ◌^◌};
 ghost use Rattle.scr_sheet.specs.CashFlows.{total, flows_under};
-ghost use Rattle.scr_book.specs.Sums.{place_of, flows_sum, with_flows_sum, without_line, volumes_sum, with_volumes_sum};
+ghost use Rattle.scr_book.specs.Sums.{place_of, flows_sum, with_flows_sum, without_liability, volumes_sum, with_volumes_sum};
 
-use crate::{LineFlows, Projection};
-use scr_factors::Set;
+use crate::{LiabilityFlows, Projection};
+use scr_profile::Set;
 
 /// All sums of a book, in cents.
-#[derive(Clone, Copy, Debug)]
+#[derive(Clone, Copy)]
 pub(crate) struct Sums {
     /// All that is held directly.
     pub(crate) held: u64,
-    /// The absolute flows of all lines under each projection.
-    pub(crate) line_flows: [u64; 10],
+    /// The absolute flows of all liabilities under each projection.
+    pub(crate) liability_flows: [u64; 10],
     /// The volumes of non-life.
     pub(crate) nl: u64,
     /// The volumes of health that is not similar to life.
@@ -44,13 +44,13 @@ pub(crate) fn place_of(projection: Projection) -> usize
 
 impl Sums {
     // Under the projection, these flows go out and others come in.
-    pub(crate) fn exchange_line_flows(&mut self, projection: Projection, old: u64, new: u64)
+    pub(crate) fn exchange_liability_flows(&mut self, projection: Projection, old: u64, new: u64)
         requires part { old ≤ flows_sum projection self.old }
         requires fits { flows_sum projection self.old - old + new < 2 ^ 64 }
         ensures { self.new ≡ with_flows_sum projection (flows_sum projection self.old - old + new) self.old }
     {
         let place = place_of(projection);
-        self.line_flows[place] = self.line_flows[place] - old + new;
+        self.liability_flows[place] = self.liability_flows[place] - old + new;
     }
 
     // In the set, these volumes go out and others come in.
@@ -65,12 +65,12 @@ impl Sums {
         }
     }
 
-    // The flows of a line go out under every projection.
-    pub(crate) fn take_line(&mut self, flows: &LineFlows)
+    // The flows of a liability go out under every projection.
+    pub(crate) fn take_liability(&mut self, flows: &LiabilityFlows)
         requires part { (p : Projection) → total (flows_under p flows.now) ≤ flows_sum p self.old }
-        ensures { self.new ≡ without_line flows.now self.old }
+        ensures { self.new ≡ without_liability flows.now self.old }
     {
-        self.line_flows = [
+        self.liability_flows = [
             self.left(Projection::Base, flows),
             self.left(Projection::Mortality, flows),
             self.left(Projection::Longevity, flows),
@@ -84,11 +84,11 @@ impl Sums {
         ];
     }
 
-    // What is left under a projection without the flows of a line.
-    fn left(&self, projection: Projection, flows: &LineFlows) -> u64
+    // What is left under a projection without the flows of a liability.
+    fn left(&self, projection: Projection, flows: &LiabilityFlows) -> u64
         requires part { total (flows_under projection flows.now) ≤ flows_sum projection self.now }
         ensures { result ≡ flows_sum projection self.now - total (flows_under projection flows.now) }
     {
-        self.line_flows[place_of(projection)] - flows.under(projection).total() as u64
+        self.liability_flows[place_of(projection)] - flows.under(projection).total() as u64
     }
 }

@@ -1,5 +1,6 @@
 -- The first piece of a list that is cut at each item which passes a test.
-use Rattle.std.proofs.Common.{◌≡◌, ℕ, ◌+◌, ◌-◌, ◌<◌, Bool, true, false, cond, List, [], ◌∷◌, length, length-drop, take, drop, refl, ap, ◌∙◌, arith, Some, None}
+use Rattle.std.proofs.Common.{◌≡◌, ℕ, ◌+◌, ◌-◌, ◌<◌, Bool, true, false, cond, List, [], ◌∷◌, length, length-drop, take}
+use Rattle.std.proofs.Common.{drop, refl, ap, ◌∙◌, arith, Some, None}
 use Rattle.std.specs.Prelude.{position, nat_lt}
 use Rattle.std.specs.List.{slice_split, position_or_len}
 use Rattle.std.proofs.lemmas.List.{take_all}
@@ -8,10 +9,12 @@ use Rattle.std.proofs.lemmas.List.Splits.{slice_split_first, slice_split_none, l
 use Rattle.std.proofs.lemmas.List.Sums.{fails_before_first, position_or_len_is}
 
 -- the piece before the first item that passes, and the pieces behind that item
-pub cut_at : (test : ℕ → Bool) (xs : List ℕ) (end : ℕ) → position test xs ≡ Some end → slice_split test xs ≡ take end xs ∷ slice_split test (drop (end + 1) xs)
+pub cut_at : (test : ℕ → Bool) (xs : List ℕ) (end : ℕ) → position test xs ≡ Some end
+    → slice_split test xs ≡ take end xs ∷ slice_split test (drop (end + 1) xs)
 cut_at test xs end found =
     let at = position-Some test xs end 0 found in
-    let place : position_or_len test xs ≡ end = position_or_len_is test xs end 0 (omega (arith, at.0)) at.2 (λ _. at.1) in
+    let place : position_or_len test xs ≡ end = position_or_len_is test xs end 0 (omega (arith, at.0)) at.2
+    (λ _. at.1) in
     let within : position_or_len test xs < length xs = omega (arith, at.0, place) in
     slice_split_first test xs 0 within ∙ ap (λ n. take n xs ∷ slice_split test (drop (n + 1) xs)) place
 

@@ -1,5 +1,6 @@
 -- What a list of decimal digits stands for.
-use Rattle.std.proofs.Common.{◌≡◌, ℕ, zero, suc, ◌+◌, ◌*◌, ◌^◌, ◌<◌, ◌≤◌, ◌&&◌, Bool, true, false, List, [], ◌∷◌, length, get_or, refl, arith, add-one, lit<}
+use Rattle.std.proofs.Common.{◌≡◌, ℕ, zero, suc, ◌+◌, ◌*◌, ◌^◌, ◌<◌, ◌≤◌, ◌&&◌, Bool, true, false, List, [], ◌∷◌}
+use Rattle.std.proofs.Common.{length, get_or, refl, arith, add-one, lit<}
 use Rattle.std.specs.List.{list_all}
 use Rattle.std.specs.Char.{is_ascii_digit}
 use Rattle.std.proofs.Math.Nat.{pow-suc, pow-le-pow_right}
@@ -13,7 +14,8 @@ digit_range : (b : ℕ) → is_ascii_digit b ≡ true → (48 ≤ b) × (b < 58)
 digit_range b h = (grind (arith, h), grind (arith, h))
 
 -- each of the digits is one
-pub digit_at : (digits : List ℕ) (i : ℕ) → list_all is_ascii_digit digits ≡ true → i < length digits → (48 ≤ get_or digits i 0) × (get_or digits i 0 < 58)
+pub digit_at : (digits : List ℕ) (i : ℕ) → list_all is_ascii_digit digits ≡ true → i < length digits
+    → (48 ≤ get_or digits i 0) × (get_or digits i 0 < 58)
 digit_at [] i all within = absurd (omega (arith, within))
 digit_at (d ∷ digits) zero all within = digit_range d (both_true _ _ all).0
 digit_at (d ∷ digits) (suc i) all within = digit_at digits i (both_true _ _ all).1 (omega (arith, within))

@@ -5,3 +5,13 @@ pub mod FormLemmas
 pub mod Steps
 pub mod ListSteps
 pub mod LineSplit
+pub mod Splitting
+pub mod ReadWords
+pub mod AbsorbKeys
+pub mod Refusals
+pub mod RecordFaults
+pub mod PlainTexts
+pub mod WrittenNumbers
+pub mod WrittenDays
+pub mod Written
+pub mod Days

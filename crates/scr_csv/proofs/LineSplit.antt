@@ -1,5 +1,6 @@
 -- How a line is split into fields: csv's way is a cut at the commas where there is no double quote.
-use Rattle.std.proofs.Common.{◌≡◌, ℕ, ◌+◌, ◌≤◌, ◌==◌, ◌||◌, Bool, true, false, cond, List, [], ◌∷◌, ◌++◌, length, Option, Some, None, refl, ap, ◌∙◌, append_assoc, arith, length-append, inl, inr}
+use Rattle.std.proofs.Common.{◌≡◌, ℕ, ◌+◌, ◌≤◌, ◌==◌, ◌||◌, Bool, true, false, cond, List, [], ◌∷◌, ◌++◌, length}
+use Rattle.std.proofs.Common.{Option, Some, None, refl, ap, ◌∙◌, append_assoc, arith, length-append, inl, inr}
 use Rattle.std.specs.Prelude.{nat_le, option_map}
 use Rattle.std.specs.List.{list_all, list_any, onto_first}
 use Rattle.std.proofs.lemmas.Bool.{cases_Bool}
@@ -28,11 +29,13 @@ no_mark (a ∷ []) h = refl
 no_mark (a ∷ b ∷ []) h = refl
 no_mark (a ∷ b ∷ c ∷ rest) h = rw (printed_low a (both_true _ _ h).0) refl
 
-pub fields_of_read : (o : Option Read) (fields : List (List ℕ)) → Some fields ≡ option_map (λ read. read.0) o → fields_read o ≡ fields
+pub fields_of_read : (o : Option Read) (fields : List (List ℕ)) → Some fields ≡ option_map (λ read. read.0) o
+    → fields_read o ≡ fields
 fields_of_read None fields h = absurd (cc)
 fields_of_read (Some read) fields h = cc
 
-pub fields_of_none : (o : Option Read) → ◌≡◌ {A = Option (List (List ℕ))} None (option_map (λ read. read.0) o) → fields_read o ≡ []
+pub fields_of_none : (o : Option Read) → ◌≡◌ {A = Option (List (List ℕ))} None (option_map (λ read. read.0) o)
+    → fields_read o ≡ []
 fields_of_none None h = refl
 fields_of_none (Some read) h = absurd (cc)
 
@@ -47,7 +50,8 @@ abbrev joined : List ℕ → List (List ℕ) → List (List ℕ)
 joined field [] = field ∷ []
 joined field (piece ∷ more) = (field ++ piece) ∷ more
 
-joined-onto : (field : List ℕ) (c : ℕ) (cut : List (List ℕ)) → joined (field ++ (c ∷ [])) cut ≡ joined field (onto_first c cut)
+joined-onto : (field : List ℕ) (c : ℕ) (cut : List (List ℕ))
+    → joined (field ++ (c ∷ [])) cut ≡ joined field (onto_first c cut)
 joined-onto field c [] = refl
 joined-onto field c (piece ∷ more) = ap (λ (p : List ℕ). p ∷ more) (append_assoc field (c ∷ []) piece)
 
@@ -55,7 +59,8 @@ joined-one : (c : ℕ) (cut : List (List ℕ)) → joined (c ∷ []) cut ≡ ont
 joined-one c [] = refl
 joined-one c (piece ∷ more) = refl
 
-printed_at : (c : ℕ) (rest : List ℕ) → list_all is_printed (c ∷ rest) ≡ true → ((c == 13) ≡ false) × ((c == 10) ≡ false) × (list_all is_printed rest ≡ true)
+pub printed_at : (c : ℕ) (rest : List ℕ) → list_all is_printed (c ∷ rest) ≡ true
+    → ((c == 13) ≡ false) × ((c == 10) ≡ false) × (list_all is_printed rest ≡ true)
 printed_at c rest h =
     let parts = both_true (is_printed c) (list_all is_printed rest) h in
     (printed_other c 13 parts.0 refl, printed_other c 10 parts.0 refl, parts.1)
@@ -63,15 +68,22 @@ printed_at c rest h =
 mutual
   unfolding next_record
 
-  in_field : (fields : List (List ℕ)) (field text : List ℕ) → list_all is_printed text ≡ true → list_any is_quote text ≡ false
-      → next_record default_config state.InField fields field text ≡ Some (fields ++ joined field (pieces text), state.StartRecord, [])
+  in_field : (fields : List (List ℕ)) (field text : List ℕ) → list_all is_printed text ≡ true
+      → list_any is_quote text ≡ false
+      → next_record default_config state.InField fields field text ≡ Some
+      (fields ++ joined field (pieces text), state.StartRecord, [])
   in_field fields field [] printed unquoted = rw (append-nil field) refl
   in_field fields field (c ∷ rest) printed unquoted =
       let p = printed_at c rest printed in
       let q = or_false (c == 34) (list_any is_quote rest) unquoted in
       elim (cases_Bool (c == 44)) [
-        | inl comma ↦ rw (comma, append-nil field) (at_start (fields ++ (field ∷ [])) rest p.2 q.1 ∙ ap (λ (f : List (List ℕ)). Some (f, state.StartRecord, [])) (append_assoc fields (field ∷ []) (pieces rest)))
-        | inr other ↦ rw (other, p.0, p.1) (in_field fields (field ++ (c ∷ [])) rest p.2 q.1 ∙ ap (λ (f : List (List ℕ)). Some (fields ++ f, state.StartRecord, [])) (joined-onto field c (pieces rest)))
+        | inl comma ↦ rw (comma, append-nil field)
+            (at_start (fields ++ (field ∷ [])) rest p.2 q.1
+            ∙ ap (λ (f : List (List ℕ)). Some (f, state.StartRecord, []))
+            (append_assoc fields (field ∷ []) (pieces rest)))
+        | inr other ↦ rw (other, p.0, p.1)
+            (in_field fields (field ++ (c ∷ [])) rest p.2 q.1
+            ∙ ap (λ (f : List (List ℕ)). Some (fields ++ f, state.StartRecord, [])) (joined-onto field c (pieces rest)))
       ]
 
   at_start : (fields : List (List ℕ)) (text : List ℕ) → list_all is_printed text ≡ true → list_any is_quote text ≡ false
@@ -81,19 +93,25 @@ mutual
       let p = printed_at c rest printed in
       let q = or_false (c == 34) (list_any is_quote rest) unquoted in
       elim (cases_Bool (c == 44)) [
-        | inl comma ↦ rw (q.0, comma) (at_start (fields ++ ([] ∷ [])) rest p.2 q.1 ∙ ap (λ (f : List (List ℕ)). Some (f, state.StartRecord, [])) (append_assoc fields ([] ∷ []) (pieces rest)))
-        | inr other ↦ rw (q.0, other, p.0, p.1) (in_field fields (c ∷ []) rest p.2 q.1 ∙ ap (λ (f : List (List ℕ)). Some (fields ++ f, state.StartRecord, [])) (joined-one c (pieces rest)))
+        | inl comma ↦ rw (q.0, comma)
+            (at_start (fields ++ ([] ∷ [])) rest p.2 q.1
+            ∙ ap (λ (f : List (List ℕ)). Some (f, state.StartRecord, [])) (append_assoc fields ([] ∷ []) (pieces rest)))
+        | inr other ↦ rw (q.0, other, p.0, p.1)
+            (in_field fields (c ∷ []) rest p.2 q.1
+            ∙ ap (λ (f : List (List ℕ)). Some (fields ++ f, state.StartRecord, [])) (joined-one c (pieces rest)))
       ]
 
 -- A line that is not empty and has no double quote is cut at its commas.
-line_fields-cut : (c : ℕ) (rest : List ℕ) → list_all is_printed (c ∷ rest) ≡ true → list_any is_quote (c ∷ rest) ≡ false → line_fields (c ∷ rest) ≡ pieces (c ∷ rest)
+line_fields-cut : (c : ℕ) (rest : List ℕ) → list_all is_printed (c ∷ rest) ≡ true → list_any is_quote (c ∷ rest) ≡ false
+    → line_fields (c ∷ rest) ≡ pieces (c ∷ rest)
 unfolding line_fields next_record
 line_fields-cut c rest printed unquoted =
     let p = printed_at c rest printed in
     let q = or_false (c == 34) (list_any is_quote rest) unquoted in
     elim (cases_Bool (c == 44)) [
       | inl comma ↦ rw (p.0, p.1, q.0, comma) (ap fields_read (at_start ([] ∷ []) rest p.2 q.1))
-      | inr other ↦ rw (p.0, p.1, q.0, other) (ap fields_read (in_field [] (c ∷ []) rest p.2 q.1) ∙ joined-one c (pieces rest))
+      | inr other ↦ rw (p.0, p.1, q.0, other)
+          (ap fields_read (in_field [] (c ∷ []) rest p.2 q.1) ∙ joined-one c (pieces rest))
     ]
 
 -- An empty line has no field.
@@ -102,35 +120,42 @@ unfolding line_fields next_record
 line_fields-empty [] h = refl
 line_fields-empty (c ∷ rest) h = absurd (grind (arith, h))
 
-pub line_fields-not_empty : (text : List ℕ) → (length text == 0) ≡ false → list_all is_printed text ≡ true → list_any is_quote text ≡ false → line_fields text ≡ pieces text
+pub line_fields-not_empty : (text : List ℕ) → (length text == 0) ≡ false → list_all is_printed text ≡ true
+    → list_any is_quote text ≡ false → line_fields text ≡ pieces text
 line_fields-not_empty [] h = absurd (cc)
 line_fields-not_empty (c ∷ rest) h = line_fields-cut c rest
 
 -- ---- how many fields a line has
 
-ended : (a : Action) (fields : List (List ℕ)) (field : List ℕ) → length (fields_after a fields field) ≤ length fields + 1
+ended : (a : Action) (fields : List (List ℕ)) (field : List ℕ)
+    → length (fields_after a fields field) ≤ length fields + 1
 ended action.Skip fields field = omega arith
 ended action.Copy fields field = omega arith
 ended action.EndField fields field = omega (arith, length-append fields (field ∷ []))
 ended action.EndRecord fields field = omega (arith, length-append fields (field ∷ []))
 
-few_end : (b : Bool) (fields : List (List ℕ)) (field : List ℕ) → length (fields_read (cond b (Some (fields ++ (field ∷ []), state.StartRecord, [])) None)) ≤ length fields + 1
+few_end : (b : Bool) (fields : List (List ℕ)) (field : List ℕ)
+    → length (fields_read (cond b (Some (fields ++ (field ∷ []), state.StartRecord, [])) None)) ≤ length fields + 1
 few_end true fields field = omega (arith, length-append fields (field ∷ []))
 few_end false fields field = omega arith
 
-few_step : (b : Bool) (a : Action) (fields : List (List ℕ)) (field : List ℕ) (s : State) (rest : List ℕ) (more : Option Read)
+few_step : (b : Bool) (a : Action) (fields : List (List ℕ)) (field : List ℕ) (s : State) (rest : List ℕ)
+    (more : Option Read)
     → length (fields_read more) ≤ (length (fields_after a fields field) + length rest) + 1
-    → length (fields_read (cond b (Some (fields_after a fields field, s, rest)) more)) ≤ (length fields + (length rest + 1)) + 1
+    → length (fields_read (cond b (Some (fields_after a fields field, s, rest)) more))
+    ≤ (length fields + (length rest + 1)) + 1
 few_step true a fields field s rest more h = omega (arith, ended a fields field)
 few_step false a fields field s rest more h = omega (arith, ended a fields field, h)
 
-few_read : (s : State) (fields : List (List ℕ)) (field text : List ℕ) → length (fields_read (next_record default_config s fields field text)) ≤ (length fields + length text) + 1
+few_read : (s : State) (fields : List (List ℕ)) (field text : List ℕ)
+    → length (fields_read (next_record default_config s fields field text)) ≤ (length fields + length text) + 1
 unfolding next_record
 few_read s fields field [] = omega (arith, few_end (ends_at_end s) fields field)
 few_read s fields field (c ∷ rest) =
     let act = (step default_config s c).1 in
     let h = few_step (is_end act) act fields field (step default_config s c).0 rest
-    (next_record default_config (step default_config s c).0 (fields_after act fields field) (field_after act c field) rest)
+    (next_record default_config (step default_config s c).0 (fields_after act fields field)
+    (field_after act c field) rest)
     (few_read (step default_config s c).0 (fields_after act fields field) (field_after act c field) rest) in
     omega (arith, h)
 

@@ -1,5 +1,6 @@
 -- Lists in a line, member by member.
-use Rattle.std.proofs.Common.{◌≡◌, ◌≢◌, ℕ, ℤ, ◌+◌, ◌<◌, List, [], ◌∷◌, ◌++◌, length, Option, Result, Ok, Err, refl, ap, sym, append_assoc, arith}
+use Rattle.std.proofs.Common.{◌≡◌, ◌≢◌, ℕ, ℤ, ◌+◌, ◌<◌, List, [], ◌∷◌, ◌++◌, length, Option, Result, Ok, Err, refl, ap}
+use Rattle.std.proofs.Common.{sym, append_assoc, arith}
 use Rattle.std.specs.List.{AllByRecursion}
 use Rattle.std.proofs.lemmas.List.{append-nil}
 use Rattle.scr_csv.specs.declared.fault.LineFault.{LineFault}
@@ -15,7 +16,8 @@ pub behind_none : {A : Type 0} (due : Result (List A) LineFault) → behind [] d
 behind_none (Ok members) = refl
 behind_none (Err fault) = refl
 
-pub behind_next : {A : Type 0} (members : List A) (a : A) (more : Result (List A) LineFault) → behind members (made (λ rest. a ∷ rest) more) ≡ behind (members ++ (a ∷ [])) more
+pub behind_next : {A : Type 0} (members : List A) (a : A) (more : Result (List A) LineFault)
+    → behind members (made (λ rest. a ∷ rest) more) ≡ behind (members ++ (a ∷ [])) more
 behind_next members a (Ok rest) = ap Ok (sym (append_assoc members (a ∷ []) rest))
 behind_next members a (Err fault) = refl
 
@@ -29,7 +31,8 @@ due_answers due (Ok a) h = h
 due_answers due (Err (Syntax k)) h = h
 due_answers due (Err NoMemory) h = tt
 
-pub all_push : {A : Type 0} (P : A → Type 0) (xs : List A) (x : A) → AllByRecursion P xs → P x → AllByRecursion P (xs ++ (x ∷ []))
+pub all_push : {A : Type 0} (P : A → Type 0) (xs : List A) (x : A) → AllByRecursion P xs → P x
+    → AllByRecursion P (xs ++ (x ∷ []))
 all_push P [] x all h = (h, tt)
 all_push P (y ∷ ys) x all h = (all.0, all_push P ys x all.1 h)
 
@@ -37,13 +40,15 @@ record Read {A : Type 0} (o : Result A LineFault) (a : A) (rest after : Rest) : 
   value : o ≡ Ok a
   same : rest ≡ after
 
-read_ok : {A : Type 0} (o : Result A LineFault) (a : A) (rest after : Rest) → read_to o rest ≡ Ok (a, after) → Read o a rest after
+read_ok : {A : Type 0} (o : Result A LineFault) (a : A) (rest after : Rest) → read_to o rest ≡ Ok (a, after)
+    → Read o a rest after
 read_ok {A} (Ok b) a rest after h =
     let pair : ◌≡◌ {A = A × Rest} (b, rest) (a, after) = cc in
     record { value = ap (λ p. Ok p.0) pair; same = ap (λ p. p.1) pair }
 read_ok {A} (Err fault) a rest after h = absurd (cc)
 
-read_err : {A : Type 0} (o : Result A LineFault) (rest : Rest) (fault : LineFault) → read_to o rest ≡ Err fault → o ≡ Err fault
+read_err : {A : Type 0} (o : Result A LineFault) (rest : Rest) (fault : LineFault) → read_to o rest ≡ Err fault
+    → o ≡ Err fault
 read_err (Ok b) rest fault h = absurd (cc)
 read_err (Err e) rest fault h = cc
 
@@ -61,15 +66,18 @@ listed_ok a (Ok rest) = refl
 listed_ok a (Err fault) = refl
 
 pub numbers-next : (number : ℕ) (fields : List (List ℕ)) (z : ℤ) (after : Rest)
-    → next number_value (record { number = number; fields = fields }) ≡ Ok (z, after) → numbers_from number fields ≡ made (λ rest. z ∷ rest) (numbers_from after.number after.fields)
+    → next number_value (record { number = number; fields = fields }) ≡ Ok (z, after)
+    → numbers_from number fields ≡ made (λ rest. z ∷ rest) (numbers_from after.number after.fields)
 unfolding next field
 numbers-next number [] z after h = absurd (cc)
 numbers-next number (first ∷ fields) z after h =
-    let read = read_ok (value_in number_value number first) z (record { number = number + 1; fields = fields }) after h in
+    let read = read_ok (value_in number_value number first) z
+    (record { number = number + 1; fields = fields }) after h in
     rw (read.value, ← read.same) (listed_ok z (numbers_from (number + 1) fields))
 
 pub numbers-fault : (number : ℕ) (fields : List (List ℕ)) (fault : LineFault)
-    → next number_value (record { number = number; fields = fields }) ≡ Err fault → (fields ≢ []) → numbers_from number fields ≡ Err fault
+    → next number_value (record { number = number; fields = fields }) ≡ Err fault → (fields ≢ [])
+    → numbers_from number fields ≡ Err fault
 unfolding next field
 numbers-fault number [] fault h some = absurd (some refl)
 numbers-fault number (first ∷ fields) fault h some = rw (read_err (value_in number_value number first) _ fault h) refl
@@ -77,7 +85,8 @@ numbers-fault number (first ∷ fields) fault h some = rw (read_err (value_in nu
 plus_two : (n : ℕ) → (n + 1) + 1 ≡ n + 2
 plus_two n = omega arith
 
-pub pairs-next : {A : Type 0} (form : List ℕ → Option A) (number : ℕ) (fields : List (List ℕ)) (a : A) (mid : Rest) (z : ℤ) (after : Rest)
+pub pairs-next : {A : Type 0} (form : List ℕ → Option A) (number : ℕ) (fields : List (List ℕ)) (a : A) (mid : Rest)
+    (z : ℤ) (after : Rest)
     → next form (record { number = number; fields = fields }) ≡ Ok (a, mid) → next number_value mid ≡ Ok (z, after)
     → pairs_from form number fields ≡ made (λ rest. (a, z) ∷ rest) (pairs_from form after.number after.fields)
 unfolding next field
@@ -86,19 +95,27 @@ pairs-next form number (first ∷ []) a mid z after h k =
     let read = read_ok (value_in form number first) a (record { number = number + 1; fields = [] }) mid h in
     absurd (cc (rw (← read.same) at k))
 pairs-next form number (first ∷ second ∷ fields) a mid z after h k =
-    let read = read_ok (value_in form number first) a (record { number = number + 1; fields = second ∷ fields }) mid h in
-    let amount = read_ok (value_in number_value (number + 1) second) z (record { number = (number + 1) + 1; fields = fields }) after (rw (← read.same) at k) in
-    rw (read.value, amount.value, ← amount.same, plus_two number) (listed_ok (a, z) (pairs_from form (number + 2) fields))
+    let read = read_ok (value_in form number first) a
+    (record { number = number + 1; fields = second ∷ fields }) mid h in
+    let amount = read_ok (value_in number_value (number + 1) second) z
+    (record { number = (number + 1) + 1; fields = fields }) after (rw (← read.same) at k) in
+    rw (read.value, amount.value, ← amount.same, plus_two number)
+    (listed_ok (a, z) (pairs_from form (number + 2) fields))
 
-pub pairs-value_fault : {A : Type 0} (form : List ℕ → Option A) (number : ℕ) (fields : List (List ℕ)) (fault : LineFault)
-    → next form (record { number = number; fields = fields }) ≡ Err fault → (fields ≢ []) → pairs_from form number fields ≡ Err fault
+pub pairs-value_fault : {A : Type 0} (form : List ℕ → Option A) (number : ℕ) (fields : List (List ℕ))
+    (fault : LineFault)
+    → next form (record { number = number; fields = fields }) ≡ Err fault → (fields ≢ [])
+    → pairs_from form number fields ≡ Err fault
 unfolding next field
 pairs-value_fault form number [] fault h some = absurd (some refl)
 pairs-value_fault form number (first ∷ []) fault h some = rw (read_err (value_in form number first) _ fault h) refl
-pairs-value_fault form number (first ∷ second ∷ fields) fault h some = rw (read_err (value_in form number first) _ fault h) refl
+pairs-value_fault form number (first ∷ second ∷ fields) fault h some = rw
+    (read_err (value_in form number first) _ fault h) refl
 
-pub pairs-number_fault : {A : Type 0} (form : List ℕ → Option A) (number : ℕ) (fields : List (List ℕ)) (a : A) (mid : Rest) (fault : LineFault)
-    → next form (record { number = number; fields = fields }) ≡ Ok (a, mid) → next number_value mid ≡ Err fault → pairs_from form number fields ≡ Err fault
+pub pairs-number_fault : {A : Type 0} (form : List ℕ → Option A) (number : ℕ) (fields : List (List ℕ)) (a : A)
+    (mid : Rest) (fault : LineFault)
+    → next form (record { number = number; fields = fields }) ≡ Ok (a, mid) → next number_value mid ≡ Err fault
+    → pairs_from form number fields ≡ Err fault
 unfolding next field
 pairs-number_fault form number [] a mid fault h k = absurd (cc)
 pairs-number_fault form number (first ∷ []) a mid fault h k =
@@ -107,5 +124,6 @@ pairs-number_fault form number (first ∷ []) a mid fault h k =
     let same : Syntax (number + 1) ≡ fault = cc in
     rw (read.value, same) refl
 pairs-number_fault form number (first ∷ second ∷ fields) a mid fault h k =
-    let read = read_ok (value_in form number first) a (record { number = number + 1; fields = second ∷ fields }) mid h in
+    let read = read_ok (value_in form number first) a
+    (record { number = number + 1; fields = second ∷ fields }) mid h in
     rw (read.value, read_err (value_in number_value (number + 1) second) _ fault (rw (← read.same) at k)) refl

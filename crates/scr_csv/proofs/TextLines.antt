@@ -1,5 +1,6 @@
 -- The first line of a text, and the lines after it.
-use Rattle.std.proofs.Common.{◌≡◌, ℕ, ◌+◌, ◌<◌, ◌==◌, Bool, false, cond, List, [], ◌∷◌, length, take, drop, refl, ap, ◌∙◌, arith, Some, None}
+use Rattle.std.proofs.Common.{◌≡◌, ℕ, ◌+◌, ◌<◌, ◌==◌, Bool, false, cond, List, [], ◌∷◌, length, take, drop, refl, ap}
+use Rattle.std.proofs.Common.{◌∙◌, arith, Some, None}
 use Rattle.std.specs.Prelude.{position}
 use Rattle.std.specs.List.{slice_split}
 use Rattle.std.specs.Str.Lines.{lines, lines_of_parts, strip_carriage_return}
@@ -9,14 +10,17 @@ abbrev newline : ℕ → Bool
 newline b = b == 10
 
 -- a part that others follow is a line without its carriage return
-part_before : (part : List ℕ) (parts : List (List ℕ)) → 0 < length parts → lines_of_parts (part ∷ parts) ≡ strip_carriage_return part ∷ lines_of_parts parts
+part_before : (part : List ℕ) (parts : List (List ℕ)) → 0 < length parts
+    → lines_of_parts (part ∷ parts) ≡ strip_carriage_return part ∷ lines_of_parts parts
 part_before part [] more = absurd (omega (arith, more))
 part_before part (next ∷ parts) more = refl
 
-pub lines_at : (bytes : List ℕ) (end : ℕ) → position newline bytes ≡ Some end → lines bytes ≡ strip_carriage_return (take end bytes) ∷ lines (drop (end + 1) bytes)
+pub lines_at : (bytes : List ℕ) (end : ℕ) → position newline bytes ≡ Some end
+    → lines bytes ≡ strip_carriage_return (take end bytes) ∷ lines (drop (end + 1) bytes)
 lines_at bytes end found =
     ap lines_of_parts (cut_at newline bytes end found)
-    ∙ part_before (take end bytes) (slice_split newline (drop (end + 1) bytes)) (pieces_left newline (drop (end + 1) bytes))
+    ∙ part_before (take end bytes) (slice_split newline (drop (end + 1) bytes))
+    (pieces_left newline (drop (end + 1) bytes))
 
 not_empty : (b : ℕ) (bytes : List ℕ) → (length (b ∷ bytes) == 0) ≡ false
 not_empty b bytes = grind arith

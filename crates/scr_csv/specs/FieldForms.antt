@@ -1,9 +1,10 @@
 -- The form of each field of a record, and what a field of that form stands for (this project's own).
-use Rattle.std.specs.Prelude.{ℕ, ℤ, pos, negsuc, ◌&&◌, List, take, drop, Option, Some, None, if◌then◌else◌, codes, nat_le, option_and_then, option_map}
+use Rattle.std.specs.Prelude.{ℕ, ℤ, pos, negsuc, ◌&&◌, List, take, drop, Option, Some, None, if◌then◌else◌, codes}
+use Rattle.std.specs.Prelude.{nat_le, option_and_then, option_map}
 use Rattle.std.specs.Option.{option_or}
-use Rattle.scr_factors.specs.declared.set.Set.{Set}
+use Rattle.scr_profile.specs.declared.set.Set.{Set}
 use Rattle.scr_names.specs.Names.{is_name, is_currency}
-use Rattle.scr_factors.specs.Values.{segments}
+use Rattle.scr_profile.specs.Segments.{segments}
 use Rattle.scr_sheet.specs.declared.keys.AbsorbKey.{AbsorbKey}
 use Rattle.scr_sheet.specs.declared.keys.AbsorbKey.TheVariants as absorb
 use Rattle.scr_csv.specs.Numbers.{number_value}
@@ -52,7 +53,8 @@ turn_of currency field =
 -- `currency.CUR.up` and `currency.CUR.down`
 unfoldable pub currency_key_of : List ℕ → Option AbsorbKey
 currency_key_of field =
-    if is_text (take 9 field) (codes "currency.") then option_and_then (λ currency. turn_of currency (drop 3 (drop 9 field))) (currency_of (take 3 (drop 9 field)))
+    if is_text (take 9 field) (codes "currency.") then option_and_then
+    (λ currency. turn_of currency (drop 3 (drop 9 field))) (currency_of (take 3 (drop 9 field)))
     else None
 
 unfoldable pub absorb_key_of : List ℕ → Option AbsorbKey

@@ -6,5 +6,9 @@ pub mod FieldForms
 pub mod LineFields
 pub mod Reading
 pub mod Sources
+pub mod Splits
 pub mod Records
 pub mod KeyWords
+pub mod Refusals
+pub mod RecordTexts
+pub mod FieldTexts

@@ -1,4 +1,5 @@
--- The fields of a line (this project's own): those that csv gives for the line alone, without headers and without trimming.
+-- The fields of a line (this project's own): those that csv gives for the line alone, without headers and without
+-- trimming.
 use Rattle.std.specs.Prelude.{ℕ, Bool, ◌&&◌, ◌==◌, List, [], Option, Some, None, nat_le}
 use Rattle.csv.specs.Machine.{Read, next_record}
 use Rattle.csv.specs.Reading.{default_config}

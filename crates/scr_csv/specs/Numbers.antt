@@ -1,5 +1,6 @@
 -- The numbers of a record (this project's own): an optional `-` and 1 to 18 digits.
-use Rattle.std.specs.Prelude.{ℕ, ℤ, pos, neg_ℤ, ◌+◌, ◌-◌, ◌*◌, ◌==◌, ◌&&◌, Bool, List, [], ◌∷◌, Option, Some, None, if◌then◌else◌, length, nat_le, fold, option_map}
+use Rattle.std.specs.Prelude.{ℕ, ℤ, pos, neg_ℤ, ◌+◌, ◌-◌, ◌*◌, ◌==◌, ◌&&◌, Bool, List, [], ◌∷◌, Option, Some, None}
+use Rattle.std.specs.Prelude.{if◌then◌else◌, length, nat_le, fold, option_map}
 use Rattle.std.specs.Char.{is_ascii_digit}
 use Rattle.std.specs.List.{list_all}
 
@@ -17,4 +18,5 @@ digits_value digits = if are_digits digits then Some (decimal_value digits) else
 -- a `-` before the digits turns the sign, and `-0` is 0
 abbrev pub number_value : List ℕ → Option ℤ
 number_value [] = None
-number_value (b ∷ bytes) = if b == 45 then option_map (λ n. neg_ℤ (pos n)) (digits_value bytes) else option_map pos (digits_value (b ∷ bytes))
+number_value (b ∷ bytes) = if b == 45 then option_map (λ n. neg_ℤ (pos n)) (digits_value bytes) else option_map pos
+    (digits_value (b ∷ bytes))

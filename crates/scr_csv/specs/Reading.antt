@@ -14,7 +14,8 @@ pub record Rest : Type 0 where
 abbrev pub Reader : Type 0 → Type 0
 Reader A = Rest → Result (A × Rest) LineFault
 
-abbrev pub continued : {A B : Type 0} → (A → Rest → Result B LineFault) → Result (A × Rest) LineFault → Result B LineFault
+abbrev pub continued : {A B : Type 0} → (A → Rest → Result B LineFault) → Result (A × Rest) LineFault
+    → Result B LineFault
 continued then (Ok read) = then read.0 read.1
 continued then (Err fault) = Err fault
 
@@ -82,7 +83,9 @@ numbers_from number (field ∷ fields) = listed (value_in number_value number fi
 abbrev pub pairs_from : {A : Type 0} → (List ℕ → Option A) → ℕ → List (List ℕ) → Result (List (A × ℤ)) LineFault
 pairs_from form number [] = Ok []
 pairs_from form number (value ∷ []) = listed (both (value_in form number value) (Err (Syntax (number + 1)))) (Ok [])
-pairs_from form number (value ∷ amount ∷ fields) = listed (both (value_in form number value) (value_in number_value (number + 1) amount)) (pairs_from form (number + 2) fields)
+pairs_from form number (value ∷ amount ∷ fields) = listed
+    (both (value_in form number value) (value_in number_value (number + 1) amount))
+    (pairs_from form (number + 2) fields)
 
 -- ---- answers
 

@@ -12,7 +12,9 @@ use Rattle.scr_csv.specs.FieldForms.{name_of, currency_of, group_of, step_of, se
 use Rattle.scr_csv.specs.LineFields.{line_fields, is_printed}
 use Rattle.scr_csv.specs.Numbers.{number_value}
 use Rattle.scr_csv.specs.Reading.{Rest, ◌>>=◌, next, only, numbers_from, pairs_from, made}
-use Rattle.scr_csv.specs.Words.{value_of, verb_word, all_verbs, table_word, all_tables, group_kind_word, all_group_kinds, class_word, all_classes, line_kind_word, all_line_kinds, projection_word, all_projections, set_word, all_sets, cat_key_word, all_cat_keys}
+use Rattle.scr_csv.specs.Words.{value_of, verb_word, all_verbs, table_word, all_tables, group_kind_word}
+use Rattle.scr_csv.specs.Words.{all_group_kinds, class_word, all_classes, liability_kind_word, all_liability_kinds}
+use Rattle.scr_csv.specs.Words.{projection_word, all_projections, set_word, all_sets, cat_key_word, all_cat_keys}
 
 -- what follows the verb: the fields that make the record
 abbrev pub Record : Type 0
@@ -61,18 +63,18 @@ hold_record = do
   cents ← next number_value
   only (edits.Hold name cents)
 
-abbrev pub line_record : Record
-line_record = do
+abbrev pub liability_record : Record
+liability_record = do
   name ← next name_of
-  kind ← next (value_of line_kind_word all_line_kinds)
+  kind ← next (value_of liability_kind_word all_liability_kinds)
   currency ← next currency_of
-  only (edits.Line name kind currency)
+  only (edits.Liability name kind currency)
 
-abbrev pub line_flows_record : Record
-line_flows_record = do
+abbrev pub liability_flows_record : Record
+liability_flows_record = do
   line ← next name_of
   projection ← next (value_of projection_word all_projections)
-  (λ rest. made (edits.LineFlows line projection) (pairs_from day_of_text rest.number rest.fields))
+  (λ rest. made (edits.LiabilityFlows line projection) (pairs_from day_of_text rest.number rest.fields))
 
 abbrev pub absorb_record : Record
 absorb_record = do
@@ -172,8 +174,8 @@ record_of verbs.Security = security_record
 record_of verbs.Flows = flows_record
 record_of verbs.Fund = fund_record
 record_of verbs.Hold = hold_record
-record_of verbs.Line = line_record
-record_of verbs.LineFlows = line_flows_record
+record_of verbs.Liability = liability_record
+record_of verbs.LiabilityFlows = liability_flows_record
 record_of verbs.Absorb = absorb_record
 record_of verbs.Segment = segment_record
 record_of verbs.Cat = cat_record
@@ -196,4 +198,5 @@ any_record = do
 
 -- the record that a line spells, or its first fault
 abbrev pub edit_of_line : List ℕ → Result Edit LineFault
-edit_of_line text = if list_all is_printed text then any_record (record { number = 0; fields = line_fields text }) else Err (Syntax 0)
+edit_of_line text = if list_all is_printed text then any_record
+    (record { number = 0; fields = line_fields text }) else Err (Syntax 0)

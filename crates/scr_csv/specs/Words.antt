@@ -1,4 +1,5 @@
--- The closed lists of words that fields choose from (this project's own): the word of each value, and the value of a word.
+-- The closed lists of words that fields choose from (this project's own): the word of each value, and the value of a
+-- word.
 use Rattle.std.specs.Prelude.{ℕ, ◌∷◌, List, [], Option, Some, None, codes, find, nat_eq, Bool, false}
 use Rattle.std.specs.Option.{option_map_or}
 use Rattle.std.specs.Cmp.Lexicographic.{pointwise}
@@ -6,16 +7,16 @@ use Rattle.scr_csv.specs.declared.verb.Verb.{Verb}
 use Rattle.scr_csv.specs.declared.verb.Verb.TheVariants as verbs
 use Rattle.scr_sheet.specs.declared.keys.Table.{Table}
 use Rattle.scr_sheet.specs.declared.keys.Table.TheVariants as tables
-use Rattle.scr_sheet.specs.declared.rows.GroupKind.{GroupKind}
-use Rattle.scr_sheet.specs.declared.rows.GroupKind.TheVariants as groups
+use Rattle.scr_profile.specs.declared.group_kind.GroupKind.{GroupKind}
+use Rattle.scr_profile.specs.declared.group_kind.GroupKind.TheVariants as groups
 use Rattle.scr_sheet.specs.declared.rows.Class.{Class}
 use Rattle.scr_sheet.specs.declared.rows.Class.TheVariants as classes
-use Rattle.scr_sheet.specs.declared.rows.LineKind.{LineKind}
-use Rattle.scr_sheet.specs.declared.rows.LineKind.TheVariants as lines
+use Rattle.scr_sheet.specs.declared.rows.LiabilityKind.{LiabilityKind}
+use Rattle.scr_sheet.specs.declared.rows.LiabilityKind.TheVariants as liabilities
 use Rattle.scr_sheet.specs.declared.keys.Projection.{Projection}
 use Rattle.scr_sheet.specs.declared.keys.Projection.TheVariants as projections
-use Rattle.scr_factors.specs.declared.set.Set.{Set}
-use Rattle.scr_factors.specs.declared.set.Set.TheVariants as sets
+use Rattle.scr_profile.specs.declared.set.Set.{Set}
+use Rattle.scr_profile.specs.declared.set.Set.TheVariants as sets
 use Rattle.scr_sheet.specs.declared.keys.CatKey.{CatKey}
 use Rattle.scr_sheet.specs.declared.keys.CatKey.TheVariants as cats
 use Rattle.scr_sheet.specs.declared.keys.AbsorbKey.{AbsorbKey}
@@ -36,8 +37,8 @@ verb_word verbs.Security = codes "sec"
 verb_word verbs.Flows = codes "flows"
 verb_word verbs.Fund = codes "fund"
 verb_word verbs.Hold = codes "hold"
-verb_word verbs.Line = codes "line"
-verb_word verbs.LineFlows = codes "lflow"
+verb_word verbs.Liability = codes "line"
+verb_word verbs.LiabilityFlows = codes "lflow"
 verb_word verbs.Absorb = codes "absorb"
 verb_word verbs.Segment = codes "seg"
 verb_word verbs.Cat = codes "cat"
@@ -55,21 +56,21 @@ verb_word verbs.Remove = codes "drop"
 abbrev pub all_verbs : List Verb
 all_verbs =
     verbs.Asof ∷ verbs.Curve ∷ verbs.Group ∷ verbs.Security ∷ verbs.Flows ∷ verbs.Fund ∷ verbs.Hold ∷
-    verbs.Line ∷ verbs.LineFlows ∷ verbs.Absorb ∷ verbs.Segment ∷ verbs.Cat ∷ verbs.Lapse ∷ verbs.Rein ∷
+    verbs.Liability ∷ verbs.LiabilityFlows ∷ verbs.Absorb ∷ verbs.Segment ∷ verbs.Cat ∷ verbs.Lapse ∷ verbs.Rein ∷
     verbs.Bank ∷ verbs.Due ∷ verbs.Op ∷ verbs.Sym ∷ verbs.Tax ∷ verbs.Fdb ∷ verbs.Intangible ∷ verbs.Remove ∷ []
 
 abbrev pub table_word : Table → List ℕ
 table_word tables.Group = codes "group"
 table_word tables.Security = codes "sec"
 table_word tables.Fund = codes "fund"
-table_word tables.Line = codes "line"
+table_word tables.Liability = codes "line"
 table_word tables.Bank = codes "bank"
 table_word tables.Rein = codes "rein"
 table_word tables.Curve = codes "curve"
 
 abbrev pub all_tables : List Table
 all_tables =
-    tables.Group ∷ tables.Security ∷ tables.Fund ∷ tables.Line ∷ tables.Bank ∷ tables.Rein ∷ tables.Curve ∷ []
+    tables.Group ∷ tables.Security ∷ tables.Fund ∷ tables.Liability ∷ tables.Bank ∷ tables.Rein ∷ tables.Curve ∷ []
 
 abbrev pub group_kind_word : GroupKind → List ℕ
 group_kind_word groups.Name = codes "name"
@@ -99,14 +100,14 @@ all_classes =
     classes.Infrastructure ∷ classes.InfrastructureCorporate ∷ classes.Property ∷ classes.Bond ∷
     classes.Government ∷ classes.Other ∷ []
 
-abbrev pub line_kind_word : LineKind → List ℕ
-line_kind_word lines.Life = codes "life"
-line_kind_word lines.Health = codes "health"
-line_kind_word lines.Other = codes "other"
+abbrev pub liability_kind_word : LiabilityKind → List ℕ
+liability_kind_word liabilities.Life = codes "life"
+liability_kind_word liabilities.Health = codes "health"
+liability_kind_word liabilities.Other = codes "other"
 
-abbrev pub all_line_kinds : List LineKind
-all_line_kinds =
-    lines.Life ∷ lines.Health ∷ lines.Other ∷ []
+abbrev pub all_liability_kinds : List LiabilityKind
+all_liability_kinds =
+    liabilities.Life ∷ liabilities.Health ∷ liabilities.Other ∷ []
 
 abbrev pub projection_word : Projection → List ℕ
 projection_word projections.Base = codes "base"

@@ -6,28 +6,27 @@ ghost use Rattle.std.specs.List.{AllByRecursion, list_all, list_any};
 ghost use Rattle.csv.specs.Records.{fields_of};
 ghost use Rattle.scr_dates.specs.Civil.{IsDay};
 ghost use Rattle.scr_dates.specs.Text.{day_of_text};
-ghost use Rattle.scr_factors.specs.Values.{segments};
+ghost use Rattle.scr_profile.specs.Segments.{segments};
 ghost use Rattle.scr_sheet.specs.Forms as formed;
 ghost use Rattle.scr_csv.specs.FieldForms as forms_of;
 ghost use Rattle.scr_csv.specs.Numbers.{number_value};
-ghost use Rattle.scr_csv.specs.Reading.{field, next, only, found_to, read_to, numbers_from, pairs_from, Answers};
+ghost use Rattle.scr_csv.specs.Reading.{field, next, only, found_to, read_to, numbers_from};
+ghost use Rattle.scr_csv.specs.Reading.{pairs_from, Answers};
 ghost use Rattle.scr_csv.specs.LineFields.{line_fields, is_printed, is_quote};
-ghost use Rattle.scr_csv.specs.Words as words_of;
+ghost use Rattle.scr_csv.specs.Words.{value_of};
 
 use crate::source::Source;
-use crate::verb::Verb;
-use crate::{LineFault, forms, numbers, words};
+use crate::words::{Word, value};
+use crate::{LineFault, forms, numbers};
 use csv::ByteRecord;
 use scr_dates::{Day, parse_day};
-use scr_factors::Set;
-use scr_sheet::{
-    AbsorbKey, CatKey, Class, Components, Edit, Flows, GroupKind, LineKind, Name, Projection,
-    Rates, Table,
-};
+use scr_profile::Set;
+use scr_sheet::{AbsorbKey, Components, Edit, Flows, Name, Rates};
 use std::alloc::Global;
 use std::marker::Model;
 
-/// The fields that are still to be read, and the number of the first of them. The verb has number 0.
+/// The fields that are still to be read, and the number of the first of them. The verb has number
+/// 0.
 #[derive(Drop)]
 pub struct Fields<'a> {
     source: Source<'a>,
@@ -81,11 +80,12 @@ impl<'a> Fields<'a> {
         Ok((number, field))
     }
 
-    pub fn verb(&mut self) -> Result<Verb, LineFault>
-        ensures { read_to result self.new ≡ next (words_of.value_of words_of.verb_word words_of.all_verbs) self.old }
+    /// A word of a closed list.
+    pub fn word<W: Word>(&mut self) -> Result<W, LineFault>
+        ensures { read_to result self.new ≡ next (value_of W.word_of W.all) self.old }
     {
         let (number, field) = self.field()?;
-        words::verb(field).ok_or(LineFault::Syntax(number))
+        value(field).ok_or(LineFault::Syntax(number))
     }
 
     pub fn date(&mut self) -> Result<Day, LineFault>
@@ -153,55 +153,6 @@ impl<'a> Fields<'a> {
         forms::absorb_key(field).ok_or(LineFault::Syntax(number))
     }
 
-    pub fn group_kind(&mut self) -> Result<GroupKind, LineFault>
-        ensures { read_to result self.new ≡ next (words_of.value_of words_of.group_kind_word words_of.all_group_kinds) self.old }
-    {
-        let (number, field) = self.field()?;
-        words::group_kind(field).ok_or(LineFault::Syntax(number))
-    }
-
-    pub fn class(&mut self) -> Result<Class, LineFault>
-        ensures { read_to result self.new ≡ next (words_of.value_of words_of.class_word words_of.all_classes) self.old }
-    {
-        let (number, field) = self.field()?;
-        words::class(field).ok_or(LineFault::Syntax(number))
-    }
-
-    pub fn line_kind(&mut self) -> Result<LineKind, LineFault>
-        ensures { read_to result self.new ≡ next (words_of.value_of words_of.line_kind_word words_of.all_line_kinds) self.old }
-    {
-        let (number, field) = self.field()?;
-        words::line_kind(field).ok_or(LineFault::Syntax(number))
-    }
-
-    pub fn projection(&mut self) -> Result<Projection, LineFault>
-        ensures { read_to result self.new ≡ next (words_of.value_of words_of.projection_word words_of.all_projections) self.old }
-    {
-        let (number, field) = self.field()?;
-        words::projection(field).ok_or(LineFault::Syntax(number))
-    }
-
-    pub fn set(&mut self) -> Result<Set, LineFault>
-        ensures { read_to result self.new ≡ next (words_of.value_of words_of.set_word words_of.all_sets) self.old }
-    {
-        let (number, field) = self.field()?;
-        words::set(field).ok_or(LineFault::Syntax(number))
-    }
-
-    pub fn cat_key(&mut self) -> Result<CatKey, LineFault>
-        ensures { read_to result self.new ≡ next (words_of.value_of words_of.cat_key_word words_of.all_cat_keys) self.old }
-    {
-        let (number, field) = self.field()?;
-        words::cat_key(field).ok_or(LineFault::Syntax(number))
-    }
-
-    pub fn table(&mut self) -> Result<Table, LineFault>
-        ensures { read_to result self.new ≡ next (words_of.value_of words_of.table_word words_of.all_tables) self.old }
-    {
-        let (number, field) = self.field()?;
-        words::table(field).ok_or(LineFault::Syntax(number))
-    }
-
     pub fn segment(&mut self, set: Set) -> Result<u8, LineFault>
         ensures value { read_to result self.new ≡ next (forms_of.segment_of set) self.old }
         ensures low { IfOk result (λ n. 1 ≤ n) }
@@ -260,7 +211,8 @@ impl<'a> Fields<'a> {
 
     /// The fields that are left, in pairs of a name and a number.
     pub fn components(&mut self, alloc: Global) -> Result<Components, LineFault>
-        ensures answer { Answers (pairs_from forms_of.name_of self.old.number self.old.fields) result }
+        ensures answer { Answers
+            (pairs_from forms_of.name_of self.old.number self.old.fields) result }
         ensures formed { IfOk result formed.AreComponents }
     {
         let mut components = Vec::new(alloc);

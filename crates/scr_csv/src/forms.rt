@@ -1,18 +1,18 @@
 //! The form of each field.
-#![tactic(auto, unfolding(crate::specs::FieldForms::name_of, crate::specs::FieldForms::currency_of, crate::specs::FieldForms::group_of, crate::specs::FieldForms::small_number, crate::specs::FieldForms::step_of, crate::specs::FieldForms::segment_of, crate::specs::FieldForms::region_of, crate::specs::FieldForms::currency_key_of, crate::specs::FieldForms::absorb_key_of,))]
+#![tactic(auto, unfolding(crate::specs::FieldForms::name_of, crate::specs::FieldForms::currency_of, crate::specs::FieldForms::group_of, crate::specs::FieldForms::small_number, crate::specs::FieldForms::step_of, crate::specs::FieldForms::segment_of, crate::specs::FieldForms::region_of, crate::specs::FieldForms::currency_key_of, crate::specs::FieldForms::absorb_key_of))]
 
 ghost use Rattle.std.specs.Prelude.{◌≡◌, ◌≤◌, length, IfSome, codes};
 ghost use Rattle.std.specs.Char.{is_ascii_uppercase};
 ghost use Rattle.std.specs.List.{list_all};
 ghost use Rattle.scr_names.specs.Names as names;
-ghost use Rattle.scr_factors.specs.Values.{segments};
+ghost use Rattle.scr_profile.specs.Segments.{segments};
 ghost use Rattle.scr_sheet.specs.Forms as formed;
 ghost use Rattle.scr_csv.specs.FieldForms as spec;
 ghost use Rattle.scr_csv.specs.Words.{is_text};
 
 use crate::numbers::read_number;
 use crate::words::scenario;
-use scr_factors::Set;
+use scr_profile::Set;
 use scr_sheet::{AbsorbKey, Name};
 
 pub fn name(text: &[u8]) -> Option<Name>

@@ -8,7 +8,8 @@ use std::alloc::{AllocError as NoMemory, Global};
 
 /// Appends an absorption key as records write it. Where memory is refused, nothing is appended.
 pub fn push_absorb_key(alloc: Global, out: &mut Vec<u8>, key: AbsorbKey) -> Result<(), NoMemory>
-    ensures { out.new.items ≡ (if is_ok result then out.old.items ++ absorb_text key else out.old.items) }
+    ensures { out.new.items
+        ≡ (if is_ok result then out.old.items ++ absorb_text key else out.old.items) }
 {
     match key {
         AbsorbKey::CurrencyUp(currency) => push_currency(alloc, out, &currency, b".up"),
@@ -24,7 +25,9 @@ fn push_currency(
     currency: &Name,
     turn: &[u8],
 ) -> Result<(), NoMemory>
-    ensures { out.new.items ≡ (if is_ok result then out.old.items ++ currency_text currency.now turn.now else out.old.items) }
+    ensures { out.new.items
+        ≡ (if is_ok result then out.old.items
+        ++ currency_text currency.now turn.now else out.old.items) }
 {
     let mut text = Vec::new(alloc);
     text.extend_from_slice(b"currency.")?;

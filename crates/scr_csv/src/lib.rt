@@ -1,6 +1,7 @@
 //! The lines of a book or of a script of edits, and the record that each line spells.
 #![tactic(auto)]
 
+mod dates;
 mod fault;
 mod fields;
 mod file;
@@ -12,14 +13,14 @@ mod read;
 mod records;
 mod source;
 mod split;
-#[cfg(test)]
-mod tests;
 mod verb;
 mod walk;
 mod words;
+mod write;
 
 pub use fault::LineFault;
 pub use file::lines;
 pub use keys::push_absorb_key;
 pub use read::read_line;
 pub use walk::{Line, Lines};
+pub use write::write_edit;

@@ -7,7 +7,8 @@ ghost use Rattle.scr_csv.specs.Numbers as spelled;
 /// The most digits of a number.
 const MAX_DIGITS: usize = 18;
 
-/// The number that the text spells: an optional `-` and 1 to 18 digits. None where the text has another form.
+/// The number that the text spells: an optional `-` and 1 to 18 digits. None where the text has
+/// another form.
 pub fn read_number(text: &[u8]) -> Option<i64>
     ensures value { result ≡ spelled.number_value text.now }
     ensures small { IfSome result (λ z. unsigned_abs z < 10 ^ 18) }

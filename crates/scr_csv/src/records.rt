@@ -38,7 +38,7 @@ fn group_record(fields: &mut Fields<'_>) -> Result<Edit, LineFault>
     ensures formed { IfOk result Formed }
 {
     let name = fields.name()?;
-    let kind = fields.group_kind()?;
+    let kind = fields.word()?;
     let step = fields.step()?;
     fields.only(Edit::Group { name, kind, step })
 }
@@ -49,7 +49,7 @@ fn security_record(fields: &mut Fields<'_>) -> Result<Edit, LineFault>
     ensures formed { IfOk result Formed }
 {
     let name = fields.name()?;
-    let class = fields.class()?;
+    let class = fields.word()?;
     let group = fields.group()?;
     let currency = fields.currency()?;
     let duration = fields.number()?;
@@ -92,31 +92,31 @@ fn hold_record(fields: &mut Fields<'_>) -> Result<Edit, LineFault>
     fields.only(Edit::Hold { name, cents })
 }
 
-/// A line of insurance obligations.
-fn line_record(fields: &mut Fields<'_>) -> Result<Edit, LineFault>
-    ensures value { result ≡ spec.line_record fields.old }
+/// A liability: a line of insurance obligations.
+fn liability_record(fields: &mut Fields<'_>) -> Result<Edit, LineFault>
+    ensures value { result ≡ spec.liability_record fields.old }
     ensures formed { IfOk result Formed }
 {
     let name = fields.name()?;
-    let kind = fields.line_kind()?;
+    let kind = fields.word()?;
     let currency = fields.currency()?;
-    fields.only(Edit::Line {
+    fields.only(Edit::Liability {
         name,
         kind,
         currency,
     })
 }
 
-/// The flows of a line under a projection.
-fn line_flows_record(alloc: Global, fields: &mut Fields<'_>) -> Result<Edit, LineFault>
-    ensures answer { Answers (spec.line_flows_record fields.old) result }
+/// The flows of a liability under a projection.
+fn liability_flows_record(alloc: Global, fields: &mut Fields<'_>) -> Result<Edit, LineFault>
+    ensures answer { Answers (spec.liability_flows_record fields.old) result }
     ensures formed { IfOk result Formed }
 {
-    let line = fields.name()?;
-    let projection = fields.projection()?;
+    let liability = fields.name()?;
+    let projection = fields.word()?;
     let flows = fields.flows(alloc)?;
-    Ok(Edit::LineFlows {
-        line,
+    Ok(Edit::LiabilityFlows {
+        liability,
         projection,
         flows,
     })
@@ -137,7 +137,7 @@ fn segment_record(fields: &mut Fields<'_>) -> Result<Edit, LineFault>
     ensures value { result ≡ spec.segment_record fields.old }
     ensures formed { IfOk result Formed }
 {
-    let set = fields.set()?;
+    let set = fields.word()?;
     let number = fields.segment(set)?;
     let region = fields.region()?;
     let premium = fields.number()?;
@@ -156,7 +156,7 @@ fn cat_record(fields: &mut Fields<'_>) -> Result<Edit, LineFault>
     ensures value { result ≡ spec.cat_record fields.old }
     ensures formed { IfOk result Formed }
 {
-    let key = fields.cat_key()?;
+    let key = fields.word()?;
     let cents = fields.number()?;
     fields.only(Edit::Cat { key, cents })
 }
@@ -166,7 +166,7 @@ fn lapse_record(fields: &mut Fields<'_>) -> Result<Edit, LineFault>
     ensures value { result ≡ spec.lapse_record fields.old }
     ensures formed { IfOk result Formed }
 {
-    let set = fields.set()?;
+    let set = fields.word()?;
     let cents = fields.number()?;
     fields.only(Edit::Lapse { set, cents })
 }
@@ -282,7 +282,7 @@ fn remove_record(fields: &mut Fields<'_>) -> Result<Edit, LineFault>
     ensures value { result ≡ spec.remove_record fields.old }
     ensures formed { IfOk result Formed }
 {
-    let table = fields.table()?;
+    let table = fields.word()?;
     let name = fields.name()?;
     fields.only(Edit::Remove { table, name })
 }
@@ -292,7 +292,7 @@ pub fn read_record(alloc: Global, fields: &mut Fields<'_>) -> Result<Edit, LineF
     ensures answer { Answers (spec.any_record fields.old) result }
     ensures formed { IfOk result Formed }
 {
-    match fields.verb()? {
+    match fields.word()? {
         Verb::Asof => asof_record(fields),
         Verb::Curve => curve_record(alloc, fields),
         Verb::Group => group_record(fields),
@@ -300,8 +300,8 @@ pub fn read_record(alloc: Global, fields: &mut Fields<'_>) -> Result<Edit, LineF
         Verb::Flows => flows_record(alloc, fields),
         Verb::Fund => fund_record(alloc, fields),
         Verb::Hold => hold_record(fields),
-        Verb::Line => line_record(fields),
-        Verb::LineFlows => line_flows_record(alloc, fields),
+        Verb::Liability => liability_record(fields),
+        Verb::LiabilityFlows => liability_flows_record(alloc, fields),
         Verb::Absorb => absorb_record(fields),
         Verb::Segment => segment_record(fields),
         Verb::Cat => cat_record(fields),

@@ -1,5 +1,6 @@
 //! Where the fields of a line come from.
-ghost use Rattle.std.specs.Prelude.{◌≡◌, [], ◌∷◌, ◌<◌, ◌==◌, length, position, true, false, IfNone, IfSome};
+ghost use Rattle.std.specs.Prelude.{◌≡◌, [], ◌∷◌, ◌<◌, ◌==◌, length, position, true, false, IfNone};
+ghost use Rattle.std.specs.Prelude.{IfSome};
 ghost use Rattle.std.specs.List.{list_all, list_any};
 ghost use Rattle.scr_csv.specs.LineFields.{line_fields, is_printed, is_quote};
 ghost use Rattle.scr_csv.specs.Sources.{pieces, behind};
@@ -33,7 +34,8 @@ impl<'a> Source<'a> {
     /// The first field, and those after it.
     pub fn first(self) -> Option<(&'a [u8], Source<'a>)>
         ensures none { IfNone result (fields_in self.entry ≡ []) }
-        ensures some { IfSome result (λ first. fields_in self.entry ≡ first.0.now ∷ fields_in first.1) }
+        ensures some { IfSome result
+            (λ first. fields_in self.entry ≡ first.0.now ∷ fields_in first.1) }
     {
         match self {
             Source::Text(text) => {

@@ -1,3 +1,5 @@
+//! The verbs of records.
+
 /// The verbs of records.
 #[derive(Clone, Copy, Debug, PartialEq, Eq)]
 pub enum Verb {
@@ -8,8 +10,8 @@ pub enum Verb {
     Flows,
     Fund,
     Hold,
-    Line,
-    LineFlows,
+    Liability,
+    LiabilityFlows,
     Absorb,
     Segment,
     Cat,

@@ -1,5 +1,6 @@
 //! The records of a file, line by line.
-ghost use Rattle.std.specs.Prelude.{◌≡◌, ℕ, ◌+◌, ◌≤◌, ◌<◌, ◌==◌, ◌-◌, ◌∷◌, List, length, take, drop, position, IfSome};
+ghost use Rattle.std.specs.Prelude.{◌≡◌, ℕ, ◌+◌, ◌≤◌, ◌<◌, ◌==◌, ◌-◌, ◌∷◌, List, length, take};
+ghost use Rattle.std.specs.Prelude.{drop, position, IfSome};
 ghost use Rattle.std.specs.Str.Lines.{strip_carriage_return, lines as text_lines};
 ghost use Rattle.scr_csv.specs.Lines.{is_record as tells_a_record};
 

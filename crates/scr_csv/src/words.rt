@@ -1,12 +1,34 @@
 //! The closed lists of words that fields choose from.
 #![tactic(auto, unfolding(crate::specs::Words::value_of, crate::specs::Words::scenario_of))]
 
-ghost use Rattle.std.specs.Prelude.{◌≡◌, option_map};
+ghost use Rattle.std.specs.Prelude.{◌≡◌, List, ℕ, option_map};
 ghost use Rattle.scr_csv.specs.Words as spec;
 
 use crate::verb::Verb;
-use scr_factors::Set;
-use scr_sheet::{AbsorbKey, CatKey, Class, GroupKind, LineKind, PROJECTIONS, Projection, Table};
+use scr_profile::{GroupKind, Set};
+use scr_sheet::{AbsorbKey, CatKey, Class, LiabilityKind, PROJECTIONS, Projection, Table};
+
+/// A value of a closed list, which a field chooses by its word.
+pub trait Word: Copy + 'static {
+    ghost word_of: { Self → List ℕ };
+
+    ghost all: { List Self };
+
+    /// Every value.
+    fn all() -> &'static [Self]
+        ensures { result.now ≡ all };
+
+    /// How records write the value.
+    fn word(self) -> &'static [u8]
+        ensures { result.now ≡ word_of self };
+}
+
+/// The value whose word the field is.
+pub fn value<W: Word>(text: &[u8]) -> Option<W>
+    ensures { result ≡ spec.value_of W.word_of W.all text.now }
+{
+    W::all().iter().copied().find(|value| value.word() == text)
+}
 
 const VERBS: [Verb; 22] = [
     Verb::Asof,
@@ -16,8 +38,8 @@ const VERBS: [Verb; 22] = [
     Verb::Flows,
     Verb::Fund,
     Verb::Hold,
-    Verb::Line,
-    Verb::LineFlows,
+    Verb::Liability,
+    Verb::LiabilityFlows,
     Verb::Absorb,
     Verb::Segment,
     Verb::Cat,
@@ -33,72 +55,73 @@ const VERBS: [Verb; 22] = [
     Verb::Remove,
 ];
 
-fn verb_word(verb: Verb) -> &'static [u8]
-    ensures { result.now ≡ spec.verb_word verb }
-{
-    match verb {
-        Verb::Asof => b"asof",
-        Verb::Curve => b"curve",
-        Verb::Group => b"group",
-        Verb::Security => b"sec",
-        Verb::Flows => b"flows",
-        Verb::Fund => b"fund",
-        Verb::Hold => b"hold",
-        Verb::Line => b"line",
-        Verb::LineFlows => b"lflow",
-        Verb::Absorb => b"absorb",
-        Verb::Segment => b"seg",
-        Verb::Cat => b"cat",
-        Verb::Lapse => b"lapse",
-        Verb::Rein => b"rein",
-        Verb::Bank => b"bank",
-        Verb::Due => b"due",
-        Verb::Op => b"op",
-        Verb::Sym => b"sym",
-        Verb::Tax => b"tax",
-        Verb::Fdb => b"fdb",
-        Verb::Intangible => b"intangible",
-        Verb::Remove => b"drop",
-    }
-}
+impl Word for Verb {
+    ghost word_of = { spec.verb_word };
 
-pub fn verb(text: &[u8]) -> Option<Verb>
-    ensures { result ≡ spec.value_of spec.verb_word spec.all_verbs text.now }
-{
-    VERBS.iter().copied().find(|verb| verb_word(*verb) == text)
+    ghost all = { spec.all_verbs };
+
+    fn all() -> &'static [Verb] {
+        &VERBS
+    }
+
+    fn word(self) -> &'static [u8] {
+        match self {
+            Verb::Asof => b"asof",
+            Verb::Curve => b"curve",
+            Verb::Group => b"group",
+            Verb::Security => b"sec",
+            Verb::Flows => b"flows",
+            Verb::Fund => b"fund",
+            Verb::Hold => b"hold",
+            Verb::Liability => b"line",
+            Verb::LiabilityFlows => b"lflow",
+            Verb::Absorb => b"absorb",
+            Verb::Segment => b"seg",
+            Verb::Cat => b"cat",
+            Verb::Lapse => b"lapse",
+            Verb::Rein => b"rein",
+            Verb::Bank => b"bank",
+            Verb::Due => b"due",
+            Verb::Op => b"op",
+            Verb::Sym => b"sym",
+            Verb::Tax => b"tax",
+            Verb::Fdb => b"fdb",
+            Verb::Intangible => b"intangible",
+            Verb::Remove => b"drop",
+        }
+    }
 }
 
 const TABLES: [Table; 7] = [
     Table::Group,
     Table::Security,
     Table::Fund,
-    Table::Line,
+    Table::Liability,
     Table::Bank,
     Table::Rein,
     Table::Curve,
 ];
 
-fn table_word(table: Table) -> &'static [u8]
-    ensures { result.now ≡ spec.table_word table }
-{
-    match table {
-        Table::Group => b"group",
-        Table::Security => b"sec",
-        Table::Fund => b"fund",
-        Table::Line => b"line",
-        Table::Bank => b"bank",
-        Table::Rein => b"rein",
-        Table::Curve => b"curve",
-    }
-}
+impl Word for Table {
+    ghost word_of = { spec.table_word };
 
-pub fn table(text: &[u8]) -> Option<Table>
-    ensures { result ≡ spec.value_of spec.table_word spec.all_tables text.now }
-{
-    TABLES
-        .iter()
-        .copied()
-        .find(|table| table_word(*table) == text)
+    ghost all = { spec.all_tables };
+
+    fn all() -> &'static [Table] {
+        &TABLES
+    }
+
+    fn word(self) -> &'static [u8] {
+        match self {
+            Table::Group => b"group",
+            Table::Security => b"sec",
+            Table::Fund => b"fund",
+            Table::Liability => b"line",
+            Table::Bank => b"bank",
+            Table::Rein => b"rein",
+            Table::Curve => b"curve",
+        }
+    }
 }
 
 const GROUP_KINDS: [GroupKind; 4] = [
@@ -108,24 +131,23 @@ const GROUP_KINDS: [GroupKind; 4] = [
     GroupKind::State,
 ];
 
-fn group_kind_word(kind: GroupKind) -> &'static [u8]
-    ensures { result.now ≡ spec.group_kind_word kind }
-{
-    match kind {
-        GroupKind::Name => b"name",
-        GroupKind::Covered => b"covered",
-        GroupKind::Property => b"property",
-        GroupKind::State => b"state",
-    }
-}
+impl Word for GroupKind {
+    ghost word_of = { spec.group_kind_word };
 
-pub fn group_kind(text: &[u8]) -> Option<GroupKind>
-    ensures { result ≡ spec.value_of spec.group_kind_word spec.all_group_kinds text.now }
-{
-    GROUP_KINDS
-        .iter()
-        .copied()
-        .find(|kind| group_kind_word(*kind) == text)
+    ghost all = { spec.all_group_kinds };
+
+    fn all() -> &'static [GroupKind] {
+        &GROUP_KINDS
+    }
+
+    fn word(self) -> &'static [u8] {
+        match self {
+            GroupKind::Name => b"name",
+            GroupKind::Covered => b"covered",
+            GroupKind::Property => b"property",
+            GroupKind::State => b"state",
+        }
+    }
 }
 
 const CLASSES: [Class; 10] = [
@@ -141,94 +163,97 @@ const CLASSES: [Class; 10] = [
     Class::Other,
 ];
 
-fn class_word(class: Class) -> &'static [u8]
-    ensures { result.now ≡ spec.class_word class }
-{
-    match class {
-        Class::Type1Equity => b"eq1",
-        Class::Type1Strategic => b"eq1s",
-        Class::Type2Equity => b"eq2",
-        Class::Type2Strategic => b"eq2s",
-        Class::Infrastructure => b"infra",
-        Class::InfrastructureCorporate => b"infracorp",
-        Class::Property => b"property",
-        Class::Bond => b"bond",
-        Class::Government => b"gov",
-        Class::Other => b"other",
+impl Word for Class {
+    ghost word_of = { spec.class_word };
+
+    ghost all = { spec.all_classes };
+
+    fn all() -> &'static [Class] {
+        &CLASSES
+    }
+
+    fn word(self) -> &'static [u8] {
+        match self {
+            Class::Type1Equity => b"eq1",
+            Class::Type1Strategic => b"eq1s",
+            Class::Type2Equity => b"eq2",
+            Class::Type2Strategic => b"eq2s",
+            Class::Infrastructure => b"infra",
+            Class::InfrastructureCorporate => b"infracorp",
+            Class::Property => b"property",
+            Class::Bond => b"bond",
+            Class::Government => b"gov",
+            Class::Other => b"other",
+        }
     }
 }
 
-pub fn class(text: &[u8]) -> Option<Class>
-    ensures { result ≡ spec.value_of spec.class_word spec.all_classes text.now }
-{
-    CLASSES
-        .iter()
-        .copied()
-        .find(|class| class_word(*class) == text)
-}
+const LIABILITY_KINDS: [LiabilityKind; 3] = [
+    LiabilityKind::Life,
+    LiabilityKind::Health,
+    LiabilityKind::Other,
+];
 
-const LINE_KINDS: [LineKind; 3] = [LineKind::Life, LineKind::Health, LineKind::Other];
+impl Word for LiabilityKind {
+    ghost word_of = { spec.liability_kind_word };
 
-fn line_kind_word(kind: LineKind) -> &'static [u8]
-    ensures { result.now ≡ spec.line_kind_word kind }
-{
-    match kind {
-        LineKind::Life => b"life",
-        LineKind::Health => b"health",
-        LineKind::Other => b"other",
+    ghost all = { spec.all_liability_kinds };
+
+    fn all() -> &'static [LiabilityKind] {
+        &LIABILITY_KINDS
+    }
+
+    fn word(self) -> &'static [u8] {
+        match self {
+            LiabilityKind::Life => b"life",
+            LiabilityKind::Health => b"health",
+            LiabilityKind::Other => b"other",
+        }
     }
 }
 
-pub fn line_kind(text: &[u8]) -> Option<LineKind>
-    ensures { result ≡ spec.value_of spec.line_kind_word spec.all_line_kinds text.now }
-{
-    LINE_KINDS
-        .iter()
-        .copied()
-        .find(|kind| line_kind_word(*kind) == text)
-}
+impl Word for Projection {
+    ghost word_of = { spec.projection_word };
 
-fn projection_word(projection: Projection) -> &'static [u8]
-    ensures { result.now ≡ spec.projection_word projection }
-{
-    match projection {
-        Projection::Base => b"base",
-        Projection::Mortality => b"mort",
-        Projection::Longevity => b"long",
-        Projection::Disability => b"dis",
-        Projection::Expense => b"exp",
-        Projection::Revision => b"rev",
-        Projection::LapseUp => b"up",
-        Projection::LapseDown => b"down",
-        Projection::LapseMass => b"mass",
-        Projection::Catastrophe => b"cat",
+    ghost all = { spec.all_projections };
+
+    fn all() -> &'static [Projection] {
+        &PROJECTIONS
     }
-}
 
-pub fn projection(text: &[u8]) -> Option<Projection>
-    ensures { result ≡ spec.value_of spec.projection_word spec.all_projections text.now }
-{
-    PROJECTIONS
-        .iter()
-        .copied()
-        .find(|projection| projection_word(*projection) == text)
+    fn word(self) -> &'static [u8] {
+        match self {
+            Projection::Base => b"base",
+            Projection::Mortality => b"mort",
+            Projection::Longevity => b"long",
+            Projection::Disability => b"dis",
+            Projection::Expense => b"exp",
+            Projection::Revision => b"rev",
+            Projection::LapseUp => b"up",
+            Projection::LapseDown => b"down",
+            Projection::LapseMass => b"mass",
+            Projection::Catastrophe => b"cat",
+        }
+    }
 }
 
 const SETS: [Set; 2] = [Set::Nl, Set::Nslt];
 
-fn set_word(set: Set) -> &'static [u8]
-    ensures { result.now ≡ spec.set_word set }
-{
-    match set {
-        Set::Nl => b"nl",
-        Set::Nslt => b"nslt",
-    }
-}
+impl Word for Set {
+    ghost word_of = { spec.set_word };
 
-pub fn set(text: &[u8]) -> Option<Set>
-    ensures { result ≡ spec.value_of spec.set_word spec.all_sets text.now }
-{
-    SETS.iter().copied().find(|set| set_word(*set) == text)
+    ghost all = { spec.all_sets };
+
+    fn all() -> &'static [Set] {
+        &SETS
+    }
+
+    fn word(self) -> &'static [u8] {
+        match self {
+            Set::Nl => b"nl",
+            Set::Nslt => b"nslt",
+        }
+    }
 }
 
 const CAT_KEYS: [CatKey; 16] = [
@@ -250,36 +275,35 @@ const CAT_KEYS: [CatKey; 16] = [
     CatKey::Pandemic,
 ];
 
-fn cat_key_word(key: CatKey) -> &'static [u8]
-    ensures { result.now ≡ spec.cat_key_word key }
-{
-    match key {
-        CatKey::Windstorm => b"windstorm",
-        CatKey::Earthquake => b"earthquake",
-        CatKey::Flood => b"flood",
-        CatKey::Hail => b"hail",
-        CatKey::Subsidence => b"subsidence",
-        CatKey::NonProportionalProperty => b"npproperty",
-        CatKey::Motor => b"motor",
-        CatKey::Marine => b"marine",
-        CatKey::Aviation => b"aviation",
-        CatKey::Fire => b"fire",
-        CatKey::Liability => b"liability",
-        CatKey::Credit => b"credit",
-        CatKey::Other => b"other",
-        CatKey::MassAccident => b"massaccident",
-        CatKey::AccidentConcentration => b"accidentconc",
-        CatKey::Pandemic => b"pandemic",
-    }
-}
+impl Word for CatKey {
+    ghost word_of = { spec.cat_key_word };
 
-pub fn cat_key(text: &[u8]) -> Option<CatKey>
-    ensures { result ≡ spec.value_of spec.cat_key_word spec.all_cat_keys text.now }
-{
-    CAT_KEYS
-        .iter()
-        .copied()
-        .find(|key| cat_key_word(*key) == text)
+    ghost all = { spec.all_cat_keys };
+
+    fn all() -> &'static [CatKey] {
+        &CAT_KEYS
+    }
+
+    fn word(self) -> &'static [u8] {
+        match self {
+            CatKey::Windstorm => b"windstorm",
+            CatKey::Earthquake => b"earthquake",
+            CatKey::Flood => b"flood",
+            CatKey::Hail => b"hail",
+            CatKey::Subsidence => b"subsidence",
+            CatKey::NonProportionalProperty => b"npproperty",
+            CatKey::Motor => b"motor",
+            CatKey::Marine => b"marine",
+            CatKey::Aviation => b"aviation",
+            CatKey::Fire => b"fire",
+            CatKey::Liability => b"liability",
+            CatKey::Credit => b"credit",
+            CatKey::Other => b"other",
+            CatKey::MassAccident => b"massaccident",
+            CatKey::AccidentConcentration => b"accidentconc",
+            CatKey::Pandemic => b"pandemic",
+        }
+    }
 }
 
 const ABSORB_KEYS: [AbsorbKey; 25] = [

@@ -3,3 +3,4 @@ pub mod CurveLemmas
 pub mod PowerLemmas
 pub mod TableLemmas
 pub mod SameRates
+pub mod RateLemmas

@@ -8,10 +8,11 @@ use Rattle.scr_num.specs.Fraction.{Fraction, ◌≼◌, over, whole, product}
 use Rattle.scr_num.specs.Figure.{Frac, AtMost}
 use Rattle.scr_num.specs.Rounding.{floor_div, ceil_div, or_zero}
 use Rattle.scr_num.specs.Enclosure.{Encloses, Measures}
-use Rattle.scr_num.proofs.Quotients.{ceil_div-times, ceil_div-next}
-use Rattle.scr_curve.specs.Discount.{growth, power, reciprocal_of, discount}
+use Rattle.scr_num.proofs.Quotients.{floor_div-times, ceil_div-times, ceil_div-next, times_cancel, times_le}
+use Rattle.scr_curve.specs.Discount.{growth, power, reciprocal_of, discount_exact}
+use Rattle.scr_curve.specs.declared.table.TheConstants.{MAX_DISCOUNT}
 use Rattle.scr_curve.specs.Parts.{parts, IsRateInParts}
-use Rattle.scr_curve.specs.Table.{one, discount_ends, IsDiscount, IsAboutPower}
+use Rattle.scr_curve.specs.DiscountEnds.{one, discount_ends, IsDiscount, IsAboutPower}
 
 -- ---- powers
 abbrev pub power_of : ℕ → ℕ → ℕ
@@ -146,12 +147,28 @@ high_most rate (suc years) h =
     (high_next (discount_ends rate years).high parts (grown rate) (positive_of rate h) (high_nonneg rate years h))
     (high_most rate years h)
 
-most_of_all : most 100 ≤ 2740000000000000000
+most_of_all : most 100 ≤ MAX_DISCOUNT
 most_of_all = lit≤ tt
+
+-- the low end is no more than the high one
+order_step : (l h : ℤ) (m d : ℕ) → 0 < d → l ≤ℤ h → floor_div (l *ℤ pos m) d ≤ℤ ceil_div (h *ℤ pos m) d
+order_step l h m d positive le =
+    times_cancel (floor_div (l *ℤ pos m) d) (ceil_div (h *ℤ pos m) d) d positive
+    (≤ℤ_trans _ (l *ℤ pos m) _ (floor_div-times (l *ℤ pos m) d positive) (≤ℤ_trans _ (h *ℤ pos m) _ (times_le l h m le) (ceil_div-times (h *ℤ pos m) d positive)))
+  where
+    ≤ℤ_trans : (x y z : ℤ) → x ≤ℤ y → y ≤ℤ z → x ≤ℤ z
+    ≤ℤ_trans x y z a b = omega (arith, ints, a, b)
+
+ends_ordered : (rate : ℤ) (years : ℕ) → IsRateInParts rate → (discount_ends rate years).low ≤ℤ (discount_ends rate years).high
+unfolding discount_ends
+ends_ordered rate zero h = omega (arith, ints)
+ends_ordered rate (suc years) h =
+    order_step (discount_ends rate years).low (discount_ends rate years).high parts (grown rate) (positive_of rate h) (ends_ordered rate years h)
 
 pub in_range : (rate : ℤ) (years : ℕ) → IsRateInParts rate → years ≤ 100 → IsDiscount (discount_ends rate years)
 in_range rate years h le = record {
   low = low_nonneg rate years h;
+  ordered = ends_ordered rate years h;
   high =
       let a = high_most rate years h in
       let b = most_to 100 years le in
@@ -230,8 +247,8 @@ above_reciprocal (pos l) (negsuc n) x y positive h e k m = absurd (omega (arith,
 above_reciprocal (negsuc l) n x y positive h e k m = absurd (omega (arith, ints))
 
 pub encloses_discount : (rate : ℤ) (p : Fraction) (years : ℕ) → IsRateInParts rate → Measures parts rate p
-    → Encloses one (discount_ends rate years).low (discount_ends rate years).high (Frac (discount p years))
-unfolding discount AtMost
+    → Encloses one (discount_ends rate years).low (discount_ends rate years).high (Frac (discount_exact p years))
+unfolding discount_exact AtMost
 encloses_discount rate p years h m =
     let g = growth_is rate p h m in
     let a = or_zero (growth p).num in

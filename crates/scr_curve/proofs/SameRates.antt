@@ -6,7 +6,7 @@ use borrow.Author.Differences.{up, down}
 use Rattle.scr_num.specs.Fraction.{Fraction, ◌≼◌, product}
 use Rattle.scr_num.specs.Enclosure.{Measures}
 use Rattle.scr_num.proofs.Fractions.{times_split}
-use Rattle.scr_curve.specs.Discount.{growth, power, reciprocal_of, discount}
+use Rattle.scr_curve.specs.Discount.{growth, power, reciprocal_of, discount_exact}
 use Rattle.scr_curve.specs.Parts.{parts}
 
 -- two fractions of one value
@@ -70,8 +70,8 @@ Same-reciprocal (negsuc a) (pos zero) b d hb hd e = absurd (omega (arith, ints, 
 Same-reciprocal (negsuc a) (pos (suc c)) b d hb hd e = absurd (omega (arith, ints, e))
 Same-reciprocal (negsuc a) (negsuc c) b d hb hd e = record { cross = refl }
 
-pub Same-discount : (p q : Fraction) (years : ℕ) → Same p q → Same (discount p years) (discount q years)
-unfolding discount
+pub Same-discount : (p q : Fraction) (years : ℕ) → Same p q → Same (discount_exact p years) (discount_exact q years)
+unfolding discount_exact
 Same-discount p q years h =
     let powers = Same-power (growth p) (growth q) years (Same-growth p q h) in
     Same-reciprocal (power (growth p) years).num (power (growth q) years).num (power (growth p) years).den (power (growth q) years).den

@@ -11,9 +11,9 @@ use Rattle.std.proofs.lemmas.Nat.{mul-le}
 use Rattle.scr_num.specs.Fraction.{over, zero_fraction, percent, millionths, plus, minus, greater}
 use Rattle.scr_num.specs.Enclosure.{Measures}
 use Rattle.scr_num.proofs.Quotients.{times_le}
-use Rattle.scr_factors.specs.declared.tables.TheConstants.{INTEREST_UP, INTEREST_DOWN}
-use Rattle.scr_factors.specs.Interest.{rise, fall, stress}
-use Rattle.scr_factors.proofs.StressRules.{interest_up, interest_down}
+use Rattle.scr_profile.specs.declared.tables.TheConstants.{INTEREST_UP, INTEREST_DOWN}
+use Rattle.scr_profile.specs.Interest.{rise, fall, stress}
+use Rattle.scr_profile.proofs.StressRules.{interest_up, interest_down}
 use Rattle.scr_curve.specs.Rate.{raised, lowered}
 use Rattle.scr_curve.specs.Parts.{parts, IsRateInMillionths, IsRateInParts}
 

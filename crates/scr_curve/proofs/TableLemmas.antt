@@ -1,15 +1,15 @@
 -- Tables of discounts, place by place.
-use Rattle.std.proofs.Common.{◌≡◌, ℕ, zero, suc, ◌+◌, ◌<◌, refl, ap, ap₂, sym, subst, ◌∙◌, List, [], ◌∷◌, length, get_or, map, ℤ, pos, arith}
+use Rattle.std.proofs.Common.{◌≡◌, ℕ, zero, suc, ◌+◌, ◌<◌, ◌≤◌, refl, ap, ap₂, sym, subst, ◌∙◌, List, [], ◌∷◌, length, get_or, map, ℤ, pos, arith}
 use Rattle.std.specs.Prelude.{All}
 use Rattle.scr_num.specs.Fraction.{Fraction}
 use Rattle.scr_num.specs.Figure.{Frac}
 use Rattle.scr_num.specs.Rounding.{Ends, ends}
 use Rattle.scr_num.specs.Enclosure.{Encloses}
 use Rattle.scr_num.specs.declared.span.Span.{Span}
-use Rattle.scr_curve.specs.Discount.{discount}
+use Rattle.scr_curve.specs.Discount.{discount_exact}
 use Rattle.scr_curve.specs.Parts.{IsRateInParts, AreRates}
-use Rattle.scr_curve.specs.Table.{one, discount_ends, ends_from, table_ends, IsAboutPower, AreAboutPowers, EncloseDiscounts}
-use Rattle.scr_curve.proofs.PowerLemmas.{about_power, encloses_discount}
+use Rattle.scr_curve.specs.DiscountEnds.{one, discount_ends, ends_from, table_ends, IsDiscount, IsAboutPower, AreAboutPowers, EncloseDiscounts}
+use Rattle.scr_curve.proofs.PowerLemmas.{in_range, about_power, encloses_discount}
 
 pub length-ends_from : (first : ℕ) (curve : List ℤ) → length (ends_from first curve) ≡ length curve
 unfolding ends_from
@@ -42,6 +42,10 @@ at_place P curve h k d within =
     let inside : k < length curve = omega (arith, within, length-ends_from 1 curve) in
     subst (P k) (sym (get_or-ends_from 1 curve k (k + 1) d (pos 0) inside (omega arith))) (h k inside)
 
+pub table_in_range : (curve : List ℤ) → All IsRateInParts curve → length curve ≤ 100 → All IsDiscount (table_ends curve)
+table_in_range curve limits few k d within =
+    at_place (λ j e. IsDiscount e) curve (λ j inside. in_range (get_or curve j (pos 0)) (j + 1) (limits j (pos 0) inside) (omega (arith, inside, few))) k d within
+
 pub table_about_powers : (curve : List ℤ) (rate : ℕ → Fraction) → All IsRateInParts curve → AreRates curve rate → AreAboutPowers rate (table_ends curve)
 table_about_powers curve rate limits exact = record {
   each = at_place (λ k e. IsAboutPower e (rate (k + 1)) (k + 1)) curve
@@ -50,6 +54,6 @@ table_about_powers curve rate limits exact = record {
 
 pub table_encloses : (curve : List ℤ) (rate : ℕ → Fraction) → All IsRateInParts curve → AreRates curve rate → EncloseDiscounts rate (table_ends curve)
 table_encloses curve rate limits exact = record {
-  each = at_place (λ k e. Encloses one e.low e.high (Frac (discount (rate (k + 1)) (k + 1)))) curve
+  each = at_place (λ k e. Encloses one e.low e.high (Frac (discount_exact (rate (k + 1)) (k + 1)))) curve
       (λ k within. encloses_discount (get_or curve k (pos 0)) (rate (k + 1)) (k + 1) (limits k (pos 0) within) (exact.each k (pos 0) within));
 }

@@ -1,8 +1,9 @@
 -- The discount of a payment, and the present value of payments: what they are worth now at risk-free rates (Directive
 -- 2009/138/EC, Article 77(2)). Nothing is rounded.
-use Rattle.std.specs.Prelude.{ℕ, zero, suc, ◌+◌, ℤ, pos, negsuc, List, [], ◌∷◌}
+use Rattle.std.specs.Prelude.{ℕ, zero, suc, ℤ, pos, negsuc, List}
 use Rattle.std.proofs.Math.Nat.{zero-lt-suc}
 use Rattle.scr_num.specs.Fraction.{Fraction, over, whole, zero_fraction, plus, product}
+use Rattle.scr_num.specs.Sums.{weighted_sum}
 
 -- what one grows to in a year
 abbrev pub growth : Fraction → Fraction
@@ -23,14 +24,9 @@ abbrev pub reciprocal : Fraction → Fraction
 reciprocal p = reciprocal_of p.num p.den
 
 -- what one that is paid after so many years is worth now: 1 / (1 + rate) ^ years
-unfoldable pub discount : Fraction → ℕ → Fraction
-discount rate years = reciprocal (power (growth rate) years)
-
--- the sum of payments a year apart, the first of them after so many years, each times what one is worth at its maturity
-unfoldable pub weighted_sum : (ℕ → Fraction) → ℕ → List ℤ → Fraction
-weighted_sum worth years [] = zero_fraction
-weighted_sum worth years (flow ∷ flows) = plus (product (whole flow) (worth years)) (weighted_sum worth (years + 1) flows)
+unfoldable pub discount_exact : Fraction → ℕ → Fraction
+discount_exact rate years = reciprocal (power (growth rate) years)
 
 -- the present value of payments after 1, 2, 3 and more years, each at the rate of its maturity
-abbrev pub present_value : List ℤ → (ℕ → Fraction) → Fraction
-present_value flows rate = weighted_sum (λ years. discount (rate years) years) 1 flows
+abbrev pub present_exact : List ℤ → (ℕ → Fraction) → Fraction
+present_exact flows rate = weighted_sum (λ years. discount_exact (rate years) years) 1 flows

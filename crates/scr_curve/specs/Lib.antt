@@ -1,4 +1,4 @@
 pub mod Rate
 pub mod Discount
 pub mod Parts
-pub mod Table
+pub mod DiscountEnds

@@ -3,7 +3,7 @@
 use Rattle.std.specs.Prelude.{ℕ, ◌-◌, min, length, ℤ, pos, int_lt, if◌then◌else◌, List, slice_index_or}
 use Rattle.std.proofs.Common.{lit<}
 use Rattle.scr_num.specs.Fraction.{Fraction, over, zero_fraction, percent, millionths, plus, minus, product, greater}
-use Rattle.scr_factors.specs.Interest.{rise, fall, stress}
+use Rattle.scr_profile.specs.Interest.{rise, fall, stress}
 use Rattle.scr_curve.specs.declared.tilt.Tilt.{Tilt}
 use Rattle.scr_curve.specs.declared.tilt.Tilt.TheVariants.{Base, Up, Down}
 

@@ -1,8 +1,10 @@
+//! The discounts that rates give.
+
 ghost use Rattle.std.specs.Prelude.{◌≡◌, ℕ, ◌≤◌, pos, ◌+ℤ◌, map, All};
 ghost use Rattle.scr_num.specs.Fraction.{Fraction};
 ghost use Rattle.scr_num.specs.Rounding.{ends, or_zero};
 ghost use Rattle.scr_curve.specs.Parts.{parts, IsRateInParts, AreRates};
-ghost use Rattle.scr_curve.specs.Table.{discount_ends, table_ends, IsDiscount, EncloseDiscounts, AreAboutPowers};
+ghost use Rattle.scr_curve.specs.DiscountEnds.{discount_ends, table_ends, IsDiscount, EncloseDiscounts, AreAboutPowers};
 
 use crate::Discounts;
 use scr_num::{Span, exact, scale};

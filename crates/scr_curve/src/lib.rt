@@ -3,13 +3,12 @@
 #![tactic(auto)]
 
 mod discount;
+pub mod laws;
 mod rate;
 mod table;
-#[cfg(test)]
-mod tests;
 mod tilt;
 
 pub use discount::discounts;
-pub use rate::stressed;
-pub use table::Discounts;
+pub use rate::{stressed, yearly};
+pub use table::{Discounts, MAX_DISCOUNT};
 pub use tilt::Tilt;

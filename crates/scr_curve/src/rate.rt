@@ -1,14 +1,15 @@
-ghost use Rattle.std.specs.Prelude.{◌≡◌, ◌<◌, ◌≤◌, ◌+◌, ◌-◌, min, ℤ, pos, ◌+ℤ◌, ◌-ℤ◌, ◌*ℤ◌, length, map, All, slice_index_or};
+//! The rates of a curve under each stress.
+
+ghost use Rattle.std.specs.Prelude.{◌≡◌, ◌<◌, ◌≤◌, ◌+◌, ◌-◌, min, ℤ, pos, ◌+ℤ◌, ◌-ℤ◌, ◌*ℤ◌, length, take, All, slice_index_or};
 ghost use Rattle.std.specs.Int.{int_max};
-ghost use Rattle.std.specs.List.{range_with_len};
 ghost use Rattle.scr_num.specs.Fraction.{millionths};
 ghost use Rattle.scr_num.specs.Enclosure.{Measures};
-ghost use Rattle.scr_factors.specs.Interest.{rise, fall, stress};
+ghost use Rattle.scr_profile.specs.Interest.{rise, fall, stress};
 ghost use Rattle.scr_curve.specs.Rate.{tilted, rate};
-ghost use Rattle.scr_curve.specs.Parts.{parts, in_parts, IsRateInMillionths, IsRateInParts, AreRates};
+ghost use Rattle.scr_curve.specs.Parts.{parts, IsRateInMillionths, IsRateInParts, AreRates, rates_in_parts};
 
 use crate::Tilt;
-use scr_factors::{INTEREST_DOWN, INTEREST_UP};
+use scr_profile::{INTEREST_DOWN, INTEREST_UP};
 
 /// The seven-billionths in a millionth.
 const PARTS_PER_MILLIONTH: i64 = 7000;
@@ -24,7 +25,7 @@ pub fn stressed(rates: &[i32], tilt: Tilt) -> [i64; 100]
     requires some { 1 ≤ length rates.now }
     requires at_most { length rates.now ≤ 100 }
     requires limits { All IsRateInMillionths rates.now }
-    ensures value { result ≡ map (λ years. in_parts (rate rates.now tilt years)) (range_with_len 1 100) }
+    ensures value { result ≡ rates_in_parts rates.now tilt }
     ensures exact { AreRates result (rate rates.now tilt) }
     ensures in_range { All IsRateInParts result }
 {
@@ -33,6 +34,31 @@ pub fn stressed(rates: &[i32], tilt: Tilt) -> [i64; 100]
         curve[i] = stressed_rate(base_at(rates, i), tilt, i);
     }
     curve
+}
+
+/// The same of rates as a balance sheet keeps them.
+pub fn yearly(rates: &[i64], tilt: Tilt) -> [i64; 100]
+    requires some { 1 ≤ length rates.now }
+    requires at_most { length rates.now ≤ 100 }
+    requires limits { All IsRateInMillionths rates.now }
+    ensures value { result ≡ rates_in_parts rates.now tilt }
+    ensures in_range { All IsRateInParts result }
+{
+    let narrow = narrowed(rates);
+    stressed(&narrow[..rates.len()], tilt)
+}
+
+/// The same rates, followed by zeros.
+fn narrowed(rates: &[i64]) -> [i32; 100]
+    requires at_most { length rates.now ≤ 100 }
+    requires limits { All IsRateInMillionths rates.now }
+    ensures { take (length rates.now) result ≡ rates.now }
+{
+    let mut narrow = [0; 100];
+    for i in 0..rates.len() {
+        narrow[i] = rates[i] as i32;
+    }
+    narrow
 }
 
 /// The rate of the curve at a place, or the last one beyond it.

@@ -1,5 +1,7 @@
 -- The anniversaries of a date, and the least number of years to a payment.
-use Rattle.std.proofs.Common.{◌≡◌, ℕ, zero, suc, ◌+◌, ◌<◌, ◌≤◌, inl, inr, Bool, true, false, not, ◌&&◌, ◌==◌, cond, min, sym, ◌∙◌, arith, ℤ, pos, neg_ℤ, ◌+ℤ◌, ◌-ℤ◌, ◌*ℤ◌, ◌<ℤ◌, ◌≤ℤ◌, int_le, unsigned_abs, add-one}
+use Rattle.std.proofs.Common.{◌≡◌, ℕ, zero, suc, ◌+◌, ◌<◌, ◌≤◌, inl, inr, Bool, true, false, not, ◌&&◌, ◌==◌, cond, min}
+use Rattle.std.proofs.Common.{sym, ◌∙◌, arith, ℤ, pos, neg_ℤ, ◌+ℤ◌, ◌-ℤ◌, ◌*ℤ◌, ◌<ℤ◌, ◌≤ℤ◌, int_le, unsigned_abs}
+use Rattle.std.proofs.Common.{add-one}
 use Rattle.std.proofs.lemmas.Bool.{cases_lt}
 use Rattle.std.proofs.lemmas.Bool.Decides.{nat_tests}
 use Rattle.std.proofs.lemmas.Int.{ints, by_lt_z}
@@ -32,7 +34,8 @@ kept_day year later month day h = grind (arith, nat_tests)
 -- the library moves a date by years as the definition does
 pub anniversary-add_months : (d : Date) (n : ℕ) → date_anniversary d n ≡ add_months d (pos n *ℤ pos 12)
 anniversary-add_months d n =
-    let moved = shift_parts d (pos n *ℤ pos 12) (d.year +ℤ pos n) d.month (omega (arith, signed_arith)) d.month_in.0 d.month_in.1 in
+    let moved = shift_parts d (pos n *ℤ pos 12) (d.year +ℤ pos n) d.month
+    (omega (arith, signed_arith)) d.month_in.0 d.month_in.1 in
     rw (moved.0, moved.1, kept_day d.year (d.year +ℤ pos n) d.month d.day d.day_in.1)
 
 -- a span of years takes a date of the library to its anniversary
@@ -40,24 +43,30 @@ pub date_add-anniversary : (d : Date) (n : ℕ) (s : Span) → IsOnly Year (pos 
 date_add-anniversary d n s h = date_add-years d (pos n) s h ∙ sym (anniversary-add_months d n)
 
 -- the anniversary is a date
-pub anniversary_civil : (d : Date) (n : ℕ) → (d.year +ℤ pos n) ≤ℤ pos 9999 → IsCivilDate (d.year +ℤ pos n) d.month (years_later (civil_date d) n).day
+pub anniversary_civil : (d : Date) (n : ℕ) → (d.year +ℤ pos n) ≤ℤ pos 9999
+    → IsCivilDate (d.year +ℤ pos n) d.month (years_later (civil_date d) n).day
 anniversary_civil d n h =
     let long = days_in_month_bounds (d.year +ℤ pos n) d.month in
     let day = kept_day d.year (d.year +ℤ pos n) d.month d.day d.day_in.1 in
     ((omega (arith, signed_arith, d.year_in), h), d.month_in, rw day (omega (arith, d.day_in), omega arith))
 
 -- which the library has up to the year 9999
-pub can_add_years : (d : Date) (n : ℕ) (s : Span) → (d.year +ℤ pos n) ≤ℤ pos 9999 → IsOnly Year (pos n) s → CanAddToDate d s
+pub can_add_years : (d : Date) (n : ℕ) (s : Span) → (d.year +ℤ pos n) ≤ℤ pos 9999 → IsOnly Year (pos n) s
+    → CanAddToDate d s
 can_add_years d n s h only =
     let c = anniversary_civil d n h in
-    let moved = shift_parts d (pos n *ℤ pos 12) (d.year +ℤ pos n) d.month (omega (arith, signed_arith)) d.month_in.0 d.month_in.1 in
-    let range : IsEpochDay (date_anniversary d n) = omega (arith, signed_arith, days_from_civil-day_count, day_count_bounds _ _ _ c) in
+    let moved = shift_parts d (pos n *ℤ pos 12) (d.year +ℤ pos n) d.month
+    (omega (arith, signed_arith)) d.month_in.0 d.month_in.1 in
+    let range : IsEpochDay (date_anniversary d n) =
+    omega (arith, signed_arith, days_from_civil-day_count, day_count_bounds _ _ _ c) in
     (rw (only.months, moved.0) c.0, rw (date_add-anniversary d n s only) range)
 
 -- a later anniversary has a greater day number
-pub anniversary-lt : (d : Date) (n k : ℕ) → (d.year +ℤ pos k) ≤ℤ pos 9999 → n < k → date_anniversary d n <ℤ date_anniversary d k
+pub anniversary-lt : (d : Date) (n k : ℕ) → (d.year +ℤ pos k) ≤ℤ pos 9999 → n < k
+    → date_anniversary d n <ℤ date_anniversary d k
 anniversary-lt d n k h lt =
-    days_from_civil-lt_year _ _ _ _ _ _ (anniversary_civil d n (omega (arith, signed_arith))) (anniversary_civil d k h).2.0 (omega (arith, signed_arith))
+    days_from_civil-lt_year _ _ _ _ _ _ (anniversary_civil d n (omega (arith, signed_arith)))
+    (anniversary_civil d k h).2.0 (omega (arith, signed_arith))
 
 -- no years later it is the same day
 pub anniversary-zero : (d : Date) → date_anniversary d 0 ≡ epoch_day d
@@ -67,18 +76,26 @@ anniversary-zero d =
     rw (same, kept_day d.year d.year d.month d.day d.day_in.1, kept)
 
 -- n years are at least n days
-pub anniversary-days : (d : Date) (n : ℕ) → (d.year +ℤ pos n) ≤ℤ pos 9999 → (epoch_day d +ℤ pos n) ≤ℤ date_anniversary d n
+pub anniversary-days : (d : Date) (n : ℕ) → (d.year +ℤ pos n) ≤ℤ pos 9999
+    → (epoch_day d +ℤ pos n) ≤ℤ date_anniversary d n
 anniversary-days d zero h = omega (arith, signed_arith, anniversary-zero d)
 anniversary-days d (suc n) h =
-    omega (arith, signed_arith, anniversary-days d n (omega (arith, signed_arith)), anniversary-lt d n (suc n) h (omega arith))
+    omega (
+      arith,
+      signed_arith,
+      anniversary-days d n (omega (arith, signed_arith)),
+      anniversary-lt d n (suc n) h (omega arith),
+    )
 
 -- the search finds the first number that passes
-pub least_from-is : (test : ℕ → Bool) (more n k : ℕ) → n ≤ k → k ≤ more + n → ((j : ℕ) → n ≤ j → j < k → test j ≡ false) → test k ≡ true → least_from test more n ≡ k
+pub least_from-is : (test : ℕ → Bool) (more n k : ℕ) → n ≤ k → k ≤ more + n → ((j : ℕ) → n ≤ j → j < k → test j ≡ false)
+    → test k ≡ true → least_from test more n ≡ k
 unfolding least_from
 least_from-is test zero n k low high below here = omega arith
 least_from-is test (suc more) n k low high below here =
     elim (cases_lt n k) [
-      | inl lt ↦ rw (below n (omega arith) lt) (least_from-is test more (n + 1) k (omega arith) (omega arith) (λ j a b. below j (omega arith) b) here)
+      | inl lt ↦ rw (below n (omega arith) lt)
+          (least_from-is test more (n + 1) k (omega arith) (omega arith) (λ j a b. below j (omega arith) b) here)
       | inr ge ↦ let same : n ≡ k = omega arith in rw same (rw here)
     ]
 
@@ -94,7 +111,8 @@ pub record Found (asof pay : ℤ) (n : ℕ) : Type 0 where
   pub least : IsLeast asof pay n
 
 -- that is the number whose anniversary reaches the payment, where the one before it does not
-pub found_after : (d : Date) (pay : ℤ) (n : ℕ) → neg_ℤ (pos 25_567) ≤ℤ epoch_day d → (d.year +ℤ pos (n + 1)) ≤ℤ pos 9999 → date_anniversary d n <ℤ pay → pay ≤ℤ date_anniversary d (n + 1) → Found (epoch_day d) pay (n + 1)
+pub found_after : (d : Date) (pay : ℤ) (n : ℕ) → neg_ℤ (pos 25_567) ≤ℤ epoch_day d → (d.year +ℤ pos (n + 1)) ≤ℤ pos 9999
+    → date_anniversary d n <ℤ pay → pay ≤ℤ date_anniversary d (n + 1) → Found (epoch_day d) pay (n + 1)
 unfolding years_to
 found_after d pay n low high before reached =
     let is = date_of-epoch_day d low in
@@ -105,10 +123,17 @@ found_after d pay n low high before reached =
     ] in
     let span = unsigned_abs-same (pay -ℤ epoch_day d) (omega (arith, signed_arith)) in
     record {
-      value = sym (least_from-is (is_reached (epoch_day d) pay) (unsigned_abs (pay -ℤ epoch_day d)) 1 (n + 1) (omega arith) (omega (arith, signed_arith))
+      value = sym
+          (least_from-is (is_reached (epoch_day d) pay) (unsigned_abs (pay -ℤ epoch_day d)) 1 (n + 1) (omega arith)
+          (omega (arith, signed_arith))
           (λ j a b. rw is (int_le-no pay (date_anniversary d j) (early j (omega arith))))
           (rw is (int_le-yes _ _ reached)));
-      least = record { least_one = omega arith; reached = rw is reached; fewer = λ k a b. rw is (early k (omega arith)) };
+      least = record {
+        least_one = omega arith;
+        reached = rw is reached;
+        fewer =
+            λ k a b. rw is (early k (omega arith));
+      };
     }
 
 -- the year of an earlier day is not later
@@ -119,20 +144,25 @@ year-le d e h = by_lt_z e.year d.year
     (λ le. le)
 
 -- where the anniversary in the payment's year is too early, the next one is the first to reach it
-pub found_next : (d e : Date) (n : ℕ) → neg_ℤ (pos 25_567) ≤ℤ epoch_day d → epoch_day e ≤ℤ pos 84_370 → d.year +ℤ pos n ≡ e.year → date_anniversary d n <ℤ epoch_day e → Found (epoch_day d) (epoch_day e) (n + 1)
+pub found_next : (d e : Date) (n : ℕ) → neg_ℤ (pos 25_567) ≤ℤ epoch_day d → epoch_day e ≤ℤ pos 84_370
+    → d.year +ℤ pos n ≡ e.year → date_anniversary d n <ℤ epoch_day e → Found (epoch_day d) (epoch_day e) (n + 1)
 found_next d e n low last year before =
     let end = year_in_range e.year e.month e.day (civil e) last in
     let high : (d.year +ℤ pos (n + 1)) ≤ℤ pos 9999 = omega (arith, signed_arith) in
     let next = anniversary_civil d (n + 1) high in
     let later : e.year <ℤ (d.year +ℤ pos (n + 1)) = omega (arith, signed_arith) in
-    let after = days_from_civil-lt_year e.year e.month e.day (d.year +ℤ pos (n + 1)) d.month (years_later (civil_date d) (n + 1)).day (civil e) next.2.0 later in
+    let after = days_from_civil-lt_year e.year e.month e.day (d.year +ℤ pos (n + 1)) d.month
+    (years_later (civil_date d) (n + 1)).day (civil e) next.2.0 later in
     found_after d (epoch_day e) n low high before (omega (arith, signed_arith, after))
 
 -- and where it is not, it is the first itself
-pub found_same : (d e : Date) (n : ℕ) → neg_ℤ (pos 25_567) ≤ℤ epoch_day d → epoch_day d <ℤ epoch_day e → d.year +ℤ pos n ≡ e.year → epoch_day e ≤ℤ date_anniversary d n → Found (epoch_day d) (epoch_day e) n
+pub found_same : (d e : Date) (n : ℕ) → neg_ℤ (pos 25_567) ≤ℤ epoch_day d → epoch_day d <ℤ epoch_day e
+    → d.year +ℤ pos n ≡ e.year → epoch_day e ≤ℤ date_anniversary d n → Found (epoch_day d) (epoch_day e) n
 found_same d e zero low ahead year reached = absurd (omega (arith, signed_arith, anniversary-zero d))
 found_same d e (suc n) low ahead year reached =
     let here : (d.year +ℤ pos n) ≤ℤ pos 9999 = omega (arith, signed_arith, e.year_in) in
     let there : (d.year +ℤ pos (n + 1)) ≤ℤ pos 9999 = omega (arith, signed_arith, e.year_in) in
-    let before = days_from_civil-lt_year (d.year +ℤ pos n) d.month (years_later (civil_date d) n).day e.year e.month e.day (anniversary_civil d n here) e.day_in.0 (omega (arith, signed_arith)) in
+    let before = days_from_civil-lt_year (d.year +ℤ pos n) d.month
+    (years_later (civil_date d) n).day e.year e.month e.day (anniversary_civil d n here) e.day_in.0
+    (omega (arith, signed_arith)) in
     rw (← add-one) (found_after d (epoch_day e) n low there before (rw add-one reached))

@@ -1,5 +1,5 @@
--- The civil calendar: dates one day after another, and the numbers that count them (that days are taken from 1900 to 2200
--- is this project's own).
+-- The civil calendar: dates one day after another, and the numbers that count them (that days are taken from 1900 to
+-- 2200 is this project's own).
 use Rattle.std.specs.Prelude.{ℕ, zero, suc, ◌+◌, nat_lt, if◌then◌else◌, ℤ, pos, neg_ℤ, ◌+ℤ◌, ◌-ℤ◌, unsigned_abs}
 use Rattle.jiff_core.specs.declared.civil.date.Date.{Date}
 use Rattle.jiff_core.specs.Calendar.{days_in_month, days_from_civil, IsBetween}

@@ -1,3 +1,5 @@
+//! How far a payment lies ahead.
+
 /// How far a payment lies ahead of the reference date, in whole years begun.
 #[derive(Clone, Copy, Debug, PartialEq, Eq)]
 pub enum Maturity {

@@ -1,3 +1,4 @@
+//! How many years it is to a payment.
 ghost use Rattle.std.specs.Prelude.{◌≡◌, ◌<◌, ◌≤◌, pos, neg_ℤ, ◌+ℤ◌, ◌<ℤ◌, ◌≤ℤ◌};
 ghost use Rattle.jiff_core.specs.Date.{epoch_day};
 ghost use Rattle.scr_dates.specs.Civil.{IsDay, civil_date, day_number};
@@ -9,9 +10,9 @@ use jiff::ToSpan;
 use jiff::civil::Date;
 use jiff_core::civil;
 
-/// The maturity of a payment: the least number of years, from 1 on, that takes the reference date to
-/// the payment or past it. 29 February plus some years is 28 February in a year without a 29 February.
-/// Both days lie in the years 1900 to 2200. The rule is this project's own.
+/// The maturity of a payment: the least number of years, from 1 on, that takes the reference date
+/// to the payment or past it. 29 February plus some years is 28 February in a year without a 29
+/// February. Both days lie in the years 1900 to 2200. The rule is this project's own.
 pub fn maturity(asof: Day, pay: Day) -> Maturity
     requires asof_in { IsDay asof.number }
     requires pay_in { IsDay pay.number }

@@ -1,5 +1,7 @@
 -- Reading the items of a list one after another.
-use Rattle.std.proofs.Common.{◌≡◌, ◌≢◌, ℕ, suc, ◌+◌, ◌<◌, ◌≤◌, ◌==◌, List, [], ◌∷◌, ◌++◌, length, take, drop, set, get_or, Option, Some, None, option_map, cond, All, refl, sym, ap, ◌∙◌, append_assoc, add-one, eq-eqb, append-nil, inl, inr, ℤ, pos, negsuc}
+use Rattle.std.proofs.Common.{◌≡◌, ◌≢◌, ℕ, suc, ◌+◌, ◌<◌, ◌≤◌, ◌==◌, List, [], ◌∷◌, ◌++◌, length, take, drop, set}
+use Rattle.std.proofs.Common.{get_or, Option, Some, None, option_map, cond, All, refl, sym, ap, ◌∙◌, append_assoc}
+use Rattle.std.proofs.Common.{add-one, eq-eqb, append-nil, inl, inr, ℤ, pos, negsuc}
 use Rattle.std.proofs.lemmas.Bool.{cases_lt, le-leb, lt-leb}
 use Rattle.std.specs.Prelude.{option_and_then}
 use Rattle.std.proofs.Math.Seq.{take-suc-set, take-length, drop-length}
@@ -12,20 +14,24 @@ use Rattle.toml.proofs.Views.{items_view-drop}
 use Rattle.scr_factors.specs.Forms.{up_to, whole_number, each, list_of}
 
 -- what is found of an item and of those after it
-each-cons : {A : Type 0} (o : Option A) (r : Option (List A)) (found : List A) → option_and_then (λ a. option_map (λ rest. a ∷ rest) r) o ≡ Some found → (a : A) × (rest : List A) × (o ≡ Some a) × (r ≡ Some rest) × (found ≡ a ∷ rest)
+each-cons : {A : Type 0} (o : Option A) (r : Option (List A)) (found : List A)
+    → option_and_then (λ a. option_map (λ rest. a ∷ rest) r) o ≡ Some found
+    → (a : A) × (rest : List A) × (o ≡ Some a) × (r ≡ Some rest) × (found ≡ a ∷ rest)
 each-cons None r found h = cc
 each-cons (Some a) None found h = cc
 each-cons (Some a) (Some rest) found h = (a, rest, refl, refl, cc)
 
 -- as many are found as there are items
-each-length : {A : Type 0} (form : Data → Option A) (vs : List Value) (found : List A) → each form (items_view vs) ≡ Some found → length found ≡ length vs
+each-length : {A : Type 0} (form : Data → Option A) (vs : List Value) (found : List A)
+    → each form (items_view vs) ≡ Some found → length found ≡ length vs
 each-length form [] found h = let none : found ≡ [] = cc in rw none refl
 each-length form (v ∷ vs) found h =
     let (a, rest, here, more, is) = each-cons (form (view v)) (each form (items_view vs)) found h in
     rw is (ap suc (each-length form vs rest more))
 
 -- and each has what the form gives
-each-all : {A : Type 0} (P : A → Type 0) (form : Data → Option A) → ((d : Data) (a : A) → form d ≡ Some a → P a) → (ds : Items) (found : List A) → each form ds ≡ Some found → All P found
+each-all : {A : Type 0} (P : A → Type 0) (form : Data → Option A) → ((d : Data) (a : A) → form d ≡ Some a → P a)
+    → (ds : Items) (found : List A) → each form ds ≡ Some found → All P found
 each-all P form gives no_items found h = let none : found ≡ [] = cc in rw none (All-nil P)
 each-all P form gives (item d ds) found h =
     let (a, rest, here, more, is) = each-cons (form d) (each form ds) found h in
@@ -35,7 +41,8 @@ each-all P form gives (item d ds) found h =
 abbrev counted : {A : Type 0} → ℕ → Option (List A) → Option (List A)
 counted count o = option_and_then (λ xs. cond (length xs == count) (Some xs) None) o
 
-counted-some : {A : Type 0} (count : ℕ) (o : Option (List A)) (found : List A) → counted count o ≡ Some found → (o ≡ Some found) × (length found ≡ count)
+counted-some : {A : Type 0} (count : ℕ) (o : Option (List A)) (found : List A) → counted count o ≡ Some found
+    → (o ≡ Some found) × (length found ≡ count)
 counted-some count None found h = cc
 counted-some count (Some xs) found h =
     elim (eqb_tells (length xs) count) [
@@ -43,7 +50,8 @@ counted-some count (Some xs) found h =
       | inr (fails, other) ↦ let is = rw fails at h in cc
     ]
 
-counted-none : {A : Type 0} (count : ℕ) (o : Option (List A)) → ((xs : List A) → o ≡ Some xs → length xs ≢ count) → counted count o ≡ None
+counted-none : {A : Type 0} (count : ℕ) (o : Option (List A)) → ((xs : List A) → o ≡ Some xs → length xs ≢ count)
+    → counted count o ≡ None
 counted-none count None h = refl
 counted-none count (Some xs) h =
     elim (eqb_tells (length xs) count) [
@@ -51,17 +59,21 @@ counted-none count (Some xs) h =
       | inr (fails, other) ↦ rw fails
     ]
 
-list_of-items : {A : Type 0} (form : Data → Option A) (count : ℕ) (d : Data) (items : Items) → as_array d ≡ Some items → list_of count form d ≡ counted count (each form items)
+list_of-items : {A : Type 0} (form : Data → Option A) (count : ℕ) (d : Data) (items : Items) → as_array d ≡ Some items
+    → list_of count form d ≡ counted count (each form items)
 list_of-items form count d items is = rw is
 
 -- a list of another length has not the form
-pub list_of-none : {A : Type 0} (form : Data → Option A) (count : ℕ) (d : Data) (vs : List Value) → as_array d ≡ Some (items_view vs) → length vs ≢ count → list_of count form d ≡ None
+pub list_of-none : {A : Type 0} (form : Data → Option A) (count : ℕ) (d : Data) (vs : List Value)
+    → as_array d ≡ Some (items_view vs) → length vs ≢ count → list_of count form d ≡ None
 list_of-none form count d vs is other =
     list_of-items form count d (items_view vs) is
     ∙ counted-none count (each form (items_view vs)) (λ xs e same. other (sym (each-length form vs xs e) ∙ same))
 
 -- each item of a list that has the form has what the items' form gives
-pub list_of-all : {A : Type 0} (P : A → Type 0) (form : Data → Option A) (count : ℕ) (d : Data) (found : List A) → ((e : Data) (a : A) → form e ≡ Some a → P a) → list_of count form d ≡ Some found → (length found ≡ count) × All P found
+pub list_of-all : {A : Type 0} (P : A → Type 0) (form : Data → Option A) (count : ℕ) (d : Data) (found : List A)
+    → ((e : Data) (a : A) → form e ≡ Some a → P a) → list_of count form d ≡ Some found
+    → (length found ≡ count) × All P found
 list_of-all P form count d found gives h = go (as_array d) refl
   where
     go : (o : Option Items) → as_array d ≡ o → (length found ≡ count) × All P found
@@ -72,7 +84,8 @@ list_of-all P form count d found gives h = go (as_array d) refl
 
 -- what the first i items hold was found, and the others are to be read
 pub record ReadTo {A : Type 0} (form : Data → Option A) (vs : List Value) (found : List A) (i : ℕ) : Type 0 where
-  pub so_far : each form (items_view vs) ≡ option_map (λ rest. take i found ++ rest) (each form (items_view (drop i vs)))
+  pub so_far : each form (items_view vs) ≡ option_map (λ rest. take i found ++ rest)
+      (each form (items_view (drop i vs)))
 
 map_same : {A : Type 0} (o : Option (List A)) → o ≡ option_map (λ rest. [] ++ rest) o
 map_same None = refl
@@ -81,11 +94,14 @@ map_same (Some xs) = refl
 pub read_to-start : {A : Type 0} (form : Data → Option A) (vs : List Value) (found : List A) → ReadTo form vs found 0
 read_to-start form vs found = record { so_far = map_same (each form (items_view vs)) }
 
-map_next : {A : Type 0} (xs : List A) (a : A) (o : Option (List A)) → option_map (λ rest. xs ++ rest) (option_map (λ rest. a ∷ rest) o) ≡ option_map (λ rest. (xs ++ a ∷ []) ++ rest) o
+map_next : {A : Type 0} (xs : List A) (a : A) (o : Option (List A))
+    → option_map (λ rest. xs ++ rest) (option_map (λ rest. a ∷ rest) o) ≡ option_map (λ rest. (xs ++ a ∷ []) ++ rest) o
 map_next xs a None = refl
 map_next xs a (Some rest) = rw append_assoc
 
-pub read_to-next : {A : Type 0} (form : Data → Option A) (vs : List Value) (found : List A) (i : ℕ) (v : Value) (a : A) → i < length vs → i < length found → form (view (get_or vs i v)) ≡ Some a → ReadTo form vs found i → ReadTo form vs (set found i a) (i + 1)
+pub read_to-next : {A : Type 0} (form : Data → Option A) (vs : List Value) (found : List A) (i : ℕ) (v : Value) (a : A)
+    → i < length vs → i < length found → form (view (get_or vs i v)) ≡ Some a → ReadTo form vs found i
+    → ReadTo form vs (set found i a) (i + 1)
 read_to-next form vs found i v a lt room is h =
     let here = items_view-drop vs i v lt in
     let stored : take (i + 1) (set found i a) ≡ take i found ++ a ∷ [] = rw add-one (take-suc-set found i a room) in
@@ -93,13 +109,17 @@ read_to-next form vs found i v a lt room is h =
       so_far = h.so_far ∙ rw (here, is, stored) (map_next (take i found) a (each form (items_view (drop (i + 1) vs))));
     }
 
-pub read_to-none : {A : Type 0} (form : Data → Option A) (count : ℕ) (d : Data) (vs : List Value) (found : List A) (i : ℕ) (v : Value) → as_array d ≡ Some (items_view vs) → i < length vs → form (view (get_or vs i v)) ≡ None → ReadTo form vs found i → list_of count form d ≡ None
+pub read_to-none : {A : Type 0} (form : Data → Option A) (count : ℕ) (d : Data) (vs : List Value) (found : List A)
+    (i : ℕ) (v : Value) → as_array d ≡ Some (items_view vs) → i < length vs → form (view (get_or vs i v)) ≡ None
+    → ReadTo form vs found i → list_of count form d ≡ None
 read_to-none form count d vs found i v is lt none h =
     let here = items_view-drop vs i v lt in
     let fails : each form (items_view vs) ≡ None = h.so_far ∙ rw (here, none) refl in
     list_of-items form count d (items_view vs) is ∙ rw fails refl
 
-pub read_to-end : {A : Type 0} (form : Data → Option A) (count : ℕ) (d : Data) (vs : List Value) (found : List A) → as_array d ≡ Some (items_view vs) → length vs ≡ count → length found ≡ count → ReadTo form vs found count → list_of count form d ≡ Some found
+pub read_to-end : {A : Type 0} (form : Data → Option A) (count : ℕ) (d : Data) (vs : List Value) (found : List A)
+    → as_array d ≡ Some (items_view vs) → length vs ≡ count → length found ≡ count → ReadTo form vs found count
+    → list_of count form d ≡ Some found
 read_to-end form count d vs found is all same h =
     let rest : drop count vs ≡ [] = rw (← all) (drop-length vs) in
     let whole : take count found ≡ found = rw (← same) (take-length found) in

@@ -1,5 +1,7 @@
 -- The forms that the values of a factor file have (this project's own).
-use Rattle.std.specs.Prelude.{ℕ, ◌+◌, ◌-◌, ◌==◌, nat_le, Bool, not, map, if◌then◌else◌, List, [], ◌∷◌, length, slice_index, slice_index_or, Option, Some, None, option_map, option_and_then, ℤ, pos, negsuc}
+use Rattle.std.specs.Prelude.{ℕ, ◌+◌, ◌-◌, ◌==◌, nat_le, Bool, not, map, if◌then◌else◌, List, [], ◌∷◌, length}
+use Rattle.std.specs.Prelude.{slice_index, slice_index_or, Option, Some, None, option_map, option_and_then, ℤ, pos}
+use Rattle.std.specs.Prelude.{negsuc}
 use Rattle.std.specs.List.{list_all, find, flat_map, range_with_len}
 use Rattle.toml.specs.Data.{Data, Items, no_items, item, as_integer, as_array}
 

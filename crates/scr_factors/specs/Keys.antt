@@ -2,7 +2,9 @@
 use Rattle.std.specs.Prelude.{ℕ, List, Option, Some, None, codes, option_and_then}
 use Rattle.toml.specs.Data.{Data, Members, get_member, as_table}
 use Rattle.scr_factors.specs.declared.key.Key.{Key}
-use Rattle.scr_factors.specs.declared.key.Key.TheVariants.{Form, SpreadS0, SpreadS1, SpreadS2, SpreadS3, SpreadS4, SpreadS5, SpreadS6, SpreadNone, NlPremium, NlReserve, NlCorr, NsltPremium, NsltReserve}
+use Rattle.scr_factors.specs.declared.key.Key.TheVariants.{Form, SpreadS0, SpreadS1, SpreadS2, SpreadS3, SpreadS4}
+use Rattle.scr_factors.specs.declared.key.Key.TheVariants.{SpreadS5, SpreadS6, SpreadNone, NlPremium, NlReserve, NlCorr}
+use Rattle.scr_factors.specs.declared.key.Key.TheVariants.{NsltPremium, NsltReserve}
 
 -- the name of the table that a key stands in, or none for a key of the file itself
 abbrev pub key_table : Key → Option (List ℕ)

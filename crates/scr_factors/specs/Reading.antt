@@ -1,13 +1,16 @@
 -- What a factor file holds, or the first fault that it has (this project's own).
-use Rattle.std.specs.Prelude.{◌≡◌, ℕ, ◌+◌, if◌then◌else◌, List, [], ◌∷◌, ◌++◌, map, replicate, Option, Some, None, Result, Ok, Err, ok_or, ℤ, pos}
+use Rattle.std.specs.Prelude.{◌≡◌, ℕ, ◌+◌, if◌then◌else◌, List, [], ◌∷◌, ◌++◌, map, replicate, Option, Some, None}
+use Rattle.std.specs.Prelude.{Result, Ok, Err, ok_or, ℤ, pos}
 use Rattle.std.specs.Str.{is_utf8}
 use Rattle.toml.specs.Data.{Data, Members}
 use Rattle.toml.specs.Parse.{parse_document}
 use Rattle.scr_factors.specs.declared.key.Key.{Key}
-use Rattle.scr_factors.specs.declared.key.Key.TheVariants.{Form, SpreadS0, SpreadS1, SpreadS2, SpreadS3, SpreadS4, SpreadS5, SpreadS6, SpreadNone, NlPremium, NlReserve, NlCorr, NsltPremium, NsltReserve}
+use Rattle.scr_factors.specs.declared.key.Key.TheVariants.{Form, SpreadS0, SpreadS1, SpreadS2, SpreadS3, SpreadS4}
+use Rattle.scr_factors.specs.declared.key.Key.TheVariants.{SpreadS5, SpreadS6, SpreadNone, NlPremium, NlReserve, NlCorr}
+use Rattle.scr_factors.specs.declared.key.Key.TheVariants.{NsltPremium, NsltReserve}
 use Rattle.scr_factors.specs.declared.fault.FactorFault.{FactorFault}
 use Rattle.scr_factors.specs.declared.fault.FactorFault.TheVariants.{NotToml, Missing, BadValue, NotSymmetric, NoMemory}
-use Rattle.scr_factors.specs.declared.matrix.Matrix.{Matrix}
+use Rattle.scr_profile.specs.declared.matrix.Matrix.{Matrix}
 use Rattle.scr_factors.specs.Keys.{value_at}
 use Rattle.scr_factors.specs.Forms.{list_of, whole_number, one, correlation_rows, first_asymmetry}
 use Rattle.scr_factors.specs.Values.{FactorValues}

@@ -1,10 +1,11 @@
 -- The numbers of a factor file (its form is this project's own): the factors of spread risk (Delegated Regulation (EU)
--- 2015/35, Article 176) and the standard deviations and correlations of premium and reserve risk (Articles 117 and 148).
+-- 2015/35, Article 176) and the standard deviations and correlations of premium and reserve risk (Articles 117 and
+-- 148).
 use Rattle.std.specs.Prelude.{◌≡◌, ℕ, ◌+◌, ◌-◌, ◌*◌, ◌≤◌, List, [], All, length, slice_index, slice_index_or, pos}
-use Rattle.scr_factors.specs.declared.matrix.Matrix.{Matrix}
-use Rattle.scr_factors.specs.declared.set.Set.{Set}
-use Rattle.scr_factors.specs.declared.set.Set.TheVariants.{Nl, Nslt}
-use Rattle.scr_factors.specs.Matrix.{IsCorrelation}
+use Rattle.scr_profile.specs.declared.matrix.Matrix.{Matrix}
+use Rattle.scr_profile.specs.declared.set.Set.{Set}
+use Rattle.scr_profile.specs.declared.set.Set.TheVariants.{Nl, Nslt}
+use Rattle.scr_profile.specs.Matrix.{IsCorrelation}
 
 -- the rows of spread factors by credit quality step, and last the row without a step, each with five
 -- pairs of a and b; the standard deviations by segment; the correlations of the non-life segments
@@ -31,15 +32,6 @@ pub record IsInForm (values : FactorValues) : Type 0 where
   pub correlations : IsCorrelation values.correlations
   pub nslt_premium : IsRow 4 values.nslt_premium
   pub nslt_reserve : IsRow 4 values.nslt_reserve
-
--- how many segments a set has
-abbrev pub segments : Set → ℕ
-segments Nl = 12
-segments Nslt = 4
-
--- the number is that of a segment of the set
-abbrev pub IsSegment : Set → ℕ → Type 0
-IsSegment set number = (1 ≤ number) × (number ≤ segments set)
 
 -- a and b of a row and a band
 abbrev pub spread_at : FactorValues → ℕ → ℕ → ℕ × ℕ

@@ -1,3 +1,5 @@
+//! The faults of a factor file.
+
 use crate::Key;
 use thiserror::Error;
 

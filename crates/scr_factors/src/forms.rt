@@ -1,3 +1,5 @@
+//! The forms that the values of a factor file have.
+
 ghost use Rattle.std.specs.Prelude.{◌≡◌};
 ghost use Rattle.toml.specs.View.{view};
 ghost use Rattle.scr_factors.specs.Forms as spec;

@@ -1,3 +1,5 @@
+//! The keys of a factor file.
+
 ghost use Rattle.std.specs.Prelude.{◌≡◌, option_copied};
 ghost use Rattle.scr_factors.specs.Keys.{key_name, key_table};
 

@@ -1,3 +1,5 @@
+//! The reading of a factor file.
+
 ghost use Rattle.std.specs.Prelude.{◌≡◌, option_map};
 ghost use Rattle.toml.specs.Data.{get_member};
 ghost use Rattle.toml.specs.View.{view, table_view};
@@ -88,10 +90,10 @@ fn values_of(document: &Table) -> Result<Factors, FactorFault>
     })
 }
 
-/// The numbers of a factor file, which is TOML with these keys. `form` is 1. `spread.s0` to `spread.s6`
-/// and `spread.none` are ten numbers each, `nl.premium` and `nl.reserve` twelve, and `nslt.premium`
-/// and `nslt.reserve` four: whole numbers from 0 to 1,000,000. `nl.corr` is twelve rows of twelve whole
-/// numbers from 0 to 100, symmetric and with 100 on the diagonal.
+/// The numbers of a factor file, which is TOML with these keys. `form` is 1. `spread.s0` to
+/// `spread.s6` and `spread.none` are ten numbers each, `nl.premium` and `nl.reserve` twelve, and
+/// `nslt.premium` and `nslt.reserve` four: whole numbers from 0 to 1,000,000. `nl.corr` is twelve
+/// rows of twelve whole numbers from 0 to 100, symmetric and with 100 on the diagonal.
 ///
 /// The keys are read in the order of `Key`, and the first fault is told; `NotSymmetric` comes last.
 /// Other keys are passed over. Want of memory may be told in place of any answer.

@@ -1,3 +1,5 @@
+//! The correlations of the segments of non-life.
+
 ghost use Rattle.std.specs.Prelude.{◌≡◌, ◌+◌, ◌-◌, ◌<◌, ◌≤◌, All, IfSome};
 ghost use Rattle.std.specs.List.{find, range_with_len};
 ghost use Rattle.scr_factors.specs.Forms as spec;

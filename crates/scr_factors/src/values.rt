@@ -1,6 +1,9 @@
+//! The numbers of a factor file.
+
 ghost use Rattle.std.specs.Prelude.{◌≡◌, ◌<◌, ◌≤◌, pos};
-ghost use Rattle.scr_factors.specs.Matrix.{IsCorrelation};
-ghost use Rattle.scr_factors.specs.Values.{IsSegment, spread_at, sigma_of};
+ghost use Rattle.scr_profile.specs.Matrix.{IsCorrelation};
+ghost use Rattle.scr_profile.specs.Segments.{IsSegment};
+ghost use Rattle.scr_factors.specs.Values.{spread_at, sigma_of};
 
 use crate::{Matrix, Set};
 use std::marker::Model;
@@ -29,10 +32,10 @@ impl Model for Factors {
 }
 
 impl Factors {
-    /// The factors of spread risk (Delegated Regulation (EU) 2015/35, Article 176) of a row and a band
-    /// of durations: `a` in millionths and `b` in millionths per year of duration. Rows 0 to 6 are
-    /// the credit quality steps and row 7 is for bonds without one; the bands begin at 0, 5, 10, 15
-    /// and 20 years.
+    /// The factors of spread risk (Delegated Regulation (EU) 2015/35, Article 176) of a row and a
+    /// band of durations: `a` in millionths and `b` in millionths per year of duration. Rows 0 to 6
+    /// are the credit quality steps and row 7 is for bonds without one; the bands begin at 0, 5,
+    /// 10, 15 and 20 years.
     pub fn spread(&self, row: u8, band: u8) -> (u32, u32)
         requires row_in { row < 8 }
         requires band_in { band < 5 }
@@ -44,8 +47,9 @@ impl Factors {
         (factors[place], factors[place + 1])
     }
 
-    /// The standard deviations of premium and of reserve risk of a segment, in millionths: Delegated
-    /// Regulation (EU) 2015/35, Articles 117 and 148. `seg` is the segment's number, from 1.
+    /// The standard deviations of premium and of reserve risk of a segment, in millionths:
+    /// Delegated Regulation (EU) 2015/35, Articles 117 and 148. `seg` is the segment's number, from
+    /// 1.
     pub fn sigma(&self, set: Set, seg: u8) -> (u32, u32)
         requires { IsSegment set seg }
         ensures value { result ≡ sigma_of self.now set seg }
@@ -58,8 +62,8 @@ impl Factors {
         }
     }
 
-    /// The correlations of the twelve segments of non-life, in hundredths: Delegated Regulation (EU)
-    /// 2015/35, Article 117.
+    /// The correlations of the twelve segments of non-life, in hundredths: Delegated Regulation
+    /// (EU) 2015/35, Article 117.
     pub fn corr(&self) -> &Matrix
         ensures value { result.now ≡ self.now.correlations }
         ensures size { result.now.n ≡ 12 }

@@ -1,3 +1,7 @@
 pub mod SumLemmas
-pub mod DueLemmas
 pub mod LossLemmas
+pub mod DueLemmas
+pub mod Millions
+pub mod OneValue
+pub mod SizeLemmas
+pub mod LossesEnclosed

@@ -7,9 +7,9 @@ use Rattle.scr_num.specs.Fraction.{Fraction, minus}
 use Rattle.scr_num.specs.Figure.{Frac}
 use Rattle.scr_num.specs.Rounding.{Ends, exact_ends, sub_ends}
 use Rattle.scr_num.specs.Enclosure.{Encloses, Measures}
-use Rattle.scr_curve.specs.Discount.{discount}
+use Rattle.scr_curve.specs.Discount.{discount_exact}
 use Rattle.scr_curve.specs.Parts.{parts, AreRates}
-use Rattle.scr_curve.specs.Table.{one, EncloseDiscounts}
+use Rattle.scr_curve.specs.DiscountEnds.{one, EncloseDiscounts}
 use Rattle.scr_curve.proofs.SameRates.{Same-rates, Same-discount, Same-below, Same-turned}
 use Rattle.scr_flow.specs.Loss.{discount_fall}
 use Rattle.scr_flow.specs.Sums.{difference, differences}
@@ -17,18 +17,18 @@ use Rattle.scr_num.proofs.Enclosing.{Encloses-sub, Encloses-minus}
 use Rattle.scr_flow.proofs.SumLemmas.{Encloses-equal, get_or-differences}
 
 difference_encloses : (n m : ℤ) (e f : Ends) (p q : Fraction) (years : ℕ) → Measures parts n p → Measures parts m q
-    → Encloses one e.low e.high (Frac (discount p years)) → Encloses one f.low f.high (Frac (discount q years))
-    → Encloses one (difference n e m f).low (difference n e m f).high (Frac (minus (discount p years) (discount q years)))
+    → Encloses one e.low e.high (Frac (discount_exact p years)) → Encloses one f.low f.high (Frac (discount_exact q years))
+    → Encloses one (difference n e m f).low (difference n e m f).high (Frac (minus (discount_exact p years) (discount_exact q years)))
 difference_encloses n m e f p q years h k x y =
     cond_both (int_eq n m) (exact_ends (pos 0)) (sub_ends e f)
-    (λ d. Encloses one d.low d.high (Frac (minus (discount p years) (discount q years))))
+    (λ d. Encloses one d.low d.high (Frac (minus (discount_exact p years) (discount_exact q years))))
     (λ equal.
     let turned : Measures parts n q = rw ((Decides-int_eq n m).0 equal) k in
     let same = Same-discount p q years (Same-rates n p q h turned) in
-    Encloses-equal one (lit< tt) (discount p years) (discount q years) (Same-below (discount p years) (discount q years) same)
-    (Same-below (discount q years) (discount p years) (Same-turned (discount p years) (discount q years) same)))
-    (λ other. Encloses-minus one _ _ (discount p years) (discount q years)
-    (Encloses-sub one e.low e.high f.low f.high (Frac (discount p years)) (Frac (discount q years)) x y))
+    Encloses-equal one (lit< tt) (discount_exact p years) (discount_exact q years) (Same-below (discount_exact p years) (discount_exact q years) same)
+    (Same-below (discount_exact q years) (discount_exact p years) (Same-turned (discount_exact p years) (discount_exact q years) same)))
+    (λ other. Encloses-minus one _ _ (discount_exact p years) (discount_exact q years)
+    (Encloses-sub one e.low e.high f.low f.high (Frac (discount_exact p years)) (Frac (discount_exact q years)) x y))
 
 -- each place of the falls is one of all four lists
 record IsPlace (bases : List ℤ) (froms : List Ends) (stresseds : List ℤ) (tos : List Ends) (k : ℕ) : Type 0 where

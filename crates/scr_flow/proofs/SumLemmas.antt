@@ -13,7 +13,8 @@ use Rattle.scr_num.proofs.Enclosing.{Encloses-exact, Encloses-add, Encloses-plus
 use Rattle.scr_num.proofs.AddedEnds.{add_ends-assoc, zero-add_ends, add_ends-zero}
 use Rattle.scr_num.proofs.Quotients.{times_le}
 use borrow.Author.Differences.{up, down}
-use Rattle.scr_curve.specs.Discount.{weighted_sum}
+use Rattle.scr_num.specs.Sums.{weighted_sum}
+use Rattle.scr_curve.specs.declared.table.TheConstants.{MAX_DISCOUNT}
 use Rattle.scr_flow.specs.Sums.{flow_ends, weighted_ends, difference, differences}
 
 -- ---- fractions that spans enclose
@@ -146,7 +147,7 @@ other_order (negsuc n) low high h k = absurd (omega (arith, ints))
 -- ---- a loop over all places
 -- the most that one is worth
 abbrev pub most : ℕ
-most = 2740000000000000000
+most = MAX_DISCOUNT
 
 -- the sum over the places before i: with the others it makes the whole, and it is no larger than its payments
 pub record IsSumBefore (i : ℕ) (flows : List ℤ) (es : List Ends) (sum : Ends) : Type 0 where

@@ -1,3 +1,5 @@
 pub mod Due
 pub mod Loss
+pub mod Payments
 pub mod Sums
+pub mod LossEnds

@@ -1,9 +1,8 @@
-ghost use Rattle.std.specs.Prelude.{◌≡◌, ◌≢◌, ℕ, ◌≤◌, All, map, sum_by, unsigned_abs};
-ghost use Rattle.std.specs.List.{range_with_len};
+//! Payments by maturity.
+
+ghost use Rattle.std.specs.Prelude.{◌≡◌, ◌≤◌, All, sum_by, unsigned_abs};
 ghost use Rattle.scr_dates.specs.Civil.{IsDay};
-ghost use Rattle.scr_dates.specs.Years.{maturity_of};
-ghost use Rattle.scr_dates.specs.declared.term.Maturity.TheVariants.{TooFar};
-ghost use Rattle.scr_flow.specs.Due.{due_in};
+ghost use Rattle.scr_flow.specs.Due.{dues, paid_total, AreNear};
 
 use scr_dates::{Day, Maturity, maturity};
 
@@ -13,10 +12,10 @@ use scr_dates::{Day, Maturity, maturity};
 pub fn bucket(asof: Day, pairs: &[(Day, i64)]) -> [i64; 100]
     requires asof_in { IsDay asof.number }
     requires days_in { All (λ pair. IsDay pair.0.number) pairs.now }
-    requires near { All (λ pair. (years : ℕ) → maturity_of asof.number pair.0.number ≢ TooFar years) pairs.now }
-    requires small { sum_by (λ pair. unsigned_abs pair.1) pairs.now ≤ 50000000000000 }
-    ensures value { result ≡ map (λ years. due_in asof.number pairs.now years) (range_with_len 1 100) }
-    ensures no_larger { sum_by unsigned_abs result ≤ sum_by (λ pair. unsigned_abs pair.1) pairs.now }
+    requires near { AreNear asof.number pairs.now }
+    requires small { paid_total pairs.now ≤ 50_000_000_000_000 }
+    ensures value { result ≡ dues asof.number pairs.now }
+    ensures no_larger { sum_by unsigned_abs result ≤ paid_total pairs.now }
 {
     let mut flows = [0; 100];
     for (day, amount) in pairs {

@@ -3,11 +3,10 @@
 #![tactic(auto)]
 
 mod due;
+pub mod laws;
 mod loss;
-#[cfg(test)]
-mod tests;
 mod value;
 
 pub use due::bucket;
-pub use loss::unit_loss;
+pub use loss::{per_million, unit_loss};
 pub use value::present;

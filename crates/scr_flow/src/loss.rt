@@ -1,16 +1,22 @@
+//! What payments lose.
+
 ghost use Rattle.std.specs.Prelude.{◌≡◌, ℕ, ◌*◌, ◌≤◌, All, map, sum_by, unsigned_abs};
 ghost use Rattle.scr_num.specs.Fraction.{Fraction};
 ghost use Rattle.scr_num.specs.Figure.{Frac};
 ghost use Rattle.scr_num.specs.Rounding.{ends};
 ghost use Rattle.scr_num.specs.Enclosure.{Encloses};
 ghost use Rattle.scr_curve.specs.Parts.{AreRates};
-ghost use Rattle.scr_curve.specs.Table.{one, IsDiscount, EncloseDiscounts};
-ghost use Rattle.scr_flow.specs.Loss.{loss};
-ghost use Rattle.scr_flow.specs.Sums.{difference, differences, weighted_ends};
+ghost use Rattle.scr_curve.specs.DiscountEnds.{one, IsDiscount, EncloseDiscounts};
+ghost use Rattle.scr_flow.specs.Loss.{loss_exact};
+ghost use Rattle.scr_flow.specs.Sums.{difference};
+ghost use Rattle.scr_flow.specs.LossEnds.{loss_ends, scaled_ends};
+ghost use Rattle.scr_num.specs.Sizes.{IsWithin};
+ghost use Rattle.scr_curve.specs.declared.table.TheConstants.{MAX_DISCOUNT};
+ghost use Rattle.scr_profile.specs.declared.limits.TheConstants.{MAX_HELD};
 
 use crate::value::weighted;
 use scr_curve::Discounts;
-use scr_num::{Span, add, exact, sub};
+use scr_num::{Span, add, exact, scale, sub};
 
 /// What payments after 1 to 100 years lose where the rates `base` become `stressed`, in 10^-18 of their unit: the sum
 /// of each payment times the fall of its discount (Delegated Regulation (EU) 2015/35, Article 165). Where the two rates
@@ -23,7 +29,7 @@ pub fn unit_loss(
     stressed: &[i64; 100],
     to: &Discounts,
 ) -> Span
-    requires small { sum_by unsigned_abs flows.now ≤ 100000000000000 }
+    requires small { sum_by unsigned_abs flows.now ≤ 100_000_000_000_000 }
     requires from_in { All (λ span. IsDiscount (ends span)) from.now.at }
     requires to_in { All (λ span. IsDiscount (ends span)) to.now.at }
     requires from_encloses { (rate : ℕ → Fraction) → AreRates base.now rate
@@ -31,11 +37,11 @@ pub fn unit_loss(
     requires to_encloses { (rate : ℕ → Fraction) → AreRates stressed.now rate
         → EncloseDiscounts rate (map ends to.now.at) }
     ensures ends { ends result
-        ≡ weighted_ends flows.now (differences base.now (map ends from.now.at) stressed.now (map ends to.now.at)) }
+        ≡ loss_ends flows.now base.now (map ends from.now.at) stressed.now (map ends to.now.at) }
     ensures encloses { (before after : ℕ → Fraction) → AreRates base.now before → AreRates stressed.now after
-        → Encloses one result.low result.high (Frac (loss flows.now before after)) }
-    ensures low_size { unsigned_abs result.low ≤ 2740000000000000000 * sum_by unsigned_abs flows.now }
-    ensures high_size { unsigned_abs result.high ≤ 2740000000000000000 * sum_by unsigned_abs flows.now }
+        → Encloses one result.low result.high (Frac (loss_exact flows.now before after)) }
+    ensures low_size { unsigned_abs result.low ≤ MAX_DISCOUNT * sum_by unsigned_abs flows.now }
+    ensures high_size { unsigned_abs result.high ≤ MAX_DISCOUNT * sum_by unsigned_abs flows.now }
 {
     let mut sum = exact(0);
     for i in 0..100 {
@@ -50,12 +56,25 @@ fn fall_of(base: i64, from: Span, stressed: i64, to: Span) -> Span
     requires from_in { IsDiscount (ends from) }
     requires to_in { IsDiscount (ends to) }
     ensures ends { ends result ≡ difference base (ends from) stressed (ends to) }
-    ensures low_size { unsigned_abs result.low ≤ 2740000000000000000 }
-    ensures high_size { unsigned_abs result.high ≤ 2740000000000000000 }
+    ensures low_size { unsigned_abs result.low ≤ MAX_DISCOUNT }
+    ensures high_size { unsigned_abs result.high ≤ MAX_DISCOUNT }
 {
     if base == stressed {
         exact(0)
     } else {
         sub(from, to)
     }
+}
+
+/// What so many cents of a unit lose of which 1,000,000 lose `unit`, rounded outward, in 10^-18 cents. The whole millions
+/// and the rest are multiplied apart, since the whole product need not fit.
+pub fn per_million(unit: Span, cents: u64) -> Span
+    requires unit_in { IsWithin 13_700_000_000_000_000_000_000_000 (ends unit) }
+    requires held { cents ≤ MAX_HELD }
+    ensures ends { ends result ≡ scaled_ends (ends unit) cents }
+    ensures size { IsWithin (13_700_000_000_000_000_000 * cents) (ends result) }
+{
+    let millions = scale(unit, u128::from(cents / 1_000_000), 1);
+    let rest = scale(unit, u128::from(cents % 1_000_000), 1_000_000);
+    add(millions, rest)
 }

@@ -1,6 +1,7 @@
--- Climbing from component to holder: where nothing leads to itself, a climb meets nothing twice, so it is no longer than
--- the list of all that it can meet.
-use Rattle.std.proofs.Common.{◌≡◌, ◌⊎◌, ℕ, zero, suc, ◌<◌, ◌≤◌, Bool, true, false, IsTrue, List, [], ◌∷◌, length, Contains, refl, sym, ap, subst, ◌∙◌, inl, inr, arith}
+-- Climbing from component to holder: where nothing leads to itself, a climb meets nothing twice, so it is no longer
+-- than the list of all that it can meet.
+use Rattle.std.proofs.Common.{◌≡◌, ◌⊎◌, ℕ, zero, suc, ◌<◌, ◌≤◌, Bool, true, false, IsTrue, List, [], ◌∷◌, length}
+use Rattle.std.proofs.Common.{Contains, refl, sym, ap, subst, ◌∙◌, inl, inr, arith}
 use Rattle.std.specs.Cmp.{IsEquivalence}
 use Rattle.std.specs.List.{AllByRecursion, IsDistinct}
 use Rattle.std.specs.Set.{is_member}
@@ -11,7 +12,8 @@ use Rattle.scr_funds.proofs.Members.{IsMember, each_weaker}
 
 -- ---- a test that tells whether two are one
 
-module _ {A : Type 0} (same : A → A → Bool) (is_same : (x y : A) → IsTrue (same x y) → x ≡ y) (same_self : (x : A) → IsTrue (same x x)) where
+module _ {A : Type 0} (same : A → A → Bool) (is_same : (x y : A) → IsTrue (same x y) → x ≡ y)
+    (same_self : (x : A) → IsTrue (same x x)) where
   -- either the two are one or they are not
   pub same_or_other : {P : Type 0} (x y : A) → (same x y ≡ true → x ≡ y → P) → (same x y ≡ false → (x ≡ y → ⊥) → P) → P
   same_or_other {P} x y one two = by (same x y) refl
@@ -34,19 +36,24 @@ module _ {A : Type 0} (same : A → A → Bool) (is_same : (x y : A) → IsTrue 
 
   pub is_member-from_IsMember : (xs : List A) (x : A) → IsMember x xs → is_member same xs x ≡ true
   is_member-from_IsMember [] x m = absurd m
-  is_member-from_IsMember (y ∷ ys) x (inl e) = or_left (same x y) (is_member same ys x) (ap (same x) (sym e) ∙ same_self x)
-  is_member-from_IsMember (y ∷ ys) x (inr m) = or_right (same x y) (is_member same ys x) (is_member-from_IsMember ys x m)
+  is_member-from_IsMember (y ∷ ys) x (inl e) =
+      or_left (same x y) (is_member same ys x) (ap (same x) (sym e) ∙ same_self x)
+  is_member-from_IsMember (y ∷ ys) x (inr m) =
+      or_right (same x y) (is_member same ys x) (is_member-from_IsMember ys x m)
 
   pub IsMember-from_is_member : (xs : List A) (x : A) → is_member same xs x ≡ true → IsMember x xs
   IsMember-from_is_member [] x t = absurd (true≢false (sym t))
-  IsMember-from_is_member (y ∷ ys) x t = by (or_cases (same x y) (is_member same ys x) t) (λ k. IsMember-from_is_member ys x k)
+  IsMember-from_is_member (y ∷ ys) x t = by (or_cases (same x y) (is_member same ys x) t)
+      (λ k. IsMember-from_is_member ys x k)
     where
-      by : (same x y ≡ true) ⊎ (is_member same ys x ≡ true) → (is_member same ys x ≡ true → IsMember x ys) → IsMember x (y ∷ ys)
+      by : (same x y ≡ true) ⊎ (is_member same ys x ≡ true) → (is_member same ys x ≡ true → IsMember x ys)
+          → IsMember x (y ∷ ys)
       by (inl k) later = inl (is_same x y k)
       by (inr k) later = inr (later k)
 
   -- a list without repeats has no more than a list that has all of its own
-  pub length-le_from_members : (xs ys : List A) → IsDistinct same xs → ((x : A) → IsMember x xs → IsMember x ys) → length xs ≤ length ys
+  pub length-le_from_members : (xs ys : List A) → IsDistinct same xs → ((x : A) → IsMember x xs → IsMember x ys)
+      → length xs ≤ length ys
   length-le_from_members xs ys apart within =
       length-le_from_is_member same-equivalence xs ys apart
       (λ x t. is_member-from_IsMember ys x (within x (IsMember-from_is_member xs x t)))
@@ -60,9 +67,16 @@ module _ {A : Type 0} (same : A → A → Bool) (is_same : (x y : A) → IsTrue 
     IsClimb (top ∷ below) = AllByRecursion (LeadsTo components top) below × IsClimb below
 
     -- one step up, to a holder of the one on top
-    pub climb_on : (holder top : A) (below : List A) → Contains (components holder) top → IsClimb (top ∷ below) → IsClimb (holder ∷ (top ∷ below))
-    climb_on holder top below h climb =
-        ((([], h), each_weaker (LeadsTo components top) (LeadsTo components holder) (λ b l. (top ∷ l.0, (h, l.1))) below climb.0), climb)
+    pub climb_on : (holder top : A) (below : List A) → Contains (components holder) top → IsClimb (top ∷ below)
+        → IsClimb (holder ∷ (top ∷ below))
+    climb_on holder top below h climb = (
+      (
+        ([], h),
+        each_weaker (LeadsTo components top) (LeadsTo components holder)
+            (λ b l. (top ∷ l.0, (h, l.1))) below climb.0,
+      ),
+      climb,
+    )
 
     pub climb-distinct : IsAcyclic components → (climb : List A) → IsClimb climb → IsDistinct same climb
     unfolding IsDistinct
@@ -74,15 +88,18 @@ module _ {A : Type 0} (same : A → A → Bool) (is_same : (x y : A) → IsTrue 
       climb-distinct acyclic below h.1,
     )
 
-    pub climb-short : IsAcyclic components → (all : List A) (climb : List A) → IsClimb climb → ((x : A) → IsMember x climb → IsMember x all) → length climb ≤ length all
+    pub climb-short : IsAcyclic components → (all : List A) (climb : List A) → IsClimb climb
+        → ((x : A) → IsMember x climb → IsMember x all) → length climb ≤ length all
     climb-short acyclic all climb h within = length-le_from_members climb all (climb-distinct acyclic climb h) within
 
     -- of those that are left, not each has a holder that is left
-    module _ (acyclic : IsAcyclic components) (all : List A) (IsLeft : A → Type 0) (listed : (x : A) → IsLeft x → IsMember x all)
+    module _ (acyclic : IsAcyclic components) (all : List A) (IsLeft : A → Type 0)
+        (listed : (x : A) → IsLeft x → IsMember x all)
         (held : (x : A) → IsLeft x → (holder : A) × IsLeft holder × Contains (components holder) x) where
       -- so many steps up from one that is left
       abbrev ClimbOf : ℕ → Type 0
-      ClimbOf n = (top : A) × (below : List A) × IsClimb (top ∷ below) × ((y : A) → IsMember y (top ∷ below) → IsMember y all) × (length below ≡ n) × IsLeft top
+      ClimbOf n = (top : A) × (below : List A) × IsClimb (top ∷ below)
+          × ((y : A) → IsMember y (top ∷ below) → IsMember y all) × (length below ≡ n) × IsLeft top
 
       climb_more : (n : ℕ) → ClimbOf n → ClimbOf (suc n)
       climb_more n c = (next.0, c.0 ∷ c.1, climb_on next.0 c.0 c.1 next.2 c.2, within, ap suc c.4, next.1)
@@ -111,10 +128,12 @@ module _ {A : Type 0} (same : A → A → Bool) (is_same : (x y : A) → IsTrue 
 
 -- ---- ranks
 
-module _ {A : Type 0} (components : A → List A) (rank : A → ℕ) (falls : (a c : A) → Contains (components a) c → rank c < rank a) where
+module _ {A : Type 0} (components : A → List A) (rank : A → ℕ)
+    (falls : (a c : A) → Contains (components a) c → rank c < rank a) where
   chain-falls : (a : A) (between : List A) (b : A) → IsChain components a between b → rank b < rank a
   chain-falls a [] b h = falls a b h
-  chain-falls a (c ∷ cs) b h = let first : rank c < rank a = falls a c h.0 in let later : rank b < rank c = chain-falls c cs b h.1 in omega arith
+  chain-falls a (c ∷ cs) b h = let first : rank c < rank a = falls a c h.0 in let later : rank b < rank c =
+      chain-falls c cs b h.1 in omega arith
 
   -- where a rank falls from holder to component, nothing leads to itself
   pub acyclic-by_rank : IsAcyclic components

@@ -1,16 +1,19 @@
 -- What becomes of chains where the components of one holder change.
-use Rattle.std.proofs.Common.{◌≡◌, ◌≢◌, ◌⊎◌, List, [], ◌∷◌, ◌++◌, length, Contains, sym, ap, subst, ◌∙◌, inl, inr, arith}
+use Rattle.std.proofs.Common.{◌≡◌, ◌≢◌, ◌⊎◌, List, [], ◌∷◌, ◌++◌, length, Contains, sym, ap, subst, ◌∙◌, inl, inr}
+use Rattle.std.proofs.Common.{arith}
 use Rattle.scr_funds.specs.Chains.{IsMetBefore, IsChain, LeadsTo, IsAcyclic, ComesEarlier, IsFirstShortest}
 use Rattle.scr_funds.proofs.Members.{met_before-trans, not_before_itself}
 
 -- a chain on from the end of another
-pub joined : {A : Type 0} (components : A → List A) (a : A) (cs : List A) (b : A) (ds : List A) (c : A) → IsChain components a cs b → IsChain components b ds c → IsChain components a (cs ++ b ∷ ds) c
+pub joined : {A : Type 0} (components : A → List A) (a : A) (cs : List A) (b : A) (ds : List A) (c : A)
+    → IsChain components a cs b → IsChain components b ds c → IsChain components a (cs ++ b ∷ ds) c
 joined components a [] b ds c h k = (h, k)
 joined components a (x ∷ cs) b ds c h k = (h.0, joined components x cs b ds c h.1 k)
 
 module _ {A : Type 0} (old new : A → List A) where
   -- where each component is one of before, so is each chain
-  pub chain_weaker : ((a c : A) → Contains (new a) c → Contains (old a) c) → (a : A) (cs : List A) (b : A) → IsChain new a cs b → IsChain old a cs b
+  pub chain_weaker : ((a c : A) → Contains (new a) c → Contains (old a) c) → (a : A) (cs : List A) (b : A)
+      → IsChain new a cs b → IsChain old a cs b
   chain_weaker f a [] b h = f a b h
   chain_weaker f a (c ∷ cs) b h = (f a c h.0, chain_weaker f c cs b h.1)
 
@@ -69,18 +72,27 @@ module _ {A : Type 0} (components : A → List A) where
   not_both_earlier : (a : A) (cs ds : List A) → ComesEarlier components a cs ds → ComesEarlier components a ds cs → ⊥
   not_both_earlier a [] ds h k = h
   not_both_earlier a (c ∷ cs) [] h k = h
-  not_both_earlier a (c ∷ cs) (d ∷ ds) (inl h) (inl k) = not_before_itself (components a) c (met_before-trans (components a) c d c h k)
-  not_both_earlier a (c ∷ cs) (d ∷ ds) (inl h) (inr k) = not_before_itself (components a) c (subst (IsMetBefore (components a) c) k.0 h)
-  not_both_earlier a (c ∷ cs) (d ∷ ds) (inr h) (inl k) = not_before_itself (components a) d (subst (IsMetBefore (components a) d) h.0 k)
-  not_both_earlier a (c ∷ cs) (d ∷ ds) (inr h) (inr k) = not_both_earlier c cs ds h.1 (subst (λ x. ComesEarlier components x ds cs) k.0 k.1)
+  not_both_earlier a (c ∷ cs) (d ∷ ds) (inl h) (inl k) =
+      not_before_itself (components a) c (met_before-trans (components a) c d c h k)
+  not_both_earlier a (c ∷ cs) (d ∷ ds) (inl h) (inr k) =
+      not_before_itself (components a) c (subst (IsMetBefore (components a) c) k.0 h)
+  not_both_earlier a (c ∷ cs) (d ∷ ds) (inr h) (inl k) =
+      not_before_itself (components a) d (subst (IsMetBefore (components a) d) h.0 k)
+  not_both_earlier a (c ∷ cs) (d ∷ ds) (inr h) (inr k) =
+      not_both_earlier c cs ds h.1 (subst (λ x. ComesEarlier components x ds cs) k.0 k.1)
 
-  pub one_first_shortest : (a b : A) (path other : List A) → IsFirstShortest components a b path → IsFirstShortest components a b other → path ≡ other
-  one_first_shortest a b path other p q = p.whole ∙ ap (λ cs. a ∷ (cs ++ b ∷ [])) (by (p.first q.between q.chain longer) (q.first p.between p.chain (sym longer))) ∙ sym q.whole
+  pub one_first_shortest : (a b : A) (path other : List A) → IsFirstShortest components a b path
+      → IsFirstShortest components a b other → path ≡ other
+  one_first_shortest a b path other p q = p.whole
+      ∙ ap (λ cs. a ∷ (cs ++ b ∷ [])) (by (p.first q.between q.chain longer) (q.first p.between p.chain (sym longer)))
+      ∙ sym q.whole
     where
       longer : length q.between ≡ length p.between
-      longer = let one = p.shortest q.between q.chain in let two = q.shortest p.between p.chain in omega (arith, one, two)
+      longer = let one = p.shortest q.between q.chain in let two = q.shortest p.between p.chain in
+          omega (arith, one, two)
 
-      by : (q.between ≡ p.between) ⊎ ComesEarlier components a p.between q.between → (p.between ≡ q.between) ⊎ ComesEarlier components a q.between p.between → p.between ≡ q.between
+      by : (q.between ≡ p.between) ⊎ ComesEarlier components a p.between q.between
+          → (p.between ≡ q.between) ⊎ ComesEarlier components a q.between p.between → p.between ≡ q.between
       by (inl e) k = sym e
       by (inr h) (inl e) = e
       by (inr h) (inr k) = absurd (not_both_earlier a p.between q.between h k)

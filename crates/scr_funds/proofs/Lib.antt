@@ -2,6 +2,8 @@ pub mod Members
 pub mod Trails
 pub mod Explored
 pub mod Entries
+pub mod Inner
+pub mod Marks
 pub mod Traces
 pub mod Cycles
 pub mod Rows
@@ -14,6 +16,7 @@ pub mod Climbs
 pub mod LookThroughLaws
 pub mod NamedTotals
 pub mod SplitSums
+pub mod BoundedTotals
 pub mod Ranges
 pub mod HandedOut
 pub mod RowSteps

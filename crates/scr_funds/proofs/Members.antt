@@ -1,5 +1,7 @@
 -- Membership in a list, by recursion, and what holds of each member.
-use Rattle.std.proofs.Common.{◌≡◌, ◌⊎◌, ℕ, ◌<◌, ◌≤◌, suc, zero, true, false, nat_eq, ◌||◌, List, [], ◌∷◌, ◌++◌, map, length, get_or, All, Contains, Some, slice_get, refl, sym, ap, subst, ◌∙◌, inl, inr, arith}
+use Rattle.std.proofs.Common.{◌≡◌, ◌⊎◌, ℕ, ◌<◌, ◌≤◌, suc, zero, true, false, nat_eq, ◌||◌, List, [], ◌∷◌, ◌++◌, map}
+use Rattle.std.proofs.Common.{length, get_or, All, Contains, Some, slice_get, refl, sym, ap, subst, ◌∙◌, inl, inr}
+use Rattle.std.proofs.Common.{arith}
 use Rattle.std.specs.List.{AllByRecursion, list_any}
 use Rattle.std.proofs.lemmas.Bool.{cases_lt, true≢false}
 use Rattle.std.proofs.lemmas.Bool.Decides.{eqb_tells}
@@ -56,7 +58,8 @@ module _ {A : Type 0} where
   each_push P [] x all p = (p, tt)
   each_push P (y ∷ ys) x all p = (all.0, each_push P ys x all.1 p)
 
-  pub each_weaker : (P Q : A → Type 0) → ((x : A) → P x → Q x) → (xs : List A) → AllByRecursion P xs → AllByRecursion Q xs
+  pub each_weaker : (P Q : A → Type 0) → ((x : A) → P x → Q x) → (xs : List A) → AllByRecursion P xs
+      → AllByRecursion Q xs
   each_weaker P Q f [] all = tt
   each_weaker P Q f (y ∷ ys) all = (f y all.0, each_weaker P Q f ys all.1)
 
@@ -65,10 +68,12 @@ module _ {A : Type 0} where
   each-from_members P (x ∷ xs) f = (f x (inl refl), each-from_members P xs (λ y m. f y (inr m)))
 
   pub All-from_members : (P : A → Type 0) (xs : List A) → ((x : A) → IsMember x xs → P x) → All P xs
-  All-from_members P xs f = λ k d l. f (get_or xs k d) (IsMember-from_Contains xs (get_or xs k d) (Contains-get_or xs k d l))
+  All-from_members P xs f = λ k d l. f (get_or xs k d)
+      (IsMember-from_Contains xs (get_or xs k d) (Contains-get_or xs k d l))
 
   -- a member of a mapped list comes from one of the list
-  pub IsMember-map : {B : Type 0} (f : B → A) (xs : List B) (y : A) → IsMember y (map f xs) → (x : B) × IsMember x xs × (f x ≡ y)
+  pub IsMember-map : {B : Type 0} (f : B → A) (xs : List B) (y : A) → IsMember y (map f xs)
+      → (x : B) × IsMember x xs × (f x ≡ y)
   IsMember-map f [] y h = absurd h
   IsMember-map f (x ∷ xs) y (inl e) = (x, inl refl, sym e)
   IsMember-map f (x ∷ xs) y (inr h) = let later = IsMember-map f xs y h in (later.0, inr later.1, later.2)
@@ -79,7 +84,8 @@ module _ {A : Type 0} where
   IsMember-mapped f (y ∷ ys) x (inr h) = inr (IsMember-mapped f ys x h)
 
   -- a member of the front is met before what is none of it
-  pub met_in_front : (front rest : List A) (c d : A) → IsMember c front → (IsMember d front → ⊥) → IsMetBefore (front ++ rest) c d
+  pub met_in_front : (front rest : List A) (c d : A) → IsMember c front → (IsMember d front → ⊥)
+      → IsMetBefore (front ++ rest) c d
   met_in_front [] rest c d h apart = absurd h
   met_in_front (z ∷ zs) rest c d (inl e) apart = (0, ap Some (sym e), before)
     where
@@ -90,7 +96,8 @@ module _ {A : Type 0} where
       let later = met_in_front zs rest c d h (λ k. apart (inr k)) in
       (suc later.0, later.1, before later.0 later.2)
     where
-      before : (i : ℕ) → ((j : ℕ) → j ≤ i → slice_get (zs ++ rest) j ≡ Some d → ⊥) → (j : ℕ) → j ≤ suc i → slice_get (z ∷ (zs ++ rest)) j ≡ Some d → ⊥
+      before : (i : ℕ) → ((j : ℕ) → j ≤ i → slice_get (zs ++ rest) j ≡ Some d → ⊥) → (j : ℕ) → j ≤ suc i
+          → slice_get (z ∷ (zs ++ rest)) j ≡ Some d → ⊥
       before i none zero l k = apart (inl (let same : z ≡ d = cc in sym same))
       before i none (suc j) l k = none j (omega arith) k
 
@@ -109,14 +116,16 @@ not_before_itself xs c h = h.2 h.0 (omega arith) h.1
 any-here : (x y : ℕ) (ys : List ℕ) → nat_eq y x ≡ true → list_any (λ z. nat_eq z x) (y ∷ ys) ≡ true
 any-here x y ys e = ap (λ b. b || list_any (λ z. nat_eq z x) ys) e
 
-any-later : (x y : ℕ) (ys : List ℕ) → nat_eq y x ≡ false → list_any (λ z. nat_eq z x) (y ∷ ys) ≡ list_any (λ z. nat_eq z x) ys
+any-later : (x y : ℕ) (ys : List ℕ) → nat_eq y x ≡ false
+    → list_any (λ z. nat_eq z x) (y ∷ ys) ≡ list_any (λ z. nat_eq z x) ys
 any-later x y ys e = ap (λ b. b || list_any (λ z. nat_eq z x) ys) e
 
 IsMember-any : (xs : List ℕ) (x : ℕ) → list_any (λ y. nat_eq y x) xs ≡ true → IsMember x xs
 IsMember-any [] x h = absurd (true≢false (sym h))
 IsMember-any (y ∷ ys) x h = by (eqb_tells y x) (λ e. IsMember-any ys x (sym (any-later x y ys e) ∙ h))
   where
-    by : ((nat_eq y x ≡ true) × (y ≡ x)) ⊎ ((nat_eq y x ≡ false) × (y ≡ x → ⊥)) → (nat_eq y x ≡ false → IsMember x ys) → IsMember x (y ∷ ys)
+    by : ((nat_eq y x ≡ true) × (y ≡ x)) ⊎ ((nat_eq y x ≡ false) × (y ≡ x → ⊥)) → (nat_eq y x ≡ false → IsMember x ys)
+        → IsMember x (y ∷ ys)
     by (inl t) later = inl (sym t.1)
     by (inr f) later = inr (later f.0)
 
@@ -124,7 +133,8 @@ not_member-any : (xs : List ℕ) (x : ℕ) → list_any (λ y. nat_eq y x) xs �
 not_member-any [] x h m = absurd m
 not_member-any (y ∷ ys) x h m = by (eqb_tells y x) m (λ e. not_member-any ys x (sym (any-later x y ys e) ∙ h))
   where
-    by : ((nat_eq y x ≡ true) × (y ≡ x)) ⊎ ((nat_eq y x ≡ false) × (y ≡ x → ⊥)) → IsMember x (y ∷ ys) → (nat_eq y x ≡ false → IsMember x ys → ⊥) → ⊥
+    by : ((nat_eq y x ≡ true) × (y ≡ x)) ⊎ ((nat_eq y x ≡ false) × (y ≡ x → ⊥)) → IsMember x (y ∷ ys)
+        → (nat_eq y x ≡ false → IsMember x ys → ⊥) → ⊥
     by (inl t) k later = true≢false (sym (any-here x y ys t.0) ∙ h)
     by (inr f) (inl k) later = f.1 (sym k)
     by (inr f) (inr k) later = later f.0 k

@@ -1,11 +1,16 @@
 -- The components of all funds, as rows that are put in and taken off.
-use Rattle.std.proofs.Common.{◌≡◌, ◌≢◌, ◌⊎◌, ◌↔◌, ℕ, ◌+◌, ◌-◌, ◌<◌, ◌≤◌, max, true, false, nat_eq, if◌then◌else◌, List, [], ◌∷◌, ◌++◌, length, replicate, fold, Contains, refl, sym, ap, subst, ◌∙◌, inl, inr, arith}
+use Rattle.std.proofs.Common.{◌≡◌, ◌≢◌, ◌⊎◌, ◌↔◌, ℕ, ◌+◌, ◌-◌, ◌<◌, ◌≤◌, max, true, false, nat_eq, if◌then◌else◌, List}
+use Rattle.std.proofs.Common.{[], ◌∷◌, ◌++◌, length, replicate, fold, Contains, refl, sym, ap, subst, ◌∙◌, inl, inr}
+use Rattle.std.proofs.Common.{arith}
 use Rattle.std.proofs.lemmas.Bool.{cases_lt, cases_eq, eq-eqb}
 use Rattle.std.proofs.lemmas.Bool.Decides.{eqb_tells}
-use Rattle.std.proofs.lemmas.List.{get_or-set_same, get_or-set_other, get_or_append_left, get_or-append_right, get_or_past, length-append, length-replicate, length-set, set-set, set-get_or, get_or-replicate, set_past}
+use Rattle.std.proofs.lemmas.List.{get_or-set_same, get_or-set_other, get_or_append_left, get_or-append_right}
+use Rattle.std.proofs.lemmas.List.{get_or_past, length-append, length-replicate, length-set, set-set, set-get_or}
+use Rattle.std.proofs.lemmas.List.{get_or-replicate, set_past}
 use Rattle.scr_funds.specs.Chains.{IsChain, LeadsTo, IsAcyclic}
 use Rattle.std.proofs.lemmas.List.Elements.{All-nil, All-weaker}
-use Rattle.scr_funds.specs.Components.{AreBelow, IsOrder, Components, components_of, components_with, with_components, with_edges, grown, number_above, size_of}
+use Rattle.scr_funds.specs.Components.{AreBelow, IsOrder, Components, components_of, components_with, with_components}
+use Rattle.scr_funds.specs.Components.{with_edges, grown, number_above, size_of}
 use Rattle.scr_funds.proofs.Members.{IsMember, IsMember-from_Contains, All-from_members}
 use Rattle.scr_funds.proofs.Cycles.{acyclic_weaker, acyclic_still, chain_weaker, leads_before}
 
@@ -20,10 +25,12 @@ components_of-replicate n fund = by (cases_lt fund n)
 
     by : (fund < n) ⊎ (n ≤ fund) → components_of (replicate n none) fund ≡ none
     by (inl l) = get_or-replicate n fund none none l
-    by (inr l) = let count : length (replicate n none) ≡ n = length-replicate n none in get_or_past (replicate n none) fund none (omega arith)
+    by (inr l) = let count : length (replicate n none) ≡ n = length-replicate n none in
+        get_or_past (replicate n none) fund none (omega arith)
 
 -- places that are new have none
-pub components_of-grown : (size : ℕ) (all : Components) (fund : ℕ) → components_of (grown size all) fund ≡ components_of all fund
+pub components_of-grown : (size : ℕ) (all : Components) (fund : ℕ)
+    → components_of (grown size all) fund ≡ components_of all fund
 components_of-grown size all fund = by (cases_lt fund (length all))
   where
     rest : Components
@@ -31,7 +38,8 @@ components_of-grown size all fund = by (cases_lt fund (length all))
 
     by : (fund < length all) ⊎ (length all ≤ fund) → components_of (all ++ rest) fund ≡ components_of all fund
     by (inl l) = get_or_append_left all rest [] fund l
-    by (inr l) = get_or-append_right all rest (length all) fund [] refl l ∙ components_of-replicate (size - length all) (fund - length all) ∙ sym (get_or_past all fund [] l)
+    by (inr l) = get_or-append_right all rest (length all) fund [] refl l
+        ∙ components_of-replicate (size - length all) (fund - length all) ∙ sym (get_or_past all fund [] l)
 
 pub size_of-grown : (size : ℕ) (all : Components) → size_of (grown size all) ≡ max size (size_of all)
 size_of-grown size all = length-append all rest ∙ ap (λ n. length all + n) new ∙ most (length all)
@@ -49,22 +57,26 @@ size_of-grown size all = length-append all rest ∙ ap (λ n. length all + n) ne
     most n = omega arith
 
 module _ (from : ℕ) (members : List ℕ) (all : Components) where
-  with-own : components_with from members all from ≡ members
+  pub with-own : components_with from members all from ≡ members
   with-own = ap (λ b. if b then members else components_of all from) (eq-eqb from from refl)
 
   pub with-other : (fund : ℕ) → fund ≢ from → components_with from members all fund ≡ components_of all fund
   with-other fund other = by (eqb_tells fund from)
     where
-      by : ((nat_eq fund from ≡ true) × (fund ≡ from)) ⊎ ((nat_eq fund from ≡ false) × (fund ≡ from → ⊥)) → components_with from members all fund ≡ components_of all fund
+      by : ((nat_eq fund from ≡ true) × (fund ≡ from)) ⊎ ((nat_eq fund from ≡ false) × (fund ≡ from → ⊥))
+          → components_with from members all fund ≡ components_of all fund
       by (inl t) = absurd (other t.1)
       by (inr f) = ap (λ b. if b then members else components_of all fund) f.0
 
-  pub components_of-with_components : from < size_of all → (fund : ℕ) → components_of (with_components from members all) fund ≡ components_with from members all fund
+  pub components_of-with_components : from < size_of all → (fund : ℕ)
+      → components_of (with_components from members all) fund ≡ components_with from members all fund
   components_of-with_components l fund = by (cases_eq fund from)
     where
-      by : (fund ≡ from) ⊎ (fund ≡ from → ⊥) → components_of (with_components from members all) fund ≡ components_with from members all fund
+      by : (fund ≡ from) ⊎ (fund ≡ from → ⊥) → components_of (with_components from members all) fund
+          ≡ components_with from members all fund
       by (inl e) =
-          ap (components_of (with_components from members all)) e ∙ get_or-set_same all from members [] l ∙ sym with-own ∙ ap (components_with from members all) (sym e)
+          ap (components_of (with_components from members all)) e ∙ get_or-set_same all from members [] l ∙ sym with-own
+          ∙ ap (components_with from members all) (sym e)
       by (inr n) = get_or-set_other all from fund members [] n ∙ sym (with-other fund n)
 
   -- a fund's own components put in once more
@@ -79,17 +91,25 @@ module _ (from : ℕ) (members : List ℕ) (all : Components) where
           by (inr n) = with-other fund n
 
   -- a fund without components would lead to itself exactly where one that it gets is the fund or leads back to it
-  pub leads_back : components_of all from ≡ [] → LeadsTo (components_with from members all) from from → (member : ℕ) × Contains members member × ((member ≡ from) ⊎ LeadsTo (components_of all) member from)
+  pub leads_back : components_of all from ≡ [] → LeadsTo (components_with from members all) from from
+      → (member : ℕ) × Contains members member × ((member ≡ from) ⊎ LeadsTo (components_of all) member from)
   leads_back none (cs, chain) = by cs chain
     where
       next : ℕ → List ℕ
       next = components_with from members all
 
-      by : (cs : List ℕ) → IsChain next from cs from → (member : ℕ) × Contains members member × ((member ≡ from) ⊎ LeadsTo (components_of all) member from)
+      by : (cs : List ℕ) → IsChain next from cs from
+          → (member : ℕ) × Contains members member × ((member ≡ from) ⊎ LeadsTo (components_of all) member from)
       by [] h = (from, subst (λ row. Contains row from) with-own h, inl refl)
-      by (c ∷ cs) h = (c, subst (λ row. Contains row c) with-own h.0, leads_before (components_of all) next from (λ x. cases_eq x from) with-other c cs h.1)
+      by (c ∷ cs) h = (
+        c,
+        subst (λ row. Contains row c) with-own h.0,
+        leads_before (components_of all) next from (λ x. cases_eq x from) with-other c cs h.1,
+      )
 
-  pub led_back : components_of all from ≡ [] → ((member : ℕ) × Contains members member × ((member ≡ from) ⊎ LeadsTo (components_of all) member from)) → LeadsTo (components_with from members all) from from
+  pub led_back : components_of all from ≡ []
+      → ((member : ℕ) × Contains members member × ((member ≡ from) ⊎ LeadsTo (components_of all) member from))
+      → LeadsTo (components_with from members all) from from
   led_back none (m, in', back) = by back
     where
       next : ℕ → List ℕ
@@ -99,7 +119,8 @@ module _ (from : ℕ) (members : List ℕ) (all : Components) where
       stays a c h = each (cases_eq a from)
         where
           each : (a ≡ from) ⊎ (a ≡ from → ⊥) → Contains (next a) c
-          each (inl e) = absurd (IsMember-from_Contains [] c (subst (λ row. Contains row c) (ap (components_of all) e ∙ none) h))
+          each (inl e) =
+              absurd (IsMember-from_Contains [] c (subst (λ row. Contains row c) (ap (components_of all) e ∙ none) h))
           each (inr n) = subst (λ row. Contains row c) (sym (with-other a n)) h
 
       first : Contains (next from) m
@@ -114,11 +135,13 @@ module _ (from : ℕ) (members : List ℕ) (all : Components) where
 -- the number is above the fund and each member
 pub above_first : (fund : ℕ) (members : List ℕ) → fund ≤ fold max fund members
 above_first fund [] = omega arith
-above_first fund (m ∷ ms) = let later : max fund m ≤ fold max (max fund m) ms = above_first (max fund m) ms in omega arith
+above_first fund (m ∷ ms) = let later : max fund m ≤ fold max (max fund m) ms = above_first (max fund m) ms in
+    omega arith
 
-above_members : (fund : ℕ) (members : List ℕ) (m : ℕ) → IsMember m members → m ≤ fold max fund members
+pub above_members : (fund : ℕ) (members : List ℕ) (m : ℕ) → IsMember m members → m ≤ fold max fund members
 above_members fund [] m h = absurd h
-above_members fund (x ∷ xs) m (inl e) = let later : max fund x ≤ fold max (max fund x) xs = above_first (max fund x) xs in omega arith
+above_members fund (x ∷ xs) m (inl e) = let later : max fund x ≤ fold max (max fund x) xs =
+    above_first (max fund x) xs in omega arith
 above_members fund (x ∷ xs) m (inr h) = above_members (max fund x) xs m h
 
 module _ (from : ℕ) (members : List ℕ) (all : Components) where
@@ -126,12 +149,15 @@ module _ (from : ℕ) (members : List ℕ) (all : Components) where
   wide = grown (number_above from members) all
 
   pub size_of-with_edges : size_of (with_edges from members all) ≡ max (number_above from members) (size_of all)
-  size_of-with_edges = length-set (grown (number_above from members) all) from members ∙ size_of-grown (number_above from members) all
+  size_of-with_edges = length-set (grown (number_above from members) all) from members
+      ∙ size_of-grown (number_above from members) all
 
-  pub components_of-with_edges : (fund : ℕ) → components_of (with_edges from members all) fund ≡ components_with from members all fund
+  pub components_of-with_edges : (fund : ℕ)
+      → components_of (with_edges from members all) fund ≡ components_with from members all fund
   components_of-with_edges fund =
       let first : from ≤ fold max from members = above_first from members in
-      let size : length (grown (number_above from members) all) ≡ max (fold max from members + 1) (length all) = size_of-grown (number_above from members) all in
+      let size : length (grown (number_above from members) all) ≡ max (fold max from members + 1) (length all) =
+      size_of-grown (number_above from members) all in
       components_of-with_components from members (grown (number_above from members) all) (omega arith) fund
       ∙ ap (λ row. if nat_eq fund from then members else row) (components_of-grown (number_above from members) all fund)
 
@@ -146,11 +172,14 @@ module _ (from : ℕ) (members : List ℕ) (all : Components) where
     λ h. subst (λ next. LeadsTo next from from) (sym with_edges-is) (led_back from members all none h),
   )
 
-  pub order_added : IsOrder all → (LeadsTo (components_with from members all) from from → ⊥) → IsOrder (with_edges from members all)
+  pub order_added : IsOrder all → (LeadsTo (components_with from members all) from from → ⊥)
+      → IsOrder (with_edges from members all)
   order_added h apart = record {
     acyclic = subst IsAcyclic (sym with_edges-is)
-        (acyclic_still (components_of all) (components_with from members all) from (λ x. cases_eq x from) (with-other from members all) h.acyclic apart);
-    below = λ fund. subst (AreBelow (size_of (with_edges from members all)) fund) (sym (components_of-with_edges fund)) (below fund);
+        (acyclic_still (components_of all) (components_with from members all) from (λ x. cases_eq x from)
+        (with-other from members all) h.acyclic apart);
+    below = λ fund. subst (AreBelow (size_of (with_edges from members all)) fund) (sym (components_of-with_edges fund))
+        (below fund);
   }
     where
       size : size_of (with_edges from members all) ≡ max (fold max from members + 1) (length all)
@@ -160,28 +189,40 @@ module _ (from : ℕ) (members : List ℕ) (all : Components) where
       first = above_first from members
 
       own : AreBelow (size_of (with_edges from members all)) from members
-      own = All-from_members (λ m. (from < size_of (with_edges from members all)) × (m < size_of (with_edges from members all))) members
-          (λ m k. let l : m ≤ fold max from members = above_members from members m k in (omega (arith, size, first), omega (arith, size)))
+      own = All-from_members
+          (λ m. (from < size_of (with_edges from members all)) × (m < size_of (with_edges from members all))) members
+          (λ m k. let l : m ≤ fold max from members = above_members from members m k in
+          (omega (arith, size, first), omega (arith, size)))
 
       old : (fund : ℕ) → AreBelow (size_of (with_edges from members all)) fund (components_of all fund)
-      old fund = All-weaker (λ m. (fund < size_of all) × (m < size_of all)) (λ m. (fund < size_of (with_edges from members all)) × (m < size_of (with_edges from members all)))
-          (λ m k. let a : fund < length all = k.0 in let b : m < length all = k.1 in (omega (arith, size), omega (arith, size))) (components_of all fund) (h.below fund)
+      old fund = All-weaker (λ m. (fund < size_of all) × (m < size_of all))
+          (λ m. (fund < size_of (with_edges from members all)) × (m < size_of (with_edges from members all)))
+          (λ m k. let a : fund < length all = k.0 in let b : m < length all = k.1 in
+          (omega (arith, size), omega (arith, size))) (components_of all fund) (h.below fund)
 
       below : (fund : ℕ) → AreBelow (size_of (with_edges from members all)) fund (components_with from members all fund)
       below fund = by (cases_eq fund from)
         where
-          by : (fund ≡ from) ⊎ (fund ≡ from → ⊥) → AreBelow (size_of (with_edges from members all)) fund (components_with from members all fund)
-          by (inl e) = subst (λ f. AreBelow (size_of (with_edges from members all)) f (components_with from members all f)) (sym e) (subst (AreBelow (size_of (with_edges from members all)) from) (sym (with-own from members all)) own)
-          by (inr n) = subst (AreBelow (size_of (with_edges from members all)) fund) (sym (with-other from members all fund n)) (old fund)
+          by : (fund ≡ from) ⊎ (fund ≡ from → ⊥) → AreBelow (size_of (with_edges from members all)) fund
+              (components_with from members all fund)
+          by (inl e) =
+              subst (λ f. AreBelow (size_of (with_edges from members all)) f (components_with from members all f))
+              (sym e) (subst (AreBelow (size_of (with_edges from members all)) from)
+              (sym (with-own from members all)) own)
+          by (inr n) = subst (AreBelow (size_of (with_edges from members all)) fund)
+              (sym (with-other from members all fund n)) (old fund)
 
 -- ---- edges taken off and put back
 
 module _ (from : ℕ) (all : Components) where
   -- what is left was there
-  removed_or_same : (fund : ℕ) → (components_of (with_components from [] all) fund ≡ []) ⊎ (components_of (with_components from [] all) fund ≡ components_of all fund)
+  pub removed_or_same : (fund : ℕ) → (components_of (with_components from [] all) fund ≡ [])
+      ⊎ (components_of (with_components from [] all) fund ≡ components_of all fund)
   removed_or_same fund = by (cases_eq fund from) (cases_lt from (length all))
     where
-      by : (fund ≡ from) ⊎ (fund ≡ from → ⊥) → (from < length all) ⊎ (length all ≤ from) → (components_of (with_components from [] all) fund ≡ []) ⊎ (components_of (with_components from [] all) fund ≡ components_of all fund)
+      by : (fund ≡ from) ⊎ (fund ≡ from → ⊥) → (from < length all) ⊎ (length all ≤ from)
+          → (components_of (with_components from [] all) fund ≡ [])
+          ⊎ (components_of (with_components from [] all) fund ≡ components_of all fund)
       by (inl e) (inl l) = inl (ap (components_of (with_components from [] all)) e ∙ get_or-set_same all from [] [] l)
       by (inl e) (inr l) = inr (ap (λ rows. components_of rows fund) (set_past all from [] l))
       by (inr n) l = inr (get_or-set_other all from fund [] [] n)
@@ -189,18 +230,23 @@ module _ (from : ℕ) (all : Components) where
   pub order_removed : IsOrder all → IsOrder (with_components from [] all)
   order_removed h = record {
     acyclic = acyclic_weaker (components_of all) (components_of (with_components from [] all)) left h.acyclic;
-    below = λ fund. subst (λ size. AreBelow size fund (components_of (with_components from [] all) fund)) (sym (length-set all from [])) (below fund (removed_or_same fund));
+    below = λ fund. subst (λ size. AreBelow size fund (components_of (with_components from [] all) fund))
+        (sym (length-set all from [])) (below fund (removed_or_same fund));
   }
     where
       left : (a c : ℕ) → Contains (components_of (with_components from [] all) a) c → Contains (components_of all a) c
       left a c k = by (removed_or_same a)
         where
-          by : (components_of (with_components from [] all) a ≡ []) ⊎ (components_of (with_components from [] all) a ≡ components_of all a) → Contains (components_of all a) c
+          by : (components_of (with_components from [] all) a ≡ [])
+              ⊎ (components_of (with_components from [] all) a ≡ components_of all a) → Contains (components_of all a) c
           by (inl e) = absurd (IsMember-from_Contains [] c (subst (λ row. Contains row c) e k))
           by (inr e) = subst (λ row. Contains row c) e k
 
-      below : (fund : ℕ) → (components_of (with_components from [] all) fund ≡ []) ⊎ (components_of (with_components from [] all) fund ≡ components_of all fund) → AreBelow (size_of all) fund (components_of (with_components from [] all) fund)
-      below fund (inl e) = subst (AreBelow (size_of all) fund) (sym e) (All-nil (λ m. (fund < size_of all) × (m < size_of all)))
+      below : (fund : ℕ) → (components_of (with_components from [] all) fund ≡ [])
+          ⊎ (components_of (with_components from [] all) fund ≡ components_of all fund)
+          → AreBelow (size_of all) fund (components_of (with_components from [] all) fund)
+      below fund (inl e) = subst (AreBelow (size_of all) fund) (sym e)
+          (All-nil (λ m. (fund < size_of all) × (m < size_of all)))
       below fund (inr e) = subst (AreBelow (size_of all) fund) (sym e) (h.below fund)
 
   -- taken off and put back
@@ -223,15 +269,20 @@ module _ (from : ℕ) (edges : List ℕ) (all : Components) (below : AreBelow (s
       by [] b = none_left from all
       by (e ∷ es) b = get_or-set_same all from (e ∷ es) [] ((b 0 e (omega arith)).0)
 
-  pub order_put_back : IsOrder all → IsAcyclic (components_of (with_components from edges all)) → IsOrder (with_components from edges all)
+  pub order_put_back : IsOrder all → IsAcyclic (components_of (with_components from edges all))
+      → IsOrder (with_components from edges all)
   order_put_back h acyclic = record {
     acyclic = acyclic;
-    below = λ fund. subst (λ size. AreBelow size fund (components_of (with_components from edges all) fund)) (sym (length-set all from edges)) (each fund (cases_eq fund from));
+    below = λ fund. subst (λ size. AreBelow size fund (components_of (with_components from edges all) fund))
+        (sym (length-set all from edges)) (each fund (cases_eq fund from));
   }
     where
-      each : (fund : ℕ) → (fund ≡ from) ⊎ (fund ≡ from → ⊥) → AreBelow (size_of all) fund (components_of (with_components from edges all) fund)
-      each fund (inl e) = subst (λ f. AreBelow (size_of all) f (components_of (with_components from edges all) f)) (sym e) (subst (AreBelow (size_of all) from) (sym edges_put_back) below)
-      each fund (inr n) = subst (AreBelow (size_of all) fund) (sym (get_or-set_other all from fund edges [] n)) (h.below fund)
+      each : (fund : ℕ) → (fund ≡ from) ⊎ (fund ≡ from → ⊥)
+          → AreBelow (size_of all) fund (components_of (with_components from edges all) fund)
+      each fund (inl e) = subst (λ f. AreBelow (size_of all) f (components_of (with_components from edges all) f))
+          (sym e) (subst (AreBelow (size_of all) from) (sym edges_put_back) below)
+      each fund (inr n) = subst (AreBelow (size_of all) fund) (sym (get_or-set_other all from fund edges [] n))
+          (h.below fund)
 
 -- no fund at all
 pub order_none : IsOrder []

@@ -1,5 +1,6 @@
 -- Trails: ways on from one fund, as lists with their last step first, so that one more step is put in front.
-use Rattle.std.proofs.Common.{◌≡◌, ◌⊎◌, ◌+◌, ◌<◌, suc, List, [], ◌∷◌, ◌++◌, length, Contains, refl, sym, ap, subst, ◌∙◌, inl, inr, arith}
+use Rattle.std.proofs.Common.{◌≡◌, ◌⊎◌, ◌+◌, ◌<◌, suc, List, [], ◌∷◌, ◌++◌, length, Contains, refl, sym, ap, subst, ◌∙◌}
+use Rattle.std.proofs.Common.{inl, inr, arith}
 use Rattle.scr_funds.specs.Chains.{IsMetBefore, IsChain, ComesEarlier}
 use Rattle.scr_funds.proofs.Members.{met_before-trans}
 
@@ -14,7 +15,8 @@ onto-append (x ∷ r) cs ds = onto-append r (x ∷ cs) ds
 
 pub length-onto : {A : Type 0} (r cs : List A) → length (onto r cs) ≡ length r + length cs
 length-onto [] cs = omega arith
-length-onto (x ∷ r) cs = let rest : length (onto r (x ∷ cs)) ≡ length r + length (x ∷ cs) = length-onto r (x ∷ cs) in omega arith
+length-onto (x ∷ r) cs = let rest : length (onto r (x ∷ cs)) ≡ length r + length (x ∷ cs) = length-onto r (x ∷ cs) in
+    omega arith
 
 module _ {A : Type 0} (components : A → List A) (from : A) where
   -- where a trail ends
@@ -47,7 +49,11 @@ module _ {A : Type 0} (components : A → List A) (from : A) where
   earlier-trans (x ∷ r) (y ∷ s) (z ∷ t) (inl h) (inr k) = inl (subst (IsEarlier r) k.0 h)
   earlier-trans (x ∷ r) (y ∷ s) (z ∷ t) (inr h) (inl k) = inl (subst (λ u. IsEarlier u t) (sym h.0) k)
   earlier-trans (x ∷ r) (y ∷ s) (z ∷ t) (inr h) (inr k) =
-      inr (h.0 ∙ k.0, met_before-trans (components (tip r)) x y z h.1 (subst (λ u. IsMetBefore (components (tip u)) y z) (sym h.0) k.1))
+      inr (
+        h.0 ∙ k.0,
+        met_before-trans (components (tip r)) x y z h.1
+            (subst (λ u. IsMetBefore (components (tip u)) y z) (sym h.0) k.1),
+      )
 
   pub sooner-trans : (r s t : List A) → IsSooner r s → IsSooner s t → IsSooner r t
   sooner-trans r s t (inl h) (inl k) = inl (omega arith)
@@ -82,7 +88,8 @@ module _ {A : Type 0} (components : A → List A) (from : A) where
   -- ---- trails and chains
 
   -- a trail and a chain from its end make up a chain
-  pub chain_from_trail : (r cs : List A) (b : A) → IsTrail r → IsChain components (tip r) cs b → IsChain components from (onto r cs) b
+  pub chain_from_trail : (r cs : List A) (b : A) → IsTrail r → IsChain components (tip r) cs b
+      → IsChain components from (onto r cs) b
   chain_from_trail [] cs b trail chain = chain
   chain_from_trail (x ∷ r) cs b trail chain = chain_from_trail r (x ∷ cs) b trail.1 (trail.0, chain)
 
@@ -93,7 +100,8 @@ module _ {A : Type 0} (components : A → List A) (from : A) where
   trail_from_chain r (c ∷ cs) b trail chain = trail_from_chain (c ∷ r) cs b (chain.0, trail) chain.1
 
   -- after the same steps the order is that of what follows
-  earlier_after : (r cs ds : List A) → ComesEarlier components (tip r) cs ds → ComesEarlier components from (onto r cs) (onto r ds)
+  earlier_after : (r cs ds : List A) → ComesEarlier components (tip r) cs ds
+      → ComesEarlier components from (onto r cs) (onto r ds)
   earlier_after [] cs ds h = h
   earlier_after (x ∷ r) cs ds h = earlier_after r (x ∷ cs) (x ∷ ds) (inr (refl, h))
 
@@ -102,4 +110,5 @@ module _ {A : Type 0} (components : A → List A) (from : A) where
   comes_earlier (x ∷ r) [] cs ds h = absurd h
   comes_earlier (x ∷ r) (y ∷ s) cs ds (inl h) = comes_earlier r s (x ∷ cs) (y ∷ ds) h
   comes_earlier (x ∷ r) (y ∷ s) cs ds (inr h) =
-      subst (λ t. ComesEarlier components from (onto r (x ∷ cs)) (onto t (y ∷ ds))) h.0 (earlier_after r (x ∷ cs) (y ∷ ds) (inl h.1))
+      subst (λ t. ComesEarlier components from (onto r (x ∷ cs)) (onto t (y ∷ ds))) h.0
+      (earlier_after r (x ∷ cs) (y ∷ ds) (inl h.1))

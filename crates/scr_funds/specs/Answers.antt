@@ -1,6 +1,6 @@
--- What is answered where edges are to be added (this project's own), with `components` as they would be: no fault where the
--- fund does not lead to itself, and else the first shortest chain by which it does. Want of memory may come in place of
--- either.
+-- What is answered where edges are to be added (this project's own), with `components` as they would be: no fault where
+-- the fund does not lead to itself, and else the first shortest chain by which it does. Want of memory may come in
+-- place of either.
 use Rattle.std.specs.Prelude.{ℕ, List, Result, Ok, Err}
 use Rattle.scr_funds.specs.Chains.{LeadsTo, IsFirstShortest}
 use Rattle.scr_funds.specs.declared.fault.OrderFault.{OrderFault}

@@ -1,4 +1,5 @@
--- Holders by numbers (this project's own): the funds come first, in the order of their rows, and the securities after them.
+-- Holders by numbers (this project's own): the funds come first, in the order of their rows, and the securities after
+-- them.
 use Rattle.std.specs.Prelude.{ℕ, ◌≤◌, ◌<◌, ◌^◌, All, List, Vec, length, map, slice_index}
 use Rattle.std.specs.Global.{Global}
 use Rattle.std.specs.List.{enumerate_from}

@@ -1,5 +1,5 @@
--- Chains of components (Article 84 of Delegated Regulation (EU) 2015/35), for holders of any kind. `components` gives the
--- direct components of each holder in the order of its record.
+-- Chains of components (Article 84 of Delegated Regulation (EU) 2015/35), for holders of any kind. `components` gives
+-- the direct components of each holder in the order of its record.
 use Rattle.std.specs.Prelude.{◌≡◌, ◌≢◌, ◌⊎◌, ℕ, ◌≤◌, List, [], ◌∷◌, ◌++◌, length, Contains, Some, slice_get}
 
 -- c is met before d: c has a place in the list up to which d has none
@@ -27,11 +27,12 @@ module _ {A : Type 0} (components : A → List A) where
   ComesEarlier a (c ∷ cs) [] = ⊥
   ComesEarlier a (c ∷ cs) (d ∷ ds) = IsMetBefore (components a) c d ⊎ ((c ≡ d) × ComesEarlier c cs ds)
 
-  -- The path goes from a to b by a chain. No chain from a to b is shorter, and every other one that is as short comes later
-  -- (that this chain is told is this project's own).
+  -- The path goes from a to b by a chain. No chain from a to b is shorter, and every other one that is as short comes
+  -- later (that this chain is told is this project's own).
   pub record IsFirstShortest (a b : A) (path : List A) : Type 0 where
     pub between : List A
     pub whole : path ≡ a ∷ (between ++ b ∷ [])
     pub chain : IsChain a between b
     pub shortest : (other : List A) → IsChain a other b → length between ≤ length other
-    pub first : (other : List A) → IsChain a other b → length other ≡ length between → (other ≡ between) ⊎ ComesEarlier a between other
+    pub first : (other : List A) → IsChain a other b → length other ≡ length between
+        → (other ≡ between) ⊎ ComesEarlier a between other

@@ -1,8 +1,9 @@
 pub mod Answers
 pub mod Chains
 pub mod Components
-pub mod Kept
+pub mod Inside
 pub mod KeptEdges
+pub mod Marks
 pub mod Parts
 pub mod Search
 pub mod Paths

@@ -1,5 +1,6 @@
--- What is held of each fund and security, directly and through funds: the look-through approach (Article 84 of Delegated
--- Regulation (EU) 2015/35). `same` tells whether two names are one. `held` gives the cents held directly under a name.
+-- What is held of each fund and security, directly and through funds: the look-through approach (Article 84 of
+-- Delegated Regulation (EU) 2015/35). `same` tells whether two names are one. `held` gives the cents held directly
+-- under a name.
 use Rattle.std.specs.Prelude.{ℕ, zero, suc, ◌+◌, Bool, List, [], ◌∷◌, map, length, sum_by, if◌then◌else◌, nat_eq}
 use Rattle.std.specs.List.{range_with_len}
 use Rattle.scr_funds.specs.Parts.{part_of}

@@ -1,5 +1,5 @@
--- How a fund's value is shared out among its components (Article 84 of Delegated Regulation (EU) 2015/35, the look-through
--- approach; the rounding is this project's own).
+-- How a fund's value is shared out among its components (Article 84 of Delegated Regulation (EU) 2015/35, the
+-- look-through approach; the rounding is this project's own).
 use Rattle.std.specs.Prelude.{ℕ, ◌+◌, ◌-◌, ◌*◌, ◌/◌, List, sum, take}
 
 -- what the first k components have together: the value times the sum of their weights over the sum of all, rounded down

@@ -1,5 +1,5 @@
--- The chain that is told where several go from one holder to another: one of the fewest steps, and among these the one that
--- goes on by the earliest components, step by step (this project's own). `same` tells whether two holders are one.
+-- The chain that is told where several go from one holder to another: one of the fewest steps, and among these the one
+-- that goes on by the earliest components, step by step (this project's own). `same` tells whether two holders are one.
 use Rattle.std.specs.Prelude.{ℕ, zero, suc, Bool, List, [], ◌∷◌, ◌++◌, Option, Some, None, if◌then◌else◌}
 use Rattle.std.specs.List.{list_any}
 use Rattle.std.specs.Option.{option_or, option_map}

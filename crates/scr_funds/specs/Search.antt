@@ -1,5 +1,6 @@
 -- What the search for a chain notes down (this project's own).
-use Rattle.std.specs.Prelude.{◌≡◌, ℕ, ◌<◌, List, [], ◌∷◌, Vec, Some, map, nat_eq, is_some, if◌then◌else◌, slice_get}
+use Rattle.std.specs.Prelude.{◌≡◌, ℕ, ◌<◌, ◌||◌, List, [], ◌∷◌, Vec, Some, map, nat_eq, is_some, if◌then◌else◌, length}
+use Rattle.std.specs.Prelude.{slice_get}
 use Rattle.std.specs.Global.{Global}
 use Rattle.std.specs.Map.{lookup}
 use Rattle.indexmap.specs.IndexMap.{insert_entry}
@@ -9,13 +10,19 @@ use Rattle.scr_funds.specs.Components.{Components}
 abbrev pub rows_of : List (Vec ℕ Global) → Components
 rows_of rows = map (λ row. row.items) rows
 
--- the entries once those components that were not reached before are entered, with the place of what leads to them
-abbrev pub entered : ℕ → List ℕ → List (ℕ × ℕ) → List (ℕ × ℕ)
-entered place [] entries = entries
-entered place (c ∷ cs) entries = entered place cs (if is_some (lookup (nat_eq c) entries) then entries else insert_entry nat_eq entries c place)
+-- the entries once those components that were not reached before and have components of their own are entered, with the
+-- place of what leads to them; `components` gives those of each
+abbrev pub entered : (ℕ → List ℕ) → ℕ → List ℕ → List (ℕ × ℕ) → List (ℕ × ℕ)
+entered components place [] entries = entries
+entered components place (c ∷ cs) entries =
+    entered components place cs
+    (if is_some (lookup (nat_eq c) entries) || nat_eq (length (components c)) 0 then entries
+    else insert_entry nat_eq entries c place)
 
--- The entry at the place is led to through the funds of the list, the last of them first: each entry names the place, before
--- its own, of what leads to it, and the first entry is the fund from which the search began.
+-- The entry at the place is led to through the funds of the list, the last of them first: each entry names the place,
+-- before its own, of what leads to it, and the first entry is the fund from which the search began.
 abbrev pub IsTraced : List (ℕ × ℕ) → ℕ → ℕ → List ℕ → Type 0
 IsTraced entries from place [] = (place ≡ 0) × (before : ℕ) × (slice_get entries 0 ≡ Some (from, before))
-IsTraced entries from place (fund ∷ trail) = (before : ℕ) × (before < place) × (slice_get entries place ≡ Some (fund, before)) × IsTraced entries from before trail
+IsTraced entries from place (fund ∷ trail) =
+    (before : ℕ) × (before < place) × (slice_get entries place ≡ Some (fund, before))
+    × IsTraced entries from before trail

@@ -5,10 +5,10 @@ use std::alloc::AllocError;
 use std::marker::Model;
 
 /// Why edges are refused.
-#[derive(Debug, Drop)]
+#[derive(Drop)]
 pub enum OrderFault {
-    /// A fund would hold itself. The path begins and ends with it: it is a shortest chain, and of those the first,
-    /// comparing step by step the place of each component in its fund's record.
+    /// A fund would hold itself. The path begins and ends with it: it is a shortest chain, and of
+    /// those the first, comparing step by step the place of each component in its fund's record.
     Cycle(Places),
     /// Memory was refused. It may come in place of any other answer.
     NoMemory,
@@ -26,7 +26,7 @@ impl From<AllocError> for OrderFault {
 }
 
 /// The funds and securities of a path, by their numbers. Contracts see it as the list of these.
-#[derive(Debug, Drop)]
+#[derive(Drop)]
 pub struct Places(Vec<u32>);
 
 impl Model for Places {

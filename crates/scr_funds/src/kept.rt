@@ -2,8 +2,9 @@
 
 use std::marker::Model;
 
-/// The edges of one fund, as `FundOrder::remove` hands them out. Contracts see the fund and the list of its components.
-#[derive(Debug, Drop)]
+/// The edges of one fund, as `FundOrder::remove` hands them out. Contracts see the fund and the
+/// list of its components.
+#[derive(Drop)]
 pub struct Kept {
     pub(crate) from: u32,
     pub(crate) edges: Vec<u32>,

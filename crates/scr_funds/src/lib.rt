@@ -1,5 +1,5 @@
-//! Funds: the parts of a fund's value, the order of funds that hold funds, and what is held through them (Article 84 of
-//! Delegated Regulation (EU) 2015/35).
+//! Funds: the parts of a fund's value, the order of funds that hold funds, and what is held through
+//! them (Article 84 of Delegated Regulation (EU) 2015/35).
 #![tactic(auto)]
 
 mod fault;
@@ -9,8 +9,6 @@ mod look_through;
 mod order;
 mod parts;
 mod search;
-#[cfg(test)]
-mod tests;
 
 pub use fault::{OrderFault, Places};
 pub use kept::Kept;

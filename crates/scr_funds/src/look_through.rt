@@ -1,5 +1,6 @@
 //! What is held of each fund and security, directly and through funds.
-ghost use Rattle.std.specs.Prelude.{◌≡◌, ℕ, ◌+◌, ◌*◌, ◌^◌, ◌<◌, ◌≤◌, All, IfOk, OnOk, length, map, nat_eq, slice_index, sum, sum_by, take};
+ghost use Rattle.std.specs.Prelude.{◌≡◌, ℕ, ◌+◌, ◌*◌, ◌^◌, ◌<◌, ◌≤◌, All, IfOk, OnOk, length, map};
+ghost use Rattle.std.specs.Prelude.{nat_eq, slice_index, sum, sum_by, take};
 ghost use Rattle.std.specs.List.{range_with_len};
 ghost use Rattle.scr_funds.specs.ByNumber.{IsRow, held_at, numbered, weighted_rows};
 ghost use Rattle.scr_funds.specs.Chains.{IsAcyclic};
@@ -9,13 +10,15 @@ ghost use Rattle.scr_funds.specs.LookThrough.{falling_to, names_in, parts_of, to
 use crate::allocate;
 use std::alloc::{AllocError as NoMemory, Global};
 
-/// The total of each fund and security in cents: what is held of it directly and through funds (Article 84 of Delegated
-/// Regulation (EU) 2015/35). No total is above all that is held directly. Only want of memory is refused.
+/// The total of each fund and security in cents: what is held of it directly and through funds
+/// (Article 84 of Delegated Regulation (EU) 2015/35). No total is above all that is held directly.
+/// Only want of memory is refused.
 ///
-/// All go by numbers, which are their places in `held`. Fund k has `funds[k]`, its components with their weights in the
-/// order of its record; a fund without components is closed, and what comes after the funds is a security. `held` sums to at
-/// most 5·10^13; a fund has at most 1,000 components, each below the number of all and of a weight of 1 to 10^9; none
-/// leads to itself. The cost is in proportion to the funds, the securities and the components.
+/// All go by numbers, which are their places in `held`. Fund k has `funds[k]`, its components with
+/// their weights in the order of its record; a fund without components is closed, and what comes
+/// after the funds is a security. `held` sums to at most 5·10^13; a fund has at most 1,000
+/// components, each below the number of all and of a weight of 1 to 10^9; none leads to itself. The
+/// cost is in proportion to the funds, the securities and the components.
 pub fn totals(alloc: Global, held: &[u64], funds: &[Vec<(u32, u64)>]) -> Result<Vec<u64>, NoMemory>
     requires funds { length funds.now ≤ length held.now }
     requires size { length held.now ≤ 2 ^ 32 }
@@ -23,7 +26,8 @@ pub fn totals(alloc: Global, held: &[u64], funds: &[Vec<(u32, u64)>]) -> Result<
     requires held { sum held.now ≤ 5 * 10 ^ 13 }
     requires acyclic { IsAcyclic (names_in nat_eq (numbered (weighted_rows funds.now))) }
     ensures totals { IfOk result (λ found. found.items
-        ≡ map (total nat_eq (held_at held.now) (numbered (weighted_rows funds.now))) (range_with_len 0 (length held.now))) }
+        ≡ map (total nat_eq (held_at held.now) (numbered (weighted_rows funds.now)))
+        (range_with_len 0 (length held.now))) }
     ensures within { IfOk result (λ found. All (λ value. value ≤ sum held.now) found.items) }
 {
     let mut values = Vec::from_slice(alloc, held)?;
@@ -52,7 +56,8 @@ fn holders_of(alloc: Global, size: usize, funds: &[Vec<(u32, u64)>]) -> Result<V
 fn count_places(waiting: &mut [u64], row: &[(u32, u64)])
     requires below { All (λ component. component.0 < length waiting.old) row.now }
     requires fits { All (λ count. count + length row.now < 2 ^ 64) waiting.old }
-    ensures { (x : ℕ) → x < length waiting.old → slice_index waiting.new x ≡ slice_index waiting.old x + times x row.now }
+    ensures { (x : ℕ) → x < length waiting.old
+        → slice_index waiting.new x ≡ slice_index waiting.old x + times x row.now }
 {
     for (component, _) in row {
         waiting[*component as usize] += 1;
@@ -87,10 +92,12 @@ fn hand_out(
     requires held { sum values.old ≤ 5 * 10 ^ 13 }
     requires acyclic { IsAcyclic (names_in nat_eq (numbered (weighted_rows funds.now))) }
     requires waiting { length waiting.old ≡ length values.old }
-    requires counts { (x : ℕ) → x < length values.old → slice_index waiting.old x ≡ sum_by (times x) (weighted_rows funds.now) }
+    requires counts { (x : ℕ) → x < length values.old
+        → slice_index waiting.old x ≡ sum_by (times x) (weighted_rows funds.now) }
     requires ready { AreReady (length funds.now) waiting.old ready.old.items }
     ensures totals { OnOk result (values.new
-        ≡ map (total nat_eq (held_at values.old) (numbered (weighted_rows funds.now))) (range_with_len 0 (length values.old))) }
+        ≡ map (total nat_eq (held_at values.old) (numbered (weighted_rows funds.now)))
+        (range_with_len 0 (length values.old))) }
     ensures within { OnOk result (All (λ value. value ≤ sum values.old) values.new) }
 {
     let mut weights = [0; 1_000];
@@ -113,7 +120,8 @@ fn share_out(value: u64, row: &[(u32, u64)], weights: &mut [u64], parts: &mut [u
     requires small { All (λ component. component.1 ≤ 10 ^ 9) row.now }
     requires weights { 1000 ≤ length weights.old }
     requires parts { 1000 ≤ length parts.old }
-    ensures { take (length row.now) parts.new ≡ parts_of value (map (λ component. component.1) row.now) }
+    ensures { take (length row.now) parts.new
+        ≡ parts_of value (map (λ component. component.1) row.now) }
 {
     if row.is_empty() {
         return;
@@ -138,14 +146,16 @@ fn add_parts(values: &mut [u64], row: &[(u32, u64)], parts: &[u64])
     requires lengths { length parts.now ≡ length row.now }
     requires fits { All (λ value. value + sum parts.now < 2 ^ 64) values.old }
     ensures { (x : ℕ) → x < length values.old → slice_index values.new x
-        ≡ slice_index values.old x + falling_to nat_eq x (map (λ component. component.0) row.now) parts.now }
+        ≡ slice_index values.old x + falling_to nat_eq x
+        (map (λ component. component.0) row.now) parts.now }
 {
     for (place, (component, _)) in row.iter().enumerate() {
         values[*component as usize] += parts[place];
     }
 }
 
-/// The components of a row wait for it no longer, and funds among them that wait for none are ready.
+/// The components of a row wait for it no longer, and funds among them that wait for none are
+/// ready.
 fn release(
     waiting: &mut [u64],
     row: &[(u32, u64)],
@@ -156,7 +166,8 @@ fn release(
     requires within { funds ≤ length waiting.old }
     requires counted { (x : ℕ) → times x row.now ≤ slice_index waiting.old x }
     requires ready { AreReady funds waiting.old ready.old.items }
-    ensures counts { OnOk result ((x : ℕ) → slice_index waiting.new x + times x row.now ≡ slice_index waiting.old x) }
+    ensures counts { OnOk result
+        ((x : ℕ) → slice_index waiting.new x + times x row.now ≡ slice_index waiting.old x) }
     ensures ready { OnOk result (AreReady funds waiting.new ready.new.items) }
     ensures front { OnOk result (take (length ready.old.items) ready.new.items ≡ ready.old.items) }
 {

@@ -1,8 +1,11 @@
 //! Which funds hold which.
-ghost use Rattle.std.specs.Prelude.{◌≡◌, ◌≤◌, ◌<◌, [], IfOk, OnOk, OnErr, MatchOption};
+ghost use Rattle.std.specs.Prelude.{◌≡◌, ℕ, ◌≤◌, ◌<◌, [], All, Contains, IfOk, OnOk, OnErr};
+ghost use Rattle.std.specs.Prelude.{MatchOption, false, length};
 ghost use Rattle.scr_funds.specs.Answers.{Answers};
 ghost use Rattle.scr_funds.specs.Chains.{IsAcyclic, IsFirstShortest, LeadsTo};
-ghost use Rattle.scr_funds.specs.Components.{AreBelow, IsOrder, components_of, components_with, grown, size_of, with_components, with_edges};
+ghost use Rattle.scr_funds.specs.Components.{AreBelow, IsOrder, components_of, components_with};
+ghost use Rattle.scr_funds.specs.Components.{grown, size_of, with_components, with_edges};
+ghost use Rattle.scr_funds.specs.Marks.{KeepsMarks, with_marks};
 ghost use Rattle.scr_funds.specs.Search.{rows_of};
 
 use crate::search::{first_chain, number_above, row_of};
@@ -11,11 +14,14 @@ use std::alloc::{AllocError as NoMemory, Global};
 use std::marker::Model;
 use std::mem;
 
-/// Which funds hold which, by numbers, in an order in which nothing holds itself. Contracts see for each fund the
-/// list of its components in the order of its record; their number is the size.
+/// Which funds hold which, by numbers, in an order in which nothing holds itself. Contracts see for
+/// each fund the list of its components in the order of its record; their number is the size.
 #[derive(Drop)]
 pub struct FundOrder {
     rows: Vec<Vec<u32>>,
+    /// By number, what was ever a component. Marks are not taken off, so that taking edges off
+    /// costs no search.
+    marks: Vec<bool>,
 }
 
 impl Model for FundOrder {
@@ -23,11 +29,11 @@ impl Model for FundOrder {
 
     ghost Value = { Components };
 
-    ghost use Rattle.scr_funds.specs.Kept.{components_in, IsKept};
+    ghost use Rattle.scr_funds.specs.Inside.{components_in, IsInOrder};
 
     ghost view = { components_in };
 
-    ghost invariant = { IsKept };
+    ghost invariant = { IsInOrder };
 }
 
 impl FundOrder {
@@ -37,12 +43,13 @@ impl FundOrder {
     {
         Ok(FundOrder {
             rows: Vec::new(alloc),
+            marks: Vec::new(alloc),
         })
     }
 
-    /// Makes `to` the components of a fund that has none. `Cycle` comes exactly where one of them is the fund itself or
-    /// leads back to it, and tells the first shortest chain by which the fund would hold itself. After a refusal all
-    /// is as before.
+    /// Makes `to` the components of a fund that has none. `Cycle` comes exactly where one of them
+    /// is the fund itself or leads back to it, and tells the first shortest chain by which the fund
+    /// would hold itself. After a refusal all is as before.
     pub fn add_edges(&mut self, alloc: Global, from: u32, to: &[u32]) -> Result<(), OrderFault>
         requires { components_of self.old from ≡ [] }
         ensures answer { Answers (components_of (with_edges from to.now self.old)) from result }
@@ -51,15 +58,37 @@ impl FundOrder {
         ensures order { IsOrder self.new }
     {
         self.check_edges(alloc, from, to)?;
-        put_row(&mut self.rows, alloc, from, to)?;
+        let components = Vec::from_slice(alloc, to)?;
+        self.replace(alloc, from, components)?;
         Ok(())
     }
 
-    /// Whether a fund could have the components `to` in the place of its own; nothing changes. `Cycle` comes exactly where
-    /// it would then hold itself, and tells the first shortest chain by which it would.
+    /// Makes `to` the components of a fund in the place of its own, by which it must not come to
+    /// lead to itself: nothing is searched. Where memory is refused, all is as before.
+    pub fn replace(&mut self, alloc: Global, from: u32, to: Vec<u32>) -> Result<(), NoMemory>
+        requires apart { ¬ LeadsTo (components_with from to.items self.old) from from }
+        ensures ok { OnOk result (self.new ≡ with_edges from to.items self.old) }
+        ensures err { OnErr result (self.new ≡ self.old) }
+        ensures order { IsOrder self.new }
+    {
+        let size = number_above(from, &to);
+        grow_marks(&mut self.marks, size)?;
+        grow(&mut self.rows, alloc, size)?;
+        mark(&mut self.marks, &to);
+        self.rows[from as usize] = to;
+        Ok(())
+    }
+
+    /// Whether a fund could have the components `to` in the place of its own; nothing changes.
+    /// `Cycle` comes exactly where it would then hold itself, and tells the first shortest chain by
+    /// which it would.
     pub fn check_edges(&self, alloc: Global, from: u32, to: &[u32]) -> Result<(), OrderFault>
         ensures answer { Answers (components_with from to.now self.now) from result }
+        ensures order { IsOrder self.now }
     {
+        if !self.was_component(from) && !to.contains(&from) {
+            return Ok(());
+        }
         match first_chain(alloc, &self.rows, from, to, from)? {
             Some(path) => Err(OrderFault::Cycle(Places::new(path))),
             None => Ok(()),
@@ -79,23 +108,26 @@ impl FundOrder {
         Kept { from, edges }
     }
 
-    /// Makes the components of a fund that has none those that were kept, without memory. They would close no cycle, and
-    /// their ends are below the size: right after `remove` they always may be put back.
+    /// Makes the components of a fund that has none those that were kept, without memory. They
+    /// would close no cycle, and their ends are below the size: right after `remove` they always
+    /// may be put back.
     pub fn put_back(&mut self, kept: Kept)
         requires none { components_of self.old kept.from ≡ [] }
         requires below { AreBelow (size_of self.old) kept.from kept.edges }
-        requires acyclic { IsAcyclic (components_of (with_components kept.from kept.edges self.old)) }
+        requires acyclic { IsAcyclic
+            (components_of (with_components kept.from kept.edges self.old)) }
         ensures edges { components_of self.new kept.from ≡ kept.edges }
         ensures after { self.new ≡ with_components kept.from kept.edges self.old }
         ensures order { IsOrder self.new }
     {
         let Kept { from, edges } = kept;
+        mark(&mut self.marks, &edges);
         let _ = exchange(&mut self.rows, from, edges);
     }
 
-    /// The first shortest chain from a fund to what `to` names, with both its ends: no chain is shorter, and of those that
-    /// are as short it is the first, comparing step by step the place of each component in its fund's record. None
-    /// exactly where there is no chain.
+    /// The first shortest chain from a fund to what `to` names, with both its ends: no chain is
+    /// shorter, and of those that are as short it is the first, comparing step by step the place of
+    /// each component in its fund's record. None exactly where there is no chain.
     pub fn path(&self, alloc: Global, from: u32, to: u32) -> Result<Option<Vec<u32>>, NoMemory>
         ensures { IfOk result (λ found. MatchOption found
             (¬ LeadsTo (components_of self.now) from to)
@@ -103,36 +135,34 @@ impl FundOrder {
     {
         first_chain(alloc, &self.rows, from, row_of(&self.rows, from), to)
     }
+
+    /// Whether a fund was ever a component: what never was is none now.
+    fn was_component(&self, fund: u32) -> bool
+        ensures order { IsOrder self.now }
+        ensures none { result ≡ false → (holder : ℕ)
+            → ¬ Contains (components_of self.now holder) fund }
+    {
+        match self.marks.get(fund as usize) {
+            Some(mark) => *mark,
+            None => false,
+        }
+    }
 }
 
-/// Puts a row in the place of that of a fund, which it gives back. A fund past the end has no row, and the new one
-/// comes back.
+/// Puts a row in the place of that of a fund, which it gives back. A fund past the end has no row,
+/// and the new one comes back.
 fn exchange(rows: &mut Vec<Vec<u32>>, from: u32, row: Vec<u32>) -> Vec<u32>
-    ensures old { from < size_of (rows_of rows.old.items) → result.items ≡ components_of (rows_of rows.old.items) from }
+    ensures old { from < size_of (rows_of rows.old.items)
+        → result.items ≡ components_of (rows_of rows.old.items) from }
     ensures past { size_of (rows_of rows.old.items) ≤ from → result.items ≡ row.items }
-    ensures after { rows_of rows.new.items ≡ with_components from row.items (rows_of rows.old.items) }
+    ensures after { rows_of rows.new.items
+        ≡ with_components from row.items (rows_of rows.old.items) }
 {
     let place = from as usize;
     if place >= rows.len() {
         return row;
     }
     mem::replace(&mut rows[place], row)
-}
-
-/// Puts in the row of a fund, and rows without components up to its number and those of its components.
-fn put_row(
-    rows: &mut Vec<Vec<u32>>,
-    alloc: Global,
-    from: u32,
-    members: &[u32],
-) -> Result<(), NoMemory>
-    ensures ok { OnOk result (rows_of rows.new.items ≡ with_edges from members.now (rows_of rows.old.items)) }
-    ensures err { OnErr result (rows_of rows.new.items ≡ rows_of rows.old.items) }
-{
-    let row = Vec::from_slice(alloc, members)?;
-    grow(rows, alloc, number_above(from, members))?;
-    rows[from as usize] = row;
-    Ok(())
 }
 
 /// Rows without components, up to that many in all.
@@ -146,4 +176,26 @@ fn grow(rows: &mut Vec<Vec<u32>>, alloc: Global, size: usize) -> Result<(), NoMe
         rows.push(Vec::new(alloc)).unwrap();
     }
     Ok(())
+}
+
+/// Marks that are not set, up to that many in all.
+fn grow_marks(marks: &mut Vec<bool>, size: usize) -> Result<(), NoMemory>
+    ensures long { OnOk result (size ≤ length marks.new.items) }
+    ensures longer { length marks.old.items ≤ length marks.new.items }
+    ensures keeps { KeepsMarks marks.old.items marks.new.items }
+{
+    if marks.len() < size {
+        marks.resize(size, false)?;
+    }
+    Ok(())
+}
+
+/// Marks these numbers.
+fn mark(marks: &mut Vec<bool>, numbers: &[u32])
+    requires { All (λ number. number < length marks.old.items) numbers.now }
+    ensures { marks.new.items ≡ with_marks numbers.now marks.old.items }
+{
+    for number in numbers {
+        marks[*number as usize] = true;
+    }
 }

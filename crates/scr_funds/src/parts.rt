@@ -1,12 +1,15 @@
 //! The parts of a fund's value.
-ghost use Rattle.std.specs.Prelude.{◌≡◌, ◌*◌, ◌/◌, ◌^◌, ◌<◌, ◌≤◌, All, EachIndex, length, slice_index, sum};
+ghost use Rattle.std.specs.Prelude.{◌≡◌, ◌*◌, ◌/◌, ◌^◌, ◌<◌, ◌≤◌, All, EachIndex, length};
+ghost use Rattle.std.specs.Prelude.{slice_index, sum};
 ghost use Rattle.scr_funds.specs.Parts.{part_of};
 
-/// Shares a fund's value out among its components in proportion to their weights (Article 84 of Delegated Regulation
-/// (EU) 2015/35): part k is what the first k components have together, rounded down, less what those before it have
-/// together, rounded down (this project's own rounding). So the parts sum to the value, cent for cent.
+/// Shares a fund's value out among its components in proportion to their weights (Article 84 of
+/// Delegated Regulation (EU) 2015/35): part k is what the first k components have together, rounded
+/// down, less what those before it have together, rounded down (this project's own rounding). So
+/// the parts sum to the value, cent for cent.
 ///
-/// `value` is in cents and at most 5·10^13; there are 1 to 1,000 weights, each 1 to 10^9, and as many parts.
+/// `value` is in cents and at most 5·10^13; there are 1 to 1,000 weights, each 1 to 10^9, and as
+/// many parts.
 pub fn allocate(value: u64, weights: &[u64], out: &mut [u64])
     requires value { value ≤ 5 * 10 ^ 13 }
     requires some { 0 < length weights.now }

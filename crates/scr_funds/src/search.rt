@@ -7,8 +7,8 @@ ghost use Rattle.scr_funds.specs.Search.{rows_of, entered, IsTraced};
 use indexmap::IndexMap;
 use std::alloc::{AllocError as NoMemory, Global};
 
-/// The first shortest chain from a fund to what `to` names, where the fund has the components `members` and every
-/// other one those of its row. It costs what the search reaches.
+/// The first shortest chain from a fund to what `to` names, where the fund has the components
+/// `members` and every other one those of its row. It costs what the search reaches.
 pub(crate) fn first_chain(
     alloc: Global,
     rows: &[Vec<u32>],
@@ -18,7 +18,8 @@ pub(crate) fn first_chain(
 ) -> Result<Option<Vec<u32>>, NoMemory>
     ensures { IfOk result (λ found. MatchOption found
         (¬ LeadsTo (components_with from members.now (rows_of rows.now)) from to)
-        (λ path. IsFirstShortest (components_with from members.now (rows_of rows.now)) from to path.items)) }
+        (λ path. IsFirstShortest (components_with from members.now (rows_of rows.now)) from to
+        path.items)) }
 {
     // What was reached so far, nearest first, each with the place here of that which leads to it.
     let mut reached = IndexMap::new(alloc);
@@ -31,7 +32,7 @@ pub(crate) fn first_chain(
             let path = trace(alloc, &reached, from, place, to)?;
             return Ok(Some(path));
         }
-        enter(&mut reached, components, place)?;
+        enter(&mut reached, rows, from, members, components, place)?;
         place += 1;
     }
     Ok(None)
@@ -57,23 +58,31 @@ pub(crate) fn row_of(rows: &[Vec<u32>], fund: u32) -> &[u32]
     }
 }
 
-/// Enters those components that were not reached before, with the place of the fund that leads to them.
+/// Enters those components that were not reached before, with the place of the fund that leads to
+/// them. What has no components of its own leads nowhere, and is left out.
 fn enter(
     reached: &mut IndexMap<u32, usize>,
+    rows: &[Vec<u32>],
+    from: u32,
+    members: &[u32],
     components: &[u32],
     place: usize,
 ) -> Result<(), NoMemory>
-    ensures { OnOk result (reached.new.entries ≡ entered place components.now reached.old.entries) }
+    ensures { OnOk result (reached.new.entries
+        ≡ entered (components_with from members.now (rows_of rows.now)) place components.now
+        reached.old.entries) }
 {
     for component in components {
-        if !reached.contains_key(component) {
+        let ends = components_of(rows, from, members, *component).is_empty();
+        if !reached.contains_key(component) && !ends {
             reached.insert(*component, place)?;
         }
     }
     Ok(())
 }
 
-/// The path from the fund where the search began, through what leads to the place, to what `to` names.
+/// The path from the fund where the search began, through what leads to the place, to what `to`
+/// names.
 fn trace(
     alloc: Global,
     reached: &IndexMap<u32, usize>,

@@ -1,5 +1,5 @@
--- What is answered of a fund's components (this project's own): the path by which it would hold itself, where there is one.
--- Want of memory may come in place of either.
+-- What is answered of a fund's components (this project's own): the path by which it would hold itself, where there is
+-- one. Want of memory may come in place of either.
 use Rattle.std.specs.Prelude.{◌≡◌, ℕ, List, Option, Some, None, Result, Ok, Err}
 use Rattle.scr_graph.specs.declared.fault.GraphFault.{GraphFault}
 use Rattle.scr_graph.specs.declared.fault.GraphFault.TheVariants as faults

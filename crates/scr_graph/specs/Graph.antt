@@ -1,6 +1,7 @@
--- Which funds hold which, by name (Article 84 of Delegated Regulation (EU) 2015/35). A name that is entered has a number, its
--- place among those that were entered, and keeps it for good.
-use Rattle.std.specs.Prelude.{ℕ, zero, suc, ℤ, ◌||◌, Bool, List, [], ◌∷◌, All, IsTrue, if◌then◌else◌, map, slice_index_or}
+-- Which funds hold which, by name (Article 84 of Delegated Regulation (EU) 2015/35). A name that is entered has a
+-- number, its place among those that were entered, and keeps it for good.
+use Rattle.std.specs.Prelude.{ℕ, zero, suc, ℤ, ◌||◌, Bool, List, [], ◌∷◌, All, IsTrue, if◌then◌else◌, map}
+use Rattle.std.specs.Prelude.{slice_index_or}
 use Rattle.std.specs.List.{list_any}
 use Rattle.scr_funds.specs.Components.{Components, components_of}
 use Rattle.scr_names.specs.Names.{same_name}
@@ -26,7 +27,8 @@ components_under graph name =
 
 -- the same, where the fund has these components in the place of its own
 abbrev pub components_after : List ℕ → List (List ℕ × ℤ) → Graph → List ℕ → List (List ℕ)
-components_after fund components graph name = if same_name name fund then map (λ c. c.0) components else components_under graph name
+components_after fund components graph name =
+    if same_name name fund then map (λ c. c.0) components else components_under graph name
 
 -- each component was entered
 abbrev pub AreEntered : List (List ℕ × ℤ) → Graph → Type 0

@@ -1,3 +1,3 @@
 pub mod Graph
-pub mod GraphKept
+pub mod GraphInside
 pub mod Answers

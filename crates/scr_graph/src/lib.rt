@@ -3,8 +3,6 @@
 
 mod fault;
 mod graph;
-#[cfg(test)]
-mod tests;
 
 pub use fault::GraphFault;
 pub use graph::FundGraph;

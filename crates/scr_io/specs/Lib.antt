@@ -4,3 +4,4 @@ pub mod Front
 pub mod MemShelf
 pub mod MemSink
 pub mod Memory
+pub mod Reading

@@ -84,7 +84,8 @@ pub record SinkState : Type 0 where
 abbrev pub write_count : SinkState → List ℕ → ℕ
 write_count s bytes = min s.piece (length bytes)
 
--- a write of these bytes succeeds: it is not one that is to fail, it takes a byte if there is one, and what it takes has room
+-- a write of these bytes succeeds: it is not one that is to fail, it takes a byte if there is one, and what it takes
+-- has room
 abbrev pub can_write : SinkState → List ℕ → Bool
 can_write s bytes =
     not (is_to_fail s.fails s.calls)

@@ -1,6 +1,7 @@
 //! A place in the code that a test can watch.
 
-/// Passed before each evaluation of a figure. It tells nothing and changes nothing that a clause sees.
+/// Passed before each evaluation of a figure. It tells nothing and changes nothing that a clause
+/// sees.
 pub trait Gate {
     /// The figure of this number is about to be evaluated.
     fn pass(&self, node: u32);

@@ -1,5 +1,7 @@
 //! The edge of the system: its files as a shelf, and a writer of bytes as a sink.
-ghost use Rattle.std.specs.Prelude.{◌≡◌};
+ghost use Rattle.std.specs.Prelude.{◌≡◌, ◌<◌, length, IfOk};
+ghost use Rattle.std.specs.Io.{ReadsAtMost, WritesAtMost};
+ghost use Rattle.std.specs.Io.KnownBytes.{ReadConsumes, WriteAppends};
 
 use crate::{Failed, Shelf, Sink};
 use std::fs;
@@ -67,13 +69,25 @@ impl<'a, R: Files> Shelf for HostShelf<'a, R> {
         let Some(file) = &mut self.file else {
             return Ok(0);
         };
-        match file.read(buf) {
+        match read_step(file, buf) {
             Ok(count) => Ok(count),
-            Err(_) => {
+            Err(Failed) => {
                 self.faults = self.faults.saturating_add(1);
                 Err(Failed)
             }
         }
+    }
+}
+
+/// One read: what the reader gives next, none only at its end or for an empty buffer. A read that
+/// fails is no end.
+pub fn read_step<R: Read>(reader: &mut R, buf: &mut [u8]) -> Result<usize, Failed>
+    ensures bound { ReadsAtMost result buf.new }
+    ensures bytes { ReadConsumes (R.remaining reader.old) (R.remaining reader.new) result buf.new }
+{
+    match reader.read(buf) {
+        Ok(count) => Ok(count),
+        Err(_) => Err(Failed),
     }
 }
 
@@ -110,12 +124,26 @@ impl<W: Write> Sink for HostSink<W> {
     ghost faults = { λ s. s };
 
     fn write(&mut self, bytes: &[u8]) -> Result<usize, Failed> {
-        match self.out.write(bytes) {
-            Ok(count) if count > 0 || bytes.is_empty() => Ok(count),
-            _ => {
+        match write_step(&mut self.out, bytes) {
+            Ok(count) => Ok(count),
+            Err(Failed) => {
                 self.faults = self.faults.saturating_add(1);
                 Err(Failed)
             }
         }
+    }
+}
+
+/// One write: how many of the bytes the writer took, one or more unless there are none. Where it
+/// fails, or takes none, it took nothing.
+pub fn write_step<W: Write>(writer: &mut W, bytes: &[u8]) -> Result<usize, Failed>
+    ensures bound { WritesAtMost result bytes.now }
+    ensures progress { 0 < length bytes.now → IfOk result (λ count. 0 < count) }
+    ensures appends { WriteAppends (W.contents writer.old)
+        (W.contents writer.new) result bytes.now }
+{
+    match writer.write(bytes) {
+        Ok(count) if count > 0 || bytes.is_empty() => Ok(count),
+        _ => Err(Failed),
     }
 }

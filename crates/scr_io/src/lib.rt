@@ -6,6 +6,7 @@
 
 mod gate;
 mod host;
+pub mod laws;
 mod memory;
 mod reading;
 #[cfg(test)]
@@ -13,7 +14,7 @@ mod tests;
 mod writing;
 
 pub use gate::{Gate, OpenGate};
-pub use host::{HostShelf, HostSink};
+pub use host::{HostShelf, HostSink, read_step, write_step};
 pub use memory::{MemShelf, MemSink, RESERVE};
 pub use reading::{MAX_BYTES, ReadFault, Shelf, read_all};
 pub use writing::{Sink, write_all};

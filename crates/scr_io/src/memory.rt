@@ -39,8 +39,8 @@ impl Model for MemShelf {
 }
 
 impl MemShelf {
-    /// Holds these files. The calls whose numbers are listed, counted from 1, fail, and a read gives
-    /// at most `piece` bytes.
+    /// Holds these files. The calls whose numbers are listed, counted from 1, fail, and a read
+    /// gives at most `piece` bytes.
     pub fn new(files: Vec<(String, Vec<u8>)>, fails: Vec<u64>, piece: usize) -> MemShelf
         requires { 1 ≤ piece }
         ensures { result ≡ record {
@@ -164,8 +164,8 @@ impl Model for MemSink {
 }
 
 impl MemSink {
-    /// Holds nothing. The calls whose numbers are listed, counted from 1, fail, and a write takes at
-    /// most `piece` bytes.
+    /// Holds nothing. The calls whose numbers are listed, counted from 1, fail, and a write takes
+    /// at most `piece` bytes.
     pub fn new(alloc: Global, fails: Vec<u64>, piece: usize) -> Result<MemSink, NoMemory>
         ensures { IfOk result (λ sink. sink ≡ record {
           written = [];

@@ -4,6 +4,7 @@ ghost use Rattle.std.specs.Io.{ReadsAtMost};
 ghost use Rattle.std.specs.Io.KnownBytes.{IsAtEnd, ReadConsumes};
 ghost use Rattle.scr_io.specs.Cause.{HasCause, Rose};
 ghost use Rattle.scr_io.specs.Content.{Content, IsPresentAnd, RisesOnlyIfAbsent};
+ghost use Rattle.scr_io.specs.Reading.{UnlessFailed};
 
 use crate::{Failed, NoMemory};
 use std::alloc::Global;
@@ -33,8 +34,10 @@ pub trait Shelf {
             (IsPresentAnd (content self.old name.now) (λ bytes. left self.new ≡ Some bytes)) }
         ensures closed { OnErr result (IsAtEnd (left self.new)) }
         ensures cause { HasCause (faults self.old) (faults self.new) result }
+        ensures steady { OnOk result (faults self.new ≡ faults self.old) }
         ensures faults_stay { faults self.old ≤ faults self.new }
-        ensures strays_stay { RisesOnlyIfAbsent (content self.old name.now) (strays self.old) (strays self.new) }
+        ensures strays_stay { RisesOnlyIfAbsent (content self.old name.now) (strays self.old)
+            (strays self.new) }
         ensures content_stays { content self.new ≡ content self.old };
 
     /// Gives the next bytes that are left and says how many: one or more, or none exactly at the
@@ -43,6 +46,7 @@ pub trait Shelf {
         ensures bound { ReadsAtMost result buf.new }
         ensures bytes { ReadConsumes (left self.old) (left self.new) result buf.new }
         ensures cause { HasCause (faults self.old) (faults self.new) result }
+        ensures steady { OnOk result (faults self.new ≡ faults self.old) }
         ensures faults_stay { faults self.old ≤ faults self.new }
         ensures strays_stay { strays self.new ≡ strays self.old }
         ensures content_stays { content self.new ≡ content self.old };
@@ -94,9 +98,12 @@ pub fn read_all<F: Shelf>(alloc: Global, shelf: &mut F, name: &str) -> Result<Ve
         IsPresentAnd (F.content shelf.old name.now) (λ bytes. MAX_BYTES < length bytes) }
     ensures failed { IsErrOf result ReadFault.Failed →
         Rose (F.faults shelf.old) (F.faults shelf.new) }
+    ensures steady { UnlessFailed result
+        ((F.faults shelf.new ≡ F.faults shelf.old) × (F.strays shelf.new ≡ F.strays shelf.old)) }
 
     ensures faults_stay { F.faults shelf.old ≤ F.faults shelf.new }
-    ensures strays_stay { RisesOnlyIfAbsent (F.content shelf.old name.now) (F.strays shelf.old) (F.strays shelf.new) }
+    ensures strays_stay { RisesOnlyIfAbsent (F.content shelf.old name.now) (F.strays shelf.old)
+        (F.strays shelf.new) }
     ensures content_stays { F.content shelf.new ≡ F.content shelf.old }
 {
     shelf.open(name)?;

@@ -22,6 +22,7 @@ pub trait Sink {
         ensures progress { 0 < length bytes.now → IfOk result (λ count. 0 < count) }
         ensures appends { WriteAppends (written self.old) (written self.new) result bytes.now }
         ensures cause { HasCause (faults self.old) (faults self.new) result }
+        ensures steady { OnOk result (faults self.new ≡ faults self.old) }
         ensures faults_stay { faults self.old ≤ faults self.new };
 }
 
@@ -30,6 +31,7 @@ pub fn write_all<K: Sink>(sink: &mut K, bytes: &[u8]) -> Result<(), Failed>
     ensures ok { OnOk result (Appends (K.written sink.old) (K.written sink.new) bytes.now) }
     ensures front { AppendsFront (K.written sink.old) (K.written sink.new) bytes.now }
     ensures failed { HasCause (K.faults sink.old) (K.faults sink.new) result }
+    ensures steady { OnOk result (K.faults sink.new ≡ K.faults sink.old) }
     ensures faults_stay { K.faults sink.old ≤ K.faults sink.new }
 {
     let mut rest = bytes;

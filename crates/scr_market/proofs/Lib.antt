@@ -1,1 +1,5 @@
 pub mod EquityBounds
+pub mod PropertyLemmas
+pub mod SpreadLemmas
+pub mod CurrencyLemmas
+pub mod MarketLemmas

@@ -1,3 +1,10 @@
 pub mod Equity
 pub mod EquityEnds
-pub mod Amounts
+pub mod Property
+pub mod PropertyEnds
+pub mod Spread
+pub mod SpreadEnds
+pub mod Currency
+pub mod CurrencyEnds
+pub mod Market
+pub mod MarketEnds

@@ -1,3 +1,6 @@
 pub mod NameBytes
 pub mod TableRows
+pub mod TableSums
 pub mod Entries
+pub mod Moves
+pub mod PastRows

@@ -1,3 +1,4 @@
 pub mod Names
 pub mod Tables
-pub mod Kept
+pub mod ByName
+pub mod Pasts

@@ -2,11 +2,15 @@
 #![tactic(auto)]
 
 mod name;
-mod names;
+mod past;
+mod room;
+mod series;
+mod summed;
 mod table;
-#[cfg(test)]
-mod tests;
 
 pub use name::Name;
-pub use names::Names;
+pub use past::{Copied, Past};
+pub use room::Room;
+pub use series::{Names, Series};
+pub use summed::{Measured, Summed};
 pub use table::{Row, Rows};

@@ -1,8 +1,10 @@
 //! Names of rows, and of currencies.
-ghost use Rattle.std.specs.Prelude.{◌≡◌, ℕ, ◌≤◌, List, length, Some, None, IfSome, IsTrue, if◌then◌else◌, nat_eq, refl};
+ghost use Rattle.std.specs.Prelude.{◌≡◌, ℕ, ◌≤◌, List, length, Some, None, IfSome, IsTrue};
+ghost use Rattle.std.specs.Prelude.{if◌then◌else◌, nat_eq, refl};
 ghost use Rattle.std.specs.Ordering.{nat_cmp};
 ghost use Rattle.std.specs.Cmp.{on_equiv, on_total, on_po, on_per, partial_equiv_from_equiv};
-ghost use Rattle.std.specs.Cmp.Lexicographic.{slice_cmp, nat_list_eq_equiv, nat_list_cmp_total, texts_po, texts_ties};
+ghost use Rattle.std.specs.Cmp.Lexicographic.{slice_cmp, nat_list_eq_equiv, nat_list_cmp_total};
+ghost use Rattle.std.specs.Cmp.Lexicographic.{texts_po, texts_ties};
 ghost use Rattle.std.specs.Cmp.Rules.{hashing};
 ghost use Rattle.std.specs.Hash as fed;
 ghost use Rattle.std.proofs.Common.{rules};
@@ -31,14 +33,15 @@ impl Model for Name {
 
     ghost view = { λ n. take n.len n.cells };
 
-    ghost invariant = { λ n. (n.len ≤ 32) × (n.cells ≡ padded (take n.len n.cells)) × (length n.cells ≡ 32) };
+    ghost invariant = { λ n. (n.len ≤ 32)
+        × (n.cells ≡ padded (take n.len n.cells)) × (length n.cells ≡ 32) };
 
     ghost inverse = { λ bytes. record { cells = padded bytes; len = length bytes } };
 }
 
 impl Name {
-    /// The name that the text spells: 1 to 32 letters, digits, `_`, `.` and `-`, of which the first is a letter
-    /// or a digit. None exactly where the text has another form.
+    /// The name that the text spells: 1 to 32 letters, digits, `_`, `.` and `-`, of which the first
+    /// is a letter or a digit. None exactly where the text has another form.
     pub fn parse(text: &[u8]) -> Option<Name>
         ensures cases { result ≡ (if is_name text.now then Some text.now else None) }
         ensures formed { IfSome result (λ name. IsTrue (is_name name)) }

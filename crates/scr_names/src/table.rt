@@ -1,5 +1,7 @@
 //! A table of rows, each under its own name.
-ghost use Rattle.std.specs.Prelude.{◌≡◌, ℕ, ◌<◌, ◌^◌, ◌↔◌, IsTrue, List, [], length, map, slice_get, is_some, Some, IfSome, false, OnOk, OnErr, MatchOption};
+ghost use Rattle.std.specs.Prelude.{◌≡◌, ℕ, ◌<◌, ◌^◌, ◌↔◌, IsTrue, List, [], length, map};
+ghost use Rattle.std.specs.Prelude.{slice_get, is_some, Some, IfSome, false, OnOk, OnErr};
+ghost use Rattle.std.specs.Prelude.{MatchOption};
 ghost use Rattle.std.specs.List.{IsDistinct};
 ghost use Rattle.std.specs.Option.{option_copied, option_map};
 ghost use Rattle.std.specs.Map.Iter.{deref, ShowsInOrder};
@@ -22,16 +24,17 @@ pub trait Row: Drop {
         ensures { result ≡ name_of self.now };
 }
 
-/// The rows of a table, in the order in which their names first came. Contracts see the list of the rows.
+/// The rows of a table, in the order in which their names first came. Contracts see the list of the
+/// rows.
 #[derive(Drop)]
 pub struct Rows<R: Row> {
-    map: IndexMap<Name, R>,
+    pub(crate) map: IndexMap<Name, R>,
 }
 
 impl<R: Row> Model for Rows<R> {
     ghost use Rattle.std.specs.Prelude.{◌≡◌, List};
     ghost use Rattle.std.specs.HashMap.{values};
-    ghost use Rattle.scr_names.specs.Kept.{by_name};
+    ghost use Rattle.scr_names.specs.ByName.{by_name};
 
     ghost Value = { List R };
 
@@ -82,7 +85,8 @@ impl<R: Row> Rows<R> {
     /// The place of the row of this name.
     pub fn place(&self, name: &Name) -> Option<usize>
         ensures there { is_some result ≡ has_row R.name_of name.now self.now }
-        ensures place { IfSome result (λ k. option_map R.name_of (slice_get self.now k) ≡ Some name.now) }
+        ensures place { IfSome result
+            (λ k. option_map R.name_of (slice_get self.now k) ≡ Some name.now) }
     {
         self.map.get_index_of(name)
     }
@@ -95,8 +99,8 @@ impl<R: Row> Rows<R> {
         &self.map[k]
     }
 
-    /// The row takes the place of the one of its name, and one of a new name goes last. Memory is taken for a new
-    /// name alone.
+    /// The row takes the place of the one of its name, and one of a new name goes last. Memory is
+    /// taken for a new name alone.
     pub fn put(&mut self, row: R) -> Result<(), NoMemory>
         ensures ok { OnOk result (self.new ≡ with_row R.name_of row self.old) }
         ensures err { OnErr result (self.new ≡ self.old) }
@@ -123,11 +127,15 @@ impl<R: Row> Rows<R> {
         self.map.values()
     }
 
-    /// Changes the row of this name in its place, where there is one. The change must leave the row its name.
+    /// Changes the row of this name in its place, where there is one. The change must leave the row
+    /// its name.
     pub fn change<F: FnOnce(&mut R)>(&mut self, name: &Name, change: F)
         requires callable { F.IsAlwaysCallable change }
-        requires named { (old new : R) → FnOnceReturnsAtMut F.FnOnce change old tt new → R.name_of new ≡ R.name_of old }
-        ensures { MatchOption (row_of R.name_of name.now self.old) (self.new ≡ self.old) (λ old. (new : R) × FnOnceReturnsAtMut F.FnOnce change old tt new × (self.new ≡ with_row R.name_of new self.old)) }
+        requires named { (old new : R) → FnOnceReturnsAtMut F.FnOnce change old tt new
+            → R.name_of new ≡ R.name_of old }
+        ensures { MatchOption (row_of R.name_of name.now self.old) (self.new ≡ self.old)
+            (λ old. (new : R) × FnOnceReturnsAtMut F.FnOnce change old tt new
+            × (self.new ≡ with_row R.name_of new self.old)) }
     {
         let Some(row) = self.map.get_mut(name) else {
             return;

@@ -3,7 +3,8 @@ use Rattle.std.proofs.Common.{◌≡◌, ℤ, pos, ◌+ℤ◌, ap₂, arith}
 use Rattle.std.proofs.lemmas.Int.{ints}
 use Rattle.scr_num.specs.Rounding.{Ends, exact_ends, add_ends}
 
-pub same_ends : (a b c d : ℤ) → a ≡ c → b ≡ d → ◌≡◌ {A = Ends} (record { low = a; high = b }) (record { low = c; high = d })
+pub same_ends : (a b c d : ℤ) → a ≡ c → b ≡ d
+    → ◌≡◌ {A = Ends} (record { low = a; high = b }) (record { low = c; high = d })
 same_ends a b c d e f = ap₂ (λ (x : ℤ) (y : ℤ). let r : Ends = record { low = x; high = y } in r) e f
 
 pub add_ends-assoc : (a b c : Ends) → add_ends (add_ends a b) c ≡ add_ends a (add_ends b c)

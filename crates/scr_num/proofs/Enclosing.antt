@@ -1,5 +1,6 @@
 -- Each operator's ends enclose the figure made of the figures that its arguments' ends enclose.
-use Rattle.std.proofs.Common.{◌⊎◌, ◌≡◌, ℕ, zero, suc, ◌+◌, ◌*◌, ◌<◌, ◌≤◌, inl, inr, ℤ, pos, negsuc, ◌+ℤ◌, ◌-ℤ◌, ◌*ℤ◌, ◌≤ℤ◌, arith, ap, mul-pos, mul-le-mul_right, le_of_mul-le-mul_right}
+use Rattle.std.proofs.Common.{◌⊎◌, ◌≡◌, ℕ, zero, suc, ◌+◌, ◌*◌, ◌<◌, ◌≤◌, inl, inr, ℤ, pos, negsuc, ◌+ℤ◌, ◌-ℤ◌, ◌*ℤ◌}
+use Rattle.std.proofs.Common.{◌≤ℤ◌, arith, ap, mul-pos, mul-le-mul_right, le_of_mul-le-mul_right}
 use Rattle.std.proofs.lemmas.Int.{ints}
 use Rattle.std.specs.Int.Signed.{≤ℤ_refl}
 use Rattle.std.specs.Int.{int_max, int_min}
@@ -7,11 +8,13 @@ use Rattle.std.proofs.lemmas.Int.{clamps}
 use borrow.Author.Differences.{up, down, at_most_in}
 use Rattle.scr_num.specs.Fraction.{Fraction, Share, ◌≼◌, over, zero_fraction, plus, minus}
 use Rattle.scr_num.specs.Figure.{Figure, Frac, Sum, Diff, Times, Max, Min, RootOf, AtMost, AtLeast}
-use Rattle.scr_num.specs.Rounding.{Ends, scale_ends, floor_div, ceil_div, floor_root, ceil_root, or_zero}
+use Rattle.scr_num.specs.declared.span.Span.{Span}
+use Rattle.scr_num.specs.Rounding.{Ends, ends, scale_ends, floor_div, ceil_div, floor_root, ceil_root, or_zero}
 use Rattle.scr_num.specs.Enclosure.{Encloses, Measures, Converts}
 use Rattle.scr_num.proofs.Roots.{floor_root-zero, floor_root-square, ceil_root-square}
 use Rattle.scr_num.proofs.Quotients.{floor_div-times, ceil_div-times}
-use Rattle.scr_num.proofs.Fractions.{≼_trans, plus_mono, minus_mono, over_mono, over-plus_le, over-plus_ge, over-minus_le, over-minus_ge, times_split}
+use Rattle.scr_num.proofs.Fractions.{≼_trans, plus_mono, minus_mono, over_mono, over-plus_le, over-plus_ge}
+use Rattle.scr_num.proofs.Fractions.{over-minus_le, over-minus_ge, times_split}
 use Rattle.scr_num.proofs.Witnesses.{lower-le-upper, AtMost-down, AtLeast-up}
 
 -- ---- one number
@@ -24,25 +27,52 @@ Encloses-exact unit v p h = record {
 }
 
 -- ---- a sum
-pub Encloses-add : (unit : ℕ) (a b c d : ℤ) (f g : Figure) → Encloses unit a b f → Encloses unit c d g → Encloses unit (a +ℤ c) (b +ℤ d) (Sum f g)
+pub Encloses-add : (unit : ℕ) (a b c d : ℤ) (f g : Figure) → Encloses unit a b f → Encloses unit c d g
+    → Encloses unit (a +ℤ c) (b +ℤ d) (Sum f g)
 unfolding AtMost
 Encloses-add unit a b c d f g h k = record {
   positive = h.positive;
-  at_most = (over a unit h.positive, over c unit k.positive, h.at_most, k.at_most, over-plus_le a c unit h.positive h.positive k.positive);
-  at_least = (over b unit h.positive, over d unit k.positive, h.at_least, k.at_least, over-plus_ge b d unit h.positive h.positive k.positive);
+  at_most = (
+    over a unit h.positive,
+    over c unit k.positive,
+    h.at_most,
+    k.at_most,
+    over-plus_le a c unit h.positive h.positive k.positive,
+  );
+  at_least = (
+    over b unit h.positive,
+    over d unit k.positive,
+    h.at_least,
+    k.at_least,
+    over-plus_ge b d unit h.positive h.positive k.positive,
+  );
 }
 
 -- ---- a difference
-pub Encloses-sub : (unit : ℕ) (a b c d : ℤ) (f g : Figure) → Encloses unit a b f → Encloses unit c d g → Encloses unit (a -ℤ d) (b -ℤ c) (Diff f g)
+pub Encloses-sub : (unit : ℕ) (a b c d : ℤ) (f g : Figure) → Encloses unit a b f → Encloses unit c d g
+    → Encloses unit (a -ℤ d) (b -ℤ c) (Diff f g)
 unfolding AtMost
 Encloses-sub unit a b c d f g h k = record {
   positive = h.positive;
-  at_most = (over a unit h.positive, over d unit k.positive, h.at_most, k.at_least, over-minus_le a d unit h.positive h.positive k.positive);
-  at_least = (over b unit h.positive, over c unit k.positive, h.at_least, k.at_most, over-minus_ge b c unit h.positive h.positive k.positive);
+  at_most = (
+    over a unit h.positive,
+    over d unit k.positive,
+    h.at_most,
+    k.at_least,
+    over-minus_le a d unit h.positive h.positive k.positive,
+  );
+  at_least = (
+    over b unit h.positive,
+    over c unit k.positive,
+    h.at_least,
+    k.at_most,
+    over-minus_ge b c unit h.positive h.positive k.positive,
+  );
 }
 
 -- ---- a sum and a difference of fractions, each of which comes to a fraction
-pub Encloses-plus : (unit : ℕ) (low high : ℤ) (p q : Fraction) → Encloses unit low high (Sum (Frac p) (Frac q)) → Encloses unit low high (Frac (plus p q))
+pub Encloses-plus : (unit : ℕ) (low high : ℤ) (p q : Fraction) → Encloses unit low high (Sum (Frac p) (Frac q))
+    → Encloses unit low high (Frac (plus p q))
 unfolding AtMost
 Encloses-plus unit low high p q h =
     let a = h.at_most in
@@ -53,7 +83,8 @@ Encloses-plus unit low high p q h =
       at_least = ≼_trans (plus p q) (plus b.0 b.1) (over high unit h.positive) (plus_mono p b.0 q b.1 b.2 b.3) b.4;
     }
 
-pub Encloses-minus : (unit : ℕ) (low high : ℤ) (p q : Fraction) → Encloses unit low high (Diff (Frac p) (Frac q)) → Encloses unit low high (Frac (minus p q))
+pub Encloses-minus : (unit : ℕ) (low high : ℤ) (p q : Fraction) → Encloses unit low high (Diff (Frac p) (Frac q))
+    → Encloses unit low high (Frac (minus p q))
 unfolding AtMost
 Encloses-minus unit low high p q h =
     let a = h.at_most in
@@ -65,25 +96,32 @@ Encloses-minus unit low high p q h =
     }
 
 -- ---- a product with a fraction, which may change the unit
-share_below : (q v : ℤ) (num den old new pn pd : ℕ) → 0 < den → pn * (den * new) ≡ pd * (num * old) → (q *ℤ pos den) ≤ℤ (v *ℤ pos num)
+share_below : (q v : ℤ) (num den old new pn pd : ℕ) → 0 < den → pn * (den * new) ≡ pd * (num * old)
+    → (q *ℤ pos den) ≤ℤ (v *ℤ pos num)
     → (q *ℤ pos (old * pd)) ≤ℤ ((v *ℤ pos pn) *ℤ pos new)
 share_below q v num den old new pn pd positive e h =
-    let a : (up q * den + down v * num) * (old * pd) ≤ (up v * num + down q * den) * (old * pd) = mul-le-mul_right (old * pd) (omega (arith, ints)) in
+    let a : (up q * den + down v * num) * (old * pd) ≤ (up v * num + down q * den) * (old * pd) =
+    mul-le-mul_right (old * pd) (omega (arith, ints)) in
     let b : (up q * (old * pd) + down v * pn * new) * den ≤ (up v * pn * new + down q * (old * pd)) * den =
     omega (arith, a, ap (λ (x : ℕ). up v * x) e, ap (λ (x : ℕ). down v * x) e) in
     let c = le_of_mul-le-mul_right b positive in
-    at_most_in _ _ (omega (arith, ints, c, times_split (v *ℤ pos pn) (up v * pn) (down v * pn) new (omega (arith, ints))))
+    at_most_in _ _
+    (omega (arith, ints, c, times_split (v *ℤ pos pn) (up v * pn) (down v * pn) new (omega (arith, ints))))
 
-share_above : (q v : ℤ) (num den old new pn pd : ℕ) → 0 < den → pn * (den * new) ≡ pd * (num * old) → (v *ℤ pos num) ≤ℤ (q *ℤ pos den)
+share_above : (q v : ℤ) (num den old new pn pd : ℕ) → 0 < den → pn * (den * new) ≡ pd * (num * old)
+    → (v *ℤ pos num) ≤ℤ (q *ℤ pos den)
     → ((v *ℤ pos pn) *ℤ pos new) ≤ℤ (q *ℤ pos (old * pd))
 share_above q v num den old new pn pd positive e h =
-    let a : (up v * num + down q * den) * (old * pd) ≤ (up q * den + down v * num) * (old * pd) = mul-le-mul_right (old * pd) (omega (arith, ints)) in
+    let a : (up v * num + down q * den) * (old * pd) ≤ (up q * den + down v * num) * (old * pd) =
+    mul-le-mul_right (old * pd) (omega (arith, ints)) in
     let b : (up v * pn * new + down q * (old * pd)) * den ≤ (up q * (old * pd) + down v * pn * new) * den =
     omega (arith, a, ap (λ (x : ℕ). up v * x) e, ap (λ (x : ℕ). down v * x) e) in
     let c = le_of_mul-le-mul_right b positive in
-    at_most_in _ _ (omega (arith, ints, c, times_split (v *ℤ pos pn) (up v * pn) (down v * pn) new (omega (arith, ints))))
+    at_most_in _ _
+    (omega (arith, ints, c, times_split (v *ℤ pos pn) (up v * pn) (down v * pn) new (omega (arith, ints))))
 
-pub Encloses-scale : (old new num den : ℕ) (low high : ℤ) (f : Figure) (share : Share) → 0 < den → Converts old new num den share → Encloses old low high f
+pub Encloses-scale : (old new num den : ℕ) (low high : ℤ) (f : Figure) (share : Share) → 0 < den
+    → Converts old new num den share → Encloses old low high f
     → Encloses new (floor_div (low *ℤ pos num) den) (ceil_div (high *ℤ pos num) den) (Times f share)
 unfolding AtMost
 Encloses-scale old new num den low high f share positive c h = record {
@@ -92,14 +130,16 @@ Encloses-scale old new num den low high f share positive c h = record {
     over low old h.positive,
     h.at_most,
     record {
-      cross = share_below _ low num den old new share.num share.den positive c.equal (floor_div-times (low *ℤ pos num) den positive);
+      cross = share_below _ low num den old new share.num share.den positive c.equal
+          (floor_div-times (low *ℤ pos num) den positive);
     },
   );
   at_least = (
     over high old h.positive,
     h.at_least,
     record {
-      cross = share_above _ high num den old new share.num share.den positive c.equal (ceil_div-times (high *ℤ pos num) den positive);
+      cross = share_above _ high num den old new share.num share.den positive c.equal
+          (ceil_div-times (high *ℤ pos num) den positive);
     },
   );
 }
@@ -115,7 +155,8 @@ over_zero unit n positive e = record { cross = omega (arith, ints) }
 pub over_nonneg : (unit n : ℕ) (positive : 0 < unit) → zero_fraction ≼ over (pos n) unit positive
 over_nonneg unit n positive = record { cross = omega (arith, ints) }
 
-pub AtMost-root : (unit : ℕ) (low : ℤ) (f : Figure) (positive : 0 < unit) (squared : 0 < unit * unit) → AtMost (over low (unit * unit) squared) f
+pub AtMost-root : (unit : ℕ) (low : ℤ) (f : Figure) (positive : 0 < unit) (squared : 0 < unit * unit)
+    → AtMost (over low (unit * unit) squared) f
     → AtMost (over (pos (floor_root (or_zero low))) unit positive) (RootOf f)
 unfolding AtMost
 AtMost-root unit (negsuc n) f positive squared h = inl (over_zero unit (floor_root 0) positive floor_root-zero)
@@ -123,10 +164,12 @@ AtMost-root unit (pos n) f positive squared h =
     inr (
       over (pos n) (unit * unit) squared,
       h,
-      over_mono (pos (floor_root n) *ℤ pos (floor_root n)) (pos n) (unit * unit) (mul-pos positive positive) squared (omega (arith, ints, floor_root-square n)),
+      over_mono (pos (floor_root n) *ℤ pos (floor_root n)) (pos n) (unit * unit) (mul-pos positive positive) squared
+          (omega (arith, ints, floor_root-square n)),
     )
 
-pub AtLeast-root : (unit : ℕ) (high : ℤ) (f : Figure) (positive : 0 < unit) (squared : 0 < unit * unit) → AtLeast (over high (unit * unit) squared) f
+pub AtLeast-root : (unit : ℕ) (high : ℤ) (f : Figure) (positive : 0 < unit) (squared : 0 < unit * unit)
+    → AtLeast (over high (unit * unit) squared) f
     → AtLeast (over (pos (ceil_root (or_zero high))) unit positive) (RootOf f)
 unfolding AtMost
 AtLeast-root unit high f positive squared h = (
@@ -134,7 +177,8 @@ AtLeast-root unit high f positive squared h = (
   (
     over high (unit * unit) squared,
     h,
-    over_mono high (pos (ceil_root (or_zero high)) *ℤ pos (ceil_root (or_zero high))) (unit * unit) squared (mul-pos positive positive)
+    over_mono high (pos (ceil_root (or_zero high)) *ℤ pos (ceil_root (or_zero high))) (unit * unit) squared
+        (mul-pos positive positive)
         (below high (ceil_root (or_zero high)) (ceil_root-square (or_zero high))),
   ),
 )
@@ -156,13 +200,16 @@ Encloses-root_of unit low high f h =
 -- ---- a coarser unit
 coarser_below : (q v : ℤ) (unit k : ℕ) → (q *ℤ pos k) ≤ℤ v → (q *ℤ pos (unit * k)) ≤ℤ (v *ℤ pos unit)
 coarser_below q v unit k h =
-    let a : (up q * k + down v) * unit ≤ (up v + down q * k) * unit = mul-le-mul_right unit (omega (arith, ints)) in omega (arith, ints)
+    let a : (up q * k + down v) * unit ≤ (up v + down q * k) * unit = mul-le-mul_right unit (omega (arith, ints)) in
+    omega (arith, ints)
 
 coarser_above : (q v : ℤ) (unit k : ℕ) → v ≤ℤ (q *ℤ pos k) → (v *ℤ pos unit) ≤ℤ (q *ℤ pos (unit * k))
 coarser_above q v unit k h =
-    let a : (up v + down q * k) * unit ≤ (up q * k + down v) * unit = mul-le-mul_right unit (omega (arith, ints)) in omega (arith, ints)
+    let a : (up v + down q * k) * unit ≤ (up q * k + down v) * unit = mul-le-mul_right unit (omega (arith, ints)) in
+    omega (arith, ints)
 
-pub Encloses-coarser : (unit k : ℕ) (low high : ℤ) (f : Figure) → 0 < k → Encloses (unit * k) low high f → Encloses unit (floor_div low k) (ceil_div high k) f
+pub Encloses-coarser : (unit k : ℕ) (low high : ℤ) (f : Figure) → 0 < k → Encloses (unit * k) low high f
+    → Encloses unit (floor_div low k) (ceil_div high k) f
 Encloses-coarser unit k low high f positive h =
     let unit_is = factor unit k h.positive in
     record {
@@ -178,7 +225,8 @@ Encloses-coarser unit k low high f positive h =
     factor (suc m) n h = omega arith
 
 -- the same of a quotient as it is worked out
-pub Encloses-divided : (unit k : ℕ) (e : Ends) (f : Figure) → 0 < k → Encloses (unit * k) e.low e.high f → Encloses unit (scale_ends e 1 k).low (scale_ends e 1 k).high f
+pub Encloses-divided : (unit k : ℕ) (e : Ends) (f : Figure) → 0 < k → Encloses (unit * k) e.low e.high f
+    → Encloses unit (scale_ends e 1 k).low (scale_ends e 1 k).high f
 Encloses-divided unit k e f positive h =
     let once : (z : ℤ) → z *ℤ pos 1 ≡ z = λ z. omega (arith, ints) in
     let coarser = Encloses-coarser unit k e.low e.high f positive h in
@@ -189,11 +237,15 @@ Encloses-divided unit k e f positive h =
     }
 
 -- ---- the greater and the smaller of two figures
-at_most_at : (unit : ℕ) (v w : ℤ) (f : Figure) (positive positive' : 0 < unit) → v ≤ℤ w → AtMost (over w unit positive') f → AtMost (over v unit positive) f
-at_most_at unit v w f positive positive' h below = AtMost-down f (over v unit positive) (over w unit positive') (over_mono v w unit positive positive' h) below
+at_most_at : (unit : ℕ) (v w : ℤ) (f : Figure) (positive positive' : 0 < unit) → v ≤ℤ w
+    → AtMost (over w unit positive') f → AtMost (over v unit positive) f
+at_most_at unit v w f positive positive' h below =
+    AtMost-down f (over v unit positive) (over w unit positive') (over_mono v w unit positive positive' h) below
 
-at_least_at : (unit : ℕ) (v w : ℤ) (f : Figure) (positive positive' : 0 < unit) → v ≤ℤ w → AtLeast (over v unit positive') f → AtLeast (over w unit positive) f
-at_least_at unit v w f positive positive' h above = AtLeast-up f (over v unit positive') (over w unit positive) (over_mono v w unit positive' positive h) above
+at_least_at : (unit : ℕ) (v w : ℤ) (f : Figure) (positive positive' : 0 < unit) → v ≤ℤ w
+    → AtLeast (over v unit positive') f → AtLeast (over w unit positive) f
+at_least_at unit v w f positive positive' h above =
+    AtLeast-up f (over v unit positive') (over w unit positive) (over_mono v w unit positive' positive h) above
 
 pub either_max : (a c : ℤ) → (int_max a c ≡ a) ⊎ (int_max a c ≡ c)
 either_max a c = grind (arith, ints, clamps)
@@ -201,7 +253,8 @@ either_max a c = grind (arith, ints, clamps)
 either_min : (a c : ℤ) → (int_min a c ≡ a) ⊎ (int_min a c ≡ c)
 either_min a c = grind (arith, ints, clamps)
 
-pub Encloses-max : (unit : ℕ) (a b c d : ℤ) (f g : Figure) → Encloses unit a b f → Encloses unit c d g → Encloses unit (int_max a c) (int_max b d) (Max f g)
+pub Encloses-max : (unit : ℕ) (a b c d : ℤ) (f g : Figure) → Encloses unit a b f → Encloses unit c d g
+    → Encloses unit (int_max a c) (int_max b d) (Max f g)
 unfolding AtMost
 Encloses-max unit a b c d f g h k = record {
   positive = h.positive;
@@ -215,7 +268,8 @@ Encloses-max unit a b c d f g h k = record {
   );
 }
 
-pub Encloses-min : (unit : ℕ) (a b c d : ℤ) (f g : Figure) → Encloses unit a b f → Encloses unit c d g → Encloses unit (int_min a c) (int_min b d) (Min f g)
+pub Encloses-min : (unit : ℕ) (a b c d : ℤ) (f g : Figure) → Encloses unit a b f → Encloses unit c d g
+    → Encloses unit (int_min a c) (int_min b d) (Min f g)
 unfolding AtMost
 Encloses-min unit a b c d f g h k = record {
   positive = h.positive;
@@ -230,17 +284,30 @@ Encloses-min unit a b c d f g h k = record {
 }
 
 -- ---- wider ends, and two that enclose one figure
-pub Encloses-wider : (unit : ℕ) (low low' high high' : ℤ) (f : Figure) → low' ≤ℤ low → high ≤ℤ high' → Encloses unit low high f → Encloses unit low' high' f
+pub Encloses-wider : (unit : ℕ) (low low' high high' : ℤ) (f : Figure) → low' ≤ℤ low → high ≤ℤ high'
+    → Encloses unit low high f → Encloses unit low' high' f
 Encloses-wider unit low low' high high' f a b h = record {
   positive = h.positive;
-  at_most = AtMost-down f (over low' unit h.positive) (over low unit h.positive) (over_mono low' low unit h.positive h.positive a) h.at_most;
-  at_least = AtLeast-up f (over high unit h.positive) (over high' unit h.positive) (over_mono high high' unit h.positive h.positive b) h.at_least;
+  at_most = AtMost-down f (over low' unit h.positive) (over low unit h.positive)
+      (over_mono low' low unit h.positive h.positive a) h.at_most;
+  at_least = AtLeast-up f (over high unit h.positive) (over high' unit h.positive)
+      (over_mono high high' unit h.positive h.positive b) h.at_least;
 }
 
-pub Encloses-overlap : (unit unit' : ℕ) (low high low' high' : ℤ) (f : Figure) → Encloses unit low high f → Encloses unit' low' high' f → (low *ℤ pos unit') ≤ℤ (high' *ℤ pos unit)
+pub Encloses-overlap : (unit unit' : ℕ) (low high low' high' : ℤ) (f : Figure) → Encloses unit low high f
+    → Encloses unit' low' high' f → (low *ℤ pos unit') ≤ℤ (high' *ℤ pos unit)
 Encloses-overlap unit unit' low high low' high' f h k =
-    let order = lower-le-upper f (over low unit h.positive) (over high' unit' k.positive) h.at_most k.at_least in order.cross
+    let order = lower-le-upper f (over low unit h.positive) (over high' unit' k.positive) h.at_most k.at_least in
+    order.cross
 
 -- ends that are written in another way
-pub Encloses-same : (unit : ℕ) (low low' high high' : ℤ) (f : Figure) → low ≡ low' → high ≡ high' → Encloses unit low' high' f → Encloses unit low high f
+pub Encloses-same : (unit : ℕ) (low low' high high' : ℤ) (f : Figure) → low ≡ low' → high ≡ high'
+    → Encloses unit low' high' f → Encloses unit low high f
 Encloses-same unit low low' high high' f a b h = rw (a, b) h
+
+-- a span with those ends
+pub Encloses-span : (unit : ℕ) (span : Span) (e : Ends) (f : Figure) → ends span ≡ e → Encloses unit e.low e.high f
+    → Encloses unit span.low span.high f
+Encloses-span unit span e f same h =
+    Encloses-same unit span.low e.low span.high e.high f (ap (λ (x : Ends). x.low) same)
+    (ap (λ (x : Ends). x.high) same) h

@@ -4,7 +4,8 @@ use Rattle.std.specs.Int.Signed.{le_z_yes}
 use Rattle.scr_num.specs.Fraction.{over, whole}
 use Rattle.scr_num.specs.Table.{Table, row_sum, sum_over}
 use Rattle.scr_num.specs.Figure.{Frac, RootOf, AtMost, AtLeast}
-use Rattle.scr_num.specs.Rounding.{Ends, exact_ends, floor_div, ceil_div, floor_root_from, floor_root, ceil_root_from, ceil_root, low_form, high_form, quad_ends}
+use Rattle.scr_num.specs.Rounding.{Ends, exact_ends, floor_div, ceil_div, floor_root_from, floor_root, ceil_root_from}
+use Rattle.scr_num.specs.Rounding.{ceil_root, low_form, high_form, quad_ends}
 use Rattle.scr_num.proofs.Roots.{floor_root-unique, ceil_root-unique}
 
 -- halves of 7 and of -7, and 10 and -10 in thirds
@@ -33,7 +34,8 @@ root_of_two_from_below = inr (whole (pos 2), record { cross = le_z_yes tt }, rec
 
 root_of_two_from_above : AtLeast (over (pos 3) 2 (lit< tt)) (RootOf (Frac (whole (pos 2))))
 unfolding AtMost
-root_of_two_from_above = (record { cross = le_z_yes tt }, (whole (pos 2), record { cross = le_z_yes tt }, record { cross = le_z_yes tt }))
+root_of_two_from_above =
+    (record { cross = le_z_yes tt }, (whole (pos 2), record { cross = le_z_yes tt }, record { cross = le_z_yes tt }))
 
 -- Two parts 3 and 4 with a correlation of -1/2: the form is 9 - 12 + 16, and its root lies between 3 and 4.
 opposed : Table
@@ -43,12 +45,13 @@ opposed_root : quad_ends (exact_ends (pos 3) ∷ exact_ends (pos 4) ∷ []) oppo
 unfolding opposed quad_ends low_form high_form sum_over row_sum floor_root floor_root_from ceil_root ceil_root_from
 opposed_root = refl
 
--- Types 1 and 2 of an equity book, 390 and 245 euros in thousandths of a cent, with the correlation 3/4: the root lies between
--- 596.19 and 596.20 euros.
+-- Types 1 and 2 of an equity book, 390 and 245 euros in thousandths of a cent, with the correlation 3/4: the root lies
+-- between 596.19 and 596.20 euros.
 equity : Table
 equity = record { den = 4; rows = (pos 4 ∷ pos 3 ∷ []) ∷ (pos 3 ∷ pos 4 ∷ []) ∷ [] }
 
-equity_root : quad_ends (exact_ends (pos 39000000) ∷ exact_ends (pos 24500000) ∷ []) equity ≡ record { low = pos 59619627; high = pos 59619628 }
+equity_root : quad_ends (exact_ends (pos 39000000) ∷ exact_ends (pos 24500000) ∷ []) equity
+    ≡ record { low = pos 59619627; high = pos 59619628 }
 unfolding equity quad_ends low_form high_form sum_over row_sum
 equity_root =
     ap₂ (λ (x : ℕ) (y : ℕ). let r : Ends = record { low = pos x; high = pos y } in r)

@@ -24,7 +24,8 @@ module _ {A A' B B' : Type 0} (P : A → A' → Type 0) (R : B → B' → Type 0
   row_sum-related x x' (c ∷ cells) (y ∷ ys) (y' ∷ ys') h k =
       sums _ _ _ _ (terms c x x' y y' h k.0) (row_sum-related x x' cells ys ys' h k.1)
 
-  pub sum_over-related : (rows : List (List ℤ)) (xs : List A) (xs' : List A') (all : List A) (all' : List A') → Related P xs xs' → Related P all all'
+  pub sum_over-related : (rows : List (List ℤ)) (xs : List A) (xs' : List A') (all : List A) (all' : List A')
+      → Related P xs xs' → Related P all all'
       → R (sum_over zero add term rows xs all) (sum_over zero' add' term' rows xs' all')
   unfolding sum_over
   sum_over-related [] xs xs' all all' h k = zeros

@@ -1,9 +1,11 @@
 -- The order of fractions, and what the operations do to it.
-use Rattle.std.proofs.Common.{◌+ℤ◌, ◌-ℤ◌, ◌≡◌, ℕ, suc, ◌+◌, ◌*◌, ◌<◌, ◌≤◌, ℤ, pos, negsuc, ◌*ℤ◌, ◌≤ℤ◌, arith, ap, mul-le-mul, mul-le-mul_right, le_of_mul-le-mul_right, refl}
+use Rattle.std.proofs.Common.{◌+ℤ◌, ◌-ℤ◌, ◌≡◌, ℕ, suc, ◌+◌, ◌*◌, ◌<◌, ◌≤◌, ℤ, pos, negsuc, ◌*ℤ◌, ◌≤ℤ◌, arith, ap}
+use Rattle.std.proofs.Common.{mul-le-mul, mul-le-mul_right, le_of_mul-le-mul_right, refl}
 use Rattle.std.proofs.lemmas.Int.{ints}
 use Rattle.std.specs.Int.Signed.{≤ℤ_refl}
 use borrow.Author.Differences.{up, down, at_most_in}
-use Rattle.scr_num.specs.Fraction.{Fraction, Share, ◌≼◌, over, whole, zero_fraction, plus, minus, product, square, times}
+use Rattle.scr_num.specs.Fraction.{Fraction, Share, ◌≼◌, over, whole, zero_fraction, plus, minus, product, square}
+use Rattle.scr_num.specs.Fraction.{times}
 use Rattle.scr_num.proofs.Roots.{root_below}
 use Rattle.scr_num.proofs.Quotients.{times_le}
 
@@ -15,16 +17,23 @@ Crossed pu pd pden qu qd qden = pu * qden + qd * pden ≤ qu * pden + pd * qden
 pub times_split : (z : ℤ) (u d n : ℕ) → up z + d ≡ u + down z → up (z *ℤ pos n) + d * n ≡ u * n + down (z *ℤ pos n)
 times_split z u d n h = let e : (up z + d) * n ≡ (u + down z) * n = ap (λ (x : ℕ). x * n) h in omega (arith, ints)
 
-crossed_in : (p q : Fraction) (pu pd qu qd : ℕ) → up p.num + pd ≡ pu + down p.num → up q.num + qd ≡ qu + down q.num → Crossed pu pd p.den qu qd q.den → p ≼ q
+crossed_in : (p q : Fraction) (pu pd qu qd : ℕ) → up p.num + pd ≡ pu + down p.num → up q.num + qd ≡ qu + down q.num
+    → Crossed pu pd p.den qu qd q.den → p ≼ q
 unfolding Crossed
 crossed_in p q pu pd qu qd e f h =
     record { cross = at_most_in _ _ (omega (arith, times_split p.num pu pd q.den e, times_split q.num qu qd p.den f)) }
+
+pub ≼-by : (p q : Fraction) (pu pd qu qd : ℕ) → up p.num + pd ≡ pu + down p.num → up q.num + qd ≡ qu + down q.num
+    → pu * q.den + qd * p.den ≤ qu * p.den + pd * q.den → p ≼ q
+unfolding Crossed
+≼-by p q pu pd qu qd e f h = crossed_in p q pu pd qu qd e f h
 
 crossed_out : (p q : Fraction) → p ≼ q → Crossed (up p.num) (down p.num) p.den (up q.num) (down q.num) q.den
 unfolding Crossed
 crossed_out p q h = let k = h.cross in omega (arith, ints)
 
-crossed_from : (p q : Fraction) (pu pd qu qd : ℕ) → p ≼ q → up p.num + pd ≡ pu + down p.num → up q.num + qd ≡ qu + down q.num → Crossed pu pd p.den qu qd q.den
+crossed_from : (p q : Fraction) (pu pd qu qd : ℕ) → p ≼ q → up p.num + pd ≡ pu + down p.num
+    → up q.num + qd ≡ qu + down q.num → Crossed pu pd p.den qu qd q.den
 unfolding Crossed
 crossed_from p q pu pd qu qd h e f =
     let k = h.cross in omega (arith, ints, times_split p.num pu pd q.den e, times_split q.num qu qd p.den f)
@@ -38,7 +47,8 @@ unfolding Crossed
 ≼_trans p q r h k =
     let a = mul-le-mul_right r.den (crossed_out p q h) in
     let b = mul-le-mul_right p.den (crossed_out q r k) in
-    let c : (up p.num * r.den + down r.num * p.den) * q.den ≤ (up r.num * p.den + down p.num * r.den) * q.den = omega (arith, a, b) in
+    let c : (up p.num * r.den + down r.num * p.den) * q.den ≤ (up r.num * p.den + down p.num * r.den) * q.den =
+    omega (arith, a, b) in
     crossed_in p r _ _ _ _ refl refl (le_of_mul-le-mul_right c q.positive)
 
 pub plus_mono : (p p' q q' : Fraction) → p ≼ p' → q ≼ q' → plus p q ≼ plus p' q'
@@ -85,13 +95,16 @@ product_mono_ℤ (pos a) (pos a') (pos b) (pos b') ad ad' bd bd' ha ha' hb hb' h
 pub num_nonneg : (p : Fraction) → zero_fraction ≼ p → pos 0 ≤ℤ p.num
 num_nonneg p h = let k = h.cross in omega (arith, ints)
 
-pub product_mono : (p p' q q' : Fraction) → zero_fraction ≼ p → p ≼ p' → zero_fraction ≼ q → q ≼ q' → product p q ≼ product p' q'
+pub product_mono : (p p' q q' : Fraction) → zero_fraction ≼ p → p ≼ p' → zero_fraction ≼ q → q ≼ q'
+    → product p q ≼ product p' q'
 product_mono p p' q q' hp h hq k = record {
   cross = product_mono_ℤ p.num p'.num q.num q'.num p.den p'.den q.den q'.den (num_nonneg p hp)
-      (num_nonneg p' (≼_trans zero_fraction p p' hp h)) (num_nonneg q hq) (num_nonneg q' (≼_trans zero_fraction q q' hq k)) h.cross k.cross;
+      (num_nonneg p' (≼_trans zero_fraction p p' hp h)) (num_nonneg q hq)
+      (num_nonneg q' (≼_trans zero_fraction q q' hq k)) h.cross k.cross;
 }
 
-root_order_ℤ : (a b : ℤ) (ad bd : ℕ) → pos 0 ≤ℤ b → ((a *ℤ a) *ℤ pos (bd * bd)) ≤ℤ ((b *ℤ b) *ℤ pos (ad * ad)) → (a *ℤ pos bd) ≤ℤ (b *ℤ pos ad)
+root_order_ℤ : (a b : ℤ) (ad bd : ℕ) → pos 0 ≤ℤ b → ((a *ℤ a) *ℤ pos (bd * bd)) ≤ℤ ((b *ℤ b) *ℤ pos (ad * ad))
+    → (a *ℤ pos bd) ≤ℤ (b *ℤ pos ad)
 root_order_ℤ a (negsuc b) ad bd hb h = absurd (omega (arith, ints))
 root_order_ℤ (negsuc a) (pos b) ad bd hb h = omega (arith, ints)
 root_order_ℤ (pos a) (pos b) ad bd hb h =
@@ -110,7 +123,8 @@ multiple_mono n p q h =
     (n * up p.num) (n * down p.num) (n * up q.num) (n * down q.num)
     (omega (arith, ints)) (omega (arith, ints)) (omega (arith, a))
 
-pub negative_multiple_mono : (n : ℕ) (p q : Fraction) → p ≼ q → product (whole (negsuc n)) q ≼ product (whole (negsuc n)) p
+pub negative_multiple_mono : (n : ℕ) (p q : Fraction) → p ≼ q
+    → product (whole (negsuc n)) q ≼ product (whole (negsuc n)) p
 unfolding Crossed
 negative_multiple_mono n p q h =
     let a = mul-le-mul_right (suc n) (crossed_out p q h) in
@@ -123,7 +137,8 @@ unfolding Crossed
 multiple_cancel n p q hn h =
     let a = crossed_from (product (whole (pos n)) p) (product (whole (pos n)) q)
     (n * up p.num) (n * down p.num) (n * up q.num) (n * down q.num) h (omega (arith, ints)) (omega (arith, ints)) in
-    let b : (up p.num * q.den + down q.num * p.den) * n ≤ (up q.num * p.den + down p.num * q.den) * n = omega (arith, a) in
+    let b : (up p.num * q.den + down q.num * p.den) * n ≤ (up q.num * p.den + down p.num * q.den) * n =
+    omega (arith, a) in
     crossed_in p q _ _ _ _ refl refl (le_of_mul-le-mul_right b hn)
 
 -- ---- fractions with one denominator

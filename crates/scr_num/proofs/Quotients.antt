@@ -1,5 +1,7 @@
 -- The floor and the ceiling of a quotient of a whole number by a natural one.
-use Rattle.std.proofs.Common.{◌≡◌, ℕ, zero, suc, ◌+◌, ◌*◌, ◌/◌, ◌%◌, ◌<◌, ◌≤◌, ℤ, pos, negsuc, ◌+ℤ◌, ◌*ℤ◌, neg_ℤ, ◌≤ℤ◌, ◌<ℤ◌, unsigned_abs, arith, ap, sym, ◌∙◌, le_of_mul-le-mul_right, mul-le-mul_right, div-le_self, inl, inr}
+use Rattle.std.proofs.Common.{◌≡◌, ℕ, zero, suc, ◌+◌, ◌*◌, ◌/◌, ◌%◌, ◌<◌, ◌≤◌, ℤ, pos, negsuc, ◌+ℤ◌, ◌*ℤ◌, neg_ℤ, ◌≤ℤ◌}
+use Rattle.std.proofs.Common.{◌<ℤ◌, unsigned_abs, arith, ap, sym, ◌∙◌, le_of_mul-le-mul_right, mul-le-mul_right}
+use Rattle.std.proofs.Common.{div-le_self, inl, inr}
 use Rattle.std.proofs.lemmas.Int.{ints}
 use Rattle.std.specs.Int.{div_ceil}
 use Rattle.std.proofs.lemmas.Nat.{div-mul-add, mod-mul-add}
@@ -36,7 +38,8 @@ ceil_div-next z d h = next_turned (floor_div (neg_ℤ z) d) z d (floor_div-next 
 -- ---- order
 pub times_cancel : (a b : ℤ) (d : ℕ) → 0 < d → (a *ℤ pos d) ≤ℤ (b *ℤ pos d) → a ≤ℤ b
 times_cancel a b d h k =
-    let m : (up a + down b) * d ≤ (up b + down a) * d = omega (arith, ints) in at_most_in a b (le_of_mul-le-mul_right m h)
+    let m : (up a + down b) * d ≤ (up b + down a) * d = omega (arith, ints) in
+    at_most_in a b (le_of_mul-le-mul_right m h)
 
 pub floor_div-le-ceil_div : (y z : ℤ) (d : ℕ) → 0 < d → y ≤ℤ z → floor_div y d ≤ℤ ceil_div z d
 floor_div-le-ceil_div y z d h k =
@@ -62,7 +65,8 @@ div_ceil-suc : (n d : ℕ) → 0 < d → div_ceil (suc n) d ≡ suc (n / d)
 div_ceil-suc n d h =
     let split : suc n ≡ n / d * d + suc (n % d) = omega arith in
     elim (cases_lt (suc (n % d)) d) [
-      | inl below ↦ rw (split, div-mul-add (n / d) d (suc (n % d)) below, mod-mul-add (n / d) d (suc (n % d)) below) (omega arith)
+      | inl below ↦ rw (split, div-mul-add (n / d) d (suc (n % d)) below, mod-mul-add (n / d) d (suc (n % d)) below)
+          (omega arith)
       | inr above ↦
           let turned : suc n ≡ suc (n / d) * d + 0 = omega arith in
           rw (turned, div-mul-add (suc (n / d)) d 0 h, mod-mul-add (suc (n / d)) d 0 h) (omega arith)
@@ -79,11 +83,14 @@ pub div_ceil-le : (p d : ℕ) → 0 < d → div_ceil p d ≤ p
 div_ceil-le zero d h = omega arith
 div_ceil-le (suc n) d h = rw (div_ceil-suc n d h) (omega (arith, div-le_self n d))
 
-pub floor_div-negative : (v : ℤ) (n d q : ℕ) → v <ℤ pos 0 → 0 < d → q ≡ div_ceil (unsigned_abs v * n) d → floor_div (v *ℤ pos n) d ≡ neg_ℤ (pos q)
+pub floor_div-negative : (v : ℤ) (n d q : ℕ) → v <ℤ pos 0 → 0 < d → q ≡ div_ceil (unsigned_abs v * n) d
+    → floor_div (v *ℤ pos n) d ≡ neg_ℤ (pos q)
 floor_div-negative v n d q h k e =
-    ap (λ (z : ℤ). floor_div z d) (product_of_negative v n h) ∙ floor_div-neg (unsigned_abs v * n) d k ∙ ap (λ (x : ℕ). neg_ℤ (pos x)) (sym e)
+    ap (λ (z : ℤ). floor_div z d) (product_of_negative v n h) ∙ floor_div-neg (unsigned_abs v * n) d k
+    ∙ ap (λ (x : ℕ). neg_ℤ (pos x)) (sym e)
 
-pub ceil_div-positive : (v : ℤ) (n d q : ℕ) → pos 0 ≤ℤ v → 0 < d → q ≡ div_ceil (unsigned_abs v * n) d → ceil_div (v *ℤ pos n) d ≡ pos q
+pub ceil_div-positive : (v : ℤ) (n d q : ℕ) → pos 0 ≤ℤ v → 0 < d → q ≡ div_ceil (unsigned_abs v * n) d
+    → ceil_div (v *ℤ pos n) d ≡ pos q
 ceil_div-positive v n d q h k e =
     ap (λ (z : ℤ). ceil_div z d) (product_of_positive v n h)
     ∙ ap neg_ℤ (floor_div-neg (unsigned_abs v * n) d k)
@@ -92,9 +99,11 @@ ceil_div-positive v n d q h k e =
 
 -- the quotient is less than one away from the exact one
 pub floor_div-size : (v : ℤ) (n d : ℕ) → 0 < d → unsigned_abs (floor_div (v *ℤ pos n) d) * d < unsigned_abs v * n + d
-floor_div-size v n d h = size (floor_div (v *ℤ pos n) d) v n d (floor_div-times (v *ℤ pos n) d h) (floor_div-next (v *ℤ pos n) d h)
+floor_div-size v n d h = size (floor_div (v *ℤ pos n) d) v n d (floor_div-times (v *ℤ pos n) d h)
+    (floor_div-next (v *ℤ pos n) d h)
   where
-    size : (q v : ℤ) (n d : ℕ) → (q *ℤ pos d) ≤ℤ (v *ℤ pos n) → (v *ℤ pos n) <ℤ (q *ℤ pos d +ℤ pos d) → unsigned_abs q * d < unsigned_abs v * n + d
+    size : (q v : ℤ) (n d : ℕ) → (q *ℤ pos d) ≤ℤ (v *ℤ pos n) → (v *ℤ pos n) <ℤ (q *ℤ pos d +ℤ pos d)
+        → unsigned_abs q * d < unsigned_abs v * n + d
     size (pos q) (pos v) n d a b = omega (arith, ints)
     size (pos q) (negsuc v) n d a b = omega (arith, ints)
     size (negsuc q) (pos v) n d a b = omega (arith, ints)
@@ -105,5 +114,6 @@ size_turned z = omega (arith, ints)
 
 pub ceil_div-size : (v : ℤ) (n d : ℕ) → 0 < d → unsigned_abs (ceil_div (v *ℤ pos n) d) * d < unsigned_abs v * n + d
 ceil_div-size v n d h =
-    let turned : floor_div (neg_ℤ (v *ℤ pos n)) d ≡ floor_div (neg_ℤ v *ℤ pos n) d = ap (λ (z : ℤ). floor_div z d) (sym (neg-*ℤ-pos v n)) in
+    let turned : floor_div (neg_ℤ (v *ℤ pos n)) d ≡ floor_div (neg_ℤ v *ℤ pos n) d =
+    ap (λ (z : ℤ). floor_div z d) (sym (neg-*ℤ-pos v n)) in
     rw (turned, size_turned (floor_div (neg_ℤ v *ℤ pos n) d)) (rw (size_turned v) at (floor_div-size (neg_ℤ v) n d h))

@@ -1,5 +1,6 @@
 -- The two roots of a natural number: what each is, and that nothing else is.
-use Rattle.std.proofs.Common.{refl, ◌≡◌, ℕ, zero, suc, ◌+◌, ◌*◌, ◌<◌, ◌≤◌, nat_le, inl, inr, arith, leb-true, leb-false, mul-le-mul, le_refl}
+use Rattle.std.proofs.Common.{refl, ◌≡◌, ℕ, zero, suc, ◌+◌, ◌*◌, ◌<◌, ◌≤◌, nat_le, inl, inr, arith, leb-true, leb-false}
+use Rattle.std.proofs.Common.{mul-le-mul, le_refl}
 use Rattle.std.proofs.lemmas.Bool.{cond_both, cases_lt}
 use Rattle.scr_num.specs.Rounding.{floor_root_from, floor_root, ceil_root_from, ceil_root}
 
@@ -8,7 +9,8 @@ square_from : (n top : ℕ) → floor_root_from n top * floor_root_from n top �
 unfolding floor_root_from
 square_from n zero = omega arith
 square_from n (suc k) =
-    cond_both (nat_le (suc k * suc k) n) (suc k) (floor_root_from n k) (λ x. x * x ≤ n) (λ e. leb-true _ _ e) (λ _. square_from n k)
+    cond_both (nat_le (suc k * suc k) n) (suc k) (floor_root_from n k) (λ x. x * x ≤ n) (λ e. leb-true _ _ e)
+    (λ _. square_from n k)
 
 next_square_from : (n top : ℕ) → n < suc top * suc top → n < suc (floor_root_from n top) * suc (floor_root_from n top)
 unfolding floor_root_from
@@ -54,7 +56,8 @@ from_square : (n top : ℕ) → n ≤ top * top → n ≤ ceil_root_from n top *
 unfolding ceil_root_from
 from_square n zero h = h
 from_square n (suc k) h =
-    cond_both (nat_le n (k * k)) (ceil_root_from n k) (suc k) (λ x. n ≤ x * x) (λ e. from_square n k (leb-true _ _ e)) (λ _. h)
+    cond_both (nat_le n (k * k)) (ceil_root_from n k) (suc k) (λ x. n ≤ x * x) (λ e. from_square n k (leb-true _ _ e))
+    (λ _. h)
 
 from_least : (n top k : ℕ) → n ≤ k * k → ceil_root_from n top ≤ k
 unfolding ceil_root_from
@@ -91,3 +94,12 @@ ceil_root-exact r =
 pub floor_root-le-ceil_root : (m n : ℕ) → m ≤ n → floor_root m ≤ ceil_root n
 floor_root-le-ceil_root m n h =
     root_below (floor_root m) (ceil_root n) (omega (arith, floor_root-square m, ceil_root-square n))
+
+-- the floor root of a number is at most the ceiling root of one that is no smaller
+pub roots-in-order : (m n : ℕ) → m ≤ n → floor_root m ≤ ceil_root n
+roots-in-order m n h =
+    root_below (floor_root m) (ceil_root n)
+    (omega (arith, floor_root-square m, ceil_root-square n, next (ceil_root n)))
+  where
+    next : (r : ℕ) → r * r < suc r * suc r
+    next r = omega arith

@@ -3,8 +3,11 @@ use Rattle.std.proofs.Common.{ℕ, ◌<◌, ◌⊎◌, inl, inr, ℤ, pos, negsu
 use Rattle.std.proofs.lemmas.Int.{ints}
 use Rattle.scr_num.specs.Fraction.{Fraction, ◌≼◌, over, zero_fraction, plus, minus, product, square, times}
 use Rattle.scr_num.specs.Table.{Table}
-use Rattle.scr_num.specs.Figure.{Figure, Figures, Frac, Sum, Diff, Max, Min, Times, RootOf, Root, none, more, Bounds, lower_term, upper_term, lower_form, upper_form, scaled_square, AtMost, AtLeast, AreBounds}
-use Rattle.scr_num.proofs.Fractions.{≼_refl, ≼_trans, plus_mono, minus_mono, times_mono, product_mono, square_reflects, multiple_mono, negative_multiple_mono, multiple_cancel}
+use Rattle.scr_num.specs.Figure.{Figure, Figures, Frac, Sum, Diff, Max, Min, Times, RootOf, Root, none, more, Bounds}
+use Rattle.scr_num.specs.Figure.{lower_term, upper_term, lower_form, upper_form, scaled_square, AtMost, AtLeast}
+use Rattle.scr_num.specs.Figure.{AreBounds}
+use Rattle.scr_num.proofs.Fractions.{≼_refl, ≼_trans, plus_mono, minus_mono, times_mono, product_mono, square_reflects}
+use Rattle.scr_num.proofs.Fractions.{multiple_mono, negative_multiple_mono, multiple_cancel}
 use Rattle.scr_num.proofs.Forms.{Related, sum_over-related}
 
 -- two pairs of bounds of one part, neither of which lies wholly above the other
@@ -16,12 +19,14 @@ record Overlap (x y : Bounds) : Type 0 where
 
 terms_in_order : (c : ℤ) (x x' y y' : Bounds) → Overlap x x' → Overlap y y' → lower_term c x y ≼ upper_term c x' y'
 terms_in_order (pos c) x x' y y' h k =
-    multiple_mono c (product x.low y.low) (product x'.high y'.high) (product_mono x.low x'.high y.low y'.high h.x_low h.x_below_y k.x_low k.x_below_y)
+    multiple_mono c (product x.low y.low) (product x'.high y'.high)
+    (product_mono x.low x'.high y.low y'.high h.x_low h.x_below_y k.x_low k.x_below_y)
 terms_in_order (negsuc c) x x' y y' h k =
     negative_multiple_mono c (product x'.low y'.low) (product x.high y.high)
     (product_mono x'.low x.high y'.low y.high h.y_low h.y_below_x k.y_low k.y_below_x)
 
-forms_in_order : (table : Table) (xs ys : List Bounds) → Related Overlap xs ys → lower_form table xs ≼ upper_form table ys
+forms_in_order : (table : Table) (xs ys : List Bounds) → Related Overlap xs ys
+    → lower_form table xs ≼ upper_form table ys
 unfolding lower_form upper_form
 forms_in_order table xs ys h =
     sum_over-related Overlap ◌≼◌ zero_fraction zero_fraction plus plus lower_term upper_term
@@ -32,11 +37,13 @@ between : (p q r s : Fraction) → p ≼ q → q ≼ r → r ≼ s → p ≼ s
 between p q r s a b c = ≼_trans p q s a (≼_trans q r s b c)
 
 roots_in_order : (table : Table) (q r : Fraction) (xs ys : List Bounds) → 0 < table.den → zero_fraction ≼ r
-    → scaled_square table q ≼ lower_form table xs → upper_form table ys ≼ scaled_square table r → Related Overlap xs ys → q ≼ r
+    → scaled_square table q ≼ lower_form table xs → upper_form table ys ≼ scaled_square table r → Related Overlap xs ys
+    → q ≼ r
 roots_in_order table q r xs ys positive r_nonneg below above overlap =
     square_reflects q r r_nonneg
     (multiple_cancel table.den (square q) (square r) positive
-    (between (scaled_square table q) (lower_form table xs) (upper_form table ys) (scaled_square table r) below (forms_in_order table xs ys overlap) above))
+    (between (scaled_square table q) (lower_form table xs) (upper_form table ys) (scaled_square table r) below
+    (forms_in_order table xs ys overlap) above))
 
 mutual
   unfolding AtMost
@@ -57,12 +64,13 @@ mutual
       elim h [
         | inl below ↦ ≼_trans q zero_fraction r below k.0
         | inr w ↦
-            square_reflects q r k.0 (between (square q) w.0 k.1.0 (square r) w.2 (lower-le-upper f w.0 k.1.0 w.1 k.1.1) k.1.2)
+            square_reflects q r k.0
+            (between (square q) w.0 k.1.0 (square r) w.2 (lower-le-upper f w.0 k.1.0 w.1 k.1.1) k.1.2)
       ]
   lower-le-upper (Root fs table) q r h k =
       elim h [
         | inl below ↦ ≼_trans q zero_fraction r below k.0
-        | inr w ↦ roots_in_order table q r w.0 k.1.0 w.2 k.0 w.3 k.1.3 (bounds-overlap fs w.0 k.1.0 w.1 k.1.1)
+        | inr w ↦ roots_in_order table q r w.0 k.1.0 w.2 k.0 w.4 k.1.4 (bounds-overlap fs w.0 k.1.0 w.1 k.1.1)
       ]
 
   bounds-overlap : (fs : Figures) (xs ys : List Bounds) → AreBounds xs fs → AreBounds ys fs → Related Overlap xs ys
@@ -82,10 +90,11 @@ mutual
   )
 
 -- ---- a lower witness goes down, and an upper one up
-sign : (p : Fraction) → (p ≼ zero_fraction) ⊎ (zero_fraction ≼ p)
+pub sign : (p : Fraction) → (p ≼ zero_fraction) ⊎ (zero_fraction ≼ p)
 sign p = of p.num p.den p.positive
   where
-    of : (z : ℤ) (den : ℕ) (positive : 0 < den) → (over z den positive ≼ zero_fraction) ⊎ (zero_fraction ≼ over z den positive)
+    of : (z : ℤ) (den : ℕ) (positive : 0 < den)
+        → (over z den positive ≼ zero_fraction) ⊎ (zero_fraction ≼ over z den positive)
     of (pos n) den positive = inr (record { cross = omega (arith, ints) })
     of (negsuc n) den positive = inl (record { cross = omega (arith, ints) })
 
@@ -118,8 +127,9 @@ AtMost-down (Root fs table) p q h k =
               w.0,
               w.1,
               w.2,
+              w.3,
               ≼_trans (scaled_square table p) (scaled_square table q) (lower_form table w.0)
-                  (multiple_mono table.den (square p) (square q) (square_mono p q above h)) w.3,
+                  (multiple_mono table.den (square p) (square q) (square_mono p q above h)) w.4,
             )
       ]
     ]
@@ -140,7 +150,8 @@ AtLeast-up (Root fs table) p q h k = (
     k.1.0,
     k.1.1,
     k.1.2,
-    ≼_trans (upper_form table k.1.0) (scaled_square table p) (scaled_square table q) k.1.3
+    k.1.3,
+    ≼_trans (upper_form table k.1.0) (scaled_square table p) (scaled_square table q) k.1.4
         (multiple_mono table.den (square p) (square q) (square_mono p q k.0 h)),
   ),
 )

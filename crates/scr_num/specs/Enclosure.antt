@@ -25,6 +25,7 @@ pub record Converts (old new num den : ℕ) (share : Share) : Type 0 where
 -- `Encloses`, place by place, of ends that are not negative
 abbrev pub EncloseAll : ℕ → List Ends → Figures → Type 0
 EncloseAll unit [] none = Unit {0}
-EncloseAll unit (part ∷ parts) (more f fs) = (pos 0 ≤ℤ part.low) × Encloses unit part.low part.high f × EncloseAll unit parts fs
+EncloseAll unit (part ∷ parts) (more f fs) =
+    (pos 0 ≤ℤ part.low) × Encloses unit part.low part.high f × EncloseAll unit parts fs
 EncloseAll unit [] (more f fs) = ⊥
 EncloseAll unit (part ∷ parts) none = ⊥

@@ -1,9 +1,9 @@
 -- Exact figures, and the two relations between a fraction and a figure, this project's own. A figure is
 -- written as the formula of the Regulation has it, with roots that no fraction need equal. What can be
 -- said of it in fractions is what lies at most at it and what lies at least at it.
-use Rattle.std.specs.Prelude.{◌<◌, ◌⊎◌, ℤ, pos, negsuc, List, [], ◌∷◌}
+use Rattle.std.specs.Prelude.{◌<◌, ◌⊎◌, ℤ, pos, negsuc, List, [], ◌∷◌, length}
 use Rattle.scr_num.specs.Fraction.{Fraction, Share, ◌≼◌, whole, zero_fraction, plus, minus, product, square, times}
-use Rattle.scr_num.specs.Table.{Table, sum_over}
+use Rattle.scr_num.specs.Table.{Table, IsSquare, sum_over}
 
 mutual
   pub data Figure : Type 0 where
@@ -53,7 +53,8 @@ upper_form table parts = sum_over zero_fraction plus upper_term table.rows parts
 abbrev pub scaled_square : Table → Fraction → Fraction
 scaled_square table q = product (whole (pos table.den)) (square q)
 
--- A root over a table is bounded only where the table has a denominator: its cells are correlations then.
+-- A root over a table is bounded only where the table has a denominator, and as many rows and columns as there are
+-- parts: its cells are their correlations then.
 unfoldable mutual
   -- q is at most the figure
   pub AtMost : Fraction → Figure → Type 0
@@ -66,7 +67,8 @@ unfoldable mutual
   AtMost q (RootOf f) = (q ≼ zero_fraction) ⊎ ((a : Fraction) × AtMost a f × (square q ≼ a))
   AtMost q (Root parts table) =
       (q ≼ zero_fraction)
-      ⊎ ((bounds : List Bounds) × AreBounds bounds parts × (0 < table.den) × (scaled_square table q ≼ lower_form table bounds))
+      ⊎ ((bounds : List Bounds) × AreBounds bounds parts × (0 < table.den) × IsSquare (length bounds) table
+      × (scaled_square table q ≼ lower_form table bounds))
 
   -- q is at least the figure
   pub AtLeast : Fraction → Figure → Type 0
@@ -79,7 +81,8 @@ unfoldable mutual
   AtLeast q (RootOf f) = (zero_fraction ≼ q) × ((b : Fraction) × AtLeast b f × (b ≼ square q))
   AtLeast q (Root parts table) =
       (zero_fraction ≼ q)
-      × ((bounds : List Bounds) × AreBounds bounds parts × (0 < table.den) × (upper_form table bounds ≼ scaled_square table q))
+      × ((bounds : List Bounds) × AreBounds bounds parts × (0 < table.den) × IsSquare (length bounds) table
+      × (upper_form table bounds ≼ scaled_square table q))
 
   -- each part lies within its bounds, the lower of which is not negative
   pub AreBounds : List Bounds → Figures → Type 0

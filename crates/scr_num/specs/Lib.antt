@@ -2,4 +2,9 @@ pub mod Fraction
 pub mod Table
 pub mod Figure
 pub mod Rounding
+pub mod Amounts
 pub mod Enclosure
+pub mod Sums
+pub mod Ratio
+pub mod Cents
+pub mod Sizes

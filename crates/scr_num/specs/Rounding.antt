@@ -1,7 +1,8 @@
 -- Outward rounding, this project's own: each operator answers the narrowest pair of whole ends that
 -- encloses what the ends handed in enclose; a root over a table with negative cells may answer a wider one. The
 -- arithmetic of the code and the model share these definitions, which speak of one operator at a time.
-use Rattle.std.specs.Prelude.{List, ℕ, zero, suc, ◌*◌, ◌/◌, ℤ, pos, negsuc, ◌+ℤ◌, ◌-ℤ◌, ◌*ℤ◌, neg_ℤ, nat_le, if◌then◌else◌}
+use Rattle.std.specs.Prelude.{List, ℕ, zero, suc, ◌*◌, ◌/◌, ℤ, pos, negsuc, ◌+ℤ◌, ◌-ℤ◌, ◌*ℤ◌, neg_ℤ, nat_le}
+use Rattle.std.specs.Prelude.{if◌then◌else◌}
 use Rattle.std.specs.Int.{int_max, int_min}
 use Rattle.scr_num.specs.Table.{Table, sum_over}
 use Rattle.scr_num.specs.declared.span.Span.{Span}
@@ -90,7 +91,8 @@ abbrev pub high_term : ℤ → Ends → Ends → ℤ
 high_term (pos c) x y = pos c *ℤ (x.high *ℤ y.high)
 high_term (negsuc c) x y = negsuc c *ℤ (x.low *ℤ y.low)
 
--- the sums of these over all cells of a table, between which lies the sum of the products of any parts within their ends
+-- the sums of these over all cells of a table, between which lies the sum of the products of any parts within their
+-- ends
 unfoldable pub low_form : Table → List Ends → ℤ
 low_form table parts = sum_over (pos 0) ◌+ℤ◌ low_term table.rows parts parts
 

@@ -1,10 +1,16 @@
 -- Tables of correlations, and sums over all their cells, this project's own.
-use Rattle.std.specs.Prelude.{ℕ, ℤ, List, [], ◌∷◌}
+use Rattle.std.specs.Prelude.{◌≡◌, ℕ, ℤ, List, [], ◌∷◌, length}
+use Rattle.std.specs.List.{AllByRecursion}
 
 -- whole cells over one denominator, row by row
 pub record Table : Type 0 where
   pub den : ℕ
   pub rows : List (List ℤ)
+
+-- so many rows, each of as many cells
+pub record IsSquare (size : ℕ) (table : Table) : Type 0 where
+  pub rows : length table.rows ≡ size
+  pub columns : AllByRecursion (λ row. length row ≡ size) table.rows
 
 -- A sum with a term for each cell, made of the cell, the part of its row and the part of its column.
 -- `zero` and `add` say in which numbers. Where a cell or a part is missing, nothing is added.

@@ -1,16 +1,25 @@
 //! Spans of whole numbers, and the arithmetic that rounds them outward.
 #![tactic(auto)]
 
-ghost use Rattle.std.specs.Prelude.{◌≡◌, ℕ, ◌*◌, ◌^◌, ◌<◌, ◌≤◌, ◌+◌, pos, ◌+ℤ◌, ◌-ℤ◌, ◌*ℤ◌, ◌≤ℤ◌, unsigned_abs};
+ghost use Rattle.std.specs.Prelude.{◌≡◌, ℕ, ◌*◌, ◌^◌, ◌<◌, ◌≤◌, ◌+◌, pos, ◌+ℤ◌, ◌-ℤ◌, ◌*ℤ◌, ◌≤ℤ◌};
+ghost use Rattle.std.specs.Prelude.{unsigned_abs, map, List};
 ghost use Rattle.std.specs.Int.{int_max, int_min};
 ghost use Rattle.scr_num.specs.Fraction.{Fraction, Share};
 ghost use Rattle.scr_num.specs.Figure.{Figure, Frac, Sum, Diff, Times, Max, Min, RootOf};
 ghost use Rattle.scr_num.specs.Enclosure.{Encloses, Measures, Converts};
-ghost use Rattle.scr_num.specs.Rounding.{ends, exact_ends, add_ends, sub_ends, max_ends, min_ends, hull_ends, scale_ends, root_ends, floor_div, ceil_div, floor_root, ceil_root, or_zero};
+ghost use Rattle.scr_num.specs.Amounts.{IsWithin, AreTogether};
+ghost use Rattle.scr_num.specs.Sums.{sum_ends, sum_figure, EncloseEach};
+ghost use Rattle.scr_num.specs.Rounding.{ends, exact_ends, add_ends, sub_ends, max_ends, min_ends};
+ghost use Rattle.scr_num.specs.Rounding.{hull_ends, scale_ends, root_ends, floor_div, ceil_div};
+ghost use Rattle.scr_num.specs.Rounding.{floor_root, ceil_root, or_zero};
 
+mod amounts;
 pub mod laws;
+mod quotient;
 mod span;
 
+pub use amounts::cents;
+pub use quotient::ratio;
 pub use span::Span;
 
 /// The span of one number, which both ends are.
@@ -18,7 +27,8 @@ pub fn exact(v: i128) -> Span
     ensures low { result.low ≡ v }
     ensures high { result.high ≡ v }
     ensures ends { ends result ≡ exact_ends v }
-    ensures encloses { (unit : ℕ) (p : Fraction) → Measures unit v p → Encloses unit result.low result.high (Frac p) }
+    ensures encloses { (unit : ℕ) (p : Fraction) → Measures unit v p
+        → Encloses unit result.low result.high (Frac p) }
 {
     Span { low: v, high: v }
 }
@@ -32,7 +42,8 @@ pub fn add(a: Span, b: Span) -> Span
     ensures low { result.low ≡ a.low +ℤ b.low }
     ensures high { result.high ≡ a.high +ℤ b.high }
     ensures ends { ends result ≡ add_ends (ends a) (ends b) }
-    ensures encloses { (unit : ℕ) (f g : Figure) → Encloses unit a.low a.high f → Encloses unit b.low b.high g
+    ensures encloses { (unit : ℕ) (f g : Figure) → Encloses unit a.low a.high f
+        → Encloses unit b.low b.high g
         → Encloses unit result.low result.high (Sum f g) }
 {
     Span {
@@ -50,7 +61,8 @@ pub fn sub(a: Span, b: Span) -> Span
     ensures low { result.low ≡ a.low -ℤ b.high }
     ensures high { result.high ≡ a.high -ℤ b.low }
     ensures ends { ends result ≡ sub_ends (ends a) (ends b) }
-    ensures encloses { (unit : ℕ) (f g : Figure) → Encloses unit a.low a.high f → Encloses unit b.low b.high g
+    ensures encloses { (unit : ℕ) (f g : Figure) → Encloses unit a.low a.high f
+        → Encloses unit b.low b.high g
         → Encloses unit result.low result.high (Diff f g) }
 {
     Span {
@@ -59,12 +71,30 @@ pub fn sub(a: Span, b: Span) -> Span
     }
 }
 
+/// The least span of all sums of a number of each.
+pub fn total(spans: &[Span]) -> Span
+    requires together { AreTogether (2 ^ 124) (map ends spans.now) }
+    ensures ends { ends result ≡ sum_ends (map ends spans.now) }
+    ensures encloses { (unit : ℕ) → 0 < unit → (figures : List Figure)
+        → EncloseEach unit (map ends spans.now) figures
+        → Encloses unit result.low result.high (sum_figure figures) }
+    ensures size { (most : ℕ) → AreTogether most (map ends spans.now)
+        → IsWithin most (ends result) }
+{
+    let mut sum = exact(0);
+    for span in spans {
+        sum = add(sum, *span);
+    }
+    sum
+}
+
 /// The greater of a number of `a` and a number of `b`, end by end.
 pub fn max(a: Span, b: Span) -> Span
     ensures low { result.low ≡ int_max a.low b.low }
     ensures high { result.high ≡ int_max a.high b.high }
     ensures ends { ends result ≡ max_ends (ends a) (ends b) }
-    ensures encloses { (unit : ℕ) (f g : Figure) → Encloses unit a.low a.high f → Encloses unit b.low b.high g
+    ensures encloses { (unit : ℕ) (f g : Figure) → Encloses unit a.low a.high f
+        → Encloses unit b.low b.high g
         → Encloses unit result.low result.high (Max f g) }
 {
     Span {
@@ -78,7 +108,8 @@ pub fn min(a: Span, b: Span) -> Span
     ensures low { result.low ≡ int_min a.low b.low }
     ensures high { result.high ≡ int_min a.high b.high }
     ensures ends { ends result ≡ min_ends (ends a) (ends b) }
-    ensures encloses { (unit : ℕ) (f g : Figure) → Encloses unit a.low a.high f → Encloses unit b.low b.high g
+    ensures encloses { (unit : ℕ) (f g : Figure) → Encloses unit a.low a.high f
+        → Encloses unit b.low b.high g
         → Encloses unit result.low result.high (Min f g) }
 {
     Span {
@@ -92,8 +123,10 @@ pub fn hull(a: Span, b: Span) -> Span
     ensures low { result.low ≡ int_min a.low b.low }
     ensures high { result.high ≡ int_max a.high b.high }
     ensures ends { ends result ≡ hull_ends (ends a) (ends b) }
-    ensures encloses_left { (unit : ℕ) (f : Figure) → Encloses unit a.low a.high f → Encloses unit result.low result.high f }
-    ensures encloses_right { (unit : ℕ) (f : Figure) → Encloses unit b.low b.high f → Encloses unit result.low result.high f }
+    ensures encloses_left { (unit : ℕ) (f : Figure) → Encloses unit a.low a.high f
+        → Encloses unit result.low result.high f }
+    ensures encloses_right { (unit : ℕ) (f : Figure) → Encloses unit b.low b.high f
+        → Encloses unit result.low result.high f }
 {
     Span {
         low: a.low.min(b.low),
@@ -101,7 +134,8 @@ pub fn hull(a: Span, b: Span) -> Span
     }
 }
 
-/// All products of a number of `a` with `num / den`: the floor at the low end, the ceiling at the high one.
+/// All products of a number of `a` with `num / den`: the floor at the low end, the ceiling at the
+/// high one.
 pub fn scale(a: Span, num: u128, den: u128) -> Span
     requires positive { 0 < den }
     requires low_fits { unsigned_abs a.low * num < 2 ^ 127 }
@@ -109,7 +143,8 @@ pub fn scale(a: Span, num: u128, den: u128) -> Span
     ensures low { result.low ≡ floor_div (a.low *ℤ pos num) den }
     ensures high { result.high ≡ ceil_div (a.high *ℤ pos num) den }
     ensures ends { ends result ≡ scale_ends (ends a) num den }
-    ensures encloses { (old new : ℕ) (f : Figure) (share : Share) → Converts old new num den share → Encloses old a.low a.high f
+    ensures encloses { (old new : ℕ) (f : Figure) (share : Share) → Converts old new num den share
+        → Encloses old a.low a.high f
         → Encloses new result.low result.high (Times f share) }
     ensures low_size { unsigned_abs result.low * den < unsigned_abs a.low * num + den }
     ensures high_size { unsigned_abs result.high * den < unsigned_abs a.high * num + den }
@@ -167,8 +202,8 @@ fn ceil_root(v: u128) -> u128
     if root * root == v { root } else { root + 1 }
 }
 
-/// The square roots of the numbers of `a`: the greatest whole number whose square is at most the low end,
-/// and the least whose square is at least the high one.
+/// The square roots of the numbers of `a`: the greatest whole number whose square is at most the
+/// low end, and the least whose square is at least the high one.
 pub fn root_of(a: Span) -> Span
     requires { pos 0 ≤ℤ a.low }
     ensures low { result.low ≡ pos (floor_root (or_zero a.low)) }
@@ -184,6 +219,3 @@ pub fn root_of(a: Span) -> Span
         high: ceil_root(a.high as u128) as i128,
     }
 }
-
-#[cfg(test)]
-mod tests;

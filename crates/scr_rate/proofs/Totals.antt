@@ -7,7 +7,7 @@ use Rattle.scr_num.specs.declared.span.Span.{Span}
 use Rattle.scr_num.specs.Rounding.{Ends, ends, add_ends, exact_ends}
 use Rattle.scr_num.proofs.AddedEnds.{add_ends-assoc, zero-add_ends, add_ends-zero}
 use Rattle.scr_agg.specs.Correlated.{all_ends}
-use Rattle.scr_rate.specs.InterestEnds.{sum_ends}
+use Rattle.scr_num.specs.Sums.{sum_ends}
 
 -- the sum so far, and the losses from place i on
 pub record SummedTo (losses : List Span) (sum : Span) (i : ℕ) : Type 0 where

@@ -1,22 +1,21 @@
 -- The interest figures as they are worked out, in grains, thousandths of a cent, from losses in 10^-18 cents (this
 -- project's own).
-use Rattle.std.specs.Prelude.{ℕ, pos, List, [], ◌∷◌}
+use Rattle.std.specs.Prelude.{ℕ, pos, ◌≤ℤ◌, List, [], ◌∷◌}
 use Rattle.scr_num.specs.Fraction.{Fraction}
 use Rattle.scr_num.specs.Figure.Figure.{Frac}
-use Rattle.scr_num.specs.Rounding.{Ends, exact_ends, add_ends, scale_ends}
+use Rattle.scr_num.specs.Rounding.{Ends, scale_ends}
+use Rattle.scr_num.specs.Sums.{sum_ends}
 use Rattle.scr_num.specs.Enclosure.{Encloses}
 use Rattle.scr_agg.specs.Absorbed.{net_ends}
 use Rattle.scr_agg.specs.Unbeaten.{Alternative}
 use Rattle.scr_rate.specs.InterestRisk.{counted}
+use Rattle.scr_num.specs.Sizes.{IsWithin}
 
--- the sum over all currencies
-abbrev pub sum_ends : List Ends → Ends
-sum_ends [] = exact_ends (pos 0)
-sum_ends (loss ∷ losses) = add_ends loss (sum_ends losses)
-
+-- before absorption, in grains
 abbrev pub gross_ends : List Ends → Ends
 gross_ends losses = scale_ends (sum_ends losses) 1 1_000_000_000_000_000
 
+-- before and after it
 abbrev pub scenario_ends : List Ends → ℕ → Alternative
 scenario_ends losses absorb = record { gross = gross_ends losses; net = net_ends (gross_ends losses) absorb }
 
@@ -31,3 +30,9 @@ EncloseLosses (e ∷ es) (loss ∷ losses) =
     Encloses 1_000_000_000_000_000_000 e.low e.high (Frac (counted loss)) × EncloseLosses es losses
 EncloseLosses [] (loss ∷ losses) = ⊥
 EncloseLosses (e ∷ es) [] = ⊥
+
+-- neither requirement is further from 0, and the net one is not negative
+pub record IsCost (most : ℕ) (a : Alternative) : Type 0 where
+  pub gross : IsWithin most a.gross
+  pub net : IsWithin most a.net
+  pub net_low : pos 0 ≤ℤ a.net.low

@@ -10,14 +10,14 @@ use Rattle.scr_agg.specs.Choice.{Outcome, outcome_at, chosen}
 abbrev pub counted : Fraction → Fraction
 counted loss = greater loss zero_fraction
 
--- the losses in all currencies
-abbrev pub total_loss : List Fraction → Fraction
-total_loss [] = zero_fraction
-total_loss (loss ∷ losses) = plus (counted loss) (total_loss losses)
+-- the losses in all currencies, before absorption
+abbrev pub gross_exact : List Fraction → Fraction
+gross_exact [] = zero_fraction
+gross_exact (loss ∷ losses) = plus (counted loss) (gross_exact losses)
 
 -- what a rise or a fall costs before and after absorption
 abbrev pub scenario_outcome : List Fraction → ℕ → Outcome
-scenario_outcome losses absorb = record { gross = total_loss losses; net = net_amount (total_loss losses) absorb }
+scenario_outcome losses absorb = record { gross = gross_exact losses; net = net_amount (gross_exact losses) absorb }
 
 -- the rise, listed first, and the fall
 abbrev pub interest_outcomes : (up down : List Fraction) (absorb_up absorb_down : ℕ) → List Outcome

@@ -1,7 +1,7 @@
 //! The interest rate risk sub-module of the standard formula.
 #![tactic(auto)]
 
-ghost use Rattle.std.specs.Prelude.{◌≡◌, ◌↔◌, ℕ, ◌^◌, ◌≤◌, pos, ◌≤ℤ◌, List, [], ◌∷◌, length, sum_by, unsigned_abs, IsBitSet, IsTrue};
+ghost use Rattle.std.specs.Prelude.{◌≡◌, ◌↔◌, ℕ, ◌^◌, ◌≤◌, All, pos, ◌≤ℤ◌, List, [], ◌∷◌, length, sum_by, unsigned_abs, IsBitSet, IsTrue};
 ghost use Rattle.scr_num.specs.Fraction.{Fraction};
 ghost use Rattle.scr_num.specs.Figure.{Frac};
 ghost use Rattle.scr_num.specs.Enclosure.{Encloses};
@@ -9,14 +9,13 @@ ghost use Rattle.scr_num.specs.Rounding.{ends};
 ghost use Rattle.scr_agg.specs.Choice.{chosen};
 ghost use Rattle.scr_agg.specs.Correlated.{all_ends};
 ghost use Rattle.scr_agg.specs.Unbeaten.{alternative, unbeaten, mask_of, chosen_gross, chosen_net};
-ghost use Rattle.scr_rate.specs.InterestRisk.{total_loss, interest_outcomes, interest_outcome};
-ghost use Rattle.scr_rate.specs.InterestEnds.{scenario_ends, interest_ends, EncloseLosses};
+ghost use Rattle.scr_rate.specs.InterestRisk.{gross_exact, scenario_outcome, interest_outcomes, interest_outcome};
+ghost use Rattle.scr_rate.specs.InterestEnds.{scenario_ends, interest_ends, EncloseLosses, IsCost};
 
 mod interest_risk;
 pub mod laws;
 
-pub use interest_risk::Interest;
-use interest_risk::scenario;
+pub use interest_risk::{Interest, gross, scenario, total};
 use scr_agg::pick;
 use scr_num::Span;
 
@@ -47,10 +46,20 @@ pub fn interest(up: &[Span], down: &[Span], absorb_up: u64, absorb_down: u64) ->
         ↔ (2 ≤ length (unbeaten (interest_ends (all_ends up.now) (all_ends down.now) absorb_up absorb_down))) }
     ensures one_or_both { (1 ≤ result.picked.mask) × (result.picked.mask ≤ 3) }
 
+    ensures up_size { IsCost (10 ^ 18) (alternative result.up) }
+    ensures down_size { IsCost (10 ^ 18) (alternative result.down) }
+    ensures picked_size { IsCost (10 ^ 18) (record { gross = ends result.picked.gross; net = ends result.picked.net }) }
+    ensures gross_lows { All (λ loss. pos 0 ≤ℤ loss.low) up.now → All (λ loss. pos 0 ≤ℤ loss.low) down.now
+        → (pos 0 ≤ℤ result.up.gross.low) × (pos 0 ≤ℤ result.down.gross.low) × (pos 0 ≤ℤ result.picked.gross.low) }
+
     ensures up_encloses { (losses : List Fraction) → EncloseLosses (all_ends up.now) losses
-        → Encloses 1000 result.up.gross.low result.up.gross.high (Frac (total_loss losses)) }
+        → Encloses 1000 result.up.gross.low result.up.gross.high (Frac (gross_exact losses)) }
     ensures down_encloses { (losses : List Fraction) → EncloseLosses (all_ends down.now) losses
-        → Encloses 1000 result.down.gross.low result.down.gross.high (Frac (total_loss losses)) }
+        → Encloses 1000 result.down.gross.low result.down.gross.high (Frac (gross_exact losses)) }
+    ensures up_net_encloses { (losses : List Fraction) → EncloseLosses (all_ends up.now) losses
+        → Encloses 1000 result.up.net.low result.up.net.high (Frac (scenario_outcome losses absorb_up).net) }
+    ensures down_net_encloses { (losses : List Fraction) → EncloseLosses (all_ends down.now) losses
+        → Encloses 1000 result.down.net.low result.down.net.high (Frac (scenario_outcome losses absorb_down).net) }
     ensures chosen { (ups downs : List Fraction)
         → EncloseLosses (all_ends up.now) ups → EncloseLosses (all_ends down.now) downs
         → let decisive = interest_outcome ups downs absorb_up absorb_down in
@@ -63,6 +72,3 @@ pub fn interest(up: &[Span], down: &[Span], absorb_up: u64, absorb_down: u64) ->
     let picked = pick(&[up, down]);
     Interest { up, down, picked }
 }
-
-#[cfg(test)]
-mod tests;

@@ -1,7 +1,10 @@
-pub mod Bounds
-pub mod Printed
-pub mod Outcomes
+pub mod FileSteps
 pub mod Pieces
 pub mod Pushes
 pub mod ReplySteps
-pub mod FactorFaults
+pub mod Told
+pub mod Formed
+pub mod PrintedSheets
+pub mod Leads
+pub mod OptionSteps
+pub mod Engines

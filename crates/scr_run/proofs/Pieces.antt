@@ -1,32 +1,45 @@
 -- A text that is written piece by piece.
-use Rattle.std.proofs.Common.{ℕ, ◌≤◌, List, [], ◌++◌, Option, refl, ap, sym, ◌∙◌, append_assoc, arith}
+use Rattle.std.proofs.Common.{◌≡◌, ℕ, List, [], ◌++◌, refl, ap, sym, subst, ◌∙◌, append_assoc, append-nil}
 use Rattle.std.specs.Io.KnownBytes.{Appends}
-use Rattle.std.proofs.KnownBytes.{Appends-trans}
-use Rattle.scr_io.specs.Cause.{Rose}
+use Rattle.std.proofs.KnownBytes.{Appends-nil, Appends-trans}
 use Rattle.scr_io.specs.Front.{AppendsFront}
-use Rattle.scr_run.specs.Outcome.{Leaves}
-use Rattle.scr_run.proofs.Outcomes.{appends_none}
+use Rattle.scr_plans.specs.Moment.{Sunk}
+use Rattle.scr_run.specs.Writing.{Leaves}
 
--- before the first piece
-pub leaves_all : (old : Option (List ℕ)) (whole : List ℕ) → Leaves old old whole whole
-leaves_all old whole = ([], refl, appends_none old)
+module _ (old : Sunk) (whole : List ℕ) where
+  -- before the first piece
+  pub leaves_all : Leaves old old whole whole
+  leaves_all = ([], refl, Appends-nil old.written)
 
--- the next piece was written
-pub leaves_next : (old mid new : Option (List ℕ)) (whole piece rest : List ℕ) → Leaves old mid whole (piece ++ rest) → Appends mid new piece → Leaves old new whole rest
-leaves_next old mid new whole piece rest l appended =
-    (l.0 ++ piece, l.1 ∙ sym (append_assoc l.0 piece rest), Appends-trans old mid new l.0 piece l.2 appended)
+  -- the next piece was written
+  pub leaves_next : (mid new : Sunk) (piece rest : List ℕ) → Leaves old mid whole (piece ++ rest)
+      → Appends mid.written new.written piece → Leaves old new whole rest
+  leaves_next mid new piece rest l appended = (
+    l.0 ++ piece,
+    l.1
+        ∙ sym (append_assoc l.0 piece rest),
+    Appends-trans old.written mid.written new.written l.0 piece l.2 appended,
+  )
 
--- a front of the next piece was written
-pub front_next : (old mid new : Option (List ℕ)) (whole piece rest : List ℕ) → Leaves old mid whole (piece ++ rest) → AppendsFront mid new piece → AppendsFront old new whole
-front_next old mid new whole piece rest l f = (
-  l.0 ++ f.0,
-  (
-    f.1.0 ++ rest,
-    l.1 ∙ ap (λ p. l.0 ++ (p ++ rest)) f.1.1 ∙ ap (λ r. l.0 ++ r) (append_assoc f.0 f.1.0 rest) ∙ sym (append_assoc l.0 f.0 (f.1.0 ++ rest)),
-  ),
-  Appends-trans old mid new l.0 f.0 l.2 f.2,
-)
+  -- a front of the next piece was written
+  pub front_next : (mid new : Sunk) (piece rest : List ℕ) → Leaves old mid whole (piece ++ rest)
+      → AppendsFront mid.written new.written piece → AppendsFront old.written new.written whole
+  front_next mid new piece rest l f = (
+    l.0 ++ f.0,
+    (
+      f.1.0 ++ rest,
+      l.1 ∙ ap (λ p. l.0 ++ (p ++ rest)) f.1.1 ∙ ap (λ r. l.0 ++ r) (append_assoc f.0 f.1.0 rest)
+          ∙ sym (append_assoc l.0 f.0 (f.1.0 ++ rest)),
+    ),
+    Appends-trans old.written mid.written new.written l.0 f.0 l.2 f.2,
+  )
 
--- a count that rose later rose
-pub rose_later : (first before now : ℕ) → first ≤ before → Rose before now → Rose first now
-rose_later first before now le rose = omega (arith, le, rose)
+  -- what was written so far is a front
+  pub front_left : (now : Sunk) (rest : List ℕ) → Leaves old now whole rest → AppendsFront old.written now.written whole
+  front_left now rest l = (l.0, (rest, l.1), l.2)
+
+  -- nothing is left
+  pub leaves_none : (now : Sunk) (rest : List ℕ) → rest ≡ [] → Leaves old now whole rest
+      → Appends old.written now.written whole
+  leaves_none now rest none l =
+      subst (Appends old.written now.written) (sym (l.1 ∙ ap (λ r. l.0 ++ r) none ∙ append-nil l.0)) l.2

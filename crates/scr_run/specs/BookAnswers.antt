@@ -1,11 +1,14 @@
--- What the code answers where a balance sheet or a fault is due (this project's own). Want of memory may come in place of
--- either.
+-- What the code answers where a balance sheet or a fault is due (this project's own). Want of memory may come in place
+-- of either.
 use Rattle.std.specs.Prelude.{◌≡◌, ℕ, Result, Ok, Err}
 use Rattle.scr_sheet.specs.declared.sheet.BalanceSheet.{BalanceSheet}
 use Rattle.scr_sheet.specs.declared.fault.Fault.{Fault}
 use Rattle.scr_sheet.specs.declared.fault.Fault.TheVariants as faults
-use Rattle.scr_run.specs.declared.file.BookFault.{BookFault}
-use Rattle.scr_run.specs.declared.file.BookFault.TheVariants as book_faults
+use Rattle.scr_tree.specs.Standing.{Standing, with_sheet}
+use Rattle.scr_tree.specs.declared.refusal.Refusal.{Refusal}
+use Rattle.scr_tree.specs.declared.refusal.Refusal.TheVariants as refusals
+use Rattle.scr_run.specs.declared.records.BookFault.{BookFault}
+use Rattle.scr_run.specs.declared.records.BookFault.TheVariants as book_faults
 
 -- The book changes to what is due, or the fault that is due is told and the book stays.
 abbrev pub Recorded : {A : Type 0} → Result BalanceSheet Fault → BalanceSheet → Result A Fault → BalanceSheet → Type 0
@@ -15,8 +18,15 @@ Recorded due old (Err (faults.UnknownName name)) new = (due ≡ Err (faults.Unkn
 Recorded due old (Err (faults.WrongKind name)) new = (due ≡ Err (faults.WrongKind name)) × (new ≡ old)
 Recorded due old (Err (faults.InUse name user)) new = (due ≡ Err (faults.InUse name user)) × (new ≡ old)
 Recorded due old (Err (faults.Cycle path)) new = (due ≡ Err (faults.Cycle path)) × (new ≡ old)
-Recorded due old (Err (faults.Range quantity value limit)) new = (due ≡ Err (faults.Range quantity value limit)) × (new ≡ old)
+Recorded due old (Err (faults.Range quantity value limit)) new = (due ≡ Err (faults.Range quantity value limit)) ×
+    (new ≡ old)
 Recorded due old (Err faults.NoMemory) new = new ≡ old
+
+-- The book of an engine changes to what is due, or the fault that is due is told and the engine stays.
+abbrev pub Replied : {A : Type 0} → Result BalanceSheet Fault → Standing → Result A Refusal → Standing → Type 0
+Replied due old (Ok a) new = (sheet : BalanceSheet) × (due ≡ Ok sheet) × (new ≡ with_sheet sheet old)
+Replied due old (Err (refusals.Fault fault)) new = (due ≡ Err fault) × (new ≡ old)
+Replied due old (Err refusals.NoMemory) new = new ≡ old
 
 -- The book that is due, or the line and the fault.
 abbrev pub Read : Result BalanceSheet (ℕ × Fault) → Result BalanceSheet BookFault → Type 0

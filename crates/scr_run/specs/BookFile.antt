@@ -32,7 +32,8 @@ unfoldable pub recorded : List ℕ → BalanceSheet → Result BalanceSheet Faul
 recorded text sheet = read_edit (edit_of_line text) sheet
 
 -- a fault with the number of its line, or what the lines after it give
-abbrev pub and_then_lines : ℕ → (BalanceSheet → Result BalanceSheet (ℕ × Fault)) → Result BalanceSheet Fault → Result BalanceSheet (ℕ × Fault)
+abbrev pub and_then_lines : ℕ → (BalanceSheet → Result BalanceSheet (ℕ × Fault)) → Result BalanceSheet Fault
+    → Result BalanceSheet (ℕ × Fault)
 and_then_lines number after (Ok sheet) = after sheet
 and_then_lines number after (Err fault) = Err (number, fault)
 

@@ -31,7 +31,7 @@ quantity_name quantities.Sym = codes "sym"
 quantity_name quantities.TaxRate = codes "taxrate"
 quantity_name quantities.SecFlows = codes "secflows"
 quantity_name quantities.Held = codes "held"
-quantity_name quantities.LineFlows = codes "lineflows"
+quantity_name quantities.LiabilityFlows = codes "lineflows"
 quantity_name quantities.Volumes = codes "volumes"
 quantity_name quantities.Defaults = codes "defaults"
 quantity_name quantities.Years = codes "years"
@@ -39,7 +39,7 @@ quantity_name quantities.Currencies = codes "currencies"
 quantity_name quantities.Securities = codes "securities"
 quantity_name quantities.Funds = codes "funds"
 quantity_name quantities.Components = codes "components"
-quantity_name quantities.Lines = codes "lines"
+quantity_name quantities.Liabilities = codes "lines"
 quantity_name quantities.Groups = codes "groups"
 quantity_name quantities.Exposures = codes "exposures"
 
@@ -78,7 +78,8 @@ cycle_text path = codes "cycle " ++ path_text path
 
 -- the quantity with its value and the bound that it crosses
 unfoldable pub range_text : Quantity → ℤ → ℤ → List ℕ
-range_text quantity value limit = (((quantity_name quantity ++ codes " is ") ++ signed_decimal value) ++ codes ", limit ") ++ signed_decimal limit
+range_text quantity value limit =
+    (((quantity_name quantity ++ codes " is ") ++ signed_decimal value) ++ codes ", limit ") ++ signed_decimal limit
 
 abbrev pub fault_text : Fault → List ℕ
 fault_text (faults.Syntax field) = syntax_text field

@@ -1,10 +1,12 @@
-pub mod BookFile
-pub mod AmountTexts
-pub mod Words
-pub mod Report
 pub mod BookAnswers
+pub mod BookFile
 pub mod Codes
 pub mod FaultTexts
 pub mod FileNames
-pub mod Outcome
+pub mod Plans
+pub mod Readings
+pub mod Report
 pub mod StatusTexts
+pub mod Statuses
+pub mod Words
+pub mod Writing

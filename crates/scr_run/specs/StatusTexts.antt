@@ -1,10 +1,11 @@
 -- How a status is told on standard error (this project's own).
-use Rattle.std.specs.Prelude.{ℕ, ◌++◌, List, [], Option, Some, None, codes, decimal}
+use Rattle.std.specs.Prelude.{ℕ, ◌++◌, List, [], Option, Some, None, if◌then◌else◌, codes, decimal, nat_lt}
 use Rattle.scr_sheet.specs.declared.fault.Fault.{Fault}
 use Rattle.scr_factors.specs.Keys.{key_name, key_table}
 use Rattle.scr_factors.specs.declared.key.Key.{Key}
 use Rattle.scr_factors.specs.declared.fault.FactorFault.{FactorFault}
 use Rattle.scr_factors.specs.declared.fault.FactorFault.TheVariants as factor_faults
+use Rattle.scr_run.specs.Codes.{code_of}
 use Rattle.scr_run.specs.FaultTexts.{fault_number, fault_text}
 use Rattle.scr_run.specs.declared.status.Which.{Which}
 use Rattle.scr_run.specs.declared.status.Which.TheVariants as files
@@ -36,7 +37,8 @@ factor_fault_text factor_faults.NoMemory = codes "out of memory"
 
 -- a label, the number of the line, and the number and the text of its fault
 unfoldable pub labelled_record : List ℕ → ℕ → Fault → List ℕ
-labelled_record label line fault = ((((label ++ decimal line) ++ codes ": ") ++ decimal (fault_number fault)) ++ codes " ") ++ fault_text fault
+labelled_record label line fault = ((((label ++ decimal line) ++ codes ": ") ++ decimal
+    (fault_number fault)) ++ codes " ") ++ fault_text fault
 
 abbrev pub too_long_text : Which → List ℕ
 too_long_text files.Book = codes "book: too long"
@@ -54,3 +56,7 @@ status_text (statuses.TooLong which) = too_long_text which
 status_text statuses.Read = codes "read failed"
 status_text statuses.Write = codes "write failed"
 status_text statuses.NoMemory = codes "out of memory"
+
+-- what is written on standard error: the line of a status, with its end, for each exit code from 2 on
+abbrev pub told_line : Status → List ℕ
+told_line status = if nat_lt (code_of status) 2 then [] else status_text status ++ codes "\n"

@@ -1,12 +1,58 @@
 //! What the definitions of the report come to, whatever a program does.
+ghost use Rattle.std.specs.Prelude.{◌≡◌, ℕ, List, Ok, Err};
+ghost use Rattle.std.specs.List.{AllByRecursion};
+ghost use Rattle.scr_csv.specs.Lines.{records};
+ghost use Rattle.scr_factors.specs.Values.{FactorValues};
 ghost use Rattle.scr_sheet.specs.declared.sheet.BalanceSheet.{BalanceSheet};
 ghost use Rattle.scr_sheet.specs.Validity.{Valid};
-ghost use Rattle.scr_figures.specs.Cells.{equity_cells};
-ghost use Rattle.scr_run.specs.Report.{AreBounded, BoundsEnclose};
+ghost use Rattle.scr_cells.specs.Block.{block_text};
+ghost use Rattle.scr_cells.specs.Certified.{Certified};
+ghost use Rattle.scr_io.specs.Content.{Content, Holds};
+ghost use Rattle.scr_plans.specs.Outcome.{outcome};
+ghost use Rattle.scr_plans.specs.Outcome.Outcome.{Ends, Tells};
+ghost use Rattle.scr_run.specs.BookFile.{sheet_of};
+ghost use Rattle.scr_run.specs.Plans.{ended_status, report_plan};
+ghost use Rattle.scr_run.specs.Readings.{book_in, edits_in, factors_in};
+ghost use Rattle.scr_run.specs.Report.{answers, any_refused, printed, report_text};
+ghost use Rattle.scr_run.specs.Words.{Names};
+ghost use Rattle.scr_run.specs.declared.status.Status.{Status};
 
-/// For every valid balance sheet the printed bounds of each cell enclose its exact figure. Those of equity risk do for every
-/// balance sheet.
+/// Every balance sheet from which a block is printed is valid: that of a book file, and what each
+/// accepted record of its edits leaves. So the printed bounds of each cell of the report enclose
+/// its exact figure, whatever of the report was written.
 pub fn enclosure()
-    ensures printed { (sheet : BalanceSheet) → Valid sheet → BoundsEnclose sheet }
-    ensures equity { (sheet : BalanceSheet) → AreBounded (equity_cells sheet) }
+    ensures valid { (book edits : List ℕ) (sheet : BalanceSheet) → sheet_of book ≡ Ok sheet
+        → AllByRecursion Valid (printed sheet (answers (records edits) sheet)) }
+    ensures printed { (values : FactorValues) (book edits : List ℕ) (sheet : BalanceSheet)
+        → sheet_of book ≡ Ok sheet
+        → AllByRecursion (Certified values) (printed sheet (answers (records edits) sheet)) }
+    ensures certified { (values : FactorValues) (sheet : BalanceSheet) → Valid sheet
+        → Certified values sheet }
+{}
+
+/// Where the plan of the words leads by the contents of the files: the first file that ends the run
+/// decides, and where none does, the report is written.
+pub fn outcomes()
+    ensures report { (names : Names) (content : List ℕ → Content) (factors book edits : List ℕ)
+        (values : FactorValues) (sheet : BalanceSheet) (script : List ℕ)
+        → content names.factors ≡ Holds factors → factors_in factors ≡ Ok values
+        → content names.book ≡ Holds book → book_in book ≡ Ok sheet
+        → content names.edits ≡ Holds edits → edits_in edits ≡ Ok script
+        → outcome (report_plan names) content ≡ Tells
+        (ended_status (any_refused (answers (records script) sheet)))
+        (report_text (block_text values) script sheet) }
+    ensures factors { (names : Names) (content : List ℕ → Content) (factors : List ℕ) (due : Status)
+        → content names.factors ≡ Holds factors → factors_in factors ≡ Err due
+        → outcome (report_plan names) content ≡ Ends due }
+    ensures book { (names : Names) (content : List ℕ → Content) (factors book : List ℕ)
+        (values : FactorValues) (due : Status)
+        → content names.factors ≡ Holds factors → factors_in factors ≡ Ok values
+        → content names.book ≡ Holds book → book_in book ≡ Err due
+        → outcome (report_plan names) content ≡ Ends due }
+    ensures edits { (names : Names) (content : List ℕ → Content) (factors book edits : List ℕ)
+        (values : FactorValues) (sheet : BalanceSheet) (due : Status)
+        → content names.factors ≡ Holds factors → factors_in factors ≡ Ok values
+        → content names.book ≡ Holds book → book_in book ≡ Ok sheet
+        → content names.edits ≡ Holds edits → edits_in edits ≡ Err due
+        → outcome (report_plan names) content ≡ Ends due }
 {}

@@ -1,11 +1,11 @@
 //! The top call: from the words and files to the report.
 #![tactic(auto)]
 
-mod factor_file;
-mod file;
+mod entry;
 mod files;
 pub mod laws;
 mod printing;
+mod records;
 mod replies;
 mod report;
 mod running;
@@ -13,9 +13,7 @@ mod status;
 mod telling;
 mod words;
 
+pub use entry::{conclude, program};
 pub use running::run;
 pub use status::{Status, Which};
 pub use telling::status_line;
-
-#[cfg(test)]
-mod tests;

@@ -1,21 +1,12 @@
-//! How figures and faults are printed.
-ghost use Rattle.std.specs.Prelude.{◌≡◌, ℕ, ◌++◌, ◌<◌, ◌^◌, decimal, unsigned_abs, OnOk};
+//! How faults are printed.
+ghost use Rattle.std.specs.Prelude.{◌≡◌, ℕ, ◌++◌, decimal, OnOk};
 ghost use Rattle.std.specs.Fmt.{signed_decimal};
-ghost use Rattle.scr_run.specs.AmountTexts.{amount, euros};
 ghost use Rattle.scr_run.specs.FaultTexts.{fault_number, fault_text, syntax_text, labelled_name, in_use_text, cycle_text, next_name, path_text, absorb_user, user_text, range_text, quantity_name};
 ghost use Rattle.scr_csv.specs.KeyWords.{absorb_text};
-ghost use Rattle.scr_figures.specs.Shown.{shown};
-ghost use Rattle.scr_run.specs.Report.{cell_line, bounds_line, close_mark, bound};
 
 use scr_book::{AbsorbKey, Fault, Name, Names, Quantity, User};
 use scr_csv::push_absorb_key;
-use scr_figures::Cell;
-use scr_num::{Span, scale};
 use std::alloc::{AllocError as NoMemory, Global};
-
-/// An amount of cents.
-#[derive(Clone, Copy, Debug)]
-pub struct Cents(pub i128);
 
 /// Appends a text.
 pub fn push(out: &mut Vec<u8>, text: &str) -> Result<(), NoMemory>
@@ -30,69 +21,6 @@ pub fn push_number(alloc: Global, out: &mut Vec<u8>, number: u32) -> Result<(), 
 {
     let digits = format!(in alloc; "{number}")?;
     push(out, digits.as_str())
-}
-
-/// Appends a cell's line: its name, its span of grains as a lower and an upper bound in cents, and the mark of a choice
-/// that is left open.
-#[tactic(auto, unfolding(crate::specs::Report::cell_line))]
-pub fn push_cell(alloc: Global, out: &mut Vec<u8>, cell: Cell) -> Result<(), NoMemory>
-    requires low_fits { unsigned_abs cell.span.low < 2 ^ 127 }
-    requires high_fits { unsigned_abs cell.span.high < 2 ^ 127 }
-    ensures { OnOk result (out.new.items ≡ out.old.items ++ cell_line (shown cell)) }
-{
-    let cents = scale(cell.span, 1, 1000);
-    push_bounds(alloc, out, cell.name.as_str(), cents, cell.close)
-}
-
-#[tactic(auto, unfolding(crate::specs::Report::bounds_line))]
-fn push_bounds(
-    alloc: Global,
-    out: &mut Vec<u8>,
-    name: &str,
-    cents: Span,
-    close: bool,
-) -> Result<(), NoMemory>
-    ensures { OnOk result (out.new.items ≡ out.old.items ++ bounds_line name.now cents.low cents.high close) }
-{
-    push(out, name)?;
-    push_bound(alloc, out, Cents(cents.low))?;
-    push_bound(alloc, out, Cents(cents.high))?;
-    push(out, close_mark(close))?;
-    push(out, "\n")
-}
-
-fn close_mark(close: bool) -> &'static str
-    ensures { result.now ≡ close_mark close }
-{
-    if close { " close" } else { "" }
-}
-
-#[tactic(auto, unfolding(crate::specs::Report::bound))]
-fn push_bound(alloc: Global, out: &mut Vec<u8>, cents: Cents) -> Result<(), NoMemory>
-    ensures { OnOk result (out.new.items ≡ out.old.items ++ bound cents.0) }
-{
-    push(out, " ")?;
-    push_amount(alloc, out, cents)
-}
-
-/// Appends an amount, in euros with two decimals.
-#[tactic(auto, unfolding(crate::specs::AmountTexts::amount))]
-pub fn push_amount(alloc: Global, out: &mut Vec<u8>, cents: Cents) -> Result<(), NoMemory>
-    ensures { OnOk result (out.new.items ≡ out.old.items ++ amount cents.0) }
-{
-    if cents.0 < 0 {
-        push(out, "-")?;
-    }
-    push_euros(alloc, out, cents.0.unsigned_abs())
-}
-
-#[tactic(auto, unfolding(crate::specs::AmountTexts::euros))]
-fn push_euros(alloc: Global, out: &mut Vec<u8>, cents: u128) -> Result<(), NoMemory>
-    ensures { OnOk result (out.new.items ≡ out.old.items ++ euros cents) }
-{
-    let (whole, tens, units) = (cents / 100, cents / 10 % 10, cents % 10);
-    let text = format!(in alloc; "{whole}.{tens}{units}")?;
-    push(out, text.as_str())
 }
 
 /// The number by which a fault is told.
@@ -239,7 +167,7 @@ fn name_of(quantity: Quantity) -> &'static str
         Quantity::TaxRate => "taxrate",
         Quantity::SecFlows => "secflows",
         Quantity::Held => "held",
-        Quantity::LineFlows => "lineflows",
+        Quantity::LiabilityFlows => "lineflows",
         Quantity::Volumes => "volumes",
         Quantity::Defaults => "defaults",
         Quantity::Years => "years",
@@ -247,7 +175,7 @@ fn name_of(quantity: Quantity) -> &'static str
         Quantity::Securities => "securities",
         Quantity::Funds => "funds",
         Quantity::Components => "components",
-        Quantity::Lines => "lines",
+        Quantity::Liabilities => "lines",
         Quantity::Groups => "groups",
         Quantity::Exposures => "exposures",
     }

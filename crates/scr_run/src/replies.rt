@@ -1,47 +1,97 @@
-//! The report, written block by block.
-ghost use Rattle.std.specs.Prelude.{◌≡◌, ℕ, ◌≤◌, length};
-ghost use Rattle.scr_csv.specs.Lines.{records};
-ghost use Rattle.std.specs.List.{AllByRecursion};
-ghost use Rattle.scr_sheet.specs.Validity.{Valid};
-ghost use Rattle.scr_run.specs.Outcome.{Replied, IsEnded};
-ghost use Rattle.scr_run.specs.Report.{report_text, any_refused, printed};
+//! The first lines of the report, and the replies to the records of the edits.
+ghost use Rattle.std.specs.Prelude.{◌≡◌, ℕ, ◌≤◌, ◌++◌, length, is_err, OnOk, IfOk};
+ghost use Rattle.scr_cells.specs.Block.{block_text};
+ghost use Rattle.scr_tree.specs.Standing.{with_sheet};
+ghost use Rattle.scr_run.specs.BookFile.{recorded};
+ghost use Rattle.scr_run.specs.Report.{opening_text, reply_start, accepted_text, refused_text, reply_text, after};
 
-use crate::report::{opening, reply_to};
-use crate::status::Status;
-use scr_book::Book;
-use scr_csv::lines;
-use scr_io::{Sink, write_all};
-use std::alloc::Global;
+use crate::printing::{number_of, push, push_fault, push_number};
+use crate::records::edit;
+use scr_book::Fault;
+use scr_cells::print_block;
+use scr_tree::{Engine, Refusal};
+use std::alloc::{AllocError as NoMemory, Global};
 
-/// Writes the report on the book and the edits of a file, one piece for the book and one for each edit, and says how
-/// that ended: with Done, Refused, Write or NoMemory.
-pub fn write_report<K: Sink>(alloc: Global, book: &mut Book, edits: &[u8], sink: &mut K) -> Status
-    requires { length edits.now ≤ 67108864 }
-    ensures outcome { Replied (report_text edits.now book.old) (any_refused (records edits.now) book.old)
-        (K.written sink.old) (K.written sink.new) (K.faults sink.old) (K.faults sink.new) result }
-    ensures valid { IsEnded result → AllByRecursion Valid (printed edits.now book.old) }
+/// The reply to a record of the edits.
+#[derive(Drop)]
+pub struct Reply {
+    pub text: Vec<u8>,
+    pub refused: bool,
+}
+
+/// The first lines of the report, for the book as its file gives it.
+#[tactic(auto, unfolding(crate::specs::Report::opening_text))]
+pub fn opening(alloc: Global, engine: &Engine) -> Result<Vec<u8>, NoMemory>
+    ensures text { IfOk result (λ text. text.items ≡ opening_text
+        (block_text engine.now.factors) engine.now.sheet) }
 {
-    let Ok(text) = opening(alloc, book) else {
-        return Status::NoMemory;
-    };
-    match write_all(sink, text.as_slice()) {
-        Ok(()) => {}
-        Err(_) => return Status::Write,
+    let mut out = Vec::new(alloc);
+    push(&mut out, "# 0 book\n")?;
+    print_block(alloc, engine, &mut out)?;
+    Ok(out)
+}
+
+/// Applies the record of a line to the engine's book, and replies: with the block of the book that
+/// it leaves, or with the fault for which it is refused. The book is as before where the record is
+/// refused.
+pub fn reply_to(
+    alloc: Global,
+    engine: &mut Engine,
+    number: u32,
+    text: &[u8],
+) -> Result<Reply, NoMemory>
+    requires { length text.now ≤ 67108864 }
+    ensures text { IfOk result (λ reply. reply.text.items ≡ reply_text
+        (block_text engine.old.factors) number (recorded text.now engine.old.sheet)) }
+    ensures refused { IfOk result (λ reply. reply.refused
+        ≡ is_err (recorded text.now engine.old.sheet)) }
+    ensures engine { OnOk result (engine.new
+        ≡ with_sheet (after (recorded text.now engine.old.sheet) engine.old.sheet) engine.old) }
+{
+    match edit(alloc, engine, text) {
+        Ok(()) => Ok(Reply {
+            text: accepted(alloc, engine, number)?,
+            refused: false,
+        }),
+        Err(Refusal::NoMemory) => Err(NoMemory),
+        Err(Refusal::Fault(fault)) => Ok(Reply {
+            text: refused(alloc, number, &fault)?,
+            refused: true,
+        }),
     }
-    let mut refused = false;
-    for line in lines(edits) {
-        let Ok(reply) = reply_to(alloc, book, line.number, line.text) else {
-            return Status::NoMemory;
-        };
-        refused |= reply.refused;
-        match write_all(sink, reply.text.as_slice()) {
-            Ok(()) => {}
-            Err(_) => return Status::Write,
-        }
-    }
-    if refused {
-        Status::Refused
-    } else {
-        Status::Done
-    }
+}
+
+#[tactic(auto, unfolding(crate::specs::Report::accepted_text))]
+fn accepted(alloc: Global, engine: &Engine, number: u32) -> Result<Vec<u8>, NoMemory>
+    ensures text { IfOk result (λ text. text.items ≡ accepted_text
+        (block_text engine.now.factors) number engine.now.sheet) }
+{
+    let mut out = start(alloc, number)?;
+    push(&mut out, "ok\n")?;
+    print_block(alloc, engine, &mut out)?;
+    Ok(out)
+}
+
+#[tactic(auto, unfolding(crate::specs::Report::refused_text))]
+fn refused(alloc: Global, number: u32, fault: &Fault) -> Result<Vec<u8>, NoMemory>
+    ensures { IfOk result (λ text. text.items ≡ refused_text number fault.now) }
+{
+    let mut out = start(alloc, number)?;
+    push(&mut out, "refused ")?;
+    push_number(alloc, &mut out, number_of(fault))?;
+    push(&mut out, " ")?;
+    push_fault(alloc, &mut out, fault)?;
+    push(&mut out, "\n")?;
+    Ok(out)
+}
+
+#[tactic(auto, unfolding(crate::specs::Report::reply_start))]
+fn start(alloc: Global, number: u32) -> Result<Vec<u8>, NoMemory>
+    ensures { IfOk result (λ text. text.items ≡ reply_start number) }
+{
+    let mut out = Vec::new(alloc);
+    push(&mut out, "# ")?;
+    push_number(alloc, &mut out, number)?;
+    push(&mut out, " ")?;
+    Ok(out)
 }

@@ -1,109 +1,58 @@
-//! The blocks of the report.
-ghost use Rattle.std.specs.Prelude.{◌≡◌, ℕ, ◌≤◌, ◌<◌, ◌^◌, ◌++◌, flat_map, length, map, unsigned_abs, is_err, OnOk, IfOk};
-ghost use Rattle.std.specs.List.{All};
-ghost use Rattle.scr_sheet.specs.Validity.{Valid};
-ghost use Rattle.scr_run.specs.BookFile.{recorded};
-ghost use Rattle.scr_figures.specs.Shown.{shown};
-ghost use Rattle.scr_run.specs.Report.{block_text, cell_line, opening_text, reply_start, accepted_text, refused_text, reply_text, after};
+//! The report, written block by block.
+ghost use Rattle.std.specs.Prelude.{◌≡◌, ℕ, ◌≤◌, length, IfOk};
+ghost use Rattle.scr_cells.specs.Block.{block_text};
+ghost use Rattle.scr_csv.specs.Lines.{records};
+ghost use Rattle.scr_plans.specs.Moment.{sunk};
+ghost use Rattle.scr_run.specs.Report.{answers, any_refused, report_text};
+ghost use Rattle.scr_run.specs.Writing.{WritesText};
 
-use crate::file::record;
-use crate::printing::{number_of, push, push_cell, push_fault, push_number};
-use scr_book::{Book, Fault};
-use scr_figures::{Cell, cells};
-use std::alloc::{AllocError as NoMemory, Global};
+use crate::replies::{opening, reply_to};
+use scr_csv::lines;
+use scr_io::{Sink, write_all};
+use scr_tree::Engine;
+use std::alloc::Global;
 
-/// The reply to a record of the edits.
-#[derive(Debug, Drop)]
-pub struct Reply {
-    pub text: Vec<u8>,
-    pub refused: bool,
+/// Why a text was not written to its end.
+#[derive(Clone, Copy)]
+pub enum WriteFault {
+    /// The sink failed, and its count of faults rose.
+    Failed,
+    /// Memory was refused.
+    NoMemory,
 }
 
-/// The first lines of the report, for the book as its file gives it.
-#[tactic(auto, unfolding(crate::specs::Report::opening_text))]
-pub fn opening(alloc: Global, book: &Book) -> Result<Vec<u8>, NoMemory>
-    ensures text { IfOk result (λ text. text.items ≡ opening_text book.now) }
-    ensures valid { OnOk result (Valid book.now) }
+/// Writes the report on the engine's book and the edits of a file, one piece for the book and one for each
+/// edit, and says whether an edit was refused.
+pub fn write_report<K: Sink>(
+    alloc: Global,
+    engine: &mut Engine,
+    edits: &[u8],
+    sink: &mut K,
+) -> Result<bool, WriteFault>
+    requires { length edits.now ≤ 67108864 }
+    ensures written { WritesText (report_text (block_text engine.old.factors) edits.now engine.old.sheet)
+        (sunk (K.written sink.old) (K.faults sink.old))
+        (sunk (K.written sink.new) (K.faults sink.new)) result }
+    ensures refused { IfOk result (λ refused. refused ≡ any_refused
+        (answers (records edits.now) engine.old.sheet)) }
 {
-    let mut out = Vec::new(alloc);
-    push(&mut out, "# 0 book\n")?;
-    push_block(alloc, &mut out, book)?;
-    Ok(out)
-}
-
-/// Applies the record of a line to the book, and replies: with the block of the book that it leaves, or with the fault
-/// for which it is refused. The book is as before where the record is refused.
-pub fn reply_to(alloc: Global, book: &mut Book, number: u32, text: &[u8]) -> Result<Reply, NoMemory>
-    requires { length text.now ≤ 67108864 }
-    ensures text { IfOk result (λ reply. reply.text.items ≡ reply_text number (recorded text.now book.old)) }
-    ensures refused { IfOk result (λ reply. reply.refused ≡ is_err (recorded text.now book.old)) }
-    ensures book { OnOk result (book.new ≡ after (recorded text.now book.old) book.old) }
-    ensures valid { OnOk result (IfOk (recorded text.now book.old) Valid) }
-{
-    match record(alloc, book, text) {
-        Ok(()) => Ok(Reply {
-            text: accepted(alloc, number, book)?,
-            refused: false,
-        }),
-        Err(Fault::NoMemory) => Err(NoMemory),
-        Err(fault) => Ok(Reply {
-            text: refused(alloc, number, &fault)?,
-            refused: true,
-        }),
+    let Ok(text) = opening(alloc, engine) else {
+        return Err(WriteFault::NoMemory);
+    };
+    match write_all(sink, text.as_slice()) {
+        Ok(()) => {}
+        Err(_) => return Err(WriteFault::Failed),
     }
-}
-
-#[tactic(auto, unfolding(crate::specs::Report::accepted_text))]
-fn accepted(alloc: Global, number: u32, book: &Book) -> Result<Vec<u8>, NoMemory>
-    ensures text { IfOk result (λ text. text.items ≡ accepted_text number book.now) }
-    ensures valid { OnOk result (Valid book.now) }
-{
-    let mut out = start(alloc, number)?;
-    push(&mut out, "ok\n")?;
-    push_block(alloc, &mut out, book)?;
-    Ok(out)
-}
-
-#[tactic(auto, unfolding(crate::specs::Report::refused_text))]
-fn refused(alloc: Global, number: u32, fault: &Fault) -> Result<Vec<u8>, NoMemory>
-    ensures { IfOk result (λ text. text.items ≡ refused_text number fault.now) }
-{
-    let mut out = start(alloc, number)?;
-    push(&mut out, "refused ")?;
-    push_number(alloc, &mut out, number_of(fault))?;
-    push(&mut out, " ")?;
-    push_fault(alloc, &mut out, fault)?;
-    push(&mut out, "\n")?;
-    Ok(out)
-}
-
-#[tactic(auto, unfolding(crate::specs::Report::reply_start))]
-fn start(alloc: Global, number: u32) -> Result<Vec<u8>, NoMemory>
-    ensures { IfOk result (λ text. text.items ≡ reply_start number) }
-{
-    let mut out = Vec::new(alloc);
-    push(&mut out, "# ")?;
-    push_number(alloc, &mut out, number)?;
-    push(&mut out, " ")?;
-    Ok(out)
-}
-
-/// Appends the lines of all cells of the book.
-#[tactic(auto, unfolding(crate::specs::Report::block_text))]
-fn push_block(alloc: Global, out: &mut Vec<u8>, book: &Book) -> Result<(), NoMemory>
-    ensures text { OnOk result (out.new.items ≡ out.old.items ++ block_text book.now) }
-    ensures valid { OnOk result (Valid book.now) }
-{
-    let block = cells(alloc, book)?;
-    push_cells(alloc, out, &block)
-}
-
-fn push_cells(alloc: Global, out: &mut Vec<u8>, cells: &[Cell]) -> Result<(), NoMemory>
-    requires { All (λ c. (unsigned_abs c.span.low < 2 ^ 127) × (unsigned_abs c.span.high < 2 ^ 127)) cells.now }
-    ensures { OnOk result (out.new.items ≡ out.old.items ++ flat_map cell_line (map shown cells.now)) }
-{
-    for cell in cells {
-        push_cell(alloc, out, *cell)?;
+    let mut refused = false;
+    for line in lines(edits) {
+        let Ok(reply) = reply_to(alloc, engine, line.number, line.text) else {
+            return Err(WriteFault::NoMemory);
+        };
+        refused |= reply.refused;
+        match write_all(sink, reply.text.as_slice()) {
+            Ok(()) => {}
+            Err(_) => return Err(WriteFault::Failed),
+        }
     }
-    Ok(())
+    Ok(refused)
 }

@@ -1,30 +1,29 @@
 //! A run of the program: from its words to its status.
-ghost use Rattle.std.specs.Prelude.{◌≡◌, ℕ, ◌<◌, ◌≤◌, ◌↔◌, None, Err, true, length};
+ghost use Rattle.std.specs.Prelude.{◌≡◌, ℕ, None};
 ghost use Rattle.std.specs.Io.KnownBytes.{IsAtEnd};
-ghost use Rattle.scr_io.specs.Cause.{Rose};
-ghost use Rattle.scr_io.specs.Front.{AppendsFront};
-ghost use Rattle.scr_io.specs.declared.reading.TheConstants.{MAX_BYTES};
-ghost use Rattle.scr_sheet.specs.declared.fault.Fault.{Fault};
-ghost use Rattle.scr_sheet.specs.declared.fault.Fault.TheVariants as faults;
-ghost use Rattle.scr_factors.specs.Reading.{values_in};
-ghost use Rattle.scr_factors.specs.declared.fault.FactorFault.{FactorFault};
+ghost use Rattle.scr_plans.specs.Moment.{shelved, sunk};
+ghost use Rattle.scr_plans.specs.Outcome.{TellsNothing};
+ghost use Rattle.scr_plans.specs.Owes.{Owes};
 ghost use Rattle.scr_factors.specs.declared.fault.FactorFault.TheVariants as factor_faults;
-ghost use Rattle.scr_run.specs.BookFile.{sheet_of};
-ghost use Rattle.scr_run.specs.Outcome.{OfFactors, OfBook, OfFiles, HasFactors, HasBook, HasEdits, HasFiles, RisesOnlyIf, factors_absent, book_absent, any_absent, IsBeforeBook, IsBeforeEdits, IsPastFactors, IsPastBook, IsPastEdits, IsEnded, IsQuiet, Answered, AnsweredAt, Reports, factors_refusal, book_refusal, refusal_of, status_due, text_due};
+ghost use Rattle.scr_sheet.specs.declared.fault.Fault.TheVariants as faults;
+ghost use Rattle.scr_run.specs.FileNames.{names_of};
+ghost use Rattle.scr_run.specs.Plans.{ended_status, plan_of, plan_on, report_plan};
+ghost use Rattle.scr_run.specs.Statuses.{answer_of, IsEnded, IsQuiet};
 ghost use Rattle.scr_run.specs.Words.{named_files as words_say};
 
-use crate::factor_file::factor_fault;
-use crate::files::report_on;
-use crate::status::{Status, Which};
-use crate::words::named_files;
-use scr_io::{Gate, ReadFault, Shelf, Sink, read_all};
+use crate::files::{Role, file_book, file_bytes, file_factors};
+use crate::report::{WriteFault, write_report};
+use crate::status::Status;
+use crate::words::{Files, named_files};
+use scr_io::{Gate, Shelf, Sink};
+use scr_tree::Engine;
 use std::alloc::Global;
 use std::thread::Threads;
 
-/// Runs the program on its words, the words after its name: `--factors`, `--book` and `--edits`, each with the name of a
-/// file on the shelf, and `--workers` with a number, which has no effect yet. The report on the book and the edits goes to
-/// the sink. The files are read in this order, each is checked before the next is opened, and output begins when all
-/// were read.
+/// Runs the program on its words, the words after its name: `--factors`, `--book` and `--edits`,
+/// each with the name of a file on the shelf, and `--workers` with a number, which has no effect
+/// yet. The report on the book and the edits goes to the sink. The files are read in this order,
+/// each is checked before the next is opened, and output begins when all were read.
 pub fn run<R: Threads + Sync, F: Shelf, K: Sink, G: Gate + Sync>(
     _rt: &R,
     alloc: Global,
@@ -33,66 +32,106 @@ pub fn run<R: Threads + Sync, F: Shelf, K: Sink, G: Gate + Sync>(
     sink: &mut K,
     _gate: &G,
 ) -> Status
-    // The status tells the words' form, and what the bytes of the files call for; the first file that ends the run decides.
-    ensures usage { (result ≡ Status.Usage) ↔ (words_say words.now ≡ None) }
-    ensures answered_at_factors { OfFactors (words_say words.now) (F.content shelf.old) (λ factors.
-        (Rose (F.faults shelf.old) (F.faults shelf.new) → ⊥) → AnsweredAt (factors_refusal factors) result) }
-    ensures answered_at_book { OfFactors (words_say words.now) (F.content shelf.old) (λ factors. OfBook (words_say words.now) (F.content shelf.old) (λ book.
-        (Rose (F.faults shelf.old) (F.faults shelf.new) → ⊥) → AnsweredAt (refusal_of factors book) result)) }
-    ensures answered { OfFiles (words_say words.now) (F.content shelf.old) (λ factors book edits.
-        (Rose (F.faults shelf.old) (F.faults shelf.new) → ⊥) → Answered (status_due factors book edits) result) }
+    // What the words call for is done: the files of their plan are read in order, the first that
+    // ends the run decides, and the text is written; or the run gives up, with its cause.
+    ensures owed { Owes (plan_of (words_say words.now))
+        (shelved (F.content shelf.old) (F.faults shelf.old) (F.strays shelf.old))
+        (shelved (F.content shelf.new) (F.faults shelf.new) (F.strays shelf.new))
+        (sunk (K.written sink.old) (K.faults sink.old))
+        (sunk (K.written sink.new) (K.faults sink.new))
+        (answer_of result) }
 
-    // Each status has its cause.
-    ensures factors { (fault : FactorFault) → result ≡ Status.Factors fault →
-        HasFactors (words_say words.now) (F.content shelf.old) (λ factors. values_in factors ≡ Err fault) }
-    ensures factors_too_long { result ≡ Status.FactorsTooLong →
-        HasFactors (words_say words.now) (F.content shelf.old) (λ factors. MAX_BYTES < length factors) }
-    ensures book { (line : ℕ) (fault : Fault) → result ≡ Status.Book line fault →
-        HasBook (words_say words.now) (F.content shelf.old) (λ book. sheet_of book ≡ Err (line, fault)) }
-    ensures too_long { result ≡ Status.TooLong Which.Book →
-        HasBook (words_say words.now) (F.content shelf.old) (λ book. MAX_BYTES < length book) }
-    ensures too_long_edits { result ≡ Status.TooLong Which.Edits →
-        HasEdits (words_say words.now) (F.content shelf.old) (λ edits. MAX_BYTES < length edits) }
-    ensures never_memory { (result ≡ Status.Factors factor_faults.NoMemory → ⊥) × ((line : ℕ) → result ≡ Status.Book line faults.NoMemory → ⊥) }
-    ensures read { result ≡ Status.Read → Rose (F.faults shelf.old) (F.faults shelf.new) }
-    ensures write { result ≡ Status.Write → Rose (K.faults sink.old) (K.faults sink.new) }
-
-    // A status that comes after a file was read has that file, and the file ends no run.
-    ensures past_factors { IsPastFactors result → HasFactors (words_say words.now) (F.content shelf.old) (λ factors. factors_refusal factors ≡ None) }
-    ensures past_book { IsPastBook result → HasBook (words_say words.now) (F.content shelf.old) (λ book. book_refusal book ≡ None) }
-    ensures past_edits { IsPastEdits result → HasEdits (words_say words.now) (F.content shelf.old) (λ edits. length edits ≤ MAX_BYTES) }
-
-    // No name that the shelf lacks is opened but those that the words name, and each only after those before it.
-    ensures strays { RisesOnlyIf (any_absent (words_say words.now) (F.content shelf.old)) (F.strays shelf.old) (F.strays shelf.new) }
-    ensures strays_at_book { IsBeforeEdits result →
-        RisesOnlyIf (book_absent (words_say words.now) (F.content shelf.old)) (F.strays shelf.old) (F.strays shelf.new) }
-    ensures strays_at_factors { IsBeforeBook result →
-        RisesOnlyIf (factors_absent (words_say words.now) (F.content shelf.old)) (F.strays shelf.old) (F.strays shelf.new) }
-    ensures untouched { result ≡ Status.Usage → shelf.new ≡ shelf.old }
-
-    // What is written is the report, whose bounds enclose the exact figures of the book at each moment, or a front of
-    // it, or nothing.
-    ensures ended { IsEnded result → HasFiles (words_say words.now) (F.content shelf.old) (λ factors book edits.
-        (result ≡ status_due factors book edits) × Reports edits (sheet_of book) (K.written sink.old) (K.written sink.new)) }
-    ensures read_to_end { IsEnded result → IsAtEnd (F.left shelf.new) }
-    ensures front { OfFiles (words_say words.now) (F.content shelf.old) (λ factors book edits.
-        AppendsFront (K.written sink.old) (K.written sink.new) (text_due factors book edits)) }
+    // Of a shelf and a sink that tell nothing too: words that have no form touch neither, want of
+    // memory is no fault of a file, the sink is touched only once all is read, and the last file
+    // was read to its end where the report is whole.
+    ensures usage { result ≡ Status.Usage → words_say words.now ≡ None }
+    ensures untouched { words_say words.now ≡ None → shelf.new ≡ shelf.old }
+    ensures never_memory { (result ≡ Status.Factors factor_faults.NoMemory → ⊥) ×
+        ((line : ℕ) → result ≡ Status.Book line faults.NoMemory → ⊥) }
     ensures quiet { IsQuiet result → sink.new ≡ sink.old }
-    ensures absent { any_absent (words_say words.now) (F.content shelf.old) ≡ true → sink.new ≡ sink.old }
+    ensures silent { TellsNothing (plan_of (words_say words.now)) (F.content shelf.old)
+        → sink.new ≡ sink.old }
+    ensures read_to_end { IsEnded result → IsAtEnd (F.left shelf.new) }
 {
-    let Some(files) = named_files(words) else {
-        return Status::Usage;
-    };
-    let factors = match read_all(alloc, shelf, files.factors) {
-        Ok(bytes) => bytes,
-        Err(ReadFault::Failed) => return Status::Read,
-        Err(ReadFault::TooLong) => return Status::FactorsTooLong,
-        Err(ReadFault::NoMemory) => return Status::NoMemory,
-    };
-    match factor_fault(alloc, factors.as_slice()) {
-        Ok(None) => {}
-        Ok(Some(fault)) => return Status::Factors(fault),
-        Err(_) => return Status::NoMemory,
+    match named_files(alloc, words) {
+        Ok(Some(files)) => report(alloc, files, shelf, sink),
+        Ok(None) => Status::Usage,
+        Err(_) => Status::NoMemory,
     }
-    report_on(alloc, files, shelf, sink)
+}
+
+/// Reads the factor file, the book and its edits, and writes the report on them.
+fn report<F: Shelf, K: Sink>(alloc: Global, files: Files<'_>, shelf: &mut F, sink: &mut K) -> Status
+    ensures owed { Owes (report_plan (names_of files.entry))
+        (shelved (F.content shelf.old) (F.faults shelf.old) (F.strays shelf.old))
+        (shelved (F.content shelf.new) (F.faults shelf.new) (F.strays shelf.new))
+        (sunk (K.written sink.old) (K.faults sink.old))
+        (sunk (K.written sink.new) (K.faults sink.new))
+        (answer_of result) }
+    ensures begun { result ≡ Status.Usage → ⊥ }
+    ensures never_memory { (result ≡ Status.Factors factor_faults.NoMemory → ⊥) ×
+        ((line : ℕ) → result ≡ Status.Book line faults.NoMemory → ⊥) }
+    ensures quiet { IsQuiet result → sink.new ≡ sink.old }
+    ensures silent { TellsNothing (report_plan (names_of files.entry)) (F.content shelf.old)
+        → sink.new ≡ sink.old }
+    ensures read_to_end { IsEnded result → IsAtEnd (F.left shelf.new) }
+{
+    let factors = match file_factors(alloc, shelf, files.factors) {
+        Ok(factors) => factors,
+        Err(status) => return status,
+    };
+    let book = match file_book(alloc, shelf, files.book) {
+        Ok(book) => book,
+        Err(status) => return status,
+    };
+    let Ok(mut engine) = Engine::new(alloc, factors, book) else {
+        return Status::NoMemory;
+    };
+    let status = report_on(alloc, &mut engine, files.edits, shelf, sink);
+    engine.close();
+    status
+}
+
+/// Reads the edits of the engine's book, and writes the report on both.
+fn report_on<F: Shelf, K: Sink>(
+    alloc: Global,
+    engine: &mut Engine,
+    edits_name: &str,
+    shelf: &mut F,
+    sink: &mut K,
+) -> Status
+    ensures owed { Owes (plan_on engine.old.factors edits_name.now engine.old.sheet)
+        (shelved (F.content shelf.old) (F.faults shelf.old) (F.strays shelf.old))
+        (shelved (F.content shelf.new) (F.faults shelf.new) (F.strays shelf.new))
+        (sunk (K.written sink.old) (K.faults sink.old))
+        (sunk (K.written sink.new) (K.faults sink.new))
+        (answer_of result) }
+    ensures begun { result ≡ Status.Usage → ⊥ }
+    ensures never_memory { (result ≡ Status.Factors factor_faults.NoMemory → ⊥) ×
+        ((line : ℕ) → result ≡ Status.Book line faults.NoMemory → ⊥) }
+    ensures quiet { IsQuiet result → sink.new ≡ sink.old }
+    ensures silent { TellsNothing (plan_on engine.old.factors edits_name.now engine.old.sheet)
+        (F.content shelf.old) → sink.new ≡ sink.old }
+    ensures read_to_end { IsEnded result → IsAtEnd (F.left shelf.new) }
+{
+    let edits = match file_bytes(alloc, shelf, edits_name, Role::Edits) {
+        Ok(edits) => edits,
+        Err(status) => return status,
+    };
+    match write_report(alloc, engine, edits.as_slice(), sink) {
+        Ok(refused) => ended(refused),
+        Err(WriteFault::Failed) => Status::Write,
+        Err(WriteFault::NoMemory) => Status::NoMemory,
+    }
+}
+
+/// The status of a run whose report is whole.
+fn ended(refused: bool) -> Status
+    ensures { result ≡ ended_status refused }
+{
+    if refused {
+        Status::Refused
+    } else {
+        Status::Done
+    }
 }

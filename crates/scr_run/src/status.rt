@@ -25,7 +25,8 @@ pub enum Status {
     Factors(FactorFault),
     /// The factor file has more than 64 MiB.
     FactorsTooLong,
-    /// The first record of the book that has a fault: the number of its line, and the fault, which is never want of memory.
+    /// The first record of the book that has a fault: the number of its line, and the fault, which
+    /// is never want of memory.
     Book(u32, Fault),
     /// The file has more than 64 MiB.
     TooLong(Which),
@@ -38,7 +39,8 @@ pub enum Status {
 }
 
 impl Status {
-    /// The exit code of the program: 0 where all went well, 1 where an edit was refused, and from 2 to 7 by the cause of the failure.
+    /// The exit code of the program: 0 where all went well, 1 where an edit was refused, and from 2
+    /// to 7 by the cause of the failure.
     pub fn code(&self) -> u8
         ensures { result ≡ code_of self.now }
     {

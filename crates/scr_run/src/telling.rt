@@ -8,10 +8,11 @@ use scr_book::Fault;
 use scr_factors::{FactorFault, Key};
 use std::alloc::{AllocError as NoMemory, Global};
 
-/// Appends the line by which a status is told, without its end; nothing for a run that ended with its whole report. Where
-/// memory is refused, nothing is appended.
+/// Appends the line by which a status is told, without its end; nothing for a run that ended with
+/// its whole report. Where memory is refused, nothing is appended.
 pub fn status_line(alloc: Global, status: &Status, out: &mut Vec<u8>) -> Result<(), NoMemory>
-    ensures { out.new.items ≡ (if is_ok result then out.old.items ++ status_text status.now else out.old.items) }
+    ensures { out.new.items ≡
+        (if is_ok result then out.old.items ++ status_text status.now else out.old.items) }
 {
     let mut line = Vec::new(alloc);
     push_status(alloc, &mut line, status)?;
@@ -102,7 +103,8 @@ fn push_record(
     line: u32,
     fault: &Fault,
 ) -> Result<(), NoMemory>
-    ensures { OnOk result (out.new.items ≡ out.old.items ++ labelled_record label.now line fault.now) }
+    ensures { OnOk result
+        (out.new.items ≡ out.old.items ++ labelled_record label.now line fault.now) }
 {
     push(out, label)?;
     push_number(alloc, out, line)?;

@@ -1,15 +1,35 @@
-//! The words of the program.
-ghost use Rattle.std.specs.Prelude.{◌≡◌, map, string_bytes};
+//! The words of the program: the options that they give, and the form that these have.
+ghost use Rattle.std.specs.Prelude.{◌≡◌, IfOk, length, map, string_bytes};
 ghost use Rattle.std.specs.Option.{option_map};
 ghost use Rattle.scr_csv.specs.Words.{is_text as tells_text};
 ghost use Rattle.scr_run.specs.Words as written;
-ghost use Rattle.scr_run.specs.FileNames.{names_of, value_and_words};
+ghost use Rattle.scr_run.specs.FileNames.{IsShorter, beginning_of, names_of, option_of, options_of};
+
+use std::alloc::{AllocError as NoMemory, Global};
 
 /// The greatest number of workers.
 const MAX_WORKERS: u32 = 64;
 
+/// An option with its value.
+#[derive(Clone, Copy)]
+pub enum GivenOption<'a> {
+    Factors(&'a str),
+    Book(&'a str),
+    Edits(&'a str),
+    Workers(&'a str),
+}
+
+/// How a list of words begins: with two words and those after them, with one word alone, or not at
+/// all.
+#[derive(Clone, Copy)]
+pub enum Beginning<'a> {
+    End,
+    Half,
+    Pair(&'a str, &'a str, &'a [String]),
+}
+
 /// What the words say: the names of the files that a run reads, and the number of workers, 1 to 64.
-#[derive(Clone, Copy, Debug)]
+#[derive(Clone, Copy)]
 pub struct Files<'a> {
     pub factors: &'a str,
     pub book: &'a str,
@@ -17,51 +37,90 @@ pub struct Files<'a> {
     pub workers: u32,
 }
 
-/// What the words say, where they have the written form `--factors NAME --book NAME --edits NAME --workers N`, in which a
-/// name is not empty and does not begin with `-`, and N is one or two digits that stand for 1 to 64.
-pub fn named_files(words: &[String]) -> Option<Files<'_>>
-    ensures { option_map names_of result ≡ written.named_files words.now }
+/// What the words say, where their options have a form. Memory is taken for the options.
+pub fn named_files(alloc: Global, words: &[String]) -> Result<Option<Files<'_>>, NoMemory>
+    ensures { IfOk result (λ said. option_map names_of said ≡ written.named_files words.now) }
 {
-    let (factors, words) = option_value("--factors", words)?;
-    let (book, words) = option_value("--book", words)?;
-    let (edits, words) = option_value("--edits", words)?;
-    let workers = workers_value(words)?;
-    Some(Files {
-        factors,
-        book,
-        edits,
-        workers,
-    })
+    match options_given(alloc, words) {
+        Ok(Some(options)) => Ok(form_of(options.as_slice())),
+        Ok(None) => Ok(None),
+        Err(_) => Err(NoMemory),
+    }
 }
 
-/// The value of the option that comes first, and the words after it.
-fn option_value<'a>(option: &str, words: &'a [String]) -> Option<(&'a str, &'a [String])>
-    ensures { option_map value_and_words result ≡ written.option_value option.now (map string_bytes words.now) }
+/// The options: each two words are an option and its value, and no word is left over.
+fn options_given(alloc: Global, words: &[String]) -> Result<Option<Vec<GivenOption<'_>>>, NoMemory>
+    ensures { IfOk result (λ found. option_map options_of found ≡ written.options_in
+        (map string_bytes words.now)) }
 {
-    let [word, value, rest @ ..] = words else {
-        return None;
-    };
-    if is_option(option, word.as_str(), value.as_str()) {
-        Some((value.as_str(), rest))
+    let mut given = Vec::new(alloc);
+    let mut rest = words;
+    'options: loop {
+        match start_of(rest) {
+            Beginning::End => return Ok(Some(given)),
+            Beginning::Half => return Ok(None),
+            Beginning::Pair(word, value, others) => {
+                let Some(option) = option_given(word, value) else {
+                    return Ok(None);
+                };
+                given.push(option)?;
+                rest = others;
+            }
+        }
+    }
+}
+
+fn start_of(words: &[String]) -> Beginning<'_>
+    ensures begins { beginning_of result ≡ written.beginning (map string_bytes words.now) }
+    ensures shorter { IsShorter result (length words.now) }
+{
+    match words {
+        [] => Beginning::End,
+        [_] => Beginning::Half,
+        [word, value, others @ ..] => Beginning::Pair(word.as_str(), value.as_str(), others),
+    }
+}
+
+/// The option that a word names, where the value is not empty and does not begin with `-`.
+fn option_given<'a>(word: &str, value: &'a str) -> Option<GivenOption<'a>>
+    ensures { option_map option_of result ≡ written.option_in word.now value.now }
+{
+    if !is_value(value) {
+        None
+    } else if is_text("--factors", word) {
+        Some(GivenOption::Factors(value))
+    } else if is_text("--book", word) {
+        Some(GivenOption::Book(value))
+    } else if is_text("--edits", word) {
+        Some(GivenOption::Edits(value))
+    } else if is_text("--workers", word) {
+        Some(GivenOption::Workers(value))
     } else {
         None
     }
 }
 
-/// The number of workers, where nothing follows it.
-fn workers_value(words: &[String]) -> Option<u32>
-    ensures { result ≡ written.workers_value (map string_bytes words.now) }
+/// The table of forms: which options say what, in which order.
+fn form_of<'a>(options: &[GivenOption<'a>]) -> Option<Files<'a>>
+    ensures { option_map names_of result ≡ written.form_in (map option_of options.now) }
 {
-    match words {
-        [word, workers] if is_text("--workers", word.as_str()) => count_of(workers.as_bytes()),
+    match options {
+        [
+            GivenOption::Factors(factors),
+            GivenOption::Book(book),
+            GivenOption::Edits(edits),
+            GivenOption::Workers(workers),
+        ] => {
+            let workers = count_of(workers.as_bytes())?;
+            Some(Files {
+                factors: *factors,
+                book: *book,
+                edits: *edits,
+                workers,
+            })
+        }
         _ => None,
     }
-}
-
-fn is_option(option: &str, word: &str, value: &str) -> bool
-    ensures { result ≡ written.is_option option.now word.now value.now }
-{
-    is_text(option, word) && is_value(value)
 }
 
 fn is_text(text: &str, word: &str) -> bool

@@ -10,11 +10,11 @@ use Rattle.scr_dates.specs.Civil.{IsDay}
 use Rattle.scr_sheet.specs.Forms.{IsCurrency}
 use Rattle.scr_sheet.specs.Records.{absorb_place, placed, with_volumes, with_segment}
 use Rattle.scr_sheet.specs.Validity.{AreNumbers, AreVolumes, IsAmount, IsBetween}
-use Rattle.scr_factors.specs.declared.set.Set.{Set}
-use Rattle.scr_factors.specs.declared.set.Set.TheVariants as sets
+use Rattle.scr_profile.specs.declared.set.Set.{Set}
+use Rattle.scr_profile.specs.declared.set.Set.TheVariants as sets
 use Rattle.scr_sheet.specs.declared.numbers.Numbers.{Numbers}
 use Rattle.scr_sheet.specs.declared.numbers.Regions.{Regions}
-use Rattle.scr_sheet.specs.declared.limits.TheConstants.{MAX_AMOUNT, MAX_SYM, MAX_TAX}
+use Rattle.scr_profile.specs.declared.limits.TheConstants.{MAX_AMOUNT, MAX_SYM, MAX_TAX}
 
 pub All-set : {X : Type 0} (P : X → Type 0) (xs : List X) (k : ℕ) (x : X) → P x → AllByRecursion P xs → AllByRecursion P (set xs k x)
 All-set P [] k x own all = tt

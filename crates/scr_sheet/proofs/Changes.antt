@@ -4,9 +4,9 @@ use Rattle.std.specs.List.{AllByRecursion, IsDistinct}
 use Rattle.scr_funds.specs.Chains.{IsAcyclic}
 use Rattle.scr_names.specs.Names.{same_name}
 use Rattle.scr_names.specs.Tables.{has_row, with_row, without}
-use Rattle.scr_sheet.specs.BalanceSheet.{group_name, position_name, line_name, bank_name, rein_name, curve_name, stake_name, names_of, components_of, is_named}
+use Rattle.scr_sheet.specs.BalanceSheet.{group_name, position_name, liability_name, bank_name, rein_name, curve_name, stake_name, names_of, components_of, is_named}
 use Rattle.scr_sheet.specs.declared.sheet.BalanceSheet.{BalanceSheet}
-use Rattle.scr_sheet.specs.Validity.{Valid, AreWithin, AreNumbers, IsGroup, IsSecurity, IsStake, IsLine, IsBank, IsRein, IsCurve, HasGroup, HasGroupOrNone, HasCurrency, IsHeld}
+use Rattle.scr_sheet.specs.Validity.{Valid, AreWithin, AreNumbers, IsGroup, IsSecurity, IsStake, IsLiability, IsBank, IsRein, IsCurve, HasGroup, HasGroupOrNone, HasCurrency, IsHeld}
 use Rattle.scr_sheet.specs.declared.rows.Group.{Group}
 use Rattle.scr_sheet.specs.declared.rows.Position.{Position}
 use Rattle.scr_sheet.specs.declared.rows.Stake.{Stake}
@@ -27,7 +27,7 @@ module _ (sheet : BalanceSheet) (valid : Valid sheet) where
         groups = all;
         securities = valid.securities;
         funds = valid.funds;
-        lines = valid.lines;
+        liabilities = valid.liabilities;
         banks = valid.banks;
         reinsurers = valid.reinsurers;
         curves = valid.curves;
@@ -41,7 +41,7 @@ module _ (sheet : BalanceSheet) (valid : Valid sheet) where
           bank_groups = banks;
           rein_groups = reinsurers;
           security_currencies = valid.known.security_currencies;
-          line_currencies = valid.known.line_currencies;
+          liability_currencies = valid.known.liability_currencies;
           components = valid.known.components;
           reporting = valid.known.reporting;
         };
@@ -56,7 +56,7 @@ module _ (sheet : BalanceSheet) (valid : Valid sheet) where
         groups = valid.groups;
         securities = all;
         funds = each;
-        lines = valid.lines;
+        liabilities = valid.liabilities;
         banks = valid.banks;
         reinsurers = valid.reinsurers;
         curves = valid.curves;
@@ -70,7 +70,7 @@ module _ (sheet : BalanceSheet) (valid : Valid sheet) where
           bank_groups = valid.known.bank_groups;
           rein_groups = valid.known.rein_groups;
           security_currencies = currencies;
-          line_currencies = valid.known.line_currencies;
+          liability_currencies = valid.known.liability_currencies;
           components = components;
           reporting = valid.known.reporting;
         };
@@ -87,14 +87,14 @@ module _ (sheet : BalanceSheet) (valid : Valid sheet) where
   valid-funds funds each named components acyclic within =
       valid-holdings sheet.securities funds valid.securities each named valid.known.security_groups valid.known.security_currencies components acyclic within
 
-  pub valid-lines : (lines : List Liability) → let after : BalanceSheet = record sheet { lines = lines } in AllByRecursion IsLine lines → IsDistinct same_name (names_of after)
-      → AllByRecursion (λ l. HasCurrency sheet.curves l.currency) lines → AreWithin after → Valid after
-  valid-lines lines all named currencies within =
+  pub valid-liabilities : (liabilities : List Liability) → let after : BalanceSheet = record sheet { liabilities = liabilities } in AllByRecursion IsLiability liabilities → IsDistinct same_name (names_of after)
+      → AllByRecursion (λ l. HasCurrency sheet.curves l.currency) liabilities → AreWithin after → Valid after
+  valid-liabilities liabilities all named currencies within =
       record {
         groups = valid.groups;
         securities = valid.securities;
         funds = valid.funds;
-        lines = all;
+        liabilities = all;
         banks = valid.banks;
         reinsurers = valid.reinsurers;
         curves = valid.curves;
@@ -108,7 +108,7 @@ module _ (sheet : BalanceSheet) (valid : Valid sheet) where
           bank_groups = valid.known.bank_groups;
           rein_groups = valid.known.rein_groups;
           security_currencies = valid.known.security_currencies;
-          line_currencies = currencies;
+          liability_currencies = currencies;
           components = valid.known.components;
           reporting = valid.known.reporting;
         };
@@ -121,7 +121,7 @@ module _ (sheet : BalanceSheet) (valid : Valid sheet) where
         groups = valid.groups;
         securities = valid.securities;
         funds = valid.funds;
-        lines = valid.lines;
+        liabilities = valid.liabilities;
         banks = all;
         reinsurers = valid.reinsurers;
         curves = valid.curves;
@@ -135,7 +135,7 @@ module _ (sheet : BalanceSheet) (valid : Valid sheet) where
           bank_groups = groups;
           rein_groups = valid.known.rein_groups;
           security_currencies = valid.known.security_currencies;
-          line_currencies = valid.known.line_currencies;
+          liability_currencies = valid.known.liability_currencies;
           components = valid.known.components;
           reporting = valid.known.reporting;
         };
@@ -148,7 +148,7 @@ module _ (sheet : BalanceSheet) (valid : Valid sheet) where
         groups = valid.groups;
         securities = valid.securities;
         funds = valid.funds;
-        lines = valid.lines;
+        liabilities = valid.liabilities;
         banks = valid.banks;
         reinsurers = all;
         curves = valid.curves;
@@ -162,21 +162,21 @@ module _ (sheet : BalanceSheet) (valid : Valid sheet) where
           bank_groups = valid.known.bank_groups;
           rein_groups = groups;
           security_currencies = valid.known.security_currencies;
-          line_currencies = valid.known.line_currencies;
+          liability_currencies = valid.known.liability_currencies;
           components = valid.known.components;
           reporting = valid.known.reporting;
         };
       }
 
   pub valid-curves : (curves : List Curve) (numbers : Numbers) → let after : BalanceSheet = record sheet { curves = curves; numbers = numbers } in AllByRecursion IsCurve curves → AreNumbers numbers
-      → IsDistinct same_name (map curve_name curves) → AllByRecursion (λ p. HasCurrency curves p.security.currency) sheet.securities → AllByRecursion (λ l. HasCurrency curves l.currency) sheet.lines
+      → IsDistinct same_name (map curve_name curves) → AllByRecursion (λ p. HasCurrency curves p.security.currency) sheet.securities → AllByRecursion (λ l. HasCurrency curves l.currency) sheet.liabilities
       → HasCurrency curves numbers.currency → AreWithin after → Valid after
-  valid-curves curves numbers all formed once securities lines reporting within =
+  valid-curves curves numbers all formed once securities liabilities reporting within =
       record {
         groups = valid.groups;
         securities = valid.securities;
         funds = valid.funds;
-        lines = valid.lines;
+        liabilities = valid.liabilities;
         banks = valid.banks;
         reinsurers = valid.reinsurers;
         curves = all;
@@ -190,7 +190,7 @@ module _ (sheet : BalanceSheet) (valid : Valid sheet) where
           bank_groups = valid.known.bank_groups;
           rein_groups = valid.known.rein_groups;
           security_currencies = securities;
-          line_currencies = lines;
+          liability_currencies = liabilities;
           components = valid.known.components;
           reporting = reporting;
         };
@@ -199,7 +199,7 @@ module _ (sheet : BalanceSheet) (valid : Valid sheet) where
   -- numbers of the same reporting currency
   pub valid-numbers : (numbers : Numbers) → let after : BalanceSheet = record sheet { numbers = numbers } in AreNumbers numbers → HasCurrency sheet.curves numbers.currency → AreWithin after → Valid after
   valid-numbers numbers formed reporting within =
-      valid-curves sheet.curves numbers valid.curves formed valid.currencies_once valid.known.security_currencies valid.known.line_currencies reporting within
+      valid-curves sheet.curves numbers valid.curves formed valid.currencies_once valid.known.security_currencies valid.known.liability_currencies reporting within
 
 -- ---- the names of all tables, after one of them changes
 
@@ -207,7 +207,7 @@ module _ (sheet : BalanceSheet) (valid : Valid sheet) where
 pub record IsNew (name : List ℕ) (sheet : BalanceSheet) : Type 0 where
   pub groups : IsFresh name (map group_name sheet.groups)
   pub securities : IsFresh name (map position_name sheet.securities)
-  pub lines : IsFresh name (map line_name sheet.lines)
+  pub liabilities : IsFresh name (map liability_name sheet.liabilities)
   pub banks : IsFresh name (map bank_name sheet.banks)
   pub reinsurers : IsFresh name (map rein_name sheet.reinsurers)
   pub funds : IsFresh name (map stake_name sheet.funds)
@@ -216,14 +216,14 @@ pub new_from_is_named : (name : List ℕ) (sheet : BalanceSheet) → is_named na
 new_from_is_named name sheet h =
     let to_reinsurers = or_false _ _ h in
     let to_banks = or_false _ _ to_reinsurers.0 in
-    let to_lines = or_false _ _ to_banks.0 in
-    let to_securities = or_false _ _ to_lines.0 in
+    let to_liabilities = or_false _ _ to_banks.0 in
+    let to_securities = or_false _ _ to_liabilities.0 in
     let to_groups = or_false _ _ to_securities.0 in
     record {
       groups = fresh_from_has_row group_name name sheet.groups to_groups.0;
       securities = fresh_from_has_row position_name name sheet.securities to_groups.1;
-      lines = fresh_from_has_row line_name name sheet.lines to_securities.1;
-      banks = fresh_from_has_row bank_name name sheet.banks to_lines.1;
+      liabilities = fresh_from_has_row liability_name name sheet.liabilities to_securities.1;
+      banks = fresh_from_has_row bank_name name sheet.banks to_liabilities.1;
       reinsurers = fresh_from_has_row rein_name name sheet.reinsurers to_banks.1;
       funds = fresh_from_has_row stake_name name sheet.funds to_reinsurers.1;
     }
@@ -250,7 +250,7 @@ module _ (sheet : BalanceSheet) (apart : IsDistinct same_name (names_of sheet)) 
   s = map position_name sheet.securities
 
   abbrev l : List (List ℕ)
-  l = map line_name sheet.lines
+  l = map liability_name sheet.liabilities
 
   abbrev b : List (List ℕ)
   b = map bank_name sheet.banks
@@ -264,36 +264,36 @@ module _ (sheet : BalanceSheet) (apart : IsDistinct same_name (names_of sheet)) 
   pub named-with_group : (new : Group) → (has_row group_name new.name sheet.groups ≡ false → IsNew new.name sheet) → IsDistinct same_name (names_of (record sheet { groups = with_row group_name new sheet.groups }))
   named-with_group new is_new =
       distinct-with_row group_name [] (s ++ (l ++ (b ++ (r ++ f)))) new sheet.groups
-      (λ has. let n = is_new has in (tt, All-append _ s _ n.securities (All-append _ l _ n.lines (All-append _ b _ n.banks (All-append _ r _ n.reinsurers n.funds))))) apart
+      (λ has. let n = is_new has in (tt, All-append _ s _ n.securities (All-append _ l _ n.liabilities (All-append _ b _ n.banks (All-append _ r _ n.reinsurers n.funds))))) apart
 
   pub named-with_position : (new : Position) → (has_row position_name new.security.name sheet.securities ≡ false → IsNew new.security.name sheet) → IsDistinct same_name (names_of (record sheet { securities = with_row position_name new sheet.securities }))
   named-with_position new is_new =
       distinct-with_row position_name g (l ++ (b ++ (r ++ f))) new sheet.securities
-      (λ has. let n = is_new has in (n.groups, All-append _ l _ n.lines (All-append _ b _ n.banks (All-append _ r _ n.reinsurers n.funds)))) apart
+      (λ has. let n = is_new has in (n.groups, All-append _ l _ n.liabilities (All-append _ b _ n.banks (All-append _ r _ n.reinsurers n.funds)))) apart
 
-  pub named-with_line : (new : Liability) → (has_row line_name new.name sheet.lines ≡ false → IsNew new.name sheet) → IsDistinct same_name (names_of (record sheet { lines = with_row line_name new sheet.lines }))
-  named-with_line new is_new =
-      subst (IsDistinct same_name) (third g s (map line_name (with_row line_name new sheet.lines)) b r f)
-      (distinct-with_row line_name (g ++ s) (b ++ (r ++ f)) new sheet.lines
+  pub named-with_liability : (new : Liability) → (has_row liability_name new.name sheet.liabilities ≡ false → IsNew new.name sheet) → IsDistinct same_name (names_of (record sheet { liabilities = with_row liability_name new sheet.liabilities }))
+  named-with_liability new is_new =
+      subst (IsDistinct same_name) (third g s (map liability_name (with_row liability_name new sheet.liabilities)) b r f)
+      (distinct-with_row liability_name (g ++ s) (b ++ (r ++ f)) new sheet.liabilities
       (λ has. let n = is_new has in (All-append _ g _ n.groups n.securities, All-append _ b _ n.banks (All-append _ r _ n.reinsurers n.funds))) (subst (IsDistinct same_name) (sym (third g s l b r f)) apart))
 
   pub named-with_bank : (new : Bank) → (has_row bank_name new.name sheet.banks ≡ false → IsNew new.name sheet) → IsDistinct same_name (names_of (record sheet { banks = with_row bank_name new sheet.banks }))
   named-with_bank new is_new =
       subst (IsDistinct same_name) (fourth g s l (map bank_name (with_row bank_name new sheet.banks)) r f)
       (distinct-with_row bank_name (g ++ (s ++ l)) (r ++ f) new sheet.banks
-      (λ has. let n = is_new has in (All-append _ g _ n.groups (All-append _ s _ n.securities n.lines), All-append _ r _ n.reinsurers n.funds)) (subst (IsDistinct same_name) (sym (fourth g s l b r f)) apart))
+      (λ has. let n = is_new has in (All-append _ g _ n.groups (All-append _ s _ n.securities n.liabilities), All-append _ r _ n.reinsurers n.funds)) (subst (IsDistinct same_name) (sym (fourth g s l b r f)) apart))
 
   pub named-with_rein : (new : Rein) → (has_row rein_name new.name sheet.reinsurers ≡ false → IsNew new.name sheet) → IsDistinct same_name (names_of (record sheet { reinsurers = with_row rein_name new sheet.reinsurers }))
   named-with_rein new is_new =
       subst (IsDistinct same_name) (fifth g s l b (map rein_name (with_row rein_name new sheet.reinsurers)) f)
       (distinct-with_row rein_name (g ++ (s ++ (l ++ b))) f new sheet.reinsurers
-      (λ has. let n = is_new has in (All-append _ g _ n.groups (All-append _ s _ n.securities (All-append _ l _ n.lines n.banks)), n.funds)) (subst (IsDistinct same_name) (sym (fifth g s l b r f)) apart))
+      (λ has. let n = is_new has in (All-append _ g _ n.groups (All-append _ s _ n.securities (All-append _ l _ n.liabilities n.banks)), n.funds)) (subst (IsDistinct same_name) (sym (fifth g s l b r f)) apart))
 
   pub named-with_fund : (new : Stake) → (has_row stake_name new.fund.name sheet.funds ≡ false → IsNew new.fund.name sheet) → IsDistinct same_name (names_of (record sheet { funds = with_row stake_name new sheet.funds }))
   named-with_fund new is_new =
       subst (IsDistinct same_name) (sixth g s l b r (map stake_name (with_row stake_name new sheet.funds)))
       (distinct-with_row stake_name (g ++ (s ++ (l ++ (b ++ r)))) [] new sheet.funds
-      (λ has. let n = is_new has in (All-append _ g _ n.groups (All-append _ s _ n.securities (All-append _ l _ n.lines (All-append _ b _ n.banks n.reinsurers))), tt)) (subst (IsDistinct same_name) (sym (sixth g s l b r f)) apart))
+      (λ has. let n = is_new has in (All-append _ g _ n.groups (All-append _ s _ n.securities (All-append _ l _ n.liabilities (All-append _ b _ n.banks n.reinsurers))), tt)) (subst (IsDistinct same_name) (sym (sixth g s l b r f)) apart))
 
   module _ (name : List ℕ) where
     pub named-without_group : IsDistinct same_name (names_of (record sheet { groups = without group_name name sheet.groups }))
@@ -302,10 +302,10 @@ module _ (sheet : BalanceSheet) (apart : IsDistinct same_name (names_of sheet)) 
     pub named-without_position : IsDistinct same_name (names_of (record sheet { securities = without position_name name sheet.securities }))
     named-without_position = distinct-without position_name g (l ++ (b ++ (r ++ f))) name sheet.securities apart
 
-    pub named-without_line : IsDistinct same_name (names_of (record sheet { lines = without line_name name sheet.lines }))
-    named-without_line =
-        subst (IsDistinct same_name) (third g s (map line_name (without line_name name sheet.lines)) b r f)
-        (distinct-without line_name (g ++ s) (b ++ (r ++ f)) name sheet.lines (subst (IsDistinct same_name) (sym (third g s l b r f)) apart))
+    pub named-without_liability : IsDistinct same_name (names_of (record sheet { liabilities = without liability_name name sheet.liabilities }))
+    named-without_liability =
+        subst (IsDistinct same_name) (third g s (map liability_name (without liability_name name sheet.liabilities)) b r f)
+        (distinct-without liability_name (g ++ s) (b ++ (r ++ f)) name sheet.liabilities (subst (IsDistinct same_name) (sym (third g s l b r f)) apart))
 
     pub named-without_bank : IsDistinct same_name (names_of (record sheet { banks = without bank_name name sheet.banks }))
     named-without_bank =

@@ -14,7 +14,7 @@ use Rattle.scr_sheet.specs.declared.keys.Table.TheVariants as tables
 use Rattle.scr_sheet.specs.declared.keys.AbsorbKey.TheVariants as absorb
 use Rattle.scr_sheet.specs.declared.keys.Projection.TheVariants as projections
 use Rattle.scr_sheet.specs.declared.rows.Class.TheVariants as classes
-use Rattle.scr_sheet.specs.declared.rows.LineKind.TheVariants as kinds
+use Rattle.scr_sheet.specs.declared.rows.LiabilityKind.TheVariants as kinds
 
 -- the names S, U, L, F and G, and the currency USD
 abbrev s : List ℕ
@@ -80,7 +80,7 @@ unknown_before_wrong_kind = refl
 own_name_before_group : fault_of (edits.Bank s s (pos 1)) (after (security s euro ∷ [])) ≡ Some (faults.WrongKind s)
 own_name_before_group = refl
 
-projection_lacking : fault_of (edits.LineFlows l projections.Mortality []) (after (edits.Line l kinds.Other euro ∷ [])) ≡ Some (faults.WrongKind l)
+projection_lacking : fault_of (edits.LiabilityFlows l projections.Mortality []) (after (edits.Liability l kinds.Other euro ∷ [])) ≡ Some (faults.WrongKind l)
 projection_lacking = refl
 
 -- ---- funds
@@ -105,8 +105,8 @@ component_twice = refl
 unknown_component : fault_of (edits.Fund f ((s, pos 1) ∷ (u, pos 2) ∷ [])) (after (security s euro ∷ [])) ≡ Some (faults.UnknownName u)
 unknown_component = refl
 
-component_is_line : fault_of (edits.Fund f ((l, pos 1) ∷ [])) (after (edits.Line l kinds.Other euro ∷ [])) ≡ Some (faults.WrongKind l)
-component_is_line = refl
+component_is_liability : fault_of (edits.Fund f ((l, pos 1) ∷ [])) (after (edits.Liability l kinds.Other euro ∷ [])) ≡ Some (faults.WrongKind l)
+component_is_liability = refl
 
 no_weight : fault_of (edits.Fund f ((s, pos 0) ∷ [])) (after (security s euro ∷ [])) ≡ Some (faults.Range quantities.Weight (pos 0) (pos 1))
 unfolding fewest_between earliest_between

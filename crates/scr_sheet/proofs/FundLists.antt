@@ -6,7 +6,7 @@ use Rattle.scr_sheet.specs.Faults.{components_fault}
 use Rattle.scr_sheet.specs.FundLists.{AreOfOneFund}
 use Rattle.scr_sheet.specs.declared.fault.Fault.{Fault}
 use Rattle.scr_sheet.specs.declared.fault.Fault.TheVariants as faults
-use Rattle.scr_sheet.specs.declared.limits.TheConstants.{MAX_FUND_COMPONENTS}
+use Rattle.scr_profile.specs.declared.limits.TheConstants.{MAX_FUND_COMPONENTS}
 use Rattle.scr_names.proofs.TableRows.{IsFresh, same_name-flip, passes_or_fails}
 use Rattle.scr_sheet.proofs.Preserved.{AreOnce, once, fresh_components}
 

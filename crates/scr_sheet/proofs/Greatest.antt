@@ -5,7 +5,7 @@ use Rattle.std.specs.Option.{option_map_or}
 use Rattle.scr_dates.specs.declared.day.Day.{Day}
 use Rattle.scr_names.specs.Tables.{row_of, with_row, without, changed}
 use Rattle.scr_sheet.specs.CashFlows.{greatest_years, flows_under, with_flows, all_projections}
-use Rattle.scr_sheet.specs.BalanceSheet.{greatest, line_years}
+use Rattle.scr_sheet.specs.BalanceSheet.{greatest, liability_years}
 use Rattle.scr_sheet.specs.declared.keys.Projection.{Projection}
 use Rattle.scr_sheet.specs.declared.rows.Liability.{Liability}
 use Rattle.scr_names.proofs.TableRows.{All-map, All-with_row, All-without, All-row_of, All-changed, same_or_other, with_row-here, with_row-later}
@@ -54,26 +54,26 @@ module _ {Row : Type 0} (f : Row → ℕ) where
         let after : Option Row → List Row = λ found. option_map_or (λ r. with_row name_of (change r) rows) found rows in
         subst (λ (found : Option Row). f (change row) ≤ greatest f (after found)) (sym is) (le-greatest-with_row (change row) rows)
 
--- ---- a line's years
+-- ---- a liability's years
 
 module _ (asof : ℤ) where
   abbrev years_under : Liability → Projection → ℕ
-  years_under line projection = greatest_years asof (flows_under projection line.flows)
+  years_under liability projection = greatest_years asof (flows_under projection liability.flows)
 
   -- with other flows under one projection
-  pub line_years-with_flows-le : (most : ℕ) (p : Projection) (new : List (Day × ℤ)) (line : Liability) → greatest_years asof new ≤ most → line_years asof line ≤ most → line_years asof (record line { flows = with_flows p new line.flows }) ≤ most
-  line_years-with_flows-le most p new line own h =
-      let changed_line : Liability = record line { flows = with_flows p new line.flows } in
-      let old : (q : Projection) → years_under line q ≤ most = each_projection (λ q. years_under line q ≤ most) (each-le (years_under line) most all_projections h) in
-      let each : (q : Projection) → years_under changed_line q ≤ most =
+  pub liability_years-with_flows-le : (most : ℕ) (p : Projection) (new : List (Day × ℤ)) (liability : Liability) → greatest_years asof new ≤ most → liability_years asof liability ≤ most → liability_years asof (record liability { flows = with_flows p new liability.flows }) ≤ most
+  liability_years-with_flows-le most p new liability own h =
+      let changed_liability : Liability = record liability { flows = with_flows p new liability.flows } in
+      let old : (q : Projection) → years_under liability q ≤ most = each_projection (λ q. years_under liability q ≤ most) (each-le (years_under liability) most all_projections h) in
+      let each : (q : Projection) → years_under changed_liability q ≤ most =
       λ q. elim (one_or_other p q) [
-        | inl e ↦ subst (λ (other : Projection). years_under changed_line other ≤ most) e (subst (λ (flows : List (Day × ℤ)). greatest_years asof flows ≤ most) (sym (under-with new line.flows p)) own)
-        | inr e ↦ subst (λ (flows : List (Day × ℤ)). greatest_years asof flows ≤ most) (sym (e new line.flows)) (old q)
+        | inl e ↦ subst (λ (other : Projection). years_under changed_liability other ≤ most) e (subst (λ (flows : List (Day × ℤ)). greatest_years asof flows ≤ most) (sym (under-with new liability.flows p)) own)
+        | inr e ↦ subst (λ (flows : List (Day × ℤ)). greatest_years asof flows ≤ most) (sym (e new liability.flows)) (old q)
       ] in
-      greatest-le (years_under changed_line) most all_projections (every_projection (λ q. years_under changed_line q ≤ most) each)
+      greatest-le (years_under changed_liability) most all_projections (every_projection (λ q. years_under changed_liability q ≤ most) each)
 
-  pub le-line_years-with_flows : (p : Projection) (new : List (Day × ℤ)) (line : Liability) → greatest_years asof new ≤ line_years asof (record line { flows = with_flows p new line.flows })
-  le-line_years-with_flows p new line =
-      let changed_line : Liability = record line { flows = with_flows p new line.flows } in
-      subst (λ (flows : List (Day × ℤ)). greatest_years asof flows ≤ line_years asof changed_line) (under-with new line.flows p)
-      (each_projection (λ q. years_under changed_line q ≤ line_years asof changed_line) (le-greatest (years_under changed_line) all_projections) p)
+  pub le-liability_years-with_flows : (p : Projection) (new : List (Day × ℤ)) (liability : Liability) → greatest_years asof new ≤ liability_years asof (record liability { flows = with_flows p new liability.flows })
+  le-liability_years-with_flows p new liability =
+      let changed_liability : Liability = record liability { flows = with_flows p new liability.flows } in
+      subst (λ (flows : List (Day × ℤ)). greatest_years asof flows ≤ liability_years asof changed_liability) (under-with new liability.flows p)
+      (each_projection (λ q. years_under changed_liability q ≤ liability_years asof changed_liability) (le-greatest (years_under changed_liability) all_projections) p)

@@ -5,7 +5,7 @@ use Rattle.std.specs.Option.{option_map_or}
 use Rattle.std.proofs.lemmas.List.Sums.{sum_by-cons}
 use Rattle.scr_names.specs.Names.{same_name}
 use Rattle.scr_names.specs.Tables.{row_of}
-use Rattle.scr_sheet.specs.BalanceSheet.{group_name, position_name, line_name, bank_name, rein_name, stake_name, names_of, position_of, stake_of, held_of, held_total}
+use Rattle.scr_sheet.specs.BalanceSheet.{group_name, position_name, liability_name, bank_name, rein_name, stake_name, names_of, position_of, stake_of, held_of, held_total}
 use Rattle.scr_sheet.specs.declared.sheet.BalanceSheet.{BalanceSheet}
 use Rattle.scr_sheet.specs.Validity.{Valid}
 use Rattle.scr_sheet.specs.declared.rows.Position.{Position}
@@ -67,9 +67,9 @@ sum_by-same f h (p ∷ ps) same = sum_by-cons f p ps ∙ ap (λ n. n + sum_by f 
 -- ---- the names of securities and funds
 
 module _ (sheet : BalanceSheet) (apart : IsDistinct same_name (names_of sheet)) where
-  -- the names of lines, banks, reinsurers and funds
+  -- the names of liabilities, banks, reinsurers and funds
   abbrev later : List (List ℕ)
-  later = map line_name sheet.lines ++ (map bank_name sheet.banks ++ (map rein_name sheet.reinsurers ++ map stake_name sheet.funds))
+  later = map liability_name sheet.liabilities ++ (map bank_name sheet.banks ++ (map rein_name sheet.reinsurers ++ map stake_name sheet.funds))
 
   from_securities : IsDistinct same_name (map position_name sheet.securities ++ later)
   from_securities = distinct-right (map group_name sheet.groups) _ apart
@@ -79,10 +79,10 @@ module _ (sheet : BalanceSheet) (apart : IsDistinct same_name (names_of sheet)) 
 
   pub distinct-funds : IsDistinct same_name (map stake_name sheet.funds)
   distinct-funds =
-      distinct-right (map rein_name sheet.reinsurers) _ (distinct-right (map bank_name sheet.banks) _ (distinct-right (map line_name sheet.lines) _ (distinct-right (map position_name sheet.securities) later from_securities)))
+      distinct-right (map rein_name sheet.reinsurers) _ (distinct-right (map bank_name sheet.banks) _ (distinct-right (map liability_name sheet.liabilities) _ (distinct-right (map position_name sheet.securities) later from_securities)))
 
   only_funds : (name : List ℕ) → IsFresh name later → IsFresh name (map stake_name sheet.funds)
-  only_funds name fresh = All-right _ (map rein_name sheet.reinsurers) _ (All-right _ (map bank_name sheet.banks) _ (All-right _ (map line_name sheet.lines) _ fresh))
+  only_funds name fresh = All-right _ (map rein_name sheet.reinsurers) _ (All-right _ (map bank_name sheet.banks) _ (All-right _ (map liability_name sheet.liabilities) _ fresh))
 
   -- no fund has a security's name
   pub no_fund : AllByRecursion (λ p. stake_of (position_name p) sheet.funds ≡ None) sheet.securities

@@ -13,3 +13,7 @@ pub mod Quiet
 pub mod Sums
 pub mod MetNames
 pub mod Walks
+pub mod EarlierSheets
+pub mod SeenThrough
+pub mod CycleFaults
+pub mod LastDays

@@ -7,7 +7,7 @@ use Rattle.indexmap.specs.IndexMap.{insert_entry}
 use Rattle.scr_names.specs.Names.{same_name}
 use Rattle.scr_sheet.specs.Faults.{components_fault}
 use Rattle.scr_sheet.specs.declared.fault.Fault.TheVariants as faults
-use Rattle.scr_sheet.specs.declared.limits.TheConstants.{MAX_FUND_COMPONENTS}
+use Rattle.scr_profile.specs.declared.limits.TheConstants.{MAX_FUND_COMPONENTS}
 use Rattle.scr_names.proofs.TableRows.{same_or_other}
 
 -- the keys of a map, the last one first, before these names

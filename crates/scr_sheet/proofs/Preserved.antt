@@ -8,13 +8,13 @@ use Rattle.scr_dates.specs.declared.day.Day.{Day}
 use Rattle.scr_names.specs.Names.{same_name}
 use Rattle.scr_names.specs.Tables.{row_of, has_row, with_row, without, changed}
 use Rattle.scr_sheet.specs.CashFlows.{total, flows_under, with_flows, no_flows, has_projection, suits}
-use Rattle.scr_sheet.specs.BalanceSheet.{opening, no_volumes, group_name, position_name, line_name, bank_name, rein_name, curve_name, stake_name, names_of, is_in, is_named, held_total, components_total, line_flows_total, volumes_total, defaults_total, sheet_years}
+use Rattle.scr_sheet.specs.BalanceSheet.{opening, no_volumes, group_name, position_name, liability_name, bank_name, rein_name, curve_name, stake_name, names_of, is_in, is_named, held_total, components_total, liability_flows_total, volumes_total, defaults_total, sheet_years}
 use Rattle.scr_sheet.specs.declared.sheet.BalanceSheet.{BalanceSheet}
 use Rattle.scr_sheet.specs.Records.{applied, with_fund, natural, kept_flows, kept_hold, absorb_place, cat_place, health_cat_place, with_absorb, lapse_place}
 use Rattle.scr_sheet.specs.Users.{holder_of}
 use Rattle.scr_sheet.specs.Forms.{Formed, IsName, AreFlows, AreOnDays}
-use Rattle.scr_sheet.specs.Faults.{fault_of, list_fault, too_long, components_fault, unknown_name, unknown_row, unknown_group, unknown_component, wrong_kind, misplaced, misplaced_group, misplaced_holding, misplaced_component, in_use, cycle, fields_outside, first_fault, outside, outside_rates, outside_weight, outside_promise, above, line_flows_outside, volumes_outside}
-use Rattle.scr_sheet.specs.Validity.{Valid, AreWithin, AreVolumes, IsAmount, IsBetween, IsGroup, IsSecurity, IsStake, IsPromise, IsProjected, IsLine, IsBank, IsRein, IsCurve, HasGroup, HasGroupOrNone, HasCurrency, IsHeld}
+use Rattle.scr_sheet.specs.Faults.{fault_of, list_fault, too_long, components_fault, unknown_name, unknown_row, unknown_group, unknown_component, wrong_kind, misplaced, misplaced_group, misplaced_holding, misplaced_component, in_use, cycle, fields_outside, first_fault, outside, outside_rates, outside_weight, outside_promise, above, liability_flows_outside, volumes_outside}
+use Rattle.scr_sheet.specs.Validity.{Valid, AreWithin, AreVolumes, IsAmount, IsBetween, IsGroup, IsSecurity, IsStake, IsPromise, IsProjected, IsLiability, IsBank, IsRein, IsCurve, HasGroup, HasGroupOrNone, HasCurrency, IsHeld}
 use Rattle.scr_sheet.specs.declared.edit.Edit.{Edit}
 use Rattle.scr_sheet.specs.declared.edit.Edit.TheVariants as edits
 use Rattle.scr_sheet.specs.declared.fault.Fault.{Fault}
@@ -24,24 +24,24 @@ use Rattle.scr_sheet.specs.declared.fault.User.{User}
 use Rattle.scr_sheet.specs.declared.keys.AbsorbKey.{AbsorbKey}
 use Rattle.scr_sheet.specs.declared.keys.AbsorbKey.TheVariants as absorb
 use Rattle.scr_sheet.specs.declared.keys.Projection.{Projection}
-use Rattle.scr_factors.specs.declared.set.Set.{Set}
-use Rattle.scr_factors.specs.declared.set.Set.TheVariants as sets
+use Rattle.scr_profile.specs.declared.set.Set.{Set}
+use Rattle.scr_profile.specs.declared.set.Set.TheVariants as sets
 use Rattle.scr_sheet.specs.declared.keys.Table.{Table}
 use Rattle.scr_sheet.specs.declared.keys.Table.TheVariants as tables
 use Rattle.scr_sheet.specs.declared.rows.Group.{Group}
 use Rattle.scr_sheet.specs.declared.rows.Position.{Position}
 use Rattle.scr_sheet.specs.declared.rows.Stake.{Stake}
 use Rattle.scr_sheet.specs.declared.rows.Liability.{Liability}
-use Rattle.scr_sheet.specs.declared.rows.LineKind.{LineKind}
+use Rattle.scr_sheet.specs.declared.rows.LiabilityKind.{LiabilityKind}
 use Rattle.scr_sheet.specs.declared.rows.Bank.{Bank}
 use Rattle.scr_sheet.specs.declared.rows.Rein.{Rein}
 use Rattle.scr_sheet.specs.declared.rows.Curve.{Curve}
-use Rattle.scr_sheet.specs.declared.limits.TheConstants.{MIN_RATE, MAX_RATE, MAX_RATES, MAX_DURATION, MAX_FLOWS, MAX_PROMISED, MAX_AMOUNT, MAX_SYM, MAX_TAX, MAX_HELD, MAX_LINE_FLOWS, MAX_YEARS, MAX_CURRENCIES, MAX_SECURITIES, MAX_FUNDS, MAX_COMPONENTS, MAX_FUND_COMPONENTS, MIN_WEIGHT, MAX_WEIGHT, MAX_LINES, MAX_GROUPS, MAX_EXPOSURES}
+use Rattle.scr_profile.specs.declared.limits.TheConstants.{MIN_RATE, MAX_RATE, MAX_RATES, MAX_DURATION, MAX_FLOWS, MAX_PROMISED, MAX_AMOUNT, MAX_SYM, MAX_TAX, MAX_HELD, MAX_LIABILITY_FLOWS, MAX_YEARS, MAX_CURRENCIES, MAX_SECURITIES, MAX_FUNDS, MAX_COMPONENTS, MAX_FUND_COMPONENTS, MIN_WEIGHT, MAX_WEIGHT, MAX_LIABILITIES, MAX_GROUPS, MAX_EXPOSURES}
 use Rattle.scr_names.proofs.TableRows.{IsFresh, same_name-is, same_name-flip, row_of-with_row_own, All-map, All-both, All-with_row, All-without, All-row_of, All-changed, has_row-with_row, has_row-without, has_row-changed, names-changed, sum-with_row, sum-without, sum-changed}
 use Rattle.scr_sheet.proofs.Bounds.{neither, within_from_above, between_from_outside, all_from_first_fault, natural-le, natural-is}
 use Rattle.scr_sheet.proofs.Projections.{one_or_other, each-with_flows, suits-with_flows, suits-no_flows, under-no_flows}
 use Rattle.scr_sheet.proofs.Amounts.{All-set, All-placed, volumes-with_segment, with_asof, with_absorb as numbers-with_absorb, with_both_volumes, with_cats, with_lapse, with_due, with_op, with_sym, with_tax, with_fdb, with_intangible}
-use Rattle.scr_sheet.proofs.Changes.{IsNew, new_from_is_named, valid-groups, valid-holdings, valid-securities, valid-funds, valid-lines, valid-banks, valid-reinsurers, valid-curves, valid-numbers, named-with_group, named-with_position, named-with_line, named-with_bank, named-with_rein, named-with_fund, named-without_group, named-without_position, named-without_line, named-without_bank, named-without_rein, named-without_fund, currencies-with_curve, currencies-without}
+use Rattle.scr_sheet.proofs.Changes.{IsNew, new_from_is_named, valid-groups, valid-holdings, valid-securities, valid-funds, valid-liabilities, valid-banks, valid-reinsurers, valid-curves, valid-numbers, named-with_group, named-with_position, named-with_liability, named-with_bank, named-with_rein, named-with_fund, named-without_group, named-without_position, named-without_liability, named-without_bank, named-without_rein, named-without_fund, currencies-with_curve, currencies-without}
 use Rattle.scr_sheet.proofs.Unused.{HasNoMember, no_member, IsIdle, idle, no_holder}
 use Rattle.scr_sheet.proofs.FundChains.{acyclic-none, acyclic-with_fund, acyclic-without, acyclic-changed}
 use Rattle.scr_sheet.proofs.Holds.{distinct-funds}
@@ -57,7 +57,7 @@ pub record Passes (edit : Edit) (sheet : BalanceSheet) : Type 0 where
   pub free : in_use edit sheet ≡ None
   pub ending : cycle edit sheet ≡ None
   pub fields : fields_outside edit ≡ None
-  pub line_flows : line_flows_outside edit (applied edit sheet) ≡ None
+  pub liability_flows : liability_flows_outside edit (applied edit sheet) ≡ None
   pub volumes : volumes_outside edit (applied edit sheet) ≡ None
   pub held : held_total (applied edit sheet) ≤ MAX_HELD
   pub defaults : defaults_total (applied edit sheet) ≤ MAX_AMOUNT
@@ -66,7 +66,7 @@ pub record Passes (edit : Edit) (sheet : BalanceSheet) : Type 0 where
   pub securities : length (applied edit sheet).securities ≤ MAX_SECURITIES
   pub funds : length (applied edit sheet).funds ≤ MAX_FUNDS
   pub components : components_total (applied edit sheet) ≤ MAX_COMPONENTS
-  pub lines : length (applied edit sheet).lines ≤ MAX_LINES
+  pub liabilities : length (applied edit sheet).liabilities ≤ MAX_LIABILITIES
   pub groups : length (applied edit sheet).groups ≤ MAX_GROUPS
   pub exposures : length (applied edit sheet).banks + length (applied edit sheet).reinsurers ≤ MAX_EXPOSURES
 
@@ -79,7 +79,7 @@ passes edit sheet none =
     let ending = neither (cycle edit sheet) _ free.1 in
     let fields = neither (fields_outside edit) _ ending.1 in
     let held = neither (above quantities.Held (held_total (applied edit sheet)) MAX_HELD) _ fields.1 in
-    let flows = neither (line_flows_outside edit (applied edit sheet)) _ held.1 in
+    let flows = neither (liability_flows_outside edit (applied edit sheet)) _ held.1 in
     let volumes = neither (volumes_outside edit (applied edit sheet)) _ flows.1 in
     let defaults = neither (above quantities.Defaults (defaults_total (applied edit sheet)) MAX_AMOUNT) _ volumes.1 in
     let years = neither (above quantities.Years (sheet_years (applied edit sheet)) MAX_YEARS) _ defaults.1 in
@@ -87,8 +87,8 @@ passes edit sheet none =
     let securities = neither (above quantities.Securities (length (applied edit sheet).securities) MAX_SECURITIES) _ currencies.1 in
     let funds = neither (above quantities.Funds (length (applied edit sheet).funds) MAX_FUNDS) _ securities.1 in
     let components = neither (above quantities.Components (components_total (applied edit sheet)) MAX_COMPONENTS) _ funds.1 in
-    let lines = neither (above quantities.Lines (length (applied edit sheet).lines) MAX_LINES) _ components.1 in
-    let groups = neither (above quantities.Groups (length (applied edit sheet).groups) MAX_GROUPS) _ lines.1 in
+    let liabilities = neither (above quantities.Liabilities (length (applied edit sheet).liabilities) MAX_LIABILITIES) _ components.1 in
+    let groups = neither (above quantities.Groups (length (applied edit sheet).groups) MAX_GROUPS) _ liabilities.1 in
     record {
       list = list.0;
       known = known.0;
@@ -96,7 +96,7 @@ passes edit sheet none =
       free = free.0;
       ending = ending.0;
       fields = fields.0;
-      line_flows = flows.0;
+      liability_flows = flows.0;
       volumes = volumes.0;
       held = within_from_above _ _ _ held.0;
       defaults = within_from_above _ _ _ defaults.0;
@@ -105,7 +105,7 @@ passes edit sheet none =
       securities = within_from_above _ _ _ securities.0;
       funds = within_from_above _ _ _ funds.0;
       components = within_from_above _ _ _ components.0;
-      lines = within_from_above _ _ _ lines.0;
+      liabilities = within_from_above _ _ _ liabilities.0;
       groups = within_from_above _ _ _ groups.0;
       exposures = within_from_above _ _ _ groups.1;
     }
@@ -173,43 +173,43 @@ on_days flows formed = All-map _ _ flows (λ flow h. h.0) formed
 
 -- ---- the quantities of the whole book
 
--- a sheet whose lines are the same
-same_lines : (sheet : BalanceSheet) → Valid sheet → (projection : Projection) → line_flows_total projection sheet ≤ MAX_LINE_FLOWS
-same_lines sheet valid = valid.within.line_flows
+-- a sheet whose liabilities are the same
+same_liabilities : (sheet : BalanceSheet) → Valid sheet → (projection : Projection) → liability_flows_total projection sheet ≤ MAX_LIABILITY_FLOWS
+same_liabilities sheet valid = valid.within.liability_flows
 
-line_flows_after : (edit : Edit) (sheet : BalanceSheet) → Valid sheet → line_flows_outside edit (applied edit sheet) ≡ None → (projection : Projection) → line_flows_total projection (applied edit sheet) ≤ MAX_LINE_FLOWS
-line_flows_after (edits.Line name kind currency) sheet valid none projection =
+liability_flows_after : (edit : Edit) (sheet : BalanceSheet) → Valid sheet → liability_flows_outside edit (applied edit sheet) ≡ None → (projection : Projection) → liability_flows_total projection (applied edit sheet) ≤ MAX_LIABILITY_FLOWS
+liability_flows_after (edits.Liability name kind currency) sheet valid none projection =
     let f : Liability → ℕ = λ l. total (flows_under projection l.flows) in
-    let new : Liability = record { name = name; kind = kind; currency = currency; flows = option_map_or (λ l. l.flows) (row_of line_name name sheet.lines) no_flows } in
-    let sum = sum-with_row line_name f new sheet.lines in
-    let same : f new ≡ option_map_or f (row_of line_name name sheet.lines) 0 = by (row_of line_name name sheet.lines) in
-    let most = valid.within.line_flows projection in
+    let new : Liability = record { name = name; kind = kind; currency = currency; flows = option_map_or (λ l. l.flows) (row_of liability_name name sheet.liabilities) no_flows } in
+    let sum = sum-with_row liability_name f new sheet.liabilities in
+    let same : f new ≡ option_map_or f (row_of liability_name name sheet.liabilities) 0 = by (row_of liability_name name sheet.liabilities) in
+    let most = valid.within.liability_flows projection in
     omega arith
   where
     by : (found : Option Liability) → total (flows_under projection (option_map_or (λ l. l.flows) found no_flows)) ≡ option_map_or (λ l. total (flows_under projection l.flows)) found 0
     by None = ap total (under-no_flows projection)
     by (Some l) = refl
-line_flows_after (edits.LineFlows line p flows) sheet valid none projection =
+liability_flows_after (edits.LiabilityFlows liability p flows) sheet valid none projection =
     elim (one_or_other p projection) [
-      | inl e ↦ subst (λ (q : Projection). line_flows_total q (applied (edits.LineFlows line p flows) sheet) ≤ MAX_LINE_FLOWS) e (within_from_above quantities.LineFlows _ _ none)
+      | inl e ↦ subst (λ (q : Projection). liability_flows_total q (applied (edits.LiabilityFlows liability p flows) sheet) ≤ MAX_LIABILITY_FLOWS) e (within_from_above quantities.LiabilityFlows _ _ none)
       | inr e ↦
           let f : Liability → ℕ = λ l. total (flows_under projection l.flows) in
-          let same : line_flows_total projection (applied (edits.LineFlows line p flows) sheet) ≡ sum_by f sheet.lines =
-          sum-changed line_name f (λ l. record l { flows = with_flows p flows l.flows }) line sheet.lines (λ l. refl) (λ l. ap total (e flows l.flows)) in
-          subst (λ (n : ℕ). n ≤ MAX_LINE_FLOWS) (sym same) (valid.within.line_flows projection)
+          let same : liability_flows_total projection (applied (edits.LiabilityFlows liability p flows) sheet) ≡ sum_by f sheet.liabilities =
+          sum-changed liability_name f (λ l. record l { flows = with_flows p flows l.flows }) liability sheet.liabilities (λ l. refl) (λ l. ap total (e flows l.flows)) in
+          subst (λ (n : ℕ). n ≤ MAX_LIABILITY_FLOWS) (sym same) (valid.within.liability_flows projection)
     ]
-line_flows_after (edits.Remove tables.Line name) sheet valid none projection =
+liability_flows_after (edits.Remove tables.Liability name) sheet valid none projection =
     let f : Liability → ℕ = λ l. total (flows_under projection l.flows) in
-    let sum = sum-without line_name f name sheet.lines in
-    let most = valid.within.line_flows projection in
+    let sum = sum-without liability_name f name sheet.liabilities in
+    let most = valid.within.liability_flows projection in
     omega arith
-line_flows_after (edits.Remove tables.Group name) sheet valid none projection = valid.within.line_flows projection
-line_flows_after (edits.Remove tables.Security name) sheet valid none projection = valid.within.line_flows projection
-line_flows_after (edits.Remove tables.Fund name) sheet valid none projection = valid.within.line_flows projection
-line_flows_after (edits.Remove tables.Bank name) sheet valid none projection = valid.within.line_flows projection
-line_flows_after (edits.Remove tables.Rein name) sheet valid none projection = valid.within.line_flows projection
-line_flows_after (edits.Remove tables.Curve name) sheet valid none projection = valid.within.line_flows projection
-line_flows_after edit sheet valid none projection = valid.within.line_flows projection
+liability_flows_after (edits.Remove tables.Group name) sheet valid none projection = valid.within.liability_flows projection
+liability_flows_after (edits.Remove tables.Security name) sheet valid none projection = valid.within.liability_flows projection
+liability_flows_after (edits.Remove tables.Fund name) sheet valid none projection = valid.within.liability_flows projection
+liability_flows_after (edits.Remove tables.Bank name) sheet valid none projection = valid.within.liability_flows projection
+liability_flows_after (edits.Remove tables.Rein name) sheet valid none projection = valid.within.liability_flows projection
+liability_flows_after (edits.Remove tables.Curve name) sheet valid none projection = valid.within.liability_flows projection
+liability_flows_after edit sheet valid none projection = valid.within.liability_flows projection
 
 volumes_after : (edit : Edit) (sheet : BalanceSheet) → Valid sheet → volumes_outside edit (applied edit sheet) ≡ None → (set : Set) → volumes_total set (applied edit sheet) ≤ MAX_AMOUNT
 volumes_after (edits.Segment sets.Nl number region premium reserve) sheet valid none sets.Nl = within_from_above quantities.Volumes _ _ none
@@ -219,14 +219,14 @@ volumes_after (edits.Segment sets.Nslt number region premium reserve) sheet vali
 volumes_after (edits.Remove tables.Group name) sheet valid none sets.Nl = valid.within.volumes sets.Nl
 volumes_after (edits.Remove tables.Security name) sheet valid none sets.Nl = valid.within.volumes sets.Nl
 volumes_after (edits.Remove tables.Fund name) sheet valid none sets.Nl = valid.within.volumes sets.Nl
-volumes_after (edits.Remove tables.Line name) sheet valid none sets.Nl = valid.within.volumes sets.Nl
+volumes_after (edits.Remove tables.Liability name) sheet valid none sets.Nl = valid.within.volumes sets.Nl
 volumes_after (edits.Remove tables.Bank name) sheet valid none sets.Nl = valid.within.volumes sets.Nl
 volumes_after (edits.Remove tables.Rein name) sheet valid none sets.Nl = valid.within.volumes sets.Nl
 volumes_after (edits.Remove tables.Curve name) sheet valid none sets.Nl = valid.within.volumes sets.Nl
 volumes_after (edits.Remove tables.Group name) sheet valid none sets.Nslt = valid.within.volumes sets.Nslt
 volumes_after (edits.Remove tables.Security name) sheet valid none sets.Nslt = valid.within.volumes sets.Nslt
 volumes_after (edits.Remove tables.Fund name) sheet valid none sets.Nslt = valid.within.volumes sets.Nslt
-volumes_after (edits.Remove tables.Line name) sheet valid none sets.Nslt = valid.within.volumes sets.Nslt
+volumes_after (edits.Remove tables.Liability name) sheet valid none sets.Nslt = valid.within.volumes sets.Nslt
 volumes_after (edits.Remove tables.Bank name) sheet valid none sets.Nslt = valid.within.volumes sets.Nslt
 volumes_after (edits.Remove tables.Rein name) sheet valid none sets.Nslt = valid.within.volumes sets.Nslt
 volumes_after (edits.Remove tables.Curve name) sheet valid none sets.Nslt = valid.within.volumes sets.Nslt
@@ -237,7 +237,7 @@ within_after : (edit : Edit) (sheet : BalanceSheet) → Valid sheet → Passes e
 within_after edit sheet valid p =
     record {
       held = p.held;
-      line_flows = line_flows_after edit sheet valid p.line_flows;
+      liability_flows = liability_flows_after edit sheet valid p.liability_flows;
       volumes = volumes_after edit sheet valid p.volumes;
       defaults = p.defaults;
       years = p.years;
@@ -245,7 +245,7 @@ within_after edit sheet valid p =
       securities = p.securities;
       funds = p.funds;
       components = p.components;
-      lines = p.lines;
+      liabilities = p.liabilities;
       groups = p.groups;
       exposures = p.exposures;
     }
@@ -256,13 +256,13 @@ valid_asof : (date : Day) (currency : List ℕ) (sheet : BalanceSheet) → Forme
 valid_asof date currency sheet formed valid p =
     valid-numbers sheet valid _ (with_asof sheet.numbers date currency valid.numbers formed.0 formed.1) (passed _ _ p.known) (within_after (edits.Asof date currency) sheet valid p)
 
--- the securities, the lines and the reporting currency keep their curves where each currency keeps its own
+-- the securities, the liabilities and the reporting currency keep their curves where each currency keeps its own
 module _ (sheet : BalanceSheet) (valid : Valid sheet) (curves : List Curve) (kept : (currency : List ℕ) → HasCurrency sheet.curves currency → HasCurrency curves currency) where
   kept_securities : AllByRecursion (λ p. HasCurrency curves p.security.currency) sheet.securities
   kept_securities = All-map _ _ sheet.securities (λ s h. kept s.security.currency h) valid.known.security_currencies
 
-  kept_lines : AllByRecursion (λ l. HasCurrency curves l.currency) sheet.lines
-  kept_lines = All-map _ _ sheet.lines (λ l h. kept l.currency h) valid.known.line_currencies
+  kept_liabilities : AllByRecursion (λ l. HasCurrency curves l.currency) sheet.liabilities
+  kept_liabilities = All-map _ _ sheet.liabilities (λ l h. kept l.currency h) valid.known.liability_currencies
 
 valid_curve : (currency : List ℕ) (rates : List ℤ) (sheet : BalanceSheet) → Formed (edits.Curve currency rates) → Valid sheet → Passes (edits.Curve currency rates) sheet → Valid (applied (edits.Curve currency rates) sheet)
 valid_curve currency [] sheet formed valid p = let h = p.list in absurd (cc)
@@ -274,7 +274,7 @@ valid_curve currency (rate ∷ rates) sheet formed valid p =
     let kept : (other : List ℕ) → HasCurrency sheet.curves other → HasCurrency (with_row curve_name new sheet.curves) other = λ other h. has_row-with_row curve_name other new sheet.curves h in
     let own : IsCurve new = (formed.0, within_rates, omega arith, not_longer 2 1 MAX_RATES (length (rate ∷ rates)) p.list, up old refl, down old refl) in
     valid-curves sheet valid (with_row curve_name new sheet.curves) sheet.numbers (All-with_row curve_name IsCurve new sheet.curves own valid.curves) valid.numbers
-    (currencies-with_curve new sheet.curves valid.currencies_once) (kept_securities sheet valid _ kept) (kept_lines sheet valid _ kept) (kept sheet.numbers.currency valid.known.reporting)
+    (currencies-with_curve new sheet.curves valid.currencies_once) (kept_securities sheet valid _ kept) (kept_liabilities sheet valid _ kept) (kept sheet.numbers.currency valid.known.reporting)
     (within_after (edits.Curve currency (rate ∷ rates)) sheet valid p)
   where
     up : (found : Option Curve) → row_of curve_name currency sheet.curves ≡ found → IsAmount (option_map_or (λ c. c.absorb_up) found 0)
@@ -345,7 +345,7 @@ module _ (sheet : BalanceSheet) (valid : Valid sheet) where
   changed_securities change name named grouped priced keeps within =
       let securities : List Position = changed position_name change name sheet.securities in
       valid-securities sheet valid securities (All-changed position_name IsSecurity change name sheet.securities (λ position e h. keeps position h) valid.securities)
-      (let same : names_of sheet ≡ names_of (record sheet { securities = securities }) = ap (λ ns. map group_name sheet.groups ++ (ns ++ (map line_name sheet.lines ++ (map bank_name sheet.banks ++ (map rein_name sheet.reinsurers ++ map stake_name sheet.funds))))) (sym (names-changed position_name change name sheet.securities named)) in
+      (let same : names_of sheet ≡ names_of (record sheet { securities = securities }) = ap (λ ns. map group_name sheet.groups ++ (ns ++ (map liability_name sheet.liabilities ++ (map bank_name sheet.banks ++ (map rein_name sheet.reinsurers ++ map stake_name sheet.funds))))) (sym (names-changed position_name change name sheet.securities named)) in
       subst (IsDistinct same_name) same valid.named_once)
       (All-changed position_name (λ s. HasGroupOrNone sheet.groups s.security.group) change name sheet.securities (λ position e h. subst (HasGroupOrNone sheet.groups) (sym (grouped position)) h) valid.known.security_groups)
       (All-changed position_name (λ s. HasCurrency sheet.curves s.security.currency) change name sheet.securities (λ position e h. subst (HasCurrency sheet.curves) (sym (priced position)) h) valid.known.security_currencies)
@@ -447,8 +447,8 @@ valid_hold name cents sheet valid p =
     let same_positions : map position_name after.securities ≡ map position_name sheet.securities = names-changed position_name position_now name sheet.securities (λ s. refl) in
     let same_stakes : map stake_name after.funds ≡ map stake_name sheet.funds = names-changed stake_name stake_now name sheet.funds (λ s. refl) in
     let same : names_of sheet ≡ names_of after =
-    ap (λ ns. map group_name sheet.groups ++ (ns ++ (map line_name sheet.lines ++ (map bank_name sheet.banks ++ (map rein_name sheet.reinsurers ++ map stake_name sheet.funds))))) (sym same_positions)
-    ∙ ap (λ ns. map group_name sheet.groups ++ (map position_name after.securities ++ (map line_name sheet.lines ++ (map bank_name sheet.banks ++ (map rein_name sheet.reinsurers ++ ns))))) (sym same_stakes) in
+    ap (λ ns. map group_name sheet.groups ++ (ns ++ (map liability_name sheet.liabilities ++ (map bank_name sheet.banks ++ (map rein_name sheet.reinsurers ++ map stake_name sheet.funds))))) (sym same_positions)
+    ∙ ap (λ ns. map group_name sheet.groups ++ (map position_name after.securities ++ (map liability_name sheet.liabilities ++ (map bank_name sheet.banks ++ (map rein_name sheet.reinsurers ++ ns))))) (sym same_stakes) in
     let kept : (other : List ℕ) → IsHeld sheet other → IsHeld after other =
     λ other h. or_kept _ _ _ _ (has_row-changed position_name other position_now name sheet.securities) (has_row-changed stake_name other stake_now name sheet.funds) h in
     valid-holdings sheet valid after.securities after.funds (All-changed position_name IsSecurity position_now name sheet.securities (λ s e h. h) valid.securities)
@@ -458,38 +458,38 @@ valid_hold name cents sheet valid p =
     (All-changed stake_name (λ s. AllByRecursion (λ c. IsHeld after c.0) s.fund.components) stake_now name sheet.funds (λ s e h. h) (kept_components sheet valid after kept))
     (acyclic-changed sheet.funds valid.acyclic stake_now name (λ s. refl) (λ s. refl)) (within_after (edits.Hold name cents) sheet valid p)
 
--- ---- lines
+-- ---- liabilities
 
-valid_line : (name : List ℕ) (kind : LineKind) (currency : List ℕ) (sheet : BalanceSheet) → Formed (edits.Line name kind currency) → Valid sheet → Passes (edits.Line name kind currency) sheet → Valid (applied (edits.Line name kind currency) sheet)
-valid_line name kind currency sheet formed valid p =
-    let new : Liability = record { name = name; kind = kind; currency = currency; flows = option_map_or (λ l. l.flows) (row_of line_name name sheet.lines) no_flows } in
-    let own : IsLine new = (formed.0, formed.1, suit (row_of line_name name sheet.lines) (passed _ _ p.free), projected (row_of line_name name sheet.lines) refl) in
+valid_liability : (name : List ℕ) (kind : LiabilityKind) (currency : List ℕ) (sheet : BalanceSheet) → Formed (edits.Liability name kind currency) → Valid sheet → Passes (edits.Liability name kind currency) sheet → Valid (applied (edits.Liability name kind currency) sheet)
+valid_liability name kind currency sheet formed valid p =
+    let new : Liability = record { name = name; kind = kind; currency = currency; flows = option_map_or (λ l. l.flows) (row_of liability_name name sheet.liabilities) no_flows } in
+    let own : IsLiability new = (formed.0, formed.1, suit (row_of liability_name name sheet.liabilities) (passed _ _ p.free), projected (row_of liability_name name sheet.liabilities) refl) in
     let known : HasCurrency sheet.curves currency = passed _ _ p.known in
-    valid-lines sheet valid (with_row line_name new sheet.lines) (All-with_row line_name IsLine new sheet.lines own valid.lines)
-    (named-with_line sheet valid.named_once new (λ out. new_name tables.Line name sheet p.kind out))
-    (All-with_row line_name (λ l. HasCurrency sheet.curves l.currency) new sheet.lines known valid.known.line_currencies) (within_after (edits.Line name kind currency) sheet valid p)
+    valid-liabilities sheet valid (with_row liability_name new sheet.liabilities) (All-with_row liability_name IsLiability new sheet.liabilities own valid.liabilities)
+    (named-with_liability sheet valid.named_once new (λ out. new_name tables.Liability name sheet p.kind out))
+    (All-with_row liability_name (λ l. HasCurrency sheet.curves l.currency) new sheet.liabilities known valid.known.liability_currencies) (within_after (edits.Liability name kind currency) sheet valid p)
   where
     suit : (found : Option Liability) → option_map_or (λ l. suits kind l.flows) found true ≡ true → IsTrue (suits kind (option_map_or (λ l. l.flows) found no_flows))
     suit None h = suits-no_flows kind
     suit (Some l) h = h
 
-    projected : (found : Option Liability) → row_of line_name name sheet.lines ≡ found → (projection : Projection) → IsProjected (flows_under projection (option_map_or (λ l. l.flows) found no_flows))
+    projected : (found : Option Liability) → row_of liability_name name sheet.liabilities ≡ found → (projection : Projection) → IsProjected (flows_under projection (option_map_or (λ l. l.flows) found no_flows))
     projected None e projection = subst IsProjected (sym (under-no_flows projection)) (tt, omega arith)
-    projected (Some l) e projection = let old : IsLine l = All-row_of line_name IsLine name sheet.lines l e valid.lines in old.3 projection
+    projected (Some l) e projection = let old : IsLiability l = All-row_of liability_name IsLiability name sheet.liabilities l e valid.liabilities in old.3 projection
 
-valid_line_flows : (line : List ℕ) (q : Projection) (flows : List (Day × ℤ)) (sheet : BalanceSheet) → Formed (edits.LineFlows line q flows) → Valid sheet → Passes (edits.LineFlows line q flows) sheet → Valid (applied (edits.LineFlows line q flows) sheet)
-valid_line_flows line q flows sheet formed valid p =
+valid_liability_flows : (liability : List ℕ) (q : Projection) (flows : List (Day × ℤ)) (sheet : BalanceSheet) → Formed (edits.LiabilityFlows liability q flows) → Valid sheet → Passes (edits.LiabilityFlows liability q flows) sheet → Valid (applied (edits.LiabilityFlows liability q flows) sheet)
+valid_liability_flows liability q flows sheet formed valid p =
     let change : Liability → Liability = λ l. record l { flows = with_flows q flows l.flows } in
-    let lines : List Liability = changed line_name change line sheet.lines in
+    let liabilities : List Liability = changed liability_name change liability sheet.liabilities in
     let kind = neither _ _ p.kind in
     let new : IsProjected flows = (on_days flows formed.1, not_longer 3 2 MAX_FLOWS (length flows) p.list) in
-    let has : (l : Liability) → row_of line_name line sheet.lines ≡ Some l → has_projection l.kind q ≡ true = λ l e. sym (ap (λ o. option_map_or (λ r. has_projection r.kind q) o true) e) ∙ passed _ _ kind.1 in
-    let keeps : (l : Liability) → row_of line_name line sheet.lines ≡ Some l → IsLine l → IsLine (change l) =
+    let has : (l : Liability) → row_of liability_name liability sheet.liabilities ≡ Some l → has_projection l.kind q ≡ true = λ l e. sym (ap (λ o. option_map_or (λ r. has_projection r.kind q) o true) e) ∙ passed _ _ kind.1 in
+    let keeps : (l : Liability) → row_of liability_name liability sheet.liabilities ≡ Some l → IsLiability l → IsLiability (change l) =
     λ l e h. (h.0, h.1, suits-with_flows l.kind flows l.flows q (has l e) h.2, each-with_flows IsProjected flows l.flows q new h.3) in
-    let same : names_of sheet ≡ names_of (record sheet { lines = lines }) =
-    ap (λ ns. map group_name sheet.groups ++ (map position_name sheet.securities ++ (ns ++ (map bank_name sheet.banks ++ (map rein_name sheet.reinsurers ++ map stake_name sheet.funds))))) (sym (names-changed line_name change line sheet.lines (λ l. refl))) in
-    valid-lines sheet valid lines (All-changed line_name IsLine change line sheet.lines keeps valid.lines) (subst (IsDistinct same_name) same valid.named_once)
-    (All-changed line_name (λ l. HasCurrency sheet.curves l.currency) change line sheet.lines (λ l e h. h) valid.known.line_currencies) (within_after (edits.LineFlows line q flows) sheet valid p)
+    let same : names_of sheet ≡ names_of (record sheet { liabilities = liabilities }) =
+    ap (λ ns. map group_name sheet.groups ++ (map position_name sheet.securities ++ (ns ++ (map bank_name sheet.banks ++ (map rein_name sheet.reinsurers ++ map stake_name sheet.funds))))) (sym (names-changed liability_name change liability sheet.liabilities (λ l. refl))) in
+    valid-liabilities sheet valid liabilities (All-changed liability_name IsLiability change liability sheet.liabilities keeps valid.liabilities) (subst (IsDistinct same_name) same valid.named_once)
+    (All-changed liability_name (λ l. HasCurrency sheet.curves l.currency) change liability sheet.liabilities (λ l e h. h) valid.known.liability_currencies) (within_after (edits.LiabilityFlows liability q flows) sheet valid p)
 
 -- ---- absorptions
 
@@ -517,7 +517,7 @@ valid_absorb key cents sheet valid p =
     valid-curves sheet valid curves _ (absorbing_curves (natural cents) small sheet.curves key valid.curves)
     (numbers-with_absorb sheet.numbers _ valid.numbers (All-placed (absorb_place key) (natural cents) sheet.numbers.absorb small valid.numbers.absorb))
     (subst (IsDistinct same_name) (sym (absorbing_names key (natural cents) sheet.curves)) valid.currencies_once)
-    (kept_securities sheet valid curves kept) (kept_lines sheet valid curves kept) (kept sheet.numbers.currency valid.known.reporting) (within_after (edits.Absorb key cents) sheet valid p)
+    (kept_securities sheet valid curves kept) (kept_liabilities sheet valid curves kept) (kept sheet.numbers.currency valid.known.reporting) (within_after (edits.Absorb key cents) sheet valid p)
 
 -- ---- banks and reinsurers
 
@@ -567,7 +567,7 @@ without_curve name sheet valid p =
     let kept : (other : List ℕ) → HasCurrency sheet.curves other → same_name name other ≡ false → HasCurrency curves other = λ other h apart. has_row-without curve_name other name sheet.curves apart h in
     valid-curves sheet valid curves sheet.numbers (All-without curve_name IsCurve name sheet.curves valid.curves) valid.numbers (currencies-without name sheet.curves valid.currencies_once)
     (All-both _ _ (λ s. HasCurrency curves s.security.currency) sheet.securities (λ s h apart. kept s.security.currency h apart) valid.known.security_currencies free.securities)
-    (All-both _ _ (λ l. HasCurrency curves l.currency) sheet.lines (λ l h apart. kept l.currency h apart) valid.known.line_currencies free.lines)
+    (All-both _ _ (λ l. HasCurrency curves l.currency) sheet.liabilities (λ l h apart. kept l.currency h apart) valid.known.liability_currencies free.liabilities)
     (kept sheet.numbers.currency valid.known.reporting free.reporting) (within_after (edits.Remove tables.Curve name) sheet valid p)
 
 -- no component is the name that goes, so each is there still
@@ -597,9 +597,9 @@ valid_drop : (table : Table) (name : List ℕ) (sheet : BalanceSheet) → Valid 
 valid_drop tables.Group name sheet valid p = without_group name sheet valid p
 valid_drop tables.Security name sheet valid p = without_security name sheet valid p
 valid_drop tables.Fund name sheet valid p = without_fund name sheet valid p
-valid_drop tables.Line name sheet valid p =
-    valid-lines sheet valid (without line_name name sheet.lines) (All-without line_name IsLine name sheet.lines valid.lines) (named-without_line sheet valid.named_once name)
-    (All-without line_name _ name sheet.lines valid.known.line_currencies) (within_after (edits.Remove tables.Line name) sheet valid p)
+valid_drop tables.Liability name sheet valid p =
+    valid-liabilities sheet valid (without liability_name name sheet.liabilities) (All-without liability_name IsLiability name sheet.liabilities valid.liabilities) (named-without_liability sheet valid.named_once name)
+    (All-without liability_name _ name sheet.liabilities valid.known.liability_currencies) (within_after (edits.Remove tables.Liability name) sheet valid p)
 valid_drop tables.Bank name sheet valid p =
     valid-banks sheet valid (without bank_name name sheet.banks) (All-without bank_name IsBank name sheet.banks valid.banks) (named-without_bank sheet valid.named_once name)
     (All-without bank_name _ name sheet.banks valid.known.bank_groups) (within_after (edits.Remove tables.Bank name) sheet valid p)
@@ -621,8 +621,8 @@ Valid-applied (edits.Security name class group currency duration) sheet formed v
 Valid-applied (edits.Flows security flows) sheet formed valid none = valid_flows security flows sheet formed valid (passes _ sheet none)
 Valid-applied (edits.Fund name components) sheet formed valid none = valid_fund name components sheet formed valid (passes _ sheet none)
 Valid-applied (edits.Hold name cents) sheet formed valid none = valid_hold name cents sheet valid (passes _ sheet none)
-Valid-applied (edits.Line name kind currency) sheet formed valid none = valid_line name kind currency sheet formed valid (passes _ sheet none)
-Valid-applied (edits.LineFlows line projection flows) sheet formed valid none = valid_line_flows line projection flows sheet formed valid (passes _ sheet none)
+Valid-applied (edits.Liability name kind currency) sheet formed valid none = valid_liability name kind currency sheet formed valid (passes _ sheet none)
+Valid-applied (edits.LiabilityFlows liability projection flows) sheet formed valid none = valid_liability_flows liability projection flows sheet formed valid (passes _ sheet none)
 Valid-applied (edits.Absorb key cents) sheet formed valid none = valid_absorb key cents sheet valid (passes _ sheet none)
 Valid-applied (edits.Segment set number region premium reserve) sheet formed valid none =
     let p = passes (edits.Segment set number region premium reserve) sheet none in
@@ -693,7 +693,7 @@ no_segments : (n : ℕ) → AreVolumes (replicate n no_volumes)
 no_segments zero = tt
 no_segments (suc n) = (all_nothing 18, no_segments n)
 
-nothing_projected : (projection : Projection) → line_flows_total projection opening ≤ MAX_LINE_FLOWS
+nothing_projected : (projection : Projection) → liability_flows_total projection opening ≤ MAX_LIABILITY_FLOWS
 nothing_projected projection = omega arith
 
 nothing_written : (set : Set) → volumes_total set opening ≤ MAX_AMOUNT
@@ -710,7 +710,7 @@ Valid-opening =
       groups = tt;
       securities = tt;
       funds = tt;
-      lines = tt;
+      liabilities = tt;
       banks = tt;
       reinsurers = tt;
       curves = ((refl, ((omega (arith, ints), omega (arith, ints)), tt), omega arith, omega arith, omega arith, omega arith), tt);
@@ -734,11 +734,11 @@ Valid-opening =
       };
       named_once = tt;
       currencies_once = (tt, tt);
-      known = record { security_groups = tt; bank_groups = tt; rein_groups = tt; security_currencies = tt; line_currencies = tt; components = tt; reporting = refl };
+      known = record { security_groups = tt; bank_groups = tt; rein_groups = tt; security_currencies = tt; liability_currencies = tt; components = tt; reporting = refl };
       acyclic = acyclic-none;
       within = record {
         held = omega arith;
-        line_flows = nothing_projected;
+        liability_flows = nothing_projected;
         volumes = nothing_written;
         defaults = omega arith;
         years = omega arith;
@@ -746,7 +746,7 @@ Valid-opening =
         securities = omega arith;
         funds = omega arith;
         components = omega arith;
-        lines = omega arith;
+        liabilities = omega arith;
         groups = omega arith;
         exposures = omega arith;
       };

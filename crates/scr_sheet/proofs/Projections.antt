@@ -1,13 +1,13 @@
--- The flows of a line under each projection.
+-- The flows of a liability under each projection.
 use Rattle.std.proofs.Common.{◌≡◌, ℤ, ◌⊎◌, inl, inr, Bool, true, false, ◌||◌, ◌&&◌, List, [], ◌∷◌, refl, sym, ap, subst, ◌∙◌}
 use Rattle.std.specs.List.{AllByRecursion, list_all}
 use Rattle.scr_dates.specs.declared.day.Day.{Day}
 use Rattle.scr_sheet.specs.CashFlows.{flows_under, with_flows, no_flows, all_projections, has_projection, is_empty, suits}
 use Rattle.scr_sheet.specs.declared.keys.Projection.{Projection}
 use Rattle.scr_sheet.specs.declared.keys.Projection.TheVariants as projections
-use Rattle.scr_sheet.specs.declared.rows.LineKind.{LineKind}
-use Rattle.scr_sheet.specs.declared.rows.LineKind.TheVariants as kinds
-use Rattle.scr_sheet.specs.declared.rows.LineFlows.{LineFlows}
+use Rattle.scr_sheet.specs.declared.rows.LiabilityKind.{LiabilityKind}
+use Rattle.scr_sheet.specs.declared.rows.LiabilityKind.TheVariants as kinds
+use Rattle.scr_sheet.specs.declared.rows.LiabilityFlows.{LiabilityFlows}
 
 and_true : (a b : Bool) → (a && b) ≡ true → (a ≡ true) × (b ≡ true)
 and_true true b h = (refl, h)
@@ -57,7 +57,7 @@ every_projection P each = (
 )
 
 -- flows written under one projection leave the others
-pub one_or_other : (p q : Projection) → (p ≡ q) ⊎ ((new : List (Day × ℤ)) (flows : LineFlows) → flows_under q (with_flows p new flows) ≡ flows_under q flows)
+pub one_or_other : (p q : Projection) → (p ≡ q) ⊎ ((new : List (Day × ℤ)) (flows : LiabilityFlows) → flows_under q (with_flows p new flows) ≡ flows_under q flows)
 one_or_other projections.Base projections.Base = inl refl
 one_or_other projections.Base q = inr (λ new flows. refl)
 one_or_other projections.Mortality projections.Mortality = inl refl
@@ -80,7 +80,7 @@ one_or_other projections.Catastrophe projections.Catastrophe = inl refl
 one_or_other projections.Catastrophe q = inr (λ new flows. refl)
 
 -- and that one has them
-pub under-with : (new : List (Day × ℤ)) (flows : LineFlows) (p : Projection) → flows_under p (with_flows p new flows) ≡ new
+pub under-with : (new : List (Day × ℤ)) (flows : LiabilityFlows) (p : Projection) → flows_under p (with_flows p new flows) ≡ new
 under-with new flows projections.Base = refl
 under-with new flows projections.Mortality = refl
 under-with new flows projections.Longevity = refl
@@ -93,7 +93,7 @@ under-with new flows projections.LapseMass = refl
 under-with new flows projections.Catastrophe = refl
 
 -- what is true of the new flows and of the old ones is true under each projection then
-pub each-with_flows : (P : List (Day × ℤ) → Type 0) (new : List (Day × ℤ)) (flows : LineFlows) (p : Projection) → P new → ((q : Projection) → P (flows_under q flows)) → (q : Projection) → P (flows_under q (with_flows p new flows))
+pub each-with_flows : (P : List (Day × ℤ) → Type 0) (new : List (Day × ℤ)) (flows : LiabilityFlows) (p : Projection) → P new → ((q : Projection) → P (flows_under q flows)) → (q : Projection) → P (flows_under q (with_flows p new flows))
 each-with_flows P new flows p own each q =
     elim (one_or_other p q) [
       | inl e ↦ subst (λ (other : Projection). P (flows_under other (with_flows p new flows))) e (subst P (sym (under-with new flows p)) own)
@@ -102,13 +102,13 @@ each-with_flows P new flows p own each q =
 
 -- ---- no flows stand under a projection that the kind lacks
 
-pub suits-at : (kind : LineKind) (flows : LineFlows) → suits kind flows ≡ true → (projection : Projection) → (has_projection kind projection || is_empty (flows_under projection flows)) ≡ true
+pub suits-at : (kind : LiabilityKind) (flows : LiabilityFlows) → suits kind flows ≡ true → (projection : Projection) → (has_projection kind projection || is_empty (flows_under projection flows)) ≡ true
 suits-at kind flows h = each_projection _ (all_from_list_all (λ p. has_projection kind p || is_empty (flows_under p flows)) all_projections h)
 
-suits_from_each : (kind : LineKind) (flows : LineFlows) → ((projection : Projection) → (has_projection kind projection || is_empty (flows_under projection flows)) ≡ true) → suits kind flows ≡ true
+suits_from_each : (kind : LiabilityKind) (flows : LiabilityFlows) → ((projection : Projection) → (has_projection kind projection || is_empty (flows_under projection flows)) ≡ true) → suits kind flows ≡ true
 suits_from_each kind flows each = list_all_from_all (λ p. has_projection kind p || is_empty (flows_under p flows)) all_projections (every_projection (λ p. (has_projection kind p || is_empty (flows_under p flows)) ≡ true) each)
 
-pub suits-with_flows : (kind : LineKind) (new : List (Day × ℤ)) (flows : LineFlows) (p : Projection) → has_projection kind p ≡ true → suits kind flows ≡ true → suits kind (with_flows p new flows) ≡ true
+pub suits-with_flows : (kind : LiabilityKind) (new : List (Day × ℤ)) (flows : LiabilityFlows) (p : Projection) → has_projection kind p ≡ true → suits kind flows ≡ true → suits kind (with_flows p new flows) ≡ true
 suits-with_flows kind new flows p has suit =
     suits_from_each kind (with_flows p new flows) each
   where
@@ -119,7 +119,7 @@ suits-with_flows kind new flows p has suit =
           | inr e ↦ ap (λ fs. has_projection kind q || is_empty fs) (e new flows) ∙ suits-at kind flows suit q
         ]
 
-pub suits-no_flows : (kind : LineKind) → suits kind no_flows ≡ true
+pub suits-no_flows : (kind : LiabilityKind) → suits kind no_flows ≡ true
 suits-no_flows kinds.Life = refl
 suits-no_flows kinds.Health = refl
 suits-no_flows kinds.Other = refl

@@ -6,10 +6,10 @@ use Rattle.std.specs.Option.{option_or, option_map_or}
 use Rattle.std.proofs.lemmas.Bool.{leb-true, leb-false}
 use Rattle.std.proofs.lemmas.List.{length-map}
 use Rattle.scr_dates.specs.declared.day.Day.{Day}
-use Rattle.scr_factors.specs.declared.set.Set.{Set}
+use Rattle.scr_profile.specs.declared.set.Set.{Set}
 use Rattle.scr_names.specs.Tables.{row_of, with_row, without, changed}
 use Rattle.scr_sheet.specs.CashFlows.{total, greatest_years, with_flows, no_flows}
-use Rattle.scr_sheet.specs.BalanceSheet.{group_name, position_name, stake_name, line_name, bank_name, rein_name, curve_name, held_of, held_total, line_flows_total, volumes_total, defaults_total, components_total, greatest, security_years, line_years, sheet_years, is_in}
+use Rattle.scr_sheet.specs.BalanceSheet.{group_name, position_name, stake_name, liability_name, bank_name, rein_name, curve_name, held_of, held_total, liability_flows_total, volumes_total, defaults_total, components_total, greatest, security_years, liability_years, sheet_years, is_in}
 use Rattle.scr_sheet.specs.declared.sheet.BalanceSheet.{BalanceSheet}
 use Rattle.scr_sheet.specs.Records.{applied, natural, kept_flows, kept_hold, with_absorb}
 use Rattle.scr_sheet.specs.Faults.{above, sheet_outside}
@@ -28,17 +28,17 @@ use Rattle.scr_sheet.specs.declared.rows.Bank.{Bank}
 use Rattle.scr_sheet.specs.declared.rows.Class.{Class}
 use Rattle.scr_sheet.specs.declared.rows.Curve.{Curve}
 use Rattle.scr_sheet.specs.declared.rows.Group.{Group}
-use Rattle.scr_sheet.specs.declared.rows.GroupKind.{GroupKind}
+use Rattle.scr_profile.specs.declared.group_kind.GroupKind.{GroupKind}
 use Rattle.scr_sheet.specs.declared.rows.Liability.{Liability}
-use Rattle.scr_sheet.specs.declared.rows.LineKind.{LineKind}
+use Rattle.scr_sheet.specs.declared.rows.LiabilityKind.{LiabilityKind}
 use Rattle.scr_sheet.specs.declared.rows.Position.{Position}
 use Rattle.scr_sheet.specs.declared.rows.Rein.{Rein}
 use Rattle.scr_sheet.specs.declared.rows.Stake.{Stake}
-use Rattle.scr_sheet.specs.declared.limits.TheConstants.{MAX_AMOUNT, MAX_HELD, MAX_LINE_FLOWS, MAX_YEARS, MAX_CURRENCIES, MAX_SECURITIES, MAX_FUNDS, MAX_COMPONENTS, MAX_LINES, MAX_GROUPS, MAX_EXPOSURES}
+use Rattle.scr_profile.specs.declared.limits.TheConstants.{MAX_AMOUNT, MAX_HELD, MAX_LIABILITY_FLOWS, MAX_YEARS, MAX_CURRENCIES, MAX_SECURITIES, MAX_FUNDS, MAX_COMPONENTS, MAX_LIABILITIES, MAX_GROUPS, MAX_EXPOSURES}
 use Rattle.scr_names.proofs.TableRows.{added, passes_or_fails, names-changed, sum-without, length-with_row, without-here, without-later, same_or_other}
 use Rattle.scr_sheet.proofs.Bounds.{above-within, option_or-none}
-use Rattle.scr_sheet.proofs.Greatest.{greatest-with_row-le, row_of-le-greatest, greatest-without-le, greatest-changed-le, le-greatest-changed, line_years-with_flows-le, le-line_years-with_flows}
-use Rattle.scr_sheet.proofs.Sums.{in_one_table, held-hold, held-part, held-same, stake_components, components-fund, components-drop, components-part, components-hold, line_total, line_flows-own, line_flows-part, volumes-segment, volumes-part, rein_total, defaults-bank, defaults-rein, defaults-part_bank, defaults-part_rein}
+use Rattle.scr_sheet.proofs.Greatest.{greatest-with_row-le, row_of-le-greatest, greatest-without-le, greatest-changed-le, le-greatest-changed, liability_years-with_flows-le, le-liability_years-with_flows}
+use Rattle.scr_sheet.proofs.Sums.{in_one_table, held-hold, held-part, held-same, stake_components, components-fund, components-drop, components-part, components-hold, liability_total, liability_flows-own, liability_flows-part, volumes-segment, volumes-part, rein_total, defaults-bank, defaults-rein, defaults-part_bank, defaults-part_rein}
 use Rattle.scr_sheet.specs.Volumes.{volumes_in}
 
 -- ---- the tests of the whole book, one after another, where all but one or two pass
@@ -51,57 +51,57 @@ first_of-same : {a b c d e f g h i j k l a' b' c' d' e' f' g' h' i' j' k' l' : O
     → first_of a b c d e f g h i j k l ≡ first_of a' b' c' d' e' f' g' h' i' j' k' l'
 first_of-same p q r s t u v w x y z o = cc
 
-module _ (held : ℕ) (line_flows volumes : Option Fault) (defaults years currencies securities funds components lines groups exposures : ℕ) where
+module _ (held : ℕ) (liability_flows volumes : Option Fault) (defaults years currencies securities funds components liabilities groups exposures : ℕ) where
   -- the first of the tests that fails, in their order
   abbrev first_outside : Option Fault
   first_outside =
-      first_of (above quantities.Held held MAX_HELD) line_flows volumes (above quantities.Defaults defaults MAX_AMOUNT) (above quantities.Years years MAX_YEARS)
+      first_of (above quantities.Held held MAX_HELD) liability_flows volumes (above quantities.Defaults defaults MAX_AMOUNT) (above quantities.Years years MAX_YEARS)
       (above quantities.Currencies currencies MAX_CURRENCIES) (above quantities.Securities securities MAX_SECURITIES) (above quantities.Funds funds MAX_FUNDS)
-      (above quantities.Components components MAX_COMPONENTS) (above quantities.Lines lines MAX_LINES) (above quantities.Groups groups MAX_GROUPS) (above quantities.Exposures exposures MAX_EXPOSURES)
+      (above quantities.Components components MAX_COMPONENTS) (above quantities.Liabilities liabilities MAX_LIABILITIES) (above quantities.Groups groups MAX_GROUPS) (above quantities.Exposures exposures MAX_EXPOSURES)
 
-  first_outside-none : held ≤ MAX_HELD → line_flows ≡ None → volumes ≡ None → defaults ≤ MAX_AMOUNT → years ≤ MAX_YEARS → currencies ≤ MAX_CURRENCIES → securities ≤ MAX_SECURITIES → funds ≤ MAX_FUNDS → components ≤ MAX_COMPONENTS → lines ≤ MAX_LINES → groups ≤ MAX_GROUPS → exposures ≤ MAX_EXPOSURES → first_outside ≡ None
-  first_outside-none h_held h_line_flows h_volumes h_defaults h_years h_currencies h_securities h_funds h_components h_lines h_groups h_exposures =
-      first_of-same (above-within quantities.Held held MAX_HELD h_held) h_line_flows h_volumes (above-within quantities.Defaults defaults MAX_AMOUNT h_defaults) (above-within quantities.Years years MAX_YEARS h_years) (above-within quantities.Currencies currencies MAX_CURRENCIES h_currencies) (above-within quantities.Securities securities MAX_SECURITIES h_securities) (above-within quantities.Funds funds MAX_FUNDS h_funds) (above-within quantities.Components components MAX_COMPONENTS h_components) (above-within quantities.Lines lines MAX_LINES h_lines) (above-within quantities.Groups groups MAX_GROUPS h_groups) (above-within quantities.Exposures exposures MAX_EXPOSURES h_exposures)
+  first_outside-none : held ≤ MAX_HELD → liability_flows ≡ None → volumes ≡ None → defaults ≤ MAX_AMOUNT → years ≤ MAX_YEARS → currencies ≤ MAX_CURRENCIES → securities ≤ MAX_SECURITIES → funds ≤ MAX_FUNDS → components ≤ MAX_COMPONENTS → liabilities ≤ MAX_LIABILITIES → groups ≤ MAX_GROUPS → exposures ≤ MAX_EXPOSURES → first_outside ≡ None
+  first_outside-none h_held h_liability_flows h_volumes h_defaults h_years h_currencies h_securities h_funds h_components h_liabilities h_groups h_exposures =
+      first_of-same (above-within quantities.Held held MAX_HELD h_held) h_liability_flows h_volumes (above-within quantities.Defaults defaults MAX_AMOUNT h_defaults) (above-within quantities.Years years MAX_YEARS h_years) (above-within quantities.Currencies currencies MAX_CURRENCIES h_currencies) (above-within quantities.Securities securities MAX_SECURITIES h_securities) (above-within quantities.Funds funds MAX_FUNDS h_funds) (above-within quantities.Components components MAX_COMPONENTS h_components) (above-within quantities.Liabilities liabilities MAX_LIABILITIES h_liabilities) (above-within quantities.Groups groups MAX_GROUPS h_groups) (above-within quantities.Exposures exposures MAX_EXPOSURES h_exposures)
 
-  first_outside-held : line_flows ≡ None → volumes ≡ None → defaults ≤ MAX_AMOUNT → years ≤ MAX_YEARS → currencies ≤ MAX_CURRENCIES → securities ≤ MAX_SECURITIES → funds ≤ MAX_FUNDS → components ≤ MAX_COMPONENTS → lines ≤ MAX_LINES → groups ≤ MAX_GROUPS → exposures ≤ MAX_EXPOSURES → first_outside ≡ above quantities.Held held MAX_HELD
-  first_outside-held h_line_flows h_volumes h_defaults h_years h_currencies h_securities h_funds h_components h_lines h_groups h_exposures =
-      first_of-same refl h_line_flows h_volumes (above-within quantities.Defaults defaults MAX_AMOUNT h_defaults) (above-within quantities.Years years MAX_YEARS h_years) (above-within quantities.Currencies currencies MAX_CURRENCIES h_currencies) (above-within quantities.Securities securities MAX_SECURITIES h_securities) (above-within quantities.Funds funds MAX_FUNDS h_funds) (above-within quantities.Components components MAX_COMPONENTS h_components) (above-within quantities.Lines lines MAX_LINES h_lines) (above-within quantities.Groups groups MAX_GROUPS h_groups) (above-within quantities.Exposures exposures MAX_EXPOSURES h_exposures) ∙ option_or-none (above quantities.Held held MAX_HELD)
+  first_outside-held : liability_flows ≡ None → volumes ≡ None → defaults ≤ MAX_AMOUNT → years ≤ MAX_YEARS → currencies ≤ MAX_CURRENCIES → securities ≤ MAX_SECURITIES → funds ≤ MAX_FUNDS → components ≤ MAX_COMPONENTS → liabilities ≤ MAX_LIABILITIES → groups ≤ MAX_GROUPS → exposures ≤ MAX_EXPOSURES → first_outside ≡ above quantities.Held held MAX_HELD
+  first_outside-held h_liability_flows h_volumes h_defaults h_years h_currencies h_securities h_funds h_components h_liabilities h_groups h_exposures =
+      first_of-same refl h_liability_flows h_volumes (above-within quantities.Defaults defaults MAX_AMOUNT h_defaults) (above-within quantities.Years years MAX_YEARS h_years) (above-within quantities.Currencies currencies MAX_CURRENCIES h_currencies) (above-within quantities.Securities securities MAX_SECURITIES h_securities) (above-within quantities.Funds funds MAX_FUNDS h_funds) (above-within quantities.Components components MAX_COMPONENTS h_components) (above-within quantities.Liabilities liabilities MAX_LIABILITIES h_liabilities) (above-within quantities.Groups groups MAX_GROUPS h_groups) (above-within quantities.Exposures exposures MAX_EXPOSURES h_exposures) ∙ option_or-none (above quantities.Held held MAX_HELD)
 
-  first_outside-line_flows : held ≤ MAX_HELD → volumes ≡ None → defaults ≤ MAX_AMOUNT → currencies ≤ MAX_CURRENCIES → securities ≤ MAX_SECURITIES → funds ≤ MAX_FUNDS → components ≤ MAX_COMPONENTS → lines ≤ MAX_LINES → groups ≤ MAX_GROUPS → exposures ≤ MAX_EXPOSURES → first_outside ≡ option_or line_flows (above quantities.Years years MAX_YEARS)
-  first_outside-line_flows h_held h_volumes h_defaults h_currencies h_securities h_funds h_components h_lines h_groups h_exposures =
-      first_of-same (above-within quantities.Held held MAX_HELD h_held) refl h_volumes (above-within quantities.Defaults defaults MAX_AMOUNT h_defaults) refl (above-within quantities.Currencies currencies MAX_CURRENCIES h_currencies) (above-within quantities.Securities securities MAX_SECURITIES h_securities) (above-within quantities.Funds funds MAX_FUNDS h_funds) (above-within quantities.Components components MAX_COMPONENTS h_components) (above-within quantities.Lines lines MAX_LINES h_lines) (above-within quantities.Groups groups MAX_GROUPS h_groups) (above-within quantities.Exposures exposures MAX_EXPOSURES h_exposures) ∙ ap (option_or line_flows) (option_or-none (above quantities.Years years MAX_YEARS))
+  first_outside-liability_flows : held ≤ MAX_HELD → volumes ≡ None → defaults ≤ MAX_AMOUNT → currencies ≤ MAX_CURRENCIES → securities ≤ MAX_SECURITIES → funds ≤ MAX_FUNDS → components ≤ MAX_COMPONENTS → liabilities ≤ MAX_LIABILITIES → groups ≤ MAX_GROUPS → exposures ≤ MAX_EXPOSURES → first_outside ≡ option_or liability_flows (above quantities.Years years MAX_YEARS)
+  first_outside-liability_flows h_held h_volumes h_defaults h_currencies h_securities h_funds h_components h_liabilities h_groups h_exposures =
+      first_of-same (above-within quantities.Held held MAX_HELD h_held) refl h_volumes (above-within quantities.Defaults defaults MAX_AMOUNT h_defaults) refl (above-within quantities.Currencies currencies MAX_CURRENCIES h_currencies) (above-within quantities.Securities securities MAX_SECURITIES h_securities) (above-within quantities.Funds funds MAX_FUNDS h_funds) (above-within quantities.Components components MAX_COMPONENTS h_components) (above-within quantities.Liabilities liabilities MAX_LIABILITIES h_liabilities) (above-within quantities.Groups groups MAX_GROUPS h_groups) (above-within quantities.Exposures exposures MAX_EXPOSURES h_exposures) ∙ ap (option_or liability_flows) (option_or-none (above quantities.Years years MAX_YEARS))
 
-  first_outside-volumes : held ≤ MAX_HELD → line_flows ≡ None → defaults ≤ MAX_AMOUNT → years ≤ MAX_YEARS → currencies ≤ MAX_CURRENCIES → securities ≤ MAX_SECURITIES → funds ≤ MAX_FUNDS → components ≤ MAX_COMPONENTS → lines ≤ MAX_LINES → groups ≤ MAX_GROUPS → exposures ≤ MAX_EXPOSURES → first_outside ≡ volumes
-  first_outside-volumes h_held h_line_flows h_defaults h_years h_currencies h_securities h_funds h_components h_lines h_groups h_exposures =
-      first_of-same (above-within quantities.Held held MAX_HELD h_held) h_line_flows refl (above-within quantities.Defaults defaults MAX_AMOUNT h_defaults) (above-within quantities.Years years MAX_YEARS h_years) (above-within quantities.Currencies currencies MAX_CURRENCIES h_currencies) (above-within quantities.Securities securities MAX_SECURITIES h_securities) (above-within quantities.Funds funds MAX_FUNDS h_funds) (above-within quantities.Components components MAX_COMPONENTS h_components) (above-within quantities.Lines lines MAX_LINES h_lines) (above-within quantities.Groups groups MAX_GROUPS h_groups) (above-within quantities.Exposures exposures MAX_EXPOSURES h_exposures) ∙ option_or-none volumes
+  first_outside-volumes : held ≤ MAX_HELD → liability_flows ≡ None → defaults ≤ MAX_AMOUNT → years ≤ MAX_YEARS → currencies ≤ MAX_CURRENCIES → securities ≤ MAX_SECURITIES → funds ≤ MAX_FUNDS → components ≤ MAX_COMPONENTS → liabilities ≤ MAX_LIABILITIES → groups ≤ MAX_GROUPS → exposures ≤ MAX_EXPOSURES → first_outside ≡ volumes
+  first_outside-volumes h_held h_liability_flows h_defaults h_years h_currencies h_securities h_funds h_components h_liabilities h_groups h_exposures =
+      first_of-same (above-within quantities.Held held MAX_HELD h_held) h_liability_flows refl (above-within quantities.Defaults defaults MAX_AMOUNT h_defaults) (above-within quantities.Years years MAX_YEARS h_years) (above-within quantities.Currencies currencies MAX_CURRENCIES h_currencies) (above-within quantities.Securities securities MAX_SECURITIES h_securities) (above-within quantities.Funds funds MAX_FUNDS h_funds) (above-within quantities.Components components MAX_COMPONENTS h_components) (above-within quantities.Liabilities liabilities MAX_LIABILITIES h_liabilities) (above-within quantities.Groups groups MAX_GROUPS h_groups) (above-within quantities.Exposures exposures MAX_EXPOSURES h_exposures) ∙ option_or-none volumes
 
-  first_outside-years : held ≤ MAX_HELD → line_flows ≡ None → volumes ≡ None → defaults ≤ MAX_AMOUNT → currencies ≤ MAX_CURRENCIES → securities ≤ MAX_SECURITIES → funds ≤ MAX_FUNDS → components ≤ MAX_COMPONENTS → lines ≤ MAX_LINES → groups ≤ MAX_GROUPS → exposures ≤ MAX_EXPOSURES → first_outside ≡ above quantities.Years years MAX_YEARS
-  first_outside-years h_held h_line_flows h_volumes h_defaults h_currencies h_securities h_funds h_components h_lines h_groups h_exposures =
-      first_of-same (above-within quantities.Held held MAX_HELD h_held) h_line_flows h_volumes (above-within quantities.Defaults defaults MAX_AMOUNT h_defaults) refl (above-within quantities.Currencies currencies MAX_CURRENCIES h_currencies) (above-within quantities.Securities securities MAX_SECURITIES h_securities) (above-within quantities.Funds funds MAX_FUNDS h_funds) (above-within quantities.Components components MAX_COMPONENTS h_components) (above-within quantities.Lines lines MAX_LINES h_lines) (above-within quantities.Groups groups MAX_GROUPS h_groups) (above-within quantities.Exposures exposures MAX_EXPOSURES h_exposures) ∙ option_or-none (above quantities.Years years MAX_YEARS)
+  first_outside-years : held ≤ MAX_HELD → liability_flows ≡ None → volumes ≡ None → defaults ≤ MAX_AMOUNT → currencies ≤ MAX_CURRENCIES → securities ≤ MAX_SECURITIES → funds ≤ MAX_FUNDS → components ≤ MAX_COMPONENTS → liabilities ≤ MAX_LIABILITIES → groups ≤ MAX_GROUPS → exposures ≤ MAX_EXPOSURES → first_outside ≡ above quantities.Years years MAX_YEARS
+  first_outside-years h_held h_liability_flows h_volumes h_defaults h_currencies h_securities h_funds h_components h_liabilities h_groups h_exposures =
+      first_of-same (above-within quantities.Held held MAX_HELD h_held) h_liability_flows h_volumes (above-within quantities.Defaults defaults MAX_AMOUNT h_defaults) refl (above-within quantities.Currencies currencies MAX_CURRENCIES h_currencies) (above-within quantities.Securities securities MAX_SECURITIES h_securities) (above-within quantities.Funds funds MAX_FUNDS h_funds) (above-within quantities.Components components MAX_COMPONENTS h_components) (above-within quantities.Liabilities liabilities MAX_LIABILITIES h_liabilities) (above-within quantities.Groups groups MAX_GROUPS h_groups) (above-within quantities.Exposures exposures MAX_EXPOSURES h_exposures) ∙ option_or-none (above quantities.Years years MAX_YEARS)
 
-  first_outside-currencies : held ≤ MAX_HELD → line_flows ≡ None → volumes ≡ None → defaults ≤ MAX_AMOUNT → years ≤ MAX_YEARS → securities ≤ MAX_SECURITIES → funds ≤ MAX_FUNDS → components ≤ MAX_COMPONENTS → lines ≤ MAX_LINES → groups ≤ MAX_GROUPS → exposures ≤ MAX_EXPOSURES → first_outside ≡ above quantities.Currencies currencies MAX_CURRENCIES
-  first_outside-currencies h_held h_line_flows h_volumes h_defaults h_years h_securities h_funds h_components h_lines h_groups h_exposures =
-      first_of-same (above-within quantities.Held held MAX_HELD h_held) h_line_flows h_volumes (above-within quantities.Defaults defaults MAX_AMOUNT h_defaults) (above-within quantities.Years years MAX_YEARS h_years) refl (above-within quantities.Securities securities MAX_SECURITIES h_securities) (above-within quantities.Funds funds MAX_FUNDS h_funds) (above-within quantities.Components components MAX_COMPONENTS h_components) (above-within quantities.Lines lines MAX_LINES h_lines) (above-within quantities.Groups groups MAX_GROUPS h_groups) (above-within quantities.Exposures exposures MAX_EXPOSURES h_exposures) ∙ option_or-none (above quantities.Currencies currencies MAX_CURRENCIES)
+  first_outside-currencies : held ≤ MAX_HELD → liability_flows ≡ None → volumes ≡ None → defaults ≤ MAX_AMOUNT → years ≤ MAX_YEARS → securities ≤ MAX_SECURITIES → funds ≤ MAX_FUNDS → components ≤ MAX_COMPONENTS → liabilities ≤ MAX_LIABILITIES → groups ≤ MAX_GROUPS → exposures ≤ MAX_EXPOSURES → first_outside ≡ above quantities.Currencies currencies MAX_CURRENCIES
+  first_outside-currencies h_held h_liability_flows h_volumes h_defaults h_years h_securities h_funds h_components h_liabilities h_groups h_exposures =
+      first_of-same (above-within quantities.Held held MAX_HELD h_held) h_liability_flows h_volumes (above-within quantities.Defaults defaults MAX_AMOUNT h_defaults) (above-within quantities.Years years MAX_YEARS h_years) refl (above-within quantities.Securities securities MAX_SECURITIES h_securities) (above-within quantities.Funds funds MAX_FUNDS h_funds) (above-within quantities.Components components MAX_COMPONENTS h_components) (above-within quantities.Liabilities liabilities MAX_LIABILITIES h_liabilities) (above-within quantities.Groups groups MAX_GROUPS h_groups) (above-within quantities.Exposures exposures MAX_EXPOSURES h_exposures) ∙ option_or-none (above quantities.Currencies currencies MAX_CURRENCIES)
 
-  first_outside-securities : held ≤ MAX_HELD → line_flows ≡ None → volumes ≡ None → defaults ≤ MAX_AMOUNT → years ≤ MAX_YEARS → currencies ≤ MAX_CURRENCIES → funds ≤ MAX_FUNDS → components ≤ MAX_COMPONENTS → lines ≤ MAX_LINES → groups ≤ MAX_GROUPS → exposures ≤ MAX_EXPOSURES → first_outside ≡ above quantities.Securities securities MAX_SECURITIES
-  first_outside-securities h_held h_line_flows h_volumes h_defaults h_years h_currencies h_funds h_components h_lines h_groups h_exposures =
-      first_of-same (above-within quantities.Held held MAX_HELD h_held) h_line_flows h_volumes (above-within quantities.Defaults defaults MAX_AMOUNT h_defaults) (above-within quantities.Years years MAX_YEARS h_years) (above-within quantities.Currencies currencies MAX_CURRENCIES h_currencies) refl (above-within quantities.Funds funds MAX_FUNDS h_funds) (above-within quantities.Components components MAX_COMPONENTS h_components) (above-within quantities.Lines lines MAX_LINES h_lines) (above-within quantities.Groups groups MAX_GROUPS h_groups) (above-within quantities.Exposures exposures MAX_EXPOSURES h_exposures) ∙ option_or-none (above quantities.Securities securities MAX_SECURITIES)
+  first_outside-securities : held ≤ MAX_HELD → liability_flows ≡ None → volumes ≡ None → defaults ≤ MAX_AMOUNT → years ≤ MAX_YEARS → currencies ≤ MAX_CURRENCIES → funds ≤ MAX_FUNDS → components ≤ MAX_COMPONENTS → liabilities ≤ MAX_LIABILITIES → groups ≤ MAX_GROUPS → exposures ≤ MAX_EXPOSURES → first_outside ≡ above quantities.Securities securities MAX_SECURITIES
+  first_outside-securities h_held h_liability_flows h_volumes h_defaults h_years h_currencies h_funds h_components h_liabilities h_groups h_exposures =
+      first_of-same (above-within quantities.Held held MAX_HELD h_held) h_liability_flows h_volumes (above-within quantities.Defaults defaults MAX_AMOUNT h_defaults) (above-within quantities.Years years MAX_YEARS h_years) (above-within quantities.Currencies currencies MAX_CURRENCIES h_currencies) refl (above-within quantities.Funds funds MAX_FUNDS h_funds) (above-within quantities.Components components MAX_COMPONENTS h_components) (above-within quantities.Liabilities liabilities MAX_LIABILITIES h_liabilities) (above-within quantities.Groups groups MAX_GROUPS h_groups) (above-within quantities.Exposures exposures MAX_EXPOSURES h_exposures) ∙ option_or-none (above quantities.Securities securities MAX_SECURITIES)
 
-  first_outside-funds : held ≤ MAX_HELD → line_flows ≡ None → volumes ≡ None → defaults ≤ MAX_AMOUNT → years ≤ MAX_YEARS → currencies ≤ MAX_CURRENCIES → securities ≤ MAX_SECURITIES → lines ≤ MAX_LINES → groups ≤ MAX_GROUPS → exposures ≤ MAX_EXPOSURES → first_outside ≡ option_or (above quantities.Funds funds MAX_FUNDS) (above quantities.Components components MAX_COMPONENTS)
-  first_outside-funds h_held h_line_flows h_volumes h_defaults h_years h_currencies h_securities h_lines h_groups h_exposures =
-      first_of-same (above-within quantities.Held held MAX_HELD h_held) h_line_flows h_volumes (above-within quantities.Defaults defaults MAX_AMOUNT h_defaults) (above-within quantities.Years years MAX_YEARS h_years) (above-within quantities.Currencies currencies MAX_CURRENCIES h_currencies) (above-within quantities.Securities securities MAX_SECURITIES h_securities) refl refl (above-within quantities.Lines lines MAX_LINES h_lines) (above-within quantities.Groups groups MAX_GROUPS h_groups) (above-within quantities.Exposures exposures MAX_EXPOSURES h_exposures) ∙ ap (option_or (above quantities.Funds funds MAX_FUNDS)) (option_or-none (above quantities.Components components MAX_COMPONENTS))
+  first_outside-funds : held ≤ MAX_HELD → liability_flows ≡ None → volumes ≡ None → defaults ≤ MAX_AMOUNT → years ≤ MAX_YEARS → currencies ≤ MAX_CURRENCIES → securities ≤ MAX_SECURITIES → liabilities ≤ MAX_LIABILITIES → groups ≤ MAX_GROUPS → exposures ≤ MAX_EXPOSURES → first_outside ≡ option_or (above quantities.Funds funds MAX_FUNDS) (above quantities.Components components MAX_COMPONENTS)
+  first_outside-funds h_held h_liability_flows h_volumes h_defaults h_years h_currencies h_securities h_liabilities h_groups h_exposures =
+      first_of-same (above-within quantities.Held held MAX_HELD h_held) h_liability_flows h_volumes (above-within quantities.Defaults defaults MAX_AMOUNT h_defaults) (above-within quantities.Years years MAX_YEARS h_years) (above-within quantities.Currencies currencies MAX_CURRENCIES h_currencies) (above-within quantities.Securities securities MAX_SECURITIES h_securities) refl refl (above-within quantities.Liabilities liabilities MAX_LIABILITIES h_liabilities) (above-within quantities.Groups groups MAX_GROUPS h_groups) (above-within quantities.Exposures exposures MAX_EXPOSURES h_exposures) ∙ ap (option_or (above quantities.Funds funds MAX_FUNDS)) (option_or-none (above quantities.Components components MAX_COMPONENTS))
 
-  first_outside-lines : held ≤ MAX_HELD → line_flows ≡ None → volumes ≡ None → defaults ≤ MAX_AMOUNT → years ≤ MAX_YEARS → currencies ≤ MAX_CURRENCIES → securities ≤ MAX_SECURITIES → funds ≤ MAX_FUNDS → components ≤ MAX_COMPONENTS → groups ≤ MAX_GROUPS → exposures ≤ MAX_EXPOSURES → first_outside ≡ above quantities.Lines lines MAX_LINES
-  first_outside-lines h_held h_line_flows h_volumes h_defaults h_years h_currencies h_securities h_funds h_components h_groups h_exposures =
-      first_of-same (above-within quantities.Held held MAX_HELD h_held) h_line_flows h_volumes (above-within quantities.Defaults defaults MAX_AMOUNT h_defaults) (above-within quantities.Years years MAX_YEARS h_years) (above-within quantities.Currencies currencies MAX_CURRENCIES h_currencies) (above-within quantities.Securities securities MAX_SECURITIES h_securities) (above-within quantities.Funds funds MAX_FUNDS h_funds) (above-within quantities.Components components MAX_COMPONENTS h_components) refl (above-within quantities.Groups groups MAX_GROUPS h_groups) (above-within quantities.Exposures exposures MAX_EXPOSURES h_exposures) ∙ option_or-none (above quantities.Lines lines MAX_LINES)
+  first_outside-liabilities : held ≤ MAX_HELD → liability_flows ≡ None → volumes ≡ None → defaults ≤ MAX_AMOUNT → years ≤ MAX_YEARS → currencies ≤ MAX_CURRENCIES → securities ≤ MAX_SECURITIES → funds ≤ MAX_FUNDS → components ≤ MAX_COMPONENTS → groups ≤ MAX_GROUPS → exposures ≤ MAX_EXPOSURES → first_outside ≡ above quantities.Liabilities liabilities MAX_LIABILITIES
+  first_outside-liabilities h_held h_liability_flows h_volumes h_defaults h_years h_currencies h_securities h_funds h_components h_groups h_exposures =
+      first_of-same (above-within quantities.Held held MAX_HELD h_held) h_liability_flows h_volumes (above-within quantities.Defaults defaults MAX_AMOUNT h_defaults) (above-within quantities.Years years MAX_YEARS h_years) (above-within quantities.Currencies currencies MAX_CURRENCIES h_currencies) (above-within quantities.Securities securities MAX_SECURITIES h_securities) (above-within quantities.Funds funds MAX_FUNDS h_funds) (above-within quantities.Components components MAX_COMPONENTS h_components) refl (above-within quantities.Groups groups MAX_GROUPS h_groups) (above-within quantities.Exposures exposures MAX_EXPOSURES h_exposures) ∙ option_or-none (above quantities.Liabilities liabilities MAX_LIABILITIES)
 
-  first_outside-groups : held ≤ MAX_HELD → line_flows ≡ None → volumes ≡ None → defaults ≤ MAX_AMOUNT → years ≤ MAX_YEARS → currencies ≤ MAX_CURRENCIES → securities ≤ MAX_SECURITIES → funds ≤ MAX_FUNDS → components ≤ MAX_COMPONENTS → lines ≤ MAX_LINES → exposures ≤ MAX_EXPOSURES → first_outside ≡ above quantities.Groups groups MAX_GROUPS
-  first_outside-groups h_held h_line_flows h_volumes h_defaults h_years h_currencies h_securities h_funds h_components h_lines h_exposures =
-      first_of-same (above-within quantities.Held held MAX_HELD h_held) h_line_flows h_volumes (above-within quantities.Defaults defaults MAX_AMOUNT h_defaults) (above-within quantities.Years years MAX_YEARS h_years) (above-within quantities.Currencies currencies MAX_CURRENCIES h_currencies) (above-within quantities.Securities securities MAX_SECURITIES h_securities) (above-within quantities.Funds funds MAX_FUNDS h_funds) (above-within quantities.Components components MAX_COMPONENTS h_components) (above-within quantities.Lines lines MAX_LINES h_lines) refl (above-within quantities.Exposures exposures MAX_EXPOSURES h_exposures) ∙ option_or-none (above quantities.Groups groups MAX_GROUPS)
+  first_outside-groups : held ≤ MAX_HELD → liability_flows ≡ None → volumes ≡ None → defaults ≤ MAX_AMOUNT → years ≤ MAX_YEARS → currencies ≤ MAX_CURRENCIES → securities ≤ MAX_SECURITIES → funds ≤ MAX_FUNDS → components ≤ MAX_COMPONENTS → liabilities ≤ MAX_LIABILITIES → exposures ≤ MAX_EXPOSURES → first_outside ≡ above quantities.Groups groups MAX_GROUPS
+  first_outside-groups h_held h_liability_flows h_volumes h_defaults h_years h_currencies h_securities h_funds h_components h_liabilities h_exposures =
+      first_of-same (above-within quantities.Held held MAX_HELD h_held) h_liability_flows h_volumes (above-within quantities.Defaults defaults MAX_AMOUNT h_defaults) (above-within quantities.Years years MAX_YEARS h_years) (above-within quantities.Currencies currencies MAX_CURRENCIES h_currencies) (above-within quantities.Securities securities MAX_SECURITIES h_securities) (above-within quantities.Funds funds MAX_FUNDS h_funds) (above-within quantities.Components components MAX_COMPONENTS h_components) (above-within quantities.Liabilities liabilities MAX_LIABILITIES h_liabilities) refl (above-within quantities.Exposures exposures MAX_EXPOSURES h_exposures) ∙ option_or-none (above quantities.Groups groups MAX_GROUPS)
 
-  first_outside-exposures : held ≤ MAX_HELD → line_flows ≡ None → volumes ≡ None → years ≤ MAX_YEARS → currencies ≤ MAX_CURRENCIES → securities ≤ MAX_SECURITIES → funds ≤ MAX_FUNDS → components ≤ MAX_COMPONENTS → lines ≤ MAX_LINES → groups ≤ MAX_GROUPS → first_outside ≡ option_or (above quantities.Defaults defaults MAX_AMOUNT) (above quantities.Exposures exposures MAX_EXPOSURES)
-  first_outside-exposures h_held h_line_flows h_volumes h_years h_currencies h_securities h_funds h_components h_lines h_groups =
-      first_of-same (above-within quantities.Held held MAX_HELD h_held) h_line_flows h_volumes refl (above-within quantities.Years years MAX_YEARS h_years) (above-within quantities.Currencies currencies MAX_CURRENCIES h_currencies) (above-within quantities.Securities securities MAX_SECURITIES h_securities) (above-within quantities.Funds funds MAX_FUNDS h_funds) (above-within quantities.Components components MAX_COMPONENTS h_components) (above-within quantities.Lines lines MAX_LINES h_lines) (above-within quantities.Groups groups MAX_GROUPS h_groups) refl
+  first_outside-exposures : held ≤ MAX_HELD → liability_flows ≡ None → volumes ≡ None → years ≤ MAX_YEARS → currencies ≤ MAX_CURRENCIES → securities ≤ MAX_SECURITIES → funds ≤ MAX_FUNDS → components ≤ MAX_COMPONENTS → liabilities ≤ MAX_LIABILITIES → groups ≤ MAX_GROUPS → first_outside ≡ option_or (above quantities.Defaults defaults MAX_AMOUNT) (above quantities.Exposures exposures MAX_EXPOSURES)
+  first_outside-exposures h_held h_liability_flows h_volumes h_years h_currencies h_securities h_funds h_components h_liabilities h_groups =
+      first_of-same (above-within quantities.Held held MAX_HELD h_held) h_liability_flows h_volumes refl (above-within quantities.Years years MAX_YEARS h_years) (above-within quantities.Currencies currencies MAX_CURRENCIES h_currencies) (above-within quantities.Securities securities MAX_SECURITIES h_securities) (above-within quantities.Funds funds MAX_FUNDS h_funds) (above-within quantities.Components components MAX_COMPONENTS h_components) (above-within quantities.Liabilities liabilities MAX_LIABILITIES h_liabilities) (above-within quantities.Groups groups MAX_GROUPS h_groups) refl
 
 -- ---- numbers of rows
 
@@ -165,14 +165,14 @@ module _ (sheet : BalanceSheet) (valid : Valid sheet) where
   abbrev security_most : ℕ
   security_most = greatest (security_years asof) sheet.securities
 
-  abbrev line_most : ℕ
-  line_most = greatest (line_years asof) sheet.lines
+  abbrev liability_most : ℕ
+  liability_most = greatest (liability_years asof) sheet.liabilities
 
   pub outside-asof : (date : Day) (currency : List ℕ) → let edit = edits.Asof date currency in
       sheet_outside edit (applied edit sheet) ≡ above quantities.Years (sheet_years (applied edit sheet)) MAX_YEARS
   outside-asof date currency =
       let w = valid.within in
-      first_outside-years _ _ _ _ _ _ _ _ _ _ _ _ w.held refl refl w.defaults w.currencies w.securities w.funds w.components w.lines w.groups w.exposures
+      first_outside-years _ _ _ _ _ _ _ _ _ _ _ _ w.held refl refl w.defaults w.currencies w.securities w.funds w.components w.liabilities w.groups w.exposures
 
   pub outside-curve : (currency : List ℕ) (rates : List ℤ) → let edit = edits.Curve currency rates in
       sheet_outside edit (applied edit sheet) ≡ above quantities.Currencies (length sheet.curves + added (row_of curve_name currency sheet.curves)) MAX_CURRENCIES
@@ -180,7 +180,7 @@ module _ (sheet : BalanceSheet) (valid : Valid sheet) where
       let w = valid.within in
       let old : Option Curve = row_of curve_name currency sheet.curves in
       let new : Curve = record { currency = currency; rates = rates; absorb_up = option_map_or (λ c. c.absorb_up) old 0; absorb_down = option_map_or (λ c. c.absorb_down) old 0 } in
-      first_outside-currencies _ _ _ _ _ _ _ _ _ _ _ _ w.held refl refl w.defaults w.years w.securities w.funds w.components w.lines w.groups w.exposures
+      first_outside-currencies _ _ _ _ _ _ _ _ _ _ _ _ w.held refl refl w.defaults w.years w.securities w.funds w.components w.liabilities w.groups w.exposures
       ∙ ap (λ n. above quantities.Currencies n MAX_CURRENCIES) (length-with_row curve_name new sheet.curves)
 
   pub outside-group : (name : List ℕ) (kind : GroupKind) (step : Option ℕ) → let edit = edits.Group name kind step in
@@ -188,7 +188,7 @@ module _ (sheet : BalanceSheet) (valid : Valid sheet) where
   outside-group name kind step =
       let w = valid.within in
       let new : Group = record { name = name; kind = kind; step = step } in
-      first_outside-groups _ _ _ _ _ _ _ _ _ _ _ _ w.held refl refl w.defaults w.years w.currencies w.securities w.funds w.components w.lines w.exposures
+      first_outside-groups _ _ _ _ _ _ _ _ _ _ _ _ w.held refl refl w.defaults w.years w.currencies w.securities w.funds w.components w.liabilities w.exposures
       ∙ ap (λ n. above quantities.Groups n MAX_GROUPS) (length-with_row group_name new sheet.groups)
 
   pub outside-security : (name : List ℕ) (class : Class) (group : Option (List ℕ)) (currency : List ℕ) (duration : ℤ) → let edit = edits.Security name class group currency duration in
@@ -203,7 +203,7 @@ module _ (sheet : BalanceSheet) (valid : Valid sheet) where
       greatest-with_row-le (security_years asof) position_name security_most new sheet.securities (own (row_of position_name name sheet.securities) refl) (omega arith) in
       let few = w.years in
       let years : sheet_years (applied edit sheet) ≤ MAX_YEARS = omega arith in
-      first_outside-securities _ _ _ _ _ _ _ _ _ _ _ _ held refl refl w.defaults years w.currencies w.funds w.components w.lines w.groups w.exposures
+      first_outside-securities _ _ _ _ _ _ _ _ _ _ _ _ held refl refl w.defaults years w.currencies w.funds w.components w.liabilities w.groups w.exposures
       ∙ ap (λ n. above quantities.Securities n MAX_SECURITIES) (length-with_row position_name new sheet.securities)
     where
       own : (found : Option Position) → row_of position_name name sheet.securities ≡ found → greatest_years asof (option_map_or (λ p. p.security.flows) found []) ≤ security_most
@@ -232,7 +232,7 @@ module _ (sheet : BalanceSheet) (valid : Valid sheet) where
           let low : own ≤ greatest (security_years asof) after = le-greatest-changed (security_years asof) position_name change security sheet.securities p e in
           let high : greatest (security_years asof) after ≤ most = greatest-changed-le (security_years asof) position_name most change security sheet.securities (λ s h. omega arith) (omega arith) in
           let before = w.years in
-          first_outside-years _ _ _ _ _ _ _ _ _ _ _ _ held refl refl w.defaults w.currencies few w.funds w.components w.lines w.groups w.exposures
+          first_outside-years _ _ _ _ _ _ _ _ _ _ _ _ held refl refl w.defaults w.currencies few w.funds w.components w.liabilities w.groups w.exposures
           ∙ above-part quantities.Years (sheet_years (applied edit sheet)) own MAX_YEARS (omega arith) (omega arith)
 
   -- a fund fails by the number of funds, or by that of the components of all of them
@@ -251,7 +251,7 @@ module _ (sheet : BalanceSheet) (valid : Valid sheet) where
       let part = components-part name sheet in
       let value : components_total (applied edit sheet) ≡ components_total sheet - old + length components = omega arith in
       let number : length (applied edit sheet).funds ≡ length sheet.funds + added (row_of stake_name name sheet.funds) = length-with_row stake_name new sheet.funds in
-      first_outside-funds _ _ _ _ _ _ _ (length (applied edit sheet).funds) (components_total (applied edit sheet)) _ _ _ held refl refl w.defaults w.years w.currencies w.securities w.lines w.groups w.exposures
+      first_outside-funds _ _ _ _ _ _ _ (length (applied edit sheet).funds) (components_total (applied edit sheet)) _ _ _ held refl refl w.defaults w.years w.currencies w.securities w.liabilities w.groups w.exposures
       ∙ ap (λ n. option_or (above quantities.Funds n MAX_FUNDS) (above quantities.Components (components_total (applied edit sheet)) MAX_COMPONENTS)) number
       ∙ ap (λ n. option_or (above quantities.Funds (length sheet.funds + added (row_of stake_name name sheet.funds)) MAX_FUNDS) (above quantities.Components n MAX_COMPONENTS)) value
 
@@ -276,60 +276,60 @@ module _ (sheet : BalanceSheet) (valid : Valid sheet) where
       let high : greatest (security_years asof) after ≤ security_most = greatest-changed-le (security_years asof) position_name security_most change name sheet.securities (λ p h. h) (omega arith) in
       let before = w.years in
       let years : sheet_years (applied edit sheet) ≤ MAX_YEARS = omega arith in
-      first_outside-held _ _ _ _ _ _ _ _ _ _ _ _ refl refl w.defaults years w.currencies few few_funds components w.lines w.groups w.exposures
+      first_outside-held _ _ _ _ _ _ _ _ _ _ _ _ refl refl w.defaults years w.currencies few few_funds components w.liabilities w.groups w.exposures
       ∙ ap (λ n. above quantities.Held n MAX_HELD) held
 
-  pub outside-line : (name : List ℕ) (kind : LineKind) (currency : List ℕ) → let edit = edits.Line name kind currency in
-      sheet_outside edit (applied edit sheet) ≡ above quantities.Lines (length sheet.lines + added (row_of line_name name sheet.lines)) MAX_LINES
-  outside-line name kind currency =
+  pub outside-liability : (name : List ℕ) (kind : LiabilityKind) (currency : List ℕ) → let edit = edits.Liability name kind currency in
+      sheet_outside edit (applied edit sheet) ≡ above quantities.Liabilities (length sheet.liabilities + added (row_of liability_name name sheet.liabilities)) MAX_LIABILITIES
+  outside-liability name kind currency =
       let w = valid.within in
-      let edit : Edit = edits.Line name kind currency in
-      let new : Liability = record { name = name; kind = kind; currency = currency; flows = option_map_or (λ l. l.flows) (row_of line_name name sheet.lines) no_flows } in
-      let kept : greatest (line_years asof) (with_row line_name new sheet.lines) ≤ line_most =
-      greatest-with_row-le (line_years asof) line_name line_most new sheet.lines (own (row_of line_name name sheet.lines) refl) (omega arith) in
+      let edit : Edit = edits.Liability name kind currency in
+      let new : Liability = record { name = name; kind = kind; currency = currency; flows = option_map_or (λ l. l.flows) (row_of liability_name name sheet.liabilities) no_flows } in
+      let kept : greatest (liability_years asof) (with_row liability_name new sheet.liabilities) ≤ liability_most =
+      greatest-with_row-le (liability_years asof) liability_name liability_most new sheet.liabilities (own (row_of liability_name name sheet.liabilities) refl) (omega arith) in
       let before = w.years in
       let years : sheet_years (applied edit sheet) ≤ MAX_YEARS = omega arith in
-      first_outside-lines _ _ _ _ _ _ _ _ _ _ _ _ w.held refl refl w.defaults years w.currencies w.securities w.funds w.components w.groups w.exposures
-      ∙ ap (λ n. above quantities.Lines n MAX_LINES) (length-with_row line_name new sheet.lines)
+      first_outside-liabilities _ _ _ _ _ _ _ _ _ _ _ _ w.held refl refl w.defaults years w.currencies w.securities w.funds w.components w.groups w.exposures
+      ∙ ap (λ n. above quantities.Liabilities n MAX_LIABILITIES) (length-with_row liability_name new sheet.liabilities)
     where
-      own : (found : Option Liability) → row_of line_name name sheet.lines ≡ found → line_years asof (record { name = name; kind = kind; currency = currency; flows = option_map_or (λ l. l.flows) found no_flows }) ≤ line_most
+      own : (found : Option Liability) → row_of liability_name name sheet.liabilities ≡ found → liability_years asof (record { name = name; kind = kind; currency = currency; flows = option_map_or (λ l. l.flows) found no_flows }) ≤ liability_most
       own None e = omega arith
-      own (Some l) e = row_of-le-greatest (line_years asof) line_name name sheet.lines l e
+      own (Some l) e = row_of-le-greatest (liability_years asof) liability_name name sheet.liabilities l e
 
-  -- where the line exists, a record of its flows fails by the flows of all lines under its projection, or by the years
+  -- where the liability exists, a record of its flows fails by the flows of all liabilities under its projection, or by the years
   -- of the flows that it gives
-  pub outside-line_flows : (line : List ℕ) (projection : Projection) (flows : List (Day × ℤ)) → is_in tables.Line line sheet ≡ true → let edit = edits.LineFlows line projection flows in
+  pub outside-liability_flows : (liability : List ℕ) (projection : Projection) (flows : List (Day × ℤ)) → is_in tables.Liability liability sheet ≡ true → let edit = edits.LiabilityFlows liability projection flows in
       sheet_outside edit (applied edit sheet)
-      ≡ option_or (above quantities.LineFlows (line_flows_total projection sheet - option_map_or (line_total projection) (row_of line_name line sheet.lines) 0 + total flows) MAX_LINE_FLOWS)
+      ≡ option_or (above quantities.LiabilityFlows (liability_flows_total projection sheet - option_map_or (liability_total projection) (row_of liability_name liability sheet.liabilities) 0 + total flows) MAX_LIABILITY_FLOWS)
       (above quantities.Years (greatest_years asof flows) MAX_YEARS)
-  outside-line_flows line projection flows known = by (row_of line_name line sheet.lines) refl known
+  outside-liability_flows liability projection flows known = by (row_of liability_name liability sheet.liabilities) refl known
     where
-      by : (found : Option Liability) → row_of line_name line sheet.lines ≡ found → is_some found ≡ true → let edit = edits.LineFlows line projection flows in
+      by : (found : Option Liability) → row_of liability_name liability sheet.liabilities ≡ found → is_some found ≡ true → let edit = edits.LiabilityFlows liability projection flows in
           sheet_outside edit (applied edit sheet)
-          ≡ option_or (above quantities.LineFlows (line_flows_total projection sheet - option_map_or (line_total projection) (row_of line_name line sheet.lines) 0 + total flows) MAX_LINE_FLOWS)
+          ≡ option_or (above quantities.LiabilityFlows (liability_flows_total projection sheet - option_map_or (liability_total projection) (row_of liability_name liability sheet.liabilities) 0 + total flows) MAX_LIABILITY_FLOWS)
           (above quantities.Years (greatest_years asof flows) MAX_YEARS)
       by None e some = absurd (cc)
       by (Some l) e some =
           let w = valid.within in
-          let edit : Edit = edits.LineFlows line projection flows in
+          let edit : Edit = edits.LiabilityFlows liability projection flows in
           let change : Liability → Liability = λ m. record m { flows = with_flows projection flows m.flows } in
-          let after : List Liability = changed line_name change line sheet.lines in
-          let sum = line_flows-own line flows sheet projection l e in
-          let old : option_map_or (line_total projection) (row_of line_name line sheet.lines) 0 ≡ line_total projection l = ap (λ o. option_map_or (line_total projection) o 0) e in
-          let all = line_flows-part projection line sheet l e in
-          let value : line_flows_total projection (applied edit sheet) ≡ line_flows_total projection sheet - option_map_or (line_total projection) (row_of line_name line sheet.lines) 0 + total flows = omega arith in
-          let long : length after ≡ length sheet.lines = length-changed line_name change line sheet.lines (λ m. refl) in
-          let few : length after ≤ MAX_LINES = subst (λ (n : ℕ). n ≤ MAX_LINES) (sym long) w.lines in
+          let after : List Liability = changed liability_name change liability sheet.liabilities in
+          let sum = liability_flows-own liability flows sheet projection l e in
+          let old : option_map_or (liability_total projection) (row_of liability_name liability sheet.liabilities) 0 ≡ liability_total projection l = ap (λ o. option_map_or (liability_total projection) o 0) e in
+          let all = liability_flows-part projection liability sheet l e in
+          let value : liability_flows_total projection (applied edit sheet) ≡ liability_flows_total projection sheet - option_map_or (liability_total projection) (row_of liability_name liability sheet.liabilities) 0 + total flows = omega arith in
+          let long : length after ≡ length sheet.liabilities = length-changed liability_name change liability sheet.liabilities (λ m. refl) in
+          let few : length after ≤ MAX_LIABILITIES = subst (λ (n : ℕ). n ≤ MAX_LIABILITIES) (sym long) w.liabilities in
           let own : ℕ = greatest_years asof flows in
-          let most : ℕ = max line_most own in
-          let changed_low : own ≤ line_years asof (change l) = le-line_years-with_flows asof projection flows l in
-          let changed_in : line_years asof (change l) ≤ greatest (line_years asof) after = le-greatest-changed (line_years asof) line_name change line sheet.lines l e in
-          let high : greatest (line_years asof) after ≤ most =
-          greatest-changed-le (line_years asof) line_name most change line sheet.lines (λ m h. line_years-with_flows-le asof most projection flows m (omega arith) h) (omega arith) in
+          let most : ℕ = max liability_most own in
+          let changed_low : own ≤ liability_years asof (change l) = le-liability_years-with_flows asof projection flows l in
+          let changed_in : liability_years asof (change l) ≤ greatest (liability_years asof) after = le-greatest-changed (liability_years asof) liability_name change liability sheet.liabilities l e in
+          let high : greatest (liability_years asof) after ≤ most =
+          greatest-changed-le (liability_years asof) liability_name most change liability sheet.liabilities (λ m h. liability_years-with_flows-le asof most projection flows m (omega arith) h) (omega arith) in
           let before = w.years in
-          first_outside-line_flows _ _ _ _ _ _ _ _ _ _ _ _ w.held refl w.defaults w.currencies w.securities w.funds w.components few w.groups w.exposures
-          ∙ ap (λ n. option_or (above quantities.LineFlows n MAX_LINE_FLOWS) (above quantities.Years (sheet_years (applied edit sheet)) MAX_YEARS)) value
-          ∙ ap (λ o. option_or (above quantities.LineFlows (line_flows_total projection sheet - option_map_or (line_total projection) (row_of line_name line sheet.lines) 0 + total flows) MAX_LINE_FLOWS) o)
+          first_outside-liability_flows _ _ _ _ _ _ _ _ _ _ _ _ w.held refl w.defaults w.currencies w.securities w.funds w.components few w.groups w.exposures
+          ∙ ap (λ n. option_or (above quantities.LiabilityFlows n MAX_LIABILITY_FLOWS) (above quantities.Years (sheet_years (applied edit sheet)) MAX_YEARS)) value
+          ∙ ap (λ o. option_or (above quantities.LiabilityFlows (liability_flows_total projection sheet - option_map_or (liability_total projection) (row_of liability_name liability sheet.liabilities) 0 + total flows) MAX_LIABILITY_FLOWS) o)
           (above-part quantities.Years (sheet_years (applied edit sheet)) own MAX_YEARS (omega arith) (omega arith))
 
   pub outside-segment : (set : Set) (number region : ℕ) (premium reserve : ℤ) (old : ℕ × ℕ) → volumes_in set number region sheet.numbers ≡ Some old → let edit = edits.Segment set number region premium reserve in
@@ -340,7 +340,7 @@ module _ (sheet : BalanceSheet) (valid : Valid sheet) where
       let sum = volumes-segment set number region premium reserve sheet old is in
       let all = volumes-part set number region sheet old is in
       let value : volumes_total set (applied edit sheet) ≡ volumes_total set sheet - (old.0 + old.1) + (natural premium + natural reserve) = omega arith in
-      first_outside-volumes _ _ _ _ _ _ _ _ _ _ _ _ w.held refl w.defaults w.years w.currencies w.securities w.funds w.components w.lines w.groups w.exposures
+      first_outside-volumes _ _ _ _ _ _ _ _ _ _ _ _ w.held refl w.defaults w.years w.currencies w.securities w.funds w.components w.liabilities w.groups w.exposures
       ∙ ap (λ n. above quantities.Volumes n MAX_AMOUNT) value
 
   pub outside-bank : (name group : List ℕ) (cents : ℤ) → let edit = edits.Bank name group cents in
@@ -357,7 +357,7 @@ module _ (sheet : BalanceSheet) (valid : Valid sheet) where
       let value : defaults_total (applied edit sheet) ≡ defaults_total sheet - old + natural cents = omega arith in
       let long = length-with_row bank_name new sheet.banks in
       let number : length (applied edit sheet).banks + length sheet.reinsurers ≡ exposures + added (row_of bank_name name sheet.banks) = omega arith in
-      first_outside-exposures _ _ _ _ _ _ _ _ _ _ _ _ w.held refl refl w.years w.currencies w.securities w.funds w.components w.lines w.groups
+      first_outside-exposures _ _ _ _ _ _ _ _ _ _ _ _ w.held refl refl w.years w.currencies w.securities w.funds w.components w.liabilities w.groups
       ∙ ap (λ n. option_or (above quantities.Defaults n MAX_AMOUNT) (above quantities.Exposures (length (applied edit sheet).banks + length sheet.reinsurers) MAX_EXPOSURES)) value
       ∙ ap (λ n. option_or (above quantities.Defaults (defaults_total sheet - old + natural cents) MAX_AMOUNT) (above quantities.Exposures n MAX_EXPOSURES)) number
 
@@ -375,7 +375,7 @@ module _ (sheet : BalanceSheet) (valid : Valid sheet) where
       let value : defaults_total (applied edit sheet) ≡ defaults_total sheet - old + (natural recoverables + natural mitigation) = omega arith in
       let long = length-with_row rein_name new sheet.reinsurers in
       let number : length sheet.banks + length (applied edit sheet).reinsurers ≡ exposures + added (row_of rein_name name sheet.reinsurers) = omega arith in
-      first_outside-exposures _ _ _ _ _ _ _ _ _ _ _ _ w.held refl refl w.years w.currencies w.securities w.funds w.components w.lines w.groups
+      first_outside-exposures _ _ _ _ _ _ _ _ _ _ _ _ w.held refl refl w.years w.currencies w.securities w.funds w.components w.liabilities w.groups
       ∙ ap (λ n. option_or (above quantities.Defaults n MAX_AMOUNT) (above quantities.Exposures (length sheet.banks + length (applied edit sheet).reinsurers) MAX_EXPOSURES)) value
       ∙ ap (λ n. option_or (above quantities.Defaults (defaults_total sheet - old + (natural recoverables + natural mitigation)) MAX_AMOUNT) (above quantities.Exposures n MAX_EXPOSURES)) number
 
@@ -390,14 +390,14 @@ module _ (sheet : BalanceSheet) (valid : Valid sheet) where
   outside-absorb key cents =
       let w = valid.within in
       let few : length (with_absorb key (natural cents) sheet.curves) ≤ MAX_CURRENCIES = subst (λ (n : ℕ). n ≤ MAX_CURRENCIES) (sym (length-with_absorb key (natural cents))) w.currencies in
-      first_outside-none _ _ _ _ _ _ _ _ _ _ _ _ w.held refl refl w.defaults w.years few w.securities w.funds w.components w.lines w.groups w.exposures
+      first_outside-none _ _ _ _ _ _ _ _ _ _ _ _ w.held refl refl w.defaults w.years few w.securities w.funds w.components w.liabilities w.groups w.exposures
 
   outside-remove : (table : Table) (name : List ℕ) → let edit = edits.Remove table name in sheet_outside edit (applied edit sheet) ≡ None
   outside-remove tables.Group name =
       let w = valid.within in
       let fewer = length-without-le group_name name sheet.groups in
       let groups : length (without group_name name sheet.groups) ≤ MAX_GROUPS = let before = w.groups in omega arith in
-      first_outside-none _ _ _ _ _ _ _ _ _ _ _ _ w.held refl refl w.defaults w.years w.currencies w.securities w.funds w.components w.lines groups w.exposures
+      first_outside-none _ _ _ _ _ _ _ _ _ _ _ _ w.held refl refl w.defaults w.years w.currencies w.securities w.funds w.components w.liabilities groups w.exposures
   outside-remove tables.Security name =
       let w = valid.within in
       let edit : Edit = edits.Remove tables.Security name in
@@ -407,7 +407,7 @@ module _ (sheet : BalanceSheet) (valid : Valid sheet) where
       let held : held_total (applied edit sheet) ≤ MAX_HELD = let before = w.held in omega arith in
       let sooner = greatest-without-le (security_years asof) position_name name sheet.securities in
       let years : sheet_years (applied edit sheet) ≤ MAX_YEARS = let before = w.years in omega arith in
-      first_outside-none _ _ _ _ _ _ _ _ _ _ _ _ held refl refl w.defaults years w.currencies securities w.funds w.components w.lines w.groups w.exposures
+      first_outside-none _ _ _ _ _ _ _ _ _ _ _ _ held refl refl w.defaults years w.currencies securities w.funds w.components w.liabilities w.groups w.exposures
   outside-remove tables.Fund name =
       let w = valid.within in
       let edit : Edit = edits.Remove tables.Fund name in
@@ -417,15 +417,15 @@ module _ (sheet : BalanceSheet) (valid : Valid sheet) where
       let held : held_total (applied edit sheet) ≤ MAX_HELD = let before = w.held in omega arith in
       let count = components-drop name sheet in
       let components : components_total (applied edit sheet) ≤ MAX_COMPONENTS = let before = w.components in omega arith in
-      first_outside-none _ _ _ _ _ _ _ _ _ _ _ _ held refl refl w.defaults w.years w.currencies w.securities funds components w.lines w.groups w.exposures
-  outside-remove tables.Line name =
+      first_outside-none _ _ _ _ _ _ _ _ _ _ _ _ held refl refl w.defaults w.years w.currencies w.securities funds components w.liabilities w.groups w.exposures
+  outside-remove tables.Liability name =
       let w = valid.within in
-      let edit : Edit = edits.Remove tables.Line name in
-      let fewer = length-without-le line_name name sheet.lines in
-      let lines : length (without line_name name sheet.lines) ≤ MAX_LINES = let before = w.lines in omega arith in
-      let sooner = greatest-without-le (line_years asof) line_name name sheet.lines in
+      let edit : Edit = edits.Remove tables.Liability name in
+      let fewer = length-without-le liability_name name sheet.liabilities in
+      let liabilities : length (without liability_name name sheet.liabilities) ≤ MAX_LIABILITIES = let before = w.liabilities in omega arith in
+      let sooner = greatest-without-le (liability_years asof) liability_name name sheet.liabilities in
       let years : sheet_years (applied edit sheet) ≤ MAX_YEARS = let before = w.years in omega arith in
-      first_outside-none _ _ _ _ _ _ _ _ _ _ _ _ w.held refl refl w.defaults years w.currencies w.securities w.funds w.components lines w.groups w.exposures
+      first_outside-none _ _ _ _ _ _ _ _ _ _ _ _ w.held refl refl w.defaults years w.currencies w.securities w.funds w.components liabilities w.groups w.exposures
   outside-remove tables.Bank name =
       let w = valid.within in
       let edit : Edit = edits.Remove tables.Bank name in
@@ -433,7 +433,7 @@ module _ (sheet : BalanceSheet) (valid : Valid sheet) where
       let exposures_after : length (without bank_name name sheet.banks) + length sheet.reinsurers ≤ MAX_EXPOSURES = let before = w.exposures in omega arith in
       let sum = sum-without bank_name (λ b. b.cents) name sheet.banks in
       let defaults : defaults_total (applied edit sheet) ≤ MAX_AMOUNT = let before = w.defaults in omega arith in
-      first_outside-none _ _ _ _ _ _ _ _ _ _ _ _ w.held refl refl defaults w.years w.currencies w.securities w.funds w.components w.lines w.groups exposures_after
+      first_outside-none _ _ _ _ _ _ _ _ _ _ _ _ w.held refl refl defaults w.years w.currencies w.securities w.funds w.components w.liabilities w.groups exposures_after
   outside-remove tables.Rein name =
       let w = valid.within in
       let edit : Edit = edits.Remove tables.Rein name in
@@ -441,18 +441,18 @@ module _ (sheet : BalanceSheet) (valid : Valid sheet) where
       let exposures_after : length sheet.banks + length (without rein_name name sheet.reinsurers) ≤ MAX_EXPOSURES = let before = w.exposures in omega arith in
       let sum = sum-without rein_name rein_total name sheet.reinsurers in
       let defaults : defaults_total (applied edit sheet) ≤ MAX_AMOUNT = let before = w.defaults in omega arith in
-      first_outside-none _ _ _ _ _ _ _ _ _ _ _ _ w.held refl refl defaults w.years w.currencies w.securities w.funds w.components w.lines w.groups exposures_after
+      first_outside-none _ _ _ _ _ _ _ _ _ _ _ _ w.held refl refl defaults w.years w.currencies w.securities w.funds w.components w.liabilities w.groups exposures_after
   outside-remove tables.Curve name =
       let w = valid.within in
       let fewer = length-without-le curve_name name sheet.curves in
       let currencies : length (without curve_name name sheet.curves) ≤ MAX_CURRENCIES = let before = w.currencies in omega arith in
-      first_outside-none _ _ _ _ _ _ _ _ _ _ _ _ w.held refl refl w.defaults w.years currencies w.securities w.funds w.components w.lines w.groups w.exposures
+      first_outside-none _ _ _ _ _ _ _ _ _ _ _ _ w.held refl refl w.defaults w.years currencies w.securities w.funds w.components w.liabilities w.groups w.exposures
 
   -- other numbers, of the same reference date
-  outside-numbers : first_outside (held_total sheet) None None (defaults_total sheet) (sheet_years sheet) (length sheet.curves) (length sheet.securities) (length sheet.funds) (components_total sheet) (length sheet.lines) (length sheet.groups) exposures ≡ None
+  outside-numbers : first_outside (held_total sheet) None None (defaults_total sheet) (sheet_years sheet) (length sheet.curves) (length sheet.securities) (length sheet.funds) (components_total sheet) (length sheet.liabilities) (length sheet.groups) exposures ≡ None
   outside-numbers =
       let w = valid.within in
-      first_outside-none _ _ _ _ _ _ _ _ _ _ _ _ w.held refl refl w.defaults w.years w.currencies w.securities w.funds w.components w.lines w.groups w.exposures
+      first_outside-none _ _ _ _ _ _ _ _ _ _ _ _ w.held refl refl w.defaults w.years w.currencies w.securities w.funds w.components w.liabilities w.groups w.exposures
 
   pub outside-quiet : (edit : Edit) → is_quiet edit ≡ true → sheet_outside edit (applied edit sheet) ≡ None
   outside-quiet (edits.Absorb key cents) quiet = outside-absorb key cents

@@ -8,15 +8,15 @@ use Rattle.scr_dates.specs.declared.day.Day.{Day}
 use Rattle.scr_names.specs.Names.{same_name}
 use Rattle.scr_names.specs.Tables.{row_of, has_row, with_row, changed}
 use Rattle.scr_sheet.specs.CashFlows.{total, flows_under, with_flows, no_flows}
-use Rattle.scr_sheet.specs.BalanceSheet.{group_name, position_name, stake_name, line_name, bank_name, rein_name, volumes_of, is_in, held_of, held_total, line_flows_total, volumes_total, defaults_total, components_total}
+use Rattle.scr_sheet.specs.BalanceSheet.{group_name, position_name, stake_name, liability_name, bank_name, rein_name, volumes_of, is_in, held_of, held_total, liability_flows_total, volumes_total, defaults_total, components_total}
 use Rattle.scr_sheet.specs.declared.sheet.BalanceSheet.{BalanceSheet}
 use Rattle.scr_sheet.specs.Records.{applied, dropped, natural, kept_flows, kept_hold, with_volumes}
 use Rattle.scr_sheet.specs.Users.{holder_of, first_row, names_of_holders}
 use Rattle.scr_sheet.specs.Faults.{in_use}
 use Rattle.scr_sheet.specs.Validity.{Valid}
 use Rattle.scr_sheet.specs.Volumes.{volumes_in}
-use Rattle.scr_factors.specs.declared.set.Set.{Set}
-use Rattle.scr_factors.specs.declared.set.Set.TheVariants as sets
+use Rattle.scr_profile.specs.declared.set.Set.{Set}
+use Rattle.scr_profile.specs.declared.set.Set.TheVariants as sets
 use Rattle.scr_sheet.specs.declared.edit.Edit.{Edit}
 use Rattle.scr_sheet.specs.declared.edit.Edit.TheVariants as edits
 use Rattle.scr_sheet.specs.declared.fault.Fault.TheVariants as faults
@@ -29,7 +29,7 @@ use Rattle.scr_sheet.specs.declared.numbers.Regions.{Regions}
 use Rattle.scr_sheet.specs.declared.rows.Bank.{Bank}
 use Rattle.scr_sheet.specs.declared.rows.Class.{Class}
 use Rattle.scr_sheet.specs.declared.rows.Liability.{Liability}
-use Rattle.scr_sheet.specs.declared.rows.LineKind.{LineKind}
+use Rattle.scr_sheet.specs.declared.rows.LiabilityKind.{LiabilityKind}
 use Rattle.scr_sheet.specs.declared.rows.Position.{Position}
 use Rattle.scr_sheet.specs.declared.rows.Rein.{Rein}
 use Rattle.scr_sheet.specs.declared.rows.Stake.{Stake}
@@ -155,7 +155,7 @@ in_one_table sheet valid name =
     passes_or_fails (is_in tables.Security name sheet)
     (λ e. let apart = apart-right (map group_name sheet.groups) _ valid.named_once in
     let after = fresh-after position_name name sheet.securities _ apart e in
-    let banks = All-right _ (map line_name sheet.lines) _ after in
+    let banks = All-right _ (map liability_name sheet.liabilities) _ after in
     let reinsurers = All-right _ (map bank_name sheet.banks) _ banks in
     let funds = All-right _ (map rein_name sheet.reinsurers) _ reinsurers in
     ap (λ t. t && is_in tables.Fund name sheet) e ∙ has_row_from_fresh stake_name name sheet.funds funds)
@@ -268,7 +268,7 @@ held-same (edits.Fund name components) sheet other free = held-fund name compone
 held-same (edits.Remove tables.Security name) sheet other free = held-drop name sheet free
 held-same (edits.Remove tables.Fund name) sheet other free = held-drop_fund name sheet free
 held-same (edits.Remove tables.Group name) sheet other free = refl
-held-same (edits.Remove tables.Line name) sheet other free = refl
+held-same (edits.Remove tables.Liability name) sheet other free = refl
 held-same (edits.Remove tables.Bank name) sheet other free = refl
 held-same (edits.Remove tables.Rein name) sheet other free = refl
 held-same (edits.Remove tables.Curve name) sheet other free = refl
@@ -311,71 +311,71 @@ components-same (edits.Hold name cents) sheet other = components-hold name cents
 components-same (edits.Remove tables.Fund name) sheet other = absurd (cc)
 components-same (edits.Remove tables.Group name) sheet other = refl
 components-same (edits.Remove tables.Security name) sheet other = refl
-components-same (edits.Remove tables.Line name) sheet other = refl
+components-same (edits.Remove tables.Liability name) sheet other = refl
 components-same (edits.Remove tables.Bank name) sheet other = refl
 components-same (edits.Remove tables.Rein name) sheet other = refl
 components-same (edits.Remove tables.Curve name) sheet other = refl
 components-same edit sheet other = refl
 
--- ---- the absolute flows of all lines under a projection
+-- ---- the absolute flows of all liabilities under a projection
 
-abbrev pub moves_line_flows : Edit → Bool
-moves_line_flows (edits.LineFlows line projection flows) = true
-moves_line_flows (edits.Remove tables.Line name) = true
-moves_line_flows (edits.Remove table name) = false
-moves_line_flows edit = false
+abbrev pub moves_liability_flows : Edit → Bool
+moves_liability_flows (edits.LiabilityFlows liability projection flows) = true
+moves_liability_flows (edits.Remove tables.Liability name) = true
+moves_liability_flows (edits.Remove table name) = false
+moves_liability_flows edit = false
 
--- what a line pays and receives under a projection
-abbrev pub line_total : Projection → Liability → ℕ
-line_total projection line = total (flows_under projection line.flows)
+-- what a liability pays and receives under a projection
+abbrev pub liability_total : Projection → Liability → ℕ
+liability_total projection liability = total (flows_under projection liability.flows)
 
-module _ (line : List ℕ) (flows : List (Day × ℤ)) (sheet : BalanceSheet) where
+module _ (liability : List ℕ) (flows : List (Day × ℤ)) (sheet : BalanceSheet) where
   -- under the projection of the record
-  pub line_flows-own : (projection : Projection) (l : Liability) → row_of line_name line sheet.lines ≡ Some l
-      → line_flows_total projection (applied (edits.LineFlows line projection flows) sheet) + line_total projection l ≡ line_flows_total projection sheet + total flows
-  line_flows-own projection l is =
+  pub liability_flows-own : (projection : Projection) (l : Liability) → row_of liability_name liability sheet.liabilities ≡ Some l
+      → liability_flows_total projection (applied (edits.LiabilityFlows liability projection flows) sheet) + liability_total projection l ≡ liability_flows_total projection sheet + total flows
+  liability_flows-own projection l is =
       let change : Liability → Liability = λ m. record m { flows = with_flows projection flows m.flows } in
-      let sum = sum-change line_name (line_total projection) change line sheet.lines l (λ m. refl) is in
-      let new : line_total projection (change l) ≡ total flows = ap total (under-with flows l.flows projection) in
+      let sum = sum-change liability_name (liability_total projection) change liability sheet.liabilities l (λ m. refl) is in
+      let new : liability_total projection (change l) ≡ total flows = ap total (under-with flows l.flows projection) in
       omega arith
 
   -- and under any other
-  pub line_flows-other : (p q : Projection) → (p ≡ q) ⊎ (line_flows_total q (applied (edits.LineFlows line p flows) sheet) ≡ line_flows_total q sheet)
-  line_flows-other p q =
+  pub liability_flows-other : (p q : Projection) → (p ≡ q) ⊎ (liability_flows_total q (applied (edits.LiabilityFlows liability p flows) sheet) ≡ liability_flows_total q sheet)
+  liability_flows-other p q =
       elim (one_or_other p q) [
         | inl e ↦ inl e
-        | inr e ↦ inr (sum-changed line_name (line_total q) (λ l. record l { flows = with_flows p flows l.flows }) line sheet.lines (λ l. refl) (λ l. ap total (e flows l.flows)))
+        | inr e ↦ inr (sum-changed liability_name (liability_total q) (λ l. record l { flows = with_flows p flows l.flows }) liability sheet.liabilities (λ l. refl) (λ l. ap total (e flows l.flows)))
       ]
 
-pub line_flows-part : (projection : Projection) (line : List ℕ) (sheet : BalanceSheet) (l : Liability) → row_of line_name line sheet.lines ≡ Some l → line_total projection l ≤ line_flows_total projection sheet
-line_flows-part projection line sheet l is = row-le line_name (line_total projection) line sheet.lines l is
+pub liability_flows-part : (projection : Projection) (liability : List ℕ) (sheet : BalanceSheet) (l : Liability) → row_of liability_name liability sheet.liabilities ≡ Some l → liability_total projection l ≤ liability_flows_total projection sheet
+liability_flows-part projection liability sheet l is = row-le liability_name (liability_total projection) liability sheet.liabilities l is
 
-pub line_flows-drop : (projection : Projection) (line : List ℕ) (sheet : BalanceSheet)
-    → line_flows_total projection (applied (edits.Remove tables.Line line) sheet) + option_map_or (line_total projection) (row_of line_name line sheet.lines) 0 ≡ line_flows_total projection sheet
-line_flows-drop projection line sheet = sum-without line_name (line_total projection) line sheet.lines
+pub liability_flows-drop : (projection : Projection) (liability : List ℕ) (sheet : BalanceSheet)
+    → liability_flows_total projection (applied (edits.Remove tables.Liability liability) sheet) + option_map_or (liability_total projection) (row_of liability_name liability sheet.liabilities) 0 ≡ liability_flows_total projection sheet
+liability_flows-drop projection liability sheet = sum-without liability_name (liability_total projection) liability sheet.liabilities
 
-line_flows-line : (projection : Projection) (name : List ℕ) (kind : LineKind) (currency : List ℕ) (sheet : BalanceSheet) → line_flows_total projection (applied (edits.Line name kind currency) sheet) ≡ line_flows_total projection sheet
-line_flows-line projection name kind currency sheet =
-    let new : Liability = record { name = name; kind = kind; currency = currency; flows = option_map_or (λ l. l.flows) (row_of line_name name sheet.lines) no_flows } in
-    let sum = sum-with_row line_name (line_total projection) new sheet.lines in
-    let same : line_total projection new ≡ option_map_or (line_total projection) (row_of line_name name sheet.lines) 0 = by (row_of line_name name sheet.lines) in
+liability_flows-liability : (projection : Projection) (name : List ℕ) (kind : LiabilityKind) (currency : List ℕ) (sheet : BalanceSheet) → liability_flows_total projection (applied (edits.Liability name kind currency) sheet) ≡ liability_flows_total projection sheet
+liability_flows-liability projection name kind currency sheet =
+    let new : Liability = record { name = name; kind = kind; currency = currency; flows = option_map_or (λ l. l.flows) (row_of liability_name name sheet.liabilities) no_flows } in
+    let sum = sum-with_row liability_name (liability_total projection) new sheet.liabilities in
+    let same : liability_total projection new ≡ option_map_or (liability_total projection) (row_of liability_name name sheet.liabilities) 0 = by (row_of liability_name name sheet.liabilities) in
     omega arith
   where
-    by : (found : Option Liability) → total (flows_under projection (option_map_or (λ l. l.flows) found no_flows)) ≡ option_map_or (line_total projection) found 0
+    by : (found : Option Liability) → total (flows_under projection (option_map_or (λ l. l.flows) found no_flows)) ≡ option_map_or (liability_total projection) found 0
     by None = ap total (under-no_flows projection)
     by (Some l) = refl
 
-pub line_flows-same : (projection : Projection) (edit : Edit) (sheet : BalanceSheet) → moves_line_flows edit ≡ false → line_flows_total projection (applied edit sheet) ≡ line_flows_total projection sheet
-line_flows-same projection (edits.LineFlows line p flows) sheet other = absurd (cc)
-line_flows-same projection (edits.Line name kind currency) sheet other = line_flows-line projection name kind currency sheet
-line_flows-same projection (edits.Remove tables.Line name) sheet other = absurd (cc)
-line_flows-same projection (edits.Remove tables.Group name) sheet other = refl
-line_flows-same projection (edits.Remove tables.Security name) sheet other = refl
-line_flows-same projection (edits.Remove tables.Fund name) sheet other = refl
-line_flows-same projection (edits.Remove tables.Bank name) sheet other = refl
-line_flows-same projection (edits.Remove tables.Rein name) sheet other = refl
-line_flows-same projection (edits.Remove tables.Curve name) sheet other = refl
-line_flows-same projection edit sheet other = refl
+pub liability_flows-same : (projection : Projection) (edit : Edit) (sheet : BalanceSheet) → moves_liability_flows edit ≡ false → liability_flows_total projection (applied edit sheet) ≡ liability_flows_total projection sheet
+liability_flows-same projection (edits.LiabilityFlows liability p flows) sheet other = absurd (cc)
+liability_flows-same projection (edits.Liability name kind currency) sheet other = liability_flows-liability projection name kind currency sheet
+liability_flows-same projection (edits.Remove tables.Liability name) sheet other = absurd (cc)
+liability_flows-same projection (edits.Remove tables.Group name) sheet other = refl
+liability_flows-same projection (edits.Remove tables.Security name) sheet other = refl
+liability_flows-same projection (edits.Remove tables.Fund name) sheet other = refl
+liability_flows-same projection (edits.Remove tables.Bank name) sheet other = refl
+liability_flows-same projection (edits.Remove tables.Rein name) sheet other = refl
+liability_flows-same projection (edits.Remove tables.Curve name) sheet other = refl
+liability_flows-same projection edit sheet other = refl
 
 -- ---- the volumes of a set
 
@@ -450,7 +450,7 @@ volumes-same set (edits.Remove table name) sheet other = ap (λ (n : Numbers). s
     numbers-dropped tables.Group name sheet = refl
     numbers-dropped tables.Security name sheet = refl
     numbers-dropped tables.Fund name sheet = refl
-    numbers-dropped tables.Line name sheet = refl
+    numbers-dropped tables.Liability name sheet = refl
     numbers-dropped tables.Bank name sheet = refl
     numbers-dropped tables.Rein name sheet = refl
     numbers-dropped tables.Curve name sheet = refl
@@ -509,6 +509,6 @@ defaults-same (edits.Remove tables.Rein name) sheet other = absurd (cc)
 defaults-same (edits.Remove tables.Group name) sheet other = refl
 defaults-same (edits.Remove tables.Security name) sheet other = refl
 defaults-same (edits.Remove tables.Fund name) sheet other = refl
-defaults-same (edits.Remove tables.Line name) sheet other = refl
+defaults-same (edits.Remove tables.Liability name) sheet other = refl
 defaults-same (edits.Remove tables.Curve name) sheet other = refl
 defaults-same edit sheet other = refl

@@ -5,7 +5,7 @@ use Rattle.std.specs.Cmp.Lexicographic.{slice_cmp}
 use Rattle.std.specs.List.{fold, filter, list_any, AllByRecursion}
 use Rattle.std.specs.Option.{option_map}
 use Rattle.scr_names.specs.Names.{same_name, earlier}
-use Rattle.scr_sheet.specs.BalanceSheet.{position_name, line_name, bank_name, rein_name, stake_name}
+use Rattle.scr_sheet.specs.BalanceSheet.{position_name, liability_name, bank_name, rein_name, stake_name}
 use Rattle.scr_sheet.specs.declared.sheet.BalanceSheet.{BalanceSheet}
 use Rattle.scr_sheet.specs.Users.{is_of_group, names_of_group, names_in_currency, has_component, names_of_holders, holder_of, first_row, user_of}
 use Rattle.scr_sheet.specs.declared.fault.User.TheVariants as users
@@ -57,11 +57,11 @@ no_member name sheet h =
       reinsurers = filter_none (λ r. same_name name r.group) rein_name sheet.reinsurers all.1;
     }
 
--- it is not the reporting currency, and no security or line is in it
+-- it is not the reporting currency, and no security or liability is in it
 pub record IsIdle (currency : List ℕ) (sheet : BalanceSheet) : Type 0 where
   pub reporting : same_name currency sheet.numbers.currency ≡ false
   pub securities : AllByRecursion (λ p. same_name currency p.security.currency ≡ false) sheet.securities
-  pub lines : AllByRecursion (λ l. same_name currency l.currency ≡ false) sheet.lines
+  pub liabilities : AllByRecursion (λ l. same_name currency l.currency ≡ false) sheet.liabilities
 
 unless_asof : (t : Bool) → (if t then Some users.Asof else None) ≡ None → t ≡ false
 unless_asof true h = absurd (cc)
@@ -75,7 +75,7 @@ idle currency sheet h =
     record {
       reporting = unless_asof _ reporting.0;
       securities = filter_none (λ p. same_name currency p.security.currency) position_name sheet.securities all.0;
-      lines = filter_none (λ l. same_name currency l.currency) line_name sheet.lines all.1;
+      liabilities = filter_none (λ l. same_name currency l.currency) liability_name sheet.liabilities all.1;
     }
 
 pub none_passes : {X : Type 0} (test : X → Bool) (xs : List X) → list_any test xs ≡ false → AllByRecursion (λ x. test x ≡ false) xs

@@ -4,8 +4,8 @@ use Rattle.std.specs.Prelude.{ℕ, ℤ, pos, ◌+◌, ◌++◌, ◌||◌, Bool, 
 use Rattle.std.specs.Option.{option_map_or}
 use Rattle.scr_names.specs.Tables.{row_of, has_row}
 use Rattle.scr_sheet.specs.CashFlows.{total, flows_under, greatest_years, all_projections}
-use Rattle.scr_factors.specs.declared.set.Set.{Set}
-use Rattle.scr_factors.specs.declared.set.Set.TheVariants as sets
+use Rattle.scr_profile.specs.declared.set.Set.{Set}
+use Rattle.scr_profile.specs.declared.set.Set.TheVariants as sets
 use Rattle.scr_sheet.specs.declared.keys.Table.{Table}
 use Rattle.scr_sheet.specs.declared.keys.Table.TheVariants as tables
 use Rattle.scr_sheet.specs.declared.keys.Projection.{Projection}
@@ -57,7 +57,7 @@ opening = record {
   groups = [];
   securities = [];
   funds = [];
-  lines = [];
+  liabilities = [];
   banks = [];
   reinsurers = [];
   curves = record { currency = euro; rates = pos 0 ∷ []; absorb_up = 0; absorb_down = 0 } ∷ [];
@@ -75,8 +75,8 @@ position_name position = position.security.name
 abbrev pub stake_name : Stake → List ℕ
 stake_name stake = stake.fund.name
 
-abbrev pub line_name : Liability → List ℕ
-line_name line = line.name
+abbrev pub liability_name : Liability → List ℕ
+liability_name liability = liability.name
 
 abbrev pub bank_name : Bank → List ℕ
 bank_name bank = bank.name
@@ -105,7 +105,7 @@ abbrev pub is_in : Table → List ℕ → BalanceSheet → Bool
 is_in tables.Group name sheet = has_row group_name name sheet.groups
 is_in tables.Security name sheet = has_row position_name name sheet.securities
 is_in tables.Fund name sheet = has_row stake_name name sheet.funds
-is_in tables.Line name sheet = has_row line_name name sheet.lines
+is_in tables.Liability name sheet = has_row liability_name name sheet.liabilities
 is_in tables.Bank name sheet = has_row bank_name name sheet.banks
 is_in tables.Rein name sheet = has_row rein_name name sheet.reinsurers
 is_in tables.Curve name sheet = has_row curve_name name sheet.curves
@@ -113,13 +113,13 @@ is_in tables.Curve name sheet = has_row curve_name name sheet.curves
 -- the name stands in one of the tables that share one set of names; currencies are apart
 abbrev pub is_named : List ℕ → BalanceSheet → Bool
 is_named name sheet =
-    is_in tables.Group name sheet || is_in tables.Security name sheet || is_in tables.Line name sheet
+    is_in tables.Group name sheet || is_in tables.Security name sheet || is_in tables.Liability name sheet
     || is_in tables.Bank name sheet || is_in tables.Rein name sheet || is_in tables.Fund name sheet
 
 -- the names of these tables
 abbrev pub names_of : BalanceSheet → List (List ℕ)
 names_of sheet =
-    map group_name sheet.groups ++ (map position_name sheet.securities ++ (map line_name sheet.lines
+    map group_name sheet.groups ++ (map position_name sheet.securities ++ (map liability_name sheet.liabilities
     ++ (map bank_name sheet.banks ++ (map rein_name sheet.reinsurers ++ map stake_name sheet.funds))))
 
 -- ---- sums, in cents
@@ -128,9 +128,9 @@ names_of sheet =
 abbrev pub held_total : BalanceSheet → ℕ
 held_total sheet = sum_by (λ p. p.held) sheet.securities + sum_by (λ s. s.held) sheet.funds
 
--- the absolute flows of all lines under a projection
-abbrev pub line_flows_total : Projection → BalanceSheet → ℕ
-line_flows_total projection sheet = sum_by (λ l. total (flows_under projection l.flows)) sheet.lines
+-- the absolute flows of all liabilities under a projection
+abbrev pub liability_flows_total : Projection → BalanceSheet → ℕ
+liability_flows_total projection sheet = sum_by (λ l. total (flows_under projection l.flows)) sheet.liabilities
 
 -- the segments of a set, each with its volumes in each region
 abbrev pub volumes_of : Set → Numbers → List Regions
@@ -164,10 +164,10 @@ greatest measure (row ∷ rows) = max (measure row) (greatest measure rows)
 abbrev pub security_years : ℤ → Position → ℕ
 security_years asof position = greatest_years asof position.security.flows
 
-abbrev pub line_years : ℤ → Liability → ℕ
-line_years asof line = greatest (λ projection. greatest_years asof (flows_under projection line.flows)) all_projections
+abbrev pub liability_years : ℤ → Liability → ℕ
+liability_years asof liability = greatest (λ projection. greatest_years asof (flows_under projection liability.flows)) all_projections
 
 abbrev pub sheet_years : BalanceSheet → ℕ
 sheet_years sheet =
     let asof = sheet.numbers.asof.number in
-    max (greatest (security_years asof) sheet.securities) (greatest (line_years asof) sheet.lines)
+    max (greatest (security_years asof) sheet.securities) (greatest (liability_years asof) sheet.liabilities)

@@ -1,5 +1,6 @@
 -- Payments (this project's own): each a day and an amount.
-use Rattle.std.specs.Prelude.{ℕ, ℤ, max, Bool, ◌||◌, true, false, List, [], ◌∷◌, sum_by, unsigned_abs}
+pub use Rattle.scr_sheet.specs.Payments.{total, last_day}
+use Rattle.std.specs.Prelude.{ℕ, ℤ, max, Bool, ◌||◌, true, false, List, [], ◌∷◌}
 use Rattle.std.specs.List.{list_all}
 use Rattle.scr_dates.specs.declared.day.Day.{Day}
 use Rattle.scr_dates.specs.declared.term.Maturity.{Maturity}
@@ -7,13 +8,9 @@ use Rattle.scr_dates.specs.declared.term.Maturity.TheVariants as maturities
 use Rattle.scr_dates.specs.Years.{maturity_of}
 use Rattle.scr_sheet.specs.declared.keys.Projection.{Projection}
 use Rattle.scr_sheet.specs.declared.keys.Projection.TheVariants as projections
-use Rattle.scr_sheet.specs.declared.rows.LineKind.{LineKind}
-use Rattle.scr_sheet.specs.declared.rows.LineKind.TheVariants as kinds
-use Rattle.scr_sheet.specs.declared.rows.LineFlows.{LineFlows}
-
--- the absolute amounts, summed
-abbrev pub total : List (Day × ℤ) → ℕ
-total flows = sum_by (λ flow. unsigned_abs flow.1) flows
+use Rattle.scr_sheet.specs.declared.rows.LiabilityKind.{LiabilityKind}
+use Rattle.scr_sheet.specs.declared.rows.LiabilityKind.TheVariants as kinds
+use Rattle.scr_sheet.specs.declared.rows.LiabilityFlows.{LiabilityFlows}
 
 -- the years of a maturity, none for a payment that is past
 abbrev pub years_of : Maturity → ℕ
@@ -26,10 +23,10 @@ abbrev pub greatest_years : ℤ → List (Day × ℤ) → ℕ
 greatest_years asof [] = 0
 greatest_years asof (flow ∷ flows) = max (years_of (maturity_of asof flow.0.number)) (greatest_years asof flows)
 
--- ---- the projections of a line
+-- ---- the projections of a liability
 
--- a line's flows under a projection
-abbrev pub flows_under : Projection → LineFlows → List (Day × ℤ)
+-- a liability's flows under a projection
+abbrev pub flows_under : Projection → LiabilityFlows → List (Day × ℤ)
 flows_under projections.Base flows = flows.base
 flows_under projections.Mortality flows = flows.mortality
 flows_under projections.Longevity flows = flows.longevity
@@ -41,8 +38,8 @@ flows_under projections.LapseDown flows = flows.lapse_down
 flows_under projections.LapseMass flows = flows.lapse_mass
 flows_under projections.Catastrophe flows = flows.catastrophe
 
--- a line's flows, with others under one projection
-abbrev pub with_flows : Projection → List (Day × ℤ) → LineFlows → LineFlows
+-- a liability's flows, with others under one projection
+abbrev pub with_flows : Projection → List (Day × ℤ) → LiabilityFlows → LiabilityFlows
 with_flows projections.Base new flows = record flows { base = new }
 with_flows projections.Mortality new flows = record flows { mortality = new }
 with_flows projections.Longevity new flows = record flows { longevity = new }
@@ -54,8 +51,8 @@ with_flows projections.LapseDown new flows = record flows { lapse_down = new }
 with_flows projections.LapseMass new flows = record flows { lapse_mass = new }
 with_flows projections.Catastrophe new flows = record flows { catastrophe = new }
 
--- a line for which nothing is handed in
-abbrev pub no_flows : LineFlows
+-- a liability for which nothing is handed in
+abbrev pub no_flows : LiabilityFlows
 no_flows = record { base = []; mortality = []; longevity = []; disability = []; expense = []; revision = []; lapse_up = []; lapse_down = []; lapse_mass = []; catastrophe = [] }
 
 -- every projection
@@ -67,7 +64,7 @@ all_projections =
 -- The projections of a kind: the best estimate for each, the stresses of mortality, longevity, disability, expense,
 -- revision and lapse for life (Delegated Regulation (EU) 2015/35, Articles 137 to 142) and for health similar to life
 -- (Articles 152 to 159), and the catastrophe for life alone (Article 143).
-abbrev pub has_projection : LineKind → Projection → Bool
+abbrev pub has_projection : LiabilityKind → Projection → Bool
 has_projection kind projections.Base = true
 has_projection kinds.Life projection = true
 has_projection kinds.Health projections.Catastrophe = false
@@ -79,5 +76,5 @@ is_empty [] = true
 is_empty (flow ∷ flows) = false
 
 -- there are flows under no projection that the kind lacks
-abbrev pub suits : LineKind → LineFlows → Bool
+abbrev pub suits : LiabilityKind → LiabilityFlows → Bool
 suits kind flows = list_all (λ projection. has_projection kind projection || is_empty (flows_under projection flows)) all_projections

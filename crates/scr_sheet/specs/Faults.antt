@@ -7,7 +7,7 @@ use Rattle.scr_funds.specs.Paths.{path_within}
 use Rattle.scr_names.specs.Names.{same_name}
 use Rattle.scr_names.specs.Tables.{row_of}
 use Rattle.scr_sheet.specs.CashFlows.{total, has_projection, suits}
-use Rattle.scr_sheet.specs.BalanceSheet.{line_name, is_in, is_named, held_total, line_flows_total, volumes_total, defaults_total, components_total, components_of, sheet_years}
+use Rattle.scr_sheet.specs.BalanceSheet.{liability_name, is_in, is_named, held_total, liability_flows_total, volumes_total, defaults_total, components_total, components_of, sheet_years}
 use Rattle.scr_sheet.specs.declared.sheet.BalanceSheet.{BalanceSheet}
 use Rattle.scr_sheet.specs.Records.{applied, with_fund}
 use Rattle.scr_sheet.specs.Users.{user_of}
@@ -23,7 +23,7 @@ use Rattle.scr_sheet.specs.declared.keys.AbsorbKey.TheVariants as absorb
 use Rattle.scr_sheet.specs.declared.keys.Projection.{Projection}
 use Rattle.scr_sheet.specs.declared.keys.Table.{Table}
 use Rattle.scr_sheet.specs.declared.keys.Table.TheVariants as tables
-use Rattle.scr_sheet.specs.declared.limits.TheConstants.{MIN_RATE, MAX_RATE, MAX_RATES, MAX_DURATION, MAX_FLOWS, MAX_PROMISED, MAX_AMOUNT, MAX_SYM, MAX_TAX, MAX_HELD, MAX_LINE_FLOWS, MAX_YEARS, MAX_CURRENCIES, MAX_SECURITIES, MAX_FUNDS, MAX_COMPONENTS, MAX_FUND_COMPONENTS, MIN_WEIGHT, MAX_WEIGHT, MAX_LINES, MAX_GROUPS, MAX_EXPOSURES}
+use Rattle.scr_profile.specs.declared.limits.TheConstants.{MIN_RATE, MAX_RATE, MAX_RATES, MAX_DURATION, MAX_FLOWS, MAX_PROMISED, MAX_AMOUNT, MAX_SYM, MAX_TAX, MAX_HELD, MAX_LIABILITY_FLOWS, MAX_YEARS, MAX_CURRENCIES, MAX_SECURITIES, MAX_FUNDS, MAX_COMPONENTS, MAX_FUND_COMPONENTS, MIN_WEIGHT, MAX_WEIGHT, MAX_LIABILITIES, MAX_GROUPS, MAX_EXPOSURES}
 
 -- the first fault of a list's members
 abbrev pub first_fault : {A : Type 0} → (A → Option Fault) → List A → Option Fault
@@ -55,7 +55,7 @@ abbrev pub list_fault : Edit → Option Fault
 list_fault (edits.Curve currency rates) = rates_fault rates
 list_fault (edits.Flows security flows) = too_long 2 2 MAX_FLOWS (length flows)
 list_fault (edits.Fund name components) = components_fault 2 MAX_FUND_COMPONENTS [] components
-list_fault (edits.LineFlows line projection flows) = too_long 3 2 MAX_FLOWS (length flows)
+list_fault (edits.LiabilityFlows liability projection flows) = too_long 3 2 MAX_FLOWS (length flows)
 list_fault edit = None
 
 -- ---- a name must exist and does not
@@ -90,15 +90,15 @@ unknown_name (edits.Security name class group currency duration) sheet = option_
 unknown_name (edits.Flows security flows) sheet = unknown_row security sheet
 unknown_name (edits.Fund name components) sheet = first_fault (unknown_component name sheet) components
 unknown_name (edits.Hold name cents) sheet = unknown_row name sheet
-unknown_name (edits.Line name kind currency) sheet = unknown_currency currency sheet
-unknown_name (edits.LineFlows line projection flows) sheet = unknown_row line sheet
+unknown_name (edits.Liability name kind currency) sheet = unknown_currency currency sheet
+unknown_name (edits.LiabilityFlows liability projection flows) sheet = unknown_row liability sheet
 unknown_name (edits.Absorb key cents) sheet = unknown_in_key key sheet
 unknown_name (edits.Rein name group recoverables mitigation collateral) sheet = unknown_row group sheet
 unknown_name (edits.Bank name group cents) sheet = unknown_row group sheet
 unknown_name (edits.Remove table name) sheet = unknown_in_table table name sheet
 unknown_name edit sheet = None
 
--- ---- a name stands in another table than its field allows, or a line's kind lacks the projection
+-- ---- a name stands in another table than its field allows, or a liability's kind lacks the projection
 
 abbrev pub misplaced : Table → List ℕ → BalanceSheet → Option Fault
 misplaced table name sheet = if is_named name sheet && not (is_in table name sheet) then Some (faults.WrongKind name) else None
@@ -123,7 +123,7 @@ misplaced_drop table name sheet = misplaced table name sheet
 
 abbrev pub lacking : Projection → List ℕ → BalanceSheet → Option Fault
 lacking projection name sheet =
-    if option_map_or (λ l. has_projection l.kind projection) (row_of line_name name sheet.lines) true then None else Some (faults.WrongKind name)
+    if option_map_or (λ l. has_projection l.kind projection) (row_of liability_name name sheet.liabilities) true then None else Some (faults.WrongKind name)
 
 abbrev pub wrong_kind : Edit → BalanceSheet → Option Fault
 wrong_kind (edits.Group name kind step) sheet = misplaced tables.Group name sheet
@@ -131,18 +131,18 @@ wrong_kind (edits.Security name class group currency duration) sheet = option_or
 wrong_kind (edits.Flows security flows) sheet = misplaced tables.Security security sheet
 wrong_kind (edits.Fund name components) sheet = option_or (misplaced tables.Fund name sheet) (first_fault (misplaced_component name sheet) components)
 wrong_kind (edits.Hold name cents) sheet = misplaced_holding name sheet
-wrong_kind (edits.Line name kind currency) sheet = misplaced tables.Line name sheet
-wrong_kind (edits.LineFlows line projection flows) sheet = option_or (misplaced tables.Line line sheet) (lacking projection line sheet)
+wrong_kind (edits.Liability name kind currency) sheet = misplaced tables.Liability name sheet
+wrong_kind (edits.LiabilityFlows liability projection flows) sheet = option_or (misplaced tables.Liability liability sheet) (lacking projection liability sheet)
 wrong_kind (edits.Rein name group recoverables mitigation collateral) sheet = option_or (misplaced tables.Rein name sheet) (misplaced tables.Group group sheet)
 wrong_kind (edits.Bank name group cents) sheet = option_or (misplaced tables.Bank name sheet) (misplaced tables.Group group sheet)
 wrong_kind (edits.Remove table name) sheet = misplaced_drop table name sheet
 wrong_kind edit sheet = None
 
--- ---- a row is used that would be dropped, or flows stand under a projection that the line's new kind lacks
+-- ---- a row is used that would be dropped, or flows stand under a projection that the liability's new kind lacks
 
 abbrev pub in_use : Edit → BalanceSheet → Option Fault
-in_use (edits.Line name kind currency) sheet =
-    if option_map_or (λ l. suits kind l.flows) (row_of line_name name sheet.lines) true then None else Some (faults.InUse name users.Lflow)
+in_use (edits.Liability name kind currency) sheet =
+    if option_map_or (λ l. suits kind l.flows) (row_of liability_name name sheet.liabilities) true then None else Some (faults.InUse name users.Lflow)
 in_use (edits.Remove table name) sheet = option_map (λ user. faults.InUse name user) (user_of table name sheet)
 in_use edit sheet = None
 
@@ -206,10 +206,10 @@ fields_outside (edits.Fdb cents) = outside_amounts (cents ∷ [])
 fields_outside (edits.Intangible cents) = outside_amounts (cents ∷ [])
 fields_outside edit = None
 
--- for the projection of a record of flows, the absolute flows of all lines
-abbrev pub line_flows_outside : Edit → BalanceSheet → Option Fault
-line_flows_outside (edits.LineFlows line projection flows) after = above quantities.LineFlows (line_flows_total projection after) MAX_LINE_FLOWS
-line_flows_outside edit after = None
+-- for the projection of a record of flows, the absolute flows of all liabilities
+abbrev pub liability_flows_outside : Edit → BalanceSheet → Option Fault
+liability_flows_outside (edits.LiabilityFlows liability projection flows) after = above quantities.LiabilityFlows (liability_flows_total projection after) MAX_LIABILITY_FLOWS
+liability_flows_outside edit after = None
 
 -- for the set of a record of volumes, all its volumes
 abbrev pub volumes_outside : Edit → BalanceSheet → Option Fault
@@ -220,7 +220,7 @@ volumes_outside edit after = None
 abbrev pub sheet_outside : Edit → BalanceSheet → Option Fault
 sheet_outside edit after =
     option_or (above quantities.Held (held_total after) MAX_HELD)
-    (option_or (line_flows_outside edit after)
+    (option_or (liability_flows_outside edit after)
     (option_or (volumes_outside edit after)
     (option_or (above quantities.Defaults (defaults_total after) MAX_AMOUNT)
     (option_or (above quantities.Years (sheet_years after) MAX_YEARS)
@@ -228,7 +228,7 @@ sheet_outside edit after =
     (option_or (above quantities.Securities (length after.securities) MAX_SECURITIES)
     (option_or (above quantities.Funds (length after.funds) MAX_FUNDS)
     (option_or (above quantities.Components (components_total after) MAX_COMPONENTS)
-    (option_or (above quantities.Lines (length after.lines) MAX_LINES)
+    (option_or (above quantities.Liabilities (length after.liabilities) MAX_LIABILITIES)
     (option_or (above quantities.Groups (length after.groups) MAX_GROUPS)
     (above quantities.Exposures (length after.banks + length after.reinsurers) MAX_EXPOSURES)))))))))))
 

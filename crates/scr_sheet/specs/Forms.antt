@@ -6,7 +6,7 @@ use Rattle.scr_dates.specs.Civil.{IsDay}
 use Rattle.scr_names.specs.Names.{is_name, is_currency}
 use Rattle.scr_sheet.specs.declared.edit.Edit.{Edit}
 use Rattle.scr_sheet.specs.declared.edit.Edit.TheVariants as edits
-use Rattle.scr_factors.specs.Values.{segments}
+use Rattle.scr_profile.specs.Segments.{segments}
 use Rattle.scr_sheet.specs.declared.keys.AbsorbKey.{AbsorbKey}
 use Rattle.scr_sheet.specs.declared.keys.AbsorbKey.TheVariants as absorb
 
@@ -56,8 +56,8 @@ Formed (edits.Security name class group currency duration) = IsName name × IsNa
 Formed (edits.Flows security flows) = IsName security × AreFlows flows
 Formed (edits.Fund name components) = IsName name × AreComponents components
 Formed (edits.Hold name cents) = IsName name × IsNumber cents
-Formed (edits.Line name kind currency) = IsName name × IsCurrency currency
-Formed (edits.LineFlows line projection flows) = IsName line × AreFlows flows
+Formed (edits.Liability name kind currency) = IsName name × IsCurrency currency
+Formed (edits.LiabilityFlows liability projection flows) = IsName liability × AreFlows flows
 Formed (edits.Absorb key cents) = IsAbsorbKey key × IsNumber cents
 Formed (edits.Segment set number region premium reserve) = (1 ≤ number) × (number ≤ segments set) × (1 ≤ region) × (region ≤ 18) × IsNumber premium × IsNumber reserve
 Formed (edits.Cat key cents) = IsNumber cents

@@ -2,7 +2,7 @@
 use Rattle.std.specs.Prelude.{ℕ, ℤ, ◌≤◌, List, length, map}
 use Rattle.std.specs.List.{IsDistinct}
 use Rattle.scr_names.specs.Names.{same_name}
-use Rattle.scr_sheet.specs.declared.limits.TheConstants.{MAX_FUND_COMPONENTS}
+use Rattle.scr_profile.specs.declared.limits.TheConstants.{MAX_FUND_COMPONENTS}
 
 -- no two have one name, and they are 1,000 at most
 abbrev pub AreOfOneFund : List (List ℕ × ℤ) → Type 0

@@ -1,3 +1,4 @@
+pub mod Payments
 pub mod CashFlows
 pub mod BalanceSheet
 pub mod Records
@@ -10,3 +11,4 @@ pub mod Volumes
 pub mod Absorptions
 pub mod Totals
 pub mod Verbs
+pub mod Earlier

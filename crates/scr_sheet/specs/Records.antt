@@ -5,12 +5,12 @@ use Rattle.std.specs.Option.{option_map_or}
 use Rattle.scr_dates.specs.declared.day.Day.{Day}
 use Rattle.scr_names.specs.Tables.{row_of, with_row, without, changed}
 use Rattle.scr_sheet.specs.CashFlows.{with_flows, no_flows}
-use Rattle.scr_sheet.specs.BalanceSheet.{group_name, position_name, line_name, bank_name, rein_name, curve_name, stake_name}
+use Rattle.scr_sheet.specs.BalanceSheet.{group_name, position_name, liability_name, bank_name, rein_name, curve_name, stake_name}
 use Rattle.scr_sheet.specs.declared.sheet.BalanceSheet.{BalanceSheet}
 use Rattle.scr_sheet.specs.declared.edit.Edit.{Edit}
 use Rattle.scr_sheet.specs.declared.edit.Edit.TheVariants as edits
-use Rattle.scr_factors.specs.declared.set.Set.{Set}
-use Rattle.scr_factors.specs.declared.set.Set.TheVariants as sets
+use Rattle.scr_profile.specs.declared.set.Set.{Set}
+use Rattle.scr_profile.specs.declared.set.Set.TheVariants as sets
 use Rattle.scr_sheet.specs.declared.keys.Table.{Table}
 use Rattle.scr_sheet.specs.declared.keys.Table.TheVariants as tables
 use Rattle.scr_sheet.specs.declared.keys.AbsorbKey.{AbsorbKey}
@@ -136,13 +136,13 @@ abbrev pub dropped : Table → List ℕ → BalanceSheet → BalanceSheet
 dropped tables.Group name sheet = record sheet { groups = without group_name name sheet.groups }
 dropped tables.Security name sheet = record sheet { securities = without position_name name sheet.securities }
 dropped tables.Fund name sheet = record sheet { funds = without stake_name name sheet.funds }
-dropped tables.Line name sheet = record sheet { lines = without line_name name sheet.lines }
+dropped tables.Liability name sheet = record sheet { liabilities = without liability_name name sheet.liabilities }
 dropped tables.Bank name sheet = record sheet { banks = without bank_name name sheet.banks }
 dropped tables.Rein name sheet = record sheet { reinsurers = without rein_name name sheet.reinsurers }
 dropped tables.Curve name sheet = record sheet { curves = without curve_name name sheet.curves }
 
 -- A row is made, last in its table, or replaced in its place. A replaced security keeps its flows and what is held of
--- it, a replaced fund what is held of it, a replaced line its flows, a replaced curve its two absorptions.
+-- it, a replaced fund what is held of it, a replaced liability its flows, a replaced curve its two absorptions.
 abbrev pub applied : Edit → BalanceSheet → BalanceSheet
 applied (edits.Asof date currency) sheet = record sheet { numbers = record sheet.numbers { asof = date; currency = currency } }
 applied (edits.Curve currency rates) sheet =
@@ -164,16 +164,16 @@ applied (edits.Hold name cents) sheet =
       securities = changed position_name (λ p. record p { held = natural cents }) name sheet.securities;
       funds = changed stake_name (λ s. record s { held = natural cents }) name sheet.funds;
     }
-applied (edits.Line name kind currency) sheet =
+applied (edits.Liability name kind currency) sheet =
     record sheet {
-      lines = with_row line_name (record {
+      liabilities = with_row liability_name (record {
         name = name;
         kind = kind;
         currency = currency;
-        flows = option_map_or (λ l. l.flows) (row_of line_name name sheet.lines) no_flows;
-      }) sheet.lines;
+        flows = option_map_or (λ l. l.flows) (row_of liability_name name sheet.liabilities) no_flows;
+      }) sheet.liabilities;
     }
-applied (edits.LineFlows line projection flows) sheet = record sheet { lines = changed line_name (λ l. record l { flows = with_flows projection flows l.flows }) line sheet.lines }
+applied (edits.LiabilityFlows liability projection flows) sheet = record sheet { liabilities = changed liability_name (λ l. record l { flows = with_flows projection flows l.flows }) liability sheet.liabilities }
 applied (edits.Absorb key cents) sheet =
     record sheet {
       curves = with_absorb key (natural cents) sheet.curves;

@@ -1,10 +1,10 @@
--- What uses a row that a record would drop, or a line whose kind it would change (this project's own).
+-- What uses a row that a record would drop, or a liability whose kind it would change (this project's own).
 use Rattle.std.specs.Prelude.{ℕ, ◌++◌, ◌==◌, Bool, false, List, Option, Some, None, if◌then◌else◌, map, filter}
 use Rattle.std.specs.List.{list_any}
 use Rattle.std.specs.Option.{option_or, option_map, option_map_or}
 use Rattle.scr_names.specs.Names.{same_name, first_in_order}
 use Rattle.scr_names.specs.Tables.{row_of}
-use Rattle.scr_sheet.specs.BalanceSheet.{position_name, line_name, bank_name, rein_name, curve_name, stake_name, held_of}
+use Rattle.scr_sheet.specs.BalanceSheet.{position_name, liability_name, bank_name, rein_name, curve_name, stake_name, held_of}
 use Rattle.scr_sheet.specs.declared.sheet.BalanceSheet.{BalanceSheet}
 use Rattle.scr_sheet.specs.declared.fault.User.{User}
 use Rattle.scr_sheet.specs.declared.fault.User.TheVariants as users
@@ -25,11 +25,11 @@ names_of_group name sheet =
     ++ map bank_name (filter (λ b. same_name name b.group) sheet.banks)
     ++ map rein_name (filter (λ r. same_name name r.group) sheet.reinsurers)
 
--- the names of the securities and lines in a currency
+-- the names of the securities and liabilities in a currency
 abbrev pub names_in_currency : List ℕ → BalanceSheet → List (List ℕ)
 names_in_currency currency sheet =
     map position_name (filter (λ p. same_name currency p.security.currency) sheet.securities)
-    ++ map line_name (filter (λ l. same_name currency l.currency) sheet.lines)
+    ++ map liability_name (filter (λ l. same_name currency l.currency) sheet.liabilities)
 
 -- a fund has this component
 abbrev pub has_component : List ℕ → Stake → Bool

@@ -8,9 +8,9 @@ use Rattle.scr_names.specs.Names.{same_name}
 use Rattle.scr_names.specs.Tables.{has_row}
 use Rattle.scr_sheet.specs.Forms.{IsName, IsCurrency, IsNameOrNone, IsStepOrNone, AreOnDays}
 use Rattle.scr_sheet.specs.CashFlows.{total, flows_under, suits}
-use Rattle.scr_sheet.specs.BalanceSheet.{group_name, position_name, stake_name, curve_name, names_of, components_of, components_total, held_total, line_flows_total, volumes_total, defaults_total, sheet_years}
+use Rattle.scr_sheet.specs.BalanceSheet.{group_name, position_name, stake_name, curve_name, names_of, components_of, components_total, held_total, liability_flows_total, volumes_total, defaults_total, sheet_years}
 use Rattle.scr_sheet.specs.declared.sheet.BalanceSheet.{BalanceSheet}
-use Rattle.scr_factors.specs.declared.set.Set.{Set}
+use Rattle.scr_profile.specs.declared.set.Set.{Set}
 use Rattle.scr_sheet.specs.declared.keys.Projection.{Projection}
 use Rattle.scr_sheet.specs.declared.rows.Group.{Group}
 use Rattle.scr_sheet.specs.declared.rows.Position.{Position}
@@ -21,7 +21,7 @@ use Rattle.scr_sheet.specs.declared.rows.Rein.{Rein}
 use Rattle.scr_sheet.specs.declared.rows.Curve.{Curve}
 use Rattle.scr_sheet.specs.declared.numbers.Numbers.{Numbers}
 use Rattle.scr_sheet.specs.declared.numbers.Regions.{Regions}
-use Rattle.scr_sheet.specs.declared.limits.TheConstants.{MIN_RATE, MAX_RATE, MAX_RATES, MAX_DURATION, MAX_FLOWS, MAX_PROMISED, MAX_AMOUNT, MAX_SYM, MAX_TAX, MAX_HELD, MAX_LINE_FLOWS, MAX_YEARS, MAX_CURRENCIES, MAX_SECURITIES, MAX_FUNDS, MAX_COMPONENTS, MAX_FUND_COMPONENTS, MIN_WEIGHT, MAX_WEIGHT, MAX_LINES, MAX_GROUPS, MAX_EXPOSURES}
+use Rattle.scr_profile.specs.declared.limits.TheConstants.{MIN_RATE, MAX_RATE, MAX_RATES, MAX_DURATION, MAX_FLOWS, MAX_PROMISED, MAX_AMOUNT, MAX_SYM, MAX_TAX, MAX_HELD, MAX_LIABILITY_FLOWS, MAX_YEARS, MAX_CURRENCIES, MAX_SECURITIES, MAX_FUNDS, MAX_COMPONENTS, MAX_FUND_COMPONENTS, MIN_WEIGHT, MAX_WEIGHT, MAX_LIABILITIES, MAX_GROUPS, MAX_EXPOSURES}
 
 -- ---- rows, each with its form and within its own limits
 
@@ -55,9 +55,9 @@ IsStake stake =
 abbrev pub IsProjected : List (Day × ℤ) → Type 0
 IsProjected flows = AreOnDays flows × (length flows ≤ MAX_FLOWS)
 
-abbrev pub IsLine : Liability → Type 0
-IsLine line =
-    IsName line.name × IsCurrency line.currency × IsTrue (suits line.kind line.flows) × ((projection : Projection) → IsProjected (flows_under projection line.flows))
+abbrev pub IsLiability : Liability → Type 0
+IsLiability liability =
+    IsName liability.name × IsCurrency liability.currency × IsTrue (suits liability.kind liability.flows) × ((projection : Projection) → IsProjected (flows_under projection liability.flows))
 
 abbrev pub IsBank : Bank → Type 0
 IsBank bank = IsName bank.name × IsName bank.group × IsAmount bank.cents
@@ -113,7 +113,7 @@ pub record AreKnown (sheet : BalanceSheet) : Type 0 where
   pub bank_groups : AllByRecursion (λ b. HasGroup sheet.groups b.group) sheet.banks
   pub rein_groups : AllByRecursion (λ r. HasGroup sheet.groups r.group) sheet.reinsurers
   pub security_currencies : AllByRecursion (λ p. HasCurrency sheet.curves p.security.currency) sheet.securities
-  pub line_currencies : AllByRecursion (λ l. HasCurrency sheet.curves l.currency) sheet.lines
+  pub liability_currencies : AllByRecursion (λ l. HasCurrency sheet.curves l.currency) sheet.liabilities
   pub components : AllByRecursion (λ s. AllByRecursion (λ c. IsHeld sheet c.0) s.fund.components) sheet.funds
   pub reporting : HasCurrency sheet.curves sheet.numbers.currency
 
@@ -121,7 +121,7 @@ pub record AreKnown (sheet : BalanceSheet) : Type 0 where
 
 pub record AreWithin (sheet : BalanceSheet) : Type 0 where
   pub held : held_total sheet ≤ MAX_HELD
-  pub line_flows : (projection : Projection) → line_flows_total projection sheet ≤ MAX_LINE_FLOWS
+  pub liability_flows : (projection : Projection) → liability_flows_total projection sheet ≤ MAX_LIABILITY_FLOWS
   pub volumes : (set : Set) → volumes_total set sheet ≤ MAX_AMOUNT
   pub defaults : defaults_total sheet ≤ MAX_AMOUNT
   pub years : sheet_years sheet ≤ MAX_YEARS
@@ -129,7 +129,7 @@ pub record AreWithin (sheet : BalanceSheet) : Type 0 where
   pub securities : length sheet.securities ≤ MAX_SECURITIES
   pub funds : length sheet.funds ≤ MAX_FUNDS
   pub components : components_total sheet ≤ MAX_COMPONENTS
-  pub lines : length sheet.lines ≤ MAX_LINES
+  pub liabilities : length sheet.liabilities ≤ MAX_LIABILITIES
   pub groups : length sheet.groups ≤ MAX_GROUPS
   pub exposures : length sheet.banks + length sheet.reinsurers ≤ MAX_EXPOSURES
 
@@ -141,7 +141,7 @@ pub record Valid (sheet : BalanceSheet) : Type 0 where
   pub groups : AllByRecursion IsGroup sheet.groups
   pub securities : AllByRecursion IsSecurity sheet.securities
   pub funds : AllByRecursion IsStake sheet.funds
-  pub lines : AllByRecursion IsLine sheet.lines
+  pub liabilities : AllByRecursion IsLiability sheet.liabilities
   pub banks : AllByRecursion IsBank sheet.banks
   pub reinsurers : AllByRecursion IsRein sheet.reinsurers
   pub curves : AllByRecursion IsCurve sheet.curves

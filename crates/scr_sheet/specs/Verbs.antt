@@ -7,3 +7,17 @@ use Rattle.scr_sheet.specs.declared.edit.Edit.TheVariants as edits
 abbrev pub is_operational : Edit → Bool
 is_operational (edits.Op tpl tpul tpn el eul pel peul en pen expul) = true
 is_operational edit = false
+
+-- the records that change the single numbers and no row
+abbrev pub changes_numbers_alone : Edit → Bool
+changes_numbers_alone (edits.Asof date currency) = true
+changes_numbers_alone (edits.Segment set number region premium reserve) = true
+changes_numbers_alone (edits.Cat key cents) = true
+changes_numbers_alone (edits.Lapse set cents) = true
+changes_numbers_alone (edits.Due overdue other) = true
+changes_numbers_alone (edits.Op tpl tpul tpn el eul pel peul en pen expul) = true
+changes_numbers_alone (edits.Sym millionths) = true
+changes_numbers_alone (edits.Tax millionths most) = true
+changes_numbers_alone (edits.Fdb cents) = true
+changes_numbers_alone (edits.Intangible cents) = true
+changes_numbers_alone edit = false

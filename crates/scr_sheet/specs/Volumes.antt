@@ -2,7 +2,7 @@
 use Rattle.std.specs.Prelude.{ℕ, ◌-◌, [], Option, slice_get}
 use Rattle.std.specs.List.{slice_index_or}
 use Rattle.scr_sheet.specs.BalanceSheet.{volumes_of}
-use Rattle.scr_factors.specs.declared.set.Set.{Set}
+use Rattle.scr_profile.specs.declared.set.Set.{Set}
 use Rattle.scr_sheet.specs.declared.numbers.Numbers.{Numbers}
 
 -- the premium and the reserve volume, none where the set has no such segment or the segment no such region

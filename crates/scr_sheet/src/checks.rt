@@ -3,12 +3,12 @@ ghost use Rattle.std.specs.Prelude.{◌≡◌, ◌+◌, ◌*◌, ◌<◌, ◌^�
 ghost use Rattle.std.specs.Option.{option_or, option_map_or};
 ghost use Rattle.scr_names.specs.Tables.{row_of};
 ghost use Rattle.scr_sheet.specs.CashFlows.{suits};
-ghost use Rattle.scr_sheet.specs.BalanceSheet.{line_name};
+ghost use Rattle.scr_sheet.specs.BalanceSheet.{liability_name};
 ghost use Rattle.scr_sheet.specs.Faults.{too_long, rates_fault, list_fault, unknown_row, unknown_currency, unknown_group, unknown_in_key, unknown_in_table, unknown_name, misplaced, misplaced_group, misplaced_drop, lacking, wrong_kind, in_use, components_fault, unknown_component, misplaced_holding, misplaced_component, first_fault, Answers};
 
 use crate::users::user_of;
 use crate::{
-    AbsorbKey, BalanceSheet, Edit, Fault, LineKind, MAX_FLOWS, MAX_FUND_COMPONENTS, MAX_RATES,
+    AbsorbKey, BalanceSheet, Edit, Fault, LiabilityKind, MAX_FLOWS, MAX_FUND_COMPONENTS, MAX_RATES,
     Name, Projection, Rates, Table, User,
 };
 use indexmap::IndexMap;
@@ -25,7 +25,7 @@ pub fn check_lists(alloc: Global, edit: &Edit) -> Result<(), Fault>
         Edit::Curve { rates, .. } => check_rates(rates),
         Edit::Flows { flows, .. } => check_length(2, 2, MAX_FLOWS, flows.as_slice().len()),
         Edit::Fund { components, .. } => check_components(alloc, components.as_slice()),
-        Edit::LineFlows { flows, .. } => check_length(3, 2, MAX_FLOWS, flows.as_slice().len()),
+        Edit::LiabilityFlows { flows, .. } => check_length(3, 2, MAX_FLOWS, flows.as_slice().len()),
         _ => Ok(()),
     }
 }
@@ -76,7 +76,7 @@ pub fn check_names(sheet: &BalanceSheet, edit: &Edit) -> Result<(), Fault>
     ensures { Answers (unknown_name edit.now sheet.now) result }
 {
     match edit {
-        Edit::Asof { currency, .. } | Edit::Line { currency, .. } => known_currency(
+        Edit::Asof { currency, .. } | Edit::Liability { currency, .. } => known_currency(
             sheet, currency,
         ),
         Edit::Security {
@@ -86,7 +86,10 @@ pub fn check_names(sheet: &BalanceSheet, edit: &Edit) -> Result<(), Fault>
         } => known_group_and_currency(sheet, group, currency),
         Edit::Flows { security: name, .. }
         | Edit::Hold { name, .. }
-        | Edit::LineFlows { line: name, .. }
+        | Edit::LiabilityFlows {
+            liability: name,
+            ..
+        }
         | Edit::Rein { group: name, .. }
         | Edit::Bank { group: name, .. } => known_row(sheet, name),
         Edit::Fund { name, components } => known_components(sheet, name, components.as_slice()),
@@ -175,7 +178,7 @@ fn known_in_table(sheet: &BalanceSheet, table: Table, name: &Name) -> Result<(),
 
 // ---- a name stands where its field allows
 
-/// The first name of the record, from the left, that stands in another table than its field allows, or a line whose kind
+/// The first name of the record, from the left, that stands in another table than its field allows, or a liability whose kind
 /// lacks the record's projection.
 pub fn check_kinds(sheet: &BalanceSheet, edit: &Edit) -> Result<(), Fault>
     ensures { Answers (wrong_kind edit.now sheet.now) result }
@@ -186,12 +189,12 @@ pub fn check_kinds(sheet: &BalanceSheet, edit: &Edit) -> Result<(), Fault>
         Edit::Flows { security, .. } => only_in(sheet, Table::Security, security),
         Edit::Fund { name, components } => only_a_fund(sheet, name, components.as_slice()),
         Edit::Hold { name, .. } => only_a_holding(sheet, name),
-        Edit::Line { name, .. } => only_in(sheet, Table::Line, name),
-        Edit::LineFlows {
-            line,
+        Edit::Liability { name, .. } => only_in(sheet, Table::Liability, name),
+        Edit::LiabilityFlows {
+            liability,
             projection,
             ..
-        } => only_a_line(sheet, line, *projection),
+        } => only_a_liability(sheet, liability, *projection),
         Edit::Rein { name, group, .. } => only_an_exposure(sheet, Table::Rein, name, group),
         Edit::Bank { name, group, .. } => only_an_exposure(sheet, Table::Bank, name, group),
         Edit::Remove { table, name } => only_dropped_from(sheet, *table, name),
@@ -252,13 +255,17 @@ fn only_holdings(sheet: &BalanceSheet, fund: &Name, components: &[(Name, i64)]) 
     Ok(())
 }
 
-fn only_a_line(sheet: &BalanceSheet, line: &Name, projection: Projection) -> Result<(), Fault>
-    ensures { Answers (option_or (misplaced (Table.Line) line.now sheet.now) (lacking projection line.now sheet.now)) result }
+fn only_a_liability(
+    sheet: &BalanceSheet,
+    liability: &Name,
+    projection: Projection,
+) -> Result<(), Fault>
+    ensures { Answers (option_or (misplaced (Table.Liability) liability.now sheet.now) (lacking projection liability.now sheet.now)) result }
 {
-    if let Err(fault) = only_in(sheet, Table::Line, line) {
+    if let Err(fault) = only_in(sheet, Table::Liability, liability) {
         return Err(fault);
     }
-    has_projection(sheet, line, projection)
+    has_projection(sheet, liability, projection)
 }
 
 fn only_an_exposure(
@@ -294,24 +301,28 @@ fn only_dropped_from(sheet: &BalanceSheet, table: Table, name: &Name) -> Result<
     }
 }
 
-fn has_projection(sheet: &BalanceSheet, line: &Name, projection: Projection) -> Result<(), Fault>
-    ensures { Answers (lacking projection line.now sheet.now) result }
+fn has_projection(
+    sheet: &BalanceSheet,
+    liability: &Name,
+    projection: Projection,
+) -> Result<(), Fault>
+    ensures { Answers (lacking projection liability.now sheet.now) result }
 {
-    match sheet.lines.get(line) {
-        Some(row) if !row.kind.has(projection) => Err(Fault::WrongKind(*line)),
+    match sheet.liabilities.get(liability) {
+        Some(row) if !row.kind.has(projection) => Err(Fault::WrongKind(*liability)),
         _ => Ok(()),
     }
 }
 
 // ---- nothing uses what would be dropped
 
-/// What uses the row that the record would drop, the first in the order of users; or a line whose new kind lacks a
+/// What uses the row that the record would drop, the first in the order of users; or a liability whose new kind lacks a
 /// projection under which it has flows.
 pub fn check_uses(sheet: &BalanceSheet, edit: &Edit) -> Result<(), Fault>
     ensures { Answers (in_use edit.now sheet.now) result }
 {
     match edit {
-        Edit::Line { name, kind, .. } => suits_flows(sheet, name, *kind),
+        Edit::Liability { name, kind, .. } => suits_flows(sheet, name, *kind),
         Edit::Remove { table, name } => match user_of(sheet, *table, name) {
             Some(user) => Err(Fault::InUse(*name, user)),
             None => Ok(()),
@@ -320,12 +331,12 @@ pub fn check_uses(sheet: &BalanceSheet, edit: &Edit) -> Result<(), Fault>
     }
 }
 
-// A line keeps its flows, so its new kind has to have their projections.
-fn suits_flows(sheet: &BalanceSheet, line: &Name, kind: LineKind) -> Result<(), Fault>
-    ensures { Answers (if option_map_or (λ l. suits kind l.flows) (row_of line_name line.now sheet.now.lines) true then None else Some (Fault.InUse line.now (User.Lflow))) result }
+// A liability keeps its flows, so its new kind has to have their projections.
+fn suits_flows(sheet: &BalanceSheet, liability: &Name, kind: LiabilityKind) -> Result<(), Fault>
+    ensures { Answers (if option_map_or (λ l. suits kind l.flows) (row_of liability_name liability.now sheet.now.liabilities) true then None else Some (Fault.InUse liability.now (User.Lflow))) result }
 {
-    match sheet.lines.get(line) {
-        Some(row) if !kind.suits(&row.flows) => Err(Fault::InUse(*line, User::Lflow)),
+    match sheet.liabilities.get(liability) {
+        Some(row) if !kind.suits(&row.flows) => Err(Fault::InUse(*liability, User::Lflow)),
         _ => Ok(()),
     }
 }

@@ -1,11 +1,11 @@
 //! The records that change a balance sheet.
 
 use crate::{
-    AbsorbKey, CatKey, Class, Components, Flows, GroupKind, LineKind, Name, Projection, Rates,
+    AbsorbKey, CatKey, Class, Components, Flows, GroupKind, LiabilityKind, Name, Projection, Rates,
     Table,
 };
 use scr_dates::Day;
-use scr_factors::Set;
+use scr_profile::Set;
 
 /// A record of a book or of a script of edits: one variant per verb, with the record's fields in their order.
 #[derive(Debug, Drop)]
@@ -50,15 +50,15 @@ pub enum Edit {
         name: Name,
         cents: i64,
     },
-    /// `line`: makes a line, or replaces the one of its name, which keeps its flows.
-    Line {
+    /// `liability`: makes a liability, or replaces the one of its name, which keeps its flows.
+    Liability {
         name: Name,
-        kind: LineKind,
+        kind: LiabilityKind,
         currency: Name,
     },
-    /// `lflow`: a line's flows under a projection.
-    LineFlows {
-        line: Name,
+    /// `lflow`: a liability's flows under a projection.
+    LiabilityFlows {
+        liability: Name,
         projection: Projection,
         flows: Flows,
     },
@@ -134,7 +134,7 @@ pub enum Edit {
     Intangible {
         cents: i64,
     },
-    /// `drop`: takes a row out of its table, a security or a line with its flows.
+    /// `drop`: takes a row out of its table, a security or a liability with its flows.
     Remove {
         table: Table,
         name: Name,

@@ -10,9 +10,9 @@ pub enum Fault {
     Syntax(u32),
     /// The name must exist and does not.
     UnknownName(Name),
-    /// The name stands in another table than the field allows, or a line's kind lacks the projection.
+    /// The name stands in another table than the field allows, or a liability's kind lacks the projection.
     WrongKind(Name),
-    /// The name is used, and so can't be dropped, or its line can't change its kind.
+    /// The name is used, and so can't be dropped, or its liability can't change its kind.
     InUse(Name, User),
     /// The fund would hold itself: the first of the shortest chains of components from it back to itself.
     Cycle(Names),
@@ -51,7 +51,7 @@ pub enum Quantity {
     TaxRate,
     SecFlows,
     Held,
-    LineFlows,
+    LiabilityFlows,
     Volumes,
     Defaults,
     Years,
@@ -59,7 +59,7 @@ pub enum Quantity {
     Securities,
     Funds,
     Components,
-    Lines,
+    Liabilities,
     Groups,
     Exposures,
 }

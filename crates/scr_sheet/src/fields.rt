@@ -49,8 +49,8 @@ pub fn fields_outside(edit: &Edit) -> Option<Fault>
         Edit::Tax { millionths, cap } => { outside_tax(millionths, cap) }
         Edit::Asof { .. }
         | Edit::Group { .. }
-        | Edit::Line { .. }
-        | Edit::LineFlows { .. }
+        | Edit::Liability { .. }
+        | Edit::LiabilityFlows { .. }
         | Edit::Remove { .. } => None,
     }
 }

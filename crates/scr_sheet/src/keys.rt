@@ -8,13 +8,13 @@ pub enum Table {
     Group,
     Security,
     Fund,
-    Line,
+    Liability,
     Bank,
     Rein,
     Curve,
 }
 
-/// A projection of a line's cash flows: the best estimate, or what is left of it under one of the biometric stresses
+/// A projection of a liability's cash flows: the best estimate, or what is left of it under one of the biometric stresses
 /// of Delegated Regulation (EU) 2015/35, Articles 137 to 143 and 152 to 159.
 #[derive(Clone, Copy, Debug, PartialEq, Eq)]
 pub enum Projection {

@@ -1,25 +1,25 @@
-//! The projections that a kind of line has.
+//! The projections that a kind of liability has.
 ghost use Rattle.std.specs.Prelude.{◌≡◌};
 ghost use Rattle.scr_sheet.specs.CashFlows.{has_projection, suits};
 
-use crate::{LineFlows, LineKind, PROJECTIONS, Projection};
+use crate::{LiabilityFlows, LiabilityKind, PROJECTIONS, Projection};
 
-impl LineKind {
-    /// Lines of this kind have the projection: the best estimate for each, the biometric stresses for life
+impl LiabilityKind {
+    /// Liabilities of this kind have the projection: the best estimate for each, the biometric stresses for life
     /// (Articles 137 to 142) and for health similar to life (Articles 152 to 159), the catastrophe for life alone
     /// (Article 143).
     pub fn has(self, projection: Projection) -> bool
         ensures { result ≡ has_projection self projection }
     {
         match (self, projection) {
-            (_, Projection::Base) | (LineKind::Life, _) => true,
-            (LineKind::Health, Projection::Catastrophe) | (LineKind::Other, _) => false,
-            (LineKind::Health, _) => true,
+            (_, Projection::Base) | (LiabilityKind::Life, _) => true,
+            (LiabilityKind::Health, Projection::Catastrophe) | (LiabilityKind::Other, _) => false,
+            (LiabilityKind::Health, _) => true,
         }
     }
 
     /// There are flows under no projection that the kind lacks.
-    pub fn suits(self, flows: &LineFlows) -> bool
+    pub fn suits(self, flows: &LiabilityFlows) -> bool
         ensures { result ≡ suits self flows.now }
     {
         PROJECTIONS

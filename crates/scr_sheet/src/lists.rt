@@ -1,6 +1,6 @@
 //! Lists in records and rows. Contracts see each as a list.
 ghost use Rattle.std.specs.Prelude.{◌≡◌, ◌+◌, ◌^◌, ◌≤◌, IfOk};
-ghost use Rattle.scr_sheet.specs.CashFlows.{total};
+ghost use Rattle.scr_sheet.specs.Payments.{total, last_day, later};
 
 use crate::Name;
 use scr_dates::Day;
@@ -53,20 +53,27 @@ impl Rates {
     }
 }
 
-/// Payments, each with its day. The unit of an amount is the owner's: for a security per 1,000,000 of its value,
-/// for a line cents.
+/// Payments, each with its day. The unit of an amount is the owner's: for a security per 1,000,000
+/// of its value, for a liability cents. Beside them stand their sum and their last day, so that no
+/// record sums or walks them anew.
 #[derive(Debug, Drop)]
 pub struct Flows {
     pairs: Vec<(Day, i64)>,
+    sum: u128,
+    last: Option<Day>,
 }
 
 impl Model for Flows {
-    ghost use Rattle.std.specs.Prelude.{List, ℤ};
+    ghost use Rattle.std.specs.Prelude.{◌≡◌, ◌+◌, ◌^◌, ◌≤◌, List, ℤ};
     ghost use Rattle.scr_dates.specs.declared.day.Day.{Day};
+    ghost use Rattle.scr_sheet.specs.Payments.{total, last_day};
 
     ghost Value = { List (Day × ℤ) };
 
     ghost view = { λ list. list.pairs.items };
+
+    ghost invariant = { λ list. (list.sum ≡ total list.pairs.items) × (list.sum + 2 ^ 63 ≤ 2 ^ 127)
+        × (list.last ≡ last_day list.pairs.items) };
 }
 
 impl Flows {
@@ -74,7 +81,11 @@ impl Flows {
     pub fn new(pairs: Vec<(Day, i64)>) -> Flows
         ensures { result ≡ pairs.items }
     {
-        Flows { pairs }
+        Flows {
+            sum: total(&pairs),
+            last: last_day(&pairs),
+            pairs,
+        }
     }
 
     /// The payments in the order in which they were given.
@@ -89,11 +100,14 @@ impl Flows {
         ensures sum { result ≡ total self.now }
         ensures fits { result + 2 ^ 63 ≤ 2 ^ 127 }
     {
-        let mut sum = 0;
-        for (_, amount) in &self.pairs {
-            sum += u128::from(amount.unsigned_abs());
-        }
-        sum
+        self.sum
+    }
+
+    /// The last day of a payment.
+    pub fn last_day(&self) -> Option<Day>
+        ensures { result ≡ last_day self.now }
+    {
+        self.last
     }
 
     /// The payments, given back without memory.
@@ -109,7 +123,40 @@ impl Flows {
     {
         Ok(Flows {
             pairs: self.pairs.iter().copied().collect(alloc)?,
+            sum: self.sum,
+            last: self.last,
         })
+    }
+}
+
+fn total(pairs: &[(Day, i64)]) -> u128
+    ensures sum { result ≡ total pairs.now }
+    ensures fits { result + 2 ^ 63 ≤ 2 ^ 127 }
+{
+    let mut sum = 0;
+    for (_, amount) in pairs {
+        sum += u128::from(amount.unsigned_abs());
+    }
+    sum
+}
+
+fn last_day(pairs: &[(Day, i64)]) -> Option<Day>
+    ensures { result ≡ last_day pairs.now }
+{
+    let mut last = None;
+    for (day, _) in pairs {
+        last = Some(later(last, *day));
+    }
+    last
+}
+
+// The later of two days, of which the first may be missing.
+fn later(last: Option<Day>, day: Day) -> Day
+    ensures { result ≡ later last day }
+{
+    match last {
+        Some(last) => { if last.number < day.number { day } else { last } }
+        None => day,
     }
 }
 

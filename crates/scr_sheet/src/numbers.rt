@@ -4,14 +4,14 @@ use crate::Name;
 use scr_dates::Day;
 
 /// The premium and reserve volume of a segment in each region.
-#[derive(Clone, Copy, Debug)]
+#[derive(Clone, Copy)]
 pub struct Regions {
     pub volumes: [(u64, u64); 18],
 }
 
 /// The single numbers, the reference date and the reporting currency. Amounts are in cents, `sym` and `tax` in
 /// millionths.
-#[derive(Clone, Copy, Debug)]
+#[derive(Clone, Copy)]
 pub struct Numbers {
     pub asof: Day,
     pub currency: Name,
@@ -43,19 +43,4 @@ pub struct Numbers {
     pub fdb: u64,
     /// The value of intangible assets (Article 203).
     pub intangible: u64,
-}
-
-/// What the operational risk is worked from (Article 204): provisions and earned premiums, in cents.
-#[derive(Clone, Copy, Debug, PartialEq, Eq)]
-pub struct OpInput {
-    pub tpl: i64,
-    pub tpul: i64,
-    pub tpn: i64,
-    pub el: u64,
-    pub eul: u64,
-    pub pel: u64,
-    pub peul: u64,
-    pub en: u64,
-    pub pen: u64,
-    pub expul: u64,
 }

@@ -1,5 +1,5 @@
 //! The name under which each row stands in its table.
-ghost use Rattle.scr_sheet.specs.BalanceSheet.{group_name, position_name, line_name, bank_name, rein_name, curve_name, stake_name};
+ghost use Rattle.scr_sheet.specs.BalanceSheet.{group_name, position_name, liability_name, bank_name, rein_name, curve_name, stake_name};
 
 use crate::{Bank, Curve, Group, Liability, Name, Position, Rein, Stake};
 use scr_names::Row;
@@ -29,7 +29,7 @@ impl Row for Stake {
 }
 
 impl Row for Liability {
-    ghost name_of = { line_name };
+    ghost name_of = { liability_name };
 
     fn name(&self) -> Name {
         self.name

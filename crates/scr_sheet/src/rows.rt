@@ -1,23 +1,10 @@
 //! The rows of the tables.
 
 use crate::{Components, Flows, Name, Rates};
-
-/// What a group of counterparties is taken to be in the concentration sub-module (Articles 182 to 187 of Delegated
-/// Regulation (EU) 2015/35).
-#[derive(Clone, Copy, Debug, PartialEq, Eq)]
-pub enum GroupKind {
-    /// A single-name exposure (Article 182).
-    Name,
-    /// Covered bonds (Article 187(1)).
-    Covered,
-    /// Immovable property (Article 187(2)).
-    Property,
-    /// Central governments and their like (Article 187(3)).
-    State,
-}
+use scr_profile::GroupKind;
 
 /// A group of counterparties, with its credit quality step, if it has one.
-#[derive(Clone, Copy, Debug)]
+#[derive(Clone, Copy)]
 pub struct Group {
     pub name: Name,
     pub kind: GroupKind,
@@ -50,7 +37,7 @@ pub enum Class {
 }
 
 /// A security. Its duration is in thousandths of a year, its flows are per 1,000,000 of its value.
-#[derive(Debug, Drop)]
+#[derive(Drop)]
 pub struct Security {
     pub name: Name,
     pub class: Class,
@@ -61,29 +48,29 @@ pub struct Security {
 }
 
 /// A security with the cents held directly of it, 0 where nothing is held.
-#[derive(Debug, Drop)]
+#[derive(Drop)]
 pub struct Position {
     pub security: Security,
     pub held: u64,
 }
 
 /// A fund: what it holds, in parts by weight (Article 84). A fund without components is closed.
-#[derive(Debug, Drop)]
+#[derive(Drop)]
 pub struct Fund {
     pub name: Name,
     pub components: Components,
 }
 
 /// A fund with the cents held directly of it, 0 where nothing is held.
-#[derive(Debug, Drop)]
+#[derive(Drop)]
 pub struct Stake {
     pub fund: Fund,
     pub held: u64,
 }
 
-/// The kind of a line of insurance obligations.
+/// The kind of a liability of insurance obligations.
 #[derive(Clone, Copy, Debug, PartialEq, Eq)]
-pub enum LineKind {
+pub enum LiabilityKind {
     /// Life underwriting risk (Article 136).
     Life,
     /// Health similar to life (Article 151).
@@ -92,9 +79,9 @@ pub enum LineKind {
     Other,
 }
 
-/// The cash flows of a line in cents under each projection; an empty list where nothing is handed in.
-#[derive(Debug, Drop)]
-pub struct LineFlows {
+/// The cash flows of a liability in cents under each projection; an empty list where nothing is handed in.
+#[derive(Drop)]
+pub struct LiabilityFlows {
     pub base: Flows,
     pub mortality: Flows,
     pub longevity: Flows,
@@ -107,17 +94,17 @@ pub struct LineFlows {
     pub catastrophe: Flows,
 }
 
-/// A line of insurance obligations.
-#[derive(Debug, Drop)]
+/// A liability of insurance obligations.
+#[derive(Drop)]
 pub struct Liability {
     pub name: Name,
-    pub kind: LineKind,
+    pub kind: LiabilityKind,
     pub currency: Name,
-    pub flows: LineFlows,
+    pub flows: LiabilityFlows,
 }
 
 /// A type 1 exposure of the default module (Article 189(2)): cash at a bank, in cents.
-#[derive(Clone, Copy, Debug)]
+#[derive(Clone, Copy)]
 pub struct Bank {
     pub name: Name,
     pub group: Name,
@@ -125,7 +112,7 @@ pub struct Bank {
 }
 
 /// A reinsurance arrangement: recoverables, risk-mitigating effect and collateral in cents (Article 192).
-#[derive(Clone, Copy, Debug)]
+#[derive(Clone, Copy)]
 pub struct Rein {
     pub name: Name,
     pub group: Name,
@@ -135,7 +122,7 @@ pub struct Rein {
 }
 
 /// A currency with its risk-free rates in millionths (Article 43), and the absorption of the two currency scenarios.
-#[derive(Debug, Drop)]
+#[derive(Drop)]
 pub struct Curve {
     pub currency: Name,
     pub rates: Rates,

@@ -15,7 +15,7 @@ pub struct BalanceSheet {
     pub groups: Rows<Group>,
     pub securities: Rows<Position>,
     pub funds: Rows<Stake>,
-    pub lines: Rows<Liability>,
+    pub liabilities: Rows<Liability>,
     pub banks: Rows<Bank>,
     pub reinsurers: Rows<Rein>,
     pub curves: Rows<Curve>,
@@ -33,7 +33,7 @@ impl BalanceSheet {
             groups: Rows::new(alloc),
             securities: Rows::new(alloc),
             funds: Rows::new(alloc),
-            lines: Rows::new(alloc),
+            liabilities: Rows::new(alloc),
             banks: Rows::new(alloc),
             reinsurers: Rows::new(alloc),
             curves,
@@ -49,7 +49,7 @@ impl BalanceSheet {
             Table::Group => self.groups.contains(name),
             Table::Security => self.securities.contains(name),
             Table::Fund => self.funds.contains(name),
-            Table::Line => self.lines.contains(name),
+            Table::Liability => self.liabilities.contains(name),
             Table::Bank => self.banks.contains(name),
             Table::Rein => self.reinsurers.contains(name),
             Table::Curve => self.curves.contains(name),
@@ -62,7 +62,7 @@ impl BalanceSheet {
     {
         self.has(Table::Group, name)
             || self.has(Table::Security, name)
-            || self.has(Table::Line, name)
+            || self.has(Table::Liability, name)
             || self.has(Table::Bank, name)
             || self.has(Table::Rein, name)
             || self.has(Table::Fund, name)

@@ -1,7 +1,7 @@
 //! What uses a row that a record would drop.
 ghost use Rattle.std.specs.Prelude.{◌≡◌, if◌then◌else◌, Some, map, filter, fold};
 ghost use Rattle.scr_names.specs.Names.{same_name, earlier, first_in_order};
-ghost use Rattle.scr_sheet.specs.BalanceSheet.{position_name, line_name, bank_name, rein_name, stake_name};
+ghost use Rattle.scr_sheet.specs.BalanceSheet.{position_name, liability_name, bank_name, rein_name, stake_name};
 ghost use Rattle.scr_sheet.specs.Users.{has_component, holder_of, is_of_group, names_of_group, names_in_currency, absorption_of, unless_none, user_of};
 
 use crate::{
@@ -17,7 +17,7 @@ pub(crate) fn user_of(sheet: &BalanceSheet, table: Table, name: &Name) -> Option
         Table::Group => first_of_group(sheet, name).map(|first| User::Row(first)),
         Table::Security | Table::Fund => holder_of(sheet, name),
         Table::Curve => user_of_currency(sheet, name),
-        Table::Line | Table::Bank | Table::Rein => None,
+        Table::Liability | Table::Bank | Table::Rein => None,
     }
 }
 
@@ -91,12 +91,12 @@ fn first_of_group(sheet: &BalanceSheet, group: &Name) -> Option<Name>
     reinsurers_of_group(&sheet.reinsurers, group, banks)
 }
 
-// The first in byte order of the securities and lines in a currency.
+// The first in byte order of the securities and liabilities in a currency.
 fn first_in_currency(sheet: &BalanceSheet, currency: &Name) -> Option<Name>
     ensures { result ≡ first_in_order (names_in_currency currency.now sheet.now) }
 {
     let securities = securities_in_currency(&sheet.securities, currency);
-    lines_in_currency(&sheet.lines, currency, securities)
+    liabilities_in_currency(&sheet.liabilities, currency, securities)
 }
 
 fn securities_of_group(rows: &Rows<Position>, group: &Name) -> Option<Name>
@@ -135,8 +135,12 @@ fn securities_in_currency(rows: &Rows<Position>, currency: &Name) -> Option<Name
     )
 }
 
-fn lines_in_currency(rows: &Rows<Liability>, currency: &Name, first: Option<Name>) -> Option<Name>
-    ensures { result ≡ fold earlier first (map line_name (filter (λ l. same_name currency.now l.currency) rows.now)) }
+fn liabilities_in_currency(
+    rows: &Rows<Liability>,
+    currency: &Name,
+    first: Option<Name>,
+) -> Option<Name>
+    ensures { result ≡ fold earlier first (map liability_name (filter (λ l. same_name currency.now l.currency) rows.now)) }
 {
     rows.iter().fold(
         first,

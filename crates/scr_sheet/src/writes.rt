@@ -4,22 +4,22 @@ ghost use Rattle.scr_sheet.specs.Absorptions.{absorbed};
 ghost use Rattle.scr_sheet.specs.declared.sheet.BalanceSheet.{BalanceSheet};
 ghost use Rattle.scr_sheet.specs.CashFlows.{flows_under, with_flows, no_flows};
 ghost use Rattle.scr_sheet.specs.Faults.{fields_outside};
-ghost use Rattle.scr_factors.specs.Values.{segments};
+ghost use Rattle.scr_profile.specs.Segments.{segments};
 ghost use Rattle.scr_sheet.specs.Forms.{Formed};
 ghost use Rattle.scr_sheet.specs.Records.{applied, natural, placed, absorb_place, cat_place, health_cat_place, with_absorb, with_segment, lapse_place};
 ghost use Rattle.scr_sheet.specs.Verbs.{is_operational};
 ghost use Rattle.scr_sheet.specs.Volumes.{volumes_in};
 
-use crate::{AbsorbKey, CatKey, Edit, Flows, LineFlows, Numbers, Projection, Regions};
-use scr_factors::Set;
+use crate::{AbsorbKey, CatKey, Edit, Flows, LiabilityFlows, Numbers, Projection, Regions};
+use scr_profile::Set;
 use std::alloc::Global;
 
-impl LineFlows {
+impl LiabilityFlows {
     /// Nothing handed in.
-    pub fn none(alloc: Global) -> LineFlows
+    pub fn none(alloc: Global) -> LiabilityFlows
         ensures { result ≡ no_flows }
     {
-        LineFlows {
+        LiabilityFlows {
             base: Flows::new(Vec::new(alloc)),
             mortality: Flows::new(Vec::new(alloc)),
             longevity: Flows::new(Vec::new(alloc)),

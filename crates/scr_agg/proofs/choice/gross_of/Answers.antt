@@ -13,12 +13,19 @@ pub loop-i-preserved : goal.loop-i-preserved
 loop-i-preserved c =
     elim c.if-not-is_beaten.branch [
       | then-not-is_beaten w ↦
-          rw w.gross-is (so_far-next (alternatives c.args.list.now) c.loop-i.i c.loop-i.gross w.index-list-i.result.gross w.joined.result
+          rw w.gross-is
+          (so_far-next (alternatives c.args.list.now) c.loop-i.i c.loop-i.gross w.index-list-i.result.gross
+          w.joined.result
           (sym c.is_beaten.ensures ∙ w.if-not-is_beaten.true)
-          (ap (λ a. a.gross) (sym (alternative_of c.args.list.now c.loop-i.i w.index-list-i.result c.loop-i-test.true w.index-list-i.is)))
-          (rw (← w.index-list-i.is) at w.joined.ensures.some) (rw (← w.index-list-i.is) at w.joined.ensures.none) c.loop-i.invariant)
+          (ap (λ a. a.gross)
+          (sym (alternative_of c.args.list.now c.loop-i.i w.index-list-i.result c.loop-i-test.true
+          w.index-list-i.is)))
+          (rw (← w.index-list-i.is) at w.joined.ensures.some) (rw (← w.index-list-i.is) at w.joined.ensures.none)
+          c.loop-i.invariant)
       | else-not-is_beaten w ↦
-          rw w.gross-is (so_far-skip (alternatives c.args.list.now) c.loop-i.i c.loop-i.gross (sym c.is_beaten.ensures ∙ w.if-not-is_beaten.false) c.loop-i.invariant)
+          rw w.gross-is
+          (so_far-skip (alternatives c.args.list.now) c.loop-i.i c.loop-i.gross
+          (sym c.is_beaten.ensures ∙ w.if-not-is_beaten.false) c.loop-i.invariant)
     ]
 
 pub unreachable-requires : goal.unreachable-requires

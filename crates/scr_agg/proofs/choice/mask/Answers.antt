@@ -1,7 +1,8 @@
 use Rattle.std.proofs.Common.{◌+◌, ◌^◌, ◌≤◌, sym, ◌∙◌, ap, arith, lit<}
 use Rattle.std.proofs.Math.Nat.{pow-le-pow_right}
 use Rattle.scr_agg.specs.Unbeaten.{alternatives}
-use Rattle.scr_agg.proofs.Alternatives.{length-alternatives, mask_below, mask-skip, mask-next, mask_below-lt, unbeaten_below-zero, twice}
+use Rattle.scr_agg.proofs.Alternatives.{length-alternatives, mask_below, mask-skip, mask-next, mask_below-lt}
+use Rattle.scr_agg.proofs.Alternatives.{unbeaten_below-zero, twice}
 use Rattle.scr_agg.proofs.choice.mask.Goals as goal
 use Rattle.scr_agg.proofs.choice.mask.Goals.{then-not-is_beaten, else-not-is_beaten}
 
@@ -21,9 +22,11 @@ loop-i-preserved c =
     let so_far = c.loop-i.invariant in
     elim c.if-not-is_beaten.branch [
       | then-not-is_beaten w ↦
-          let next = mask-next (alternatives c.args.list.now) c.loop-i.i (sym c.is_beaten.ensures ∙ w.if-not-is_beaten.true) in omega arith
+          let next = mask-next (alternatives c.args.list.now) c.loop-i.i
+          (sym c.is_beaten.ensures ∙ w.if-not-is_beaten.true) in omega arith
       | else-not-is_beaten w ↦
-          let skip = mask-skip (alternatives c.args.list.now) c.loop-i.i (sym c.is_beaten.ensures ∙ w.if-not-is_beaten.false) in omega arith
+          let skip = mask-skip (alternatives c.args.list.now) c.loop-i.i
+          (sym c.is_beaten.ensures ∙ w.if-not-is_beaten.false) in omega arith
     ]
 
 pub returns : goal.returns

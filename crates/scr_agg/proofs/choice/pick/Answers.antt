@@ -8,7 +8,8 @@ use Rattle.scr_agg.proofs.Enclosed.{one_unbeaten, chosen_unbeaten, gross_enclose
 use Rattle.scr_agg.proofs.choice.pick.Goals as goal
 
 pub returns-clause-bits : goal.returns-clause-bits
-returns-clause-bits c = λ place lt. rw c.mask.ensures (mask_bits (alternatives c.args.list.now) place (rw length-alternatives lt))
+returns-clause-bits c = λ place lt. rw c.mask.ensures
+    (mask_bits (alternatives c.args.list.now) place (rw length-alternatives lt))
 
 pub returns-clause-no_other_bits : goal.returns-clause-no_other_bits
 returns-clause-no_other_bits c =
@@ -17,7 +18,8 @@ returns-clause-no_other_bits c =
     rw c.mask.ensures (omega arith)
 
 pub returns-clause-one_at_least : goal.returns-clause-one_at_least
-returns-clause-one_at_least c = rw c.mask.ensures (mask_positive (alternatives c.args.list.now) (one_unbeaten c.args.list.now c.requires.some))
+returns-clause-one_at_least c = rw c.mask.ensures
+    (mask_positive (alternatives c.args.list.now) (one_unbeaten c.args.list.now c.requires.some))
 
 pub returns-clause-chosen : goal.returns-clause-chosen
 returns-clause-chosen c =
@@ -26,6 +28,8 @@ returns-clause-chosen c =
     let count = same_length unit list outcomes h in
     let listed = chosen.listed in (
       rw c.mask.ensures ((mask_bits list place (omega arith)).1 (chosen_unbeaten unit list outcomes place h chosen)),
-      (Encloses-same unit _ _ _ _ _ (ap (λ (x : Ends). x.low) c.gross_of.ensures) (ap (λ (x : Ends). x.high) c.gross_of.ensures) (gross_encloses unit list outcomes place h chosen)),
-      (Encloses-same unit _ _ _ _ _ (ap (λ (x : Ends). x.low) c.net_of.ensures) (ap (λ (x : Ends). x.high) c.net_of.ensures) (net_encloses unit list outcomes place h chosen)),
+      (Encloses-same unit _ _ _ _ _ (ap (λ (x : Ends). x.low) c.gross_of.ensures)
+          (ap (λ (x : Ends). x.high) c.gross_of.ensures) (gross_encloses unit list outcomes place h chosen)),
+      (Encloses-same unit _ _ _ _ _ (ap (λ (x : Ends). x.low) c.net_of.ensures)
+          (ap (λ (x : Ends). x.high) c.net_of.ensures) (net_encloses unit list outcomes place h chosen)),
     )

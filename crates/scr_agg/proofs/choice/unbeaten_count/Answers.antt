@@ -18,12 +18,15 @@ loop-i-preserved c =
     let so_far = c.loop-i.invariant in
     elim c.if-not-is_beaten.branch [
       | then-not-is_beaten w ↦
-          let next = count-next (alternatives c.args.list.now) c.loop-i.i (sym c.is_beaten.ensures ∙ w.if-not-is_beaten.true) in omega arith
+          let next = count-next (alternatives c.args.list.now) c.loop-i.i
+          (sym c.is_beaten.ensures ∙ w.if-not-is_beaten.true) in omega arith
       | else-not-is_beaten w ↦
-          let skip = count-skip (alternatives c.args.list.now) c.loop-i.i (sym c.is_beaten.ensures ∙ w.if-not-is_beaten.false) in omega arith
+          let skip = count-skip (alternatives c.args.list.now) c.loop-i.i
+          (sym c.is_beaten.ensures ∙ w.if-not-is_beaten.false) in omega arith
     ]
 
 pub returns : goal.returns
 returns c =
     c.loop-i.invariant
-    ∙ ap (λ n. length (unbeaten_below (alternatives c.args.list.now) n)) (let all = length-alternatives c.args.list.now in omega arith)
+    ∙ ap (λ n. length (unbeaten_below (alternatives c.args.list.now) n))
+    (let all = length-alternatives c.args.list.now in omega arith)

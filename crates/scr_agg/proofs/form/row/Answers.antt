@@ -7,7 +7,8 @@ pub term-sum-requires : goal.term-sum-requires
 term-sum-requires c =
     let cell_fits : FitsSigned w16 (get_or c.args.cells.now c.loop-j.j (pos 0)) = search rules in
     let weight = simp to_z-of_z at c.weight.ensures in
-    let next = row_step (weighed c.args.sign) c.args.x c.args.cells.now (end_of c.args.side) c.args.parts.now c.loop-j.j c.loop-j.sum c.index-parts-j.result
+    let next = row_step (weighed c.args.sign) c.args.x c.args.cells.now
+    (end_of c.args.side) c.args.parts.now c.loop-j.j c.loop-j.sum c.index-parts-j.result
     (omega arith) (omega arith) c.index-parts-j.is c.loop-j.invariant in
     rw (weight, c.end.ensures) (omega arith)
 
@@ -15,7 +16,8 @@ pub overflow_add-sum : goal.overflow_add-sum
 overflow_add-sum c =
     let cell_fits : FitsSigned w16 (get_or c.args.cells.now c.loop-j.j (pos 0)) = search rules in
     let weight = simp to_z-of_z at c.weight.ensures in
-    let next = row_step (weighed c.args.sign) c.args.x c.args.cells.now (end_of c.args.side) c.args.parts.now c.loop-j.j c.loop-j.sum c.index-parts-j.result
+    let next = row_step (weighed c.args.sign) c.args.x c.args.cells.now
+    (end_of c.args.side) c.args.parts.now c.loop-j.j c.loop-j.sum c.index-parts-j.result
     (omega arith) (omega arith) c.index-parts-j.is c.loop-j.invariant in
     rw (c.term-sum.ensures, weight, c.end.ensures) (omega arith)
 
@@ -24,11 +26,13 @@ loop-j-preserved c =
     let cell_fits : FitsSigned w16 (get_or c.args.cells.now c.loop-j.j (pos 0)) = search rules in
     let weight = simp to_z-of_z at c.weight.ensures in
     rw (c.term-sum.ensures, weight, c.end.ensures)
-    (row_step (weighed c.args.sign) c.args.x c.args.cells.now (end_of c.args.side) c.args.parts.now c.loop-j.j c.loop-j.sum c.index-parts-j.result
+    (row_step (weighed c.args.sign) c.args.x c.args.cells.now
+    (end_of c.args.side) c.args.parts.now c.loop-j.j c.loop-j.sum c.index-parts-j.result
     (omega arith) (omega arith) c.index-parts-j.is c.loop-j.invariant)
 
 pub returns : goal.returns
 returns c =
-    let done = row_done (weighed c.args.sign) c.args.x c.args.cells.now (end_of c.args.side) c.args.parts.now c.loop-j.j (omega arith) in
+    let done = row_done (weighed c.args.sign) c.args.x c.args.cells.now (end_of c.args.side) c.args.parts.now c.loop-j.j
+    (omega arith) in
     let so_far = c.loop-j.invariant in
     omega arith

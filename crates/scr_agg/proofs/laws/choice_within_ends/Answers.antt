@@ -1,4 +1,4 @@
-use Rattle.scr_agg.proofs.Bits.{mask_bits}
+use Rattle.scr_agg.proofs.Bits.{mask_bits, several_bits}
 use Rattle.scr_agg.proofs.Enclosed.{chosen_unbeaten, gross_encloses, net_encloses}
 use Rattle.scr_agg.proofs.laws.choice_within_ends.Goals as goal
 
@@ -13,3 +13,6 @@ returns-clause-net c = net_encloses
 
 pub returns-clause-bits : goal.returns-clause-bits
 returns-clause-bits c = mask_bits
+
+pub returns-clause-several : goal.returns-clause-several
+returns-clause-several c = several_bits

@@ -1,5 +1,6 @@
 use Rattle.scr_num.proofs.Enclosing.{Encloses-plus, Encloses-minus}
 use Rattle.scr_agg.proofs.ExactAmounts.{Encloses-greater, Encloses-net_amount}
+use Rattle.scr_agg.proofs.ChosenAmounts.{Encloses-counted}
 use Rattle.scr_agg.proofs.laws.exact_amounts.Goals as goal
 
 pub returns-clause-sum : goal.returns-clause-sum
@@ -13,3 +14,6 @@ returns-clause-greater c = Encloses-greater
 
 pub returns-clause-net : goal.returns-clause-net
 returns-clause-net c = Encloses-net_amount
+
+pub returns-clause-counted : goal.returns-clause-counted
+returns-clause-counted c = Encloses-counted

@@ -6,7 +6,7 @@ use Rattle.scr_sheet.specs.Records.{applied, natural}
 use Rattle.scr_sheet.specs.Volumes.{volumes_in}
 use Rattle.scr_sheet.specs.declared.edit.Edit.{Edit}
 use Rattle.scr_sheet.specs.declared.fault.Quantity.TheVariants as quantities
-use Rattle.scr_sheet.specs.declared.limits.TheConstants.{MAX_AMOUNT}
+use Rattle.scr_profile.specs.declared.limits.TheConstants.{MAX_AMOUNT}
 use Rattle.scr_sheet.proofs.Sums.{volumes-part}
 use Rattle.scr_sheet.proofs.Quiet.{outside-segment}
 use Rattle.scr_book.proofs.ranges.outside_segment.Goals as goal

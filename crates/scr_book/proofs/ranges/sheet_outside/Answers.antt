@@ -1,16 +1,16 @@
-use Rattle.std.proofs.Common.{◌≡◌, ℕ, ◌+◌, ◌-◌, length, true, sym, ap, ◌∙◌, arith, rules, FitsSigned, w64}
+use Rattle.std.proofs.Common.{refl, ◌≡◌, ℕ, ◌+◌, ◌-◌, length, true, sym, ap, ◌∙◌, arith, rules, FitsSigned, w64}
 use Rattle.std.proofs.lemmas.Int.{to_z-of_z}
 use Rattle.std.specs.Option.{option_or, option_map_or}
 use Rattle.scr_sheet.specs.CashFlows.{greatest_years}
 use Rattle.scr_names.specs.Tables.{row_of}
-use Rattle.scr_sheet.specs.BalanceSheet.{group_name, position_name, stake_name, line_name, curve_name, components_total}
+use Rattle.scr_sheet.specs.BalanceSheet.{group_name, position_name, stake_name, liability_name, curve_name, components_total}
 use Rattle.scr_sheet.specs.Faults.{above}
 use Rattle.scr_sheet.specs.declared.fault.Quantity.TheVariants as quantities
 use Rattle.scr_sheet.specs.declared.keys.Table.TheVariants as tables
-use Rattle.scr_sheet.specs.declared.limits.TheConstants.{MAX_YEARS, MAX_CURRENCIES, MAX_SECURITIES, MAX_FUNDS, MAX_COMPONENTS, MAX_LINES, MAX_GROUPS}
+use Rattle.scr_profile.specs.declared.limits.TheConstants.{MAX_YEARS, MAX_CURRENCIES, MAX_SECURITIES, MAX_FUNDS, MAX_COMPONENTS, MAX_LIABILITIES, MAX_GROUPS}
 use Rattle.scr_sheet.proofs.Preserved.{right_table}
 use Rattle.scr_sheet.proofs.Sums.{stake_components}
-use Rattle.scr_sheet.proofs.Quiet.{is_quiet, outside-quiet, outside-curve, outside-group, outside-security, outside-fund, outside-line, outside-flows, outside-hold, outside-bank, outside-rein}
+use Rattle.scr_sheet.proofs.Quiet.{is_quiet, outside-quiet, outside-curve, outside-group, outside-security, outside-fund, outside-liability, outside-flows, outside-hold, outside-bank, outside-rein}
 use Rattle.scr_book.proofs.Moved.{right_holding}
 use Rattle.scr_book.proofs.Reduced.{first_by_is, above-with, banks-with, reinsurers-with, years-is, both-is}
 use Rattle.scr_book.proofs.ranges.sheet_outside.Goals as goal
@@ -53,13 +53,13 @@ returns-in-Fund c =
     ∙ sym (outside-fund book c.numbers.ensures.valid op.name op.components))
     c.requires.known c.requires.kind
 
-pub returns-in-Line : goal.returns-in-Line
-returns-in-Line c =
+pub returns-in-Liability : goal.returns-in-Liability
+returns-in-Liability c =
     let book = c.args.book.now in
-    let op = c.in-Line in
-    first_by_is book c.outside_lines.result c.args.edit.now _ op.is
-    (λ known kind. c.outside_lines.ensures ∙ above-with quantities.Lines MAX_LINES line_name op.name book.lines
-    ∙ sym (outside-line book c.numbers.ensures.valid op.name op.kind op.currency))
+    let op = c.in-Liability in
+    first_by_is book c.outside_liabilities.result c.args.edit.now _ op.is
+    (λ known kind. c.outside_liabilities.ensures ∙ above-with quantities.Liabilities MAX_LIABILITIES liability_name op.name book.liabilities
+    ∙ sym (outside-liability book c.numbers.ensures.valid op.name op.kind op.currency))
     c.requires.known c.requires.kind
 
 pub returns-in-Hold : goal.returns-in-Hold
@@ -82,7 +82,7 @@ returns-in-Flows c =
     let book = c.args.book.now in
     let op = c.in-Flows in
     let years : c.years.result ≡ greatest_years book.numbers.asof.number op.flows =
-    years-is c.years.result c.numbers.result.now book.numbers c.as_slice.result.now op.flows c.years.ensures c.numbers.ensures.numbers c.as_slice.ensures in
+    years-is c.years.result c.numbers.result.now book.numbers op.flows op.flows c.years.ensures c.numbers.ensures.numbers refl in
     first_by_is book c.outside_years-in-Flows.result c.args.edit.now _ op.is
     (λ known kind. c.outside_years-in-Flows.ensures ∙ ap (λ (n : ℕ). above quantities.Years n MAX_YEARS) years
     ∙ sym (outside-flows book c.numbers.ensures.valid op.security op.flows (right_table tables.Security op.security book known kind)))

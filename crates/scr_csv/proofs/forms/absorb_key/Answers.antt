@@ -1,3 +1,4 @@
+-- A key is a scenario's word, or has a currency in it.
 use Rattle.std.proofs.Common.{◌≡◌, List, ℕ, IfSome, Some, sym, subst, rules}
 use Rattle.scr_sheet.specs.Forms.{IsAbsorbKey}
 use Rattle.scr_sheet.specs.declared.keys.AbsorbKey.{AbsorbKey}
@@ -7,7 +8,8 @@ use Rattle.scr_csv.proofs.forms.absorb_key.Goals as goal
 
 scenario-formed : (field : List ℕ) (key : AbsorbKey) → scenario_of field ≡ Some key → IsAbsorbKey key
 unfolding scenario_of
-scenario-formed field key found = subst (λ o. IfSome o IsAbsorbKey) found (found_is IsAbsorbKey (λ k. has_word k field) all_absorb_keys (search rules))
+scenario-formed field key found = subst (λ o. IfSome o IsAbsorbKey) found
+    (found_is IsAbsorbKey (λ k. has_word k field) all_absorb_keys (search rules))
 
 pub returns-in-Some-clause-formed : goal.returns-in-Some-clause-formed
 returns-in-Some-clause-formed c = scenario-formed c.args.text.now c.in-Some.key (sym c.in-Some.ensures)

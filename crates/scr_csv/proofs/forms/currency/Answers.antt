@@ -1,3 +1,4 @@
+-- A currency is a name.
 use Rattle.std.proofs.Common.{◌≡◌, true, sym, ◌∙◌}
 use Rattle.scr_names.specs.Names.{is_currency}
 use Rattle.scr_csv.specs.FieldForms.{currency_of}

@@ -1,3 +1,4 @@
+-- What the digits so far stand for.
 use Rattle.std.proofs.Common.{◌≡◌, ◌<◌, ◌^◌, take}
 use Rattle.scr_csv.specs.Numbers.{decimal_value}
 use Rattle.scr_csv.proofs.numbers.decimal_value.Given as goal

@@ -1,3 +1,4 @@
+-- The record of a line, or its first fault.
 use Rattle.std.proofs.Common.{arith}
 use Rattle.scr_csv.proofs.LineSplit.{few_fields}
 use Rattle.scr_csv.proofs.read.read_line.Goals as goal

@@ -1,3 +1,4 @@
+-- The first field of a text, and what follows it.
 use Rattle.std.proofs.Common.{◌∷◌, ◌+◌, ◌∙◌, ap, sym, take}
 use Rattle.scr_csv.specs.Sources.{pieces}
 use Rattle.scr_csv.proofs.Cuts.{cut_at, cut_nowhere, all_left}

@@ -1,3 +1,4 @@
+-- The first line of a text, and what follows it.
 use Rattle.std.proofs.Common.{◌∷◌, ◌+◌, ◌∙◌, ap, sym, drop}
 use Rattle.std.specs.Str.Lines.{lines}
 use Rattle.scr_csv.proofs.Cuts.{all_left}

@@ -2,8 +2,9 @@ use Rattle.std.proofs.Common.{◌≡◌, ℕ, ◌≤◌, ℤ, unsigned_abs, Fits
 use Rattle.std.proofs.lemmas.Int.{ints}
 use Rattle.scr_num.specs.declared.span.Span.{Span}
 use Rattle.scr_num.specs.Rounding.{ends, scale_ends}
+use Rattle.scr_curve.specs.declared.table.TheConstants.{MAX_DISCOUNT}
 use Rattle.scr_curve.specs.Parts.{parts, IsRateInParts}
-use Rattle.scr_curve.specs.Table.{discount_ends, IsDiscount}
+use Rattle.scr_curve.specs.DiscountEnds.{discount_ends, IsDiscount}
 use Rattle.scr_curve.proofs.PowerLemmas.{in_range, grown}
 use Rattle.scr_curve.proofs.discount.discount.Goals as goal
 
@@ -12,7 +13,7 @@ unfolding discount_ends
 loop-init c = c.exact-span.ensures.ends
 
 size_of : (span : Span) (rate : ℤ) (years : ℕ) → IsRateInParts rate → years ≤ 100 → ends span ≡ discount_ends rate years
-    → (unsigned_abs span.low ≤ 2740000000000000000) × (unsigned_abs span.high ≤ 2740000000000000000)
+    → (unsigned_abs span.low ≤ MAX_DISCOUNT) × (unsigned_abs span.high ≤ MAX_DISCOUNT)
 size_of span rate years limits in100 e =
     let within : IsDiscount (ends span) = rw e (in_range rate years limits in100) in
     let low = within.low in

@@ -1,6 +1,6 @@
 use Rattle.std.proofs.Common.{◌≡◌}
 use Rattle.scr_num.specs.Rounding.{ends}
-use Rattle.scr_curve.specs.Table.{discount_ends}
+use Rattle.scr_curve.specs.DiscountEnds.{discount_ends}
 use Rattle.scr_curve.proofs.discount.discount.Given as goal
 
 abbrev pub invariant-loop : goal.invariant-loop

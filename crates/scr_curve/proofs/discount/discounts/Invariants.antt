@@ -1,7 +1,7 @@
 use Rattle.std.proofs.Common.{◌≡◌, ℕ, ◌+◌, ◌<◌, length, get_or, ℤ}
 use Rattle.scr_num.specs.declared.span.Span.{Span}
 use Rattle.scr_num.specs.Rounding.{ends}
-use Rattle.scr_curve.specs.Table.{discount_ends}
+use Rattle.scr_curve.specs.DiscountEnds.{discount_ends}
 use Rattle.scr_curve.proofs.discount.discounts.Given as goal
 
 abbrev pub invariant-loop-i : goal.invariant-loop-i

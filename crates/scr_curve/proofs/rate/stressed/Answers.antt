@@ -1,7 +1,7 @@
 use Rattle.std.proofs.Common.{◌+◌, FitsSigned, w32, w64, pos, to_z-of_z, arith, rules, length-set}
 use Rattle.scr_num.specs.Enclosure.{Measures}
 use Rattle.scr_curve.specs.Rate.{rate}
-use Rattle.scr_curve.specs.Parts.{parts, IsRateInParts}
+use Rattle.scr_curve.specs.Parts.{parts, IsRateInParts, rates_in_parts}
 use Rattle.scr_curve.proofs.CurveLemmas.{curve_by_place, one_more_place}
 use Rattle.scr_curve.proofs.rate.stressed.Goals as goal
 
@@ -22,6 +22,7 @@ loop-i-preserved c =
     )
 
 pub returns-clause-value : goal.returns-clause-value
+unfolding rates_in_parts
 returns-clause-value c =
     curve_by_place c.loop-i.curve (rate c.args.rates.now c.args.tilt) c.loop-i.invariant.0
     (record { each = λ k d within. (c.loop-i.invariant.1 k d (omega arith)).0 })

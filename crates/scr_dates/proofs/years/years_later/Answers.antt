@@ -17,5 +17,7 @@ returns c =
     let fits : FitsSigned w64 c.from.result = omega (arith, signed_arith, c.args.date.year_in) in
     let only = rw c.from.ensures at (simp to_z-of_z at c.years.ensures) in
     let moved = rw c.unwrap-later.ensures at c.checked_add.ensures.value in
-    let small : FitsSigned w32 c.to_unix_epoch_day.result = omega (arith, signed_arith, c.to_unix_epoch_day.ensures.bound) in
-    back small ∙ c.to_unix_epoch_day.ensures.value ∙ ap epoch_day c.to_plain.ensures ∙ moved ∙ date_add-anniversary c.args.date c.args.years c.years.result only
+    let small : FitsSigned w32 c.to_unix_epoch_day.result =
+    omega (arith, signed_arith, c.to_unix_epoch_day.ensures.bound) in
+    back small ∙ c.to_unix_epoch_day.ensures.value ∙ ap epoch_day c.to_plain.ensures ∙ moved
+    ∙ date_add-anniversary c.args.date c.args.years c.years.result only

@@ -18,7 +18,9 @@ early c =
     let start = c.date_of-start.ensures in
     let end = c.date_of-end.ensures in
     let lt : c.years_later.result.number <ℤ c.args.pay.number = is_lt-true _ _ (sym c.lt.ensures ∙ c.if-lt.true) in
-    rw (start, end) at (found_next c.date_of-start.result c.date_of-end.result c.years_between-years.result (omega (arith, signed_arith)) (omega (arith, signed_arith)) c.years_between-years.ensures (omega (arith, signed_arith, lt)))
+    rw (start, end) at
+    (found_next c.date_of-start.result c.date_of-end.result c.years_between-years.result (omega (arith, signed_arith))
+    (omega (arith, signed_arith)) c.years_between-years.ensures (omega (arith, signed_arith, lt)))
 
 pub returns-then-lt-clause-value : goal.returns-then-lt-clause-value
 returns-then-lt-clause-value c = (early c).value
@@ -31,7 +33,9 @@ late c =
     let start = c.date_of-start.ensures in
     let end = c.date_of-end.ensures in
     let ge : c.args.pay.number ≤ℤ c.years_later.result.number = is_lt-false _ _ (sym c.lt.ensures ∙ c.if-lt.false) in
-    rw (start, end) at (found_same c.date_of-start.result c.date_of-end.result c.years_between-years.result (omega (arith, signed_arith)) (omega (arith, signed_arith)) c.years_between-years.ensures (omega (arith, signed_arith, ge)))
+    rw (start, end) at
+    (found_same c.date_of-start.result c.date_of-end.result c.years_between-years.result (omega (arith, signed_arith))
+    (omega (arith, signed_arith)) c.years_between-years.ensures (omega (arith, signed_arith, ge)))
 
 pub returns-else-lt-clause-value : goal.returns-else-lt-clause-value
 returns-else-lt-clause-value c = (late c).value

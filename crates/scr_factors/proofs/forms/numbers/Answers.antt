@@ -7,5 +7,7 @@ use Rattle.scr_factors.proofs.forms.numbers.Goals as goal
 
 pub returns-then-items : goal.returns-then-items
 returns-then-items g c =
-    let items : as_array (view c.args.value.now) ≡ Some (items_view c.as_slice-items.result.now) = rw c.as_slice-items.ensures.value (sym c.in_ok-as_array.ensures) in
-    sym (list_of-none (spec.whole_number c.args.limit) g.row.N (view c.args.value.now) c.as_slice-items.result.now items c.if-items.true)
+    let items : as_array (view c.args.value.now) ≡ Some (items_view c.as_slice-items.result.now) =
+    rw c.as_slice-items.ensures.value (sym c.in_ok-as_array.ensures) in
+    sym (list_of-none (spec.whole_number c.args.limit) g.row.N (view c.args.value.now) c.as_slice-items.result.now items
+    c.if-items.true)

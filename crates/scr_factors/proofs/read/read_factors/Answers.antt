@@ -20,7 +20,8 @@ due-answers due (Err (NotSymmetric i j)) h = h
 due-answers due (Err NoMemory) h = tt
 
 -- of TOML in UTF-8
-values_in-read : (bytes : List ℕ) (document : Members) → IsUtf8 bytes → parse_document bytes ≡ Some document → values_in bytes ≡ values_of document
+values_in-read : (bytes : List ℕ) (document : Members) → IsUtf8 bytes → parse_document bytes ≡ Some document
+    → values_in bytes ≡ values_of document
 values_in-read bytes document utf8 parsed = rw (is_utf8-from_IsUtf8 bytes utf8, parsed) refl
 
 -- and of other bytes
@@ -34,7 +35,8 @@ values_in-refused bytes h = go (is_utf8 bytes) refl
 pub returns-in-Ok : goal.returns-in-Ok
 returns-in-Ok c =
     let read = c.in-Ok.ensures.ok in
-    due-answers (values_in c.args.bytes.now) c.values_of.result (values_in-read c.args.bytes.now (table_view c.in-Ok.document) read.0 read.1 ∙ sym c.values_of.ensures)
+    due-answers (values_in c.args.bytes.now) c.values_of.result
+    (values_in-read c.args.bytes.now (table_view c.in-Ok.document) read.0 read.1 ∙ sym c.values_of.ensures)
 
 pub returns-in-Err-2 : goal.returns-in-Err-2
 returns-in-Err-2 c =

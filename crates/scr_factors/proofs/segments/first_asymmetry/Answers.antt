@@ -7,7 +7,8 @@ loop-i-init c = searched_to-start c.args.rows.now
 
 pub returns-in-Some-clause-value : goal.returns-in-Some-clause-value
 returns-in-Some-clause-value c =
-    sym (searched_to-found c.args.rows.now c.loop-i.i c.in-Some.j c.loop-i-test.true c.loop-i.invariant (sym c.in-Some.ensures.value))
+    sym (searched_to-found c.args.rows.now c.loop-i.i c.in-Some.j c.loop-i-test.true c.loop-i.invariant
+    (sym c.in-Some.ensures.value))
 
 pub loop-i-preserved : goal.loop-i-preserved
 loop-i-preserved c =

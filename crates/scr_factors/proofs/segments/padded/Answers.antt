@@ -8,4 +8,5 @@ loop-i-preserved c =
     let small : n ≤ 100 = c.requires c.loop-i.i 0 (omega arith) in
     let fits : FitsSigned w16 (pos n) = omega arith in
     let same : to_z w16 n ≡ pos n = to_z-of_z fits in
-    rw same (padded_to-next pos (pos 0) 16 c.args.row.now c.loop-i.cells c.loop-i.i 0 (omega arith) (omega arith) c.loop-i.invariant)
+    rw same (padded_to-next pos (pos 0) 16 c.args.row.now c.loop-i.cells c.loop-i.i 0 (omega arith)
+    (omega arith) c.loop-i.invariant)

@@ -3,8 +3,8 @@ use Rattle.std.proofs.lemmas.List.{get_or-map, length-map}
 use Rattle.scr_num.specs.Figure.{Frac}
 use Rattle.scr_num.specs.Rounding.{Ends, ends}
 use Rattle.scr_num.specs.Enclosure.{Encloses}
-use Rattle.scr_curve.specs.Table.{one}
-use Rattle.scr_flow.specs.Loss.{loss, discount_fall}
+use Rattle.scr_curve.specs.DiscountEnds.{one}
+use Rattle.scr_flow.specs.Loss.{loss_exact, discount_fall}
 use Rattle.scr_flow.specs.Sums.{flow_ends, weighted_ends, difference, differences}
 use Rattle.scr_flow.proofs.SumLemmas.{sum_more, all_added, Encloses-weighted, length-differences, get_or-differences}
 use Rattle.scr_flow.proofs.LossLemmas.{differences_enclose}
@@ -55,5 +55,5 @@ returns-clause-encloses c = λ before after rates rates'.
     let tos = map ends c.args.to.now.at in
     let whole = Encloses-weighted one (lit< tt) (discount_fall before after) 1 flows (differences base froms stressed tos) (c.loop-i.invariant.places (omega arith))
     (differences_enclose base froms stressed tos before after rates rates' (c.requires.from_encloses before rates) (c.requires.to_encloses after rates')) in
-    let P : Ends → Type 0 = λ e. Encloses one e.low e.high (Frac (loss flows before after)) in
+    let P : Ends → Type 0 = λ e. Encloses one e.low e.high (Frac (loss_exact flows before after)) in
     subst P (sym (returns-clause-ends c)) whole

@@ -3,8 +3,8 @@ use Rattle.std.proofs.lemmas.List.{get_or-map, length-map}
 use Rattle.scr_num.specs.Figure.{Frac}
 use Rattle.scr_num.specs.Rounding.{Ends, ends}
 use Rattle.scr_num.specs.Enclosure.{Encloses}
-use Rattle.scr_curve.specs.Discount.{discount, present_value}
-use Rattle.scr_curve.specs.Table.{one}
+use Rattle.scr_curve.specs.Discount.{discount_exact, present_exact}
+use Rattle.scr_curve.specs.DiscountEnds.{one}
 use Rattle.scr_flow.specs.Sums.{flow_ends, weighted_ends}
 use Rattle.scr_flow.proofs.SumLemmas.{sum_more, all_added, Encloses-weighted}
 use Rattle.scr_flow.proofs.value.present.Goals as goal
@@ -32,8 +32,8 @@ pub returns-clause-encloses : goal.returns-clause-encloses
 returns-clause-encloses c = λ rate enclosed.
     let flows = c.args.flows.now in
     let table = map ends c.args.d.now.at in
-    let whole = Encloses-weighted one (lit< tt) (λ years. discount (rate years) years) 1 flows table (c.loop-i.invariant.places (omega arith))
+    let whole = Encloses-weighted one (lit< tt) (λ years. discount_exact (rate years) years) 1 flows table (c.loop-i.invariant.places (omega arith))
     (λ k d within.
-    subst (λ (j : ℕ). Encloses one (get_or table k d).low (get_or table k d).high (Frac (discount (rate j) j))) (omega arith) (enclosed.each k d within)) in
-    let P : Ends → Type 0 = λ e. Encloses one e.low e.high (Frac (present_value flows rate)) in
+    subst (λ (j : ℕ). Encloses one (get_or table k d).low (get_or table k d).high (Frac (discount_exact (rate j) j))) (omega arith) (enclosed.each k d within)) in
+    let P : Ends → Type 0 = λ e. Encloses one e.low e.high (Frac (present_exact flows rate)) in
     subst P (sym (returns-clause-ends c)) whole

@@ -6,5 +6,6 @@ use Rattle.scr_funds.proofs.look_through.holders_of.Given as goal
 abbrev pub invariant-loop-row : goal.invariant-loop-row
 invariant-loop-row l = record {
   size : length l.waiting.items ≡ l.fn.size;
-  counts : (x : ℕ) → x < l.fn.size → get_or l.waiting.items x 0 ≡ sum_by (times x) (take l.row-index (weighted_rows l.funds));
+  counts : (x : ℕ) → x < l.fn.size → get_or l.waiting.items x 0
+      ≡ sum_by (times x) (take l.row-index (weighted_rows l.funds));
 }

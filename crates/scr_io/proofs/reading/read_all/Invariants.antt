@@ -10,7 +10,8 @@ invariant-reads g l =
     let at_entry = g.F.Shelf.content l.fn.shelf l.name in
     record {
       read_so_far : IsPresentAnd at_entry (λ whole. Consumes (Some whole) (g.F.Shelf.left l.shelf) l.bytes.items);
-      faults : g.F.Shelf.faults l.fn.shelf ≤ g.F.Shelf.faults l.shelf;
+      faults : g.F.Shelf.faults l.shelf ≡ g.F.Shelf.faults l.fn.shelf;
+      same_strays : g.F.Shelf.strays l.shelf ≡ g.F.Shelf.strays l.fn.shelf;
       strays : RisesOnlyIfAbsent at_entry (g.F.Shelf.strays l.fn.shelf) (g.F.Shelf.strays l.shelf);
       content : g.F.Shelf.content l.shelf ≡ g.F.Shelf.content l.fn.shelf;
     }

@@ -1,5 +1,11 @@
-use Rattle.scr_run.proofs.Bounds.{bounds_enclose, equity_bounded}
+use Rattle.scr_csv.specs.Lines.{records}
+use Rattle.scr_cells.proofs.Bounded.{certified}
+use Rattle.scr_run.proofs.PrintedSheets.{printed_certified, printed_valid}
 use Rattle.scr_run.proofs.laws.enclosure.Goals as goal
 
 pub returns : goal.returns
-returns c = record { printed = bounds_enclose; equity = equity_bounded }
+returns c = record {
+  valid = λ book edits sheet e. printed_valid book (records edits) sheet e;
+  printed = λ values book edits sheet e. printed_certified values book (records edits) sheet e;
+  certified = certified;
+}

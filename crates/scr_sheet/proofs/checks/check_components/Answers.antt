@@ -1,6 +1,6 @@
 use Rattle.std.proofs.Common.{◌≡◌, ◌+◌, ◌*◌, ◌-◌, ◌≤◌, ◌<◌, sym, ap, ◌∙◌, arith, drop}
 use Rattle.scr_sheet.specs.Faults.{components_fault}
-use Rattle.scr_sheet.specs.declared.limits.TheConstants.{MAX_FUND_COMPONENTS}
+use Rattle.scr_profile.specs.declared.limits.TheConstants.{MAX_FUND_COMPONENTS}
 use Rattle.scr_sheet.proofs.MetNames.{met_names, told-full, told-met, told-next}
 use Rattle.scr_sheet.proofs.checks.check_components.Goals as goal
 use Rattle.scr_sheet.proofs.checks.check_components.Goals.{then-field-via-then-field, then-field-via-else-field+then-contains_key}

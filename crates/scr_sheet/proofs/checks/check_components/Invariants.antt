@@ -1,6 +1,6 @@
 use Rattle.std.proofs.Common.{◌≡◌, ◌+◌, ◌*◌, ◌-◌, ◌≤◌, [], drop}
 use Rattle.scr_sheet.specs.Faults.{components_fault}
-use Rattle.scr_sheet.specs.declared.limits.TheConstants.{MAX_FUND_COMPONENTS}
+use Rattle.scr_profile.specs.declared.limits.TheConstants.{MAX_FUND_COMPONENTS}
 use Rattle.scr_sheet.proofs.MetNames.{met_names}
 use Rattle.scr_sheet.proofs.checks.check_components.Given as goal
 

@@ -1,7 +1,7 @@
 use Rattle.std.proofs.Common.{ℕ, List, None, sym, ap, ◌∙◌, map, filter, fold}
 use Rattle.std.proofs.lemmas.List.Sums.{fold-append}
 use Rattle.scr_names.specs.Names.{same_name, earlier}
-use Rattle.scr_sheet.specs.BalanceSheet.{position_name, line_name}
+use Rattle.scr_sheet.specs.BalanceSheet.{position_name, liability_name}
 use Rattle.scr_sheet.proofs.users.first_in_currency.Goals as goal
 
 pub returns : goal.returns
@@ -9,5 +9,5 @@ returns c =
     let currency = c.args.currency.now in
     let sheet = c.args.sheet.now in
     let securities : List (List ℕ) = map position_name (filter (λ p. same_name currency p.security.currency) sheet.securities) in
-    let lines : List (List ℕ) = map line_name (filter (λ l. same_name currency l.currency) sheet.lines) in
-    c.lines_in_currency.ensures ∙ ap (λ first. fold earlier first lines) c.securities_in_currency-securities.ensures ∙ sym (fold-append earlier None securities lines)
+    let liabilities : List (List ℕ) = map liability_name (filter (λ l. same_name currency l.currency) sheet.liabilities) in
+    c.liabilities_in_currency.ensures ∙ ap (λ first. fold earlier first liabilities) c.securities_in_currency-securities.ensures ∙ sym (fold-append earlier None securities liabilities)

@@ -1,4 +1,5 @@
-use Rattle.std.proofs.Common.{◌≡◌, refl, ap}
+use Rattle.std.proofs.Common.{◌≡◌, List, refl, sym, ap, subst}
+use Rattle.scr_sheet.specs.declared.rows.Group.{Group}
 use Rattle.scr_sheet.specs.Records.{applied}
 use Rattle.scr_book.specs.Kept.{IsKept}
 use Rattle.scr_book.specs.declared.book.Book.TheInside.{Inside}
@@ -17,3 +18,7 @@ invariant_of-self-2 c = (kept c).0
 
 pub returns-clause-ok : goal.returns-clause-ok
 returns-clause-ok c = (kept c).1
+
+pub invariant_of-self : goal.invariant_of-self
+invariant_of-self c =
+    subst (λ (rows : List Group). IsKept (record c.self.inside { sheet = record c.self.inside.sheet { groups = rows } })) (sym c.in_err-put.ensures.err) c.self.invariant

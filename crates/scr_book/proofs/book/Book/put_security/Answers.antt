@@ -1,4 +1,4 @@
-use Rattle.std.proofs.Common.{◌≡◌, ℕ, ℤ, true, List, [], refl, sym, ap, subst, ◌∙◌, rules, w64}
+use Rattle.std.proofs.Common.{◌≡◌, ℕ, ℤ, true, false, List, [], refl, sym, ap, subst, ◌∙◌, rules, w64}
 use Rattle.std.proofs.lemmas.Int.{to_z-of_z}
 use Rattle.std.specs.Option.{option_map_or}
 use Rattle.scr_dates.specs.declared.day.Day.{Day}
@@ -10,6 +10,7 @@ use Rattle.scr_sheet.specs.declared.rows.Position.{Position}
 use Rattle.scr_sheet.specs.declared.rows.Security.{Security}
 use Rattle.scr_sheet.specs.declared.edit.Edit.{Edit}
 use Rattle.scr_sheet.specs.declared.edit.Edit.TheVariants as edits
+use Rattle.scr_book.specs.Holders.{IsGraphOf}
 use Rattle.scr_book.specs.Kept.{IsKept}
 use Rattle.scr_book.specs.declared.book.Book.TheInside.{Inside}
 use Rattle.scr_book.proofs.Moved.{none_there}
@@ -35,14 +36,13 @@ kept-replaced c =
     ∙ ap (λ d. position c.args.name.now d p.security.flows p.held) amount
     ∙ ap (λ flows. position c.args.name.now (natural c.args.duration) flows p.held) (sym (ap (λ o. option_map_or (λ q. q.security.flows) o []) is))
     ∙ ap (λ held. position c.args.name.now (natural c.args.duration) (kept_flows c.args.name.now rows) held) (sym (ap (λ o. option_map_or (λ q. q.held) o 0) is))) in
-    let graph = graph_now c.self.inside c.args.self.now c.self.view_is c.self.invariant in
     let has : has_row position_name c.args.name.now c.args.self.now.securities ≡ true =
     ap (λ (s : BalanceSheet). has_row position_name c.args.name.now s.securities) (sym c.self.view_is) ∙ sym c.contains.ensures ∙ c.if-contains.true in
-    let own = row_entered position_name c.self.inside.graph c.args.name.now c.args.self.now.securities has graph.securities in
     kept-whole c.self.inside new c.args.self.now c.self.view_is c.self.invariant edit c.requires.formed c.requires.no_fault
     (ap (λ rows. record c.self.inside.sheet { securities = rows }) (written ∙ same))
     (sums_kept c.self.inside new c.args.self.now c.self.view_is c.self.invariant edit c.requires.formed c.requires.no_fault refl refl)
-    (graph-security c.args.self.now c.self.inside.graph c.self.inside.graph graph (λ x e. e) _ own refl)
+    (λ fresh. let graph = graph_now c.self.inside c.args.self.now c.self.view_is c.self.invariant fresh in
+    graph-security c.args.self.now c.self.inside.graph c.self.inside.graph graph (λ x e. e) _ (row_entered position_name c.self.inside.graph c.args.name.now c.args.self.now.securities has graph.securities) refl)
 
 kept-made : (c : goal.In_ok-put) → let new : Inside = record c.self.inside { sheet = record c.self.inside.sheet { securities = c.put.new.self }; graph = c.enter.new.self } in
     IsKept new × (new.sheet ≡ applied (edits.Security c.args.name.now c.args.class c.args.group c.args.currency.now c.args.duration) c.args.self.now)
@@ -56,14 +56,13 @@ kept-made c =
     let none = none_there position_name c.args.name.now rows (sym c.contains.ensures ∙ c.if-contains.false) in
     let promised : c.new-2.result ≡ kept_flows c.args.name.now rows = c.new-2.ensures ∙ c.new.ensures.items ∙ sym (ap (λ o. option_map_or (λ q. q.security.flows) o []) none) in
     let held : 0 ≡ kept_hold c.args.name.now rows = sym (ap (λ o. option_map_or (λ q. q.held) o 0) none) in
-    let graph = graph_now c.self.inside c.args.self.now c.self.view_is c.self.invariant in
     let entered = c.in_ok-enter.ensures.entered in
     kept-whole c.self.inside new c.args.self.now c.self.view_is c.self.invariant edit c.requires.formed c.requires.no_fault
     (ap (λ rows. record c.self.inside.sheet { securities = rows })
     (c.in_ok-put.ensures.ok ∙ ap (λ d. with_row position_name (position d c.new-2.result 0) rows) amount ∙ ap (λ flows. with_row position_name (position (natural c.args.duration) flows 0) rows) promised
     ∙ ap (λ n. with_row position_name (position (natural c.args.duration) (kept_flows c.args.name.now rows) n) rows) held))
     (sums_kept c.self.inside new c.args.self.now c.self.view_is c.self.invariant edit c.requires.formed c.requires.no_fault refl refl)
-    (graph-security c.args.self.now c.self.inside.graph c.enter.new.self graph (others_entered c.args.name.now c.self.inside.graph c.enter.new.self entered) _
+    (λ fresh. graph-security c.args.self.now c.self.inside.graph c.enter.new.self (graph_now c.self.inside c.args.self.now c.self.view_is c.self.invariant fresh) (others_entered c.args.name.now c.self.inside.graph c.enter.new.self entered) _
     (name_entered c.args.name.now c.self.inside.graph c.enter.new.self entered) c.enter.ensures.components)
 
 pub invariant_of-self : goal.invariant_of-self
@@ -81,7 +80,6 @@ returns-clause-ok c = (kept-made c).1
 pub invariant_of-self-in_err-put : goal.invariant_of-self-in_err-put
 invariant_of-self-in_err-put c =
     let sheet = c.args.self.now in
-    let graph = graph_now c.self.inside sheet c.self.view_is c.self.invariant in
-    let entered = graph-entered sheet c.self.inside.graph c.enter.new.self graph c.args.name.now c.in_ok-enter.ensures.entered c.in_ok-enter.ensures.components in
+    let entered : c.self.inside.is_graph_due ≡ false → IsGraphOf sheet c.enter.new.self = λ fresh. graph-entered sheet c.self.inside.graph c.enter.new.self (graph_now c.self.inside sheet c.self.view_is c.self.invariant fresh) c.args.name.now c.in_ok-enter.ensures.entered c.in_ok-enter.ensures.components in
     subst (λ (rows : List Position). IsKept (record c.self.inside { sheet = record c.self.inside.sheet { securities = rows }; graph = c.enter.new.self })) (sym c.in_err-put.ensures.err)
     (kept-graph c.self.inside sheet c.self.view_is c.self.invariant c.enter.new.self entered)

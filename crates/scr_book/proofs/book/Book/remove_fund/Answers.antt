@@ -20,7 +20,7 @@ kept c =
     (ap (λ rows. record c.self.inside.sheet { funds = rows }) c.remove.ensures)
     (sums-drop_fund c.args.name.now c.args.self.now c.self.inside.sums components c.requires.no_fault (sums_now c.self.inside c.args.self.now c.self.view_is c.self.invariant)
     (ap (λ n. c.self.inside.sums.components - n) c.component_count-old.ensures.value))
-    (graph-drop_fund c.args.self.now c.self.inside.graph c.clear.new.self (graph_now c.self.inside c.args.self.now c.self.view_is c.self.invariant)
+    (λ fresh. graph-drop_fund c.args.self.now c.self.inside.graph c.clear.new.self (graph_now c.self.inside c.args.self.now c.self.view_is c.self.invariant fresh)
     (λ x e. (λ i. c.clear.ensures.entered i x) ∙ e) c.args.name.now (subst Valid c.self.view_is c.self.invariant.valid) c.clear.ensures.components)
 
 pub overflow_sub-self : goal.overflow_sub-self

@@ -1,3 +1,4 @@
+-- Components, pair by pair.
 use Rattle.std.proofs.Common.{w64, ◌≡◌, ◌≢◌, ◌++◌, ◌∷◌, [], List, ℕ, ℤ, true, sym, ap, ◌∙◌, rules, arith}
 use Rattle.std.specs.Prelude.{is_ok, FitsSigned}
 use Rattle.std.proofs.lemmas.Int.{to_z-of_z}
@@ -5,36 +6,48 @@ use Rattle.std.proofs.lemmas.Grind.{common_steps}
 use Rattle.scr_csv.specs.FieldForms.{name_of}
 use Rattle.scr_csv.specs.Numbers.{number_value}
 use Rattle.scr_csv.specs.Reading.{pairs_from}
-use Rattle.scr_csv.proofs.ListSteps.{behind, behind_next, due_answers, all_push, next-shorter, pairs-next, pairs-value_fault, pairs-number_fault}
+use Rattle.scr_csv.proofs.ListSteps.{behind, behind_next, due_answers, all_push, next-shorter, pairs-next}
+use Rattle.scr_csv.proofs.ListSteps.{pairs-value_fault, pairs-number_fault}
 use Rattle.scr_csv.proofs.fields.Fields.components.Goals as goal
 
 pub returns-in_err-name-clause-answer : goal.returns-in_err-name-clause-answer
 returns-in_err-name-clause-answer c =
     let some : c.components.self.fields ≢ [] = search rules in
-    let fault = pairs-value_fault name_of c.components.self.number c.components.self.fields c.in_err-name.field-0.0 (sym c.in_err-name.ensures.value) some in
+    let fault = pairs-value_fault name_of c.components.self.number c.components.self.fields c.in_err-name.field-0.0
+    (sym c.in_err-name.ensures.value) some in
     let read = c.components.invariant.read in
     due_answers _ _ (grind (arith, common_steps, fault, read))
 
 pub returns-in_err-weight-clause-answer : goal.returns-in_err-weight-clause-answer
 returns-in_err-weight-clause-answer c =
-    let fault = pairs-number_fault name_of c.components.self.number c.components.self.fields c.in_ok-name.name c.name.new.self c.in_err-weight.field-0.0 (sym c.in_ok-name.ensures.value) (sym c.in_err-weight.ensures.value) in
+    let fault = pairs-number_fault name_of c.components.self.number c.components.self.fields c.in_ok-name.name
+    c.name.new.self c.in_err-weight.field-0.0 (sym c.in_ok-name.ensures.value)
+    (sym c.in_err-weight.ensures.value) in
     let read = c.components.invariant.read in
     due_answers _ _ (grind (arith, common_steps, fault, read))
 
 pub components-smaller : goal.components-smaller
 components-smaller c =
-    let name = next-shorter name_of c.components.self.number c.components.self.fields c.in_ok-name.name c.name.new.self (sym c.in_ok-name.ensures.value) in
-    let weight = next-shorter number_value c.name.new.self.number c.name.new.self.fields c.in_ok-weight.weight c.number.new.self (sym c.in_ok-weight.ensures.value) in
+    let name = next-shorter name_of c.components.self.number c.components.self.fields c.in_ok-name.name c.name.new.self
+    (sym c.in_ok-name.ensures.value) in
+    let weight = next-shorter number_value c.name.new.self.number c.name.new.self.fields c.in_ok-weight.weight
+    c.number.new.self (sym c.in_ok-weight.ensures.value) in
     omega (arith, name, weight)
 
 pub components-preserved : goal.components-preserved
 components-preserved c =
-    let step = pairs-next name_of c.components.self.number c.components.self.fields c.in_ok-name.name c.name.new.self c.in_ok-weight.weight c.number.new.self (sym c.in_ok-name.ensures.value) (sym c.in_ok-weight.ensures.value) in
+    let step = pairs-next name_of c.components.self.number c.components.self.fields c.in_ok-name.name c.name.new.self
+    c.in_ok-weight.weight c.number.new.self (sym c.in_ok-name.ensures.value) (sym c.in_ok-weight.ensures.value) in
     let component : List ℕ × ℤ = (c.in_ok-name.name, c.in_ok-weight.weight) in
     let ok : is_ok c.push.result ≡ true = sym c.map_err.ensures.variant ∙ ap is_ok c.in_ok-map_err.was in
     let fits : FitsSigned w64 c.in_ok-weight.weight = search rules in
-    let pushed : c.push.new.self.items ≡ c.components.components.items ++ (component ∷ []) = rw (c.push.ensures.items, ok) (simp to_z-of_z) in
+    let pushed : c.push.new.self.items ≡ c.components.components.items ++ (component ∷ []) = rw
+    (c.push.ensures.items, ok) (simp to_z-of_z) in
     record {
-      read = rw pushed (sym (behind_next c.components.components.items component (pairs_from name_of c.number.new.self.number c.number.new.self.fields)) ∙ ap (behind c.components.components.items) (sym step) ∙ c.components.invariant.read);
-      formed = rw pushed (all_push _ c.components.components.items component c.components.invariant.formed (c.in_ok-name.ensures.formed, c.in_ok-weight.ensures.formed));
+      read = rw pushed (sym
+          (behind_next c.components.components.items component
+          (pairs_from name_of c.number.new.self.number c.number.new.self.fields))
+          ∙ ap (behind c.components.components.items) (sym step) ∙ c.components.invariant.read);
+      formed = rw pushed (all_push _ c.components.components.items component c.components.invariant.formed
+          (c.in_ok-name.ensures.formed, c.in_ok-weight.ensures.formed));
     }

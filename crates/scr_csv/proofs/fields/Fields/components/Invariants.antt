@@ -1,3 +1,4 @@
+-- The components so far, and those that follow.
 use Rattle.std.proofs.Common.{◌≡◌, length}
 use Rattle.scr_sheet.specs.Forms.{AreComponents}
 use Rattle.scr_csv.specs.FieldForms.{name_of}
@@ -8,7 +9,8 @@ use Rattle.scr_csv.proofs.fields.Fields.components.Given as goal
 -- the components so far, before those that are left
 abbrev pub invariant-components : goal.invariant-components
 invariant-components l = record {
-  read : behind l.components.items (pairs_from name_of l.self.number l.self.fields) ≡ pairs_from name_of l.fn.self.number l.fn.self.fields;
+  read : behind l.components.items (pairs_from name_of l.self.number l.self.fields)
+      ≡ pairs_from name_of l.fn.self.number l.fn.self.fields;
   formed : AreComponents l.components.items;
 }
 

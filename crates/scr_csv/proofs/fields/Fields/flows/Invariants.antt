@@ -1,3 +1,4 @@
+-- The payments so far, and those that follow.
 use Rattle.std.proofs.Common.{◌≡◌, length}
 use Rattle.scr_dates.specs.Text.{day_of_text}
 use Rattle.scr_sheet.specs.Forms.{AreFlows}
@@ -8,7 +9,8 @@ use Rattle.scr_csv.proofs.fields.Fields.flows.Given as goal
 -- the payments so far, before those that are left
 abbrev pub invariant-flows : goal.invariant-flows
 invariant-flows l = record {
-  read : behind l.flows.items (pairs_from day_of_text l.self.number l.self.fields) ≡ pairs_from day_of_text l.fn.self.number l.fn.self.fields;
+  read : behind l.flows.items (pairs_from day_of_text l.self.number l.self.fields)
+      ≡ pairs_from day_of_text l.fn.self.number l.fn.self.fields;
   formed : AreFlows l.flows.items;
 }
 

@@ -1,3 +1,4 @@
+-- The fields of a line, from the verb on.
 use Rattle.std.proofs.Common.{arith}
 use Rattle.scr_csv.proofs.LineSplit.{few_fields}
 use Rattle.scr_csv.proofs.fields.Fields.of_text.Goals as goal

@@ -1,3 +1,4 @@
+-- The records that are left, where lines that are none are passed over.
 use Rattle.std.proofs.Common.{◌≡◌, length}
 use Rattle.scr_csv.specs.LineOrder.{lines_left}
 use Rattle.scr_csv.proofs.walk.LinesIterator.next.Given as goal

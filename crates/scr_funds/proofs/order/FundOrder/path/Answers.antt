@@ -7,7 +7,10 @@ use Rattle.scr_funds.proofs.order.FundOrder.path.Goals as goal
 
 pub returns : goal.returns
 returns c =
-    let Answer : (ℕ → List ℕ) → Type 0 = λ next. IfOk c.first_chain.result (λ found. MatchOption found (¬ LeadsTo next c.args.from c.args.to) (λ path. IsFirstShortest next c.args.from c.args.to path.items)) in
+    let Answer : (ℕ → List ℕ) → Type 0 = λ next. IfOk c.first_chain.result
+    (λ found. MatchOption found (¬ LeadsTo next c.args.from c.args.to)
+    (λ path. IsFirstShortest next c.args.from c.args.to path.items)) in
     let own = c.row_of.ensures ∙ ap (λ rows. components_of (rows_of rows) c.args.from) c.deref-2.ensures.value in
     subst Answer (ap (λ rows. components_with c.args.from c.row_of.result.now (rows_of rows)) c.deref.ensures.value
-    ∙ with-same c.args.from c.row_of.result.now (rows_of c.self.inside.rows.items) own ∙ ap components_of c.self.view_is) c.first_chain.ensures
+    ∙ with-same c.args.from c.row_of.result.now (rows_of c.self.inside.rows.items) own
+    ∙ ap components_of c.self.view_is) c.first_chain.ensures

@@ -5,7 +5,7 @@ use Rattle.scr_names.specs.Names.{same_name}
 use Rattle.scr_names.specs.Tables.{with_row}
 use Rattle.scr_names.proofs.TableRows.{distinct-with_row}
 use Rattle.scr_graph.specs.Graph.{Graph, components_under, entered_in}
-use Rattle.scr_graph.specs.GraphKept.{node_name}
+use Rattle.scr_graph.specs.GraphInside.{node_name}
 use Rattle.scr_graph.proofs.Graphs.{under-entered}
 use Rattle.scr_graph.proofs.Nodes.{has_row-any, with_row-new}
 use Rattle.scr_graph.proofs.Numbering.{any-again, any-last}
@@ -14,11 +14,13 @@ use Rattle.scr_graph.proofs.graph.FundGraph.enter.Goals as goal
 pub returns-then-contains-clause-entered : goal.returns-then-contains-clause-entered
 returns-then-contains-clause-entered c = λ x.
     any-again c.args.self.now.names c.args.name x
-    (ap (λ (g : Graph). entered_in g c.args.name) (sym c.self.view_is) ∙ sym (has_row-any node_name c.args.name c.self.inside.nodes) ∙ sym c.contains.ensures ∙ c.if-contains.true)
+    (ap (λ (g : Graph). entered_in g c.args.name) (sym c.self.view_is)
+    ∙ sym (has_row-any node_name c.args.name c.self.inside.nodes) ∙ sym c.contains.ensures ∙ c.if-contains.true)
 
 -- the name goes last
 last : (c : goal.In_ok-put) → c.put.new.self ≡ c.self.inside.nodes ++ record { name = c.args.name } ∷ []
-last c = c.in_ok-put.ensures.ok ∙ with_row-new node_name (record { name = c.args.name }) c.self.inside.nodes (sym c.contains.ensures ∙ c.if-contains.false)
+last c = c.in_ok-put.ensures.ok ∙ with_row-new node_name (record { name = c.args.name }) c.self.inside.nodes
+    (sym c.contains.ensures ∙ c.if-contains.false)
 
 names : (c : goal.In_ok-put) → map node_name c.put.new.self ≡ map node_name c.self.inside.nodes ++ c.args.name ∷ []
 names c = ap (map node_name) (last c) ∙ map-append node_name c.self.inside.nodes (record { name = c.args.name } ∷ [])
@@ -31,9 +33,11 @@ invariant_of-self-2 c =
     let named = c.self.invariant.named in
     record {
       distinct = subst (IsDistinct same_name) (sym (ap (map node_name) c.in_ok-put.ensures.ok))
-          (subst (IsDistinct same_name) (append-nil (map node_name (with_row node_name (record { name = c.args.name }) c.self.inside.nodes)))
+          (subst (IsDistinct same_name)
+          (append-nil (map node_name (with_row node_name (record { name = c.args.name }) c.self.inside.nodes)))
           (distinct-with_row node_name [] [] (record { name = c.args.name }) c.self.inside.nodes (λ fresh. (tt, tt))
-          (subst (IsDistinct same_name) (sym (append-nil (map node_name c.self.inside.nodes))) c.self.invariant.distinct)));
+          (subst (IsDistinct same_name) (sym (append-nil (map node_name c.self.inside.nodes)))
+          c.self.invariant.distinct)));
       few = omega (arith, long, count, few);
       named = omega (arith, long, named);
       order = c.self.invariant.order;
@@ -49,7 +53,8 @@ returns-clause-components c =
     let short = length-map c.self.inside.nodes node_name in
     let named = c.self.invariant.named in
     ap (λ ns. components_under (record { names = ns; components = c.self.inside.order })) (names c)
-    ∙ under-entered (map node_name c.self.inside.nodes) c.self.inside.order (omega (arith, short, named)) c.self.invariant.order c.args.name
+    ∙ under-entered (map node_name c.self.inside.nodes) c.self.inside.order
+    (omega (arith, short, named)) c.self.invariant.order c.args.name
     ∙ ap components_under c.self.view_is
 
 on_err : {A E P : Type 0} (r : Result A E) → P → OnErr r P
@@ -58,9 +63,11 @@ on_err (Err e) p = p
 
 pub returns-then-len-ge-MAX_NAMES-clause-new_name : goal.returns-then-len-ge-MAX_NAMES-clause-new_name
 returns-then-len-ge-MAX_NAMES-clause-new_name c =
-    ap (λ (g : Graph). entered_in g c.args.name) (sym c.self.view_is) ∙ sym (has_row-any node_name c.args.name c.self.inside.nodes) ∙ sym c.contains.ensures ∙ c.if-contains.false
+    ap (λ (g : Graph). entered_in g c.args.name) (sym c.self.view_is)
+    ∙ sym (has_row-any node_name c.args.name c.self.inside.nodes) ∙ sym c.contains.ensures ∙ c.if-contains.false
 
 pub returns-in_err-put-clause-new_name : goal.returns-in_err-put-clause-new_name
 returns-in_err-put-clause-new_name c =
     on_err c.from_residual.result
-    (ap (λ (g : Graph). entered_in g c.args.name) (sym c.self.view_is) ∙ sym (has_row-any node_name c.args.name c.self.inside.nodes) ∙ sym c.contains.ensures ∙ c.if-contains.false)
+    (ap (λ (g : Graph). entered_in g c.args.name) (sym c.self.view_is)
+    ∙ sym (has_row-any node_name c.args.name c.self.inside.nodes) ∙ sym c.contains.ensures ∙ c.if-contains.false)

@@ -3,4 +3,5 @@ use Rattle.std.proofs.Common.{◌≡◌, map, take, slice_index_or}
 use Rattle.scr_graph.proofs.graph.FundGraph.names.Given as goal
 
 abbrev pub invariant-loop-number : goal.invariant-loop-number
-invariant-loop-number l = l.names.items ≡ map (λ k. slice_index_or l.self.names k l.fund) (take l.number-index l.numbers)
+invariant-loop-number l = l.names.items ≡ map (λ k. slice_index_or l.self.names k l.fund)
+    (take l.number-index l.numbers)

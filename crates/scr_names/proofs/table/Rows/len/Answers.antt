@@ -6,4 +6,6 @@ use Rattle.scr_names.proofs.table.Rows.len.Goals as goal
 
 pub returns-clause-apart : goal.returns-clause-apart
 returns-clause-apart g c =
-    subst (IsDistinct same_name) (keys-kept g.R.Row.name_of c.self.inside.map.entries c.args.self.now c.self.view_is c.self.invariant) c.len.ensures.unique
+    subst (IsDistinct same_name)
+    (keys-kept g.R.Row.name_of c.self.inside.map.entries c.args.self.now c.self.view_is c.self.invariant)
+    c.len.ensures.unique

@@ -7,13 +7,17 @@ use Rattle.scr_names.proofs.table.Rows.put.Goals as goal
 
 pub invariant_of-self-2 : goal.invariant_of-self-2
 invariant_of-self-2 g c =
-    (put-kept g.R.Row.name_of c.self.inside.map.entries c.args.self.now c.self.view_is c.self.invariant c.args.row c.insert.new.self.entries
-    (c.in_ok-insert.ensures.entries ∙ ap (λ n. insert_entry same_name c.self.inside.map.entries n c.args.row) c.name-name.ensures)).0
+    (put-kept g.R.Row.name_of c.self.inside.map.entries c.args.self.now c.self.view_is c.self.invariant c.args.row
+    c.insert.new.self.entries
+    (c.in_ok-insert.ensures.entries ∙ ap (λ n. insert_entry same_name c.self.inside.map.entries n c.args.row)
+    c.name-name.ensures)).0
 
 pub returns-clause-ok : goal.returns-clause-ok
 returns-clause-ok g c =
-    (put-kept g.R.Row.name_of c.self.inside.map.entries c.args.self.now c.self.view_is c.self.invariant c.args.row c.insert.new.self.entries
-    (c.in_ok-insert.ensures.entries ∙ ap (λ n. insert_entry same_name c.self.inside.map.entries n c.args.row) c.name-name.ensures)).1
+    (put-kept g.R.Row.name_of c.self.inside.map.entries c.args.self.now c.self.view_is c.self.invariant c.args.row
+    c.insert.new.self.entries
+    (c.in_ok-insert.ensures.entries ∙ ap (λ n. insert_entry same_name c.self.inside.map.entries n c.args.row)
+    c.name-name.ensures)).1
 
 on_err : {A E P : Type 0} (r : Result A E) → P → OnErr r P
 on_err (Ok a) p = tt
@@ -23,6 +27,8 @@ on_err (Err e) p = p
 pub returns-in_err-insert-clause-new_name : goal.returns-in_err-insert-clause-new_name
 returns-in_err-insert-clause-new_name g c =
     on_err c.from_residual.result
-    (ap is_some (sym (lookup-kept g.R.Row.name_of c.self.inside.map.entries c.args.self.now c.self.view_is c.self.invariant (g.R.Row.name_of c.args.row))
+    (ap is_some
+    (sym (lookup-kept g.R.Row.name_of c.self.inside.map.entries c.args.self.now c.self.view_is c.self.invariant
+    (g.R.Row.name_of c.args.row))
     ∙ ap (λ n. lookup (same_name n) c.self.inside.map.entries) (sym c.name-name.ensures)
     ∙ c.in_err-insert.ensures.absent))

@@ -1,0 +1,2 @@
+pub mod Biometric
+pub mod BiometricEnds

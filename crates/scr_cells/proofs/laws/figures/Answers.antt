@@ -1,0 +1,5 @@
+use Rattle.scr_cells.proofs.LiveCells.{all_live, in_grains}
+use Rattle.scr_cells.proofs.laws.figures.Goals as goal
+
+pub returns : goal.returns
+returns c = record { live = all_live; grains = in_grains }

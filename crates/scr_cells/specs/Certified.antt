@@ -1,0 +1,21 @@
+-- What is certified of the block of a balance sheet (this project's own).
+use Rattle.std.specs.Prelude.{◌≡◌, Some}
+use Rattle.std.specs.List.{AllByRecursion}
+use Rattle.scr_num.specs.Enclosure.{Encloses}
+use Rattle.scr_num.specs.Figure.{Figure}
+use Rattle.scr_factors.specs.Values.{FactorValues}
+use Rattle.scr_sheet.specs.declared.sheet.BalanceSheet.{BalanceSheet}
+use Rattle.scr_nodes.specs.declared.node.Node.{Node}
+use Rattle.scr_plan.specs.Exact.{exact}
+use Rattle.scr_cells.specs.Block.{bounds_at}
+use Rattle.scr_cells.specs.Table.{table}
+
+-- the figure has an exact one, which its printed bounds enclose, in cents
+abbrev pub IsBounded : FactorValues → BalanceSheet → Node → Type 0
+IsBounded factors sheet node =
+    (figure : Figure) × (exact factors sheet node ≡ Some figure)
+    × Encloses 1 (bounds_at factors sheet node).low (bounds_at factors sheet node).high figure
+
+-- that of each cell is so
+pub record Certified (factors : FactorValues) (sheet : BalanceSheet) : Type 0 where
+  pub enclosing : AllByRecursion (λ cell. IsBounded factors sheet cell.node) table

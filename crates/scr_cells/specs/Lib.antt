@@ -1,0 +1,4 @@
+pub mod AmountTexts
+pub mod Block
+pub mod Certified
+pub mod Table

@@ -1,0 +1,13 @@
+//! The cells of the report, and the block that is printed of a book.
+#![tactic(auto)]
+
+mod block;
+mod bounds;
+mod cells;
+pub mod laws;
+mod printing;
+mod table;
+
+pub use block::{cell, print_block};
+pub use cells::Cell;
+pub use table::{CELL_COUNT, cell_name};

@@ -1,0 +1,3 @@
+pub mod Thresholds
+pub mod Concentration
+pub mod ConcentrationEnds

@@ -1,0 +1,6 @@
+pub mod AddedUp
+pub mod CoefficientTable
+pub mod Parts
+pub mod Enclosed
+pub mod Band
+pub mod Roots

@@ -1,0 +1,10 @@
+pub mod Probabilities
+pub mod Losses
+pub mod LossesEnds
+pub mod Sums
+pub mod Variance
+pub mod VarianceEnds
+pub mod Type1
+pub mod Type1Ends
+pub mod Default
+pub mod DefaultEnds

@@ -1,0 +1,241 @@
+-- The search goes on by what has components alone: nothing else lies on a chain, so the first shortest chain is the
+-- same.
+use Rattle.std.proofs.Common.{◌≡◌, ◌⊎◌, ℕ, zero, suc, ◌+◌, ◌<◌, ◌≤◌, Bool, true, false, nat_eq, not, ◌||◌, List, []}
+use Rattle.std.proofs.Common.{◌∷◌, filter, length, Contains, Some, None, is_some, cond, if◌then◌else◌, slice_get}
+use Rattle.std.proofs.Common.{refl, sym, ap, subst, ◌∙◌, inl, inr, arith}
+use Rattle.std.specs.Map.{lookup}
+use Rattle.std.proofs.lemmas.Bool.{true≢false, eq-eqb, eqb-true, ne_eqb}
+use Rattle.indexmap.specs.IndexMap.{insert_entry}
+use Rattle.scr_funds.specs.Chains.{IsMetBefore, IsChain, LeadsTo, ComesEarlier, IsFirstShortest}
+use Rattle.scr_funds.specs.Search.{entered, IsTraced}
+use Rattle.scr_funds.proofs.Entries.{Noted, all_entered, noted_none, noted_found, noted_next, noted_all}
+use Rattle.scr_funds.proofs.Members.{IsMember, IsMember-from_Contains, Contains-from_IsMember}
+use Rattle.scr_funds.proofs.Trails.{onto}
+
+-- ---- those of a list that pass a test
+
+module _ {A : Type 0} (p : A → Bool) where
+  passes_or_not : {P : Type 0} (x : A) → (p x ≡ true → P) → (p x ≡ false → P) → P
+  passes_or_not {P} x pass fail = by (p x) refl
+    where
+      by : (b : Bool) → p x ≡ b → P
+      by true e = pass e
+      by false e = fail e
+
+  filter-pass : (x : A) (xs : List A) → p x ≡ true → filter p (x ∷ xs) ≡ x ∷ filter p xs
+  filter-pass x xs e = ap (λ b. cond b (x ∷ filter p xs) (filter p xs)) e
+
+  filter-fail : (x : A) (xs : List A) → p x ≡ false → filter p (x ∷ xs) ≡ filter p xs
+  filter-fail x xs e = ap (λ b. cond b (x ∷ filter p xs) (filter p xs)) e
+
+  -- what passes and is in the list is in the rest
+  member-passing : (xs : List A) (c : A) → IsMember c xs → p c ≡ true → IsMember c (filter p xs)
+  member-passing [] c m pass = absurd m
+  member-passing (x ∷ xs) c (inl e) pass =
+      subst (IsMember c) (sym (filter-pass x xs (ap p (sym e) ∙ pass))) (inl e)
+  member-passing (x ∷ xs) c (inr m) pass = passes_or_not x
+      (λ e. subst (IsMember c) (sym (filter-pass x xs e)) (inr (member-passing xs c m pass)))
+      (λ e. subst (IsMember c) (sym (filter-fail x xs e)) (member-passing xs c m pass))
+
+  member-filtered : (xs : List A) (c : A) → IsMember c (filter p xs) → IsMember c xs × (p c ≡ true)
+  member-filtered [] c m = absurd m
+  member-filtered (x ∷ xs) c m = passes_or_not x
+      (λ e. here e (subst (IsMember c) (filter-pass x xs e) m) (member-filtered xs c))
+      (λ e. let later = member-filtered xs c (subst (IsMember c) (filter-fail x xs e) m) in (inr later.0, later.1))
+    where
+      here : p x ≡ true → IsMember c (x ∷ filter p xs) → (IsMember c (filter p xs) → IsMember c xs × (p c ≡ true))
+          → IsMember c (x ∷ xs) × (p c ≡ true)
+      here e (inl k) rest = (inl k, ap p k ∙ e)
+      here e (inr k) rest = let later = rest k in (inr later.0, later.1)
+
+  -- of two of which the other passes, the one that is met first among those that pass is met first in the list
+  met_before-filtered : (xs : List A) (c d : A) → p d ≡ true → IsMetBefore (filter p xs) c d → IsMetBefore xs c d
+  met_before-filtered [] c d pass met = absurd (let clash : None ≡ Some c = met.1 in cc)
+  met_before-filtered (x ∷ xs) c d pass met = passes_or_not x
+      (λ e. here e (subst (λ ys. IsMetBefore ys c d) (filter-pass x xs e) met) (met_before-filtered xs c d pass))
+      (λ e. later e (met_before-filtered xs c d pass (subst (λ ys. IsMetBefore ys c d) (filter-fail x xs e) met)))
+    where
+      none_here : (k : ℕ) → (x ≡ d → ⊥) → ((j : ℕ) → j ≤ k → slice_get xs j ≡ Some d → ⊥) → (j : ℕ) → j ≤ suc k
+          → slice_get (x ∷ xs) j ≡ Some d → ⊥
+      none_here k apart none zero l s = apart (let same : x ≡ d = cc in same)
+      none_here k apart none (suc j) l s = none j (omega arith) s
+
+      later : p x ≡ false → IsMetBefore xs c d → IsMetBefore (x ∷ xs) c d
+      later e m = (suc m.0, m.1, none_here m.0 (λ s. true≢false (sym pass ∙ ap p (sym s) ∙ e)) m.2)
+
+      here : p x ≡ true → IsMetBefore (x ∷ filter p xs) c d → (IsMetBefore (filter p xs) c d → IsMetBefore xs c d)
+          → IsMetBefore (x ∷ xs) c d
+      here e (zero, at, none) rest = (zero, at, first)
+        where
+          first : (j : ℕ) → j ≤ 0 → slice_get (x ∷ xs) j ≡ Some d → ⊥
+          first zero l s = none 0 (omega arith) s
+          first (suc j) l s = absurd (omega arith)
+      here e (suc i, at, none) rest =
+          let m = rest (i, at, λ j l s. none (suc j) (omega arith) s) in
+          (suc m.0, m.1, none_here m.0 (λ s. none 0 (omega arith) (ap Some s)) m.2)
+
+-- two tests that agree on each
+filter-same : {A : Type 0} (p q : A → Bool) (xs : List A) → ((x : A) → IsMember x xs → p x ≡ q x)
+    → filter p xs ≡ filter q xs
+filter-same p q [] same = refl
+filter-same p q (x ∷ xs) same =
+    ap (λ b. cond b (x ∷ filter p xs) (filter p xs)) (same x (inl refl))
+    ∙ ap (λ ys. cond (q x) (x ∷ ys) ys) (filter-same p q xs (λ y m. same y (inr m)))
+
+module _ (components : ℕ → List ℕ) (to : ℕ) where
+  -- a chain can go on from here
+  abbrev goes_on : ℕ → Bool
+  goes_on c = not (nat_eq (length (components c)) 0)
+
+  -- it can, or it ends here
+  abbrev counts : ℕ → Bool
+  counts c = goes_on c || nat_eq c to
+
+  -- the components by which a chain can go on, or where it ends
+  abbrev pub inner : ℕ → List ℕ
+  inner fund = filter counts (components fund)
+
+  goes_on-some : (c d : ℕ) → Contains (components c) d → goes_on c ≡ true
+  goes_on-some c d h = by (components c) refl
+    where
+      by : (row : List ℕ) → components c ≡ row → goes_on c ≡ true
+      by [] e = absurd (IsMember-from_Contains [] d (subst (λ row. Contains row d) e h))
+      by (x ∷ row) e = ap (λ r. not (nat_eq (length r) 0)) e ∙ ap not (ne_eqb (length (x ∷ row)) 0 (omega arith))
+
+  counts-going_on : (c : ℕ) → goes_on c ≡ true → counts c ≡ true
+  counts-going_on c e = ap (λ b. b || nat_eq c to) e
+
+  counts-end : counts to ≡ true
+  counts-end = ap (λ b. goes_on to || b) (eq-eqb to to refl) ∙ either (goes_on to)
+    where
+      either : (b : Bool) → (b || true) ≡ true
+      either true = refl
+      either false = refl
+
+  inner-has : (a c : ℕ) → Contains (components a) c → counts c ≡ true → Contains (inner a) c
+  inner-has a c h e = Contains-from_IsMember (inner a) c
+      (member-passing counts (components a) c (IsMember-from_Contains (components a) c h) e)
+
+  inner-of : (a c : ℕ) → Contains (inner a) c → Contains (components a) c × (counts c ≡ true)
+  inner-of a c h =
+      let m = member-filtered counts (components a) c (IsMember-from_Contains (inner a) c h) in
+      (Contains-from_IsMember (components a) c m.0, m.1)
+
+  -- ---- the same chains
+
+  chain-in : (a : ℕ) (between : List ℕ) → IsChain components a between to → IsChain inner a between to
+  chain-in a [] h = inner-has a to h counts-end
+  chain-in a (c ∷ cs) h = (inner-has a c h.0 (counts-going_on c (first cs h.1)), chain-in c cs h.1)
+    where
+      first : (cs : List ℕ) → IsChain components c cs to → goes_on c ≡ true
+      first [] k = goes_on-some c to k
+      first (d ∷ ds) k = goes_on-some c d k.0
+
+  chain-out : (a : ℕ) (between : List ℕ) → IsChain inner a between to → IsChain components a between to
+  chain-out a [] h = (inner-of a to h).0
+  chain-out a (c ∷ cs) h = ((inner-of a c h.0).0, chain-out c cs h.1)
+
+  earlier-out : (a : ℕ) (cs ds : List ℕ) → IsChain inner a ds to → ComesEarlier inner a cs ds
+      → ComesEarlier components a cs ds
+  earlier-out a [] ds chain h = absurd h
+  earlier-out a (c ∷ cs) [] chain h = absurd h
+  earlier-out a (c ∷ cs) (d ∷ ds) chain (inl met) =
+      inl (met_before-filtered counts (components a) c d ((inner-of a d chain.0).1) met)
+  earlier-out a (c ∷ cs) (d ∷ ds) chain (inr on) =
+      inr (
+        on.0,
+        subst (λ x. ComesEarlier components x cs ds) (sym on.0)
+            (earlier-out d cs ds chain.1 (subst (λ x. ComesEarlier inner x cs ds) on.0 on.1)),
+      )
+
+  first_shortest-out : (from : ℕ) (path : List ℕ) → IsFirstShortest inner from to path
+      → IsFirstShortest components from to path
+  first_shortest-out from path p = record {
+    between = p.between;
+    whole = p.whole;
+    chain = chain-out from p.between p.chain;
+    shortest = λ other chain. p.shortest other (chain-in from other chain);
+    first = λ other chain short. first other (chain-in from other chain)
+        (p.first other (chain-in from other chain) short);
+  }
+    where
+      first : (other : List ℕ) → IsChain inner from other to
+          → (other ≡ p.between) ⊎ ComesEarlier inner from p.between other
+          → (other ≡ p.between) ⊎ ComesEarlier components from p.between other
+      first other chain (inl e) = inl e
+      first other chain (inr h) = inr (earlier-out from p.between other chain h)
+
+  -- ---- the search
+
+  entered-is : (place : ℕ) (cs : List ℕ) (es : List (ℕ × ℕ))
+      → entered components place cs es ≡ all_entered place (filter goes_on cs) es
+  entered-is place [] es = refl
+  entered-is place (c ∷ cs) es = passes_or_not goes_on c
+      (λ e. ap (entered components place cs)
+      (ap (λ b. if is_some (lookup (nat_eq c) es) || b then es else insert_entry nat_eq es c place)
+      (flip (nat_eq (length (components c)) 0) e)
+      ∙ ap (λ b. if b then es else insert_entry nat_eq es c place) (or_false (is_some (lookup (nat_eq c) es))))
+      ∙ entered-is place cs (if is_some (lookup (nat_eq c) es) then es else insert_entry nat_eq es c place)
+      ∙ ap (λ xs. all_entered place xs es) (sym (filter-pass goes_on c cs e)))
+      (λ e. ap (entered components place cs)
+      (ap (λ b. if is_some (lookup (nat_eq c) es) || b then es else insert_entry nat_eq es c place)
+      (flip_not (nat_eq (length (components c)) 0) e)
+      ∙ ap (λ b. if b then es else insert_entry nat_eq es c place) (or_true (is_some (lookup (nat_eq c) es))))
+      ∙ entered-is place cs es
+      ∙ ap (λ xs. all_entered place xs es) (sym (filter-fail goes_on c cs e)))
+    where
+      flip : (b : Bool) → not b ≡ true → b ≡ false
+      flip true e = sym e
+      flip false e = refl
+
+      flip_not : (b : Bool) → not b ≡ false → b ≡ true
+      flip_not true e = refl
+      flip_not false e = sym e
+
+      or_false : (b : Bool) → (b || false) ≡ b
+      or_false true = refl
+      or_false false = refl
+
+      or_true : (b : Bool) → (b || true) ≡ true
+      or_true true = refl
+      or_true false = refl
+
+  module _ (from : ℕ) where
+    -- the entries before the place are done
+    abbrev pub Searched : List (ℕ × ℕ) → ℕ → Type 0
+    Searched es place = Noted inner from to es place []
+
+    pub searched_none : Searched ((from, 0) ∷ []) 0
+    searched_none = noted_none inner from to
+
+    pub searched_found : (es : List (ℕ × ℕ)) (place fund before : ℕ) → Searched es place → place < length es
+        → slice_get es place ≡ Some (fund, before) → Contains (components fund) to
+        → (trail : List ℕ) × IsTraced es from place trail
+        × IsFirstShortest components from to (from ∷ onto trail (to ∷ []))
+    searched_found es place fund before h l entry there =
+        let way = noted_found inner from to es place fund before h l entry (inner-has fund to there counts-end) in
+        (way.0, way.1, first_shortest-out from (from ∷ onto way.0 (to ∷ [])) way.2)
+
+    pub searched_next : (es : List (ℕ × ℕ)) (place fund before : ℕ) → Searched es place → place < length es
+        → slice_get es place ≡ Some (fund, before) → (Contains (components fund) to → ⊥)
+        → Searched (entered components place (components fund) es) (place + 1)
+    searched_next es place fund before h l entry apart =
+        subst (λ es'. Searched es' (place + 1))
+        (ap (λ xs. all_entered place xs es) (filter-same counts goes_on (components fund) same)
+        ∙ sym (entered-is place (components fund) es))
+        (noted_next inner from to es place fund before h l entry (λ k. apart (inner-of fund to k).0))
+      where
+        same : (c : ℕ) → IsMember c (components fund) → counts c ≡ goes_on c
+        same c m = passes_or_not (λ d. nat_eq d to) c
+            (λ e. absurd
+            (apart (subst (Contains (components fund)) (eqb-true c to e)
+            (Contains-from_IsMember (components fund) c m))))
+            (λ e. ap (λ b. goes_on c || b) e ∙ or_false (goes_on c))
+          where
+            or_false : (b : Bool) → (b || false) ≡ b
+            or_false true = refl
+            or_false false = refl
+
+    pub searched_all : (es : List (ℕ × ℕ)) (place : ℕ) → Searched es place → length es ≤ place
+        → LeadsTo components from to → ⊥
+    searched_all es place h l leads = noted_all inner from to es place h l (leads.0, chain-in from leads.0 leads.1)

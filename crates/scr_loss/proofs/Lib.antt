@@ -1,0 +1,3 @@
+pub mod BscrBounds
+pub mod OperationalBounds
+pub mod AdjustmentBounds

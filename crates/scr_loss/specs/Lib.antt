@@ -1,0 +1,6 @@
+pub mod Bscr
+pub mod BscrEnds
+pub mod Operational
+pub mod OperationalEnds
+pub mod Absorption
+pub mod AbsorptionEnds

@@ -1,0 +1,35 @@
+//! What the low crates answer can be shared by threads.
+
+use scr_agg::Picked;
+use scr_curve::{Discounts, Tilt};
+use scr_dates::Day;
+use scr_factors::Factors;
+use scr_funds::{FundOrder, Kept, OrderFault, Places};
+use scr_graph::FundGraph;
+use scr_market::Equity;
+use scr_names::{Name, Names, Series};
+use scr_num::Span;
+use scr_rate::Interest;
+
+/// Compiles only where `T` can be shared by threads.
+fn shared<T: Send + Sync>() {}
+
+#[test]
+fn answers_are_shared_by_threads(_rt: HostRuntime) {
+    shared::<Span>();
+    shared::<Picked>();
+    shared::<Tilt>();
+    shared::<Discounts>();
+    shared::<Day>();
+    shared::<Factors>();
+    shared::<Name>();
+    shared::<Names>();
+    shared::<Series<(Name, i64)>>();
+    shared::<FundOrder>();
+    shared::<Kept>();
+    shared::<OrderFault>();
+    shared::<Places>();
+    shared::<FundGraph>();
+    shared::<Equity>();
+    shared::<Interest>();
+}

@@ -1,0 +1,13 @@
+pub mod Chosen
+pub mod OwnRows
+pub mod LiveSources
+pub mod Depth
+pub mod Reckoning
+pub mod Walks
+pub mod Joined
+pub mod Apart
+pub mod Parts
+pub mod Ordered
+pub mod Placing
+pub mod Levels
+pub mod SingleSources

@@ -1,0 +1,10 @@
+pub mod Own
+pub mod Rows
+pub mod OwnOf
+pub mod Sources
+pub mod Live
+pub mod Nth
+pub mod LiveNodes
+pub mod PlacedNames
+pub mod FundOrder
+pub mod Reckoned

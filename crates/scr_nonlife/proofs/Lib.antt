@@ -1,0 +1,2 @@
+pub mod NonlifeBounds
+pub mod SegmentBounds

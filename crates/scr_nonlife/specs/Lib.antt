@@ -1,0 +1,4 @@
+pub mod Segment
+pub mod SegmentEnds
+pub mod Nonlife
+pub mod NonlifeEnds

@@ -1,0 +1,99 @@
+-- The exact figures of the non-life underwriting risk module: Articles 114, 115, 117, 119, 120 and 128 of Delegated
+-- Regulation (EU) 2015/35. Nothing is rounded. The thirteen catastrophe charges are in cents, in this order: windstorm,
+-- earthquake, flood, hail, subsidence, non-proportional property reinsurance, motor, marine, aviation, fire, liability,
+-- credit and suretyship, and other non-life catastrophes.
+use Rattle.std.specs.Prelude.{ℕ, pos, List, [], ◌∷◌, slice_index}
+use Rattle.std.proofs.Common.{lit<}
+use Rattle.scr_num.specs.Fraction.{Share}
+use Rattle.scr_num.specs.Figure.{Figure, Figures}
+use Rattle.scr_num.specs.Figure.Figure.{Sum, Times, Root}
+use Rattle.scr_num.specs.Figure.Figures.{more, none}
+use Rattle.scr_num.specs.Table.{Table}
+use Rattle.scr_num.specs.Cents.{cents_figure}
+
+-- ---- premium and reserve risk
+abbrev pub three : Share
+three = record { num = 3; den = 1; positive = lit< tt }
+
+-- three times the standard deviation over all segments: the root over the segments' standard deviations times volumes,
+-- with the correlations between segments (Articles 115 and 117; for health Articles 146 and 148)
+abbrev pub premium_reserve_figure : Figures → Table → Figure
+premium_reserve_figure segments correlations = Times (Root segments correlations) three
+
+-- ---- catastrophe risk
+-- the charge at a place
+abbrev pub charge_figure : List ℕ → ℕ → Figure
+charge_figure charges place = cents_figure (slice_index charges place)
+
+-- no two of five natural perils, of six man-made ones and of three kinds of catastrophe are correlated
+abbrev pub five_perils : Table
+five_perils = record {
+  den = 1;
+  rows =
+      (pos 1 ∷ pos 0 ∷ pos 0 ∷ pos 0 ∷ pos 0 ∷ [])
+      ∷ (pos 0 ∷ pos 1 ∷ pos 0 ∷ pos 0 ∷ pos 0 ∷ [])
+      ∷ (pos 0 ∷ pos 0 ∷ pos 1 ∷ pos 0 ∷ pos 0 ∷ [])
+      ∷ (pos 0 ∷ pos 0 ∷ pos 0 ∷ pos 1 ∷ pos 0 ∷ [])
+      ∷ (pos 0 ∷ pos 0 ∷ pos 0 ∷ pos 0 ∷ pos 1 ∷ [])
+      ∷ [];
+}
+
+abbrev pub six_perils : Table
+six_perils = record {
+  den = 1;
+  rows =
+      (pos 1 ∷ pos 0 ∷ pos 0 ∷ pos 0 ∷ pos 0 ∷ pos 0 ∷ [])
+      ∷ (pos 0 ∷ pos 1 ∷ pos 0 ∷ pos 0 ∷ pos 0 ∷ pos 0 ∷ [])
+      ∷ (pos 0 ∷ pos 0 ∷ pos 1 ∷ pos 0 ∷ pos 0 ∷ pos 0 ∷ [])
+      ∷ (pos 0 ∷ pos 0 ∷ pos 0 ∷ pos 1 ∷ pos 0 ∷ pos 0 ∷ [])
+      ∷ (pos 0 ∷ pos 0 ∷ pos 0 ∷ pos 0 ∷ pos 1 ∷ pos 0 ∷ [])
+      ∷ (pos 0 ∷ pos 0 ∷ pos 0 ∷ pos 0 ∷ pos 0 ∷ pos 1 ∷ [])
+      ∷ [];
+}
+
+abbrev pub three_catastrophes : Table
+three_catastrophes = record {
+  den = 1;
+  rows =
+      (pos 1 ∷ pos 0 ∷ pos 0 ∷ [])
+      ∷ (pos 0 ∷ pos 1 ∷ pos 0 ∷ [])
+      ∷ (pos 0 ∷ pos 0 ∷ pos 1 ∷ [])
+      ∷ [];
+}
+
+-- natural catastrophes: the root of the squares of windstorm, earthquake, flood, hail and subsidence (Article 120)
+abbrev pub nat_figure : List ℕ → Figure
+nat_figure charges =
+    Root (more (charge_figure charges 0) (more (charge_figure charges 1) (more (charge_figure charges 2)
+    (more (charge_figure charges 3) (more (charge_figure charges 4) none))))) five_perils
+
+-- man-made catastrophes: the root of the squares of motor, marine, aviation, fire, liability, and credit and suretyship
+-- (Article 128)
+abbrev pub manmade_figure : List ℕ → Figure
+manmade_figure charges =
+    Root (more (charge_figure charges 6) (more (charge_figure charges 7) (more (charge_figure charges 8)
+    (more (charge_figure charges 9) (more (charge_figure charges 10) (more (charge_figure charges 11) none)))))) six_perils
+
+-- the root of the squares of natural catastrophes with non-proportional property reinsurance, of man-made ones and of
+-- others (Article 119)
+abbrev pub cat_figure : (nat manmade : Figure) → (npproperty other : ℕ) → Figure
+cat_figure nat manmade npproperty other =
+    Root (more (Sum nat (cents_figure npproperty)) (more manmade (more (cents_figure other) none))) three_catastrophes
+
+-- ---- the module
+-- premium and reserve risk is correlated 0.25 with catastrophe risk, and lapse risk with neither (Article 114); the
+-- cells are quarters
+abbrev pub nonlife_correlations : Table
+nonlife_correlations = record {
+  den = 4;
+  rows =
+      (pos 4 ∷ pos 1 ∷ pos 0 ∷ [])
+      ∷ (pos 1 ∷ pos 4 ∷ pos 0 ∷ [])
+      ∷ (pos 0 ∷ pos 0 ∷ pos 4 ∷ [])
+      ∷ [];
+}
+
+-- the root over premium and reserve, catastrophe and lapse risk, of which lapse risk is a charge in cents
+abbrev pub nonlife_figure : (premium_reserve cat : Figure) → (lapse : ℕ) → Figure
+nonlife_figure premium_reserve cat lapse =
+    Root (more premium_reserve (more cat (more (cents_figure lapse) none))) nonlife_correlations

@@ -1,0 +1,102 @@
+-- The rows of discounts that are kept: they may be discounted by, a currency's row is found under its place, and those of all
+-- curves are the discounts of each figure's own rates.
+use Rattle.std.proofs.Common.{◌≡◌, ℕ, ◌≤◌, Bool, true, false, ℤ, List, [], ◌∷◌, Option, Some, None, length, map, if◌then◌else◌, refl, ◌∙◌, arith}
+use Rattle.std.specs.List.{AllByRecursion}
+use Rattle.std.specs.Option.{option_map_or}
+use Rattle.scr_num.specs.Rounding.{Ends}
+use Rattle.scr_curve.specs.DiscountEnds.{table_ends}
+use Rattle.scr_curve.specs.Parts.{IsCurveInMillionths, rates_in_parts}
+use Rattle.scr_curve.specs.Rate.{rate}
+use Rattle.scr_curve.specs.declared.tilt.Tilt.{Tilt}
+use Rattle.scr_curve.specs.declared.tilt.Tilt.TheVariants as tilts
+use Rattle.scr_curve.proofs.RateLemmas.{rates_are, rates_in_range, length-rates_in_parts}
+use Rattle.scr_curve.proofs.TableLemmas.{length-ends_from, table_in_range, table_encloses}
+use Rattle.scr_factors.specs.Values.{FactorValues}
+use Rattle.scr_names.specs.Names.{same_name}
+use Rattle.scr_names.specs.Tables.{row_of}
+use Rattle.scr_sheet.specs.BalanceSheet.{curve_name, position_of}
+use Rattle.scr_sheet.specs.declared.rows.Curve.{Curve}
+use Rattle.scr_sheet.specs.declared.rows.Liability.{Liability}
+use Rattle.scr_sheet.specs.declared.rows.Position.{Position}
+use Rattle.scr_sheet.specs.declared.sheet.BalanceSheet.{BalanceSheet}
+use Rattle.scr_sheet.specs.Validity.{Valid, IsCurve}
+use Rattle.scr_nodes.specs.declared.node.Direction.{Direction}
+use Rattle.scr_nodes.specs.declared.node.Measure.TheVariants as measures
+use Rattle.scr_nodes.specs.declared.node.Node.{Node}
+use Rattle.scr_nodes.specs.declared.node.Node.TheVariants as nodes
+use Rattle.scr_nodes.specs.OwnOf.{own_of, paid_by_security, paid_by_liability, nothing_paid}
+use Rattle.scr_nodes.specs.Rows.{liability_of, rates_of}
+use Rattle.scr_plan.specs.Discounts.{discounts_at, no_discounts, own_discounts}
+use Rattle.scr_plan.specs.Fits.{Fits, FitsPaid}
+use Rattle.scr_plan.specs.Kept.{IsTable, AreDiscountsAt, AreDiscountsOf, row_in, discounts_in, all_discounts}
+use Rattle.scr_plan.proofs.Payments.{curve-rates}
+
+-- ---- those of all curves may be discounted by
+is-table : (rates : List ℤ) (tilt : Tilt) → IsCurveInMillionths rates → IsTable (rate rates tilt) (table_ends (rates_in_parts rates tilt))
+is-table rates tilt curve = record {
+  count = length-ends_from 1 (rates_in_parts rates tilt) ∙ length-rates_in_parts rates tilt;
+  in_range = table_in_range (rates_in_parts rates tilt) (rates_in_range rates tilt curve) (let count = length-rates_in_parts rates tilt in omega (arith, count));
+  encloses = table_encloses (rates_in_parts rates tilt) (rate rates tilt) (rates_in_range rates tilt curve) (rates_are rates tilt curve);
+}
+
+at-rates : (rates : List ℤ) → IsCurveInMillionths rates → AreDiscountsAt rates (discounts_at rates)
+unfolding discounts_at
+at-rates rates curve = record { base = is-table rates tilts.Base curve; up = is-table rates tilts.Up curve; down = is-table rates tilts.Down curve }
+
+all-curves : (curves : List Curve) → AllByRecursion IsCurve curves → AreDiscountsOf curves (map (λ (curve : Curve). discounts_at curve.rates) curves)
+all-curves [] valid = tt
+all-curves (curve ∷ curves) valid = (at-rates curve.rates (curve-rates curve valid.0).curve, all-curves curves valid.1)
+
+pub all-are : (sheet : BalanceSheet) → Valid sheet → AreDiscountsOf sheet.curves (all_discounts sheet)
+all-are sheet valid = all-curves sheet.curves valid.curves
+
+-- ---- the row of a currency
+row-here : (currency : List ℕ) (curves : List Curve) → row_in currency curves (map (λ (curve : Curve). discounts_at curve.rates) curves)
+    ≡ option_map_or (λ (curve : Curve). discounts_at curve.rates) (row_of curve_name currency curves) no_discounts
+row-here currency [] = refl
+row-here currency (curve ∷ curves) = by (same_name currency curve.currency) (row-here currency curves)
+  where
+    by : (b : Bool) → row_in currency curves (map (λ (c : Curve). discounts_at c.rates) curves) ≡ option_map_or (λ (c : Curve). discounts_at c.rates) (row_of curve_name currency curves) no_discounts
+        → (if b then discounts_at curve.rates else row_in currency curves (map (λ (c : Curve). discounts_at c.rates) curves))
+        ≡ option_map_or (λ (c : Curve). discounts_at c.rates) (if b then Some curve else row_of curve_name currency curves) no_discounts
+    by true later = refl
+    by false later = later
+
+-- where there are rates, a currency has a curve
+rates-there : (found : Option Curve) → 1 ≤ length (option_map_or (λ (curve : Curve). curve.rates) found [])
+    → option_map_or (λ (curve : Curve). discounts_at curve.rates) found no_discounts ≡ discounts_at (option_map_or (λ (curve : Curve). curve.rates) found [])
+rates-there None some = absurd (omega (arith, some))
+rates-there (Some curve) some = refl
+
+currency-row : (sheet : BalanceSheet) (currency : List ℕ) → 1 ≤ length (rates_of currency sheet) → row_in currency sheet.curves (all_discounts sheet) ≡ discounts_at (rates_of currency sheet)
+currency-row sheet currency some = row-here currency sheet.curves ∙ rates-there (row_of curve_name currency sheet.curves) some
+
+security-row : (sheet : BalanceSheet) (direction : Direction) (found : Option Position) → FitsPaid (option_map_or (paid_by_security sheet direction) found (nothing_paid sheet direction))
+    → option_map_or (λ (p : Position). row_in p.security.currency sheet.curves (all_discounts sheet)) found no_discounts
+    ≡ discounts_at (option_map_or (paid_by_security sheet direction) found (nothing_paid sheet direction)).rates
+security-row sheet direction None fits = absurd (let some = fits.rates.some in omega (arith, some))
+security-row sheet direction (Some p) fits = currency-row sheet p.security.currency fits.rates.some
+
+liability-row : (sheet : BalanceSheet) (direction : Direction) (found : Option Liability) → FitsPaid (option_map_or (paid_by_liability sheet direction) found (nothing_paid sheet direction))
+    → option_map_or (λ (l : Liability). row_in l.currency sheet.curves (all_discounts sheet)) found no_discounts
+    ≡ discounts_at (option_map_or (paid_by_liability sheet direction) found (nothing_paid sheet direction)).rates
+liability-row sheet direction None fits = absurd (let some = fits.rates.some in omega (arith, some))
+liability-row sheet direction (Some l) fits = currency-row sheet l.currency fits.rates.some
+
+-- of each figure whose rule fits
+pub own-row : (factors : FactorValues) (sheet : BalanceSheet) (node : Node) (figures : List Ends) → Fits (own_of factors sheet node) figures
+    → discounts_in sheet (all_discounts sheet) node ≡ own_discounts (own_of factors sheet node)
+own-row factors sheet (nodes.FundTotal name) figures fits = refl
+own-row factors sheet (nodes.SecurityTotal name) figures fits = refl
+own-row factors sheet (nodes.UnitLoss name direction) figures fits = security-row sheet direction (position_of name sheet.securities) fits
+own-row factors sheet (nodes.SecurityRate name direction) figures fits = refl
+own-row factors sheet (nodes.LiabilityRate name direction) figures fits = liability-row sheet direction (liability_of name sheet.liabilities) fits
+own-row factors sheet (nodes.CurrencyLoss currency direction) figures fits = refl
+own-row factors sheet (nodes.InterestScenario direction measures.Gross) figures fits = refl
+own-row factors sheet (nodes.InterestScenario direction measures.Net) figures fits = refl
+own-row factors sheet (nodes.Choice which) figures fits = refl
+own-row factors sheet (nodes.Picked which measure) figures fits = refl
+own-row factors sheet (nodes.ClassSum class) figures fits = refl
+own-row factors sheet (nodes.EquityPart kind) figures fits = refl
+own-row factors sheet nodes.EquityRoot figures fits = refl
+own-row factors sheet (nodes.NetPart risk) figures fits = refl

@@ -1,0 +1,13 @@
+pub mod HeldNames
+pub mod SeenThrough
+pub mod ShareParts
+pub mod Equations
+pub mod Totals
+pub mod Payments
+pub mod Gathered
+pub mod Currencies
+pub mod Sizes
+pub mod Ranges
+pub mod Enclosures
+pub mod KeptRows
+pub mod CodeLemmas

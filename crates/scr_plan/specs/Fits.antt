@@ -1,0 +1,73 @@
+-- When a figure's rule keeps to 128 bits: what the rule asks of the figure's own data and of the figures of its sources
+-- (this project's own).
+use Rattle.std.specs.Prelude.{ℕ, ◌+◌, ◌^◌, ◌≤◌, ◌<◌, ℤ, pos, negsuc, ◌≤ℤ◌, All, List, length}
+use Rattle.scr_num.specs.Amounts.{IsAmount}
+use Rattle.scr_num.specs.Rounding.{Ends}
+use Rattle.scr_dates.specs.Civil.{IsDay}
+use Rattle.scr_curve.specs.Parts.{IsCurveInMillionths}
+use Rattle.scr_flow.specs.Due.{paid_total, AreNear}
+use Rattle.scr_num.specs.Sizes.{IsWithin, AreTogether}
+use Rattle.scr_nodes.specs.Own.{Own, Paid, Share}
+use Rattle.scr_nodes.specs.Own.Own.{Held, Loss, Cost, Scaled, Lost, Gross, Net, Choice, Picked, Added, Fall, EquityRoot}
+use Rattle.scr_market.specs.declared.equity_parts.TheConstants.{MAX_EQUITY_PART}
+use Rattle.scr_profile.specs.declared.limits.TheConstants.{MAX_HELD, MAX_AMOUNT}
+use Rattle.scr_plan.specs.Rules.{figure_at, parts_held}
+
+-- a share by weights, of which there are some
+pub record IsShare (share : Share) : Type 0 where
+  pub in_order : share.before ≤ share.through
+  pub within : share.through ≤ share.all
+  pub some : 0 < share.all
+  pub small : share.all ≤ 10 ^ 12
+
+pub record FitsHeld (cents : ℕ) (shares : List Share) (figures : List Ends) : Type 0 where
+  pub by_weights : All IsShare shares
+  pub totals : All (IsAmount MAX_HELD) figures
+  pub all : cents + parts_held shares figures ≤ MAX_HELD
+
+pub record FitsPaid (paid : Paid) : Type 0 where
+  pub asof : IsDay paid.asof
+  pub days : All (λ payment. IsDay payment.0.number) paid.payments
+  pub near : AreNear paid.asof paid.payments
+  pub small : paid_total paid.payments ≤ 50_000_000_000_000
+  pub rates : IsCurveInMillionths paid.rates
+  pub count : length paid.rates ≤ 100
+
+pub record FitsScaled (figures : List Ends) : Type 0 where
+  pub cents : IsAmount MAX_HELD (figure_at figures 0)
+  pub unit : IsWithin 13_700_000_000_000_000_000_000_000 (figure_at figures 1)
+
+pub record FitsNet (absorb : ℕ) (figures : List Ends) : Type 0 where
+  pub absorbed : absorb ≤ MAX_AMOUNT
+  pub gross : IsWithin (2 ^ 100) (figure_at figures 0)
+
+-- one to eight alternatives
+pub record FitsChoice (figures : List Ends) : Type 0 where
+  pub some : 2 ≤ length figures
+  pub few : length figures ≤ 17
+
+pub record FitsFall (sym : ℤ) (figures : List Ends) : Type 0 where
+  pub cents : IsAmount MAX_HELD (figure_at figures 0)
+  pub strategic : IsAmount MAX_HELD (figure_at figures 1)
+  pub least : negsuc 99_999 ≤ℤ sym
+  pub most : sym ≤ℤ pos 100_000
+
+pub record FitsEquityRoot (figures : List Ends) : Type 0 where
+  pub type1 : IsAmount MAX_EQUITY_PART (figure_at figures 0)
+  pub type2 : IsAmount MAX_EQUITY_PART (figure_at figures 1)
+  pub infra : IsAmount MAX_EQUITY_PART (figure_at figures 2)
+  pub infracorp : IsAmount MAX_EQUITY_PART (figure_at figures 3)
+
+abbrev pub Fits : Own → List Ends → Type 0
+Fits (Held cents shares) figures = FitsHeld cents shares figures
+Fits (Loss paid) figures = FitsPaid paid
+Fits (Cost paid) figures = FitsPaid paid
+Fits Scaled figures = FitsScaled figures
+Fits Lost figures = AreTogether (10 ^ 33) figures
+Fits Gross figures = AreTogether (10 ^ 33) figures
+Fits (Net absorb) figures = FitsNet absorb figures
+Fits Choice figures = FitsChoice figures
+Fits (Picked measure) figures = FitsChoice figures
+Fits Added figures = AreTogether (10 ^ 33) figures
+Fits (Fall kind sym) figures = FitsFall sym figures
+Fits EquityRoot figures = FitsEquityRoot figures

@@ -1,0 +1,29 @@
+-- What is held of securities and of closed funds, directly and through funds, in cents (Articles 84 and 168 of Delegated
+-- Regulation (EU) 2015/35).
+use Rattle.std.specs.Prelude.{ℕ, ◌+◌, sum_by, if◌then◌else◌}
+use Rattle.scr_sheet.specs.declared.sheet.BalanceSheet.{BalanceSheet}
+use Rattle.scr_sheet.specs.Totals.{total_of}
+use Rattle.scr_sheet.specs.declared.rows.Class.{Class}
+use Rattle.scr_sheet.specs.declared.rows.Class.TheVariants as classes
+use Rattle.scr_sheet.specs.declared.rows.Position.{Position}
+use Rattle.scr_sheet.specs.declared.rows.Stake.{Stake}
+use Rattle.scr_nodes.specs.Rows.{is_closed, has_class}
+
+abbrev pub security_cents : BalanceSheet → Position → ℕ
+security_cents sheet position = total_of sheet position.security.name
+
+abbrev pub fund_cents : BalanceSheet → Stake → ℕ
+fund_cents sheet stake = total_of sheet stake.fund.name
+
+-- all closed funds together
+abbrev pub closed_total : BalanceSheet → ℕ
+closed_total sheet = sum_by (λ s. if is_closed s then fund_cents sheet s else 0) sheet.funds
+
+-- all securities of a class
+abbrev pub securities_total : Class → BalanceSheet → ℕ
+securities_total class sheet = sum_by (λ p. if has_class class p then security_cents sheet p else 0) sheet.securities
+
+-- all that counts in a class: closed funds count as type 2 equities (Article 168(3))
+abbrev pub class_total : Class → BalanceSheet → ℕ
+class_total classes.Type2Equity sheet = securities_total classes.Type2Equity sheet + closed_total sheet
+class_total class sheet = securities_total class sheet

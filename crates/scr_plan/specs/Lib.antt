@@ -1,0 +1,11 @@
+pub mod Discounts
+pub mod Rules
+pub mod Fits
+pub mod Worked
+pub mod Holdings
+pub mod InterestExact
+pub mod Exact
+pub mod Close
+pub mod Kept
+pub mod Paid
+pub mod Weights

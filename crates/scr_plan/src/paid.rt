@@ -1,0 +1,103 @@
+//! What payments lose where the rates of their currency change.
+ghost use Rattle.std.specs.Prelude.{◌≡◌, ◌^◌, ◌≤◌, pos, length, map, sum_by, unsigned_abs};
+ghost use Rattle.scr_num.specs.Rounding.{ends, exact_ends, sub_ends};
+ghost use Rattle.scr_num.specs.Sizes.{IsWithin};
+ghost use Rattle.scr_curve.specs.Rate.{rate};
+ghost use Rattle.scr_curve.specs.Parts.{IsCurveInMillionths, rates_in_parts};
+ghost use Rattle.scr_flow.specs.LossEnds.{loss_ends};
+ghost use Rattle.scr_curve.specs.declared.tilt.Tilt.TheVariants as tilts;
+ghost use Rattle.scr_nodes.specs.OwnOf.{security_paid, liability_paid};
+ghost use Rattle.scr_sheet.specs.Validity.{Valid};
+ghost use Rattle.scr_plan.specs.Fits.{FitsPaid};
+ghost use Rattle.scr_plan.specs.Kept.{rows_of, row_in, discounts_in, IsTable, AreDiscountsOf};
+ghost use Rattle.scr_plan.specs.Rules.{paid_ends};
+ghost use Rattle.scr_plan.specs.Paid.{paid_in};
+ghost use Rattle.scr_nodes.specs.declared.node.Node.TheVariants as nodes;
+
+use crate::Curves;
+use scr_book::{BalanceSheet, Name};
+use scr_curve::{Discounts, Tilt, yearly};
+use scr_dates::Day;
+use scr_flow::{bucket, unit_loss};
+use scr_nodes::Direction;
+use scr_num::{Span, exact, sub};
+
+/// What the payments of a security lose, per 1,000,000 of its value in 10^-18.
+pub(crate) fn unit(sheet: &BalanceSheet, curves: &Curves, name: &Name, direction: Direction) -> Span
+    requires valid { Valid sheet.now }
+    requires fits { FitsPaid (security_paid sheet.now name.now direction) }
+    requires rows { AreDiscountsOf sheet.now.curves (rows_of curves.now) }
+    ensures { ends result ≡ paid_ends (security_paid sheet.now name.now direction)
+        (discounts_in sheet.now (rows_of curves.now) (nodes.UnitLoss name.now direction)) }
+{
+    let Some(position) = sheet.securities.get(name) else {
+        unreachable!()
+    };
+    let security = &position.security;
+    paid(
+        sheet,
+        curves,
+        &security.currency,
+        security.flows.as_slice(),
+        direction,
+    )
+}
+
+/// What a liability costs more, in 10^-18 cents.
+pub(crate) fn cost(sheet: &BalanceSheet, curves: &Curves, name: &Name, direction: Direction) -> Span
+    requires valid { Valid sheet.now }
+    requires fits { FitsPaid (liability_paid sheet.now name.now direction) }
+    requires rows { AreDiscountsOf sheet.now.curves (rows_of curves.now) }
+    ensures { ends result ≡ sub_ends (exact_ends (pos 0)) (paid_ends (liability_paid sheet.now name.now direction)
+        (discounts_in sheet.now (rows_of curves.now) (nodes.LiabilityRate name.now direction))) }
+{
+    let Some(liability) = sheet.liabilities.get(name) else {
+        unreachable!()
+    };
+    let flows = liability.flows.base.as_slice();
+    let loss = paid(sheet, curves, &liability.currency, flows, direction);
+    sub(exact(0), loss)
+}
+
+/// What payments in a currency lose.
+fn paid(
+    sheet: &BalanceSheet,
+    curves: &Curves,
+    currency: &Name,
+    payments: &[(Day, i64)],
+    direction: Direction,
+) -> Span
+    requires valid { Valid sheet.now }
+    requires fits { FitsPaid (paid_in sheet.now currency.now payments.now direction) }
+    requires rows { AreDiscountsOf sheet.now.curves (rows_of curves.now) }
+    ensures value { ends result ≡ paid_ends (paid_in sheet.now currency.now payments.now direction)
+        (row_in currency.now sheet.now.curves (rows_of curves.now)) }
+    ensures small { IsWithin (2 ^ 125) (ends result) }
+{
+    let Some(place) = sheet.curves.place(currency) else {
+        unreachable!()
+    };
+    let rates = sheet.curves.at(place).rates.as_slice();
+    let flows = bucket(sheet.numbers.asof, payments);
+    let [base, up, down] = curves.row(place);
+    match direction {
+        Direction::Up => loss(&flows, rates, base, Tilt::Up, up),
+        Direction::Down => loss(&flows, rates, base, Tilt::Down, down),
+    }
+}
+
+/// What payments after 1 to 100 years lose where rates in millionths are stressed, at discounts of these rates.
+fn loss(flows: &[i64; 100], rates: &[i64], from: &Discounts, tilt: Tilt, to: &Discounts) -> Span
+    requires curve { IsCurveInMillionths rates.now }
+    requires count { length rates.now ≤ 100 }
+    requires small { sum_by unsigned_abs flows.now ≤ 50_000_000_000_000 }
+    requires from { IsTable (rate rates.now tilts.Base) (map ends from.now.at) }
+    requires to { IsTable (rate rates.now tilt) (map ends to.now.at) }
+    ensures value { ends result ≡ loss_ends flows.now (rates_in_parts rates.now tilts.Base) (map ends from.now.at)
+        (rates_in_parts rates.now tilt) (map ends to.now.at) }
+    ensures small { IsWithin (2 ^ 125) (ends result) }
+{
+    let base = yearly(rates, Tilt::Base);
+    let stressed = yearly(rates, tilt);
+    unit_loss(flows, &base, from, &stressed, to)
+}

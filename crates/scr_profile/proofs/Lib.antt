@@ -1,0 +1,4 @@
+pub mod CorrelationRules
+pub mod Ranges
+pub mod StressRules
+pub mod PrintedRules

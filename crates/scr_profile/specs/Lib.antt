@@ -1,0 +1,5 @@
+pub mod Interest
+pub mod Matrix
+pub mod Segments
+pub mod CorrelationTables
+pub mod StepTables

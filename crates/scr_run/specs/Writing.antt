@@ -1,0 +1,23 @@
+-- How far a text was written (this project's own).
+use Rattle.std.specs.Prelude.{◌≡◌, ◌++◌, ℕ, List, Result, Ok, Err}
+use Rattle.std.specs.Io.KnownBytes.{Appends}
+use Rattle.scr_io.specs.Cause.{Rose}
+use Rattle.scr_io.specs.Front.{AppendsFront}
+use Rattle.scr_plans.specs.Moment.{Sunk}
+use Rattle.scr_run.specs.declared.report.WriteFault.{WriteFault}
+use Rattle.scr_run.specs.declared.report.WriteFault.TheVariants as faults
+
+-- The whole text was written; or a front of it, where a write failed or memory was refused. The sink's faults rose only
+-- where a write failed.
+abbrev pub WritesText : {A : Type 0} → List ℕ → Sunk → Sunk → Result A WriteFault → Type 0
+WritesText text old new (Ok a) = Appends old.written new.written text × (new.faults ≡ old.faults)
+WritesText text old new (Err faults.Failed) = AppendsFront old.written new.written text × Rose old.faults new.faults
+WritesText text old new (Err faults.NoMemory) = AppendsFront old.written new.written text × (new.faults ≡ old.faults)
+
+-- What was written so far of a text, and what is still due of it.
+abbrev pub Leaves : Sunk → Sunk → List ℕ → List ℕ → Type 0
+Leaves old now whole rest = (done : List ℕ) × (whole ≡ done ++ rest) × Appends old.written now.written done
+
+-- the text was written as far as the sink took it and memory allowed
+abbrev pub IsTold : List ℕ → Sunk → Sunk → Type 0
+IsTold text old new = (told : Result (Unit {0}) WriteFault) × WritesText text old new told

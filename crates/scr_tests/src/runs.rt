@@ -1,0 +1,136 @@
+//! Runs over shelves and sinks in memory, of which each read and each write fails in turn.
+
+use crate::outside::{Outside, SOUND, outcome};
+use scr_run::Status;
+use std::test::Fail;
+
+const BOOK: &str =
+    "sec,ALPHA,eq1,-,EUR,0\nhold,ALPHA,100000\nsec,BETA,eq2,-,EUR,0\nhold,BETA,50000\n";
+
+/// The report on that book, worked by hand.
+const REPORT: &str = "# 0 book
+S2601.interest.up.gross 0.00 0.00
+S2601.interest.up.net 0.00 0.00
+S2601.interest.down.gross 0.00 0.00
+S2601.interest.down.net 0.00 0.00
+S2601.interest.gross 0.00 0.00
+S2601.interest.net 0.00 0.00
+S2601.equity.type1 390.00 390.00
+S2601.equity.type2 245.00 245.00
+S2601.equity.infra 0.00 0.00
+S2601.equity.infracorp 0.00 0.00
+S2601.equity.gross 596.19 596.20
+S2601.equity.net 596.19 596.20
+";
+
+const FACTORS: &str = "form = 1
+[spread]
+s0 = [0, 14000, 70000, 7000, 105000, 5000, 130000, 5000, 155000, 5000]
+s1 = [0, 14000, 70000, 7000, 105000, 5000, 130000, 5000, 155000, 5000]
+s2 = [0, 14000, 70000, 7000, 105000, 5000, 130000, 5000, 155000, 5000]
+s3 = [0, 14000, 70000, 7000, 105000, 5000, 130000, 5000, 155000, 5000]
+s4 = [0, 14000, 70000, 7000, 105000, 5000, 130000, 5000, 155000, 5000]
+s5 = [0, 14000, 70000, 7000, 105000, 5000, 130000, 5000, 155000, 5000]
+s6 = [0, 14000, 70000, 7000, 105000, 5000, 130000, 5000, 155000, 5000]
+none = [0, 14000, 70000, 7000, 105000, 5000, 130000, 5000, 155000, 5000]
+[nl]
+premium = [100000, 100000, 100000, 100000, 100000, 100000, 100000, 100000, 100000, 100000, 100000, 100000]
+reserve = [100000, 100000, 100000, 100000, 100000, 100000, 100000, 100000, 100000, 100000, 100000, 100000]
+corr = [
+  [100, 25, 25, 25, 25, 25, 25, 25, 25, 25, 25, 25],
+  [25, 100, 25, 25, 25, 25, 25, 25, 25, 25, 25, 25],
+  [25, 25, 100, 25, 25, 25, 25, 25, 25, 25, 25, 25],
+  [25, 25, 25, 100, 25, 25, 25, 25, 25, 25, 25, 25],
+  [25, 25, 25, 25, 100, 25, 25, 25, 25, 25, 25, 25],
+  [25, 25, 25, 25, 25, 100, 25, 25, 25, 25, 25, 25],
+  [25, 25, 25, 25, 25, 25, 100, 25, 25, 25, 25, 25],
+  [25, 25, 25, 25, 25, 25, 25, 100, 25, 25, 25, 25],
+  [25, 25, 25, 25, 25, 25, 25, 25, 100, 25, 25, 25],
+  [25, 25, 25, 25, 25, 25, 25, 25, 25, 100, 25, 25],
+  [25, 25, 25, 25, 25, 25, 25, 25, 25, 25, 100, 25],
+  [25, 25, 25, 25, 25, 25, 25, 25, 25, 25, 25, 100],
+]
+[nslt]
+premium = [100000, 100000, 100000, 100000]
+reserve = [100000, 100000, 100000, 100000]
+";
+
+/// The three files, with one edit or none.
+fn files(edits: &str) -> [(&str, &str); 3] {
+    [("f", FACTORS), ("b", BOOK), ("e", edits)]
+}
+
+#[test]
+fn small_pieces_change_nothing(rt: HostRuntime) -> Result<(), Fail> {
+    for piece in [1, 7, 100] {
+        let outside = Outside { piece, ..SOUND };
+        let end = outcome(&rt, rt.alloc(), &files(""), &outside)?;
+        assert_eq!(rt; end.status, Status::Done);
+        assert_eq!(rt; end.written.as_slice(), REPORT.as_bytes());
+        assert_eq!(rt; end.faults, 0);
+        assert_eq!(rt; end.strays, 0);
+    }
+    Ok(())
+}
+
+// Each of the three files takes an open and two reads, the second of which finds the end.
+#[test]
+fn each_failing_read_is_told(rt: HostRuntime) -> Result<(), Fail> {
+    for call in 1..10 {
+        let outside = Outside {
+            reads: call,
+            ..SOUND
+        };
+        let end = outcome(&rt, rt.alloc(), &files("hold,BETA,0\n"), &outside)?;
+        assert_eq!(rt; end.status, Status::Read);
+        assert_eq!(rt; end.written.len(), 0);
+        assert_eq!(rt; end.faults, 1);
+    }
+    Ok(())
+}
+
+#[test]
+fn a_call_that_is_not_made_does_not_fail(rt: HostRuntime) -> Result<(), Fail> {
+    let outside = Outside { reads: 10, ..SOUND };
+    let end = outcome(&rt, rt.alloc(), &files("hold,BETA,0\n"), &outside)?;
+    assert_eq!(rt; end.status, Status::Done);
+    Ok(())
+}
+
+#[test]
+fn a_missing_file_is_a_stray(rt: HostRuntime) -> Result<(), Fail> {
+    let missing = [("f", FACTORS), ("b", BOOK)];
+    let end = outcome(&rt, rt.alloc(), &missing, &SOUND)?;
+    assert_eq!(rt; end.status, Status::Read);
+    assert_eq!(rt; end.strays, 1);
+    assert_eq!(rt; end.written.len(), 0);
+    Ok(())
+}
+
+#[test]
+fn no_file_is_opened_after_a_fault(rt: HostRuntime) -> Result<(), Fail> {
+    let faulty = [("f", FACTORS), ("b", "hold,X,1\n")];
+    let book = outcome(&rt, rt.alloc(), &faulty, &SOUND)?;
+    assert_eq!(rt; book.status.code(), 4);
+    assert_eq!(rt; book.strays, 0, "the edits are not opened");
+    let factors = outcome(&rt, rt.alloc(), &[("f", "x = [")], &SOUND)?;
+    assert_eq!(rt; factors.status.code(), 3);
+    assert_eq!(rt; factors.strays, 0, "the book is not opened");
+    Ok(())
+}
+
+#[test]
+fn each_failing_write_leaves_a_front(rt: HostRuntime) -> Result<(), Fail> {
+    for call in 1..3 {
+        let outside = Outside {
+            writes: call,
+            piece: 100,
+            ..SOUND
+        };
+        let end = outcome(&rt, rt.alloc(), &files(""), &outside)?;
+        assert_eq!(rt; end.status, Status::Write);
+        assert!(rt; REPORT.as_bytes().starts_with(end.written.as_slice()));
+        assert!(rt; end.written.len() <= 100);
+    }
+    Ok(())
+}

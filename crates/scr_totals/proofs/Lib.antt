@@ -1,0 +1,5 @@
+pub mod HolderNames
+pub mod FundRows
+pub mod SeenThrough
+pub mod Examples
+pub mod Walks

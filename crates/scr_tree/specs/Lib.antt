@@ -1,0 +1,4 @@
+pub mod Keys
+pub mod Figures
+pub mod Standing
+pub mod Kept
