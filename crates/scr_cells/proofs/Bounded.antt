@@ -1,10 +1,13 @@
 -- The printed bounds of each cell enclose its exact figure.
-use Rattle.std.proofs.Common.{◌≡◌, ℕ, true, Some, refl, subst, lit<}
+use Rattle.std.proofs.Common.{◌≡◌, ℕ, true, Option, Some, None, is_some, refl, sym, subst, lit<}
+use Rattle.std.proofs.lemmas.Bool.{true≢false}
 use Rattle.std.specs.List.{AllByRecursion}
 use Rattle.scr_num.specs.Enclosure.{Encloses}
 use Rattle.scr_num.specs.Figure.{Figure}
+use Rattle.scr_num.specs.Rounding.{Ends}
 use Rattle.scr_num.proofs.Enclosing.{Encloses-coarser}
-use Rattle.scr_factors.specs.Values.{FactorValues}
+use Rattle.scr_names.proofs.TableRows.{All-both}
+use Rattle.scr_factors.specs.Values.{FactorValues, IsInForm}
 use Rattle.scr_sheet.specs.declared.sheet.BalanceSheet.{BalanceSheet}
 use Rattle.scr_sheet.specs.Validity.{Valid}
 use Rattle.scr_nodes.specs.declared.node.Node.{Node}
@@ -12,25 +15,48 @@ use Rattle.scr_nodes.specs.Live.{is_live}
 use Rattle.scr_plan.specs.Exact.{exact, unit_of}
 use Rattle.scr_plan.specs.Worked.{worked}
 use Rattle.scr_plan.proofs.Enclosures.{node-encloses}
+use Rattle.scr_cells.specs.Block.{lower_bound, upper_bound}
 use Rattle.scr_cells.specs.Certified.{Certified, IsBounded}
 use Rattle.scr_cells.specs.Table.{NamedFigure, table}
+use Rattle.scr_cells.proofs.LiveCells.{IsLive, all-pass, all_live, in_grains}
 
-module _ (factors : FactorValues) (sheet : BalanceSheet) (valid : Valid sheet) where
-  bounded : (node : Node) → is_live sheet node ≡ true → unit_of node ≡ 1000 → (figure : Figure)
-      → exact factors sheet node ≡ Some figure → IsBounded factors sheet node
-  bounded node live in_grains figure is_exact =
+-- grains rounded outward to cents
+pub in-cents : (worked : Ends) (exact : Figure) → Encloses 1000 worked.low worked.high exact
+    → Encloses 1 (lower_bound worked) (upper_bound worked) exact
+in-cents worked exact enclosed = Encloses-coarser 1 1000 worked.low worked.high exact (lit< tt) enclosed
+
+-- what is there is something
+there : {A : Type 0} (o : Option A) → is_some o ≡ true → (x : A) × (o ≡ Some x)
+there (Some x) some = (x, refl)
+there None some = absurd (true≢false (sym some))
+
+-- each cell shows a figure, and no choice
+abbrev IsShown : FactorValues → BalanceSheet → NamedFigure → Type 0
+IsShown factors sheet cell = is_some (exact factors sheet cell.node) ≡ true
+
+all_shown : (factors : FactorValues) (sheet : BalanceSheet) → AllByRecursion (IsShown factors sheet) table
+unfolding table
+all_shown factors sheet = all-pass (λ (cell : NamedFigure). is_some (exact factors sheet cell.node)) table refl
+
+module _ (factors : FactorValues) (known : IsInForm factors) (sheet : BalanceSheet) (valid : Valid sheet) where
+  bounded : (node : Node) → is_live sheet node ≡ true → unit_of node ≡ 1000 → is_some (exact factors sheet node) ≡ true
+      → IsBounded factors sheet node
+  bounded node live in_grains shown =
+      let figure = there (exact factors sheet node) shown in
       let ends = worked factors sheet node in (
-        figure,
-        is_exact,
-        Encloses-coarser 1 1000 ends.low ends.high figure (lit< tt)
-            (subst (λ (unit : ℕ). Encloses unit ends.low ends.high figure) in_grains
-            (node-encloses factors sheet valid node live figure is_exact)),
+        figure.0,
+        figure.1,
+        in-cents ends figure.0
+            (subst (λ (unit : ℕ). Encloses unit ends.low ends.high figure.0) in_grains
+            (node-encloses factors known sheet valid node live figure.0 figure.1)),
       )
 
   all_bounded : AllByRecursion (λ (cell : NamedFigure). IsBounded factors sheet cell.node) table
-  unfolding table
   all_bounded =
-      (bounded _ refl refl _ refl, (bounded _ refl refl _ refl, (bounded _ refl refl _ refl, (bounded _ refl refl _ refl, (bounded _ refl refl _ refl, (bounded _ refl refl _ refl, (bounded _ refl refl _ refl, (bounded _ refl refl _ refl, (bounded _ refl refl _ refl, (bounded _ refl refl _ refl, (bounded _ refl refl _ refl, (bounded _ refl refl _ refl, tt))))))))))))
+      All-both (λ cell. IsLive sheet cell × (unit_of cell.node ≡ 1000)) (IsShown factors sheet) _ table
+      (λ cell of_grains shown. bounded cell.node of_grains.0 of_grains.1 shown)
+      (All-both (IsLive sheet) (λ cell. unit_of cell.node ≡ 1000) _ table (λ cell live grains. (live, grains)) (all_live sheet) in_grains)
+      (all_shown factors sheet)
 
   pub certified : Certified factors sheet
   certified = record { enclosing = all_bounded }

@@ -1,2 +1,5 @@
+mod BlockLines
 pub mod Bounded
+pub mod EquityBounded
 mod LiveCells
+mod RowSums

@@ -1,6 +1,6 @@
 -- What is printed of a balance sheet (this project's own): a block with a line for each cell, with a lower and an upper
 -- bound of its figure.
-use Rattle.std.specs.Prelude.{ℕ, ℤ, ◌++◌, Bool, true, false, List, [], Option, codes, flat_map, option_map, slice_get}
+use Rattle.std.specs.Prelude.{ℕ, ℤ, pos, ◌++◌, Bool, true, false, List, [], Option, codes, flat_map, option_map, slice_get}
 use Rattle.scr_num.specs.Rounding.{Ends, floor_div, ceil_div}
 use Rattle.scr_factors.specs.Values.{FactorValues}
 use Rattle.scr_sheet.specs.declared.sheet.BalanceSheet.{BalanceSheet}
@@ -9,6 +9,7 @@ use Rattle.scr_plan.specs.Close.{close_under}
 use Rattle.scr_plan.specs.Worked.{worked}
 use Rattle.scr_cells.specs.AmountTexts.{amount}
 use Rattle.scr_cells.specs.Table.{NamedFigure, table}
+use Rattle.scr_cells.specs.Widths.{stated_width}
 use Rattle.scr_cells.specs.declared.bounds.Bounds.{Bounds}
 use Rattle.scr_cells.specs.declared.cells.Cell.{Cell}
 
@@ -30,12 +31,14 @@ bounds_at factors sheet node = record {
 
 -- ---- a cell
 
-abbrev pub cell_of : ℕ → Bounds → Cell
-cell_of k bounds = record { index = k; low = bounds.low; high = bounds.high; close = bounds.close }
+abbrev pub cell_of : ℕ → Bounds → ℕ → Cell
+cell_of k bounds width =
+    record { index = k; low = bounds.low; high = bounds.high; close = bounds.close; width = pos width }
 
 -- the cell of this number, from 0 in the order of the report
 abbrev pub cell_at : FactorValues → BalanceSheet → ℕ → Option Cell
-cell_at factors sheet k = option_map (λ cell. cell_of k (bounds_at factors sheet cell.node)) (slice_get table k)
+cell_at factors sheet k =
+    option_map (λ cell. cell_of k (bounds_at factors sheet cell.node) (stated_width sheet cell.node)) (slice_get table k)
 
 -- ---- the text
 

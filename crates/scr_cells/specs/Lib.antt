@@ -1,4 +1,8 @@
 pub mod AmountTexts
 pub mod Block
 pub mod Certified
+pub mod EquityCells
+pub mod Scales
+pub mod Shown
 pub mod Table
+pub mod Widths

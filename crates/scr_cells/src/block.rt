@@ -1,34 +1,38 @@
 //! What is told of an engine's book.
-ghost use Rattle.std.specs.Prelude.{◌≡◌, ◌<◌, ◌++◌, All, true, flat_map, is_ok, if◌then◌else◌, map, OnOk, Some};
+ghost use Rattle.std.specs.Prelude.{◌≡◌, ◌<◌, ◌++◌, true, is_ok, if◌then◌else◌, OnOk, Some};
 ghost use Rattle.scr_nodes.specs.Live.{is_live};
 ghost use Rattle.scr_cells.specs.Block.{block_text, cell_at, cell_line, cell_of};
+ghost use Rattle.scr_cells.specs.Shown.{node_of};
 ghost use Rattle.scr_cells.specs.Table.{seen};
 
 use crate::bounds::{Bounds, bounds_at};
 use crate::cells::Cell;
 use crate::printing::push_bounds;
-use crate::table::{CELL_COUNT, Entry, TABLE, entry_of};
+use crate::shown::node_of;
+use crate::table::{CELL_COUNT, Entry, entry_of};
+use crate::widths::stated_width;
 use scr_tree::Engine;
 use std::alloc::{AllocError as NoMemory, Global};
 
 /// The cell of this number, from 0 in the order of the report's lines.
-#[tactic(auto, unfolding(crate::specs::Table::table))]
 pub fn cell(engine: &Engine, k: u32) -> Cell
     requires { k < CELL_COUNT }
     ensures { cell_at engine.now.factors engine.now.sheet k ≡ Some result }
 {
-    let entry = entry_of(&TABLE, k);
-    cell_of(k, &bounds_at(engine, &entry.node))
+    let shown = entry_of(k).shown;
+    let bounds = bounds_at(engine, &node_of(shown));
+    cell_of(k, &bounds, stated_width(engine.book(), shown))
 }
 
-fn cell_of(index: u32, bounds: &Bounds) -> Cell
-    ensures { result ≡ cell_of index bounds.now }
+fn cell_of(index: u32, bounds: &Bounds, width: u64) -> Cell
+    ensures { result ≡ cell_of index bounds.now width }
 {
     Cell {
         index,
         low: bounds.low,
         high: bounds.high,
         close: bounds.close,
+        width: i128::from(width),
     }
 }
 
@@ -41,30 +45,16 @@ pub fn print_block(alloc: Global, engine: &Engine, out: &mut Vec<u8>) -> Result<
         else out.old.items) }
 {
     let mut block = Vec::new(alloc);
-    push_table(alloc, engine, &mut block)?;
+    push_cells(alloc, engine, &mut block)?;
     out.extend_from_slice(block.as_slice())
 }
 
-#[tactic(auto, unfolding(crate::specs::Block::block_text, crate::specs::Table::table))]
-fn push_table(alloc: Global, engine: &Engine, out: &mut Vec<u8>) -> Result<(), NoMemory>
+fn push_cells(alloc: Global, engine: &Engine, out: &mut Vec<u8>) -> Result<(), NoMemory>
     ensures { OnOk result (out.new.items ≡ out.old.items
         ++ block_text engine.now.factors engine.now.sheet) }
 {
-    push_cells(alloc, engine, &TABLE, out)
-}
-
-fn push_cells(
-    alloc: Global,
-    engine: &Engine,
-    entries: &[Entry],
-    out: &mut Vec<u8>,
-) -> Result<(), NoMemory>
-    requires { All (λ entry. is_live engine.now.sheet entry.node ≡ true) entries.now }
-    ensures { OnOk result (out.new.items ≡ out.old.items
-        ++ flat_map (cell_line engine.now.factors engine.now.sheet) (map seen entries.now)) }
-{
-    for entry in entries {
-        push_cell(alloc, engine, entry, out)?;
+    for k in 0..CELL_COUNT {
+        push_cell(alloc, engine, entry_of(k), out)?;
     }
     Ok(())
 }
@@ -76,10 +66,10 @@ fn push_cell(
     entry: &Entry,
     out: &mut Vec<u8>,
 ) -> Result<(), NoMemory>
-    requires { is_live engine.now.sheet entry.now.node ≡ true }
+    requires { is_live engine.now.sheet (node_of entry.now.shown) ≡ true }
     ensures { OnOk result (out.new.items ≡ out.old.items
         ++ cell_line engine.now.factors engine.now.sheet (seen entry.now)) }
 {
-    let bounds = bounds_at(engine, &entry.node);
+    let bounds = bounds_at(engine, &node_of(entry.shown));
     push_bounds(alloc, out, entry.name, &bounds)
 }

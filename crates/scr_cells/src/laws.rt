@@ -1,25 +1,33 @@
 //! Laws of the cells, whatever a program does. Each is a function that does nothing, whose contract
 //! is the law.
-ghost use Rattle.std.specs.Prelude.{◌≡◌, true};
+ghost use Rattle.std.specs.Prelude.{◌≡◌, true, length};
 ghost use Rattle.std.specs.List.{AllByRecursion};
-ghost use Rattle.scr_factors.specs.Values.{FactorValues};
+ghost use Rattle.scr_factors.specs.Values.{FactorValues, IsInForm};
 ghost use Rattle.scr_sheet.specs.declared.sheet.BalanceSheet.{BalanceSheet};
 ghost use Rattle.scr_sheet.specs.Validity.{Valid};
 ghost use Rattle.scr_nodes.specs.Live.{is_live};
 ghost use Rattle.scr_plan.specs.Exact.{unit_of};
 ghost use Rattle.scr_cells.specs.Certified.{Certified};
+ghost use Rattle.scr_cells.specs.EquityCells.{AreBounded, AreOfTable, equity_cells};
 ghost use Rattle.scr_cells.specs.Table.{table};
+ghost use Rattle.scr_cells.specs.declared.table.TheConstants.{CELL_COUNT};
 
-/// The figure of each cell is one of every balance sheet, and it is in grains, thousandths of a
-/// cent.
+/// The table has so many cells. The figure of each is one of every balance sheet, and it is in
+/// grains, thousandths of a cent.
 pub fn figures()
+    ensures count { length table ≡ CELL_COUNT }
     ensures live { (sheet : BalanceSheet)
         → AllByRecursion (λ cell. is_live sheet cell.node ≡ true) table }
     ensures grains { AllByRecursion (λ cell. unit_of cell.node ≡ 1000) table }
 {}
 
-/// For every valid balance sheet the printed bounds of each cell enclose its exact figure.
+/// For factors in form and every valid balance sheet the printed bounds of each cell enclose its
+/// exact figure. Those of equity risk do for every balance sheet, whatever the factors; where it is
+/// valid, they are the printed ones.
 pub fn enclosure()
-    ensures { (factors : FactorValues) (sheet : BalanceSheet) → Valid sheet
-        → Certified factors sheet }
+    ensures certified { (factors : FactorValues) → IsInForm factors → (sheet : BalanceSheet)
+        → Valid sheet → Certified factors sheet }
+    ensures equity { (sheet : BalanceSheet) → AreBounded (equity_cells sheet) }
+    ensures equity_printed { (factors : FactorValues) (sheet : BalanceSheet) → Valid sheet
+        → AreOfTable factors sheet (equity_cells sheet) }
 {}

@@ -6,7 +6,10 @@ mod bounds;
 mod cells;
 pub mod laws;
 mod printing;
+mod scale;
+mod shown;
 mod table;
+mod widths;
 
 pub use block::{cell, print_block};
 pub use cells::Cell;

@@ -3,7 +3,7 @@
 ghost use Rattle.std.specs.Prelude.{◌≡◌, ◌<◌, ◌≤◌, pos};
 ghost use Rattle.scr_profile.specs.Matrix.{IsCorrelation};
 ghost use Rattle.scr_profile.specs.Segments.{IsSegment};
-ghost use Rattle.scr_factors.specs.Values.{spread_at, sigma_of};
+ghost use Rattle.scr_factors.specs.Values.{IsInForm, spread_at, sigma_of};
 
 use crate::{Matrix, Set};
 use std::marker::Model;
@@ -71,5 +71,12 @@ impl Factors {
         ensures correlations { IsCorrelation result.now }
     {
         &self.correlations
+    }
+
+    /// Does nothing: its contract says that the numbers have the form of a factor file.
+    pub fn known(&self)
+        ensures { IsInForm self.now }
+    {
+        let _spread = &self.spread;
     }
 }

@@ -1,16 +1,10 @@
 //! A table of rows with a sum kept beside it.
-ghost use Rattle.std.specs.Prelude.{◌≡◌, ℕ, ◌+◌, ◌-◌, ◌<◌, ◌≤◌, ◌^◌, ◌↔◌, IsTrue, List, [], length};
-ghost use Rattle.std.specs.Prelude.{map, slice_get, is_some, Some, IfSome, false, OnOk, OnErr};
+ghost use Rattle.std.specs.Prelude.{◌≡◌, ℕ, ◌+◌, ◌-◌, ◌<◌, ◌≤◌, ◌^◌, [], false, OnOk, OnErr};
 ghost use Rattle.std.specs.Prelude.{MatchOption, sum_by};
-ghost use Rattle.std.specs.List.{IsDistinct};
-ghost use Rattle.std.specs.Option.{option_copied, option_map, option_map_or};
-ghost use Rattle.std.specs.Map.Iter.{deref, ShowsInOrder};
 ghost use Rattle.std.specs.Fn.{FnOnceReturnsAtMut};
-ghost use Rattle.scr_names.specs.Names.{same_name};
 ghost use Rattle.scr_names.specs.Tables.{row_of, has_row, with_row, without, measured};
 
 use crate::{Name, Row, Rows};
-use indexmap::map::Values;
 use std::alloc::{AllocError as NoMemory, Global};
 use std::marker::Model;
 
@@ -67,50 +61,11 @@ impl<R: Measured> Summed<R> {
         measured_in(&self.rows, name)
     }
 
-    /// The number of rows, of which no two have one name.
-    pub fn len(&self) -> usize
-        ensures count { result ≡ length self.now }
-        ensures apart { IsDistinct same_name (map R.name_of self.now) }
+    /// The rows, to be looked up and walked.
+    pub fn rows(&self) -> &Rows<R>
+        ensures { result.now ≡ self.now }
     {
-        self.rows.len()
-    }
-
-    /// There is no row.
-    pub fn is_empty(&self) -> bool
-        ensures { IsTrue result ↔ (length self.now ≡ 0) }
-    {
-        self.rows.is_empty()
-    }
-
-    /// There is a row of this name.
-    pub fn contains(&self, name: &Name) -> bool
-        ensures { result ≡ has_row R.name_of name.now self.now }
-    {
-        self.rows.contains(name)
-    }
-
-    /// The row of this name.
-    pub fn get(&self, name: &Name) -> Option<&R>
-        ensures { option_copied result ≡ row_of R.name_of name.now self.now }
-    {
-        self.rows.get(name)
-    }
-
-    /// The place of the row of this name.
-    pub fn place(&self, name: &Name) -> Option<usize>
-        ensures there { is_some result ≡ has_row R.name_of name.now self.now }
-        ensures place { IfSome result
-            (λ k. option_map R.name_of (slice_get self.now k) ≡ Some name.now) }
-    {
-        self.rows.place(name)
-    }
-
-    /// The row at place `k`.
-    pub fn at(&self, k: usize) -> &R
-        requires { k < length self.now }
-        ensures { slice_get self.now k ≡ Some result.now }
-    {
-        self.rows.at(k)
+        &self.rows
     }
 
     /// The row takes the place of the one of its name, and one of a new name goes last. Memory is
@@ -136,15 +91,6 @@ impl<R: Measured> Summed<R> {
         let measured = measured_in(&self.rows, name);
         self.rows.remove(name);
         self.total -= measured;
-    }
-
-    /// The rows in order.
-    pub fn iter(&self) -> Values<'_, Name, R>
-        ensures rest { result ≡ self.now }
-        ensures runs { ShowsInOrder (deref {X = R}) }
-        ensures fits { length self.now < 2 ^ 63 }
-    {
-        self.rows.iter()
     }
 
     /// Changes the row of this name in its place, where there is one. The change must leave the row

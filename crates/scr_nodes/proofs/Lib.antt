@@ -1,6 +1,7 @@
 pub mod Chosen
 pub mod OwnRows
 pub mod LiveSources
+pub mod Earlier
 pub mod Depth
 pub mod Reckoning
 pub mod Walks
@@ -8,6 +9,5 @@ pub mod Joined
 pub mod Apart
 pub mod Parts
 pub mod Ordered
-pub mod Placing
-pub mod Levels
 pub mod SingleSources
+pub mod Told

@@ -1,50 +1,90 @@
 -- The sources of a live node of a valid balance sheet are live.
 use Rattle.std.proofs.Common.{◌≡◌, ℕ, Bool, true, false, ◌&&◌, List, [], ◌∷◌, map, Option, Some, None, is_some, refl, ap, ◌∙◌}
-use Rattle.std.specs.List.{AllByRecursion, filter}
+use Rattle.std.specs.List.{AllByRecursion, filter, list_all}
 use Rattle.std.specs.Option.{option_map_or}
 use Rattle.scr_names.specs.Names.{same_name}
 use Rattle.scr_names.specs.Tables.{row_of}
 use Rattle.scr_names.proofs.TableRows.{All-append}
-use Rattle.scr_sheet.specs.BalanceSheet.{position_name, liability_name, stake_name, curve_name, position_of, stake_of}
+use Rattle.scr_profile.specs.declared.set.Set.{Set}
+use Rattle.scr_profile.specs.declared.set.Set.TheVariants as sets
+use Rattle.scr_sheet.specs.BalanceSheet.{group_name, position_name, liability_name, stake_name, curve_name, position_of, stake_of}
+use Rattle.scr_sheet.specs.declared.keys.Projection.{Projection}
+use Rattle.scr_sheet.specs.declared.keys.Projection.TheVariants as projections
 use Rattle.scr_sheet.specs.declared.sheet.BalanceSheet.{BalanceSheet}
 use Rattle.scr_sheet.specs.declared.rows.Class.{Class}
 use Rattle.scr_sheet.specs.declared.rows.Class.TheVariants as classes
+use Rattle.scr_sheet.specs.declared.rows.Liability.{Liability}
 use Rattle.scr_sheet.specs.declared.rows.Position.{Position}
 use Rattle.scr_sheet.specs.declared.rows.Stake.{Stake}
 use Rattle.scr_sheet.specs.Validity.{Valid}
+use Rattle.scr_nodes.specs.declared.node.Adjustment.{Adjustment}
+use Rattle.scr_nodes.specs.declared.node.Adjustment.TheVariants as adjustments
 use Rattle.scr_nodes.specs.declared.node.Alternatives.{Alternatives}
 use Rattle.scr_nodes.specs.declared.node.Alternatives.TheVariants as alternatives
+use Rattle.scr_nodes.specs.declared.node.Biometric.{Biometric}
+use Rattle.scr_nodes.specs.declared.node.Biometric.TheVariants as biometrics
 use Rattle.scr_nodes.specs.declared.node.Direction.{Direction}
 use Rattle.scr_nodes.specs.declared.node.Equities.{Equities}
 use Rattle.scr_nodes.specs.declared.node.Equities.TheVariants as equities
-use Rattle.scr_nodes.specs.declared.node.Measure.TheVariants as measures
+use Rattle.scr_nodes.specs.declared.node.Measure.{Measure}
+use Rattle.scr_nodes.specs.declared.node.Measure.TheVariants.{Gross, Net}
 use Rattle.scr_nodes.specs.declared.node.Node.{Node}
 use Rattle.scr_nodes.specs.declared.node.Node.TheVariants as nodes
+use Rattle.scr_nodes.specs.declared.node.Operational.{Operational}
+use Rattle.scr_nodes.specs.declared.node.Operational.TheVariants as operations
 use Rattle.scr_nodes.specs.declared.node.Risk.{Risk}
 use Rattle.scr_nodes.specs.declared.node.Risk.TheVariants as risks
-use Rattle.scr_nodes.specs.Rows.{holds, is_closed, is_paying, is_paying_in, is_owed_in, has_class, liability_of}
-use Rattle.scr_nodes.specs.Sources.{sources_of, fund_total, security_total, security_rate, liability_rate, currency_loss, rates_in, funds_of_class, held_of_class, scenarios, classes_of, gross_of}
+use Rattle.scr_nodes.specs.Rows.{holds, is_closed, is_paying, is_paying_in, is_owed_in, has_class, liability_of, group_of, is_held_in, is_foreign, is_of_group, has_group, is_of_default_class, has_flows, is_stress, is_of_kind, is_stressed, has_stress}
+use Rattle.scr_nodes.specs.Sources.{sources_of, fund_total, security_total, security_rate, liability_rate, liability_present, liability_loss, currency_loss, currency_picked, security_spread, concentration_square, group_loss, rates_in, worths_in, funds_of_class, held_of_class, foreign_picked, losses_of_class, losses_under, interest_scenarios, lapse_scenarios, scenarios, classes_of, equity_parts, gross_of, market_parts, life_parts, slt_parts, health_parts, segments_of, natural_perils, man_made_perils, nonlife_catastrophes, health_perils, modules, operational_sources, adjustment_sources, requirement_parts}
 use Rattle.scr_nodes.specs.Live.{is_live}
 use Rattle.scr_nodes.proofs.Chosen.{each-chosen, each-mapped}
-use Rattle.scr_nodes.proofs.OwnRows.{own-funds, own-securities, own-liabilities, own-curves}
-
-pub both : (a b : Bool) → (a && b) ≡ true → (a ≡ true) × (b ≡ true)
-both true b h = (refl, h)
-both false b h = absurd (cc)
+use Rattle.scr_nodes.proofs.OwnRows.{own-funds, own-securities, own-liabilities, own-curves, own-groups}
+use Rattle.scr_nodes.proofs.Parts.{both, each-tested}
 
 abbrev pub IsLive : BalanceSheet → Node → Type 0
 IsLive sheet node = is_live sheet node ≡ true
 
--- a security that pays is one
-there : (found : Option Position) → option_map_or is_paying found false ≡ true → is_some found ≡ true
-there None h = absurd (cc)
-there (Some p) h = refl
+-- a row that passes is one
+there : {Row : Type 0} (test : Row → Bool) (found : Option Row) → option_map_or test found false ≡ true → is_some found
+    ≡ true
+there test None h = absurd (cc)
+there test (Some row) h = refl
+
+-- a row that passes stands under its name
+pub passes-own : {Row : Type 0} (test : Row → Bool) (found : Option Row) (row : Row) → found ≡ Some row → test row
+    ≡ true
+    → option_map_or test found false ≡ true
+passes-own test found row own e = ap (λ f. option_map_or test f false) own ∙ e
+
+-- a kind's stresses are not the best estimate
+stress-is : (biometric : Biometric) (projection : Projection) → has_stress biometric projection ≡ true
+    → is_stress projection ≡ true
+stress-is biometric projections.Base h = absurd (cc)
+stress-is biometric projections.Mortality h = refl
+stress-is biometric projections.Longevity h = refl
+stress-is biometric projections.Disability h = refl
+stress-is biometric projections.Expense h = refl
+stress-is biometric projections.Revision h = refl
+stress-is biometric projections.LapseUp h = refl
+stress-is biometric projections.LapseDown h = refl
+stress-is biometric projections.LapseMass h = refl
+stress-is biometric projections.Catastrophe h = refl
 
 module _ (sheet : BalanceSheet) (valid : Valid sheet) where
+  -- words that are figures of every balance sheet
+  tested : (list : List Node) → list_all (is_live sheet) list ≡ true → AllByRecursion (IsLive sheet) list
+  tested list h = each-tested (is_live sheet) list h
+
   live-funds : (test : Stake → Bool) → AllByRecursion (IsLive sheet) (map fund_total (filter test sheet.funds))
   live-funds test =
       each-chosen (λ s. stake_of (stake_name s) sheet.funds ≡ Some s) (IsLive sheet) test fund_total sheet.funds
       (own-funds sheet valid) (λ s own e. ap is_some own)
+
+  live-securities : (test : Position → Bool)
+      → AllByRecursion (IsLive sheet) (map security_total (filter test sheet.securities))
+  live-securities test =
+      each-chosen (λ p. position_of (position_name p) sheet.securities ≡ Some p) (IsLive sheet) test security_total
+      sheet.securities (own-securities sheet valid) (λ p own e. ap is_some own)
 
   live-class : (class : Class) → AllByRecursion (IsLive sheet) (funds_of_class class sheet)
   live-class classes.Type2Equity = live-funds is_closed
@@ -55,49 +95,163 @@ module _ (sheet : BalanceSheet) (valid : Valid sheet) where
   live-rates currency direction =
       All-append (IsLive sheet) (map (security_rate direction) (filter (is_paying_in currency) sheet.securities))
       (map (liability_rate direction) (filter (is_owed_in currency) sheet.liabilities))
-      (each-chosen (λ p. position_of (position_name p) sheet.securities ≡ Some p) (IsLive sheet) (is_paying_in currency)
-      (security_rate direction) sheet.securities (own-securities sheet valid)
-      (λ p own e. ap (λ found. option_map_or is_paying found false) own
-      ∙ (both (same_name currency p.security.currency) (is_paying p) e).1))
+      (each-chosen (λ p. position_of (position_name p) sheet.securities ≡ Some p) (IsLive sheet)
+      (is_paying_in currency) (security_rate direction) sheet.securities (own-securities sheet valid)
+      (λ p own e. passes-own is_paying (position_of (position_name p) sheet.securities) p own
+      (both (same_name currency p.security.currency) (is_paying p) e).1))
       (each-chosen (λ l. liability_of (liability_name l) sheet.liabilities ≡ Some l) (IsLive sheet)
-      (is_owed_in currency) (liability_rate direction) sheet.liabilities (own-liabilities sheet valid)
-      (λ l own e. ap is_some own))
+      (is_owed_in currency)
+      (liability_rate direction) sheet.liabilities (own-liabilities sheet valid) (λ l own e. ap is_some own))
+
+  live-worths : (currency : List ℕ) → AllByRecursion (IsLive sheet) (worths_in currency sheet)
+  live-worths currency =
+      All-append (IsLive sheet) (map security_total (filter (is_held_in currency) sheet.securities))
+      (map liability_present (filter (is_owed_in currency) sheet.liabilities)) (live-securities (is_held_in currency))
+      (each-chosen (λ l. liability_of (liability_name l) sheet.liabilities ≡ Some l) (IsLive sheet)
+      (is_owed_in currency)
+      liability_present sheet.liabilities (own-liabilities sheet valid) (λ l own e. ap is_some own))
 
   live-held : (class : Class) → AllByRecursion (IsLive sheet) (held_of_class class sheet)
   live-held class =
       All-append (IsLive sheet) (map security_total (filter (has_class class) sheet.securities))
-      (funds_of_class class sheet)
-      (each-chosen (λ p. position_of (position_name p) sheet.securities ≡ Some p) (IsLive sheet)
-      (has_class class) security_total sheet.securities (own-securities sheet valid) (λ p own e. ap is_some own))
-      (live-class class)
+      (funds_of_class class sheet) (live-securities (has_class class)) (live-class class)
 
-  live-scenarios : (a : Alternatives) → AllByRecursion (IsLive sheet) (scenarios a)
-  live-scenarios alternatives.Interest = (refl, (refl, (refl, (refl, tt))))
+  live-foreign : (measure : Measure) → AllByRecursion (IsLive sheet) (foreign_picked measure sheet)
+  live-foreign measure =
+      each-chosen (λ c. row_of curve_name (curve_name c) sheet.curves ≡ Some c) (IsLive sheet) (is_foreign sheet)
+      (currency_picked measure) sheet.curves (own-curves sheet valid)
+      (λ c own e. passes-own (is_foreign sheet) (row_of curve_name (curve_name c) sheet.curves) c own e)
+
+  live-bonds : AllByRecursion (IsLive sheet) (map security_spread (filter (has_class classes.Bond) sheet.securities))
+  live-bonds =
+      each-chosen (λ p. position_of (position_name p) sheet.securities ≡ Some p) (IsLive sheet) (has_class classes.Bond)
+      security_spread sheet.securities (own-securities sheet valid)
+      (λ p own e. passes-own (has_class classes.Bond) (position_of (position_name p) sheet.securities) p own e)
+
+  live-squares : AllByRecursion (IsLive sheet) (map concentration_square sheet.groups)
+  live-squares =
+      each-mapped (λ g. group_of (group_name g) sheet.groups ≡ Some g) (IsLive sheet) (λ g. true) concentration_square
+      sheet.groups (own-groups sheet valid) (λ g own. ap is_some own)
+
+  live-losses_of_class : (class : ℕ) → AllByRecursion (IsLive sheet) (losses_of_class class sheet)
+  live-losses_of_class class =
+      each-chosen (λ g. group_of (group_name g) sheet.groups ≡ Some g) (IsLive sheet) (is_of_default_class class)
+      group_loss sheet.groups (own-groups sheet valid) (λ g own e. ap is_some own)
+
+  pub loss-live : (projection : Projection) (liability : Liability) → is_stress projection ≡ true
+      → liability_of (liability_name liability) sheet.liabilities ≡ Some liability → has_flows projection liability
+      ≡ true
+      → is_live sheet (liability_loss projection liability) ≡ true
+  loss-live projection liability stress own e =
+      ap (λ t. t && option_map_or (has_flows projection) (liability_of (liability_name liability)
+      sheet.liabilities) false)
+      stress
+      ∙ passes-own (has_flows projection) (liability_of (liability_name liability) sheet.liabilities) liability own e
+
+  live-losses : (biometric : Biometric) (projection : Projection) → is_stress projection ≡ true
+      → AllByRecursion (IsLive sheet) (losses_under biometric projection sheet)
+  live-losses biometric projection stress =
+      each-chosen (λ l. liability_of (liability_name l) sheet.liabilities ≡ Some l) (IsLive sheet)
+      (is_stressed biometric projection) (liability_loss projection) sheet.liabilities (own-liabilities sheet valid)
+      (λ l own e. loss-live projection l stress own (both (is_of_kind biometric l.kind) (has_flows projection l) e).1)
+
+  live-scenarios : (which : Alternatives) → AllByRecursion (IsLive sheet) (scenarios which)
+  live-scenarios alternatives.Interest = tested interest_scenarios refl
+  live-scenarios alternatives.LifeLapse = tested (lapse_scenarios biometrics.Life) refl
+  live-scenarios alternatives.HealthLapse = tested (lapse_scenarios biometrics.Health) refl
 
   live-classes : (e : Equities) → AllByRecursion (IsLive sheet) (classes_of e)
-  live-classes equities.Type1 = (refl, (refl, tt))
-  live-classes equities.Type2 = (refl, (refl, tt))
-  live-classes equities.Infrastructure = (refl, tt)
-  live-classes equities.InfrastructureCorporate = (refl, tt)
+  live-classes equities.Type1 = tested (classes_of equities.Type1) refl
+  live-classes equities.Type2 = tested (classes_of equities.Type2) refl
+  live-classes equities.Infrastructure = tested (classes_of equities.Infrastructure) refl
+  live-classes equities.InfrastructureCorporate = tested (classes_of equities.InfrastructureCorporate) refl
 
   live-gross : (risk : Risk) → IsLive sheet (gross_of risk)
   live-gross risks.Equity = refl
+  live-gross risks.Property = refl
+  live-gross risks.Spread = refl
+  live-gross risks.Concentration = refl
+  live-gross risks.Default = refl
+  live-gross risks.HealthCatastrophe = refl
+
+  live-operational : (part : Operational) → AllByRecursion (IsLive sheet) (operational_sources part)
+  live-operational operations.Premiums = tested (operational_sources operations.Premiums) refl
+  live-operational operations.Provisions = tested (operational_sources operations.Provisions) refl
+  live-operational operations.Cap = tested (operational_sources operations.Cap) refl
+  live-operational operations.Charge = tested (operational_sources operations.Charge) refl
+
+  live-adjustment : (adjustment : Adjustment) → AllByRecursion (IsLive sheet) (adjustment_sources adjustment)
+  live-adjustment adjustments.TechnicalProvisions = tested (adjustment_sources adjustments.TechnicalProvisions) refl
+  live-adjustment adjustments.DeferredTaxes = tested (adjustment_sources adjustments.DeferredTaxes) refl
+
+  live-segments : (set : Set) → AllByRecursion (IsLive sheet) (segments_of set)
+  live-segments sets.Nl = tested (segments_of sets.Nl) refl
+  live-segments sets.Nslt = tested (segments_of sets.Nslt) refl
 
   pub sources-live : (node : Node) → is_live sheet node ≡ true → AllByRecursion (IsLive sheet) (sources_of sheet node)
   sources-live (nodes.FundTotal name) h = live-funds (holds name)
   sources-live (nodes.SecurityTotal name) h = live-funds (holds name)
   sources-live (nodes.UnitLoss name direction) h = tt
-  sources-live (nodes.SecurityRate name direction) h = (there (position_of name sheet.securities) h, (h, tt))
+  sources-live (nodes.SecurityRate name direction) h = (there is_paying (position_of name sheet.securities) h, (h, tt))
   sources-live (nodes.LiabilityRate name direction) h = tt
+  sources-live (nodes.LiabilityPresent name) h = tt
+  sources-live (nodes.LiabilityLoss name projection) h = tt
   sources-live (nodes.CurrencyLoss currency direction) h = live-rates currency direction
-  sources-live (nodes.InterestScenario direction measures.Gross) h =
+  sources-live (nodes.InterestScenario direction Gross) h =
       each-mapped (λ c. row_of curve_name (curve_name c) sheet.curves ≡ Some c) (IsLive sheet) (λ c. true)
       (currency_loss direction) sheet.curves (own-curves sheet valid) (λ c own. ap is_some own)
-  sources-live (nodes.InterestScenario direction measures.Net) h = (refl, tt)
-  sources-live (nodes.Choice a) h = live-scenarios a
-  sources-live (nodes.Picked a measure) h = All-append (IsLive sheet) (scenarios a) (nodes.Choice a ∷ [])
-      (live-scenarios a) (refl, tt)
+  sources-live (nodes.InterestScenario direction Net) h = (refl, tt)
+  sources-live (nodes.CurrencyScenario currency direction Gross) h = live-worths currency
+  sources-live (nodes.CurrencyScenario currency direction Net) h = (h, tt)
+  sources-live (nodes.CurrencyChoice currency) h = (h, (h, (h, (h, tt))))
+  sources-live (nodes.CurrencyPicked currency measure) h = (h, (h, (h, (h, (h, tt)))))
+  sources-live (nodes.Currency measure) h = live-foreign measure
+  sources-live (nodes.Choice which) h = live-scenarios which
+  sources-live (nodes.Picked which measure) h =
+      All-append (IsLive sheet) (scenarios which) (nodes.Choice which ∷ []) (live-scenarios which) (refl, tt)
   sources-live (nodes.ClassSum class) h = live-held class
   sources-live (nodes.EquityPart e) h = live-classes e
-  sources-live nodes.EquityRoot h = (refl, (refl, (refl, (refl, tt))))
+  sources-live nodes.EquityRoot h = tested equity_parts refl
+  sources-live nodes.Property h = (refl, tt)
+  sources-live (nodes.SecuritySpread name) h =
+      (there (has_class classes.Bond) (position_of name sheet.securities) h, tt)
+  sources-live nodes.Spread h = live-bonds
+  sources-live (nodes.GroupTotal name) h = live-securities (is_of_group name)
+  sources-live nodes.Assets h = live-securities has_group
+  sources-live (nodes.ConcentrationSquare name) h = (refl, (h, tt))
+  sources-live nodes.Concentration h = live-squares
   sources-live (nodes.NetPart risk) h = (live-gross risk, tt)
+  sources-live (nodes.Market Gross) h = tested (market_parts Gross) refl
+  sources-live (nodes.Market Net) h = tested (market_parts Net) refl
+  sources-live (nodes.GroupLoss name) h = tt
+  sources-live (nodes.ClassLoss class) h = live-losses_of_class class
+  sources-live (nodes.ClassSquare class) h = live-losses_of_class class
+  sources-live nodes.Variance h = tested (sources_of sheet nodes.Variance) refl
+  sources-live nodes.DefaultBand h = tested (sources_of sheet nodes.DefaultBand) refl
+  sources-live nodes.DefaultType1 h = tested (sources_of sheet nodes.DefaultType1) refl
+  sources-live nodes.DefaultType2 h = tt
+  sources-live nodes.Default h = (refl, (refl, tt))
+  sources-live (nodes.BioScenario biometric projection Gross) h =
+      live-losses biometric projection (stress-is biometric projection h)
+  sources-live (nodes.BioScenario biometric projection Net) h = (h, tt)
+  sources-live (nodes.Life measure) h = tested (life_parts measure) refl
+  sources-live (nodes.Slt measure) h = tested (slt_parts measure) refl
+  sources-live (nodes.Segment set number) h = tt
+  sources-live (nodes.PremiumReserve set) h = live-segments set
+  sources-live (nodes.CatCharge key) h = tt
+  sources-live (nodes.Lapse set) h = tt
+  sources-live nodes.Natural h = tested natural_perils refl
+  sources-live nodes.ManMade h = tested man_made_perils refl
+  sources-live nodes.NonlifeCatastrophe h = tested nonlife_catastrophes refl
+  sources-live nodes.HealthCatastrophe h = tested health_perils refl
+  sources-live (nodes.Nslt measure) h = (refl, tt)
+  sources-live (nodes.Health Gross) h = tested (health_parts Gross) refl
+  sources-live (nodes.Health Net) h = tested (health_parts Net) refl
+  sources-live (nodes.Nonlife measure) h = (refl, (refl, tt))
+  sources-live nodes.Intangible h = tt
+  sources-live (nodes.Bscr Gross) h = tested (modules Gross) refl
+  sources-live (nodes.Bscr Net) h = tested (modules Net) refl
+  sources-live nodes.Diversification h = tested (modules Gross) refl
+  sources-live (nodes.OpPart part) h = live-operational part
+  sources-live (nodes.Adjust adjustment) h = live-adjustment adjustment
+  sources-live nodes.Scr h = tested requirement_parts refl

@@ -1,59 +1,110 @@
 -- The list of all figures of a valid balance sheet: each once, and after its sources.
-use Rattle.std.proofs.Common.{◌≡◌, ◌⊎◌, ◌↔◌, inl, inr, ℕ, suc, ◌<◌, ◌≤◌, true, false, cond, List, [], ◌∷◌, ◌++◌, map, take, filter, Contains, Option, Some, None, is_some, slice_get, refl, sym, ap, subst, ◌∙◌, arith}
+use Rattle.std.proofs.Common.{◌≡◌, ◌≢◌, ◌==◌, ◌⊎◌, ◌↔◌, inl, inr, ℕ, zero, suc, ◌+◌, ◌-◌, ◌<◌, ◌≤◌, Bool, true, false, nat_le, cond, List, [], ◌∷◌, ◌++◌, map, take, filter, length, Contains, Option, Some, None, is_some, slice_get, refl, sym, ap, subst, ◌∙◌, arith, append_assoc}
 use Rattle.std.specs.List.{AllByRecursion, IsDistinct}
 use Rattle.std.specs.Option.{option_map_or}
-use Rattle.scr_funds.proofs.Members.{IsMember, IsMember-left, IsMember-right, IsMember-cases, IsMember-mapped, IsMember-from_Contains, Contains-from_IsMember, at_member, each_weaker}
+use Rattle.std.proofs.lemmas.Bool.{leb-true, ltb-true}
+use Rattle.std.proofs.lemmas.Bool.Decides.{eqb_tells}
+use Rattle.scr_funds.proofs.Members.{IsMember, IsMember-left, IsMember-right, IsMember-cases, IsMember-mapped, IsMember-from_Contains, Contains-from_IsMember, at_member}
 use Rattle.scr_names.specs.Names.{same_name}
 use Rattle.scr_names.specs.Tables.{row_of, has_row}
 use Rattle.scr_names.proofs.TableRows.{All-append, same_or_other, same_name-is, row_of-later}
-use Rattle.scr_sheet.specs.BalanceSheet.{position_name, liability_name, stake_name, curve_name, position_of, stake_of}
+use Rattle.scr_profile.specs.declared.set.Set.TheVariants as sets
+use Rattle.scr_profile.specs.Segments.{segments}
+use Rattle.scr_sheet.specs.BalanceSheet.{group_name, position_name, liability_name, stake_name, curve_name, position_of, stake_of}
+use Rattle.scr_sheet.specs.declared.keys.CatKey.TheVariants as cats
+use Rattle.scr_sheet.specs.declared.keys.Projection.{Projection}
+use Rattle.scr_sheet.specs.declared.keys.Projection.TheVariants as projections
 use Rattle.scr_sheet.specs.declared.sheet.BalanceSheet.{BalanceSheet}
-use Rattle.scr_sheet.specs.declared.rows.Class.{Class}
 use Rattle.scr_sheet.specs.declared.rows.Class.TheVariants as classes
 use Rattle.scr_sheet.specs.declared.rows.Curve.{Curve}
+use Rattle.scr_sheet.specs.declared.rows.Group.{Group}
 use Rattle.scr_sheet.specs.declared.rows.Liability.{Liability}
 use Rattle.scr_sheet.specs.declared.rows.Position.{Position}
 use Rattle.scr_sheet.specs.Validity.{Valid}
 use Rattle.scr_sheet.proofs.Holds.{distinct-securities}
+use Rattle.scr_nodes.specs.declared.node.Adjustment.TheVariants as adjustments
 use Rattle.scr_nodes.specs.declared.node.Alternatives.TheVariants as alternatives
+use Rattle.scr_nodes.specs.declared.node.Biometric.TheVariants as biometrics
 use Rattle.scr_nodes.specs.declared.node.Direction.{Direction}
 use Rattle.scr_nodes.specs.declared.node.Direction.TheVariants.{Up, Down}
 use Rattle.scr_nodes.specs.declared.node.Equities.TheVariants as equities
 use Rattle.scr_nodes.specs.declared.node.Measure.TheVariants.{Gross, Net}
 use Rattle.scr_nodes.specs.declared.node.Node.{Node}
 use Rattle.scr_nodes.specs.declared.node.Node.TheVariants as nodes
+use Rattle.scr_nodes.specs.declared.node.Operational.TheVariants as operations
 use Rattle.scr_nodes.specs.declared.node.Risk.TheVariants as risks
-use Rattle.scr_nodes.specs.Live.{is_live, pays}
-use Rattle.scr_nodes.specs.LiveNodes.{live_nodes, nodes_above_funds, rest_nodes, total_nodes, constant_nodes, HasNoRepeats, AreInOrder}
+use Rattle.scr_nodes.specs.Live.{is_live}
+use Rattle.scr_nodes.specs.LiveNodes.{live_nodes, nodes_above_funds, rest_nodes, total_nodes, constant_nodes, families, payment_families, stress_families, currency_families, group_families, flat, payings, foreigns, losses_of, AreInOrder, HasNoRepeats}
 use Rattle.scr_nodes.specs.FundOrder.{AreFundsInOrder}
-use Rattle.scr_nodes.specs.Rows.{holds, is_closed, is_paying, is_paying_in, is_owed_in, has_class, liability_of}
-use Rattle.scr_nodes.specs.Sources.{sources_of, fund_total, security_total, unit_loss, security_rate, liability_rate, currency_loss, rates_in, funds_of_class, held_of_class}
+use Rattle.scr_nodes.specs.Rows.{is_paying, is_foreign, has_class, has_flows, is_stress, liability_of, group_of}
+use Rattle.scr_nodes.specs.Sources.{sources_of, fund_total, security_total, unit_loss, security_rate, liability_rate, liability_present, liability_loss, currency_loss, currency_scenario, currency_choice, currency_picked, security_spread, group_total, concentration_square, group_loss}
 use Rattle.scr_nodes.proofs.Chosen.{each-chosen, each-mapped, each-row}
-use Rattle.scr_nodes.proofs.OwnRows.{distinct-liabilities, own-funds, own-securities, own-liabilities, own-curves}
-use Rattle.scr_nodes.proofs.LiveSources.{IsLive, sources-live}
-use Rattle.scr_nodes.proofs.Apart.{apart-chosen, apart-mapped, apart-from_places, one-place, place-of, member-at, member-take, member-chosen, split-place, member-take-append}
-use Rattle.scr_nodes.proofs.Parts.{part_of, AllAt, IsArranged, arranged-none, arranged-part, arranged-word, sorted-before}
+use Rattle.scr_nodes.proofs.OwnRows.{distinct-groups, distinct-liabilities, own-funds, own-groups, own-securities, own-liabilities, own-curves}
+use Rattle.scr_nodes.proofs.LiveSources.{IsLive, sources-live, loss-live, passes-own}
+use Rattle.scr_nodes.proofs.Apart.{AreApart, apart-chosen, apart-mapped, apart-from_places, one-place, place-of, member-at, member-take, member-chosen, split-place, member-take-append}
+use Rattle.scr_nodes.proofs.Earlier.{sources-earlier}
+use Rattle.scr_nodes.proofs.Told.{told-choice, told-currency, told-group, told-group_loss, told-liability, told-loss, told-picked, told-present, told-rate, told-scenario, told-security, told-spread, told-square, told-unit}
+use Rattle.scr_nodes.proofs.Parts.{part_of, AllAt, IsArranged, arranged-part, arranged-numbered, both, each-tested, fund-or-above, sorted-before}
 
--- ---- each family tells its row
+-- ---- lists of lists
 
-told-security : (a b : Position) → security_total a ≡ security_total b → position_name a ≡ position_name b
-told-security a b e = cc
+abbrev pub family_at : List (List Node) → ℕ → List Node
+family_at [] place = []
+family_at (family ∷ families) zero = family
+family_at (family ∷ families) (suc place) = family_at families place
 
-told-unit : (direction : Direction) (a b : Position) → unit_loss direction a ≡ unit_loss direction b
-    → position_name a ≡ position_name b
-told-unit direction a b e = cc
+member-flat : (families : List (List Node)) (place : ℕ) (x : Node) → IsMember x (family_at families place)
+    → IsMember x (flat families)
+member-flat [] place x m = absurd m
+member-flat (family ∷ families) zero x m = IsMember-left family (flat families) x m
+member-flat (family ∷ families) (suc place) x m =
+    IsMember-right family (flat families) x (member-flat families place x m)
 
-told-rate : (direction : Direction) (a b : Position) → security_rate direction a ≡ security_rate direction b
-    → position_name a ≡ position_name b
-told-rate direction a b e = cc
+each-flat : (P : Node → Type 0) (families : List (List Node)) → AllByRecursion (AllByRecursion P) families
+    → AllByRecursion P (flat families)
+each-flat P [] all = tt
+each-flat P (family ∷ families) all = All-append P family (flat families) all.0 (each-flat P families all.1)
 
-told-liability : (direction : Direction) (a b : Liability) → liability_rate direction a ≡ liability_rate direction b
-    → liability_name a ≡ liability_name b
-told-liability direction a b e = cc
+-- each family of the part that follows that of the one before it
+abbrev IsFamily : ℕ → List Node → Type 0
+IsFamily part family = AllAt part family × AreApart family
 
-told-currency : (direction : Direction) (a b : Curve) → currency_loss direction a ≡ currency_loss direction b
-    → curve_name a ≡ curve_name b
-told-currency direction a b e = cc
+abbrev AreFamilies : ℕ → List (List Node) → Type 0
+AreFamilies part [] = Unit {0}
+AreFamilies part (family ∷ families) = IsFamily part family × AreFamilies (suc part) families
+
+families-append : (part last : ℕ) (front back : List (List Node)) → last ≡ part + length front → AreFamilies part front
+    → AreFamilies last back → AreFamilies part (front ++ back)
+families-append part last [] back e front-are back-are =
+    let same : last ≡ part = omega (arith, e) in subst (λ p. AreFamilies p back) same back-are
+families-append part last (family ∷ front) back e front-are back-are =
+    let more : last ≡ suc part + length front = omega (arith, e) in
+    (front-are.0, families-append (suc part) last front back more front-are.1 back-are)
+
+arranged-families : (part last : ℕ) (list : List (List Node)) (rest : List Node) → last ≡ part + length list
+    → AreFamilies part list → IsArranged last rest → IsArranged part (flat list ++ rest)
+arranged-families part last [] rest e are more =
+    let same : last ≡ part = omega (arith, e) in subst (λ p. IsArranged p rest) same more
+arranged-families part last (family ∷ list) rest e are more =
+    let on : last ≡ suc part + length list = omega (arith, e) in
+    subst (IsArranged part) (sym (append_assoc family (flat list) rest))
+    (arranged-part part family (flat list ++ rest) are.0.0 are.0.1
+    (arranged-families (suc part) last list rest on are.1 more))
+
+-- the numbers from one on, so many
+abbrev numbers : ℕ → ℕ → List ℕ
+numbers first zero = []
+numbers first (suc count) = first ∷ numbers (suc first) count
+
+member-number : (first count n : ℕ) → first ≤ n → n < first + count → IsMember n (numbers first count)
+member-number first zero n least most = absurd (omega arith)
+member-number first (suc count) n least most = by (eqb_tells n first) (member-number (suc first) count n)
+  where
+    by : (((n == first) ≡ true) × (n ≡ first)) ⊎ (((n == first) ≡ false) × (n ≢ first))
+        → (suc first ≤ n → n < suc first + count → IsMember n (numbers (suc first) count))
+        → IsMember n (first ∷ numbers (suc first) count)
+    by (inl e) later = inl e.1
+    by (inr e) later = let other = e.1 in inr (later (omega (arith, other, least)) (omega (arith, most)))
 
 -- ---- the row of a name
 
@@ -81,247 +132,411 @@ in-table {Row} name_of node named own name rows has = by (row_of name_of name ro
         let r = row-there name_of (λ r. Unit {0}) name rows row e tt in
         subst (λ n. IsMember n (map node rows)) (own r.0 ∙ ap named (sym r.2)) (IsMember-mapped node rows r.0 r.1)
 
-in-paying : (node : Position → Node) (named : List ℕ → Node) → ((p : Position) → node p ≡ named (position_name p))
-    → (name : List ℕ) (rows : List Position) → option_map_or is_paying (position_of name rows) false ≡ true
-    → IsMember (named name) (map node (filter is_paying rows))
-in-paying node named own name rows pays = by (position_of name rows) refl pays
+-- the same of a name of which a row passes
+in-chosen : {Row : Type 0} (name_of : Row → List ℕ) (test : Row → Bool) (node : Row → Node) (named : List ℕ → Node)
+    → ((row : Row) → node row ≡ named (name_of row)) → (name : List ℕ) (rows : List Row)
+    → option_map_or test (row_of name_of name rows) false ≡ true → IsMember (named name) (map node (filter test rows))
+in-chosen {Row} name_of test node named own name rows passes = by (row_of name_of name rows) refl passes
   where
-    by : (found : Option Position) → position_of name rows ≡ found → option_map_or is_paying found false ≡ true
-        → IsMember (named name) (map node (filter is_paying rows))
+    by : (found : Option Row) → row_of name_of name rows ≡ found → option_map_or test found false ≡ true
+        → IsMember (named name) (map node (filter test rows))
     by None e h = absurd (cc)
-    by (Some p) e h =
-        let r = row-there position_name (λ q. is_paying q ≡ true) name rows p e h in
-        subst (λ n. IsMember n (map node (filter is_paying rows))) (own r.0 ∙ ap named (sym r.2))
-        (member-chosen node is_paying rows r.0 r.1 r.3)
-
-class-part : (class : Class) → 10 ≤ part_of (nodes.ClassSum class)
-class-part classes.Type1Equity = omega arith
-class-part classes.Type1Strategic = omega arith
-class-part classes.Type2Equity = omega arith
-class-part classes.Type2Strategic = omega arith
-class-part classes.Infrastructure = omega arith
-class-part classes.InfrastructureCorporate = omega arith
-class-part class = omega arith
+    by (Some row) e h =
+        let r = row-there name_of (λ q. test q ≡ true) name rows row e h in
+        subst (λ n. IsMember n (map node (filter test rows))) (own r.0 ∙ ap named (sym r.2))
+        (member-chosen node test rows r.0 r.1 r.3)
 
 module _ (sheet : BalanceSheet) where
-  -- ---- the lists of which the list is made, and what is left after each
-
   abbrev pub securities : List Node
   securities = map security_total sheet.securities
 
-  abbrev pub units : Direction → List Node
-  units direction = map (unit_loss direction) (filter is_paying sheet.securities)
-
-  abbrev pub rates : Direction → List Node
-  rates direction = map (security_rate direction) (filter is_paying sheet.securities)
-
-  abbrev pub owed : Direction → List Node
-  owed direction = map (liability_rate direction) sheet.liabilities
-
-  abbrev pub currencies : Direction → List Node
-  currencies direction = map (currency_loss direction) sheet.curves
-
-  abbrev pub from_currencies : List Node
-  from_currencies = currencies Up ++ (currencies Down ++ constant_nodes)
-
-  abbrev pub from_owed : List Node
-  from_owed = owed Up ++ (owed Down ++ from_currencies)
-
-  abbrev pub from_rates : List Node
-  from_rates = rates Up ++ (rates Down ++ from_owed)
-
-  abbrev pub from_units : List Node
-  from_units = units Up ++ (units Down ++ from_rates)
-
-  -- ---- past those lists
-
-  past-securities : (x : Node) → IsMember x from_units → IsMember x (nodes_above_funds sheet)
-  past-securities x m = IsMember-right securities from_units x m
-
-  past-units : (x : Node) → IsMember x from_rates → IsMember x (nodes_above_funds sheet)
-  past-units x m = past-securities x (IsMember-right (units Up) (units Down ++ from_rates) x
-      (IsMember-right (units Down) from_rates x m))
-
-  past-rates : (x : Node) → IsMember x from_owed → IsMember x (nodes_above_funds sheet)
-  past-rates x m = past-units x (IsMember-right (rates Up) (rates Down ++ from_owed) x
-      (IsMember-right (rates Down) from_owed x m))
-
-  past-owed : (x : Node) → IsMember x from_currencies → IsMember x (nodes_above_funds sheet)
-  past-owed x m = past-rates x (IsMember-right (owed Up) (owed Down ++ from_currencies) x
-      (IsMember-right (owed Down) from_currencies x m))
-
-  past-currencies : (x : Node) → IsMember x constant_nodes → IsMember x (nodes_above_funds sheet)
-  past-currencies x m = past-owed x (IsMember-right (currencies Up) (currencies Down ++ constant_nodes) x
-      (IsMember-right (currencies Down) constant_nodes x m))
-
   -- ---- every figure is in the list
+
+  past-securities : (x : Node) → IsMember x (rest_nodes sheet) → IsMember x (nodes_above_funds sheet)
+  past-securities x m = IsMember-right securities (rest_nodes sheet) x m
 
   -- a total of a fund, or another figure of the list
   abbrev IsListed : Node → Type 0
   IsListed node = IsMember node (map fund_total sheet.funds) ⊎ IsMember node (nodes_above_funds sheet)
 
+  -- in the family at a place, or at its own place among the figures of every balance sheet
+  in-family : (place : ℕ) (node : Node) → IsMember node (family_at (families sheet) place) → IsListed node
+  in-family place node m =
+      inr (past-securities node
+      (IsMember-left (flat (families sheet)) constant_nodes node (member-flat (families sheet) place node m)))
+
+  constant : (node : Node) → slice_get constant_nodes (part_of node - 32) ≡ Some node → IsListed node
+  constant node at =
+      inr (past-securities node
+      (IsMember-right (flat (families sheet)) constant_nodes node
+      (member-at constant_nodes (part_of node - 32) node at)))
+
+  of-loss : (place : ℕ) (projection : Projection) (name : List ℕ)
+      → family_at (families sheet) place ≡ losses_of projection sheet
+      → option_map_or (has_flows projection) (liability_of name sheet.liabilities) false ≡ true
+      → IsListed (nodes.LiabilityLoss name projection)
+  of-loss place projection name is h =
+      in-family place (nodes.LiabilityLoss name projection)
+      (subst (IsMember (nodes.LiabilityLoss name projection)) (sym is)
+      (in-chosen liability_name (has_flows projection) (liability_loss projection)
+      (λ n. nodes.LiabilityLoss n projection) (λ l. refl) name sheet.liabilities h))
+
+  of-foreign : (place : ℕ) (node : Curve → Node) (named : List ℕ → Node) → ((c : Curve) → node c ≡ named (curve_name c))
+      → (currency : List ℕ) → family_at (families sheet) place ≡ map node (foreigns sheet)
+      → option_map_or (is_foreign sheet) (row_of curve_name currency sheet.curves) false ≡ true
+      → IsListed (named currency)
+  of-foreign place node named own currency is h =
+      in-family place (named currency)
+      (subst (IsMember (named currency)) (sym is)
+      (in-chosen curve_name (is_foreign sheet) node named own currency sheet.curves h))
+
   pub live-listed : (node : Node) → is_live sheet node ≡ true → IsListed node
-  live-listed (nodes.FundTotal name) h = inl (in-table stake_name fund_total nodes.FundTotal
-      (λ s. refl) name sheet.funds h)
+  live-listed (nodes.FundTotal name) h =
+      inl (in-table stake_name fund_total nodes.FundTotal (λ s. refl) name sheet.funds h)
   live-listed (nodes.SecurityTotal name) h =
-      inr (IsMember-left securities from_units (nodes.SecurityTotal name)
+      inr (IsMember-left securities (rest_nodes sheet) (nodes.SecurityTotal name)
       (in-table position_name security_total nodes.SecurityTotal (λ p. refl) name sheet.securities h))
   live-listed (nodes.UnitLoss name Up) h =
-      inr (past-securities (nodes.UnitLoss name Up)
-      (IsMember-left (units Up) (units Down ++ from_rates) (nodes.UnitLoss name Up)
-      (in-paying (unit_loss Up) (λ n. nodes.UnitLoss n Up) (λ p. refl) name sheet.securities h)))
+      in-family 0 (nodes.UnitLoss name Up)
+      (in-chosen position_name is_paying (unit_loss Up) (λ n. nodes.UnitLoss n Up) (λ r. refl) name sheet.securities h)
   live-listed (nodes.UnitLoss name Down) h =
-      inr (past-securities (nodes.UnitLoss name Down)
-      (IsMember-right (units Up) (units Down ++ from_rates) (nodes.UnitLoss name Down)
-      (IsMember-left (units Down) from_rates (nodes.UnitLoss name Down)
-      (in-paying (unit_loss Down) (λ n. nodes.UnitLoss n Down) (λ p. refl) name sheet.securities h))))
+      in-family 1 (nodes.UnitLoss name Down)
+      (in-chosen position_name is_paying (unit_loss Down) (λ n. nodes.UnitLoss n Down) (λ r. refl) name
+      sheet.securities h)
   live-listed (nodes.SecurityRate name Up) h =
-      inr (past-units (nodes.SecurityRate name Up)
-      (IsMember-left (rates Up) (rates Down ++ from_owed) (nodes.SecurityRate name Up)
-      (in-paying (security_rate Up) (λ n. nodes.SecurityRate n Up) (λ p. refl) name sheet.securities h)))
+      in-family 2 (nodes.SecurityRate name Up)
+      (in-chosen position_name is_paying (security_rate Up) (λ n. nodes.SecurityRate n Up) (λ r. refl) name
+      sheet.securities h)
   live-listed (nodes.SecurityRate name Down) h =
-      inr (past-units (nodes.SecurityRate name Down)
-      (IsMember-right (rates Up) (rates Down ++ from_owed) (nodes.SecurityRate name Down)
-      (IsMember-left (rates Down) from_owed (nodes.SecurityRate name Down)
-      (in-paying (security_rate Down) (λ n. nodes.SecurityRate n Down) (λ p. refl) name sheet.securities h))))
+      in-family 3 (nodes.SecurityRate name Down)
+      (in-chosen position_name is_paying (security_rate Down) (λ n. nodes.SecurityRate n Down) (λ r. refl) name
+      sheet.securities h)
   live-listed (nodes.LiabilityRate name Up) h =
-      inr (past-rates (nodes.LiabilityRate name Up)
-      (IsMember-left (owed Up) (owed Down ++ from_currencies) (nodes.LiabilityRate name Up)
-      (in-table liability_name (liability_rate Up) (λ n. nodes.LiabilityRate n Up)
-      (λ l. refl) name sheet.liabilities h)))
+      in-family 4 (nodes.LiabilityRate name Up)
+      (in-table liability_name (liability_rate Up) (λ n. nodes.LiabilityRate n Up) (λ r. refl) name sheet.liabilities h)
   live-listed (nodes.LiabilityRate name Down) h =
-      inr (past-rates (nodes.LiabilityRate name Down)
-      (IsMember-right (owed Up) (owed Down ++ from_currencies) (nodes.LiabilityRate name Down)
-      (IsMember-left (owed Down) from_currencies (nodes.LiabilityRate name Down)
-      (in-table liability_name (liability_rate Down) (λ n. nodes.LiabilityRate n Down)
-      (λ l. refl) name sheet.liabilities h))))
+      in-family 5 (nodes.LiabilityRate name Down)
+      (in-table liability_name (liability_rate Down) (λ n. nodes.LiabilityRate n Down) (λ r. refl) name
+      sheet.liabilities h)
+  live-listed (nodes.LiabilityPresent name) h =
+      in-family 6 (nodes.LiabilityPresent name)
+      (in-table liability_name liability_present nodes.LiabilityPresent (λ r. refl) name sheet.liabilities h)
+  live-listed (nodes.LiabilityLoss name projections.Base) h = absurd (cc)
+  live-listed (nodes.LiabilityLoss name projections.Mortality) h = of-loss 7 projections.Mortality name refl h
+  live-listed (nodes.LiabilityLoss name projections.Longevity) h = of-loss 8 projections.Longevity name refl h
+  live-listed (nodes.LiabilityLoss name projections.Disability) h = of-loss 9 projections.Disability name refl h
+  live-listed (nodes.LiabilityLoss name projections.Expense) h = of-loss 10 projections.Expense name refl h
+  live-listed (nodes.LiabilityLoss name projections.Revision) h = of-loss 11 projections.Revision name refl h
+  live-listed (nodes.LiabilityLoss name projections.LapseUp) h = of-loss 12 projections.LapseUp name refl h
+  live-listed (nodes.LiabilityLoss name projections.LapseDown) h = of-loss 13 projections.LapseDown name refl h
+  live-listed (nodes.LiabilityLoss name projections.LapseMass) h = of-loss 14 projections.LapseMass name refl h
+  live-listed (nodes.LiabilityLoss name projections.Catastrophe) h = of-loss 15 projections.Catastrophe name refl h
   live-listed (nodes.CurrencyLoss currency Up) h =
-      inr (past-owed (nodes.CurrencyLoss currency Up)
-      (IsMember-left (currencies Up) (currencies Down ++ constant_nodes) (nodes.CurrencyLoss currency Up)
-      (in-table curve_name (currency_loss Up) (λ n. nodes.CurrencyLoss n Up) (λ c. refl) currency sheet.curves h)))
+      in-family 16 (nodes.CurrencyLoss currency Up)
+      (in-table curve_name (currency_loss Up) (λ n. nodes.CurrencyLoss n Up) (λ r. refl) currency sheet.curves h)
   live-listed (nodes.CurrencyLoss currency Down) h =
-      inr (past-owed (nodes.CurrencyLoss currency Down)
-      (IsMember-right (currencies Up) (currencies Down ++ constant_nodes) (nodes.CurrencyLoss currency Down)
-      (IsMember-left (currencies Down) constant_nodes (nodes.CurrencyLoss currency Down)
-      (in-table curve_name (currency_loss Down) (λ n. nodes.CurrencyLoss n Down) (λ c. refl) currency sheet.curves h))))
-  live-listed (nodes.ClassSum classes.Type1Equity) h = inr (past-currencies _ (inl refl))
-  live-listed (nodes.ClassSum classes.Type1Strategic) h = inr (past-currencies _ (inr (inl refl)))
-  live-listed (nodes.ClassSum classes.Type2Equity) h = inr (past-currencies _ (inr (inr (inl refl))))
-  live-listed (nodes.ClassSum classes.Type2Strategic) h = inr (past-currencies _ (inr (inr (inr (inl refl)))))
-  live-listed (nodes.ClassSum classes.Infrastructure) h = inr (past-currencies _ (inr (inr (inr (inr (inl refl))))))
-  live-listed (nodes.ClassSum classes.InfrastructureCorporate) h = inr
-      (past-currencies _ (inr (inr (inr (inr (inr (inl refl)))))))
-  live-listed (nodes.ClassSum class) h = absurd (cc)
-  live-listed (nodes.EquityPart equities.Type1) h = inr
-      (past-currencies _ (inr (inr (inr (inr (inr (inr (inl refl))))))))
-  live-listed (nodes.EquityPart equities.Type2) h = inr
-      (past-currencies _ (inr (inr (inr (inr (inr (inr (inr (inl refl)))))))))
-  live-listed (nodes.EquityPart equities.Infrastructure) h = inr
-      (past-currencies _ (inr (inr (inr (inr (inr (inr (inr (inr (inl refl))))))))))
-  live-listed (nodes.EquityPart equities.InfrastructureCorporate) h = inr
-      (past-currencies _ (inr (inr (inr (inr (inr (inr (inr (inr (inr (inl refl)))))))))))
-  live-listed nodes.EquityRoot h = inr (past-currencies _
-      (inr (inr (inr (inr (inr (inr (inr (inr (inr (inr (inl refl))))))))))))
-  live-listed (nodes.NetPart risks.Equity) h = inr
-      (past-currencies _ (inr (inr (inr (inr (inr (inr (inr (inr (inr (inr (inr (inl refl)))))))))))))
-  live-listed (nodes.InterestScenario Up Gross) h = inr
-      (past-currencies _ (inr (inr (inr (inr (inr (inr (inr (inr (inr (inr (inr (inr (inl refl))))))))))))))
-  live-listed (nodes.InterestScenario Up Net) h = inr
-      (past-currencies _ (inr (inr (inr (inr (inr (inr (inr (inr (inr (inr (inr (inr (inr (inl refl)))))))))))))))
-  live-listed (nodes.InterestScenario Down Gross) h = inr
-      (past-currencies _ (inr (inr (inr (inr (inr (inr (inr (inr (inr (inr (inr (inr (inr (inr (inl refl))))))))))))))))
-  live-listed (nodes.InterestScenario Down Net) h = inr
-      (past-currencies _
-      (inr (inr (inr (inr (inr (inr (inr (inr (inr (inr (inr (inr (inr (inr (inr (inl refl)))))))))))))))))
-  live-listed (nodes.Choice alternatives.Interest) h = inr
-      (past-currencies _
-      (inr (inr (inr (inr (inr (inr (inr (inr (inr (inr (inr (inr (inr (inr (inr (inr (inl refl))))))))))))))))))
-  live-listed (nodes.Picked alternatives.Interest Gross) h = inr
-      (past-currencies _
-      (inr (inr (inr (inr (inr (inr (inr (inr (inr (inr (inr (inr (inr (inr (inr (inr (inr (inl refl)))))))))))))))))))
-  live-listed (nodes.Picked alternatives.Interest Net) h = inr
-      (past-currencies _
-      (inr (inr
-      (inr (inr (inr (inr (inr (inr (inr (inr (inr (inr (inr (inr (inr (inr (inr (inr (inl refl))))))))))))))))))))
-
-  -- ---- the sources of a figure are of earlier parts
-
-  abbrev AllBelow : ℕ → List Node → Type 0
-  AllBelow part list = AllByRecursion (λ n. part_of n < part) list
-
-  below-rates : (currency : List ℕ) (direction : Direction) → AllBelow 8 (rates_in currency direction sheet)
-  below-rates currency direction =
-      All-append (λ n. part_of n < 8) (map (security_rate direction) (filter (is_paying_in currency) sheet.securities))
-      (map (liability_rate direction) (filter (is_owed_in currency) sheet.liabilities))
-      (each-chosen (λ p. Unit {0}) (λ n. part_of n < 8) (is_paying_in currency)
-      (security_rate direction) sheet.securities (each-row sheet.securities) (λ p fact e. rate direction p))
-      (each-chosen (λ l. Unit {0}) (λ n. part_of n < 8) (is_owed_in currency)
-      (liability_rate direction) sheet.liabilities (each-row sheet.liabilities) (λ l fact e. cost direction l))
-    where
-      rate : (d : Direction) (p : Position) → part_of (security_rate d p) < 8
-      rate Up p = omega arith
-      rate Down p = omega arith
-
-      cost : (d : Direction) (l : Liability) → part_of (liability_rate d l) < 8
-      cost Up l = omega arith
-      cost Down l = omega arith
-
-  below-held : (class : Class) → AllBelow 10 (held_of_class class sheet)
-  below-held class =
-      All-append (λ n. part_of n < 10) (map security_total (filter (has_class class) sheet.securities))
-      (funds_of_class class sheet)
-      (each-chosen (λ p. Unit {0}) (λ n. part_of n < 10) (has_class class) security_total sheet.securities
-      (each-row sheet.securities) (λ p fact e. omega arith))
-      (funds class)
-    where
-      funds : (c : Class) → AllBelow 10 (funds_of_class c sheet)
-      funds classes.Type2Equity = each-chosen (λ s. Unit {0}) (λ n. part_of n < 10) is_closed fund_total sheet.funds
-          (each-row sheet.funds) (λ s fact e. omega arith)
-      funds c = tt
-
-  weaker : (least most : ℕ) → least ≤ most → (list : List Node) → AllBelow least list → AllBelow most list
-  weaker least most h list below = each_weaker (λ n. part_of n < least) (λ n. part_of n < most)
-      (λ n l. omega arith) list below
-
-  below-currencies : (direction : Direction) → AllBelow 22 (map (currency_loss direction) sheet.curves)
-  below-currencies direction = each-mapped (λ c. Unit {0}) (λ n. part_of n < 22) (λ c. true)
-      (currency_loss direction) sheet.curves (each-row sheet.curves) (λ c fact. loss direction c)
-    where
-      loss : (d : Direction) (c : Curve) → part_of (currency_loss d c) < 22
-      loss Up c = omega arith
-      loss Down c = omega arith
-
-  pub sources-earlier : (node : Node) → 0 < part_of node → AllBelow (part_of node) (sources_of sheet node)
-  sources-earlier (nodes.FundTotal name) h = absurd (omega arith)
-  sources-earlier (nodes.SecurityTotal name) h =
-      each-chosen (λ s. Unit {0}) (λ n. part_of n < 1) (holds name) fund_total sheet.funds (each-row sheet.funds)
-      (λ s fact e. omega arith)
-  sources-earlier (nodes.UnitLoss name direction) h = tt
-  sources-earlier (nodes.SecurityRate name Up) h = (omega arith, (omega arith, tt))
-  sources-earlier (nodes.SecurityRate name Down) h = (omega arith, (omega arith, tt))
-  sources-earlier (nodes.LiabilityRate name direction) h = tt
-  sources-earlier (nodes.CurrencyLoss currency Up) h = below-rates currency Up
-  sources-earlier (nodes.CurrencyLoss currency Down) h = weaker 8 9 (omega arith) (rates_in currency Down sheet)
-      (below-rates currency Down)
-  sources-earlier (nodes.InterestScenario Up Gross) h = below-currencies Up
-  sources-earlier (nodes.InterestScenario Down Gross) h = weaker 22 24 (omega arith)
-      (map (currency_loss Down) sheet.curves) (below-currencies Down)
-  sources-earlier (nodes.InterestScenario Up Net) h = (omega arith, tt)
-  sources-earlier (nodes.InterestScenario Down Net) h = (omega arith, tt)
-  sources-earlier (nodes.Choice alternatives.Interest) h =
-      (omega arith, (omega arith, (omega arith, (omega arith, tt))))
-  sources-earlier (nodes.Picked alternatives.Interest Gross) h =
-      (omega arith, (omega arith, (omega arith, (omega arith, (omega arith, tt)))))
-  sources-earlier (nodes.Picked alternatives.Interest Net) h =
-      (omega arith, (omega arith, (omega arith, (omega arith, (omega arith, tt)))))
-  sources-earlier (nodes.ClassSum class) h = weaker 10 (part_of (nodes.ClassSum class)) (class-part class)
-      (held_of_class class sheet) (below-held class)
-  sources-earlier (nodes.EquityPart equities.Type1) h = (omega arith, (omega arith, tt))
-  sources-earlier (nodes.EquityPart equities.Type2) h = (omega arith, (omega arith, tt))
-  sources-earlier (nodes.EquityPart equities.Infrastructure) h = (omega arith, tt)
-  sources-earlier (nodes.EquityPart equities.InfrastructureCorporate) h = (omega arith, tt)
-  sources-earlier nodes.EquityRoot h = (omega arith, (omega arith, (omega arith, (omega arith, tt))))
-  sources-earlier (nodes.NetPart risks.Equity) h = (omega arith, tt)
+      in-family 17 (nodes.CurrencyLoss currency Down)
+      (in-table curve_name (currency_loss Down) (λ n. nodes.CurrencyLoss n Down) (λ r. refl) currency sheet.curves h)
+  live-listed (nodes.CurrencyScenario currency Up Gross) h =
+      of-foreign 18 (currency_scenario Up Gross) (λ n. nodes.CurrencyScenario n Up Gross) (λ c. refl) currency refl h
+  live-listed (nodes.CurrencyScenario currency Up Net) h =
+      of-foreign 19 (currency_scenario Up Net) (λ n. nodes.CurrencyScenario n Up Net) (λ c. refl) currency refl h
+  live-listed (nodes.CurrencyScenario currency Down Gross) h =
+      of-foreign 20 (currency_scenario Down Gross) (λ n. nodes.CurrencyScenario n Down Gross) (λ
+      c. refl) currency refl h
+  live-listed (nodes.CurrencyScenario currency Down Net) h =
+      of-foreign 21 (currency_scenario Down Net) (λ n. nodes.CurrencyScenario n Down Net) (λ c. refl) currency refl h
+  live-listed (nodes.CurrencyChoice currency) h =
+      of-foreign 22 currency_choice nodes.CurrencyChoice (λ c. refl) currency refl h
+  live-listed (nodes.CurrencyPicked currency Gross) h =
+      of-foreign 23 (currency_picked Gross) (λ n. nodes.CurrencyPicked n Gross) (λ c. refl) currency refl h
+  live-listed (nodes.CurrencyPicked currency Net) h =
+      of-foreign 24 (currency_picked Net) (λ n. nodes.CurrencyPicked n Net) (λ c. refl) currency refl h
+  live-listed (nodes.SecuritySpread name) h =
+      in-family 25 (nodes.SecuritySpread name)
+      (in-chosen position_name (has_class classes.Bond) security_spread nodes.SecuritySpread (λ r. refl) name
+      sheet.securities h)
+  live-listed (nodes.GroupTotal name) h =
+      in-family 26 (nodes.GroupTotal name)
+      (in-table group_name group_total nodes.GroupTotal (λ r. refl) name sheet.groups h)
+  live-listed nodes.Assets h = in-family 27 nodes.Assets (inl refl)
+  live-listed (nodes.ConcentrationSquare name) h =
+      in-family 28 (nodes.ConcentrationSquare name)
+      (in-table group_name concentration_square nodes.ConcentrationSquare (λ r. refl) name sheet.groups h)
+  live-listed (nodes.GroupLoss name) h =
+      in-family 29 (nodes.GroupLoss name)
+      (in-table group_name group_loss nodes.GroupLoss (λ r. refl) name sheet.groups h)
+  live-listed (nodes.ClassSum classes.Type1Equity) h = constant (nodes.ClassSum classes.Type1Equity) refl
+  live-listed (nodes.ClassSum classes.Type1Strategic) h = constant (nodes.ClassSum classes.Type1Strategic) refl
+  live-listed (nodes.ClassSum classes.Type2Equity) h = constant (nodes.ClassSum classes.Type2Equity) refl
+  live-listed (nodes.ClassSum classes.Type2Strategic) h = constant (nodes.ClassSum classes.Type2Strategic) refl
+  live-listed (nodes.ClassSum classes.Infrastructure) h = constant (nodes.ClassSum classes.Infrastructure) refl
+  live-listed (nodes.ClassSum classes.InfrastructureCorporate) h =
+      constant (nodes.ClassSum classes.InfrastructureCorporate) refl
+  live-listed (nodes.ClassSum classes.Property) h = constant (nodes.ClassSum classes.Property) refl
+  live-listed (nodes.ClassSum classes.Bond) h = constant (nodes.ClassSum classes.Bond) refl
+  live-listed (nodes.ClassSum classes.Government) h = constant (nodes.ClassSum classes.Government) refl
+  live-listed (nodes.ClassSum classes.Other) h = constant (nodes.ClassSum classes.Other) refl
+  live-listed (nodes.EquityPart equities.Type1) h = constant (nodes.EquityPart equities.Type1) refl
+  live-listed (nodes.EquityPart equities.Type2) h = constant (nodes.EquityPart equities.Type2) refl
+  live-listed (nodes.EquityPart equities.Infrastructure) h = constant (nodes.EquityPart equities.Infrastructure) refl
+  live-listed (nodes.EquityPart equities.InfrastructureCorporate) h =
+      constant (nodes.EquityPart equities.InfrastructureCorporate) refl
+  live-listed (nodes.InterestScenario Up Gross) h = constant (nodes.InterestScenario Up Gross) refl
+  live-listed (nodes.InterestScenario Up Net) h = constant (nodes.InterestScenario Up Net) refl
+  live-listed (nodes.InterestScenario Down Gross) h = constant (nodes.InterestScenario Down Gross) refl
+  live-listed (nodes.InterestScenario Down Net) h = constant (nodes.InterestScenario Down Net) refl
+  live-listed (nodes.Choice alternatives.Interest) h = constant (nodes.Choice alternatives.Interest) refl
+  live-listed (nodes.Picked alternatives.Interest Gross) h = constant (nodes.Picked alternatives.Interest Gross) refl
+  live-listed (nodes.Picked alternatives.Interest Net) h = constant (nodes.Picked alternatives.Interest Net) refl
+  live-listed (nodes.Choice alternatives.LifeLapse) h = constant (nodes.Choice alternatives.LifeLapse) refl
+  live-listed (nodes.Picked alternatives.LifeLapse Gross) h = constant (nodes.Picked alternatives.LifeLapse Gross) refl
+  live-listed (nodes.Picked alternatives.LifeLapse Net) h = constant (nodes.Picked alternatives.LifeLapse Net) refl
+  live-listed (nodes.Choice alternatives.HealthLapse) h = constant (nodes.Choice alternatives.HealthLapse) refl
+  live-listed (nodes.Picked alternatives.HealthLapse Gross) h =
+      constant (nodes.Picked alternatives.HealthLapse Gross) refl
+  live-listed (nodes.Picked alternatives.HealthLapse Net) h = constant (nodes.Picked alternatives.HealthLapse Net) refl
+  live-listed nodes.EquityRoot h = constant nodes.EquityRoot refl
+  live-listed nodes.Property h = constant nodes.Property refl
+  live-listed nodes.Spread h = constant nodes.Spread refl
+  live-listed nodes.Concentration h = constant nodes.Concentration refl
+  live-listed (nodes.NetPart risks.Equity) h = constant (nodes.NetPart risks.Equity) refl
+  live-listed (nodes.NetPart risks.Property) h = constant (nodes.NetPart risks.Property) refl
+  live-listed (nodes.NetPart risks.Spread) h = constant (nodes.NetPart risks.Spread) refl
+  live-listed (nodes.NetPart risks.Concentration) h = constant (nodes.NetPart risks.Concentration) refl
+  live-listed (nodes.NetPart risks.Default) h = constant (nodes.NetPart risks.Default) refl
+  live-listed (nodes.NetPart risks.HealthCatastrophe) h = constant (nodes.NetPart risks.HealthCatastrophe) refl
+  live-listed (nodes.Currency Gross) h = constant (nodes.Currency Gross) refl
+  live-listed (nodes.Currency Net) h = constant (nodes.Currency Net) refl
+  live-listed (nodes.Market Gross) h = constant (nodes.Market Gross) refl
+  live-listed (nodes.Market Net) h = constant (nodes.Market Net) refl
+  live-listed (nodes.ClassLoss class) h =
+      at_member (λ c. IsListed (nodes.ClassLoss c)) (numbers 0 6) class (
+        constant (nodes.ClassLoss 0) refl,
+        (
+          constant (nodes.ClassLoss 1) refl,
+          (
+            constant (nodes.ClassLoss 2) refl,
+            (
+              constant (nodes.ClassLoss 3) refl,
+              (
+                constant (nodes.ClassLoss 4) refl,
+                (
+                  constant
+                      (nodes.ClassLoss 5) refl,
+                  tt,
+                ),
+              ),
+            ),
+          ),
+        ),
+      )
+      (member-number 0 6 class (omega arith) (ltb-true class 6 h))
+  live-listed (nodes.ClassSquare class) h =
+      at_member (λ c. IsListed (nodes.ClassSquare c)) (numbers 0 6) class (
+        constant (nodes.ClassSquare 0) refl,
+        (
+          constant (nodes.ClassSquare 1) refl,
+          (
+            constant (nodes.ClassSquare 2) refl,
+            (
+              constant (nodes.ClassSquare 3) refl,
+              (
+                constant (nodes.ClassSquare 4) refl,
+                (
+                  constant
+                      (nodes.ClassSquare 5) refl,
+                  tt,
+                ),
+              ),
+            ),
+          ),
+        ),
+      )
+      (member-number 0 6 class (omega arith) (ltb-true class 6 h))
+  live-listed nodes.Variance h = constant nodes.Variance refl
+  live-listed nodes.DefaultBand h = constant nodes.DefaultBand refl
+  live-listed nodes.DefaultType1 h = constant nodes.DefaultType1 refl
+  live-listed nodes.DefaultType2 h = constant nodes.DefaultType2 refl
+  live-listed nodes.Default h = constant nodes.Default refl
+  live-listed (nodes.BioScenario biometric projections.Base measure) h = absurd (cc)
+  live-listed (nodes.BioScenario biometrics.Health projections.Catastrophe measure) h = absurd (cc)
+  live-listed (nodes.BioScenario biometrics.Life projections.Mortality Gross) h =
+      constant (nodes.BioScenario biometrics.Life projections.Mortality Gross) refl
+  live-listed (nodes.BioScenario biometrics.Life projections.Mortality Net) h =
+      constant (nodes.BioScenario biometrics.Life projections.Mortality Net) refl
+  live-listed (nodes.BioScenario biometrics.Life projections.Longevity Gross) h =
+      constant (nodes.BioScenario biometrics.Life projections.Longevity Gross) refl
+  live-listed (nodes.BioScenario biometrics.Life projections.Longevity Net) h =
+      constant (nodes.BioScenario biometrics.Life projections.Longevity Net) refl
+  live-listed (nodes.BioScenario biometrics.Life projections.Disability Gross) h =
+      constant (nodes.BioScenario biometrics.Life projections.Disability Gross) refl
+  live-listed (nodes.BioScenario biometrics.Life projections.Disability Net) h =
+      constant (nodes.BioScenario biometrics.Life projections.Disability Net) refl
+  live-listed (nodes.BioScenario biometrics.Life projections.Expense Gross) h =
+      constant (nodes.BioScenario biometrics.Life projections.Expense Gross) refl
+  live-listed (nodes.BioScenario biometrics.Life projections.Expense Net) h =
+      constant (nodes.BioScenario biometrics.Life projections.Expense Net) refl
+  live-listed (nodes.BioScenario biometrics.Life projections.Revision Gross) h =
+      constant (nodes.BioScenario biometrics.Life projections.Revision Gross) refl
+  live-listed (nodes.BioScenario biometrics.Life projections.Revision Net) h =
+      constant (nodes.BioScenario biometrics.Life projections.Revision Net) refl
+  live-listed (nodes.BioScenario biometrics.Life projections.LapseUp Gross) h =
+      constant (nodes.BioScenario biometrics.Life projections.LapseUp Gross) refl
+  live-listed (nodes.BioScenario biometrics.Life projections.LapseUp Net) h =
+      constant (nodes.BioScenario biometrics.Life projections.LapseUp Net) refl
+  live-listed (nodes.BioScenario biometrics.Life projections.LapseDown Gross) h =
+      constant (nodes.BioScenario biometrics.Life projections.LapseDown Gross) refl
+  live-listed (nodes.BioScenario biometrics.Life projections.LapseDown Net) h =
+      constant (nodes.BioScenario biometrics.Life projections.LapseDown Net) refl
+  live-listed (nodes.BioScenario biometrics.Life projections.LapseMass Gross) h =
+      constant (nodes.BioScenario biometrics.Life projections.LapseMass Gross) refl
+  live-listed (nodes.BioScenario biometrics.Life projections.LapseMass Net) h =
+      constant (nodes.BioScenario biometrics.Life projections.LapseMass Net) refl
+  live-listed (nodes.BioScenario biometrics.Life projections.Catastrophe Gross) h =
+      constant (nodes.BioScenario biometrics.Life projections.Catastrophe Gross) refl
+  live-listed (nodes.BioScenario biometrics.Life projections.Catastrophe Net) h =
+      constant (nodes.BioScenario biometrics.Life projections.Catastrophe Net) refl
+  live-listed (nodes.BioScenario biometrics.Health projections.Mortality Gross) h =
+      constant (nodes.BioScenario biometrics.Health projections.Mortality Gross) refl
+  live-listed (nodes.BioScenario biometrics.Health projections.Mortality Net) h =
+      constant (nodes.BioScenario biometrics.Health projections.Mortality Net) refl
+  live-listed (nodes.BioScenario biometrics.Health projections.Longevity Gross) h =
+      constant (nodes.BioScenario biometrics.Health projections.Longevity Gross) refl
+  live-listed (nodes.BioScenario biometrics.Health projections.Longevity Net) h =
+      constant (nodes.BioScenario biometrics.Health projections.Longevity Net) refl
+  live-listed (nodes.BioScenario biometrics.Health projections.Disability Gross) h =
+      constant (nodes.BioScenario biometrics.Health projections.Disability Gross) refl
+  live-listed (nodes.BioScenario biometrics.Health projections.Disability Net) h =
+      constant (nodes.BioScenario biometrics.Health projections.Disability Net) refl
+  live-listed (nodes.BioScenario biometrics.Health projections.Expense Gross) h =
+      constant (nodes.BioScenario biometrics.Health projections.Expense Gross) refl
+  live-listed (nodes.BioScenario biometrics.Health projections.Expense Net) h =
+      constant (nodes.BioScenario biometrics.Health projections.Expense Net) refl
+  live-listed (nodes.BioScenario biometrics.Health projections.Revision Gross) h =
+      constant (nodes.BioScenario biometrics.Health projections.Revision Gross) refl
+  live-listed (nodes.BioScenario biometrics.Health projections.Revision Net) h =
+      constant (nodes.BioScenario biometrics.Health projections.Revision Net) refl
+  live-listed (nodes.BioScenario biometrics.Health projections.LapseUp Gross) h =
+      constant (nodes.BioScenario biometrics.Health projections.LapseUp Gross) refl
+  live-listed (nodes.BioScenario biometrics.Health projections.LapseUp Net) h =
+      constant (nodes.BioScenario biometrics.Health projections.LapseUp Net) refl
+  live-listed (nodes.BioScenario biometrics.Health projections.LapseDown Gross) h =
+      constant (nodes.BioScenario biometrics.Health projections.LapseDown Gross) refl
+  live-listed (nodes.BioScenario biometrics.Health projections.LapseDown Net) h =
+      constant (nodes.BioScenario biometrics.Health projections.LapseDown Net) refl
+  live-listed (nodes.BioScenario biometrics.Health projections.LapseMass Gross) h =
+      constant (nodes.BioScenario biometrics.Health projections.LapseMass Gross) refl
+  live-listed (nodes.BioScenario biometrics.Health projections.LapseMass Net) h =
+      constant (nodes.BioScenario biometrics.Health projections.LapseMass Net) refl
+  live-listed (nodes.Life Gross) h = constant (nodes.Life Gross) refl
+  live-listed (nodes.Life Net) h = constant (nodes.Life Net) refl
+  live-listed (nodes.Slt Gross) h = constant (nodes.Slt Gross) refl
+  live-listed (nodes.Slt Net) h = constant (nodes.Slt Net) refl
+  live-listed (nodes.Segment sets.Nl number) h =
+      let two = both (nat_le 1 number) (nat_le number (segments sets.Nl)) h in
+      let least : 1 ≤ number = leb-true 1 number two.0 in
+      let most : number ≤ 12 = leb-true number 12 two.1 in
+      at_member (λ n. IsListed (nodes.Segment sets.Nl n)) (numbers 1 12) number (
+        constant (nodes.Segment sets.Nl 1) refl,
+        (
+          constant (nodes.Segment sets.Nl 2) refl,
+          (
+            constant
+                (nodes.Segment sets.Nl 3) refl,
+            (
+              constant (nodes.Segment sets.Nl 4) refl,
+              (
+                constant
+                    (nodes.Segment sets.Nl 5) refl,
+                (
+                  constant (nodes.Segment sets.Nl 6) refl,
+                  (
+                    constant
+                        (nodes.Segment sets.Nl 7) refl,
+                    (
+                      constant (nodes.Segment sets.Nl 8) refl,
+                      (
+                        constant
+                            (nodes.Segment sets.Nl 9) refl,
+                        (
+                          constant (nodes.Segment sets.Nl 10) refl,
+                          (
+                            constant
+                                (nodes.Segment sets.Nl 11) refl,
+                            (constant (nodes.Segment sets.Nl 12) refl, tt),
+                          ),
+                        ),
+                      ),
+                    ),
+                  ),
+                ),
+              ),
+            ),
+          ),
+        ),
+      )
+      (member-number 1 12 number least (omega arith))
+  live-listed (nodes.Segment sets.Nslt number) h =
+      let two = both (nat_le 1 number) (nat_le number (segments sets.Nslt)) h in
+      let least : 1 ≤ number = leb-true 1 number two.0 in
+      let most : number ≤ 4 = leb-true number 4 two.1 in
+      at_member (λ n. IsListed (nodes.Segment sets.Nslt n)) (numbers 1 4) number (
+        constant (nodes.Segment sets.Nslt 1) refl,
+        (
+          constant (nodes.Segment sets.Nslt 2) refl,
+          (
+            constant
+                (nodes.Segment sets.Nslt 3) refl,
+            (constant (nodes.Segment sets.Nslt 4) refl, tt),
+          ),
+        ),
+      )
+      (member-number 1 4 number least (omega arith))
+  live-listed (nodes.CatCharge cats.Windstorm) h = constant (nodes.CatCharge cats.Windstorm) refl
+  live-listed (nodes.CatCharge cats.Earthquake) h = constant (nodes.CatCharge cats.Earthquake) refl
+  live-listed (nodes.CatCharge cats.Flood) h = constant (nodes.CatCharge cats.Flood) refl
+  live-listed (nodes.CatCharge cats.Hail) h = constant (nodes.CatCharge cats.Hail) refl
+  live-listed (nodes.CatCharge cats.Subsidence) h = constant (nodes.CatCharge cats.Subsidence) refl
+  live-listed (nodes.CatCharge cats.NonProportionalProperty) h =
+      constant (nodes.CatCharge cats.NonProportionalProperty) refl
+  live-listed (nodes.CatCharge cats.Motor) h = constant (nodes.CatCharge cats.Motor) refl
+  live-listed (nodes.CatCharge cats.Marine) h = constant (nodes.CatCharge cats.Marine) refl
+  live-listed (nodes.CatCharge cats.Aviation) h = constant (nodes.CatCharge cats.Aviation) refl
+  live-listed (nodes.CatCharge cats.Fire) h = constant (nodes.CatCharge cats.Fire) refl
+  live-listed (nodes.CatCharge cats.Liability) h = constant (nodes.CatCharge cats.Liability) refl
+  live-listed (nodes.CatCharge cats.Credit) h = constant (nodes.CatCharge cats.Credit) refl
+  live-listed (nodes.CatCharge cats.Other) h = constant (nodes.CatCharge cats.Other) refl
+  live-listed (nodes.CatCharge cats.MassAccident) h = constant (nodes.CatCharge cats.MassAccident) refl
+  live-listed (nodes.CatCharge cats.AccidentConcentration) h =
+      constant (nodes.CatCharge cats.AccidentConcentration) refl
+  live-listed (nodes.CatCharge cats.Pandemic) h = constant (nodes.CatCharge cats.Pandemic) refl
+  live-listed (nodes.Lapse sets.Nl) h = constant (nodes.Lapse sets.Nl) refl
+  live-listed (nodes.Lapse sets.Nslt) h = constant (nodes.Lapse sets.Nslt) refl
+  live-listed (nodes.PremiumReserve sets.Nl) h = constant (nodes.PremiumReserve sets.Nl) refl
+  live-listed (nodes.PremiumReserve sets.Nslt) h = constant (nodes.PremiumReserve sets.Nslt) refl
+  live-listed nodes.Intangible h = constant nodes.Intangible refl
+  live-listed nodes.Natural h = constant nodes.Natural refl
+  live-listed nodes.ManMade h = constant nodes.ManMade refl
+  live-listed nodes.NonlifeCatastrophe h = constant nodes.NonlifeCatastrophe refl
+  live-listed nodes.HealthCatastrophe h = constant nodes.HealthCatastrophe refl
+  live-listed (nodes.Nslt Gross) h = constant (nodes.Nslt Gross) refl
+  live-listed (nodes.Nslt Net) h = constant (nodes.Nslt Net) refl
+  live-listed (nodes.Health Gross) h = constant (nodes.Health Gross) refl
+  live-listed (nodes.Health Net) h = constant (nodes.Health Net) refl
+  live-listed (nodes.Nonlife Gross) h = constant (nodes.Nonlife Gross) refl
+  live-listed (nodes.Nonlife Net) h = constant (nodes.Nonlife Net) refl
+  live-listed (nodes.Bscr Gross) h = constant (nodes.Bscr Gross) refl
+  live-listed (nodes.Bscr Net) h = constant (nodes.Bscr Net) refl
+  live-listed nodes.Diversification h = constant nodes.Diversification refl
+  live-listed (nodes.OpPart operations.Premiums) h = constant (nodes.OpPart operations.Premiums) refl
+  live-listed (nodes.OpPart operations.Provisions) h = constant (nodes.OpPart operations.Provisions) refl
+  live-listed (nodes.OpPart operations.Cap) h = constant (nodes.OpPart operations.Cap) refl
+  live-listed (nodes.OpPart operations.Charge) h = constant (nodes.OpPart operations.Charge) refl
+  live-listed (nodes.Adjust adjustments.TechnicalProvisions) h =
+      constant (nodes.Adjust adjustments.TechnicalProvisions) refl
+  live-listed (nodes.Adjust adjustments.DeferredTaxes) h = constant (nodes.Adjust adjustments.DeferredTaxes) refl
+  live-listed nodes.Scr h = constant nodes.Scr refl
 
 -- ---- the whole list
 
@@ -329,93 +544,94 @@ module _ (sheet : BalanceSheet) (valid : Valid sheet) where
   abbrev At : ℕ → Node → Type 0
   At part node = part_of node ≡ part
 
-  arranged-constant : IsArranged 10 constant_nodes
-  arranged-constant =
-      arranged-word 10 _ _ refl (arranged-word 11 _ _ refl
-      (arranged-word 12 _ _ refl (arranged-word 13 _ _ refl
-      (arranged-word 14 _ _ refl (arranged-word 15 _ _ refl (arranged-word 16 _ _ refl
-      (arranged-word 17 _ _ refl (arranged-word 18 _ _ refl
-      (arranged-word 19 _ _ refl (arranged-word 20 _ _ refl
-      (arranged-word 21 _ _ refl (arranged-word 22 _ _ refl (arranged-word 23 _ _ refl
-      (arranged-word 24 _ _ refl (arranged-word 25 _ _ refl
-      (arranged-word 26 _ _ refl (arranged-word 27 _ _ refl
-      (arranged-word 28 _ _ refl (arranged-none 29)))))))))))))))))))
+  arranged-constant : IsArranged 32 constant_nodes
+  arranged-constant = arranged-numbered 32 constant_nodes refl
 
-  arranged-paying : (part : ℕ) (node : Position → Node) (rest : List Node) → ((p : Position) → part_of (node p) ≡ part)
-      → ((a b : Position) → node a ≡ node b → position_name a ≡ position_name b)
-      → IsArranged (suc part) rest → IsArranged part (map node (filter is_paying sheet.securities) ++ rest)
-  arranged-paying part node rest own told more =
-      arranged-part part (map node (filter is_paying sheet.securities)) rest
-      (each-chosen (λ p. Unit {0}) (At part) is_paying node sheet.securities (each-row sheet.securities)
-      (λ p fact e. own p))
-      (apart-chosen node is_paying position_name told sheet.securities
-      (distinct-securities sheet valid.named_once)) more
-
-  arranged-table : {Row : Type 0} (name_of : Row → List ℕ) (part : ℕ) (node : Row → Node) (rows : List Row)
-      (rest : List Node) → ((r : Row) → part_of (node r) ≡ part)
+  chosen-family : {Row : Type 0} (name_of : Row → List ℕ) (part : ℕ) (test : Row → Bool) (node : Row → Node)
+      (rows : List Row) → ((r : Row) → part_of (node r) ≡ part)
       → ((a b : Row) → node a ≡ node b → name_of a ≡ name_of b) → IsDistinct same_name (map name_of rows)
-      → IsArranged (suc part) rest → IsArranged part (map node rows ++ rest)
-  arranged-table name_of part node rows rest own told distinct more =
-      arranged-part part (map node rows) rest
-      (each-mapped (λ r. Unit {0}) (At part) (λ r. true) node rows (each-row rows) (λ r fact. own r))
-      (apart-mapped node (λ r. true) name_of told rows distinct) more
+      → IsFamily part (map node (filter test rows))
+  chosen-family name_of part test node rows own told distinct = (
+    each-chosen (λ r. Unit {0}) (At part) test node rows (each-row rows) (λ r fact e. own r),
+    apart-chosen node test name_of told rows distinct,
+  )
 
-  arranged-rest : IsArranged 2 (rest_nodes sheet)
-  arranged-rest =
-      arranged-paying 2 (unit_loss Up) (units sheet Down ++ from_rates sheet) (λ p. refl) (told-unit Up)
-      (arranged-paying 3 (unit_loss Down) (from_rates sheet) (λ p. refl) (told-unit Down)
-      (arranged-paying 4 (security_rate Up) (rates sheet Down ++ from_owed sheet) (λ p. refl) (told-rate Up)
-      (arranged-paying 5 (security_rate Down) (from_owed sheet) (λ p. refl) (told-rate Down)
-      (arranged-table liability_name 6 (liability_rate Up) sheet.liabilities (owed sheet Down ++ from_currencies sheet)
-      (λ l. refl) (told-liability Up) (distinct-liabilities sheet valid)
-      (arranged-table liability_name 7 (liability_rate Down) sheet.liabilities (from_currencies sheet) (λ l. refl)
-      (told-liability Down) (distinct-liabilities sheet valid)
-      (arranged-table curve_name 8 (currency_loss Up) sheet.curves (currencies sheet Down ++ constant_nodes) (λ c. refl)
-      (told-currency Up) valid.currencies_once
-      (arranged-table curve_name 9 (currency_loss Down) sheet.curves constant_nodes (λ c. refl)
-      (told-currency Down) valid.currencies_once arranged-constant)))))))
+  table-family : {Row : Type 0} (name_of : Row → List ℕ) (part : ℕ) (node : Row → Node) (rows : List Row)
+      → ((r : Row) → part_of (node r) ≡ part) → ((a b : Row) → node a ≡ node b → name_of a ≡ name_of b)
+      → IsDistinct same_name (map name_of rows) → IsFamily part (map node rows)
+  table-family name_of part node rows own told distinct = (
+    each-mapped (λ r. Unit {0}) (At part) (λ r. true) node rows (each-row rows) (λ r fact. own r),
+    apart-mapped node (λ r. true) name_of told rows distinct,
+  )
 
-  arranged-above : IsArranged 1 (nodes_above_funds sheet)
-  arranged-above =
-      arranged-table position_name 1 security_total sheet.securities (rest_nodes sheet) (λ p. refl) told-security
-      (distinct-securities sheet valid.named_once) arranged-rest
+  of-paying : (part : ℕ) (node : Position → Node) → ((p : Position) → part_of (node p) ≡ part)
+      → ((a b : Position) → node a ≡ node b → position_name a ≡ position_name b)
+      → IsFamily part (map node (payings sheet))
+  of-paying part node own told =
+      chosen-family position_name part is_paying node sheet.securities own told
+      (distinct-securities sheet valid.named_once)
 
-  -- ---- what is in the list is a figure
+  of-liabilities : (part : ℕ) (node : Liability → Node) → ((l : Liability) → part_of (node l) ≡ part)
+      → ((a b : Liability) → node a ≡ node b → liability_name a ≡ liability_name b)
+      → IsFamily part (map node sheet.liabilities)
+  of-liabilities part node own told =
+      table-family liability_name part node sheet.liabilities own told (distinct-liabilities sheet valid)
 
-  live-paying : (node : Position → Node) → ((p : Position) → position_of (position_name p) sheet.securities ≡ Some p
-      → is_paying p ≡ true → is_live sheet (node p) ≡ true)
-      → AllByRecursion (IsLive sheet) (map node (filter is_paying sheet.securities))
-  live-paying node step = each-chosen (λ p. position_of (position_name p) sheet.securities ≡ Some p)
-      (IsLive sheet) is_paying node sheet.securities (own-securities sheet valid) step
+  of-losses : (part : ℕ) (projection : Projection)
+      → ((l : Liability) → part_of (liability_loss projection l) ≡ part) → IsFamily part (losses_of projection sheet)
+  of-losses part projection own =
+      chosen-family liability_name part (has_flows projection) (liability_loss projection) sheet.liabilities own
+      (told-loss projection) (distinct-liabilities sheet valid)
 
-  live-owed : (direction : Direction) → AllByRecursion (IsLive sheet) (owed sheet direction)
-  live-owed direction =
-      each-mapped (λ l. liability_of (liability_name l) sheet.liabilities ≡ Some l) (IsLive sheet) (λ l. true)
-      (liability_rate direction) sheet.liabilities (own-liabilities sheet valid) (λ l own. ap is_some own)
+  of-foreigns : (part : ℕ) (node : Curve → Node) → ((c : Curve) → part_of (node c) ≡ part)
+      → ((a b : Curve) → node a ≡ node b → curve_name a ≡ curve_name b) → IsFamily part (map node (foreigns sheet))
+  of-foreigns part node own told =
+      chosen-family curve_name part (is_foreign sheet) node sheet.curves own told valid.currencies_once
 
-  live-currencies : (direction : Direction) → AllByRecursion (IsLive sheet) (currencies sheet direction)
-  live-currencies direction =
-      each-mapped (λ c. row_of curve_name (curve_name c) sheet.curves ≡ Some c) (IsLive sheet) (λ c. true)
-      (currency_loss direction) sheet.curves (own-curves sheet valid) (λ c own. ap is_some own)
+  of-groups : (part : ℕ) (node : Group → Node) → ((g : Group) → part_of (node g) ≡ part)
+      → ((a b : Group) → node a ≡ node b → group_name a ≡ group_name b) → IsFamily part (map node sheet.groups)
+  of-groups part node own told =
+      table-family group_name part node sheet.groups own told (distinct-groups sheet valid)
 
-  live-constant : AllByRecursion (IsLive sheet) constant_nodes
-  live-constant = (
-    refl,
+  payments-are : AreFamilies 2 (payment_families sheet)
+  payments-are = (
+    of-paying 2 (unit_loss Up) (λ p. refl) (told-unit Up),
     (
-      refl,
+      of-paying 3 (unit_loss Down) (λ p. refl) (told-unit Down),
       (
-        refl,
+        of-paying 4 (security_rate Up) (λ p. refl) (told-rate Up),
         (
-          refl,
+          of-paying 5 (security_rate Down) (λ p. refl) (told-rate Down),
           (
-            refl,
+            of-liabilities 6 (liability_rate Up) (λ l. refl) (told-liability Up),
             (
-              refl,
+              of-liabilities 7 (liability_rate Down) (λ l. refl) (told-liability Down),
+              (of-liabilities 8 liability_present (λ l. refl) told-present, tt),
+            ),
+          ),
+        ),
+      ),
+    ),
+  )
+
+  stresses-are : AreFamilies 9 (stress_families sheet)
+  stresses-are = (
+    of-losses 9 projections.Mortality (λ l. refl),
+    (
+      of-losses 10 projections.Longevity (λ l. refl),
+      (
+        of-losses 11 projections.Disability (λ l. refl),
+        (
+          of-losses 12 projections.Expense (λ l. refl),
+          (
+            of-losses 13 projections.Revision (λ l. refl),
+            (
+              of-losses 14 projections.LapseUp (λ l. refl),
               (
-                refl,
+                of-losses 15 projections.LapseDown (λ l. refl),
                 (
-                  refl,
-                  (refl, (refl, (refl, (refl, (refl, (refl, (refl, (refl, (refl, (refl, (refl, tt))))))))))),
+                  of-losses 16 projections.LapseMass (λ l. refl),
+                  (of-losses 17 projections.Catastrophe (λ l. refl), tt),
                 ),
               ),
             ),
@@ -425,25 +641,228 @@ module _ (sheet : BalanceSheet) (valid : Valid sheet) where
     ),
   )
 
+  currencies-are : AreFamilies 18 (currency_families sheet)
+  currencies-are = (
+    table-family curve_name 18 (currency_loss Up) sheet.curves (λ c. refl) (told-currency Up) valid.currencies_once,
+    (
+      table-family curve_name 19 (currency_loss Down) sheet.curves (λ c. refl)
+          (told-currency Down) valid.currencies_once,
+      (
+        of-foreigns 20 (currency_scenario Up Gross) (λ c. refl) (told-scenario Up Gross),
+        (
+          of-foreigns 21 (currency_scenario Up Net) (λ c. refl) (told-scenario Up Net),
+          (
+            of-foreigns 22 (currency_scenario Down Gross) (λ c. refl) (told-scenario Down Gross),
+            (
+              of-foreigns 23 (currency_scenario Down Net) (λ c. refl) (told-scenario Down Net),
+              (
+                of-foreigns 24 currency_choice (λ c. refl) told-choice,
+                (
+                  of-foreigns 25 (currency_picked Gross) (λ c. refl) (told-picked Gross),
+                  (of-foreigns 26 (currency_picked Net) (λ c. refl) (told-picked Net), tt),
+                ),
+              ),
+            ),
+          ),
+        ),
+      ),
+    ),
+  )
+
+  groups-are : AreFamilies 27 (group_families sheet)
+  groups-are = (
+    chosen-family position_name 27 (has_class classes.Bond) security_spread sheet.securities (λ p. refl) told-spread
+        (distinct-securities sheet valid.named_once),
+    (
+      of-groups 28 group_total (λ g. refl) told-group,
+      (
+        ((refl, tt), ((λ m. m), tt)),
+        (
+          of-groups 30 concentration_square (λ g. refl) told-square,
+          (of-groups 31 group_loss (λ g. refl) told-group_loss, tt),
+        ),
+      ),
+    ),
+  )
+
+  families-are : AreFamilies 2 (families sheet)
+  families-are =
+      families-append 2 9 (payment_families sheet)
+      (stress_families sheet ++ (currency_families sheet ++ group_families sheet)) refl payments-are
+      (families-append 9 18 (stress_families sheet) (currency_families sheet ++ group_families sheet) refl stresses-are
+      (families-append 18 27 (currency_families sheet) (group_families sheet) refl currencies-are groups-are))
+
+  arranged-rest : IsArranged 2 (rest_nodes sheet)
+  arranged-rest = arranged-families 2 32 (families sheet) constant_nodes refl families-are arranged-constant
+
+  arranged-above : IsArranged 1 (nodes_above_funds sheet)
+  arranged-above =
+      let own = table-family position_name 1 security_total sheet.securities (λ p. refl) told-security
+      (distinct-securities sheet valid.named_once) in
+      arranged-part 1 (securities sheet) (rest_nodes sheet) own.0 own.1 arranged-rest
+
+  -- ---- what is in the list is a figure
+
+  live-paying : (node : Position → Node) → ((p : Position) → position_of (position_name p) sheet.securities ≡ Some p
+      → is_paying p ≡ true → is_live sheet (node p) ≡ true) → AllByRecursion (IsLive sheet) (map node (payings sheet))
+  live-paying node step =
+      each-chosen (λ p. position_of (position_name p) sheet.securities ≡ Some p) (IsLive sheet) is_paying node
+      sheet.securities (own-securities sheet valid) step
+
   paid : (p : Position) → position_of (position_name p) sheet.securities ≡ Some p → is_paying p ≡ true
-      → pays sheet (position_name p) ≡ true
-  paid p own e = ap (λ found. option_map_or is_paying found false) own ∙ e
+      → option_map_or is_paying (position_of (position_name p) sheet.securities) false ≡ true
+  paid p own e = passes-own is_paying (position_of (position_name p) sheet.securities) p own e
+
+  live-liabilities : (node : Liability → Node)
+      → ((l : Liability) → is_live sheet (node l) ≡ has_row liability_name (liability_name l) sheet.liabilities)
+      → AllByRecursion (IsLive sheet) (map node sheet.liabilities)
+  live-liabilities node is =
+      each-mapped (λ l. liability_of (liability_name l) sheet.liabilities ≡ Some l) (IsLive sheet) (λ l. true) node
+      sheet.liabilities (own-liabilities sheet valid) (λ l own. is l ∙ ap is_some own)
+
+  live-losses : (projection : Projection) → is_stress projection ≡ true
+      → AllByRecursion (IsLive sheet) (losses_of projection sheet)
+  live-losses projection stress =
+      each-chosen (λ l. liability_of (liability_name l) sheet.liabilities ≡ Some l) (IsLive sheet)
+      (has_flows projection)
+      (liability_loss projection) sheet.liabilities (own-liabilities sheet valid)
+      (λ l own e. loss-live sheet valid projection l stress own e)
+
+  live-currencies : (direction : Direction) → AllByRecursion (IsLive sheet) (map (currency_loss direction) sheet.curves)
+  live-currencies direction =
+      each-mapped (λ c. row_of curve_name (curve_name c) sheet.curves ≡ Some c) (IsLive sheet) (λ c. true)
+      (currency_loss direction) sheet.curves (own-curves sheet valid) (λ c own. ap is_some own)
+
+  live-foreigns : (node : Curve → Node) → ((c : Curve) → is_live sheet (node c)
+      ≡ option_map_or (is_foreign sheet) (row_of curve_name (curve_name c) sheet.curves) false)
+      → AllByRecursion (IsLive sheet) (map node (foreigns sheet))
+  live-foreigns node is =
+      each-chosen (λ c. row_of curve_name (curve_name c) sheet.curves ≡ Some c) (IsLive sheet) (is_foreign sheet) node
+      sheet.curves (own-curves sheet valid)
+      (λ c own e. is c ∙ passes-own (is_foreign sheet) (row_of curve_name (curve_name c) sheet.curves) c own e)
+
+  live-groups : (node : Group → Node)
+      → ((g : Group) → is_live sheet (node g) ≡ has_row group_name (group_name g) sheet.groups)
+      → AllByRecursion (IsLive sheet) (map node sheet.groups)
+  live-groups node is =
+      each-mapped (λ g. group_of (group_name g) sheet.groups ≡ Some g) (IsLive sheet) (λ g. true) node sheet.groups
+      (own-groups sheet valid) (λ g own. is g ∙ ap is_some own)
+
+  live-bonds : AllByRecursion (IsLive sheet) (map security_spread (filter (has_class classes.Bond) sheet.securities))
+  live-bonds =
+      each-chosen (λ p. position_of (position_name p) sheet.securities ≡ Some p) (IsLive sheet) (has_class classes.Bond)
+      security_spread sheet.securities (own-securities sheet valid)
+      (λ p own e. passes-own (has_class classes.Bond) (position_of (position_name p) sheet.securities) p own e)
+
+  abbrev AllLive : List (List Node) → Type 0
+  AllLive list = AllByRecursion (AllByRecursion (IsLive sheet)) list
+
+  live-payments : AllLive (payment_families sheet)
+  live-payments = (
+    live-paying (unit_loss Up) paid,
+    (
+      live-paying (unit_loss Down) paid,
+      (
+        live-paying (security_rate Up) paid,
+        (
+          live-paying (security_rate Down) paid,
+          (
+            live-liabilities (liability_rate Up) (λ l. refl),
+            (live-liabilities (liability_rate Down) (λ l. refl), (live-liabilities liability_present (λ l. refl), tt)),
+          ),
+        ),
+      ),
+    ),
+  )
+
+  live-stresses : AllLive (stress_families sheet)
+  live-stresses = (
+    live-losses projections.Mortality refl,
+    (
+      live-losses projections.Longevity refl,
+      (
+        live-losses projections.Disability refl,
+        (
+          live-losses projections.Expense refl,
+          (
+            live-losses projections.Revision refl,
+            (
+              live-losses projections.LapseUp refl,
+              (
+                live-losses projections.LapseDown refl,
+                (
+                  live-losses projections.LapseMass refl,
+                  (live-losses projections.Catastrophe refl, tt),
+                ),
+              ),
+            ),
+          ),
+        ),
+      ),
+    ),
+  )
+
+  live-currency_families : AllLive (currency_families sheet)
+  live-currency_families = (
+    live-currencies Up,
+    (
+      live-currencies Down,
+      (
+        live-foreigns (currency_scenario Up Gross) (λ c. refl),
+        (
+          live-foreigns (currency_scenario Up Net) (λ c. refl),
+          (
+            live-foreigns (currency_scenario Down Gross) (λ c. refl),
+            (
+              live-foreigns (currency_scenario Down Net) (λ c. refl),
+              (
+                live-foreigns currency_choice (λ c. refl),
+                (
+                  live-foreigns (currency_picked Gross) (λ c. refl),
+                  (live-foreigns (currency_picked Net) (λ c. refl), tt),
+                ),
+              ),
+            ),
+          ),
+        ),
+      ),
+    ),
+  )
+
+  live-group_families : AllLive (group_families sheet)
+  live-group_families = (
+    live-bonds,
+    (
+      live-groups group_total (λ g. refl),
+      (
+        (refl, tt),
+        (
+          live-groups concentration_square (λ g. refl),
+          (live-groups group_loss (λ g. refl), tt),
+        ),
+      ),
+    ),
+  )
+
+  live-families : AllLive (families sheet)
+  live-families =
+      All-append (AllByRecursion (IsLive sheet)) (payment_families sheet)
+      (stress_families sheet ++ (currency_families sheet ++ group_families sheet)) live-payments
+      (All-append (AllByRecursion (IsLive sheet)) (stress_families sheet)
+      (currency_families sheet ++ group_families sheet) live-stresses
+      (All-append (AllByRecursion (IsLive sheet)) (currency_families sheet) (group_families sheet)
+      live-currency_families live-group_families))
+
+  live-constant : AllByRecursion (IsLive sheet) constant_nodes
+  live-constant = each-tested (is_live sheet) constant_nodes refl
 
   live-above : AllByRecursion (IsLive sheet) (nodes_above_funds sheet)
   live-above =
-      All-append (IsLive sheet) (securities sheet) (from_units sheet)
-      (each-mapped (λ p. position_of (position_name p) sheet.securities ≡ Some p) (IsLive sheet)
-      (λ p. true) security_total sheet.securities (own-securities sheet valid) (λ p own. ap is_some own))
-      (All-append (IsLive sheet) (units sheet Up) (units sheet Down ++ from_rates sheet)
-      (live-paying (unit_loss Up) paid)
-      (All-append (IsLive sheet) (units sheet Down) (from_rates sheet) (live-paying (unit_loss Down) paid)
-      (All-append (IsLive sheet) (rates sheet Up) (rates sheet Down ++ from_owed sheet)
-      (live-paying (security_rate Up) paid)
-      (All-append (IsLive sheet) (rates sheet Down) (from_owed sheet) (live-paying (security_rate Down) paid)
-      (All-append (IsLive sheet) (owed sheet Up) (owed sheet Down ++ from_currencies sheet) (live-owed Up)
-      (All-append (IsLive sheet) (owed sheet Down) (from_currencies sheet) (live-owed Down)
-      (All-append (IsLive sheet) (currencies sheet Up) (currencies sheet Down ++ constant_nodes) (live-currencies Up)
-      (All-append (IsLive sheet) (currencies sheet Down) constant_nodes (live-currencies Down) live-constant))))))))
+      All-append (IsLive sheet) (securities sheet) (rest_nodes sheet)
+      (each-mapped (λ p. position_of (position_name p) sheet.securities ≡ Some p) (IsLive sheet) (λ p. true)
+      security_total sheet.securities (own-securities sheet valid) (λ p own. ap is_some own))
+      (All-append (IsLive sheet) (flat (families sheet)) constant_nodes
+      (each-flat (IsLive sheet) (families sheet) live-families) live-constant)
 
   live-funds : AllByRecursion (IsLive sheet) (map fund_total sheet.funds)
   live-funds = each-mapped (λ s. stake_of (stake_name s) sheet.funds ≡ Some s) (IsLive sheet)
@@ -588,49 +1007,13 @@ module _ (sheet : BalanceSheet) (valid : Valid sheet) where
 
     by_node : (k : ℕ) (node source : Node) → slice_get whole k ≡ Some node → IsMember source (sources_of sheet node)
         → IsMember source (take k whole)
-    by_node k (nodes.FundTotal name) source at m = of-fund k name source at m
-    by_node k (nodes.SecurityTotal name) source at m = earlier k (nodes.SecurityTotal name) source at (omega arith) m
-    by_node k (nodes.UnitLoss name Up) source at m = earlier k (nodes.UnitLoss name Up) source at (omega arith) m
-    by_node k (nodes.UnitLoss name Down) source at m = earlier k (nodes.UnitLoss name Down) source at (omega arith) m
-    by_node k (nodes.SecurityRate name Up) source at m = earlier k (nodes.SecurityRate name Up) source at
-        (omega arith) m
-    by_node k (nodes.SecurityRate name Down) source at m = earlier k (nodes.SecurityRate name Down) source at
-        (omega arith) m
-    by_node k (nodes.LiabilityRate name Up) source at m = earlier k (nodes.LiabilityRate name Up) source at
-        (omega arith) m
-    by_node k (nodes.LiabilityRate name Down) source at m = earlier k (nodes.LiabilityRate name Down) source at
-        (omega arith) m
-    by_node k (nodes.CurrencyLoss currency Up) source at m = earlier k (nodes.CurrencyLoss currency Up) source at
-        (omega arith) m
-    by_node k (nodes.CurrencyLoss currency Down) source at m = earlier k (nodes.CurrencyLoss currency Down) source at
-        (omega arith) m
-    by_node k (nodes.ClassSum class) source at m = let least = class-part class in earlier k
-        (nodes.ClassSum class) source at (omega arith) m
-    by_node k (nodes.InterestScenario Up Gross) source at m = earlier k (nodes.InterestScenario Up Gross) source at
-        (omega arith) m
-    by_node k (nodes.InterestScenario Up Net) source at m = earlier k (nodes.InterestScenario Up Net) source at
-        (omega arith) m
-    by_node k (nodes.InterestScenario Down Gross) source at m = earlier k (nodes.InterestScenario Down Gross) source at
-        (omega arith) m
-    by_node k (nodes.InterestScenario Down Net) source at m = earlier k (nodes.InterestScenario Down Net) source at
-        (omega arith) m
-    by_node k (nodes.Choice alternatives.Interest) source at m = earlier k
-        (nodes.Choice alternatives.Interest) source at (omega arith) m
-    by_node k (nodes.Picked alternatives.Interest Gross) source at m = earlier k
-        (nodes.Picked alternatives.Interest Gross) source at (omega arith) m
-    by_node k (nodes.Picked alternatives.Interest Net) source at m = earlier k
-        (nodes.Picked alternatives.Interest Net) source at (omega arith) m
-    by_node k (nodes.EquityPart equities.Type1) source at m = earlier k (nodes.EquityPart equities.Type1) source at
-        (omega arith) m
-    by_node k (nodes.EquityPart equities.Type2) source at m = earlier k (nodes.EquityPart equities.Type2) source at
-        (omega arith) m
-    by_node k (nodes.EquityPart equities.Infrastructure) source at m = earlier k
-        (nodes.EquityPart equities.Infrastructure) source at (omega arith) m
-    by_node k (nodes.EquityPart equities.InfrastructureCorporate) source at m = earlier k
-        (nodes.EquityPart equities.InfrastructureCorporate) source at (omega arith) m
-    by_node k nodes.EquityRoot source at m = earlier k nodes.EquityRoot source at (omega arith) m
-    by_node k (nodes.NetPart risks.Equity) source at m = earlier k (nodes.NetPart risks.Equity) source at
-        (omega arith) m
+    by_node k node source at m = by (fund-or-above node)
+      where
+        by : ((name : List ℕ) × (node ≡ nodes.FundTotal name)) ⊎ (0 < part_of node) → IsMember source (take k whole)
+        by (inl fund) =
+            of-fund k fund.0 source (at ∙ ap Some fund.1)
+            (subst (λ n. IsMember source (sources_of sheet n)) fund.1 m)
+        by (inr some) = earlier k node source at some m
 
     pub in-order : AreInOrder sheet whole
     in-order = record {

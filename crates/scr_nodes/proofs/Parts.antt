@@ -1,48 +1,431 @@
 -- The families of figures in an order in which the sources of a figure stand in earlier families than it.
-use Rattle.std.proofs.Common.{◌≡◌, ◌⊎◌, inl, inr, ℕ, zero, suc, ◌<◌, ◌≤◌, List, [], ◌∷◌, ◌++◌, Some, slice_get, sym, ap, subst, arith}
-use Rattle.std.specs.List.{AllByRecursion}
+use Rattle.std.proofs.Common.{◌≡◌, ◌⊎◌, inl, inr, ℕ, zero, suc, ◌+◌, ◌*◌, ◌<◌, ◌≤◌, ◌==◌, min, nat_lt, Bool, true, false, not, ◌&&◌, List, [], ◌∷◌, ◌++◌, map, Some, slice_get, refl, sym, ap, subst, ◌∙◌, arith}
+use Rattle.std.specs.List.{AllByRecursion, list_all}
+use Rattle.std.proofs.lemmas.Bool.{eqb-true, eq-eqb, ltb-true}
+use Rattle.std.proofs.Math.Nat.{min-le_right}
 use Rattle.scr_funds.proofs.Members.{IsMember, IsMember-cases, at_member, each_weaker}
+use Rattle.scr_profile.specs.declared.set.Set.{Set}
+use Rattle.scr_profile.specs.declared.set.Set.TheVariants as sets
+use Rattle.scr_sheet.specs.declared.keys.CatKey.{CatKey}
+use Rattle.scr_sheet.specs.declared.keys.CatKey.TheVariants as cats
+use Rattle.scr_sheet.specs.declared.keys.Projection.{Projection}
+use Rattle.scr_sheet.specs.declared.keys.Projection.TheVariants as projections
+use Rattle.scr_sheet.specs.declared.rows.Class.{Class}
 use Rattle.scr_sheet.specs.declared.rows.Class.TheVariants as classes
+use Rattle.scr_nodes.specs.declared.node.Adjustment.{Adjustment}
+use Rattle.scr_nodes.specs.declared.node.Adjustment.TheVariants as adjustments
+use Rattle.scr_nodes.specs.declared.node.Alternatives.{Alternatives}
 use Rattle.scr_nodes.specs.declared.node.Alternatives.TheVariants as alternatives
+use Rattle.scr_nodes.specs.declared.node.Biometric.{Biometric}
+use Rattle.scr_nodes.specs.declared.node.Biometric.TheVariants as biometrics
+use Rattle.scr_nodes.specs.declared.node.Direction.{Direction}
 use Rattle.scr_nodes.specs.declared.node.Direction.TheVariants.{Up, Down}
+use Rattle.scr_nodes.specs.declared.node.Equities.{Equities}
 use Rattle.scr_nodes.specs.declared.node.Equities.TheVariants as equities
+use Rattle.scr_nodes.specs.declared.node.Measure.{Measure}
 use Rattle.scr_nodes.specs.declared.node.Measure.TheVariants.{Gross, Net}
 use Rattle.scr_nodes.specs.declared.node.Node.{Node}
 use Rattle.scr_nodes.specs.declared.node.Node.TheVariants as nodes
+use Rattle.scr_nodes.specs.declared.node.Operational.{Operational}
+use Rattle.scr_nodes.specs.declared.node.Operational.TheVariants as operations
+use Rattle.scr_nodes.specs.declared.node.Risk.{Risk}
 use Rattle.scr_nodes.specs.declared.node.Risk.TheVariants as risks
 use Rattle.scr_nodes.proofs.Apart.{AreApart, member-at}
+
+-- ---- places within a family
+
+abbrev pub direction_place : Direction → ℕ
+direction_place Up = 0
+direction_place Down = 1
+
+abbrev pub measure_place : Measure → ℕ
+measure_place Gross = 0
+measure_place Net = 1
+
+abbrev pub class_place : Class → ℕ
+class_place classes.Type1Equity = 0
+class_place classes.Type1Strategic = 1
+class_place classes.Type2Equity = 2
+class_place classes.Type2Strategic = 3
+class_place classes.Infrastructure = 4
+class_place classes.InfrastructureCorporate = 5
+class_place classes.Property = 6
+class_place classes.Bond = 7
+class_place classes.Government = 8
+class_place classes.Other = 9
+
+abbrev pub equities_place : Equities → ℕ
+equities_place equities.Type1 = 0
+equities_place equities.Type2 = 1
+equities_place equities.Infrastructure = 2
+equities_place equities.InfrastructureCorporate = 3
+
+-- among the losses of liabilities, and among the scenarios of one kind
+abbrev pub loss_place : Projection → ℕ
+loss_place projections.Base = 0
+loss_place projections.Mortality = 0
+loss_place projections.Longevity = 1
+loss_place projections.Disability = 2
+loss_place projections.Expense = 3
+loss_place projections.Revision = 4
+loss_place projections.LapseUp = 5
+loss_place projections.LapseDown = 6
+loss_place projections.LapseMass = 7
+loss_place projections.Catastrophe = 8
+
+abbrev pub scenario_place : Projection → ℕ
+scenario_place projections.Base = 0
+scenario_place projections.Mortality = 0
+scenario_place projections.Longevity = 2
+scenario_place projections.Disability = 4
+scenario_place projections.Expense = 6
+scenario_place projections.Revision = 8
+scenario_place projections.LapseUp = 10
+scenario_place projections.LapseDown = 12
+scenario_place projections.LapseMass = 14
+scenario_place projections.Catastrophe = 19
+
+abbrev pub scenarios_from : Biometric → ℕ
+scenarios_from biometrics.Life = 83
+scenarios_from biometrics.Health = 106
+
+abbrev pub choice_place : Alternatives → ℕ
+choice_place alternatives.Interest = 50
+choice_place alternatives.LifeLapse = 99
+choice_place alternatives.HealthLapse = 122
+
+abbrev pub risk_place : Risk → ℕ
+risk_place risks.Equity = 57
+risk_place risks.Property = 58
+risk_place risks.Spread = 59
+risk_place risks.Concentration = 60
+risk_place risks.Default = 82
+risk_place risks.HealthCatastrophe = 168
+
+abbrev pub charge_place : CatKey → ℕ
+charge_place cats.Windstorm = 0
+charge_place cats.Earthquake = 1
+charge_place cats.Flood = 2
+charge_place cats.Hail = 3
+charge_place cats.Subsidence = 4
+charge_place cats.Motor = 5
+charge_place cats.Marine = 6
+charge_place cats.Aviation = 7
+charge_place cats.Fire = 8
+charge_place cats.Liability = 9
+charge_place cats.Credit = 10
+charge_place cats.NonProportionalProperty = 11
+charge_place cats.Other = 12
+charge_place cats.MassAccident = 13
+charge_place cats.AccidentConcentration = 14
+charge_place cats.Pandemic = 15
+
+abbrev pub set_place : Set → ℕ
+set_place sets.Nl = 0
+set_place sets.Nslt = 1
+
+abbrev pub segments_from : Set → ℕ
+segments_from sets.Nl = 126
+segments_from sets.Nslt = 138
+
+abbrev pub operational_place : Operational → ℕ
+operational_place operations.Premiums = 0
+operational_place operations.Provisions = 1
+operational_place operations.Cap = 2
+operational_place operations.Charge = 3
+
+abbrev pub adjustment_place : Adjustment → ℕ
+adjustment_place adjustments.TechnicalProvisions = 0
+adjustment_place adjustments.DeferredTaxes = 1
+
+-- ---- the families in their order: of rows, and from 32 on each figure that every balance sheet has
 
 abbrev pub part_of : Node → ℕ
 part_of (nodes.FundTotal name) = 0
 part_of (nodes.SecurityTotal name) = 1
-part_of (nodes.UnitLoss name Up) = 2
-part_of (nodes.UnitLoss name Down) = 3
-part_of (nodes.SecurityRate name Up) = 4
-part_of (nodes.SecurityRate name Down) = 5
-part_of (nodes.LiabilityRate name Up) = 6
-part_of (nodes.LiabilityRate name Down) = 7
-part_of (nodes.CurrencyLoss currency Up) = 8
-part_of (nodes.CurrencyLoss currency Down) = 9
-part_of (nodes.ClassSum classes.Type1Equity) = 10
-part_of (nodes.ClassSum classes.Type1Strategic) = 11
-part_of (nodes.ClassSum classes.Type2Equity) = 12
-part_of (nodes.ClassSum classes.Type2Strategic) = 13
-part_of (nodes.ClassSum classes.Infrastructure) = 14
-part_of (nodes.ClassSum classes.InfrastructureCorporate) = 15
-part_of (nodes.ClassSum class) = 40
-part_of (nodes.EquityPart equities.Type1) = 16
-part_of (nodes.EquityPart equities.Type2) = 17
-part_of (nodes.EquityPart equities.Infrastructure) = 18
-part_of (nodes.EquityPart equities.InfrastructureCorporate) = 19
-part_of nodes.EquityRoot = 20
-part_of (nodes.NetPart risks.Equity) = 21
-part_of (nodes.InterestScenario Up Gross) = 22
-part_of (nodes.InterestScenario Up Net) = 23
-part_of (nodes.InterestScenario Down Gross) = 24
-part_of (nodes.InterestScenario Down Net) = 25
-part_of (nodes.Choice alternatives.Interest) = 26
-part_of (nodes.Picked alternatives.Interest Gross) = 27
-part_of (nodes.Picked alternatives.Interest Net) = 28
+part_of (nodes.UnitLoss name direction) = 2 + direction_place direction
+part_of (nodes.SecurityRate name direction) = 4 + direction_place direction
+part_of (nodes.LiabilityRate name direction) = 6 + direction_place direction
+part_of (nodes.LiabilityPresent name) = 8
+part_of (nodes.LiabilityLoss name projection) = 9 + loss_place projection
+part_of (nodes.CurrencyLoss currency direction) = 18 + direction_place direction
+part_of (nodes.CurrencyScenario currency direction measure) = 20 + 2 * direction_place direction + measure_place measure
+part_of (nodes.CurrencyChoice currency) = 24
+part_of (nodes.CurrencyPicked currency measure) = 25 + measure_place measure
+part_of (nodes.SecuritySpread name) = 27
+part_of (nodes.GroupTotal name) = 28
+part_of nodes.Assets = 29
+part_of (nodes.ConcentrationSquare name) = 30
+part_of (nodes.GroupLoss name) = 31
+part_of (nodes.ClassSum class) = 32 + class_place class
+part_of (nodes.EquityPart equities) = 42 + equities_place equities
+part_of (nodes.InterestScenario direction measure) = 46 + 2 * direction_place direction + measure_place measure
+part_of (nodes.Choice which) = choice_place which
+part_of (nodes.Picked which measure) = 1 + choice_place which + measure_place measure
+part_of nodes.EquityRoot = 53
+part_of nodes.Property = 54
+part_of nodes.Spread = 55
+part_of nodes.Concentration = 56
+part_of (nodes.NetPart risk) = risk_place risk
+part_of (nodes.Currency measure) = 61 + measure_place measure
+part_of (nodes.Market measure) = 63 + measure_place measure
+part_of (nodes.ClassLoss class) = 65 + min class 5
+part_of (nodes.ClassSquare class) = 71 + min class 5
+part_of nodes.Variance = 77
+part_of nodes.DefaultBand = 78
+part_of nodes.DefaultType1 = 79
+part_of nodes.DefaultType2 = 80
+part_of nodes.Default = 81
+part_of (nodes.BioScenario biometric projection measure) =
+    scenarios_from biometric + scenario_place projection + measure_place measure
+part_of (nodes.Life measure) = 104 + measure_place measure
+part_of (nodes.Slt measure) = 125 + measure_place measure
+part_of (nodes.Segment set number) = segments_from set + min number 12
+part_of (nodes.CatCharge key) = 143 + charge_place key
+part_of (nodes.Lapse set) = 159 + set_place set
+part_of nodes.Intangible = 161
+part_of (nodes.PremiumReserve set) = 162 + set_place set
+part_of nodes.Natural = 164
+part_of nodes.ManMade = 165
+part_of nodes.NonlifeCatastrophe = 166
+part_of nodes.HealthCatastrophe = 167
+part_of (nodes.Nslt measure) = 169 + measure_place measure
+part_of (nodes.Health measure) = 171 + measure_place measure
+part_of (nodes.Nonlife measure) = 173 + measure_place measure
+part_of (nodes.Bscr measure) = 175 + measure_place measure
+part_of nodes.Diversification = 177
+part_of (nodes.OpPart part) = 178 + operational_place part
+part_of (nodes.Adjust adjustment) = 182 + adjustment_place adjustment
+part_of nodes.Scr = 184
+
+-- ---- none is beyond the last
+
+direction-place-most : (x : Direction) → direction_place x ≤ 1
+direction-place-most Up = omega arith
+direction-place-most Down = omega arith
+
+measure-place-most : (x : Measure) → measure_place x ≤ 1
+measure-place-most Gross = omega arith
+measure-place-most Net = omega arith
+
+equities-place-most : (x : Equities) → equities_place x ≤ 3
+equities-place-most equities.Type1 = omega arith
+equities-place-most equities.Type2 = omega arith
+equities-place-most equities.Infrastructure = omega arith
+equities-place-most equities.InfrastructureCorporate = omega arith
+
+risk-place-most : (x : Risk) → risk_place x ≤ 168
+risk-place-most risks.Equity = omega arith
+risk-place-most risks.Property = omega arith
+risk-place-most risks.Spread = omega arith
+risk-place-most risks.Concentration = omega arith
+risk-place-most risks.Default = omega arith
+risk-place-most risks.HealthCatastrophe = omega arith
+
+loss-place-most : (x : Projection) → loss_place x ≤ 8
+loss-place-most projections.Base = omega arith
+loss-place-most projections.Mortality = omega arith
+loss-place-most projections.Longevity = omega arith
+loss-place-most projections.Disability = omega arith
+loss-place-most projections.Expense = omega arith
+loss-place-most projections.Revision = omega arith
+loss-place-most projections.LapseUp = omega arith
+loss-place-most projections.LapseDown = omega arith
+loss-place-most projections.LapseMass = omega arith
+loss-place-most projections.Catastrophe = omega arith
+
+scenario-place-most : (x : Projection) → scenario_place x ≤ 19
+scenario-place-most projections.Base = omega arith
+scenario-place-most projections.Mortality = omega arith
+scenario-place-most projections.Longevity = omega arith
+scenario-place-most projections.Disability = omega arith
+scenario-place-most projections.Expense = omega arith
+scenario-place-most projections.Revision = omega arith
+scenario-place-most projections.LapseUp = omega arith
+scenario-place-most projections.LapseDown = omega arith
+scenario-place-most projections.LapseMass = omega arith
+scenario-place-most projections.Catastrophe = omega arith
+
+scenarios-from-most : (x : Biometric) → scenarios_from x ≤ 106
+scenarios-from-most biometrics.Life = omega arith
+scenarios-from-most biometrics.Health = omega arith
+
+choice-place-most : (x : Alternatives) → choice_place x ≤ 122
+choice-place-most alternatives.Interest = omega arith
+choice-place-most alternatives.LifeLapse = omega arith
+choice-place-most alternatives.HealthLapse = omega arith
+
+charge-place-most : (x : CatKey) → charge_place x ≤ 15
+charge-place-most cats.Windstorm = omega arith
+charge-place-most cats.Earthquake = omega arith
+charge-place-most cats.Flood = omega arith
+charge-place-most cats.Hail = omega arith
+charge-place-most cats.Subsidence = omega arith
+charge-place-most cats.NonProportionalProperty = omega arith
+charge-place-most cats.Motor = omega arith
+charge-place-most cats.Marine = omega arith
+charge-place-most cats.Aviation = omega arith
+charge-place-most cats.Fire = omega arith
+charge-place-most cats.Liability = omega arith
+charge-place-most cats.Credit = omega arith
+charge-place-most cats.Other = omega arith
+charge-place-most cats.MassAccident = omega arith
+charge-place-most cats.AccidentConcentration = omega arith
+charge-place-most cats.Pandemic = omega arith
+
+set-place-most : (x : Set) → set_place x ≤ 1
+set-place-most sets.Nl = omega arith
+set-place-most sets.Nslt = omega arith
+
+segments-from-most : (x : Set) → segments_from x ≤ 138
+segments-from-most sets.Nl = omega arith
+segments-from-most sets.Nslt = omega arith
+
+operational-place-most : (x : Operational) → operational_place x ≤ 3
+operational-place-most operations.Premiums = omega arith
+operational-place-most operations.Provisions = omega arith
+operational-place-most operations.Cap = omega arith
+operational-place-most operations.Charge = omega arith
+
+adjustment-place-most : (x : Adjustment) → adjustment_place x ≤ 1
+adjustment-place-most adjustments.TechnicalProvisions = omega arith
+adjustment-place-most adjustments.DeferredTaxes = omega arith
+
+class-place-most : (x : Class) → class_place x ≤ 9
+class-place-most classes.Type1Equity = omega arith
+class-place-most classes.Type1Strategic = omega arith
+class-place-most classes.Type2Equity = omega arith
+class-place-most classes.Type2Strategic = omega arith
+class-place-most classes.Infrastructure = omega arith
+class-place-most classes.InfrastructureCorporate = omega arith
+class-place-most classes.Property = omega arith
+class-place-most classes.Bond = omega arith
+class-place-most classes.Government = omega arith
+class-place-most classes.Other = omega arith
+
+-- the last part
+pub last-part : (node : Node) → part_of node ≤ 184
+last-part (nodes.FundTotal name) = omega arith
+last-part (nodes.SecurityTotal name) = omega arith
+last-part (nodes.UnitLoss name direction) =
+    let h0 = direction-place-most direction in
+    omega (arith, h0)
+last-part (nodes.SecurityRate name direction) =
+    let h0 = direction-place-most direction in
+    omega (arith, h0)
+last-part (nodes.LiabilityRate name direction) =
+    let h0 = direction-place-most direction in
+    omega (arith, h0)
+last-part (nodes.LiabilityPresent name) = omega arith
+last-part (nodes.LiabilityLoss name projection) =
+    let h0 = loss-place-most projection in
+    omega (arith, h0)
+last-part (nodes.CurrencyLoss currency direction) =
+    let h0 = direction-place-most direction in
+    omega (arith, h0)
+last-part (nodes.CurrencyScenario currency direction measure) =
+    let h0 = direction-place-most direction in
+    let h1 = measure-place-most measure in
+    omega (arith, h0, h1)
+last-part (nodes.CurrencyChoice currency) = omega arith
+last-part (nodes.CurrencyPicked currency measure) =
+    let h0 = measure-place-most measure in
+    omega (arith, h0)
+last-part (nodes.SecuritySpread name) = omega arith
+last-part (nodes.GroupTotal name) = omega arith
+last-part nodes.Assets = omega arith
+last-part (nodes.ConcentrationSquare name) = omega arith
+last-part (nodes.GroupLoss name) = omega arith
+last-part (nodes.ClassSum class) =
+    let h0 = class-place-most class in
+    omega (arith, h0)
+last-part (nodes.EquityPart equities) =
+    let h0 = equities-place-most equities in
+    omega (arith, h0)
+last-part (nodes.InterestScenario direction measure) =
+    let h0 = direction-place-most direction in
+    let h1 = measure-place-most measure in
+    omega (arith, h0, h1)
+last-part (nodes.Choice which) =
+    let h0 = choice-place-most which in
+    omega (arith, h0)
+last-part (nodes.Picked which measure) =
+    let h0 = choice-place-most which in
+    let h1 = measure-place-most measure in
+    omega (arith, h0, h1)
+last-part nodes.EquityRoot = omega arith
+last-part nodes.Property = omega arith
+last-part nodes.Spread = omega arith
+last-part nodes.Concentration = omega arith
+last-part (nodes.NetPart risk) =
+    let h0 = risk-place-most risk in
+    omega (arith, h0)
+last-part (nodes.Currency measure) =
+    let h0 = measure-place-most measure in
+    omega (arith, h0)
+last-part (nodes.Market measure) =
+    let h0 = measure-place-most measure in
+    omega (arith, h0)
+last-part (nodes.ClassLoss class) =
+    let h0 : min class 5 ≤ 5 = min-le_right class 5 in
+    omega (arith, h0)
+last-part (nodes.ClassSquare class) =
+    let h0 : min class 5 ≤ 5 = min-le_right class 5 in
+    omega (arith, h0)
+last-part nodes.Variance = omega arith
+last-part nodes.DefaultBand = omega arith
+last-part nodes.DefaultType1 = omega arith
+last-part nodes.DefaultType2 = omega arith
+last-part nodes.Default = omega arith
+last-part (nodes.BioScenario biometric projection measure) =
+    let h0 = scenarios-from-most biometric in
+    let h1 = scenario-place-most projection in
+    let h2 = measure-place-most measure in
+    omega (arith, h0, h1, h2)
+last-part (nodes.Life measure) =
+    let h0 = measure-place-most measure in
+    omega (arith, h0)
+last-part (nodes.Slt measure) =
+    let h0 = measure-place-most measure in
+    omega (arith, h0)
+last-part (nodes.Segment set number) =
+    let h0 = segments-from-most set in
+    let h1 : min number 12 ≤ 12 = min-le_right number 12 in
+    omega (arith, h0, h1)
+last-part (nodes.CatCharge key) =
+    let h0 = charge-place-most key in
+    omega (arith, h0)
+last-part (nodes.Lapse set) =
+    let h0 = set-place-most set in
+    omega (arith, h0)
+last-part nodes.Intangible = omega arith
+last-part (nodes.PremiumReserve set) =
+    let h0 = set-place-most set in
+    omega (arith, h0)
+last-part nodes.Natural = omega arith
+last-part nodes.ManMade = omega arith
+last-part nodes.NonlifeCatastrophe = omega arith
+last-part nodes.HealthCatastrophe = omega arith
+last-part (nodes.Nslt measure) =
+    let h0 = measure-place-most measure in
+    omega (arith, h0)
+last-part (nodes.Health measure) =
+    let h0 = measure-place-most measure in
+    omega (arith, h0)
+last-part (nodes.Nonlife measure) =
+    let h0 = measure-place-most measure in
+    omega (arith, h0)
+last-part (nodes.Bscr measure) =
+    let h0 = measure-place-most measure in
+    omega (arith, h0)
+last-part nodes.Diversification = omega arith
+last-part (nodes.OpPart part) =
+    let h0 = operational-place-most part in
+    omega (arith, h0)
+last-part (nodes.Adjust adjustment) =
+    let h0 = adjustment-place-most adjustment in
+    omega (arith, h0)
+last-part nodes.Scr = omega arith
 
 -- all of one part, and all of this part or a later one
 abbrev pub AllAt : ℕ → List Node → Type 0
@@ -76,7 +459,8 @@ not-later part node list own from m =
 -- one part, and then later ones
 pub arranged-part : (part : ℕ) (xs ys : List Node) → AllAt part xs → AreApart xs → IsArranged (suc part) ys
     → IsArranged part (xs ++ ys)
-arranged-part part [] ys own apart rest = record { apart = rest.apart; sorted = rest.sorted; from = later part ys rest.from }
+arranged-part part [] ys own apart rest =
+    record { apart = rest.apart; sorted = rest.sorted; from = later part ys rest.from }
 arranged-part part (x ∷ xs) ys own apart rest =
     let behind : IsArranged part (xs ++ ys) = arranged-part part xs ys own.1 apart.1 rest in
     record {
@@ -110,3 +494,131 @@ sorted-before (z ∷ zs) sorted zero (suc j) x y first second less =
 sorted-before (z ∷ zs) sorted (suc k) zero x y first second less = omega arith
 sorted-before (z ∷ zs) sorted (suc k) (suc j) x y first second less =
     let before : j < k = sorted-before zs sorted.1 k j x y first second less in omega arith
+
+-- ---- words, by what their parts tell
+
+pub both : (a b : Bool) → (a && b) ≡ true → (a ≡ true) × (b ≡ true)
+both true b h = (refl, h)
+both false b h = absurd (cc)
+
+-- what a test tells of each
+pub each-tested : {A : Type 0} (test : A → Bool) (xs : List A) → list_all test xs ≡ true
+    → AllByRecursion (λ x. test x ≡ true) xs
+each-tested test [] h = tt
+each-tested test (x ∷ xs) h = let two = both (test x) (list_all test xs) h in (two.0, each-tested test xs two.1)
+
+-- each of the part that follows that of the one before it
+abbrev pub is_numbered : ℕ → List Node → Bool
+is_numbered part [] = true
+is_numbered part (x ∷ xs) = (part_of x == part) && is_numbered (suc part) xs
+
+pub arranged-numbered : (part : ℕ) (list : List Node) → is_numbered part list ≡ true → IsArranged part list
+arranged-numbered part [] h = arranged-none part
+arranged-numbered part (x ∷ xs) h =
+    let two = both (part_of x == part) (is_numbered (suc part) xs) h in
+    arranged-word part x xs (eqb-true (part_of x) part two.0) (arranged-numbered (suc part) xs two.1)
+
+-- no number stands twice
+abbrev pub is_none_of : ℕ → List ℕ → Bool
+is_none_of n list = list_all (λ m. not (n == m)) list
+
+abbrev pub differ : List ℕ → Bool
+differ [] = true
+differ (n ∷ list) = is_none_of n list && differ list
+
+not-member : (x : Node) (xs : List Node) → is_none_of (part_of x) (map part_of xs) ≡ true → IsMember x xs → ⊥
+not-member x [] h m = m
+not-member x (y ∷ ys) h (inl e) =
+    let two = both (not (part_of x == part_of y)) (is_none_of (part_of x) (map part_of ys)) h in
+    let same : (part_of x == part_of y) ≡ true = eq-eqb (part_of x) (part_of y) (ap part_of e) in
+    let clash : false ≡ true = sym (ap not same) ∙ two.0 in
+    absurd (cc)
+not-member x (y ∷ ys) h (inr m) =
+    not-member x ys (both (not (part_of x == part_of y)) (is_none_of (part_of x) (map part_of ys)) h).1 m
+
+pub apart-by_parts : (list : List Node) → differ (map part_of list) ≡ true → AreApart list
+apart-by_parts [] h = tt
+apart-by_parts (x ∷ xs) h =
+    let two = both (is_none_of (part_of x) (map part_of xs)) (differ (map part_of xs)) h in
+    (not-member x xs two.0, apart-by_parts xs two.1)
+
+-- all of earlier parts
+abbrev pub AllBelow : ℕ → List Node → Type 0
+AllBelow part list = AllByRecursion (λ n. part_of n < part) list
+
+pub below-tested : (part : ℕ) (list : List Node) → list_all (λ n. nat_lt (part_of n) part) list ≡ true
+    → AllBelow part list
+below-tested part list h =
+    each_weaker (λ n. nat_lt (part_of n) part ≡ true) (λ n. part_of n < part) (λ n e. ltb-true (part_of n) part e) list
+    (each-tested (λ n. nat_lt (part_of n) part) list h)
+
+pub below-weaker : (least most : ℕ) → least ≤ most → (list : List Node) → AllBelow least list → AllBelow most list
+below-weaker least most h list below =
+    each_weaker (λ n. part_of n < least) (λ n. part_of n < most) (λ n l. omega arith) list below
+
+-- a fund, or of a part above the first
+pub fund-or-above : (node : Node) → ((name : List ℕ) × (node ≡ nodes.FundTotal name)) ⊎ (0 < part_of node)
+fund-or-above (nodes.FundTotal name) = inl (name, refl)
+fund-or-above (nodes.SecurityTotal name) = inr (omega arith)
+fund-or-above (nodes.UnitLoss name direction) = inr (omega arith)
+fund-or-above (nodes.SecurityRate name direction) = inr (omega arith)
+fund-or-above (nodes.LiabilityRate name direction) = inr (omega arith)
+fund-or-above (nodes.LiabilityPresent name) = inr (omega arith)
+fund-or-above (nodes.LiabilityLoss name projection) = inr (omega arith)
+fund-or-above (nodes.CurrencyLoss currency direction) = inr (omega arith)
+fund-or-above (nodes.CurrencyScenario currency direction measure) = inr (omega arith)
+fund-or-above (nodes.CurrencyChoice currency) = inr (omega arith)
+fund-or-above (nodes.CurrencyPicked currency measure) = inr (omega arith)
+fund-or-above (nodes.SecuritySpread name) = inr (omega arith)
+fund-or-above (nodes.GroupTotal name) = inr (omega arith)
+fund-or-above nodes.Assets = inr (omega arith)
+fund-or-above (nodes.ConcentrationSquare name) = inr (omega arith)
+fund-or-above (nodes.GroupLoss name) = inr (omega arith)
+fund-or-above (nodes.ClassSum class) = inr (omega arith)
+fund-or-above (nodes.EquityPart equities) = inr (omega arith)
+fund-or-above (nodes.InterestScenario direction measure) = inr (omega arith)
+fund-or-above (nodes.Choice alternatives.Interest) = inr (omega arith)
+fund-or-above (nodes.Choice alternatives.LifeLapse) = inr (omega arith)
+fund-or-above (nodes.Choice alternatives.HealthLapse) = inr (omega arith)
+fund-or-above (nodes.Picked which measure) = inr (omega arith)
+fund-or-above nodes.EquityRoot = inr (omega arith)
+fund-or-above nodes.Property = inr (omega arith)
+fund-or-above nodes.Spread = inr (omega arith)
+fund-or-above nodes.Concentration = inr (omega arith)
+fund-or-above (nodes.NetPart risks.Equity) = inr (omega arith)
+fund-or-above (nodes.NetPart risks.Property) = inr (omega arith)
+fund-or-above (nodes.NetPart risks.Spread) = inr (omega arith)
+fund-or-above (nodes.NetPart risks.Concentration) = inr (omega arith)
+fund-or-above (nodes.NetPart risks.Default) = inr (omega arith)
+fund-or-above (nodes.NetPart risks.HealthCatastrophe) = inr (omega arith)
+fund-or-above (nodes.Currency measure) = inr (omega arith)
+fund-or-above (nodes.Market measure) = inr (omega arith)
+fund-or-above (nodes.ClassLoss class) = inr (omega arith)
+fund-or-above (nodes.ClassSquare class) = inr (omega arith)
+fund-or-above nodes.Variance = inr (omega arith)
+fund-or-above nodes.DefaultBand = inr (omega arith)
+fund-or-above nodes.DefaultType1 = inr (omega arith)
+fund-or-above nodes.DefaultType2 = inr (omega arith)
+fund-or-above nodes.Default = inr (omega arith)
+fund-or-above (nodes.BioScenario biometrics.Life projection measure) = inr (omega arith)
+fund-or-above (nodes.BioScenario biometrics.Health projection measure) = inr (omega arith)
+fund-or-above (nodes.Life measure) = inr (omega arith)
+fund-or-above (nodes.Slt measure) = inr (omega arith)
+fund-or-above (nodes.Segment sets.Nl number) = inr (omega arith)
+fund-or-above (nodes.Segment sets.Nslt number) = inr (omega arith)
+fund-or-above (nodes.CatCharge key) = inr (omega arith)
+fund-or-above (nodes.Lapse set) = inr (omega arith)
+fund-or-above nodes.Intangible = inr (omega arith)
+fund-or-above (nodes.PremiumReserve set) = inr (omega arith)
+fund-or-above nodes.Natural = inr (omega arith)
+fund-or-above nodes.ManMade = inr (omega arith)
+fund-or-above nodes.NonlifeCatastrophe = inr (omega arith)
+fund-or-above nodes.HealthCatastrophe = inr (omega arith)
+fund-or-above (nodes.Nslt measure) = inr (omega arith)
+fund-or-above (nodes.Health measure) = inr (omega arith)
+fund-or-above (nodes.Nonlife measure) = inr (omega arith)
+fund-or-above (nodes.Bscr measure) = inr (omega arith)
+fund-or-above nodes.Diversification = inr (omega arith)
+fund-or-above (nodes.OpPart part) = inr (omega arith)
+fund-or-above (nodes.Adjust adjustment) = inr (omega arith)
+fund-or-above nodes.Scr = inr (omega arith)

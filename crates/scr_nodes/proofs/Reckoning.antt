@@ -40,8 +40,8 @@ module _ {A : Type 0} (none : A) (rule : Node → List A → A) (sheet : Balance
       → reckoned none rule sheet node ≡ rule node (map (reckoned none rule sheet) (sources_of sheet node))
   unfolding reckoned
   reckoned-equation valid node =
-      sym (one_more (length sheet.funds + 40) node (sources-end sheet valid node))
-      ∙ step-within (length sheet.funds + 40) node
+      sym (one_more (length sheet.funds + 200) node (sources-end sheet valid node))
+      ∙ step-within (length sheet.funds + 200) node
 
   -- what satisfies the equation on nodes among which the sources of each are
   only-within : (In : Node → Type 0) → ((node : Node) → In node → AllByRecursion In (sources_of sheet node))
@@ -62,4 +62,4 @@ module _ {A : Type 0} (none : A) (rule : Node → List A → A) (sheet : Balance
       → (node : Node) → In node → found node ≡ reckoned none rule sheet node
   unfolding reckoned
   reckoned-only valid In closed found equation node within =
-      only-within In closed found equation (length sheet.funds + 40) node within (sources-end sheet valid node)
+      only-within In closed found equation (length sheet.funds + 200) node within (sources-end sheet valid node)

@@ -1,57 +1,43 @@
 -- No figure is a source of another twice.
-use Rattle.std.proofs.Common.{◌≡◌, ◌⊎◌, inl, inr, ℕ, true, List, [], ◌∷◌, map, filter}
+use Rattle.std.proofs.Common.{◌≡◌, ◌⊎◌, inl, inr, ℕ, Bool, true, List, [], ◌∷◌, map, filter, refl}
 use Rattle.scr_funds.proofs.Members.{IsMember}
-use Rattle.scr_sheet.specs.BalanceSheet.{position_name, liability_name, stake_name, curve_name}
+use Rattle.scr_profile.specs.declared.set.Set.TheVariants as sets
+use Rattle.scr_sheet.specs.BalanceSheet.{group_name, position_name, liability_name, stake_name, curve_name}
 use Rattle.scr_sheet.specs.declared.sheet.BalanceSheet.{BalanceSheet}
 use Rattle.scr_sheet.specs.declared.rows.Class.{Class}
 use Rattle.scr_sheet.specs.declared.rows.Class.TheVariants as classes
-use Rattle.scr_sheet.specs.declared.rows.Curve.{Curve}
 use Rattle.scr_sheet.specs.declared.rows.Liability.{Liability}
 use Rattle.scr_sheet.specs.declared.rows.Position.{Position}
 use Rattle.scr_sheet.specs.declared.rows.Stake.{Stake}
 use Rattle.scr_sheet.specs.Validity.{Valid}
 use Rattle.scr_sheet.proofs.Holds.{distinct-securities, distinct-funds}
-use Rattle.scr_nodes.specs.declared.node.Alternatives.{Alternatives}
+use Rattle.scr_nodes.specs.declared.node.Adjustment.TheVariants as adjustments
 use Rattle.scr_nodes.specs.declared.node.Alternatives.TheVariants as alternatives
 use Rattle.scr_nodes.specs.declared.node.Direction.{Direction}
-use Rattle.scr_nodes.specs.declared.node.Equities.{Equities}
 use Rattle.scr_nodes.specs.declared.node.Equities.TheVariants as equities
 use Rattle.scr_nodes.specs.declared.node.Measure.TheVariants.{Gross, Net}
 use Rattle.scr_nodes.specs.declared.node.Node.{Node}
 use Rattle.scr_nodes.specs.declared.node.Node.TheVariants as nodes
+use Rattle.scr_nodes.specs.declared.node.Operational.TheVariants as operations
 use Rattle.scr_nodes.specs.LiveNodes.{HasNoRepeats}
-use Rattle.scr_nodes.specs.Rows.{holds, is_closed, is_paying_in, is_owed_in, has_class}
-use Rattle.scr_nodes.specs.Sources.{sources_of, fund_total, security_total, security_rate, liability_rate, currency_loss, rates_in, funds_of_class, held_of_class, scenarios, classes_of, gross_of}
-use Rattle.scr_nodes.proofs.OwnRows.{distinct-liabilities}
+use Rattle.scr_nodes.specs.Rows.{holds, is_closed, is_paying_in, is_owed_in, has_class, is_held_in, is_foreign, is_of_group, has_group, is_of_default_class, is_stressed}
+use Rattle.scr_nodes.specs.Sources.{sources_of, fund_total, security_total, security_rate, liability_rate, liability_present, liability_loss, currency_loss, currency_picked, security_spread, concentration_square, group_loss, rates_in, worths_in, funds_of_class, held_of_class, losses_of_class, gross_of}
+use Rattle.scr_nodes.proofs.OwnRows.{distinct-groups, distinct-liabilities}
 use Rattle.scr_nodes.proofs.Apart.{AreApart, apart-append, apart-chosen, apart-mapped, chosen-member, one-place}
-
-told-fund : (a b : Stake) → fund_total a ≡ fund_total b → stake_name a ≡ stake_name b
-told-fund a b e = cc
-
-told-security : (a b : Position) → security_total a ≡ security_total b → position_name a ≡ position_name b
-told-security a b e = cc
-
-told-rate : (direction : Direction) (a b : Position) → security_rate direction a ≡ security_rate direction b
-    → position_name a ≡ position_name b
-told-rate direction a b e = cc
-
-told-liability : (direction : Direction) (a b : Liability) → liability_rate direction a ≡ liability_rate direction b
-    → liability_name a ≡ liability_name b
-told-liability direction a b e = cc
-
-told-currency : (direction : Direction) (a b : Curve) → currency_loss direction a ≡ currency_loss direction b
-    → curve_name a ≡ curve_name b
-told-currency direction a b e = cc
+use Rattle.scr_nodes.proofs.Parts.{part_of, differ, apart-by_parts}
+use Rattle.scr_nodes.proofs.Told.{told-currency, told-fund, told-group_loss, told-liability, told-loss, told-picked, told-present, told-rate, told-security, told-spread, told-square}
 
 -- two families have nothing in common
 rate-or-cost : (direction : Direction) (p : Position) (l : Liability) (x : Node) → security_rate direction p ≡ x
     → liability_rate direction l ≡ x → ⊥
 rate-or-cost direction p l x first second = absurd (cc)
 
+security-or-present : (p : Position) (l : Liability) (x : Node) → security_total p ≡ x → liability_present l ≡ x → ⊥
+security-or-present p l x first second = absurd (cc)
+
 security-or-fund : (p : Position) (s : Stake) (x : Node) → security_total p ≡ x → fund_total s ≡ x → ⊥
 security-or-fund p s x first second = absurd (cc)
 
--- words, each other than those behind it
 one : (x : Node) → AreApart (x ∷ [])
 one x = ((λ m. m), tt)
 
@@ -62,59 +48,40 @@ two x y first = ((λ m. by m), one y)
     by (inl e) = first e
     by (inr m) = m
 
-four : (x y z w : Node) → (x ≡ y → ⊥) → (x ≡ z → ⊥) → (x ≡ w → ⊥) → (y ≡ z → ⊥) → (y ≡ w → ⊥) → (z ≡ w → ⊥)
-    → AreApart (x ∷ y ∷ z ∷ w ∷ [])
-four x y z w xy xz xw yz yw zw = ((λ m. by m), ((λ m. on m), two z w zw))
-  where
-    by : (x ≡ y) ⊎ ((x ≡ z) ⊎ ((x ≡ w) ⊎ ⊥)) → ⊥
-    by (inl e) = xy e
-    by (inr (inl e)) = xz e
-    by (inr (inr (inl e))) = xw e
-    by (inr (inr (inr m))) = m
-
-    on : (y ≡ z) ⊎ ((y ≡ w) ⊎ ⊥) → ⊥
-    on (inl e) = yz e
-    on (inr (inl e)) = yw e
-    on (inr (inr m)) = m
-
-apart-scenarios : (a : Alternatives) → AreApart (scenarios a)
-apart-scenarios alternatives.Interest = four _ _ _ _ (λ e. absurd (cc)) (λ e. absurd (cc)) (λ e. absurd (cc))
-    (λ e. absurd (cc)) (λ e. absurd (cc)) (λ e. absurd (cc))
-
-choice-not : (a : Alternatives) (x : Node) → IsMember x (scenarios a) → IsMember x (nodes.Choice a ∷ []) → ⊥
-choice-not a x m (inr n) = n
-choice-not alternatives.Interest x (inl e) (inl f) = absurd (cc)
-choice-not alternatives.Interest x (inr (inl e)) (inl f) = absurd (cc)
-choice-not alternatives.Interest x (inr (inr (inl e))) (inl f) = absurd (cc)
-choice-not alternatives.Interest x (inr (inr (inr (inl e)))) (inl f) = absurd (cc)
-choice-not alternatives.Interest x (inr (inr (inr (inr m)))) (inl f) = m
-
-apart-classes : (e : Equities) → AreApart (classes_of e)
-apart-classes equities.Type1 = two _ _ (λ e. absurd (cc))
-apart-classes equities.Type2 = two _ _ (λ e. absurd (cc))
-apart-classes equities.Infrastructure = one (nodes.ClassSum classes.Infrastructure)
-apart-classes equities.InfrastructureCorporate = one (nodes.ClassSum classes.InfrastructureCorporate)
-
 module _ (sheet : BalanceSheet) (valid : Valid sheet) where
-  apart-holders : (name : List ℕ) → AreApart (map fund_total (filter (holds name) sheet.funds))
-  apart-holders name = apart-chosen fund_total (holds name) stake_name told-fund sheet.funds
-      (distinct-funds sheet valid.named_once)
+  apart-funds : (test : Stake → Bool) → AreApart (map fund_total (filter test sheet.funds))
+  apart-funds test =
+      apart-chosen fund_total test stake_name told-fund sheet.funds (distinct-funds sheet valid.named_once)
+
+  apart-securities : (test : Position → Bool) → AreApart (map security_total (filter test sheet.securities))
+  apart-securities test =
+      apart-chosen security_total test position_name told-security sheet.securities
+      (distinct-securities sheet valid.named_once)
 
   apart-rates : (currency : List ℕ) (direction : Direction) → AreApart (rates_in currency direction sheet)
   apart-rates currency direction =
       apart-append (map (security_rate direction) (filter (is_paying_in currency) sheet.securities))
       (map (liability_rate direction) (filter (is_owed_in currency) sheet.liabilities))
-      (apart-chosen (security_rate direction) (is_paying_in currency) position_name
-      (told-rate direction) sheet.securities (distinct-securities sheet valid.named_once))
-      (apart-chosen (liability_rate direction) (is_owed_in currency) liability_name
-      (told-liability direction) sheet.liabilities (distinct-liabilities sheet valid))
+      (apart-chosen (security_rate direction) (is_paying_in currency) position_name (told-rate direction)
+      sheet.securities (distinct-securities sheet valid.named_once))
+      (apart-chosen (liability_rate direction) (is_owed_in currency) liability_name (told-liability direction)
+      sheet.liabilities (distinct-liabilities sheet valid))
       (λ x m n. let p = chosen-member (security_rate direction) (is_paying_in currency) sheet.securities x m in
       let l = chosen-member (liability_rate direction) (is_owed_in currency) sheet.liabilities x n in
       rate-or-cost direction p.0 l.0 x p.3 l.3)
 
+  apart-worths : (currency : List ℕ) → AreApart (worths_in currency sheet)
+  apart-worths currency =
+      apart-append (map security_total (filter (is_held_in currency) sheet.securities))
+      (map liability_present (filter (is_owed_in currency) sheet.liabilities)) (apart-securities (is_held_in currency))
+      (apart-chosen liability_present (is_owed_in currency) liability_name told-present sheet.liabilities
+      (distinct-liabilities sheet valid))
+      (λ x m n. let p = chosen-member security_total (is_held_in currency) sheet.securities x m in
+      let l = chosen-member liability_present (is_owed_in currency) sheet.liabilities x n in
+      security-or-present p.0 l.0 x p.3 l.3)
+
   funds-apart : (class : Class) → AreApart (funds_of_class class sheet)
-  funds-apart classes.Type2Equity = apart-chosen fund_total is_closed stake_name told-fund sheet.funds
-      (distinct-funds sheet valid.named_once)
+  funds-apart classes.Type2Equity = apart-funds is_closed
   funds-apart class = tt
 
   not-fund : (class : Class) (x : Node) → IsMember x (map security_total (filter (has_class class) sheet.securities))
@@ -128,28 +95,107 @@ module _ (sheet : BalanceSheet) (valid : Valid sheet) where
   apart-held : (class : Class) → AreApart (held_of_class class sheet)
   apart-held class =
       apart-append (map security_total (filter (has_class class) sheet.securities)) (funds_of_class class sheet)
-      (apart-chosen security_total (has_class class) position_name told-security sheet.securities
-      (distinct-securities sheet valid.named_once))
-      (funds-apart class) (not-fund class)
+      (apart-securities (has_class class)) (funds-apart class) (not-fund class)
+
+  apart-losses_of_class : (class : ℕ) → AreApart (losses_of_class class sheet)
+  apart-losses_of_class class =
+      apart-chosen group_loss (is_of_default_class class) group_name told-group_loss sheet.groups
+      (distinct-groups sheet valid)
+
+  -- words of different parts
+  apart-words : (node : Node) → differ (map part_of (sources_of sheet node)) ≡ true → AreApart (sources_of sheet node)
+  apart-words node h = apart-by_parts (sources_of sheet node) h
 
   apart-sources : (node : Node) → AreApart (sources_of sheet node)
-  apart-sources (nodes.FundTotal name) = apart-holders name
-  apart-sources (nodes.SecurityTotal name) = apart-holders name
+  apart-sources (nodes.FundTotal name) = apart-funds (holds name)
+  apart-sources (nodes.SecurityTotal name) = apart-funds (holds name)
   apart-sources (nodes.UnitLoss name direction) = tt
   apart-sources (nodes.SecurityRate name direction) = two _ _ (λ e. absurd (cc))
   apart-sources (nodes.LiabilityRate name direction) = tt
+  apart-sources (nodes.LiabilityPresent name) = tt
+  apart-sources (nodes.LiabilityLoss name projection) = tt
   apart-sources (nodes.CurrencyLoss currency direction) = apart-rates currency direction
-  apart-sources (nodes.InterestScenario direction Gross) = apart-mapped (currency_loss direction) (λ c. true) curve_name
-      (told-currency direction) sheet.curves valid.currencies_once
+  apart-sources (nodes.InterestScenario direction Gross) =
+      apart-mapped (currency_loss direction) (λ c. true) curve_name (told-currency direction) sheet.curves
+      valid.currencies_once
   apart-sources (nodes.InterestScenario direction Net) = one (nodes.InterestScenario direction Gross)
-  apart-sources (nodes.Choice a) = apart-scenarios a
-  apart-sources (nodes.Picked a measure) = apart-append (scenarios a) (nodes.Choice a ∷ []) (apart-scenarios a)
-      (one (nodes.Choice a)) (choice-not a)
+  apart-sources (nodes.CurrencyScenario currency direction Gross) = apart-worths currency
+  apart-sources (nodes.CurrencyScenario currency direction Net) = one (nodes.CurrencyScenario currency direction Gross)
+  apart-sources (nodes.CurrencyChoice currency) = apart-words (nodes.CurrencyChoice currency) refl
+  apart-sources (nodes.CurrencyPicked currency measure) = apart-words (nodes.CurrencyPicked currency measure) refl
+  apart-sources (nodes.Currency measure) =
+      apart-chosen (currency_picked measure) (is_foreign sheet) curve_name (told-picked measure) sheet.curves
+      valid.currencies_once
+  apart-sources (nodes.Choice alternatives.Interest) = apart-words (nodes.Choice alternatives.Interest) refl
+  apart-sources (nodes.Picked alternatives.Interest measure) =
+      apart-words (nodes.Picked alternatives.Interest measure) refl
+  apart-sources (nodes.Choice alternatives.LifeLapse) = apart-words (nodes.Choice alternatives.LifeLapse) refl
+  apart-sources (nodes.Picked alternatives.LifeLapse measure) =
+      apart-words (nodes.Picked alternatives.LifeLapse measure) refl
+  apart-sources (nodes.Choice alternatives.HealthLapse) = apart-words (nodes.Choice alternatives.HealthLapse) refl
+  apart-sources (nodes.Picked alternatives.HealthLapse measure) =
+      apart-words (nodes.Picked alternatives.HealthLapse measure) refl
   apart-sources (nodes.ClassSum class) = apart-held class
-  apart-sources (nodes.EquityPart e) = apart-classes e
-  apart-sources nodes.EquityRoot = four _ _ _ _ (λ e. absurd (cc)) (λ e. absurd (cc)) (λ e. absurd (cc))
-      (λ e. absurd (cc)) (λ e. absurd (cc)) (λ e. absurd (cc))
+  apart-sources (nodes.EquityPart equities.Type1) = apart-words (nodes.EquityPart equities.Type1) refl
+  apart-sources (nodes.EquityPart equities.Type2) = apart-words (nodes.EquityPart equities.Type2) refl
+  apart-sources (nodes.EquityPart equities.Infrastructure) = apart-words (nodes.EquityPart equities.Infrastructure) refl
+  apart-sources (nodes.EquityPart equities.InfrastructureCorporate) =
+      apart-words (nodes.EquityPart equities.InfrastructureCorporate) refl
+  apart-sources nodes.EquityRoot = apart-words nodes.EquityRoot refl
+  apart-sources nodes.Property = apart-words nodes.Property refl
+  apart-sources (nodes.SecuritySpread name) = one (nodes.SecurityTotal name)
+  apart-sources nodes.Spread =
+      apart-chosen security_spread (has_class classes.Bond) position_name told-spread sheet.securities
+      (distinct-securities sheet valid.named_once)
+  apart-sources (nodes.GroupTotal name) = apart-securities (is_of_group name)
+  apart-sources nodes.Assets = apart-securities has_group
+  apart-sources (nodes.ConcentrationSquare name) = apart-words (nodes.ConcentrationSquare name) refl
+  apart-sources nodes.Concentration =
+      apart-mapped concentration_square (λ g. true) group_name told-square sheet.groups (distinct-groups sheet valid)
   apart-sources (nodes.NetPart risk) = one (gross_of risk)
+  apart-sources (nodes.Market Gross) = apart-words (nodes.Market Gross) refl
+  apart-sources (nodes.Market Net) = apart-words (nodes.Market Net) refl
+  apart-sources (nodes.GroupLoss name) = tt
+  apart-sources (nodes.ClassLoss class) = apart-losses_of_class class
+  apart-sources (nodes.ClassSquare class) = apart-losses_of_class class
+  apart-sources nodes.Variance = apart-words nodes.Variance refl
+  apart-sources nodes.DefaultBand = apart-words nodes.DefaultBand refl
+  apart-sources nodes.DefaultType1 = apart-words nodes.DefaultType1 refl
+  apart-sources nodes.DefaultType2 = tt
+  apart-sources nodes.Default = apart-words nodes.Default refl
+  apart-sources (nodes.BioScenario biometric projection Gross) =
+      apart-chosen (liability_loss projection) (is_stressed biometric projection) liability_name (told-loss projection)
+      sheet.liabilities (distinct-liabilities sheet valid)
+  apart-sources (nodes.BioScenario biometric projection Net) = one (nodes.BioScenario biometric projection Gross)
+  apart-sources (nodes.Life Gross) = apart-words (nodes.Life Gross) refl
+  apart-sources (nodes.Life Net) = apart-words (nodes.Life Net) refl
+  apart-sources (nodes.Slt Gross) = apart-words (nodes.Slt Gross) refl
+  apart-sources (nodes.Slt Net) = apart-words (nodes.Slt Net) refl
+  apart-sources (nodes.Segment set number) = tt
+  apart-sources (nodes.PremiumReserve sets.Nl) = apart-words (nodes.PremiumReserve sets.Nl) refl
+  apart-sources (nodes.PremiumReserve sets.Nslt) = apart-words (nodes.PremiumReserve sets.Nslt) refl
+  apart-sources (nodes.CatCharge key) = tt
+  apart-sources (nodes.Lapse set) = tt
+  apart-sources nodes.Natural = apart-words nodes.Natural refl
+  apart-sources nodes.ManMade = apart-words nodes.ManMade refl
+  apart-sources nodes.NonlifeCatastrophe = apart-words nodes.NonlifeCatastrophe refl
+  apart-sources nodes.HealthCatastrophe = apart-words nodes.HealthCatastrophe refl
+  apart-sources (nodes.Nslt measure) = one (nodes.PremiumReserve sets.Nslt)
+  apart-sources (nodes.Health Gross) = apart-words (nodes.Health Gross) refl
+  apart-sources (nodes.Health Net) = apart-words (nodes.Health Net) refl
+  apart-sources (nodes.Nonlife measure) = apart-words (nodes.Nonlife measure) refl
+  apart-sources nodes.Intangible = tt
+  apart-sources (nodes.Bscr Gross) = apart-words (nodes.Bscr Gross) refl
+  apart-sources (nodes.Bscr Net) = apart-words (nodes.Bscr Net) refl
+  apart-sources nodes.Diversification = apart-words nodes.Diversification refl
+  apart-sources (nodes.OpPart operations.Premiums) = apart-words (nodes.OpPart operations.Premiums) refl
+  apart-sources (nodes.OpPart operations.Provisions) = apart-words (nodes.OpPart operations.Provisions) refl
+  apart-sources (nodes.OpPart operations.Cap) = apart-words (nodes.OpPart operations.Cap) refl
+  apart-sources (nodes.OpPart operations.Charge) = apart-words (nodes.OpPart operations.Charge) refl
+  apart-sources (nodes.Adjust adjustments.TechnicalProvisions) =
+      apart-words (nodes.Adjust adjustments.TechnicalProvisions) refl
+  apart-sources (nodes.Adjust adjustments.DeferredTaxes) = apart-words (nodes.Adjust adjustments.DeferredTaxes) refl
+  apart-sources nodes.Scr = apart-words nodes.Scr refl
 
   pub sources-once : (node : Node) → HasNoRepeats (sources_of sheet node)
   sources-once node = λ j k x first second. one-place (sources_of sheet node) (apart-sources node) j k x first second

@@ -1,15 +1,8 @@
 -- The totals of all funds in an order in which holders come before what they hold (this project's own).
-use Rattle.std.specs.Prelude.{◌≡◌, ◌↔◌, ℕ, Bool, true, not, ◌&&◌, List, Contains, Some, map, slice_get, take}
-use Rattle.scr_names.specs.Tables.{has_row}
-use Rattle.scr_sheet.specs.BalanceSheet.{stake_name}
+use Rattle.std.specs.Prelude.{◌≡◌, ◌↔◌, ℕ, List, Contains, Some, map, slice_get, take}
 use Rattle.scr_sheet.specs.declared.sheet.BalanceSheet.{BalanceSheet}
-use Rattle.scr_sheet.specs.declared.rows.Stake.{Stake}
 use Rattle.scr_nodes.specs.declared.node.Node.{Node}
-use Rattle.scr_nodes.specs.declared.node.Node.TheVariants as nodes
-use Rattle.scr_nodes.specs.declared.placed.Placed.{Placed}
 use Rattle.scr_nodes.specs.LiveNodes.{HasNoRepeats}
-use Rattle.scr_nodes.specs.PlacedNames.{placed_name}
-use Rattle.scr_nodes.specs.Rows.{holds}
 use Rattle.scr_nodes.specs.Sources.{sources_of, fund_total}
 
 -- the totals of all funds and no others, each once and after those of its holders
@@ -18,26 +11,3 @@ pub record AreFundsInOrder (sheet : BalanceSheet) (list : List Node) : Type 0 wh
   pub once : HasNoRepeats list
   pub after_sources : (k : ℕ) (node source : Node) → slice_get list k ≡ Some node
       → Contains (sources_of sheet node) source → Contains (take k list) source
-
--- ---- while it is found
-
-abbrev pub placed_total : Placed → Node
-placed_total placed = nodes.FundTotal placed.name
-
-abbrev pub is_placed : List Placed → List ℕ → Bool
-is_placed placed name = has_row placed_name name placed
-
--- the fund is not yet placed, and holds what has this name
-abbrev pub keeps_waiting : List Placed → List ℕ → Stake → Bool
-keeps_waiting placed name stake = not (is_placed placed stake.fund.name) && holds name stake
-
--- all that hold it are placed
-abbrev pub AreHoldersPlaced : BalanceSheet → List Placed → List ℕ → Type 0
-AreHoldersPlaced sheet placed name = (holder : Stake) → Contains sheet.funds holder → holds name holder ≡ true
-    → is_placed placed holder.fund.name ≡ true
-
--- funds, each after all that hold it
-pub record ArePlaced (sheet : BalanceSheet) (placed : List Placed) : Type 0 where
-  pub funds : (k : ℕ) (row : Placed) → slice_get placed k ≡ Some row → has_row stake_name row.name sheet.funds ≡ true
-  pub after_holders : (k : ℕ) (row : Placed) → slice_get placed k ≡ Some row
-      → AreHoldersPlaced sheet (take k placed) row.name

@@ -5,6 +5,6 @@ pub mod Sources
 pub mod Live
 pub mod Nth
 pub mod LiveNodes
-pub mod PlacedNames
 pub mod FundOrder
 pub mod Reckoned
+pub mod Selections

@@ -1,16 +1,39 @@
 -- Which figures a balance sheet has (this project's own).
-use Rattle.std.specs.Prelude.{ℕ, List, Bool, true, false}
+use Rattle.std.specs.Prelude.{ℕ, ◌&&◌, List, Bool, true, false, nat_le, nat_lt}
 use Rattle.std.specs.Option.{option_map_or}
-use Rattle.scr_names.specs.Tables.{has_row}
-use Rattle.scr_sheet.specs.BalanceSheet.{position_name, stake_name, liability_name, curve_name, position_of}
+use Rattle.scr_names.specs.Tables.{has_row, row_of}
+use Rattle.scr_profile.specs.Segments.{segments}
+use Rattle.scr_profile.specs.declared.set.Set.{Set}
+use Rattle.scr_sheet.specs.BalanceSheet.{group_name, position_name, stake_name, liability_name, curve_name, position_of}
+use Rattle.scr_sheet.specs.declared.keys.Projection.{Projection}
+use Rattle.scr_sheet.specs.declared.rows.Class.TheVariants as classes
 use Rattle.scr_sheet.specs.declared.sheet.BalanceSheet.{BalanceSheet}
 use Rattle.scr_nodes.specs.declared.node.Node.{Node}
 use Rattle.scr_nodes.specs.declared.node.Node.TheVariants as nodes
-use Rattle.scr_nodes.specs.Rows.{is_paying, is_equity}
+use Rattle.scr_nodes.specs.Rows.{is_paying, is_foreign, has_class, has_flows, is_stress, has_stress, liability_of}
 
 -- a security of this name that pays
 abbrev pub pays : BalanceSheet → List ℕ → Bool
 pays sheet name = option_map_or is_paying (position_of name sheet.securities) false
+
+-- a security of this name that is a bond
+abbrev pub is_bond : BalanceSheet → List ℕ → Bool
+is_bond sheet name = option_map_or (has_class classes.Bond) (position_of name sheet.securities) false
+
+-- a liability of this name with flows under a stress
+abbrev pub is_stressed_liability : BalanceSheet → List ℕ → Projection → Bool
+is_stressed_liability sheet name projection =
+    is_stress projection && option_map_or (has_flows projection) (liability_of name sheet.liabilities) false
+
+-- a currency with a curve, other than the reporting one
+abbrev pub is_foreign_currency : BalanceSheet → List ℕ → Bool
+is_foreign_currency sheet currency = option_map_or (is_foreign sheet) (row_of curve_name currency sheet.curves) false
+
+abbrev pub is_group : BalanceSheet → List ℕ → Bool
+is_group sheet name = has_row group_name name sheet.groups
+
+abbrev pub is_segment : Set → ℕ → Bool
+is_segment set number = nat_le 1 number && nat_le number (segments set)
 
 abbrev pub is_live : BalanceSheet → Node → Bool
 is_live sheet (nodes.FundTotal name) = has_row stake_name name sheet.funds
@@ -19,5 +42,17 @@ is_live sheet (nodes.UnitLoss name direction) = pays sheet name
 is_live sheet (nodes.SecurityRate name direction) = pays sheet name
 is_live sheet (nodes.LiabilityRate name direction) = has_row liability_name name sheet.liabilities
 is_live sheet (nodes.CurrencyLoss currency direction) = has_row curve_name currency sheet.curves
-is_live sheet (nodes.ClassSum class) = is_equity class
+is_live sheet (nodes.LiabilityPresent name) = has_row liability_name name sheet.liabilities
+is_live sheet (nodes.LiabilityLoss name projection) = is_stressed_liability sheet name projection
+is_live sheet (nodes.CurrencyScenario currency direction measure) = is_foreign_currency sheet currency
+is_live sheet (nodes.CurrencyChoice currency) = is_foreign_currency sheet currency
+is_live sheet (nodes.CurrencyPicked currency measure) = is_foreign_currency sheet currency
+is_live sheet (nodes.SecuritySpread name) = is_bond sheet name
+is_live sheet (nodes.GroupTotal name) = is_group sheet name
+is_live sheet (nodes.ConcentrationSquare name) = is_group sheet name
+is_live sheet (nodes.GroupLoss name) = is_group sheet name
+is_live sheet (nodes.ClassLoss class) = nat_lt class 6
+is_live sheet (nodes.ClassSquare class) = nat_lt class 6
+is_live sheet (nodes.BioScenario biometric projection measure) = has_stress biometric projection
+is_live sheet (nodes.Segment set number) = is_segment set number
 is_live sheet node = true

@@ -1,43 +1,159 @@
 -- All figures that a balance sheet has, as one list, and what is asked of such a list (this project's own).
 use Rattle.std.specs.Prelude.{◌≡◌, ◌↔◌, ℕ, ◌++◌, true, List, [], ◌∷◌, Contains, Some, filter, map, slice_get, take}
+use Rattle.std.specs.List.{flat_map}
+use Rattle.scr_profile.specs.declared.set.Set.TheVariants as sets
+use Rattle.scr_sheet.specs.declared.keys.CatKey.TheVariants as cats
+use Rattle.scr_sheet.specs.declared.keys.Projection.{Projection}
+use Rattle.scr_sheet.specs.declared.keys.Projection.TheVariants as projections
 use Rattle.scr_sheet.specs.declared.sheet.BalanceSheet.{BalanceSheet}
 use Rattle.scr_sheet.specs.declared.rows.Class.TheVariants as classes
+use Rattle.scr_sheet.specs.declared.rows.Curve.{Curve}
+use Rattle.scr_sheet.specs.declared.rows.Position.{Position}
+use Rattle.scr_nodes.specs.declared.node.Adjustment.TheVariants as adjustments
+use Rattle.scr_nodes.specs.declared.node.Alternatives.{Alternatives}
 use Rattle.scr_nodes.specs.declared.node.Alternatives.TheVariants as alternatives
+use Rattle.scr_nodes.specs.declared.node.Biometric.{Biometric}
+use Rattle.scr_nodes.specs.declared.node.Biometric.TheVariants as biometrics
 use Rattle.scr_nodes.specs.declared.node.Direction.TheVariants.{Up, Down}
 use Rattle.scr_nodes.specs.declared.node.Measure.TheVariants.{Gross, Net}
 use Rattle.scr_nodes.specs.declared.node.Node.{Node}
 use Rattle.scr_nodes.specs.declared.node.Node.TheVariants as nodes
+use Rattle.scr_nodes.specs.declared.node.Operational.TheVariants as operations
 use Rattle.scr_nodes.specs.declared.node.Risk.TheVariants as risks
 use Rattle.scr_nodes.specs.Live.{is_live}
-use Rattle.scr_nodes.specs.Rows.{is_paying}
-use Rattle.scr_nodes.specs.Sources.{sources_of, fund_total, security_total, unit_loss, security_rate, liability_rate, currency_loss, interest_scenarios, equity_parts}
+use Rattle.scr_nodes.specs.Rows.{is_paying, is_foreign, has_class, has_flows}
+use Rattle.scr_nodes.specs.Sources.{sources_of, fund_total, security_total, unit_loss, security_rate, liability_rate, liability_present, liability_loss, currency_loss, currency_scenario, currency_choice, currency_picked, security_spread, group_total, concentration_square, group_loss, interest_scenarios, lapse_scenarios, equity_parts, class_losses, class_squares, segments_of, natural_perils, man_made_perils, health_perils}
 
--- the classes of equities, each after no other
+-- ---- the figures of rows, family by family
+
+abbrev pub payings : BalanceSheet → List Position
+payings sheet = filter is_paying sheet.securities
+
+abbrev pub foreigns : BalanceSheet → List Curve
+foreigns sheet = filter (is_foreign sheet) sheet.curves
+
+-- what the liabilities lose that have flows under a stress
+abbrev pub losses_of : Projection → BalanceSheet → List Node
+losses_of projection sheet = map (liability_loss projection) (filter (has_flows projection) sheet.liabilities)
+
+abbrev pub payment_families : BalanceSheet → List (List Node)
+payment_families sheet =
+    map (unit_loss Up) (payings sheet) ∷ map (unit_loss Down) (payings sheet)
+    ∷ map (security_rate Up) (payings sheet) ∷ map (security_rate Down) (payings sheet)
+    ∷ map (liability_rate Up) sheet.liabilities ∷ map (liability_rate Down) sheet.liabilities
+    ∷ map liability_present sheet.liabilities ∷ []
+
+abbrev pub stress_families : BalanceSheet → List (List Node)
+stress_families sheet =
+    losses_of projections.Mortality sheet ∷ losses_of projections.Longevity sheet
+    ∷ losses_of projections.Disability sheet ∷ losses_of projections.Expense sheet
+    ∷ losses_of projections.Revision sheet ∷ losses_of projections.LapseUp sheet
+    ∷ losses_of projections.LapseDown sheet ∷ losses_of projections.LapseMass sheet
+    ∷ losses_of projections.Catastrophe sheet ∷ []
+
+abbrev pub currency_families : BalanceSheet → List (List Node)
+currency_families sheet =
+    map (currency_loss Up) sheet.curves ∷ map (currency_loss Down) sheet.curves
+    ∷ map (currency_scenario Up Gross) (foreigns sheet) ∷ map (currency_scenario Up Net) (foreigns sheet)
+    ∷ map (currency_scenario Down Gross) (foreigns sheet) ∷ map (currency_scenario Down Net) (foreigns sheet)
+    ∷ map currency_choice (foreigns sheet)
+    ∷ map (currency_picked Gross) (foreigns sheet) ∷ map (currency_picked Net) (foreigns sheet) ∷ []
+
+-- with the assets of which concentrations are measured
+abbrev pub group_families : BalanceSheet → List (List Node)
+group_families sheet =
+    map security_spread (filter (has_class classes.Bond) sheet.securities)
+    ∷ map group_total sheet.groups ∷ (nodes.Assets ∷ []) ∷ map concentration_square sheet.groups
+    ∷ map group_loss sheet.groups ∷ []
+
+-- so that the sources of each come in an earlier family or are totals
+abbrev pub families : BalanceSheet → List (List Node)
+families sheet =
+    payment_families sheet ++ (stress_families sheet ++ (currency_families sheet ++ group_families sheet))
+
+-- ---- the figures that every balance sheet has
+
 abbrev pub class_sums : List Node
 class_sums =
     nodes.ClassSum classes.Type1Equity ∷ nodes.ClassSum classes.Type1Strategic ∷ nodes.ClassSum classes.Type2Equity
-    ∷ nodes.ClassSum classes.Type2Strategic
-    ∷ nodes.ClassSum classes.Infrastructure ∷ nodes.ClassSum classes.InfrastructureCorporate ∷ []
+    ∷ nodes.ClassSum classes.Type2Strategic ∷ nodes.ClassSum classes.Infrastructure
+    ∷ nodes.ClassSum classes.InfrastructureCorporate ∷ nodes.ClassSum classes.Property ∷ nodes.ClassSum classes.Bond
+    ∷ nodes.ClassSum classes.Government ∷ nodes.ClassSum classes.Other ∷ []
 
-abbrev pub equity_results : List Node
-equity_results = nodes.EquityRoot ∷ nodes.NetPart risks.Equity ∷ []
+-- the alternatives, and what the one that decides comes to
+abbrev pub chosen : Alternatives → List Node
+chosen which = nodes.Choice which ∷ nodes.Picked which Gross ∷ nodes.Picked which Net ∷ []
 
-abbrev pub interest_results : List Node
-interest_results = nodes.Choice alternatives.Interest ∷ nodes.Picked alternatives.Interest Gross
-    ∷ nodes.Picked alternatives.Interest Net ∷ []
+abbrev pub market_risks : List Node
+market_risks =
+    nodes.EquityRoot ∷ nodes.Property ∷ nodes.Spread ∷ nodes.Concentration ∷ nodes.NetPart risks.Equity
+    ∷ nodes.NetPart risks.Property ∷ nodes.NetPart risks.Spread ∷ nodes.NetPart risks.Concentration
+    ∷ nodes.Currency Gross ∷ nodes.Currency Net ∷ []
 
--- the figures that every balance sheet has
+abbrev pub market_nodes : List Node
+market_nodes =
+    class_sums ++ (equity_parts ++ (interest_scenarios ++ (chosen alternatives.Interest ++ (market_risks
+    ++ (nodes.Market Gross ∷ nodes.Market Net ∷ [])))))
+
+abbrev pub default_nodes : List Node
+default_nodes =
+    class_losses ++ (class_squares ++ (nodes.Variance ∷ nodes.DefaultBand ∷ nodes.DefaultType1 ∷ nodes.DefaultType2
+    ∷ nodes.Default ∷ nodes.NetPart risks.Default ∷ []))
+
+-- the scenarios of which no choice is made, but for the catastrophe
+abbrev pub plain_scenarios : Biometric → List Node
+plain_scenarios biometric =
+    nodes.BioScenario biometric projections.Mortality Gross ∷ nodes.BioScenario biometric projections.Mortality Net
+    ∷ nodes.BioScenario biometric projections.Longevity Gross ∷ nodes.BioScenario biometric projections.Longevity Net
+    ∷ nodes.BioScenario biometric projections.Disability Gross ∷ nodes.BioScenario biometric projections.Disability Net
+    ∷ nodes.BioScenario biometric projections.Expense Gross ∷ nodes.BioScenario biometric projections.Expense Net
+    ∷ nodes.BioScenario biometric projections.Revision Gross ∷ nodes.BioScenario biometric projections.Revision Net ∷ []
+
+abbrev pub life_nodes : List Node
+life_nodes =
+    plain_scenarios biometrics.Life ++ (lapse_scenarios biometrics.Life ++ (chosen alternatives.LifeLapse
+    ++ (nodes.BioScenario biometrics.Life projections.Catastrophe Gross
+    ∷ nodes.BioScenario biometrics.Life projections.Catastrophe Net ∷ nodes.Life Gross ∷ nodes.Life Net ∷ [])))
+
+abbrev pub slt_nodes : List Node
+slt_nodes =
+    plain_scenarios biometrics.Health ++ (lapse_scenarios biometrics.Health ++ (chosen alternatives.HealthLapse
+    ++ (nodes.Slt Gross ∷ nodes.Slt Net ∷ [])))
+
+abbrev pub charges : List Node
+charges =
+    natural_perils ++ (man_made_perils ++ (nodes.CatCharge cats.NonProportionalProperty ∷ nodes.CatCharge cats.Other
+    ∷ (health_perils ++ (nodes.Lapse sets.Nl ∷ nodes.Lapse sets.Nslt ∷ nodes.Intangible ∷ []))))
+
+abbrev pub nonlife_results : List Node
+nonlife_results =
+    nodes.PremiumReserve sets.Nl ∷ nodes.PremiumReserve sets.Nslt ∷ nodes.Natural ∷ nodes.ManMade
+    ∷ nodes.NonlifeCatastrophe ∷ nodes.HealthCatastrophe ∷ nodes.NetPart risks.HealthCatastrophe
+    ∷ nodes.Nslt Gross ∷ nodes.Nslt Net ∷ nodes.Health Gross ∷ nodes.Health Net
+    ∷ nodes.Nonlife Gross ∷ nodes.Nonlife Net ∷ []
+
+abbrev pub nonlife_nodes : List Node
+nonlife_nodes = segments_of sets.Nl ++ (segments_of sets.Nslt ++ (charges ++ nonlife_results))
+
+abbrev pub requirement_nodes : List Node
+requirement_nodes =
+    nodes.Bscr Gross ∷ nodes.Bscr Net ∷ nodes.Diversification ∷ nodes.OpPart operations.Premiums
+    ∷ nodes.OpPart operations.Provisions ∷ nodes.OpPart operations.Cap ∷ nodes.OpPart operations.Charge
+    ∷ nodes.Adjust adjustments.TechnicalProvisions ∷ nodes.Adjust adjustments.DeferredTaxes ∷ nodes.Scr ∷ []
+
 abbrev pub constant_nodes : List Node
-constant_nodes = class_sums ++ (equity_parts ++ (equity_results ++ (interest_scenarios ++ interest_results)))
+constant_nodes =
+    market_nodes ++ (default_nodes ++ (life_nodes ++ (slt_nodes ++ (nonlife_nodes ++ requirement_nodes))))
+
+-- ---- all
+
+-- families one after another
+abbrev pub flat : List (List Node) → List Node
+flat list = flat_map (λ family. family) list
 
 -- the figures above the totals, so that the sources of each come before it or are totals
 abbrev pub rest_nodes : BalanceSheet → List Node
-rest_nodes sheet =
-    map (unit_loss Up) (filter is_paying sheet.securities) ++ (map (unit_loss Down) (filter is_paying sheet.securities)
-    ++ (map (security_rate Up) (filter is_paying sheet.securities)
-    ++ (map (security_rate Down) (filter is_paying sheet.securities)
-    ++ (map (liability_rate Up) sheet.liabilities ++ (map (liability_rate Down) sheet.liabilities
-    ++ (map (currency_loss Up) sheet.curves ++ (map (currency_loss Down) sheet.curves ++ constant_nodes)))))))
+rest_nodes sheet = flat (families sheet) ++ constant_nodes
 
 -- what is held of each security, and the figures above
 abbrev pub nodes_above_funds : BalanceSheet → List Node

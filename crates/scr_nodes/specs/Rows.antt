@@ -1,20 +1,29 @@
 -- Which rows of the balance sheet a figure is reckoned from (Delegated Regulation (EU) 2015/35, Articles 84, 165 and
 -- 168).
-use Rattle.std.specs.Prelude.{ℕ, ℤ, ◌+◌, Bool, true, false, not, ◌&&◌, List, [], ◌∷◌, Option, filter, sum_by, if◌then◌else◌}
+use Rattle.std.specs.Prelude.{ℕ, ℤ, ◌+◌, ◌==◌, Bool, true, false, not, ◌&&◌, List, [], ◌∷◌, Option, Some, None, is_some, filter, sum_by, nat_lt, if◌then◌else◌}
 use Rattle.std.specs.List.{list_any}
 use Rattle.std.specs.Option.{option_map_or}
 use Rattle.scr_names.specs.Names.{same_name}
 use Rattle.scr_names.specs.Tables.{row_of}
-use Rattle.scr_sheet.specs.CashFlows.{is_empty}
-use Rattle.scr_sheet.specs.BalanceSheet.{curve_name, liability_name, position_of, stake_of}
+use Rattle.scr_sheet.specs.CashFlows.{is_empty, flows_under}
+use Rattle.scr_sheet.specs.BalanceSheet.{curve_name, group_name, liability_name, position_of, stake_of}
 use Rattle.scr_sheet.specs.Records.{natural}
+use Rattle.scr_sheet.specs.declared.keys.Projection.{Projection}
+use Rattle.scr_sheet.specs.declared.keys.Projection.TheVariants as projections
 use Rattle.scr_sheet.specs.declared.sheet.BalanceSheet.{BalanceSheet}
+use Rattle.scr_sheet.specs.declared.rows.Bank.{Bank}
 use Rattle.scr_sheet.specs.declared.rows.Class.{Class}
 use Rattle.scr_sheet.specs.declared.rows.Class.TheVariants as classes
 use Rattle.scr_sheet.specs.declared.rows.Curve.{Curve}
+use Rattle.scr_sheet.specs.declared.rows.Group.{Group}
 use Rattle.scr_sheet.specs.declared.rows.Liability.{Liability}
+use Rattle.scr_sheet.specs.declared.rows.LiabilityKind.{LiabilityKind}
+use Rattle.scr_sheet.specs.declared.rows.LiabilityKind.TheVariants as kinds
 use Rattle.scr_sheet.specs.declared.rows.Position.{Position}
+use Rattle.scr_sheet.specs.declared.rows.Rein.{Rein}
 use Rattle.scr_sheet.specs.declared.rows.Stake.{Stake}
+use Rattle.scr_nodes.specs.declared.node.Biometric.{Biometric}
+use Rattle.scr_nodes.specs.declared.node.Biometric.TheVariants as biometrics
 use Rattle.scr_nodes.specs.Own.{Share}
 
 -- ---- funds
@@ -105,10 +114,74 @@ is_of_class class of = false
 abbrev pub has_class : Class → Position → Bool
 has_class class position = is_of_class class position.security.class
 
--- a class of equities
-abbrev pub is_equity : Class → Bool
-is_equity classes.Property = false
-is_equity classes.Bond = false
-is_equity classes.Government = false
-is_equity classes.Other = false
-is_equity class = true
+-- ---- currencies
+
+-- a security in the currency, whether it pays or not
+abbrev pub is_held_in : List ℕ → Position → Bool
+is_held_in currency position = same_name currency position.security.currency
+
+-- a currency other than the reporting one (Article 188(1))
+abbrev pub is_foreign : BalanceSheet → Curve → Bool
+is_foreign sheet curve = not (same_name sheet.numbers.currency curve.currency)
+
+-- ---- groups of counterparties
+
+abbrev pub group_of : List ℕ → List Group → Option Group
+group_of name groups = row_of group_name name groups
+
+-- a security of the group, and one of any group
+abbrev pub is_of_group : List ℕ → Position → Bool
+is_of_group name position = option_map_or (same_name name) position.security.group false
+
+abbrev pub has_group : Position → Bool
+has_group position = is_some position.security.group
+
+-- the credit quality step of a group, none where it has none or no group has the name
+abbrev pub step_of_group : BalanceSheet → List ℕ → Option ℕ
+step_of_group sheet name = option_map_or (λ (group : Group). group.step) (group_of name sheet.groups) None
+
+-- that of a security's group
+abbrev pub step_of : BalanceSheet → Position → Option ℕ
+step_of sheet position = option_map_or (step_of_group sheet) position.security.group None
+
+-- what a bank owes, or a reinsurer, that is of the group
+abbrev pub is_bank_of : List ℕ → Bank → Bool
+is_bank_of name bank = same_name name bank.group
+
+abbrev pub is_reinsurer_of : List ℕ → Rein → Bool
+is_reinsurer_of name reinsurer = same_name name reinsurer.group
+
+-- Steps with one probability of default are a class, numbered by the first of them (Article 199(2)). A group without a
+-- step has the class of step 5 (this project's own).
+abbrev pub class_of_step : Option ℕ → ℕ
+class_of_step None = 5
+class_of_step (Some step) = if nat_lt step 5 then step else 5
+
+abbrev pub is_of_default_class : ℕ → Group → Bool
+is_of_default_class class group = class_of_step group.step == class
+
+-- ---- biometric stresses
+
+-- the liability has flows under the projection
+abbrev pub has_flows : Projection → Liability → Bool
+has_flows projection liability = not (is_empty (flows_under projection liability.flows))
+
+-- a projection other than the best estimate
+abbrev pub is_stress : Projection → Bool
+is_stress projections.Base = false
+is_stress projection = true
+
+abbrev pub is_of_kind : Biometric → LiabilityKind → Bool
+is_of_kind biometrics.Life kinds.Life = true
+is_of_kind biometrics.Health kinds.Health = true
+is_of_kind biometric kind = false
+
+-- a liability of the kind with flows under the projection
+abbrev pub is_stressed : Biometric → Projection → Liability → Bool
+is_stressed biometric projection liability = is_of_kind biometric liability.kind && has_flows projection liability
+
+-- the stresses of a kind of obligations: those of Articles 137 to 143, and of Articles 152 to 159
+abbrev pub has_stress : Biometric → Projection → Bool
+has_stress biometric projections.Base = false
+has_stress biometrics.Health projections.Catastrophe = false
+has_stress biometric projection = true

@@ -1,12 +1,18 @@
 //! The node at a place of a list that is read off the rows of a table, without memory.
 ghost use Rattle.std.specs.Prelude.{filter, map};
+ghost use Rattle.scr_sheet.specs.declared.rows.Class.TheVariants as classes;
 ghost use Rattle.scr_nodes.specs.Nth.{IsNth};
-ghost use Rattle.scr_nodes.specs.Rows.{is_closed, is_paying_in, is_owed_in, has_class};
-ghost use Rattle.scr_nodes.specs.Sources.{fund_total, security_total, security_rate, liability_rate, currency_loss, holder_totals};
+ghost use Rattle.scr_nodes.specs.Rows.{is_closed, is_paying_in, is_owed_in, has_class, is_foreign, is_of_default_class, is_stressed};
+ghost use Rattle.scr_nodes.specs.Selections.{is_counted};
+ghost use Rattle.scr_nodes.specs.Sources.{fund_total, security_total, security_rate, liability_rate, liability_present, liability_loss, security_spread, concentration_square, group_loss, currency_loss, currency_picked, holder_totals};
 
-use crate::rows::{has_class, holds, is_closed, is_owed_in, is_paying_in};
-use crate::{Direction, Node};
-use scr_sheet::{BalanceSheet, Class, Name};
+use crate::rows::{
+    has_class, holds, is_closed, is_foreign, is_of_default_class, is_owed_in, is_paying_in,
+    is_stressed,
+};
+use crate::selections::{Holdings, is_counted};
+use crate::{Biometric, Direction, Measure, Node};
+use scr_sheet::{BalanceSheet, Class, Name, Projection};
 
 /// The node at a place of a list, or how far past the list's end the place lies.
 pub(crate) enum Nth {
@@ -41,24 +47,6 @@ pub(crate) fn nth_closed(sheet: &BalanceSheet, place: u32) -> Nth
         if is_closed(stake) {
             if left == 0 {
                 return Nth::There(Node::FundTotal(stake.fund.name));
-            }
-            left -= 1;
-        }
-    }
-    Nth::Past(left)
-}
-
-/// Among the totals of the securities of a class.
-pub(crate) fn nth_of_class(sheet: &BalanceSheet, class: Class, place: u32) -> Nth
-    ensures { IsNth
-        (map security_total (filter (has_class class) sheet.now.securities)) place result }
-{
-    let mut left = place;
-    for k in 0..sheet.securities.len() {
-        let position = sheet.securities.at(k);
-        if has_class(class, position) {
-            if left == 0 {
-                return Nth::There(Node::SecurityTotal(position.security.name));
             }
             left -= 1;
         }
@@ -120,6 +108,132 @@ pub(crate) fn nth_currency(sheet: &BalanceSheet, direction: Direction, place: u3
     if (place as usize) < count {
         let curve = sheet.curves.at(place as usize);
         Nth::There(Node::CurrencyLoss(curve.currency, direction))
+    } else {
+        Nth::Past((place as usize - count) as u32)
+    }
+}
+
+/// Among the totals of securities.
+pub(crate) fn nth_total(sheet: &BalanceSheet, holdings: &Holdings, place: u32) -> Nth
+    ensures { IsNth (map security_total
+        (filter (is_counted holdings.now) sheet.now.securities)) place result }
+{
+    let mut left = place;
+    for k in 0..sheet.securities.len() {
+        let position = sheet.securities.at(k);
+        if is_counted(holdings, position) {
+            if left == 0 {
+                return Nth::There(Node::SecurityTotal(position.security.name));
+            }
+            left -= 1;
+        }
+    }
+    Nth::Past(left)
+}
+
+/// Among the present values of the liabilities in a currency.
+pub(crate) fn nth_present_in(sheet: &BalanceSheet, currency: &Name, place: u32) -> Nth
+    ensures { IsNth (map liability_present
+        (filter (is_owed_in currency.now) sheet.now.liabilities)) place result }
+{
+    let mut left = place;
+    for k in 0..sheet.liabilities.len() {
+        let liability = sheet.liabilities.at(k);
+        if is_owed_in(currency, liability) {
+            if left == 0 {
+                return Nth::There(Node::LiabilityPresent(liability.name));
+            }
+            left -= 1;
+        }
+    }
+    Nth::Past(left)
+}
+
+/// Among the losses of bonds.
+pub(crate) fn nth_spread(sheet: &BalanceSheet, place: u32) -> Nth
+    ensures { IsNth (map security_spread
+        (filter (has_class classes.Bond) sheet.now.securities)) place result }
+{
+    let mut left = place;
+    for k in 0..sheet.securities.len() {
+        let position = sheet.securities.at(k);
+        if has_class(Class::Bond, position) {
+            if left == 0 {
+                return Nth::There(Node::SecuritySpread(position.security.name));
+            }
+            left -= 1;
+        }
+    }
+    Nth::Past(left)
+}
+
+/// Among the losses of the groups of a class.
+pub(crate) fn nth_loss_of_class(sheet: &BalanceSheet, class: u8, place: u32) -> Nth
+    ensures { IsNth (map group_loss
+        (filter (is_of_default_class class) sheet.now.groups)) place result }
+{
+    let mut left = place;
+    for k in 0..sheet.groups.len() {
+        let group = sheet.groups.at(k);
+        if is_of_default_class(class, group) {
+            if left == 0 {
+                return Nth::There(Node::GroupLoss(group.name));
+            }
+            left -= 1;
+        }
+    }
+    Nth::Past(left)
+}
+
+/// Among the losses of the liabilities of a kind under a stress.
+pub(crate) fn nth_loss_under(
+    sheet: &BalanceSheet,
+    biometric: Biometric,
+    projection: Projection,
+    place: u32,
+) -> Nth
+    ensures { IsNth (map (liability_loss projection)
+        (filter (is_stressed biometric projection) sheet.now.liabilities)) place result }
+{
+    let mut left = place;
+    for k in 0..sheet.liabilities.len() {
+        let liability = sheet.liabilities.at(k);
+        if is_stressed(biometric, projection, liability) {
+            if left == 0 {
+                return Nth::There(Node::LiabilityLoss(liability.name, projection));
+            }
+            left -= 1;
+        }
+    }
+    Nth::Past(left)
+}
+
+/// Among the requirements for foreign currencies.
+pub(crate) fn nth_picked(sheet: &BalanceSheet, measure: Measure, place: u32) -> Nth
+    ensures { IsNth (map (currency_picked measure)
+        (filter (is_foreign sheet.now) sheet.now.curves)) place result }
+{
+    let mut left = place;
+    for k in 0..sheet.curves.len() {
+        let curve = sheet.curves.at(k);
+        if is_foreign(sheet, curve) {
+            if left == 0 {
+                return Nth::There(Node::CurrencyPicked(curve.currency, measure));
+            }
+            left -= 1;
+        }
+    }
+    Nth::Past(left)
+}
+
+/// Among the squares of all groups.
+pub(crate) fn nth_square(sheet: &BalanceSheet, place: u32) -> Nth
+    ensures { IsNth (map concentration_square sheet.now.groups) place result }
+{
+    let count = sheet.groups.len();
+    if (place as usize) < count {
+        let group = sheet.groups.at(place as usize);
+        Nth::There(Node::ConcentrationSquare(group.name))
     } else {
         Nth::Past((place as usize - count) as u32)
     }

@@ -2,17 +2,24 @@
 ghost use Rattle.std.specs.Prelude.{◌≡◌, ◌++◌, [], ◌∷◌, slice_get};
 ghost use Rattle.scr_nodes.specs.declared.node.Node.TheVariants as nodes;
 ghost use Rattle.scr_nodes.specs.Nth.{IsNth};
-ghost use Rattle.scr_nodes.specs.Sources.{sources_of, rates_in, funds_of_class, held_of_class, scenarios, classes_of};
+ghost use Rattle.scr_nodes.specs.Sources.{sources_of, rates_in, worths_in, funds_of_class, held_of_class, currency_scenarios, scenarios, classes_of, segments_of, operational_sources, adjustment_sources};
 
 use crate::nth::{
-    Nth, nth_closed, nth_currency, nth_holder, nth_in, nth_of_class, nth_owed, nth_paying,
+    Nth, nth_closed, nth_currency, nth_holder, nth_in, nth_loss_of_class, nth_loss_under, nth_owed,
+    nth_paying, nth_picked, nth_present_in, nth_spread, nth_square, nth_total,
 };
+use crate::selections::Holdings;
 use crate::words::{
-    equity_parts, gross_of, infrastructure_classes, infrastructure_corporate_classes,
-    interest_scenarios, type1_classes, type2_classes,
+    band_sources, charge_sources, currency_scenarios, default_types, equity_parts, gross_of,
+    health_parts, health_perils, infrastructure_classes, infrastructure_corporate_classes,
+    interest_scenarios, lapse_scenarios, life_parts, man_made_perils, market_parts, modules,
+    natural_perils, nonlife_catastrophes, nonlife_segments, nslt_segments, provision_sources,
+    requirement_parts, slt_parts, tax_sources, type1_classes, type1_sources, type2_classes,
+    variance_sources,
 };
-use crate::{Alternatives, Direction, Equities, Measure, Node};
-use scr_sheet::{BalanceSheet, Class, Name};
+use crate::{Adjustment, Alternatives, Biometric, Direction, Equities, Measure, Node, Operational};
+use scr_profile::Set;
+use scr_sheet::{BalanceSheet, Class, Name, Projection};
 
 /// The source at a place, counted from 0, of the list of those from which a figure is reckoned;
 /// none exactly past the last. The cost is that of a walk along the tables that the list is read
@@ -31,18 +38,73 @@ fn nth_source(sheet: &BalanceSheet, node: &Node, place: u32) -> Nth
 {
     match node {
         Node::FundTotal(name) | Node::SecurityTotal(name) => nth_holder(sheet, name, place),
-        Node::UnitLoss(_, _) | Node::LiabilityRate(_, _) => Nth::Past(place),
+        Node::UnitLoss(_, _)
+        | Node::LiabilityRate(_, _)
+        | Node::LiabilityPresent(_)
+        | Node::LiabilityLoss(_, _)
+        | Node::GroupLoss(_)
+        | Node::DefaultType2
+        | Node::Segment(_, _)
+        | Node::CatCharge(_)
+        | Node::Lapse(_)
+        | Node::Intangible => Nth::Past(place),
         Node::SecurityRate(name, direction) => nth_of_rate(name, *direction, place),
         Node::CurrencyLoss(currency, direction) => nth_rate(sheet, currency, *direction, place),
-        Node::InterestScenario(direction, measure) => {
-            nth_of_scenario(sheet, *direction, *measure, place)
-        }
+        Node::InterestScenario(direction, measure) => nth_of_scenario(
+            sheet, *direction, *measure, place,
+        ),
+        Node::CurrencyScenario(currency, direction, measure) => nth_of_currency(
+            sheet, currency, *direction, *measure, place,
+        ),
+        Node::CurrencyPicked(currency, _) => nth_of_currency_picked(currency, place),
+        Node::Currency(measure) => nth_picked(sheet, *measure, place),
         Node::Choice(alternatives) => nth_scenario(*alternatives, place),
         Node::Picked(alternatives, _) => nth_of_picked(*alternatives, place),
         Node::ClassSum(class) => nth_held(sheet, *class, place),
         Node::EquityPart(equities) => nth_class(*equities, place),
+        Node::Spread => nth_spread(sheet, place),
+        Node::GroupTotal(name) => nth_total(sheet, &Holdings::OfGroup(*name), place),
+        Node::Assets => nth_total(sheet, &Holdings::Grouped, place),
+        Node::Concentration => nth_square(sheet, place),
+        Node::ClassLoss(class) | Node::ClassSquare(class) => nth_loss_of_class(
+            sheet, *class, place,
+        ),
+        Node::BioScenario(biometric, projection, measure) => nth_of_stress(
+            sheet,
+            *biometric,
+            *projection,
+            *measure,
+            place,
+        ),
+        Node::PremiumReserve(set) => nth_segment(*set, place),
+        Node::OpPart(part) => nth_of_operational(*part, place),
+        Node::Adjust(adjustment) => nth_of_adjustment(*adjustment, place),
+        Node::CurrencyChoice(currency) => nth_in(&currency_scenarios(currency), place),
         Node::EquityRoot => nth_in(&equity_parts(), place),
+        Node::Property => nth_in(&[Node::ClassSum(Class::Property)], place),
+        Node::SecuritySpread(name) => nth_in(&[Node::SecurityTotal(*name)], place),
+        Node::ConcentrationSquare(name) => nth_in(&[Node::Assets, Node::GroupTotal(*name)], place),
         Node::NetPart(risk) => nth_in(&[gross_of(*risk)], place),
+        Node::Market(measure) => nth_in(&market_parts(*measure), place),
+        Node::Variance => nth_in(&variance_sources(), place),
+        Node::DefaultBand => nth_in(&band_sources(), place),
+        Node::DefaultType1 => nth_in(&type1_sources(), place),
+        Node::Default => nth_in(&default_types(), place),
+        Node::Life(measure) => nth_in(&life_parts(*measure), place),
+        Node::Slt(measure) => nth_in(&slt_parts(*measure), place),
+        Node::Natural => nth_in(&natural_perils(), place),
+        Node::ManMade => nth_in(&man_made_perils(), place),
+        Node::NonlifeCatastrophe => nth_in(&nonlife_catastrophes(), place),
+        Node::HealthCatastrophe => nth_in(&health_perils(), place),
+        Node::Nslt(_) => nth_in(&[Node::PremiumReserve(Set::Nslt)], place),
+        Node::Health(measure) => nth_in(&health_parts(*measure), place),
+        Node::Nonlife(_) => nth_in(
+            &[Node::PremiumReserve(Set::Nl), Node::NonlifeCatastrophe],
+            place,
+        ),
+        Node::Bscr(measure) => nth_in(&modules(*measure), place),
+        Node::Scr => nth_in(&requirement_parts(), place),
+        Node::Diversification => nth_in(&modules(Measure::Gross), place),
     }
 }
 
@@ -70,6 +132,8 @@ fn nth_scenario(alternatives: Alternatives, place: u32) -> Nth
 {
     match alternatives {
         Alternatives::Interest => nth_in(&interest_scenarios(), place),
+        Alternatives::LifeLapse => nth_in(&lapse_scenarios(Biometric::Life), place),
+        Alternatives::HealthLapse => nth_in(&lapse_scenarios(Biometric::Health), place),
     }
 }
 
@@ -97,7 +161,7 @@ fn nth_rate(sheet: &BalanceSheet, currency: &Name, direction: Direction, place: 
 fn nth_held(sheet: &BalanceSheet, class: Class, place: u32) -> Nth
     ensures { IsNth (held_of_class class sheet.now) place result }
 {
-    match nth_of_class(sheet, class, place) {
+    match nth_total(sheet, &Holdings::OfClass(class), place) {
         Nth::Past(left) => nth_fund_of_class(sheet, class, left),
         found => found,
     }
@@ -120,5 +184,92 @@ fn nth_class(equities: Equities, place: u32) -> Nth
         Equities::Type2 => nth_in(&type2_classes(), place),
         Equities::Infrastructure => nth_in(&infrastructure_classes(), place),
         Equities::InfrastructureCorporate => nth_in(&infrastructure_corporate_classes(), place),
+    }
+}
+
+fn nth_of_currency(
+    sheet: &BalanceSheet,
+    currency: &Name,
+    direction: Direction,
+    measure: Measure,
+    place: u32,
+) -> Nth
+    ensures { IsNth (sources_of sheet.now (nodes.CurrencyScenario currency.now direction measure))
+        place result }
+{
+    match measure {
+        Measure::Gross => nth_worth(sheet, currency, place),
+        Measure::Net => nth_in(
+            &[Node::CurrencyScenario(*currency, direction, Measure::Gross)],
+            place,
+        ),
+    }
+}
+
+#[tactic(auto, using(crate::proofs::Joined::past_first))]
+fn nth_worth(sheet: &BalanceSheet, currency: &Name, place: u32) -> Nth
+    ensures { IsNth (worths_in currency.now sheet.now) place result }
+{
+    match nth_total(sheet, &Holdings::In(*currency), place) {
+        Nth::Past(left) => nth_present_in(sheet, currency, left),
+        found => found,
+    }
+}
+
+#[tactic(auto, using(crate::proofs::Joined::past_first))]
+fn nth_of_currency_picked(currency: &Name, place: u32) -> Nth
+    ensures { IsNth (currency_scenarios currency.now ++ nodes.CurrencyChoice currency.now ∷ [])
+        place result }
+{
+    match nth_in(&currency_scenarios(currency), place) {
+        Nth::Past(left) => nth_in(&[Node::CurrencyChoice(*currency)], left),
+        found => found,
+    }
+}
+
+fn nth_of_stress(
+    sheet: &BalanceSheet,
+    biometric: Biometric,
+    projection: Projection,
+    measure: Measure,
+    place: u32,
+) -> Nth
+    ensures { IsNth (sources_of sheet.now (nodes.BioScenario biometric projection measure))
+        place result }
+{
+    match measure {
+        Measure::Gross => nth_loss_under(sheet, biometric, projection, place),
+        Measure::Net => nth_in(
+            &[Node::BioScenario(biometric, projection, Measure::Gross)],
+            place,
+        ),
+    }
+}
+
+fn nth_segment(set: Set, place: u32) -> Nth
+    ensures { IsNth (segments_of set) place result }
+{
+    match set {
+        Set::Nl => nth_in(&nonlife_segments(), place),
+        Set::Nslt => nth_in(&nslt_segments(), place),
+    }
+}
+
+fn nth_of_operational(part: Operational, place: u32) -> Nth
+    ensures { IsNth (operational_sources part) place result }
+{
+    match part {
+        Operational::Premiums | Operational::Provisions => Nth::Past(place),
+        Operational::Cap => nth_in(&[Node::Bscr(Measure::Gross)], place),
+        Operational::Charge => nth_in(&charge_sources(), place),
+    }
+}
+
+fn nth_of_adjustment(adjustment: Adjustment, place: u32) -> Nth
+    ensures { IsNth (adjustment_sources adjustment) place result }
+{
+    match adjustment {
+        Adjustment::TechnicalProvisions => nth_in(&provision_sources(), place),
+        Adjustment::DeferredTaxes => nth_in(&tax_sources(), place),
     }
 }

@@ -31,11 +31,11 @@ use Rattle.scr_rate.specs.InterestEnds.{EncloseLosses}
 use Rattle.scr_rate.proofs.Costs as costs
 use Rattle.scr_market.proofs.EquityBounds.{type1-encloses, type2-encloses, infra-encloses, infracorp-encloses, root-encloses}
 use Rattle.scr_market.specs.declared.equity_parts.TheConstants.{MAX_EQUITY_PART}
-use Rattle.scr_factors.specs.Values.{FactorValues}
+use Rattle.scr_factors.specs.Values.{FactorValues, IsInForm}
 use Rattle.scr_names.specs.Names.{same_name}
 use Rattle.scr_names.proofs.TableRows.{All-map, name_of-row_of, same_name-is}
 use Rattle.scr_sheet.specs.Absorptions.{absorbed}
-use Rattle.scr_sheet.specs.BalanceSheet.{position_name, liability_name, position_of}
+use Rattle.scr_sheet.specs.BalanceSheet.{position_name, liability_name, group_name, position_of}
 use Rattle.scr_sheet.specs.CashFlows.{is_empty}
 use Rattle.scr_sheet.specs.Totals.{total_of}
 use Rattle.scr_sheet.specs.declared.rows.Class.TheVariants as classes
@@ -44,6 +44,7 @@ use Rattle.scr_sheet.specs.declared.rows.Liability.{Liability}
 use Rattle.scr_sheet.specs.declared.rows.Position.{Position}
 use Rattle.scr_sheet.specs.declared.sheet.BalanceSheet.{BalanceSheet}
 use Rattle.scr_sheet.specs.Validity.{Valid}
+use Rattle.scr_sheet.proofs.HeldNames.{row-there}
 use Rattle.scr_nodes.specs.declared.node.Alternatives.TheVariants as alternatives
 use Rattle.scr_nodes.specs.declared.node.Direction.{Direction}
 use Rattle.scr_nodes.specs.declared.node.Direction.TheVariants as directions
@@ -57,9 +58,12 @@ use Rattle.scr_nodes.specs.declared.node.Risk.TheVariants as risks
 use Rattle.scr_nodes.specs.Live.{is_live}
 use Rattle.scr_nodes.specs.OwnOf.{paid_by_security, paid_by_liability, interest_key, risk_key}
 use Rattle.scr_nodes.specs.Rows.{is_paying, is_paying_in, is_owed_in, liability_of}
-use Rattle.scr_nodes.specs.Sources.{security_rate, liability_rate, currency_loss, rates_in}
+use Rattle.scr_nodes.specs.Sources.{security_rate, liability_rate, currency_loss, rates_in, risk_part}
 use Rattle.scr_nodes.proofs.OwnRows.{own-securities, own-liabilities}
-use Rattle.scr_plan.specs.Exact.{measured, equities_exact, equity_exact, exact, unit_of}
+use Rattle.scr_plan.specs.DefaultExact.{default_exact}
+use Rattle.scr_plan.specs.Exact.{measured, absorbed_part, equities_exact, equity_exact, exact, market_exact, other_modules, unit_of}
+use Rattle.scr_plan.specs.LifeExact.{life_exact, slt_exact}
+use Rattle.scr_plan.specs.MarketExact.{liability_worth, bond_exact, group_square_exact}
 use Rattle.scr_plan.specs.Holdings.{security_cents, class_total}
 use Rattle.scr_plan.specs.InterestExact as interest
 use Rattle.scr_plan.specs.InterestExact.{security_unit_loss, security_loss, liability_loss, sum_in, losses, scenario_of, decisive_outcome, up_absorption, down_absorption}
@@ -67,11 +71,18 @@ use Rattle.scr_plan.specs.Rules.{amount_of}
 use Rattle.scr_plan.specs.Worked.{worked}
 use Rattle.scr_plan.proofs.Equations.{worked-equation}
 use Rattle.scr_plan.proofs.Gathered.{sum-encloses, rows-enclose}
-use Rattle.scr_plan.proofs.HeldNames.{row-there}
+use Rattle.scr_plan.proofs.MarketEnclosures.{present-encloses, change-encloses, change-picked-encloses, currency-encloses, property-enclosed, bond-enclosed, spread-enclosed, square-enclosed, concentration-enclosed, net-enclosed, market-enclosed}
+use Rattle.scr_plan.proofs.MarketRanges.{bond-there}
+use Rattle.scr_plan.proofs.MarketSizes.{group-worked, assets-worked}
 use Rattle.scr_plan.proofs.Payments.{security-known, liability-known, security-fits, liability-fits, paid-encloses}
 use Rattle.scr_plan.proofs.Ranges.{position-there}
 use Rattle.scr_plan.proofs.Sizes.{unit-worked, rate-worked, cost-worked, lost-worked, gross-worked, class-worked, part_ends, part-worked, part-amount, root-worked}
 use Rattle.scr_plan.proofs.Totals.{fund-worked, security-worked}
+use Rattle.scr_plan.proofs.LifeEnclosures as life
+use Rattle.scr_plan.proofs.DefaultEnclosures as defaults
+use Rattle.scr_plan.proofs.NonlifeEnclosures as nonlife
+use Rattle.scr_plan.proofs.LossEnclosures as loss
+use Rattle.scr_plan.proofs.ModulesTogether.{others-within}
 
 -- ends in 10^-18 enclose the fraction
 abbrev Enclosed : Ends → Fraction → Type 0
@@ -79,6 +90,10 @@ Enclosed e p = Encloses one e.low e.high (Frac p)
 
 abbrev Holds : ℕ → Ends → Figure → Type 0
 Holds unit e f = Encloses unit e.low e.high f
+
+-- ends that enclose a figure enclose the one that it is
+told : (unit : ℕ) (e : Ends) (g f : Figure) → ◌≡◌ {A = Option Figure} (Some g) (Some f) → Holds unit e g → Holds unit e f
+told unit e g f is h = let same : g ≡ f = cc in subst (Holds unit e) same h
 
 nothing : (p : Fraction) → p.num ≡ pos 0 → Enclosed (exact_ends (pos 0)) p
 nothing p none = Encloses-exact one (pos 0) p (record { positive = lit< tt; equal = zero p.num p.den none })
@@ -314,28 +329,110 @@ module _ (factors : FactorValues) (sheet : BalanceSheet) (valid : Valid sheet) w
   cents-enclose : (e : Ends) (n : ℕ) → e ≡ exact_ends (pos n) → Holds 1 e (Frac (whole (pos n)))
   cents-enclose e n is = subst (λ (f : Ends). Holds 1 f (Frac (whole (pos n)))) (sym is) (Encloses-exact 1 (pos n) (whole (pos n)) (record { positive = lit< tt; equal = refl }))
 
-  -- ---- every live node with a figure
-  told : (unit : ℕ) (e : Ends) (g f : Figure) → ◌≡◌ {A = Option Figure} (Some g) (Some f) → Holds unit e g → Holds unit e f
-  told unit e g f is h = let same : g ≡ f = cc in subst (Holds unit e) same h
+  -- ---- the market risk module
+  market-encloses : (measure : Measure) → Holds 1000 (figure (nodes.Market measure)) (market_exact factors sheet measure)
+  unfolding market_exact
+  market-encloses measure =
+      market-enclosed factors sheet valid measure (Frac (measured measure (decisive_outcome sheet))) (equity_exact sheet) (chosen outcomes) (chosen-is outcomes (lit< tt)).listed
+      (picked-encloses measure) equity-encloses choice-has-decisive
 
-  pub node-encloses : (node : Node) → is_live sheet node ≡ true → (f : Figure) → exact factors sheet node ≡ Some f → Holds (unit_of node) (figure node) f
-  node-encloses (nodes.FundTotal name) live f is = told 1 _ _ f is (cents-enclose _ _ (fund-worked factors sheet valid name live))
-  node-encloses (nodes.SecurityTotal name) live f is = told 1 _ _ f is (cents-enclose _ _ (security-worked factors sheet valid name live))
+-- ---- every live node with a figure, where the factors are in form
+module _ (factors : FactorValues) (known : IsInForm factors) (sheet : BalanceSheet) (valid : Valid sheet) where
+  abbrev figure_of : Node → Ends
+  figure_of node = worked factors sheet node
+
+  -- the modules that stand in files of their own
+  default-encloses : (measure : Measure) → Holds 1000 (figure_of (risk_part risks.Default measure)) (absorbed_part sheet measure risks.Default (default_exact sheet))
+  default-encloses measures.Gross = defaults.default-node-encloses factors sheet valid (default_exact sheet) refl
+  default-encloses measures.Net = defaults.net-node-encloses factors sheet valid (net_figure (default_exact sheet) (absorbed (risk_key risks.Default) sheet.numbers)) refl
+
+  others-enclosed : loss.AreOthersEnclosed figure_of (other_modules factors sheet)
+  others-enclosed = record {
+    market_holds = market-encloses factors sheet valid;
+    default_holds = default-encloses;
+    life_holds = λ (measure : Measure). life.life-encloses factors sheet valid measure (life_exact sheet measure) refl;
+    slt_holds = λ (measure : Measure). life.slt-encloses factors sheet valid measure (slt_exact sheet measure) refl;
+  }
+
+  pub node-encloses : (node : Node) → is_live sheet node ≡ true → (f : Figure) → exact factors sheet node ≡ Some f → Holds (unit_of node) (figure_of node) f
+  node-encloses (nodes.FundTotal name) live f is = told 1 _ _ f is (cents-enclose factors sheet valid _ _ (fund-worked factors sheet valid name live))
+  node-encloses (nodes.SecurityTotal name) live f is = told 1 _ _ f is (cents-enclose factors sheet valid _ _ (security-worked factors sheet valid name live))
   node-encloses (nodes.UnitLoss name direction) live f is =
       let p = position-there (position_of name sheet.securities) live in
-      told one _ _ f (ap (λ found. Some (Frac (option_map_or (security_unit_loss sheet direction) found zero_fraction))) (sym p.1) ∙ is) (unit-encloses direction name p.0 p.1)
+      told one _ _ f (ap (λ found. Some (Frac (option_map_or (security_unit_loss sheet direction) found zero_fraction))) (sym p.1) ∙ is) (unit-encloses factors sheet valid direction name p.0 p.1)
   node-encloses (nodes.SecurityRate name direction) live f is =
       let p = position-there (position_of name sheet.securities) live in
-      told one _ _ f (ap (λ found. Some (Frac (option_map_or (security_loss sheet direction) found zero_fraction))) (sym p.1) ∙ is) (rate-encloses direction name p.0 p.1)
+      told one _ _ f (ap (λ found. Some (Frac (option_map_or (security_loss sheet direction) found zero_fraction))) (sym p.1) ∙ is) (rate-encloses factors sheet valid direction name p.0 p.1)
   node-encloses (nodes.LiabilityRate name direction) live f is =
       let l = row-there liability_name name sheet.liabilities live in
-      told one _ _ f (ap (λ found. Some (Frac (option_map_or (liability_loss sheet direction) found zero_fraction))) (sym l.1) ∙ is) (cost-encloses direction name l.0 l.1)
-  node-encloses (nodes.CurrencyLoss currency direction) live f is = told one _ _ f is (lost-encloses direction currency)
-  node-encloses (nodes.InterestScenario direction measures.Gross) live f is = told 1000 _ _ f is (scenario-encloses direction).gross
-  node-encloses (nodes.InterestScenario direction measures.Net) live f is = told 1000 _ _ f is (scenario-encloses direction).net
+      told one _ _ f (ap (λ found. Some (Frac (option_map_or (liability_loss sheet direction) found zero_fraction))) (sym l.1) ∙ is) (cost-encloses factors sheet valid direction name l.0 l.1)
+  node-encloses (nodes.CurrencyLoss currency direction) live f is = told one _ _ f is (lost-encloses factors sheet valid direction currency)
+  node-encloses (nodes.InterestScenario direction measures.Gross) live f is = told 1000 _ _ f is (scenario-encloses factors sheet valid direction).gross
+  node-encloses (nodes.InterestScenario direction measures.Net) live f is = told 1000 _ _ f is (scenario-encloses factors sheet valid direction).net
   node-encloses (nodes.Choice which) live f is = absurd (let clash : None ≡ Some f = is in cc)
-  node-encloses (nodes.Picked alternatives.Interest measure) live f is = told 1000 _ _ f is (picked-encloses measure)
-  node-encloses (nodes.ClassSum class) live f is = told 1 _ _ f is (cents-enclose _ _ (class-worked factors sheet valid class))
-  node-encloses (nodes.EquityPart kind) live f is = told 1000 _ _ f is (equities-enclose kind)
-  node-encloses nodes.EquityRoot live f is = told 1000 _ _ f is equity-encloses
-  node-encloses (nodes.NetPart risks.Equity) live f is = told 1000 _ _ f is equity-net
+  node-encloses (nodes.Picked alternatives.Interest measure) live f is = told 1000 _ _ f is (picked-encloses factors sheet valid measure)
+  node-encloses (nodes.ClassSum class) live f is = told 1 _ _ f is (cents-enclose factors sheet valid _ _ (class-worked factors sheet valid class))
+  node-encloses (nodes.EquityPart kind) live f is = told 1000 _ _ f is (equities-enclose factors sheet valid kind)
+  node-encloses nodes.EquityRoot live f is = told 1000 _ _ f is (equity-encloses factors sheet valid)
+  node-encloses (nodes.NetPart risks.Equity) live f is = told 1000 _ _ f is (equity-net factors sheet valid)
+  node-encloses (nodes.NetPart risks.Property) live f is = told 1000 _ _ f is (net-enclosed factors sheet valid risks.Property _ (property-enclosed factors sheet valid))
+  node-encloses (nodes.NetPart risks.Spread) live f is = told 1000 _ _ f is (net-enclosed factors sheet valid risks.Spread _ (spread-enclosed factors sheet valid))
+  node-encloses (nodes.NetPart risks.Concentration) live f is = told 1000 _ _ f is (net-enclosed factors sheet valid risks.Concentration _ (concentration-enclosed factors sheet valid))
+  node-encloses (nodes.LiabilityPresent name) live f is =
+      let l = row-there liability_name name sheet.liabilities live in
+      told one _ _ f (ap (λ found. Some (Frac (option_map_or (liability_worth sheet) found zero_fraction))) (sym l.1) ∙ is) (present-encloses factors sheet valid name l.0 l.1)
+  node-encloses (nodes.CurrencyScenario currency direction measure) live f is = told 1000 _ _ f is (change-encloses factors sheet valid direction measure currency)
+  node-encloses (nodes.CurrencyChoice currency) live f is = absurd (let clash : None ≡ Some f = is in cc)
+  node-encloses (nodes.CurrencyPicked currency measure) live f is = told 1000 _ _ f is (change-picked-encloses factors sheet valid measure currency)
+  node-encloses (nodes.Currency measure) live f is = told 1000 _ _ f is (currency-encloses factors sheet valid measure)
+  node-encloses nodes.Property live f is = told 1000 _ _ f is (property-enclosed factors sheet valid)
+  node-encloses (nodes.SecuritySpread name) live f is =
+      let p = bond-there (position_of name sheet.securities) live in
+      told 1_000_000_000 _ _ f (ap (λ found. Some (Frac (option_map_or (bond_exact factors sheet) found zero_fraction))) (sym p.1) ∙ is) (bond-enclosed factors sheet valid name p.0 p.1)
+  node-encloses nodes.Spread live f is = told 1000 _ _ f is (spread-enclosed factors sheet valid)
+  node-encloses (nodes.GroupTotal name) live f is = told 1 _ _ f is (cents-enclose factors sheet valid _ _ (group-worked factors sheet valid name))
+  node-encloses nodes.Assets live f is = told 1 _ _ f is (cents-enclose factors sheet valid _ _ (assets-worked factors sheet valid))
+  node-encloses (nodes.ConcentrationSquare name) live f is =
+      let g = row-there group_name name sheet.groups live in
+      told 10_000_000_000 _ _ f (ap (λ found. Some (Frac (option_map_or (group_square_exact sheet) found zero_fraction))) (sym g.1) ∙ is) (square-enclosed factors sheet valid name g.0 g.1)
+  node-encloses nodes.Concentration live f is = told 1000 _ _ f is (concentration-enclosed factors sheet valid)
+  node-encloses (nodes.Market measure) live f is = told 1000 _ _ f is (market-encloses factors sheet valid measure)
+  node-encloses (nodes.LiabilityLoss name projection) live f is = life.liability-encloses factors sheet valid name projection live f is
+  node-encloses (nodes.BioScenario biometric projection measure) live f is = life.scenario-encloses factors sheet valid biometric projection measure f is
+  node-encloses (nodes.Picked alternatives.LifeLapse measure) live f is = life.life_picked-encloses factors sheet valid measure f is
+  node-encloses (nodes.Picked alternatives.HealthLapse measure) live f is = life.health_picked-encloses factors sheet valid measure f is
+  node-encloses (nodes.Life measure) live f is = life.life-encloses factors sheet valid measure f is
+  node-encloses (nodes.Slt measure) live f is = life.slt-encloses factors sheet valid measure f is
+  node-encloses (nodes.GroupLoss name) live f is = defaults.group-encloses factors sheet valid name f is
+  node-encloses (nodes.ClassLoss class) live f is = defaults.class-encloses factors sheet valid class f is
+  node-encloses (nodes.ClassSquare class) live f is = defaults.square-encloses factors sheet valid class f is
+  node-encloses nodes.Variance live f is = defaults.variance-node-encloses factors sheet valid f is
+  node-encloses nodes.DefaultBand live f is = absurd (let clash : None ≡ Some f = is in cc)
+  node-encloses nodes.DefaultType1 live f is = defaults.type1-node-encloses factors sheet valid f is
+  node-encloses nodes.DefaultType2 live f is = defaults.type2-node-encloses factors sheet valid f is
+  node-encloses nodes.Default live f is = defaults.default-node-encloses factors sheet valid f is
+  node-encloses (nodes.NetPart risks.Default) live f is = defaults.net-node-encloses factors sheet valid f is
+  node-encloses (nodes.NetPart risks.HealthCatastrophe) live f is = told 1000 _ _ f is (nonlife.health_catastrophe-holds factors known sheet valid measures.Net)
+  node-encloses (nodes.Segment set number) live f is = told 1000 _ _ f is (nonlife.segment-holds factors known sheet valid set number)
+  node-encloses (nodes.PremiumReserve set) live f is = told 1000 _ _ f is (nonlife.premium_reserve-holds factors known sheet valid set)
+  node-encloses (nodes.CatCharge key) live f is = told 1000 _ _ f is (nonlife.charge-encloses factors known sheet valid key)
+  node-encloses (nodes.Lapse set) live f is = told 1000 _ _ f is (nonlife.lapse-encloses factors known sheet valid set)
+  node-encloses nodes.Natural live f is = told 1000 _ _ f is (nonlife.natural-holds factors known sheet valid)
+  node-encloses nodes.ManMade live f is = told 1000 _ _ f is (nonlife.man_made-holds factors known sheet valid)
+  node-encloses nodes.NonlifeCatastrophe live f is = told 1000 _ _ f is (nonlife.catastrophe-holds factors known sheet valid)
+  node-encloses nodes.HealthCatastrophe live f is = told 1000 _ _ f is (nonlife.health_catastrophe-holds factors known sheet valid measures.Gross)
+  node-encloses (nodes.Nslt measure) live f is = told 1000 _ _ f is (nonlife.nslt-holds factors known sheet valid measure)
+  node-encloses (nodes.Health measure) live f is =
+      told 1000 _ _ f is (loss.module-health-holds factors known sheet valid _ _ _ _ (others-within factors sheet valid) (other_modules factors sheet) others-enclosed measure)
+  node-encloses (nodes.Nonlife measure) live f is = told 1000 _ _ f is (nonlife.nonlife-holds factors known sheet valid measure)
+  node-encloses nodes.Intangible live f is = told 1000 _ _ f is (loss.intangible-holds factors known sheet valid)
+  node-encloses (nodes.Bscr measure) live f is =
+      told 1000 _ _ f is (loss.bscr-holds factors known sheet valid _ _ _ _ (others-within factors sheet valid) (other_modules factors sheet) others-enclosed measure)
+  node-encloses (nodes.OpPart part) live f is =
+      told 1000 _ _ f is (loss.operational-holds factors known sheet valid _ _ _ _ (others-within factors sheet valid) (other_modules factors sheet) others-enclosed part)
+  node-encloses (nodes.Adjust adjustment) live f is =
+      told 1000 _ _ f is (loss.adjustment-holds factors known sheet valid _ _ _ _ (others-within factors sheet valid) (other_modules factors sheet) others-enclosed adjustment)
+  node-encloses nodes.Scr live f is =
+      told 1000 _ _ f is (loss.scr-holds factors known sheet valid _ _ _ _ (others-within factors sheet valid) (other_modules factors sheet) others-enclosed)
+  node-encloses nodes.Diversification live f is =
+      told 1000 _ _ f is (loss.diversification-holds factors known sheet valid _ _ _ _ (others-within factors sheet valid) (other_modules factors sheet) others-enclosed)

@@ -13,9 +13,13 @@ use Rattle.scr_curve.proofs.RateLemmas.{rates_are, rates_in_range, length-rates_
 use Rattle.scr_curve.proofs.TableLemmas.{length-ends_from, table_in_range, table_encloses}
 use Rattle.scr_factors.specs.Values.{FactorValues}
 use Rattle.scr_names.specs.Names.{same_name}
+use Rattle.scr_profile.specs.declared.group_kind.GroupKind.TheVariants as kinds
 use Rattle.scr_names.specs.Tables.{row_of}
 use Rattle.scr_sheet.specs.BalanceSheet.{curve_name, position_of}
+use Rattle.scr_sheet.specs.CashFlows.{flows_under}
+use Rattle.scr_sheet.specs.declared.keys.Projection.{Projection}
 use Rattle.scr_sheet.specs.declared.rows.Curve.{Curve}
+use Rattle.scr_sheet.specs.declared.rows.Group.{Group}
 use Rattle.scr_sheet.specs.declared.rows.Liability.{Liability}
 use Rattle.scr_sheet.specs.declared.rows.Position.{Position}
 use Rattle.scr_sheet.specs.declared.sheet.BalanceSheet.{BalanceSheet}
@@ -24,10 +28,16 @@ use Rattle.scr_nodes.specs.declared.node.Direction.{Direction}
 use Rattle.scr_nodes.specs.declared.node.Measure.TheVariants as measures
 use Rattle.scr_nodes.specs.declared.node.Node.{Node}
 use Rattle.scr_nodes.specs.declared.node.Node.TheVariants as nodes
-use Rattle.scr_nodes.specs.OwnOf.{own_of, paid_by_security, paid_by_liability, nothing_paid}
-use Rattle.scr_nodes.specs.Rows.{liability_of, rates_of}
+use Rattle.scr_nodes.specs.OwnOf.{own_of, paid_by_security, paid_by_liability, nothing_paid, valued, bond_stressed, group_square}
+use Rattle.scr_nodes.specs.Own.{Valued}
+use Rattle.scr_nodes.specs.Own.Own.{Stressed, Square}
+use Rattle.scr_nodes.specs.declared.node.Adjustment.TheVariants as adjustments
+use Rattle.scr_nodes.specs.declared.node.Operational.TheVariants as operations
+use Rattle.scr_nodes.specs.Rows.{group_of, liability_of, rates_of}
 use Rattle.scr_plan.specs.Discounts.{discounts_at, no_discounts, own_discounts}
 use Rattle.scr_plan.specs.Fits.{Fits, FitsPaid}
+use Rattle.scr_plan.specs.MarketFits.{FitsWorth}
+use Rattle.scr_plan.specs.LifeFits.{FitsExcess}
 use Rattle.scr_plan.specs.Kept.{IsTable, AreDiscountsAt, AreDiscountsOf, row_in, discounts_in, all_discounts}
 use Rattle.scr_plan.proofs.Payments.{curve-rates}
 
@@ -39,7 +49,7 @@ is-table rates tilt curve = record {
   encloses = table_encloses (rates_in_parts rates tilt) (rate rates tilt) (rates_in_range rates tilt curve) (rates_are rates tilt curve);
 }
 
-at-rates : (rates : List ℤ) → IsCurveInMillionths rates → AreDiscountsAt rates (discounts_at rates)
+pub at-rates : (rates : List ℤ) → IsCurveInMillionths rates → AreDiscountsAt rates (discounts_at rates)
 unfolding discounts_at
 at-rates rates curve = record { base = is-table rates tilts.Base curve; up = is-table rates tilts.Up curve; down = is-table rates tilts.Down curve }
 
@@ -83,6 +93,33 @@ liability-row : (sheet : BalanceSheet) (direction : Direction) (found : Option L
 liability-row sheet direction None fits = absurd (let some = fits.rates.some in omega (arith, some))
 liability-row sheet direction (Some l) fits = currency-row sheet l.currency fits.rates.some
 
+worth-row : (sheet : BalanceSheet) (found : Option Liability) → FitsWorth (option_map_or (valued sheet) found (record { asof = sheet.numbers.asof.number; payments = []; rates = [] }))
+    → option_map_or (λ (l : Liability). row_in l.currency sheet.curves (all_discounts sheet)) found no_discounts
+    ≡ discounts_at (option_map_or (valued sheet) found (record { asof = sheet.numbers.asof.number; payments = []; rates = [] })).rates
+worth-row sheet None fits = absurd (let some = fits.rates.some in omega (arith, some))
+worth-row sheet (Some l) fits = currency-row sheet l.currency fits.rates.some
+
+-- bonds and groups have no payments of their own
+bond-row : (factors : FactorValues) (sheet : BalanceSheet) (found : Option Position)
+    → no_discounts ≡ own_discounts (option_map_or (bond_stressed factors sheet) found (Stressed factors None 0))
+bond-row factors sheet None = refl
+bond-row factors sheet (Some p) = refl
+
+group-row : (found : Option Group) → no_discounts ≡ own_discounts (option_map_or group_square found (Square kinds.Name None))
+group-row None = refl
+group-row (Some g) = refl
+
+-- what is paid where there is no liability
+abbrev nothing_valued : BalanceSheet → Valued
+nothing_valued sheet = record { asof = sheet.numbers.asof.number; payments = []; rates = [] }
+
+stressed-row : (sheet : BalanceSheet) (projection : Projection) (found : Option Liability)
+    → FitsExcess (option_map_or (valued sheet) found (nothing_valued sheet)) (option_map_or (λ liability. flows_under projection liability.flows) found [])
+    → option_map_or (λ (l : Liability). row_in l.currency sheet.curves (all_discounts sheet)) found no_discounts
+    ≡ discounts_at (option_map_or (valued sheet) found (nothing_valued sheet)).rates
+stressed-row sheet projection None fits = absurd (let some = fits.rates.some in omega (arith, some))
+stressed-row sheet projection (Some l) fits = currency-row sheet l.currency fits.rates.some
+
 -- of each figure whose rule fits
 pub own-row : (factors : FactorValues) (sheet : BalanceSheet) (node : Node) (figures : List Ends) → Fits (own_of factors sheet node) figures
     → discounts_in sheet (all_discounts sheet) node ≡ own_discounts (own_of factors sheet node)
@@ -100,3 +137,51 @@ own-row factors sheet (nodes.ClassSum class) figures fits = refl
 own-row factors sheet (nodes.EquityPart kind) figures fits = refl
 own-row factors sheet nodes.EquityRoot figures fits = refl
 own-row factors sheet (nodes.NetPart risk) figures fits = refl
+own-row factors sheet (nodes.LiabilityPresent name) figures fits = worth-row sheet (liability_of name sheet.liabilities) fits
+own-row factors sheet (nodes.CurrencyScenario currency direction measures.Gross) figures fits = refl
+own-row factors sheet (nodes.CurrencyScenario currency direction measures.Net) figures fits = refl
+own-row factors sheet (nodes.SecuritySpread name) figures fits = bond-row factors sheet (position_of name sheet.securities)
+own-row factors sheet (nodes.ConcentrationSquare name) figures fits = group-row (group_of name sheet.groups)
+own-row factors sheet (nodes.LiabilityLoss name projection) figures fits = stressed-row sheet projection (liability_of name sheet.liabilities) fits
+own-row factors sheet (nodes.BioScenario biometric projection measures.Gross) figures fits = refl
+own-row factors sheet (nodes.BioScenario biometric projection measures.Net) figures fits = refl
+own-row factors sheet (nodes.Life measure) figures fits = refl
+own-row factors sheet (nodes.Slt measure) figures fits = refl
+own-row factors sheet (nodes.GroupLoss name) figures fits = refl
+own-row factors sheet (nodes.ClassLoss class) figures fits = refl
+own-row factors sheet (nodes.ClassSquare class) figures fits = refl
+own-row factors sheet nodes.Variance figures fits = refl
+own-row factors sheet nodes.DefaultBand figures fits = refl
+own-row factors sheet nodes.DefaultType1 figures fits = refl
+own-row factors sheet nodes.DefaultType2 figures fits = refl
+own-row factors sheet nodes.Default figures fits = refl
+own-row factors sheet (nodes.CurrencyChoice currency) figures fits = refl
+own-row factors sheet (nodes.CurrencyPicked currency measure) figures fits = refl
+own-row factors sheet (nodes.Currency measure) figures fits = refl
+own-row factors sheet nodes.Property figures fits = refl
+own-row factors sheet nodes.Spread figures fits = refl
+own-row factors sheet (nodes.GroupTotal name) figures fits = refl
+own-row factors sheet nodes.Assets figures fits = refl
+own-row factors sheet nodes.Concentration figures fits = refl
+own-row factors sheet (nodes.Market measure) figures fits = refl
+own-row factors sheet (nodes.Segment set number) figures fits = refl
+own-row factors sheet (nodes.PremiumReserve set) figures fits = refl
+own-row factors sheet (nodes.CatCharge key) figures fits = refl
+own-row factors sheet (nodes.Lapse set) figures fits = refl
+own-row factors sheet nodes.Natural figures fits = refl
+own-row factors sheet nodes.ManMade figures fits = refl
+own-row factors sheet nodes.NonlifeCatastrophe figures fits = refl
+own-row factors sheet nodes.HealthCatastrophe figures fits = refl
+own-row factors sheet (nodes.Nslt measure) figures fits = refl
+own-row factors sheet (nodes.Health measure) figures fits = refl
+own-row factors sheet (nodes.Nonlife measure) figures fits = refl
+own-row factors sheet nodes.Intangible figures fits = refl
+own-row factors sheet (nodes.Bscr measure) figures fits = refl
+own-row factors sheet (nodes.OpPart operations.Premiums) figures fits = refl
+own-row factors sheet (nodes.OpPart operations.Provisions) figures fits = refl
+own-row factors sheet (nodes.OpPart operations.Cap) figures fits = refl
+own-row factors sheet (nodes.OpPart operations.Charge) figures fits = refl
+own-row factors sheet (nodes.Adjust adjustments.TechnicalProvisions) figures fits = refl
+own-row factors sheet (nodes.Adjust adjustments.DeferredTaxes) figures fits = refl
+own-row factors sheet nodes.Scr figures fits = refl
+own-row factors sheet nodes.Diversification figures fits = refl

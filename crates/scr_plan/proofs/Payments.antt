@@ -38,6 +38,7 @@ use Rattle.scr_sheet.specs.declared.rows.Curve.{Curve}
 use Rattle.scr_sheet.specs.declared.rows.Position.{Position}
 use Rattle.scr_sheet.specs.declared.rows.Liability.{Liability}
 use Rattle.scr_sheet.proofs.Greatest.{each-le}
+use Rattle.scr_sheet.proofs.HeldNames.{row-there}
 use Rattle.scr_profile.specs.declared.limits.TheConstants.{MIN_RATE, MAX_RATE}
 use Rattle.scr_funds.proofs.Members.{at_member, each-from_members}
 use Rattle.scr_funds.proofs.SplitSums.{sum_by-member}
@@ -49,7 +50,6 @@ use Rattle.scr_nodes.specs.declared.node.Direction.TheVariants as directions
 use Rattle.scr_plan.specs.Discounts.{tilt_of, changed, discounts_at}
 use Rattle.scr_plan.specs.Fits.{FitsPaid}
 use Rattle.scr_plan.specs.Rules.{paid_ends}
-use Rattle.scr_plan.proofs.HeldNames.{row-there}
 
 -- ---- payments that can be sorted by maturity
 above : (n : ℕ) → nat_le n 100 ≡ false → n ≤ 100 → ⊥

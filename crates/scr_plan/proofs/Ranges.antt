@@ -5,13 +5,14 @@ use Rattle.scr_num.specs.Amounts.{IsAmount}
 use Rattle.scr_num.specs.Rounding.{Ends}
 use Rattle.scr_num.specs.Sizes.{IsWithin}
 use Rattle.scr_num.proofs.AmountBounds.{amount-exact}
-use Rattle.scr_factors.specs.Values.{FactorValues}
+use Rattle.scr_factors.specs.Values.{FactorValues, IsInForm}
 use Rattle.scr_sheet.specs.BalanceSheet.{liability_name, position_of}
 use Rattle.scr_sheet.specs.declared.rows.Class.TheVariants as classes
 use Rattle.scr_sheet.specs.declared.rows.Position.{Position}
 use Rattle.scr_sheet.specs.declared.sheet.BalanceSheet.{BalanceSheet}
 use Rattle.scr_sheet.specs.Validity.{Valid}
 use Rattle.scr_sheet.proofs.Amounts.{absorbed-within}
+use Rattle.scr_sheet.proofs.HeldNames.{row-there}
 use Rattle.scr_profile.specs.declared.limits.TheConstants.{MAX_HELD}
 use Rattle.scr_nodes.specs.declared.node.Alternatives.TheVariants as alternatives
 use Rattle.scr_nodes.specs.declared.node.Equities.{Equities}
@@ -26,17 +27,22 @@ use Rattle.scr_nodes.specs.Rows.{is_paying}
 use Rattle.scr_nodes.specs.Sources.{sources_of}
 use Rattle.scr_plan.specs.Fits.{Fits, FitsPaid}
 use Rattle.scr_plan.specs.Worked.{worked}
-use Rattle.scr_plan.proofs.HeldNames.{row-there}
+use Rattle.scr_plan.proofs.MarketRanges.{present-fits, change-fits, change-net-fits, change-choice-fits, change-picked-fits, currency-fits, property-fits, bond-fits, spread-fits, group-fits, assets-fits, square-fits, concentration-fits, property-net-fits, spread-net-fits, concentration-net-fits, market-fits}
 use Rattle.scr_plan.proofs.Payments.{security-known, liability-known, security-fits, liability-fits}
 use Rattle.scr_plan.proofs.Sizes.{unit-within, one-currency, losses-together, gross-small, class-amount, class-together, part-amount, root-amount, least, greatest}
 use Rattle.scr_plan.proofs.Totals as totals
+use Rattle.scr_plan.proofs.LifeRanges as life
+use Rattle.scr_plan.proofs.DefaultRanges as defaults
+use Rattle.scr_plan.proofs.NonlifeRanges as nonlife
+use Rattle.scr_plan.proofs.LossRanges as loss
+use Rattle.scr_plan.proofs.ModulesTogether.{others-within}
 
 -- a security that pays is one
 pub position-there : (found : Option Position) → option_map_or is_paying found false ≡ true → (p : Position) × (found ≡ Some p) × (is_paying p ≡ true)
 position-there None h = absurd (cc)
 position-there (Some p) h = (p, refl, h)
 
-module _ (factors : FactorValues) (sheet : BalanceSheet) (valid : Valid sheet) where
+module _ (factors : FactorValues) (known : IsInForm factors) (sheet : BalanceSheet) (valid : Valid sheet) where
   abbrev figure : Node → Ends
   figure node = worked factors sheet node
 
@@ -89,3 +95,55 @@ module _ (factors : FactorValues) (sheet : BalanceSheet) (valid : Valid sheet) w
     absorbed = absorbed-within (risk_key risks.Equity) sheet.numbers valid.numbers.absorb;
     gross = wider _ (figure nodes.EquityRoot) (omega arith) (amount-within _ _ (root-amount factors sheet valid));
   }
+  node-fits (nodes.NetPart risks.Property) live = property-net-fits factors sheet valid
+  node-fits (nodes.NetPart risks.Spread) live = spread-net-fits factors sheet valid
+  node-fits (nodes.NetPart risks.Concentration) live = concentration-net-fits factors sheet valid
+  node-fits (nodes.LiabilityPresent name) live = present-fits factors sheet valid name live
+  node-fits (nodes.CurrencyScenario currency direction measures.Gross) live = change-fits factors sheet valid currency direction
+  node-fits (nodes.CurrencyScenario currency direction measures.Net) live = change-net-fits factors sheet valid currency direction
+  node-fits (nodes.CurrencyChoice currency) live = change-choice-fits factors sheet valid currency
+  node-fits (nodes.CurrencyPicked currency measure) live = change-picked-fits factors sheet valid currency measure
+  node-fits (nodes.Currency measure) live = currency-fits factors sheet valid measure
+  node-fits nodes.Property live = property-fits factors sheet valid
+  node-fits (nodes.SecuritySpread name) live = bond-fits factors sheet valid name live
+  node-fits nodes.Spread live = spread-fits factors sheet valid
+  node-fits (nodes.GroupTotal name) live = group-fits factors sheet valid name
+  node-fits nodes.Assets live = assets-fits factors sheet valid
+  node-fits (nodes.ConcentrationSquare name) live = square-fits factors sheet valid name live
+  node-fits nodes.Concentration live = concentration-fits factors sheet valid
+  node-fits (nodes.Market measure) live = market-fits factors sheet valid measure
+  node-fits (nodes.LiabilityLoss name projection) live = life.loss-fits factors sheet valid name projection live
+  node-fits (nodes.BioScenario biometric projection measure) live = life.stress-fits factors sheet valid biometric projection measure
+  node-fits (nodes.Choice alternatives.LifeLapse) live = life.life_choice-fits factors sheet valid
+  node-fits (nodes.Choice alternatives.HealthLapse) live = life.health_choice-fits factors sheet valid
+  node-fits (nodes.Picked alternatives.LifeLapse measure) live = life.life_picked-fits factors sheet valid measure
+  node-fits (nodes.Picked alternatives.HealthLapse measure) live = life.health_picked-fits factors sheet valid measure
+  node-fits (nodes.Life measure) live = life.life-fits factors sheet valid measure
+  node-fits (nodes.Slt measure) live = life.slt-fits factors sheet valid measure
+  node-fits (nodes.GroupLoss name) live = defaults.group-fits factors sheet valid name
+  node-fits (nodes.ClassLoss class) live = defaults.class-fits factors sheet valid class
+  node-fits (nodes.ClassSquare class) live = defaults.squares-fit factors sheet valid class
+  node-fits nodes.Variance live = defaults.variance-fits factors sheet valid
+  node-fits nodes.DefaultBand live = defaults.band-fits factors sheet valid
+  node-fits nodes.DefaultType1 live = defaults.type1-fits factors sheet valid
+  node-fits nodes.DefaultType2 live = defaults.type2-fits factors sheet valid
+  node-fits nodes.Default live = defaults.default-fits factors sheet valid
+  node-fits (nodes.NetPart risks.Default) live = defaults.net-fits factors sheet valid
+  node-fits (nodes.NetPart risks.HealthCatastrophe) live = nonlife.health_net-fits factors known sheet valid
+  node-fits (nodes.Segment set number) live = nonlife.segment-fits factors known sheet valid set number live
+  node-fits (nodes.PremiumReserve set) live = nonlife.premium_reserve-fits factors known sheet valid set
+  node-fits (nodes.CatCharge key) live = nonlife.charge-fits factors known sheet valid key
+  node-fits (nodes.Lapse set) live = nonlife.lapse-fits factors known sheet valid set
+  node-fits nodes.Natural live = nonlife.natural-fits factors known sheet valid
+  node-fits nodes.ManMade live = nonlife.man_made-fits factors known sheet valid
+  node-fits nodes.NonlifeCatastrophe live = nonlife.catastrophe-fits factors known sheet valid
+  node-fits nodes.HealthCatastrophe live = nonlife.health_catastrophe-fits factors known sheet valid
+  node-fits (nodes.Nslt measure) live = nonlife.nslt-fits factors known sheet valid measure
+  node-fits (nodes.Health measure) live = loss.module-health-fits factors known sheet valid _ _ _ _ (others-within factors sheet valid) measure
+  node-fits (nodes.Nonlife measure) live = nonlife.nonlife-fits factors known sheet valid measure
+  node-fits nodes.Intangible live = loss.intangible-fits factors known sheet valid
+  node-fits (nodes.Bscr measure) live = loss.bscr-fits factors known sheet valid _ _ _ _ (others-within factors sheet valid) measure
+  node-fits (nodes.OpPart part) live = loss.operational-fits factors known sheet valid _ _ _ _ (others-within factors sheet valid) part
+  node-fits (nodes.Adjust adjustment) live = loss.adjustment-fits factors known sheet valid _ _ _ _ (others-within factors sheet valid) adjustment
+  node-fits nodes.Scr live = loss.requirement-fits factors known sheet valid _ _ _ _ (others-within factors sheet valid)
+  node-fits nodes.Diversification live = loss.diversification-fits factors known sheet valid _ _ _ _ (others-within factors sheet valid)

@@ -1,186 +1,30 @@
--- What is held of each security and fund, directly and through funds: no total is above all that is held, and the
--- securities and the closed funds have all of it.
-use Rattle.std.proofs.Common.{◌≡◌, ℕ, suc, ◌+◌, ◌^◌, ◌<◌, ◌≤◌, ℤ, pos, negsuc, Bool, true, false, List, [], ◌∷◌, map, length, filter, sum, sum_by, nat_eq, None, Some, if◌then◌else◌, Contains, refl, sym, ap, subst, ◌∙◌, arith}
-use Rattle.std.specs.List.{All, AllByRecursion, IsDistinct}
-use Rattle.std.specs.Option.{option_map_or}
-use Rattle.std.proofs.lemmas.Bool.{ne_eqb}
-use Rattle.std.proofs.lemmas.Int.{ints}
-use Rattle.std.proofs.lemmas.List.Elements.{All-from_recursion}
-use Rattle.std.proofs.lemmas.List.Sums.{sum_by-cons, sum_by-append}
-use Rattle.scr_funds.specs.Chains.{IsAcyclic}
-use Rattle.scr_funds.specs.LookThrough.{Shared, is_last, names_in, part_in}
-use Rattle.scr_funds.proofs.BoundedTotals.{total-within}
-use Rattle.scr_funds.proofs.Cycles.{acyclic_weaker}
-use Rattle.scr_funds.proofs.LookThroughLaws.{totals_whole, names_in-own, total_is}
-use Rattle.scr_funds.proofs.Members.{IsMember, IsMember-left, IsMember-right, IsMember-mapped, Contains-from_IsMember, at_member, each-from_members}
-use Rattle.scr_funds.proofs.SumsBy.{sum_by-same, sum_by-map, sum_by-filter}
-use Rattle.scr_names.specs.Names.{same_name}
-use Rattle.scr_names.specs.Tables.{row_of, has_row}
-use Rattle.scr_names.proofs.TableRows.{same_name-is, same_name-itself, All-map}
-use Rattle.scr_sheet.specs.Records.{natural}
-use Rattle.scr_sheet.specs.Forms.{IsName}
-use Rattle.scr_sheet.specs.Totals.{shared, shared_funds, total_of}
-use Rattle.scr_sheet.specs.BalanceSheet.{stake_name, position_name, stake_of, components_of, held_of, held_total}
+-- The securities and the closed funds, as the figures read them, have all that is held, and so no more than may be held.
+use Rattle.std.proofs.Common.{◌≡◌, ℕ, ℤ, ◌+◌, ◌≤◌, List, [], ◌∷◌, sum_by, if◌then◌else◌, refl, ap, ◌∙◌, arith}
+use Rattle.scr_funds.proofs.SumsBy.{sum_by-same}
+use Rattle.scr_profile.specs.declared.limits.TheConstants.{MAX_HELD}
+use Rattle.scr_sheet.specs.Totals.{is_closed as is_closed_fund, closed_total as closed_funds_total}
+use Rattle.scr_sheet.specs.BalanceSheet.{held_total}
 use Rattle.scr_sheet.specs.declared.sheet.BalanceSheet.{BalanceSheet}
-use Rattle.scr_sheet.specs.Validity.{Valid, IsHeld, IsStake, IsBetween}
-use Rattle.scr_profile.specs.declared.limits.TheConstants.{MAX_HELD, MIN_WEIGHT, MAX_WEIGHT}
-use Rattle.scr_sheet.specs.declared.rows.Position.{Position}
 use Rattle.scr_sheet.specs.declared.rows.Stake.{Stake}
-use Rattle.scr_sheet.proofs.Holds.{distinct-funds, no_fund}
+use Rattle.scr_sheet.specs.Validity.{Valid}
+use Rattle.scr_sheet.proofs.SeenThrough.{with_components, all-seen as sheet-seen}
 use Rattle.scr_nodes.specs.Rows.{is_closed}
 use Rattle.scr_plan.specs.Holdings.{security_cents, fund_cents, closed_total}
-use Rattle.scr_plan.proofs.HeldNames.{held_names, member-row, held-member, names-once, held-sum}
 
-pub each-map : {A B : Type 0} (P : B → Type 0) (f : A → B) (xs : List A) → AllByRecursion (λ x. P (f x)) xs → AllByRecursion P (map f xs)
-each-map P f [] all = tt
-each-map P f (x ∷ xs) all = (all.0, each-map P f xs all.1)
-
--- a weight of the sheet is above 0 and not too great
-pub weight-within : (z : ℤ) → IsBetween MIN_WEIGHT MAX_WEIGHT z → (1 ≤ natural z) × (natural z ≤ 10 ^ 9)
-weight-within (pos n) h = (omega (arith, ints, h.0), omega (arith, ints, h.1))
-weight-within (negsuc n) h = absurd (omega (arith, ints, h.0))
-
--- a component's name and its weight
-abbrev pub weighted : List ℕ × ℤ → List ℕ × ℕ
-weighted c = (c.0, natural c.1)
-
-abbrev component_name : List ℕ × ℤ → List ℕ
-component_name c = c.0
-
-components-names : (cs : List (List ℕ × ℤ)) → map (λ c. c.0) (map weighted cs) ≡ map component_name cs
-components-names [] = refl
-components-names (c ∷ cs) = ap (λ names. c.0 ∷ names) (components-names cs)
-
-shared-names : (stakes : List Stake) → map (λ (fund : Shared (List ℕ)). fund.0) (map shared stakes) ≡ map stake_name stakes
-shared-names [] = refl
-shared-names (s ∷ stakes) = ap (λ names. stake_name s ∷ names) (shared-names stakes)
-
--- what a name has as components among the funds is what the sheet says
-names-in-is : (stakes : List Stake) (x : List ℕ) → names_in same_name (map shared stakes) x ≡ components_of stakes x
-names-in-is [] x = refl
-names-in-is (s ∷ stakes) x = by (same_name x s.fund.name) (names-in-is stakes x)
-  where
-    by : (b : Bool) → names_in same_name (map shared stakes) x ≡ components_of stakes x
-        → (if b then map (λ c. c.0) (map weighted s.fund.components) else names_in same_name (map shared stakes) x)
-        ≡ option_map_or (λ (t : Stake). map component_name t.fund.components) (if b then Some s else row_of stake_name x stakes) []
-    by true later = components-names s.fund.components
-    by false later = later
-
--- the same fund with other components
-abbrev with_components : List (List ℕ × ℤ) → Stake → Stake
-with_components components s = record { fund = record { name = s.fund.name; components = components }; held = s.held }
-
--- a closed fund is one without components
-closed-is : (components : List (List ℕ × ℤ)) (s : Stake) → nat_eq (length (map (λ c. c.0) (shared (with_components components s)).1)) 0 ≡ is_closed (with_components components s)
-closed-is [] s = refl
-closed-is (c ∷ components) s =
-    ne_eqb (length (map (λ d. d.0) (shared (with_components (c ∷ components) s)).1)) 0
-    (λ e. let none : suc (length (map (λ d. d.0) (shared (with_components components s)).1)) ≡ 0 = e in omega (arith, none))
+-- the figures call closed what the sheet does
+closed-same : (components : List (List ℕ × ℤ)) (s : Stake) → is_closed (with_components components s) ≡ is_closed_fund (with_components components s)
+closed-same [] s = refl
+closed-same (c ∷ components) s = refl
 
 module _ (sheet : BalanceSheet) (valid : Valid sheet) where
-  acyclic-names : IsAcyclic (names_in same_name (shared_funds sheet))
-  acyclic-names =
-      acyclic_weaker (components_of sheet.funds) (names_in same_name (shared_funds sheet))
-      (λ a c h. subst (λ row. Contains row c) (names-in-is sheet.funds a) h) valid.acyclic
-
-  funds-once : IsDistinct same_name (map (λ (fund : Shared (List ℕ)). fund.0) (shared_funds sheet))
-  funds-once = subst (IsDistinct same_name) (sym (shared-names sheet.funds)) (distinct-funds sheet valid.named_once)
-
-  -- ---- what is held directly, and the parts in all funds
-  pub total-equation : (name : List ℕ) → total_of sheet name
-      ≡ held_of sheet name + sum_by (λ s. part_in same_name (total_of sheet (stake_name s)) (shared s).1 name) sheet.funds
-  total-equation name =
-      total_is same_name same_name-is same_name-itself (held_of sheet) (shared_funds sheet) funds-once acyclic-names name
-      ∙ ap (λ n. held_of sheet name + n) (sum_by-map (λ (fund : Shared (List ℕ)). part_in same_name (total_of sheet fund.0) fund.1 name) shared sheet.funds)
-
-  fund-listed : AllByRecursion (λ s. Contains (held_names sheet) (stake_name s)) sheet.funds
-  fund-listed = each-from_members (λ s. Contains (held_names sheet) (stake_name s)) sheet.funds
-      (λ s m. Contains-from_IsMember (held_names sheet) (stake_name s) (IsMember-left (map stake_name sheet.funds) (map position_name sheet.securities) (stake_name s) (IsMember-mapped stake_name sheet.funds s m)))
-
-  components-listed : (s : Stake) → AllByRecursion (λ c. IsHeld sheet c.0) s.fund.components → All (λ c. Contains (held_names sheet) c.0) (shared s).1
-  components-listed s held = All-from_recursion (λ (c : List ℕ × ℕ). Contains (held_names sheet) c.0) (shared s).1
-      (each-map (λ (c : List ℕ × ℕ). Contains (held_names sheet) c.0) weighted s.fund.components
-      (All-map (λ (c : List ℕ × ℤ). IsHeld sheet c.0) (λ (c : List ℕ × ℤ). Contains (held_names sheet) c.0) s.fund.components
-      (λ c h. Contains-from_IsMember (held_names sheet) c.0 (held-member sheet valid c.0 h)) held))
-
-  all-funds-listed : All (λ (fund : Shared (List ℕ)). Contains (held_names sheet) fund.0) (shared_funds sheet)
-  all-funds-listed =
-      All-from_recursion (λ (fund : Shared (List ℕ)). Contains (held_names sheet) fund.0) (shared_funds sheet)
-      (each-map (λ (fund : Shared (List ℕ)). Contains (held_names sheet) fund.0) shared sheet.funds fund-listed)
-
-  all-components-listed : All (λ (fund : Shared (List ℕ)). All (λ c. Contains (held_names sheet) c.0) fund.1) (shared_funds sheet)
-  all-components-listed =
-      All-from_recursion (λ (fund : Shared (List ℕ)). All (λ c. Contains (held_names sheet) c.0) fund.1) (shared_funds sheet)
-      (each-map (λ (fund : Shared (List ℕ)). All (λ c. Contains (held_names sheet) c.0) fund.1) shared sheet.funds
-      (All-map (λ s. AllByRecursion (λ c. IsHeld sheet c.0) s.fund.components) (λ s. All (λ c. Contains (held_names sheet) c.0) (shared s).1) sheet.funds components-listed valid.known.components))
-
-  -- ---- no total is above all that is held
-  total-small : (name : List ℕ) → IsMember name (held_names sheet) → total_of sheet name ≤ MAX_HELD
-  total-small name m =
-      let within = total-within same_name same_name-is same_name-itself (held_of sheet) (shared_funds sheet) funds-once acyclic-names (held_names sheet) (names-once sheet valid)
-      all-funds-listed all-components-listed name (Contains-from_IsMember (held_names sheet) name m) in
-      let all : held_total sheet ≤ MAX_HELD = valid.within.held in
-      omega (arith, within, all, held-sum sheet valid)
-
-  pub fund-small : (name : List ℕ) → has_row stake_name name sheet.funds ≡ true → total_of sheet name ≤ MAX_HELD
-  fund-small name has =
-      total-small name (IsMember-left (map stake_name sheet.funds) (map position_name sheet.securities) name (member-row stake_name name sheet.funds has))
-
-  pub security-small : (name : List ℕ) → has_row position_name name sheet.securities ≡ true → total_of sheet name ≤ MAX_HELD
-  security-small name has =
-      total-small name (IsMember-right (map stake_name sheet.funds) (map position_name sheet.securities) name (member-row position_name name sheet.securities has))
-
-  -- ---- no cent is lost
-  abbrev last : List ℕ → Bool
-  last name = is_last same_name (shared_funds sheet) name
-
-  -- a fund of the sheet ends a chain where it is closed, and each security does
-  fund-last : (s : Stake) → IsMember s sheet.funds → last (stake_name s) ≡ is_closed s
-  fund-last s m =
-      ap (λ (names : List (List ℕ)). nat_eq (length names) 0)
-      (names_in-own same_name same_name-is same_name-itself (shared_funds sheet) funds-once (shared s) (IsMember-mapped shared sheet.funds s m))
-      ∙ closed-is s.fund.components s
-
-  security-last : (p : Position) → IsMember p sheet.securities → last (position_name p) ≡ true
-  security-last p m =
-      ap (λ (names : List (List ℕ)). nat_eq (length names) 0)
-      (names-in-is sheet.funds (position_name p)
-      ∙ ap (λ found. option_map_or (λ (s : Stake). map (λ (c : List ℕ × ℤ). c.0) s.fund.components) found [])
-      (at_member (λ q. stake_of (position_name q) sheet.funds ≡ None) sheet.securities p (no_fund sheet valid.named_once) m))
-
-  weights-positive : (components : List (List ℕ × ℤ)) → AllByRecursion (λ c. IsName c.0 × IsBetween MIN_WEIGHT MAX_WEIGHT c.1) components
-      → 0 < length (map weighted components) → 0 < sum (map (λ (c : List ℕ × ℕ). c.1) (map weighted components))
-  weights-positive [] weights l = absurd (omega arith)
-  weights-positive (c ∷ components) weights l =
-      let first : 1 ≤ natural c.1 = (weight-within c.1 weights.0.1).0 in
-      omega (arith, first, sum_by-cons (λ n. n) (natural c.1) (map (λ (d : List ℕ × ℕ). d.1) (map weighted components)))
-
-  -- all that is held directly, in the totals of the names at which chains end
-  last-totals : sum_by (total_of sheet) (filter (is_last same_name (shared_funds sheet)) (held_names sheet)) ≡ sum_by (held_of sheet) (held_names sheet)
-  last-totals =
-      totals_whole same_name same_name-is same_name-itself (held_of sheet) (shared_funds sheet) funds-once acyclic-names
-      (held_names sheet) (names-once sheet valid) all-funds-listed all-components-listed
-      (All-from_recursion (λ (fund : Shared (List ℕ)). 0 < length fund.1 → 0 < sum (map (λ c. c.1) fund.1)) (shared_funds sheet)
-      (each-map (λ (fund : Shared (List ℕ)). 0 < length fund.1 → 0 < sum (map (λ c. c.1) fund.1)) shared sheet.funds
-      (All-map IsStake (λ s. 0 < length (shared s).1 → 0 < sum (map (λ c. c.1) (shared s).1)) sheet.funds (λ s formed. weights-positive s.fund.components formed.1) valid.funds)))
+  closed-total : closed_total sheet ≡ closed_funds_total sheet
+  closed-total =
+      sum_by-same (λ s. if is_closed s then fund_cents sheet s else 0) (λ s. if is_closed_fund s then fund_cents sheet s else 0) sheet.funds
+      (λ s m. ap (λ b. if b then fund_cents sheet s else 0) (closed-same s.fund.components s))
 
   -- what is held of the securities and the closed funds is all that is held
-  pub all-seen : sum_by (security_cents sheet) sheet.securities + closed_total sheet ≡ held_total sheet
-  all-seen =
-      let filtered = sum_by-filter (total_of sheet) last (held_names sheet) in
-      let two = sum_by-append at_last (map stake_name sheet.funds) (map position_name sheet.securities) in
-      let funds : sum_by at_last (map stake_name sheet.funds) ≡ closed_total sheet =
-      sum_by-map at_last stake_name sheet.funds
-      ∙ sum_by-same (λ s. at_last (stake_name s)) (λ s. if is_closed s then fund_cents sheet s else 0) sheet.funds
-      (λ s m. ap (λ b. if b then fund_cents sheet s else 0) (fund-last s m)) in
-      let securities : sum_by at_last (map position_name sheet.securities) ≡ sum_by (security_cents sheet) sheet.securities =
-      sum_by-map at_last position_name sheet.securities
-      ∙ sum_by-same (λ p. at_last (position_name p)) (security_cents sheet) sheet.securities
-      (λ p m. ap (λ b. if b then security_cents sheet p else 0) (security-last p m)) in
-      omega (arith, filtered, two, funds, securities, held-sum sheet valid, last-totals)
-    where
-      at_last : List ℕ → ℕ
-      at_last name = if last name then total_of sheet name else 0
+  all-seen : sum_by (security_cents sheet) sheet.securities + closed_total sheet ≡ held_total sheet
+  all-seen = ap (λ n. sum_by (security_cents sheet) sheet.securities + n) closed-total ∙ sheet-seen sheet valid
 
   pub seen-small : sum_by (security_cents sheet) sheet.securities + closed_total sheet ≤ MAX_HELD
   seen-small = let all : held_total sheet ≤ MAX_HELD = valid.within.held in omega (arith, all, all-seen)

@@ -21,7 +21,7 @@ use Rattle.scr_nodes.specs.Sources.{fund_total}
 use Rattle.scr_nodes.specs.declared.node.Node.{Node}
 use Rattle.scr_plan.specs.Fits.{IsShare}
 use Rattle.scr_plan.specs.Rules.{part_of, parts_held}
-use Rattle.scr_plan.proofs.SeenThrough.{weighted, weight-within}
+use Rattle.scr_sheet.proofs.SeenThrough.{weighted, weight-within}
 
 abbrev names_of : List (List ℕ × ℤ) → List (List ℕ)
 names_of cs = map (λ c. c.0) (map weighted cs)

@@ -13,6 +13,8 @@ use Rattle.scr_sheet.specs.BalanceSheet.{stake_name, position_name, stake_of, he
 use Rattle.scr_sheet.specs.declared.sheet.BalanceSheet.{BalanceSheet}
 use Rattle.scr_sheet.specs.Totals.{total_of}
 use Rattle.scr_sheet.specs.Validity.{Valid}
+use Rattle.scr_sheet.proofs.HeldNames.{held-of-security, held-of-fund}
+use Rattle.scr_sheet.proofs.SeenThrough.{each-map, total-equation, fund-small, security-small}
 use Rattle.scr_profile.specs.declared.limits.TheConstants.{MAX_HELD}
 use Rattle.scr_nodes.specs.declared.node.Node.{Node}
 use Rattle.scr_nodes.specs.declared.node.Node.TheVariants as nodes
@@ -24,8 +26,6 @@ use Rattle.scr_plan.specs.Fits.{FitsHeld}
 use Rattle.scr_plan.specs.Rules.{parts_held}
 use Rattle.scr_plan.specs.Worked.{node_rule, worked}
 use Rattle.scr_plan.proofs.Equations.{worked-only}
-use Rattle.scr_plan.proofs.HeldNames.{held-of-security, held-of-fund}
-use Rattle.scr_plan.proofs.SeenThrough.{each-map, total-equation, fund-small, security-small}
 use Rattle.scr_plan.proofs.ShareParts.{parts-held, shares-fit}
 
 module _ (factors : FactorValues) (sheet : BalanceSheet) (valid : Valid sheet) where
@@ -66,6 +66,7 @@ module _ (factors : FactorValues) (sheet : BalanceSheet) (valid : Valid sheet) w
   closed (nodes.EquityPart kind) h = absurd h
   closed nodes.EquityRoot h = absurd h
   closed (nodes.NetPart risk) h = absurd h
+  closed node h = absurd h
 
   -- the parts of all holders, where the figure of each is its total
   holders-parts : (name : List ℕ) (worth : Node → Ends) → AllByRecursion (λ s. worth (fund_total s) ≡ cents_of (stake_name s)) sheet.funds
@@ -81,9 +82,9 @@ module _ (factors : FactorValues) (sheet : BalanceSheet) (valid : Valid sheet) w
   equation : (node : Node) → IsTotal node → found node ≡ node_rule factors sheet node (map found (sources_of sheet node))
   unfolding IsTotal found
   equation (nodes.FundTotal name) h =
-      ap (λ n. exact_ends (pos n)) (sym (ap (λ n. n + parts_held (map (share_in name) (filter (holds name) sheet.funds)) (map found (holder_totals name sheet))) (sym (held-of-fund sheet valid name h)) ∙ holders-parts name found found-funds))
+      ap (λ n. exact_ends (pos n)) (sym (ap (λ n. n + parts_held (map (share_in name) (filter (holds name) sheet.funds)) (map found (holder_totals name sheet))) (sym (held-of-fund sheet valid.named_once name h)) ∙ holders-parts name found found-funds))
   equation (nodes.SecurityTotal name) h =
-      ap (λ n. exact_ends (pos n)) (sym (ap (λ n. n + parts_held (map (share_in name) (filter (holds name) sheet.funds)) (map found (holder_totals name sheet))) (sym (held-of-security sheet valid name h)) ∙ holders-parts name found found-funds))
+      ap (λ n. exact_ends (pos n)) (sym (ap (λ n. n + parts_held (map (share_in name) (filter (holds name) sheet.funds)) (map found (holder_totals name sheet))) (sym (held-of-security sheet valid.named_once name h)) ∙ holders-parts name found found-funds))
   equation (nodes.UnitLoss name direction) h = absurd h
   equation (nodes.SecurityRate name direction) h = absurd h
   equation (nodes.LiabilityRate name direction) h = absurd h
@@ -95,6 +96,7 @@ module _ (factors : FactorValues) (sheet : BalanceSheet) (valid : Valid sheet) w
   equation (nodes.EquityPart kind) h = absurd h
   equation nodes.EquityRoot h = absurd h
   equation (nodes.NetPart risk) h = absurd h
+  equation node h = absurd h
 
   pub fund-worked : (name : List ℕ) → has_row stake_name name sheet.funds ≡ true → figure (nodes.FundTotal name) ≡ cents_of name
   unfolding IsTotal found
@@ -129,8 +131,8 @@ module _ (factors : FactorValues) (sheet : BalanceSheet) (valid : Valid sheet) w
 
   pub fund-fits : (name : List ℕ) → has_row stake_name name sheet.funds ≡ true
       → FitsHeld (fund_held name sheet) (map (share_in name) (filter (holds name) sheet.funds)) (map figure (holder_totals name sheet))
-  fund-fits name has = fits name (fund_held name sheet) (held-of-fund sheet valid name has) (fund-small sheet valid name has)
+  fund-fits name has = fits name (fund_held name sheet) (held-of-fund sheet valid.named_once name has) (fund-small sheet valid name has)
 
   pub security-fits : (name : List ℕ) → has_row position_name name sheet.securities ≡ true
       → FitsHeld (security_held name sheet) (map (share_in name) (filter (holds name) sheet.funds)) (map figure (holder_totals name sheet))
-  security-fits name has = fits name (security_held name sheet) (held-of-security sheet valid name has) (security-small sheet valid name has)
+  security-fits name has = fits name (security_held name sheet) (held-of-security sheet valid.named_once name has) (security-small sheet valid name has)

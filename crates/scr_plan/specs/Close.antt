@@ -16,6 +16,9 @@ is_open mask = nat_le 2 (count_ones (amount_of mask))
 
 abbrev pub is_open_choice : FactorValues → BalanceSheet → Node → Bool
 is_open_choice factors sheet (nodes.Choice which) = is_open (worked factors sheet (nodes.Choice which))
+is_open_choice factors sheet (nodes.CurrencyChoice currency) =
+    is_open (worked factors sheet (nodes.CurrencyChoice currency))
+is_open_choice factors sheet nodes.DefaultBand = is_open (worked factors sheet nodes.DefaultBand)
 is_open_choice factors sheet node = false
 
 -- the node is a choice that is open, or one lies under it: among its sources, their sources, and so on

@@ -8,7 +8,7 @@ use Rattle.scr_curve.specs.declared.tilt.Tilt.TheVariants as tilts
 use Rattle.scr_nodes.specs.declared.node.Direction.{Direction}
 use Rattle.scr_nodes.specs.declared.node.Direction.TheVariants as directions
 use Rattle.scr_nodes.specs.Own.{Own}
-use Rattle.scr_nodes.specs.Own.Own.{Loss, Cost}
+use Rattle.scr_nodes.specs.Own.Own.{Loss, Cost, Worth, Excess}
 
 -- those after 1, 2, 3 and up to 100 years at the rates as they are, after a rise and after a fall, in 10^-18
 pub record CurrencyDiscounts : Type 0 where
@@ -40,4 +40,6 @@ no_discounts = record { base = []; up = []; down = [] }
 abbrev pub own_discounts : Own → CurrencyDiscounts
 own_discounts (Loss paid) = discounts_at paid.rates
 own_discounts (Cost paid) = discounts_at paid.rates
+own_discounts (Worth valued) = discounts_at valued.rates
+own_discounts (Excess valued stressed) = discounts_at valued.rates
 own_discounts other = no_discounts

@@ -1,14 +1,17 @@
--- The exact figure of each node, in the words of the Regulation (Delegated Regulation (EU) 2015/35, Articles 84, 164a, 164b,
--- 165 to 173 and 206(2)). Nothing is rounded, and no step of the reckoning is named.
-use Rattle.std.specs.Prelude.{ℕ, pos, Option, Some, None}
+-- The exact figure of each node, in the words of the Regulation (Delegated Regulation (EU) 2015/35, Articles 84, 87, 114 to
+-- 207, and Article 103 of Directive 2009/138/EC). Nothing is rounded, and no step of the reckoning is named.
+pub use Rattle.scr_plan.specs.Measured.{measured}
+use Rattle.std.specs.Prelude.{ℕ, pos, Option, Some, None, List, [], ◌∷◌}
 use Rattle.std.specs.Option.{option_map_or}
-use Rattle.scr_num.specs.Fraction.{Fraction, whole, zero_fraction}
+use Rattle.scr_num.specs.Fraction.{whole, zero_fraction}
 use Rattle.scr_num.specs.Figure.{Figure}
 use Rattle.scr_num.specs.Figure.Figure.{Frac, Sum}
+use Rattle.scr_num.specs.Sums.{parts_of}
 use Rattle.scr_agg.specs.Absorbed.{net_figure}
-use Rattle.scr_agg.specs.Choice.{Outcome}
+use Rattle.scr_agg.specs.Choice.{chosen}
 use Rattle.scr_rate.specs.InterestRisk.{counted}
 use Rattle.scr_market.specs.Equity.{type1_figure, type2_figure, infra_figure, infracorp_figure, equity_root_figure}
+use Rattle.scr_market.specs.Market.{market_figure}
 use Rattle.scr_factors.specs.Values.{FactorValues}
 use Rattle.scr_sheet.specs.declared.sheet.BalanceSheet.{BalanceSheet}
 use Rattle.scr_sheet.specs.Absorptions.{absorbed}
@@ -16,22 +19,27 @@ use Rattle.scr_sheet.specs.BalanceSheet.{position_of}
 use Rattle.scr_sheet.specs.Totals.{total_of}
 use Rattle.scr_sheet.specs.declared.rows.Class.TheVariants as classes
 use Rattle.scr_nodes.specs.declared.node.Alternatives.TheVariants as alternatives
+use Rattle.scr_nodes.specs.declared.node.Biometric.TheVariants as biometrics
+use Rattle.scr_nodes.specs.declared.node.Direction.TheVariants as directions
 use Rattle.scr_nodes.specs.declared.node.Equities.{Equities}
 use Rattle.scr_nodes.specs.declared.node.Equities.TheVariants as equities
 use Rattle.scr_nodes.specs.declared.node.Measure.{Measure}
 use Rattle.scr_nodes.specs.declared.node.Measure.TheVariants as measures
 use Rattle.scr_nodes.specs.declared.node.Node.{Node}
 use Rattle.scr_nodes.specs.declared.node.Node.TheVariants as nodes
+use Rattle.scr_nodes.specs.declared.node.Risk.{Risk}
 use Rattle.scr_nodes.specs.declared.node.Risk.TheVariants as risks
 use Rattle.scr_nodes.specs.OwnOf.{risk_key}
-use Rattle.scr_nodes.specs.Rows.{liability_of}
+use Rattle.scr_nodes.specs.Rows.{group_of, liability_of}
+use Rattle.scr_loss.specs.Bscr.{intangible_figure}
 use Rattle.scr_plan.specs.Holdings.{class_total}
+use Rattle.scr_plan.specs.LifeExact.{stress_loss, stress_outcome, lapse_outcome, life_exact, slt_exact}
+use Rattle.scr_plan.specs.DefaultExact.{group_loss, class_loss, class_square, default_variance, type1_exact, type2_due, default_exact}
+use Rattle.scr_plan.specs.LossExact.{OtherModules, bscr_exact, diversification_exact, operational_exact, adjustment_exact, scr_exact}
+use Rattle.scr_plan.specs.NonlifeExact.{catastrophe_charge, lapse_charge, segment_exact, premium_reserve_exact, natural_exact}
+use Rattle.scr_plan.specs.NonlifeExact.{man_made_exact, catastrophe_exact, health_catastrophe_exact, nonlife_exact, nslt_exact, health_exact}
 use Rattle.scr_plan.specs.InterestExact.{security_unit_loss, security_loss, liability_loss, currency_loss, scenario_of, decisive_outcome}
-
--- before or after absorption
-abbrev pub measured : Measure → Outcome → Fraction
-measured measures.Gross outcome = outcome.gross
-measured measures.Net outcome = outcome.net
+use Rattle.scr_plan.specs.MarketExact.{liability_worth, change_outcome, decisive_change, currency_exact, property_exact, bond_exact, spread_exact, group_cents, assets_cents, group_square_exact, concentration_exact}
 
 -- one kind of equities, by the symmetric adjustment as it stands (Articles 164a, 164b, 169, 171 and 172)
 abbrev pub equities_exact : BalanceSheet → Equities → Figure
@@ -49,6 +57,45 @@ equity_exact sheet =
     equity_root_figure (equities_exact sheet equities.Type1)
     (Sum (Sum (equities_exact sheet equities.Type2) (equities_exact sheet equities.Infrastructure))
     (equities_exact sheet equities.InfrastructureCorporate))
+
+-- ---- market risk
+
+-- a requirement before absorption, or what is left of it after
+abbrev pub part_exact : Measure → Figure → ℕ → Figure
+part_exact measures.Gross figure absorb = figure
+part_exact measures.Net figure absorb = net_figure figure absorb
+
+abbrev pub absorbed_part : BalanceSheet → Measure → Risk → Figure → Figure
+absorbed_part sheet measure risk figure = part_exact measure figure (absorbed (risk_key risk) sheet.numbers)
+
+-- the place of the interest rate scenario that decides: 0 of the rise, 1 of the fall
+abbrev pub decisive_place : BalanceSheet → ℕ
+decisive_place sheet = chosen (scenario_of sheet directions.Up ∷ scenario_of sheet directions.Down ∷ [])
+
+-- interest rate, equity, property, spread, concentration and currency risk, before or after absorption
+abbrev pub market_parts_exact : FactorValues → BalanceSheet → Measure → List Figure
+market_parts_exact factors sheet measure =
+    Frac (measured measure (decisive_outcome sheet)) ∷ absorbed_part sheet measure risks.Equity (equity_exact sheet)
+    ∷ absorbed_part sheet measure risks.Property (property_exact sheet)
+    ∷ absorbed_part sheet measure risks.Spread (spread_exact factors sheet)
+    ∷ absorbed_part sheet measure risks.Concentration (concentration_exact sheet)
+    ∷ Frac (currency_exact measure sheet) ∷ []
+
+-- their root, where the scenario that decides sets the correlation of interest rate risk (Article 164)
+unfoldable pub market_exact : FactorValues → BalanceSheet → Measure → Figure
+market_exact factors sheet measure =
+    market_figure (decisive_place sheet) (parts_of (market_parts_exact factors sheet measure))
+
+-- ---- all modules
+
+-- what the Basic Solvency Capital Requirement and the health module take of the modules that stand in files of their own
+abbrev pub other_modules : FactorValues → BalanceSheet → OtherModules
+other_modules factors sheet = record {
+  market = market_exact factors sheet;
+  default_risk = λ (measure : Measure). absorbed_part sheet measure risks.Default (default_exact sheet);
+  life = life_exact sheet;
+  slt = slt_exact sheet;
+}
 
 -- In cents, and for the payments of a security per 1,000,000 of its value. Which alternative decides is no figure. What
 -- a name that no row has would lose is nothing.
@@ -69,6 +116,67 @@ exact factors sheet (nodes.ClassSum class) = Some (Frac (whole (pos (class_total
 exact factors sheet (nodes.EquityPart kind) = Some (equities_exact sheet kind)
 exact factors sheet nodes.EquityRoot = Some (equity_exact sheet)
 exact factors sheet (nodes.NetPart risks.Equity) = Some (net_figure (equity_exact sheet) (absorbed (risk_key risks.Equity) sheet.numbers))
+exact factors sheet (nodes.NetPart risks.Property) =
+    Some (net_figure (property_exact sheet) (absorbed (risk_key risks.Property) sheet.numbers))
+exact factors sheet (nodes.NetPart risks.Spread) =
+    Some (net_figure (spread_exact factors sheet) (absorbed (risk_key risks.Spread) sheet.numbers))
+exact factors sheet (nodes.NetPart risks.Concentration) =
+    Some (net_figure (concentration_exact sheet) (absorbed (risk_key risks.Concentration) sheet.numbers))
+exact factors sheet (nodes.LiabilityPresent name) =
+    Some (Frac (option_map_or (liability_worth sheet) (liability_of name sheet.liabilities) zero_fraction))
+exact factors sheet (nodes.CurrencyScenario currency direction measure) =
+    Some (Frac (measured measure (change_outcome sheet currency direction)))
+exact factors sheet (nodes.CurrencyChoice currency) = None
+exact factors sheet (nodes.CurrencyPicked currency measure) =
+    Some (Frac (measured measure (decisive_change sheet currency)))
+exact factors sheet (nodes.Currency measure) = Some (Frac (currency_exact measure sheet))
+exact factors sheet nodes.Property = Some (property_exact sheet)
+exact factors sheet (nodes.SecuritySpread name) =
+    Some (Frac (option_map_or (bond_exact factors sheet) (position_of name sheet.securities) zero_fraction))
+exact factors sheet nodes.Spread = Some (spread_exact factors sheet)
+exact factors sheet (nodes.GroupTotal name) = Some (Frac (whole (pos (group_cents sheet name))))
+exact factors sheet nodes.Assets = Some (Frac (whole (pos (assets_cents sheet))))
+exact factors sheet (nodes.ConcentrationSquare name) =
+    Some (Frac (option_map_or (group_square_exact sheet) (group_of name sheet.groups) zero_fraction))
+exact factors sheet nodes.Concentration = Some (concentration_exact sheet)
+exact factors sheet (nodes.Market measure) = Some (market_exact factors sheet measure)
+exact factors sheet (nodes.LiabilityLoss name projection) =
+    Some (Frac (option_map_or (stress_loss sheet projection) (liability_of name sheet.liabilities) zero_fraction))
+exact factors sheet (nodes.BioScenario biometric projection measure) =
+    Some (Frac (measured measure (stress_outcome sheet biometric projection)))
+exact factors sheet (nodes.Picked alternatives.LifeLapse measure) = Some (Frac (measured measure (lapse_outcome sheet biometrics.Life)))
+exact factors sheet (nodes.Picked alternatives.HealthLapse measure) =
+    Some (Frac (measured measure (lapse_outcome sheet biometrics.Health)))
+exact factors sheet (nodes.Life measure) = Some (life_exact sheet measure)
+exact factors sheet (nodes.Slt measure) = Some (slt_exact sheet measure)
+exact factors sheet (nodes.GroupLoss name) = Some (Frac (group_loss sheet name))
+exact factors sheet (nodes.ClassLoss class) = Some (Frac (class_loss sheet class))
+exact factors sheet (nodes.ClassSquare class) = Some (Frac (class_square sheet class))
+exact factors sheet nodes.Variance = Some (Frac (default_variance sheet))
+exact factors sheet nodes.DefaultBand = None
+exact factors sheet nodes.DefaultType1 = Some (type1_exact sheet)
+exact factors sheet nodes.DefaultType2 = Some (type2_due sheet)
+exact factors sheet nodes.Default = Some (default_exact sheet)
+exact factors sheet (nodes.NetPart risks.Default) = Some (net_figure (default_exact sheet) (absorbed (risk_key risks.Default) sheet.numbers))
+exact factors sheet (nodes.Segment set number) = Some (segment_exact factors sheet set number)
+exact factors sheet (nodes.PremiumReserve set) = Some (premium_reserve_exact factors sheet set)
+exact factors sheet (nodes.CatCharge key) = Some (catastrophe_charge sheet key)
+exact factors sheet (nodes.Lapse set) = Some (lapse_charge sheet set)
+exact factors sheet nodes.Natural = Some (natural_exact sheet)
+exact factors sheet nodes.ManMade = Some (man_made_exact sheet)
+exact factors sheet nodes.NonlifeCatastrophe = Some (catastrophe_exact sheet)
+exact factors sheet nodes.HealthCatastrophe = Some (health_catastrophe_exact sheet measures.Gross)
+exact factors sheet (nodes.NetPart risks.HealthCatastrophe) = Some (health_catastrophe_exact sheet measures.Net)
+exact factors sheet (nodes.Nslt measure) = Some (nslt_exact factors sheet)
+exact factors sheet (nodes.Health measure) =
+    Some (health_exact ((other_modules factors sheet).slt measure) factors sheet measure)
+exact factors sheet (nodes.Nonlife measure) = Some (nonlife_exact factors sheet)
+exact factors sheet nodes.Intangible = Some (intangible_figure sheet.numbers.intangible)
+exact factors sheet (nodes.Bscr measure) = Some (bscr_exact (other_modules factors sheet) factors sheet measure)
+exact factors sheet (nodes.OpPart part) = Some (operational_exact (other_modules factors sheet) factors sheet part)
+exact factors sheet (nodes.Adjust adjustment) = Some (adjustment_exact (other_modules factors sheet) factors sheet adjustment)
+exact factors sheet nodes.Scr = Some (scr_exact (other_modules factors sheet) factors sheet)
+exact factors sheet nodes.Diversification = Some (diversification_exact (other_modules factors sheet) factors sheet)
 
 -- how many of its units make one of the figure's: 1 where it is in whole cents, 1000 where it is in grains
 abbrev pub unit_of : Node → ℕ
@@ -79,4 +187,12 @@ unit_of (nodes.SecurityRate name direction) = 1_000_000_000_000_000_000
 unit_of (nodes.LiabilityRate name direction) = 1_000_000_000_000_000_000
 unit_of (nodes.CurrencyLoss currency direction) = 1_000_000_000_000_000_000
 unit_of (nodes.ClassSum class) = 1
+unit_of (nodes.LiabilityPresent name) = 1_000_000_000_000_000_000
+unit_of (nodes.SecuritySpread name) = 1_000_000_000
+unit_of (nodes.GroupTotal name) = 1
+unit_of nodes.Assets = 1
+unit_of (nodes.ConcentrationSquare name) = 10_000_000_000
+unit_of (nodes.LiabilityLoss name projection) = 1_000_000_000_000_000_000
+unit_of (nodes.ClassSquare class) = 1_000_000
+unit_of nodes.Variance = 1_000_000
 unit_of node = 1000

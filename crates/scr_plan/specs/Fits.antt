@@ -9,8 +9,21 @@ use Rattle.scr_flow.specs.Due.{paid_total, AreNear}
 use Rattle.scr_num.specs.Sizes.{IsWithin, AreTogether}
 use Rattle.scr_nodes.specs.Own.{Own, Paid, Share}
 use Rattle.scr_nodes.specs.Own.Own.{Held, Loss, Cost, Scaled, Lost, Gross, Net, Choice, Picked, Added, Fall, EquityRoot}
+use Rattle.scr_nodes.specs.Own.Own.{Worth, Foreign, Multiple, Stressed, Spread, Square, SquareRoot, Market}
+use Rattle.scr_nodes.specs.Own.Own.{Excess, Losses, Squares, Variance, Band, Banded, Due, Correlated}
+use Rattle.scr_nodes.specs.Own.Own.{Charged, CorrelatedWith, Segment, PremiumReserve, Catastrophes, Bscr, Diversified}
+use Rattle.scr_nodes.specs.Own.Own.{Premiums, Provisions, Cap, OperationalCharge, Absorbing, Taxed, Requirement}
+use Rattle.scr_nodes.specs.Own.Root.{DefaultRoot, LifeRoot, SltRoot, HealthRoot, NaturalRoot, ManMadeRoot, HealthCatastropheRoot}
+use Rattle.scr_nodes.specs.Own.ChargedRoot.{NsltRoot, NonlifeRoot}
 use Rattle.scr_market.specs.declared.equity_parts.TheConstants.{MAX_EQUITY_PART}
+use Rattle.scr_loss.specs.Operational.{IsWithinLimits}
 use Rattle.scr_profile.specs.declared.limits.TheConstants.{MAX_HELD, MAX_AMOUNT}
+use Rattle.scr_plan.specs.MarketFits.{FitsWorth, FitsForeign, FitsMultiple, FitsStressed, FitsSquare, FitsSquareRoot, FitsMarket}
+use Rattle.scr_plan.specs.LifeFits.{FitsExcess, FitsRoot}
+use Rattle.scr_plan.specs.DefaultFits.{FitsLosses, FitsSquares, FitsVariance, FitsBand, FitsDue}
+use Rattle.scr_plan.specs.LossFits.{AreModules, FitsBscr, IsRequirement, FitsCharge, FitsAbsorbing, FitsTaxed, FitsRequirement}
+use Rattle.scr_plan.specs.NonlifeFits.{FitsCharged, FitsSegment, FitsPremiumReserve, FitsNatural, FitsManMade, FitsCatastrophes}
+use Rattle.scr_plan.specs.NonlifeFits.{FitsHealthCatastrophe, FitsNonlife, FitsNslt, FitsHealth}
 use Rattle.scr_plan.specs.Rules.{figure_at, parts_held}
 
 -- a share by weights, of which there are some
@@ -71,3 +84,40 @@ Fits (Picked measure) figures = FitsChoice figures
 Fits Added figures = AreTogether (10 ^ 33) figures
 Fits (Fall kind sym) figures = FitsFall sym figures
 Fits EquityRoot figures = FitsEquityRoot figures
+Fits (Worth valued) figures = FitsWorth valued
+Fits (Foreign direction securities) figures = FitsForeign securities figures
+Fits (Multiple times) figures = FitsMultiple figures
+Fits (Stressed factors step duration) figures = FitsStressed step duration figures
+Fits Spread figures = AreTogether (10 ^ 33) figures
+Fits (Square kind step) figures = FitsSquare step figures
+Fits SquareRoot figures = FitsSquareRoot figures
+Fits Market figures = FitsMarket figures
+Fits (Excess valued stressed) figures = FitsExcess valued stressed
+Fits (Losses banks reinsurers) figures = FitsLosses banks reinsurers
+Fits Squares figures = FitsSquares figures
+Fits Variance figures = FitsVariance figures
+Fits Band figures = FitsBand figures
+Fits Banded figures = FitsBand figures
+Fits (Due overdue other) figures = FitsDue overdue other
+Fits (Correlated DefaultRoot) figures = FitsRoot 2 figures
+Fits (Correlated LifeRoot) figures = FitsRoot 7 figures
+Fits (Correlated SltRoot) figures = FitsRoot 6 figures
+Fits (Charged times cents) figures = FitsCharged times cents
+Fits (Segment volumes premium reserve) figures = FitsSegment volumes premium reserve
+Fits (PremiumReserve correlations) figures = FitsPremiumReserve correlations figures
+Fits (Correlated NaturalRoot) figures = FitsNatural figures
+Fits (Correlated ManMadeRoot) figures = FitsManMade figures
+Fits Catastrophes figures = FitsCatastrophes figures
+Fits (Correlated HealthCatastropheRoot) figures = FitsHealthCatastrophe figures
+Fits (CorrelatedWith NonlifeRoot lapse) figures = FitsNonlife lapse figures
+Fits (CorrelatedWith NsltRoot lapse) figures = FitsNslt lapse figures
+Fits (Correlated HealthRoot) figures = FitsHealth figures
+Fits (Bscr intangible) figures = FitsBscr intangible figures
+Fits Diversified figures = AreModules figures
+Fits (Premiums operation) figures = IsWithinLimits operation
+Fits (Provisions operation) figures = IsWithinLimits operation
+Fits Cap figures = IsRequirement (figure_at figures 0)
+Fits (OperationalCharge expenses) figures = FitsCharge expenses figures
+Fits (Absorbing benefits) figures = FitsAbsorbing benefits figures
+Fits (Taxed rate cap) figures = FitsTaxed rate cap figures
+Fits Requirement figures = FitsRequirement figures

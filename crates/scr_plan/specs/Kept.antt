@@ -61,4 +61,8 @@ discounts_in sheet rows (nodes.UnitLoss name direction) =
     option_map_or (λ (p : Position). row_in p.security.currency sheet.curves rows) (position_of name sheet.securities) no_discounts
 discounts_in sheet rows (nodes.LiabilityRate name direction) =
     option_map_or (λ (l : Liability). row_in l.currency sheet.curves rows) (liability_of name sheet.liabilities) no_discounts
+discounts_in sheet rows (nodes.LiabilityPresent name) =
+    option_map_or (λ (l : Liability). row_in l.currency sheet.curves rows) (liability_of name sheet.liabilities) no_discounts
+discounts_in sheet rows (nodes.LiabilityLoss name projection) =
+    option_map_or (λ (l : Liability). row_in l.currency sheet.curves rows) (liability_of name sheet.liabilities) no_discounts
 discounts_in sheet rows node = no_discounts

@@ -1,9 +1,9 @@
 -- The rule of each figure: how it is reckoned from what it reads of the balance sheet, from the discounts of its payments
--- and from the figures of its sources, in the order of the sources (this project's own). Figures are pairs of ends in the
--- unit of their node; where a source is missing, 0 stands for its figure.
-use Rattle.std.specs.Prelude.{ℕ, ◌+◌, ◌-◌, ◌*◌, ◌/◌, ℤ, pos, List, [], ◌∷◌, length, map, slice_index_or}
+-- and from the figures of its sources, in the order of the sources (this project's own).
+pub use Rattle.scr_plan.specs.Figures.{figure_at, amount_of, amount_at}
+use Rattle.std.specs.Prelude.{ℕ, ◌+◌, ◌-◌, ◌*◌, ◌/◌, ℤ, pos, List, [], ◌∷◌, drop, length, map, take}
 use Rattle.std.specs.List.{range_with_len}
-use Rattle.scr_num.specs.Rounding.{Ends, exact_ends, add_ends, sub_ends, max_ends, or_zero}
+use Rattle.scr_num.specs.Rounding.{Ends, exact_ends, add_ends, sub_ends, max_ends}
 use Rattle.scr_curve.specs.Parts.{rates_in_parts}
 use Rattle.scr_curve.specs.declared.tilt.Tilt.TheVariants as tilts
 use Rattle.scr_flow.specs.Due.{dues}
@@ -12,25 +12,34 @@ use Rattle.scr_agg.specs.Absorbed.{net_ends}
 use Rattle.scr_agg.specs.Unbeaten.{Alternative, mask_of, chosen_gross, chosen_net}
 use Rattle.scr_num.specs.Sums.{sum_ends}
 use Rattle.scr_rate.specs.InterestEnds.{gross_ends}
+use Rattle.scr_bio.specs.BiometricEnds.{life_ends, slt_ends}
+use Rattle.scr_default.specs.DefaultEnds.{type2_ends as type2_exposure_ends, default_ends}
 use Rattle.scr_market.specs.EquityEnds.{type1_ends, type2_ends, infra_ends, infracorp_ends, equity_root_ends}
+use Rattle.scr_market.specs.MarketEnds.{market_ends}
+use Rattle.scr_market.specs.SpreadEnds.{spread_ends}
+use Rattle.scr_conc.specs.ConcentrationEnds.{concentration_ends}
+use Rattle.scr_loss.specs.OperationalEnds.{prem_ends, prov_ends}
+use Rattle.scr_nonlife.specs.SegmentEnds.{segment_ends}
 use Rattle.scr_nodes.specs.declared.node.Equities.{Equities}
 use Rattle.scr_nodes.specs.declared.node.Equities.TheVariants as equities
 use Rattle.scr_nodes.specs.declared.node.Measure.{Measure}
 use Rattle.scr_nodes.specs.declared.node.Measure.TheVariants as measures
 use Rattle.scr_nodes.specs.Own.{Own, Paid, Share}
 use Rattle.scr_nodes.specs.Own.Own.{Held, Loss, Cost, Scaled, Lost, Gross, Net, Choice, Picked, Added, Fall, EquityRoot}
+use Rattle.scr_nodes.specs.Own.Own.{Worth, Foreign, Multiple, Stressed, Spread, Square, SquareRoot, Market}
+use Rattle.scr_nodes.specs.Own.Own.{Excess, Losses, Squares, Variance, Band, Banded, Due, Correlated}
+use Rattle.scr_nodes.specs.Own.Own.{Charged, CorrelatedWith, Segment, PremiumReserve, Catastrophes, Bscr, Diversified}
+use Rattle.scr_nodes.specs.Own.Own.{Premiums, Provisions, Cap, OperationalCharge, Absorbing, Taxed, Requirement}
+use Rattle.scr_nodes.specs.Own.Root.{DefaultRoot, LifeRoot, SltRoot, HealthRoot, NaturalRoot, ManMadeRoot, HealthCatastropheRoot}
+use Rattle.scr_nodes.specs.Own.ChargedRoot.{NsltRoot, NonlifeRoot}
 use Rattle.scr_plan.specs.Discounts.{CurrencyDiscounts, tilt_of, changed}
-
--- the figure of the source at a place
-abbrev pub figure_at : List Ends → ℕ → Ends
-figure_at figures k = slice_index_or figures k (exact_ends (pos 0))
-
--- a figure that is a whole number, as that number
-abbrev pub amount_of : Ends → ℕ
-amount_of e = or_zero e.low
-
-abbrev pub amount_at : List Ends → ℕ → ℕ
-amount_at figures k = amount_of (figure_at figures k)
+use Rattle.scr_plan.specs.MarketRules.{worth_ends, foreign_ends, multiple_ends, stressed_ends, group_square_ends}
+use Rattle.scr_plan.specs.Figures.{figures_from}
+use Rattle.scr_plan.specs.LifeRules.{excess_ends}
+use Rattle.scr_plan.specs.DefaultRules.{losses_grains, squares_total, variance_from, bands_from, banded_from}
+use Rattle.scr_plan.specs.LossRules.{bscr_from, diversification_from, cap_from, charge_from, absorbing_from, taxed_from, requirement_from}
+use Rattle.scr_plan.specs.NonlifeRules.{charged_ends, premium_reserve_from, natural_from, man_made_from, catastrophes_from}
+use Rattle.scr_plan.specs.NonlifeRules.{health_catastrophe_from, nonlife_from, nslt_from, health_from}
 
 -- ---- what is held (Article 84 of Delegated Regulation (EU) 2015/35; the rounding is this project's own)
 
@@ -79,6 +88,21 @@ abbrev pub equities_ends : List Ends → Ends
 equities_ends figures =
     equity_root_ends (figure_at figures 0) (add_ends (add_ends (figure_at figures 1) (figure_at figures 2)) (figure_at figures 3))
 
+-- ---- market risk (Article 164)
+
+-- what the first so many figures come to, and the others
+abbrev pub first_sum : ℕ → List Ends → Ends
+first_sum count figures = sum_ends (take count figures)
+
+abbrev pub other_sum : ℕ → List Ends → Ends
+other_sum count figures = sum_ends (drop count figures)
+
+-- interest rate, equity, property, spread, concentration and currency risk, before the mask of the interest scenario
+abbrev pub six_parts : List Ends → List Ends
+six_parts figures =
+    figure_at figures 0 ∷ figure_at figures 1 ∷ figure_at figures 2 ∷ figure_at figures 3 ∷ figure_at figures 4
+    ∷ figure_at figures 5 ∷ []
+
 -- ---- the rules
 
 abbrev pub rule : Own → CurrencyDiscounts → List Ends → Ends
@@ -94,3 +118,41 @@ rule (Picked measure) discounts figures = chosen_from measure (alternatives_from
 rule Added discounts figures = sum_ends figures
 rule (Fall kind sym) discounts figures = fall_of kind sym figures
 rule EquityRoot discounts figures = equities_ends figures
+rule (Worth valued) discounts figures = worth_ends valued discounts
+rule (Foreign direction securities) discounts figures =
+    foreign_ends direction (amount_of (first_sum securities figures)) (other_sum securities figures)
+rule (Multiple times) discounts figures = multiple_ends times (amount_at figures 0)
+rule (Stressed factors step duration) discounts figures = stressed_ends factors step duration (amount_at figures 0)
+rule Spread discounts figures = spread_ends (sum_ends figures)
+rule (Square kind step) discounts figures = group_square_ends kind step (amount_at figures 0) (amount_at figures 1)
+rule SquareRoot discounts figures = concentration_ends (amount_of (sum_ends figures))
+rule Market discounts figures = market_ends (six_parts figures) (amount_at figures 6)
+rule (Excess valued stressed) discounts figures = excess_ends valued stressed discounts
+rule (Losses banks reinsurers) discounts figures = exact_ends (pos (losses_grains banks reinsurers))
+rule Squares discounts figures = exact_ends (pos (squares_total figures))
+rule Variance discounts figures = variance_from figures
+rule Band discounts figures = exact_ends (pos (bands_from figures))
+rule Banded discounts figures = banded_from figures
+rule (Due overdue other) discounts figures = type2_exposure_ends overdue other
+rule (Correlated DefaultRoot) discounts figures = default_ends (figure_at figures 0) (figure_at figures 1)
+rule (Correlated LifeRoot) discounts figures = life_ends (figures_from figures 0 7)
+rule (Correlated SltRoot) discounts figures = slt_ends (figures_from figures 0 6)
+rule (Charged times cents) discounts figures = charged_ends times cents
+rule (Segment volumes premium reserve) discounts figures = segment_ends volumes premium reserve
+rule (PremiumReserve correlations) discounts figures = premium_reserve_from correlations figures
+rule (Correlated NaturalRoot) discounts figures = natural_from figures
+rule (Correlated ManMadeRoot) discounts figures = man_made_from figures
+rule Catastrophes discounts figures = catastrophes_from figures
+rule (Correlated HealthCatastropheRoot) discounts figures = health_catastrophe_from figures
+rule (CorrelatedWith NonlifeRoot lapse) discounts figures = nonlife_from lapse figures
+rule (CorrelatedWith NsltRoot lapse) discounts figures = nslt_from lapse figures
+rule (Correlated HealthRoot) discounts figures = health_from figures
+rule (Bscr intangible) discounts figures = bscr_from intangible figures
+rule Diversified discounts figures = diversification_from figures
+rule (Premiums operation) discounts figures = prem_ends operation
+rule (Provisions operation) discounts figures = prov_ends operation
+rule Cap discounts figures = cap_from figures
+rule (OperationalCharge expenses) discounts figures = charge_from expenses figures
+rule (Absorbing benefits) discounts figures = absorbing_from benefits figures
+rule (Taxed rate cap) discounts figures = taxed_from rate cap figures
+rule Requirement discounts figures = requirement_from figures

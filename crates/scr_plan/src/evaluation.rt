@@ -1,7 +1,7 @@
 //! The figure of a node from those of its sources.
 ghost use Rattle.std.specs.Prelude.{◌≡◌, ◌+◌, map, slice_get};
 ghost use Rattle.scr_num.specs.Rounding.{ends};
-ghost use Rattle.scr_nodes.specs.OwnOf.{own_of, interest_key as key_of_interest, risk_key as key_of_risk};
+ghost use Rattle.scr_nodes.specs.OwnOf.{own_of, currency_absorbed, interest_key as key_of_interest, risk_key as key_of_risk};
 ghost use Rattle.scr_nodes.specs.Sources.{sources_of};
 ghost use Rattle.scr_sheet.specs.Validity.{Valid};
 ghost use Rattle.scr_plan.specs.Fits.{Fits};
@@ -10,12 +10,24 @@ ghost use Rattle.scr_plan.specs.Rules.{rule};
 ghost use Rattle.scr_plan.specs.Worked.{worked};
 
 use crate::Curves;
+use crate::default_rules::{banded, bands, default, due, losses, squares, variance};
 use crate::held::held;
+use crate::life_rules::{excess, life, slt, stress_absorbed};
+use crate::loss_rules::{
+    absorbing, bscr, cap, charge, diversification, premiums, provisions, requirement, taxed,
+};
+use crate::market_rules::{
+    foreign, market, property, spread, square, squares_root, stressed, worth,
+};
+use crate::nonlife_rules::{
+    catastrophe_cents, catastrophes, charged, health, health_catastrophe, lapse_cents, man_made,
+    natural, nonlife, nslt, premium_reserve, segment,
+};
 use crate::paid::{cost, unit};
 use crate::rules::{choice, equities, fall, lost, net, picked, scaled};
-use scr_book::{AbsorbKey, BalanceSheet, Book};
-use scr_factors::Factors;
-use scr_nodes::{Direction, Measure, Node, Risk};
+use scr_book::{AbsorbKey, BalanceSheet, Book, Name};
+use scr_factors::{Factors, Set};
+use scr_nodes::{Adjustment, Direction, Measure, Node, Operational, Risk};
 use scr_num::Span;
 use scr_rate::{gross, total};
 use scr_steps::Steps;
@@ -83,6 +95,75 @@ fn figure(
         Node::EquityPart(kind) => fall(spans, *kind, sheet.numbers.sym),
         Node::EquityRoot => equities(spans),
         Node::NetPart(risk) => net(spans, sheet.numbers.absorbed(risk_key(*risk))),
+        Node::LiabilityPresent(name) => worth(sheet, curves, name),
+        Node::CurrencyScenario(currency, direction, measure) => match measure {
+            Measure::Gross => foreign(sheet, currency, *direction, spans),
+            Measure::Net => net(spans, change_absorbed(sheet, currency, *direction)),
+        },
+        Node::CurrencyChoice(_) => choice(spans),
+        Node::CurrencyPicked(_, measure) => picked(spans, *measure),
+        Node::Currency(_) => total(spans),
+        Node::Property => property(spans),
+        Node::SecuritySpread(name) => stressed(factors, sheet, name, spans),
+        Node::Spread => spread(spans),
+        Node::GroupTotal(_) => total(spans),
+        Node::Assets => total(spans),
+        Node::ConcentrationSquare(name) => square(factors, sheet, name, spans),
+        Node::Concentration => squares_root(spans),
+        Node::Market(_) => market(spans),
+        Node::LiabilityLoss(name, projection) => excess(sheet, curves, name, *projection),
+        Node::BioScenario(biometric, projection, measure) => match measure {
+            Measure::Gross => gross(spans),
+            Measure::Net => net(spans, stress_absorbed(sheet, *biometric, *projection)),
+        },
+        Node::Life(_) => life(spans),
+        Node::Slt(_) => slt(spans),
+        Node::GroupLoss(name) => losses(sheet, name),
+        Node::ClassLoss(_) => total(spans),
+        Node::ClassSquare(_) => squares(spans),
+        Node::Variance => variance(spans),
+        Node::DefaultBand => bands(spans),
+        Node::DefaultType1 => banded(spans),
+        Node::DefaultType2 => due(sheet),
+        Node::Default => default(spans),
+        Node::Segment(set, number) => segment(factors, &sheet.numbers, *set, *number),
+        Node::PremiumReserve(set) => premium_reserve(factors, spans, *set),
+        Node::CatCharge(key) => charged(1000, catastrophe_cents(&sheet.numbers, *key)),
+        Node::Lapse(set) => charged(1000, lapse_cents(&sheet.numbers, *set)),
+        Node::Natural => natural(spans),
+        Node::ManMade => man_made(spans),
+        Node::NonlifeCatastrophe => catastrophes(spans),
+        Node::HealthCatastrophe => health_catastrophe(spans),
+        Node::Nslt(_) => nslt(spans, lapse_cents(&sheet.numbers, Set::Nslt)),
+        Node::Health(_) => health(spans),
+        Node::Nonlife(_) => nonlife(spans, lapse_cents(&sheet.numbers, Set::Nl)),
+        Node::Intangible => charged(800, sheet.numbers.intangible),
+        Node::Bscr(_) => bscr(spans, sheet.numbers.intangible),
+        Node::OpPart(part) => match part {
+            Operational::Premiums => premiums(&sheet.numbers),
+            Operational::Provisions => provisions(&sheet.numbers),
+            Operational::Cap => cap(spans),
+            Operational::Charge => charge(spans, sheet.numbers.earned[6]),
+        },
+        Node::Adjust(adjustment) => match adjustment {
+            Adjustment::TechnicalProvisions => absorbing(spans, sheet.numbers.fdb),
+            Adjustment::DeferredTaxes => taxed(spans, sheet.numbers.tax, sheet.numbers.cap),
+        },
+        Node::Scr => requirement(spans),
+        Node::Diversification => diversification(spans),
+    }
+}
+
+/// What is absorbed of a change of a currency, which stands with its curve.
+fn change_absorbed(sheet: &BalanceSheet, currency: &Name, direction: Direction) -> u64
+    ensures { result ≡ currency_absorbed sheet.now currency.now direction }
+{
+    match sheet.curves.get(currency) {
+        Some(curve) => match direction {
+            Direction::Up => curve.absorb_up,
+            Direction::Down => curve.absorb_down,
+        },
+        None => 0,
     }
 }
 
@@ -100,5 +181,10 @@ fn risk_key(risk: Risk) -> AbsorbKey
 {
     match risk {
         Risk::Equity => AbsorbKey::Equity,
+        Risk::Property => AbsorbKey::Property,
+        Risk::Spread => AbsorbKey::Spread,
+        Risk::Concentration => AbsorbKey::Concentration,
+        Risk::Default => AbsorbKey::Default,
+        Risk::HealthCatastrophe => AbsorbKey::HealthCatastrophe,
     }
 }

@@ -3,11 +3,16 @@
 #![tactic(auto)]
 
 mod by_weight;
+mod default_rules;
 mod discounting;
 mod evaluation;
 mod held;
 mod kept;
 pub mod laws;
+mod life_rules;
+mod loss_rules;
+mod market_rules;
+mod nonlife_rules;
 mod paid;
 mod rules;
 mod sharing;
@@ -16,5 +21,5 @@ mod spans;
 pub use discounting::curves;
 pub use evaluation::{evaluate, source};
 pub use kept::Curves;
-pub use scr_nodes::{Alternatives, Direction, Equities, Measure, Node, Risk};
+pub use scr_nodes::{Alternatives, Biometric, Direction, Equities, Measure, Node, Risk};
 pub use sharing::threads_share_curves;

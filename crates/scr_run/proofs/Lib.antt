@@ -8,3 +8,4 @@ pub mod PrintedSheets
 pub mod Leads
 pub mod OptionSteps
 pub mod Engines
+pub mod FactorForms

@@ -6,7 +6,7 @@ use Rattle.scr_cells.proofs.Bounded.{certified}
 use Rattle.scr_csv.specs.Lines.{records}
 use Rattle.scr_csv.specs.Records.{edit_of_line}
 use Rattle.scr_csv.specs.declared.fault.LineFault.{LineFault}
-use Rattle.scr_factors.specs.Values.{FactorValues}
+use Rattle.scr_factors.specs.Values.{FactorValues, IsInForm}
 use Rattle.scr_sheet.proofs.Preserved.{Valid-applied, Valid-opening}
 use Rattle.scr_sheet.specs.BalanceSheet.{opening}
 use Rattle.scr_sheet.specs.Faults.{fault_of}
@@ -81,13 +81,14 @@ pub printed_valid : (bytes : List ℕ) (lines : List (ℕ × List ℕ)) (sheet :
     → AllByRecursion Valid (printed sheet (answers lines sheet))
 printed_valid bytes lines sheet e = let valid = sheet_valid bytes sheet e in (valid, accepted_valid lines sheet valid)
 
-all_certified : (values : FactorValues) (sheets : List BalanceSheet) → AllByRecursion Valid sheets
+all_certified : (values : FactorValues) → IsInForm values → (sheets : List BalanceSheet) → AllByRecursion Valid sheets
     → AllByRecursion (Certified values) sheets
-all_certified values [] all = tt
-all_certified values (sheet ∷ sheets) all = (certified values sheet all.0, all_certified values sheets all.1)
+all_certified values form [] all = tt
+all_certified values form (sheet ∷ sheets) all =
+    (certified values form sheet all.0, all_certified values form sheets all.1)
 
-pub printed_certified : (values : FactorValues) (bytes : List ℕ) (lines : List (ℕ × List ℕ)) (sheet : BalanceSheet)
-    → sheet_of bytes ≡ Ok sheet
+pub printed_certified : (values : FactorValues) → IsInForm values → (bytes : List ℕ) (lines : List (ℕ × List ℕ))
+    (sheet : BalanceSheet) → sheet_of bytes ≡ Ok sheet
     → AllByRecursion (Certified values) (printed sheet (answers lines sheet))
-printed_certified values bytes lines sheet e = all_certified values (printed sheet (answers lines sheet))
+printed_certified values form bytes lines sheet e = all_certified values form (printed sheet (answers lines sheet))
     (printed_valid bytes lines sheet e)

@@ -2,11 +2,12 @@
 ghost use Rattle.std.specs.Prelude.{◌≡◌, ℕ, List, Ok, Err};
 ghost use Rattle.std.specs.List.{AllByRecursion};
 ghost use Rattle.scr_csv.specs.Lines.{records};
-ghost use Rattle.scr_factors.specs.Values.{FactorValues};
+ghost use Rattle.scr_factors.specs.Values.{FactorValues, IsInForm};
 ghost use Rattle.scr_sheet.specs.declared.sheet.BalanceSheet.{BalanceSheet};
 ghost use Rattle.scr_sheet.specs.Validity.{Valid};
 ghost use Rattle.scr_cells.specs.Block.{block_text};
 ghost use Rattle.scr_cells.specs.Certified.{Certified};
+ghost use Rattle.scr_cells.specs.EquityCells.{AreBounded, equity_cells};
 ghost use Rattle.scr_io.specs.Content.{Content, Holds};
 ghost use Rattle.scr_plans.specs.Outcome.{outcome};
 ghost use Rattle.scr_plans.specs.Outcome.Outcome.{Ends, Tells};
@@ -18,16 +19,20 @@ ghost use Rattle.scr_run.specs.Words.{Names};
 ghost use Rattle.scr_run.specs.declared.status.Status.{Status};
 
 /// Every balance sheet from which a block is printed is valid: that of a book file, and what each
-/// accepted record of its edits leaves. So the printed bounds of each cell of the report enclose
-/// its exact figure, whatever of the report was written.
+/// accepted record of its edits leaves. The values of every factor file that is read are in form.
+/// So the printed bounds of each cell of the report enclose its exact figure, whatever of the
+/// report was written. Those of equity risk do so for every balance sheet.
 pub fn enclosure()
     ensures valid { (book edits : List ℕ) (sheet : BalanceSheet) → sheet_of book ≡ Ok sheet
         → AllByRecursion Valid (printed sheet (answers (records edits) sheet)) }
+    ensures in_form { (factors : List ℕ) (values : FactorValues) → factors_in factors ≡ Ok values
+        → IsInForm values }
     ensures printed { (values : FactorValues) (book edits : List ℕ) (sheet : BalanceSheet)
-        → sheet_of book ≡ Ok sheet
+        → IsInForm values → sheet_of book ≡ Ok sheet
         → AllByRecursion (Certified values) (printed sheet (answers (records edits) sheet)) }
-    ensures certified { (values : FactorValues) (sheet : BalanceSheet) → Valid sheet
-        → Certified values sheet }
+    ensures certified { (values : FactorValues) (sheet : BalanceSheet) → IsInForm values
+        → Valid sheet → Certified values sheet }
+    ensures equity { (sheet : BalanceSheet) → AreBounded (equity_cells sheet) }
 {}
 
 /// Where the plan of the words leads by the contents of the files: the first file that ends the run

@@ -93,7 +93,7 @@ module _ (sheet : BalanceSheet) (apart : IsDistinct same_name (names_of sheet)) 
       each (p ∷ ps) fresh = (row_of-fresh stake_name (position_name p) sheet.funds (only_funds (position_name p) fresh.0), each ps fresh.1)
 
 -- no security has a fund's name
-no_security : (sheet : BalanceSheet) → IsDistinct same_name (names_of sheet) → AllByRecursion (λ s. position_of (stake_name s) sheet.securities ≡ None) sheet.funds
+pub no_security : (sheet : BalanceSheet) → IsDistinct same_name (names_of sheet) → AllByRecursion (λ s. position_of (stake_name s) sheet.securities ≡ None) sheet.funds
 no_security sheet apart = each sheet.funds (row_of-own stake_name sheet.funds (distinct-funds sheet apart))
   where
     -- a security of the name would be a row of whose name no fund is

@@ -14,6 +14,7 @@ pub mod Sums
 pub mod MetNames
 pub mod Walks
 pub mod EarlierSheets
+pub mod HeldNames
 pub mod SeenThrough
 pub mod CycleFaults
 pub mod LastDays

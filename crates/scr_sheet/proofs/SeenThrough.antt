@@ -1,8 +1,8 @@
 -- What is held of the securities and the closed funds of a valid sheet, directly and through funds, is all that is held.
-use Rattle.std.proofs.Common.{◌≡◌, ◌⊎◌, ℕ, suc, ◌+◌, ◌^◌, ◌<◌, ◌≤◌, ℤ, pos, negsuc, Bool, true, false, List, [], ◌∷◌, ◌++◌, map, length, filter, sum, sum_by, nat_eq, None, Some, is_some, if◌then◌else◌, Contains, refl, sym, ap, subst, ◌∙◌, inl, inr, arith}
+use Rattle.std.proofs.Common.{◌≡◌, ℕ, suc, ◌+◌, ◌^◌, ◌<◌, ◌≤◌, ℤ, pos, negsuc, Bool, true, false, List, [], ◌∷◌, map, length, filter, sum, sum_by, nat_eq, None, Some, if◌then◌else◌, Contains, refl, sym, ap, subst, ◌∙◌, arith}
 use Rattle.std.specs.List.{All, AllByRecursion, IsDistinct}
 use Rattle.std.specs.Option.{option_map_or}
-use Rattle.std.proofs.lemmas.Bool.{ne_eqb, or_cases}
+use Rattle.std.proofs.lemmas.Bool.{ne_eqb}
 use Rattle.std.proofs.lemmas.Int.{ints}
 use Rattle.std.proofs.lemmas.List.Elements.{All-from_recursion}
 use Rattle.std.proofs.lemmas.List.Sums.{sum_by-cons, sum_by-append}
@@ -11,36 +11,22 @@ use Rattle.scr_funds.specs.LookThrough.{Shared, is_last, names_in, part_in}
 use Rattle.scr_funds.proofs.BoundedTotals.{total-within}
 use Rattle.scr_funds.proofs.Cycles.{acyclic_weaker}
 use Rattle.scr_funds.proofs.LookThroughLaws.{total_is, totals_whole, names_in-own}
-use Rattle.scr_funds.proofs.Members.{IsMember, IsMember-left, IsMember-right, IsMember-mapped, Contains-from_IsMember, at_member, each-from_members}
+use Rattle.scr_funds.proofs.Members.{IsMember, IsMember-left, IsMember-mapped, Contains-from_IsMember, at_member, each-from_members}
 use Rattle.scr_funds.proofs.SumsBy.{sum_by-same, sum_by-map, sum_by-filter}
 use Rattle.scr_names.specs.Names.{same_name}
 use Rattle.scr_names.specs.Tables.{row_of, has_row}
-use Rattle.scr_names.proofs.TableRows.{IsFresh, All-append, All-map, same_name-is, same_name-itself, same_name-flip, same_or_other, row_of-later, fresh_from_has_row}
+use Rattle.scr_names.proofs.TableRows.{All-map, same_name-is, same_name-itself}
 use Rattle.scr_sheet.specs.Records.{natural}
 use Rattle.scr_sheet.specs.Forms.{IsName}
 use Rattle.scr_sheet.specs.Totals.{shared, shared_funds, total_of, parts_of_funds, is_closed, closed_total, securities_total}
 use Rattle.scr_sheet.specs.BalanceSheet.{stake_name, position_name, stake_of, held_of, held_total, components_of}
 use Rattle.scr_sheet.specs.declared.sheet.BalanceSheet.{BalanceSheet}
 use Rattle.scr_sheet.specs.Validity.{Valid, IsHeld, IsStake, IsBetween}
-use Rattle.scr_profile.specs.declared.limits.TheConstants.{MIN_WEIGHT, MAX_WEIGHT}
+use Rattle.scr_profile.specs.declared.limits.TheConstants.{MAX_HELD, MIN_WEIGHT, MAX_WEIGHT}
 use Rattle.scr_sheet.specs.declared.rows.Position.{Position}
 use Rattle.scr_sheet.specs.declared.rows.Stake.{Stake}
-use Rattle.scr_sheet.proofs.Holds.{distinct-funds, distinct-securities, no_fund, sum-held_of}
-
-distinct-append : (xs ys : List (List ℕ)) → IsDistinct same_name xs → IsDistinct same_name ys → AllByRecursion (λ y. IsFresh y xs) ys → IsDistinct same_name (xs ++ ys)
-unfolding IsDistinct
-distinct-append [] ys left right fresh = right
-distinct-append (x ∷ xs) ys left right fresh = (
-  All-append (λ n. same_name x n ≡ false) xs ys left.0 (All-map (λ y. IsFresh y (x ∷ xs)) (λ y. same_name x y ≡ false) ys (λ y f. same_name-flip x y ∙ f.0) fresh),
-  distinct-append xs ys left.1 right (All-map (λ y. IsFresh y (x ∷ xs)) (λ y. IsFresh y xs) ys (λ y f. f.1) fresh),
-)
-
--- where a name has a row, it is one of the rows' names
-pub member-row : {Row : Type 0} (name_of : Row → List ℕ) (name : List ℕ) (rows : List Row) → has_row name_of name rows ≡ true → IsMember name (map name_of rows)
-member-row name_of name [] has = absurd (cc)
-member-row name_of name (row ∷ rows) has =
-    same_or_other name (name_of row) (λ t. inl (same_name-is name (name_of row) t))
-    (λ f. inr (member-row name_of name rows (ap is_some (sym (row_of-later name_of name row rows f)) ∙ has)))
+use Rattle.scr_sheet.proofs.Holds.{distinct-funds, no_fund}
+use Rattle.scr_sheet.proofs.HeldNames.{held_names, security-member, fund-member, held-member, names-once, held-sum}
 
 pub each-map : {A B : Type 0} (P : B → Type 0) (f : A → B) (xs : List A) → AllByRecursion (λ x. P (f x)) xs → AllByRecursion P (map f xs)
 each-map P f [] all = tt
@@ -83,7 +69,7 @@ shared-names [] = refl
 shared-names (s ∷ stakes) = ap (λ names. stake_name s ∷ names) (shared-names stakes)
 
 -- the same fund with other components
-abbrev with_components : List (List ℕ × ℤ) → Stake → Stake
+abbrev pub with_components : List (List ℕ × ℤ) → Stake → Stake
 with_components components s = record { fund = record { name = s.fund.name; components = components }; held = s.held }
 
 -- a closed fund is one without components
@@ -92,33 +78,6 @@ closed-is [] s = refl
 closed-is (c ∷ components) s = ne_eqb (length (map (λ d. d.0) (shared (with_components (c ∷ components) s)).1)) 0 (λ e. let none : suc (length (map (λ d. d.0) (shared (with_components components s)).1)) ≡ 0 = e in omega (arith, none))
 
 module _ (sheet : BalanceSheet) (valid : Valid sheet) where
-  -- the names of the funds and the securities
-  abbrev names : List (List ℕ)
-  names = map stake_name sheet.funds ++ map position_name sheet.securities
-
-  names-once : IsDistinct same_name names
-  names-once =
-      distinct-append (map stake_name sheet.funds) (map position_name sheet.securities) (distinct-funds sheet valid.named_once) (distinct-securities sheet valid.named_once)
-      (each sheet.securities (no_fund sheet valid.named_once))
-    where
-      each : (ps : List Position) → AllByRecursion (λ p. stake_of (position_name p) sheet.funds ≡ None) ps → AllByRecursion (λ n. IsFresh n (map stake_name sheet.funds)) (map position_name ps)
-      each [] none = tt
-      each (p ∷ ps) none = (fresh_from_has_row stake_name (position_name p) sheet.funds (ap is_some none.0), each ps none.1)
-
-  holder-member : (name : List ℕ) → IsHeld sheet name → IsMember name names
-  holder-member name held = by (or_cases (has_row position_name name sheet.securities) (has_row stake_name name sheet.funds) held)
-    where
-      by : (has_row position_name name sheet.securities ≡ true) ⊎ (has_row stake_name name sheet.funds ≡ true) → IsMember name names
-      by (inl e) = IsMember-right (map stake_name sheet.funds) (map position_name sheet.securities) name (member-row position_name name sheet.securities e)
-      by (inr e) = IsMember-left (map stake_name sheet.funds) (map position_name sheet.securities) name (member-row stake_name name sheet.funds e)
-
-  sum-names : sum_by (held_of sheet) names ≡ held_total sheet
-  sum-names =
-      let two = sum_by-append (held_of sheet) (map stake_name sheet.funds) (map position_name sheet.securities) in
-      let funds = sum_by-map (held_of sheet) stake_name sheet.funds in
-      let securities = sum_by-map (held_of sheet) position_name sheet.securities in
-      omega (arith, two, funds, securities, sum-held_of sheet valid)
-
   -- ---- no cent is lost
 
   funds-once : IsDistinct same_name (map (λ (fund : Shared (List ℕ)). fund.0) (shared_funds sheet))
@@ -141,15 +100,15 @@ module _ (sheet : BalanceSheet) (valid : Valid sheet) where
       ∙ ap (λ found. option_map_or (λ (s : Stake). map (λ (c : List ℕ × ℤ). c.0) s.fund.components) found [])
       (at_member (λ q. stake_of (position_name q) sheet.funds ≡ None) sheet.securities p (no_fund sheet valid.named_once) m))
 
-  fund-listed : AllByRecursion (λ s. Contains (names) (stake_name s)) sheet.funds
-  fund-listed = each-from_members (λ s. Contains (names) (stake_name s)) sheet.funds
-      (λ s m. Contains-from_IsMember (names) (stake_name s) (IsMember-left (map stake_name sheet.funds) (map position_name sheet.securities) (stake_name s) (IsMember-mapped stake_name sheet.funds s m)))
+  fund-listed : AllByRecursion (λ s. Contains (held_names sheet) (stake_name s)) sheet.funds
+  fund-listed = each-from_members (λ s. Contains (held_names sheet) (stake_name s)) sheet.funds
+      (λ s m. Contains-from_IsMember (held_names sheet) (stake_name s) (IsMember-left (map stake_name sheet.funds) (map position_name sheet.securities) (stake_name s) (IsMember-mapped stake_name sheet.funds s m)))
 
-  components-listed : (s : Stake) → AllByRecursion (λ c. IsHeld sheet c.0) s.fund.components → All (λ c. Contains (names) c.0) (shared s).1
-  components-listed s held = All-from_recursion (λ (c : List ℕ × ℕ). Contains (names) c.0) (shared s).1
-      (each-map (λ (c : List ℕ × ℕ). Contains (names) c.0) weighted s.fund.components
-      (All-map (λ (c : List ℕ × ℤ). IsHeld sheet c.0) (λ (c : List ℕ × ℤ). Contains (names) c.0) s.fund.components
-      (λ c h. Contains-from_IsMember (names) c.0 (holder-member c.0 h)) held))
+  components-listed : (s : Stake) → AllByRecursion (λ c. IsHeld sheet c.0) s.fund.components → All (λ c. Contains (held_names sheet) c.0) (shared s).1
+  components-listed s held = All-from_recursion (λ (c : List ℕ × ℕ). Contains (held_names sheet) c.0) (shared s).1
+      (each-map (λ (c : List ℕ × ℕ). Contains (held_names sheet) c.0) weighted s.fund.components
+      (All-map (λ (c : List ℕ × ℤ). IsHeld sheet c.0) (λ (c : List ℕ × ℤ). Contains (held_names sheet) c.0) s.fund.components
+      (λ c h. Contains-from_IsMember (held_names sheet) c.0 (held-member sheet c.0 h)) held))
 
   weights-positive : (components : List (List ℕ × ℤ)) → AllByRecursion (λ c. IsName c.0 × IsBetween MIN_WEIGHT MAX_WEIGHT c.1) components
       → 0 < length (map weighted components) → 0 < sum (map (λ (c : List ℕ × ℕ). c.1) (map weighted components))
@@ -158,20 +117,20 @@ module _ (sheet : BalanceSheet) (valid : Valid sheet) where
       let first : 1 ≤ natural c.1 = (weight-within c.1 weights.0.1).0 in
       omega (arith, first, sum_by-cons (λ n. n) (natural c.1) (map (λ (d : List ℕ × ℕ). d.1) (map weighted components)))
 
-  listed_funds : All (λ (fund : Shared (List ℕ)). Contains names fund.0) (shared_funds sheet)
-  listed_funds = All-from_recursion (λ (fund : Shared (List ℕ)). Contains names fund.0) (shared_funds sheet)
-      (each-map (λ (fund : Shared (List ℕ)). Contains names fund.0) shared sheet.funds fund-listed)
+  listed_funds : All (λ (fund : Shared (List ℕ)). Contains (held_names sheet) fund.0) (shared_funds sheet)
+  listed_funds = All-from_recursion (λ (fund : Shared (List ℕ)). Contains (held_names sheet) fund.0) (shared_funds sheet)
+      (each-map (λ (fund : Shared (List ℕ)). Contains (held_names sheet) fund.0) shared sheet.funds fund-listed)
 
-  listed_components : All (λ (fund : Shared (List ℕ)). All (λ c. Contains names c.0) fund.1) (shared_funds sheet)
-  listed_components = All-from_recursion (λ (fund : Shared (List ℕ)). All (λ c. Contains names c.0) fund.1) (shared_funds sheet)
-      (each-map (λ (fund : Shared (List ℕ)). All (λ c. Contains names c.0) fund.1) shared sheet.funds
-      (All-map (λ s. AllByRecursion (λ c. IsHeld sheet c.0) s.fund.components) (λ s. All (λ c. Contains names c.0) (shared s).1) sheet.funds components-listed valid.known.components))
+  listed_components : All (λ (fund : Shared (List ℕ)). All (λ c. Contains (held_names sheet) c.0) fund.1) (shared_funds sheet)
+  listed_components = All-from_recursion (λ (fund : Shared (List ℕ)). All (λ c. Contains (held_names sheet) c.0) fund.1) (shared_funds sheet)
+      (each-map (λ (fund : Shared (List ℕ)). All (λ c. Contains (held_names sheet) c.0) fund.1) shared sheet.funds
+      (All-map (λ s. AllByRecursion (λ c. IsHeld sheet c.0) s.fund.components) (λ s. All (λ c. Contains (held_names sheet) c.0) (shared s).1) sheet.funds components-listed valid.known.components))
 
   -- all that is held directly, in the totals of the names at which chains end
-  last-totals : sum_by (total_of sheet) (filter (is_last same_name (shared_funds sheet)) names) ≡ sum_by (held_of sheet) names
+  last-totals : sum_by (total_of sheet) (filter (is_last same_name (shared_funds sheet)) (held_names sheet)) ≡ sum_by (held_of sheet) (held_names sheet)
   last-totals =
       totals_whole same_name same_name-is same_name-itself (held_of sheet) (shared_funds sheet) funds-once (acyclic-names sheet valid)
-      names names-once listed_funds listed_components
+      (held_names sheet) (names-once sheet valid.named_once) listed_funds listed_components
       (All-from_recursion (λ (fund : Shared (List ℕ)). 0 < length fund.1 → 0 < sum (map (λ c. c.1) fund.1)) (shared_funds sheet)
       (each-map (λ (fund : Shared (List ℕ)). 0 < length fund.1 → 0 < sum (map (λ c. c.1) fund.1)) shared sheet.funds
       (All-map IsStake (λ s. 0 < length (shared s).1 → 0 < sum (map (λ c. c.1) (shared s).1)) sheet.funds (λ s formed. weights-positive s.fund.components formed.1) valid.funds)))
@@ -179,7 +138,7 @@ module _ (sheet : BalanceSheet) (valid : Valid sheet) where
   -- what is held of the securities and the closed funds is all that is held
   pub all-seen : securities_total sheet + closed_total sheet ≡ held_total sheet
   all-seen =
-      let filtered = sum_by-filter (total_of sheet) last names in
+      let filtered = sum_by-filter (total_of sheet) last (held_names sheet) in
       let two = sum_by-append at_last (map stake_name sheet.funds) (map position_name sheet.securities) in
       let funds : sum_by at_last (map stake_name sheet.funds) ≡ closed_total sheet =
       sum_by-map at_last stake_name sheet.funds
@@ -189,7 +148,7 @@ module _ (sheet : BalanceSheet) (valid : Valid sheet) where
       sum_by-map at_last position_name sheet.securities
       ∙ sum_by-same (λ p. at_last (position_name p)) (λ p. total_of sheet p.security.name) sheet.securities
       (λ p m. ap (λ b. if b then total_of sheet p.security.name else 0) (security-last p m)) in
-      omega (arith, filtered, two, funds, securities, sum-names, last-totals)
+      omega (arith, filtered, two, funds, securities, held-sum sheet valid, last-totals)
     where
       at_last : List ℕ → ℕ
       at_last name = if last name then total_of sheet name else 0
@@ -201,8 +160,22 @@ module _ (sheet : BalanceSheet) (valid : Valid sheet) where
       ∙ ap (λ n. held_of sheet name + n) (sum_by-map (λ (fund : Shared (List ℕ)). part_in same_name (total_of sheet fund.0) fund.1 name) shared sheet.funds)
 
   -- no total is above all that is held
+  small : (name : List ℕ) → IsMember name (held_names sheet) → total_of sheet name ≤ held_total sheet
+  small name m =
+      subst (λ n. total_of sheet name ≤ n) (held-sum sheet valid)
+      (total-within same_name same_name-is same_name-itself (held_of sheet) (shared_funds sheet) funds-once (acyclic-names sheet valid) (held_names sheet)
+      (names-once sheet valid.named_once) listed_funds listed_components name (Contains-from_IsMember (held_names sheet) name m))
+
   pub total-small : (name : List ℕ) → IsHeld sheet name → total_of sheet name ≤ held_total sheet
-  total-small name held =
-      subst (λ n. total_of sheet name ≤ n) sum-names
-      (total-within same_name same_name-is same_name-itself (held_of sheet) (shared_funds sheet) funds-once (acyclic-names sheet valid) names names-once listed_funds listed_components name
-      (Contains-from_IsMember names name (holder-member name held)))
+  total-small name held = small name (held-member sheet name held)
+
+  -- ---- and so all is within what may be held
+
+  pub fund-small : (name : List ℕ) → has_row stake_name name sheet.funds ≡ true → total_of sheet name ≤ MAX_HELD
+  fund-small name has = let all : held_total sheet ≤ MAX_HELD = valid.within.held in omega (arith, all, small name (fund-member sheet name has))
+
+  pub security-small : (name : List ℕ) → has_row position_name name sheet.securities ≡ true → total_of sheet name ≤ MAX_HELD
+  security-small name has = let all : held_total sheet ≤ MAX_HELD = valid.within.held in omega (arith, all, small name (security-member sheet name has))
+
+  pub seen-small : securities_total sheet + closed_total sheet ≤ MAX_HELD
+  seen-small = let all : held_total sheet ≤ MAX_HELD = valid.within.held in omega (arith, all, all-seen)

@@ -8,7 +8,7 @@ use scr_dates::Day;
 use scr_profile::Set;
 
 /// A record of a book or of a script of edits: one variant per verb, with the record's fields in their order.
-#[derive(Debug, Drop)]
+#[derive(Drop)]
 pub enum Edit {
     /// `asof`: the reference date and the reporting currency.
     Asof {

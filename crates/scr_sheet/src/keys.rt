@@ -3,7 +3,7 @@
 use crate::Name;
 
 /// The tables of rows.
-#[derive(Clone, Copy, Debug, PartialEq, Eq)]
+#[derive(Clone, Copy, PartialEq, Eq)]
 pub enum Table {
     Group,
     Security,
@@ -16,7 +16,7 @@ pub enum Table {
 
 /// A projection of a liability's cash flows: the best estimate, or what is left of it under one of the biometric stresses
 /// of Delegated Regulation (EU) 2015/35, Articles 137 to 143 and 152 to 159.
-#[derive(Clone, Copy, Debug, PartialEq, Eq)]
+#[derive(Clone, Copy, PartialEq, Eq)]
 pub enum Projection {
     Base,
     Mortality,
@@ -44,7 +44,7 @@ pub const PROJECTIONS: [Projection; 10] = [
     Projection::Catastrophe,
 ];
 
-/// The scenarios whose loss technical provisions and deferred taxes may absorb, each with the handed-in absorption.
+/// The scenarios whose loss technical provisions may absorb (Article 206), each with the handed-in absorption.
 #[derive(Clone, Copy, Debug, PartialEq, Eq)]
 pub enum AbsorbKey {
     InterestUp,
@@ -80,7 +80,7 @@ pub enum AbsorbKey {
 }
 
 /// The handed-in catastrophe charges of non-life, and then those of health.
-#[derive(Clone, Copy, Debug, PartialEq, Eq)]
+#[derive(Clone, Copy, PartialEq, Eq)]
 pub enum CatKey {
     Windstorm,
     Earthquake,

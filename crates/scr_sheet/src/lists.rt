@@ -8,7 +8,7 @@ use std::alloc::{AllocError as NoMemory, Global};
 use std::marker::Model;
 
 /// The yearly rates of a curve in millionths, from the maturity of one year on.
-#[derive(Debug, Drop)]
+#[derive(Drop)]
 pub struct Rates {
     rates: Vec<i64>,
 }
@@ -56,7 +56,7 @@ impl Rates {
 /// Payments, each with its day. The unit of an amount is the owner's: for a security per 1,000,000
 /// of its value, for a liability cents. Beside them stand their sum and their last day, so that no
 /// record sums or walks them anew.
-#[derive(Debug, Drop)]
+#[derive(Drop)]
 pub struct Flows {
     pairs: Vec<(Day, i64)>,
     sum: u128,
@@ -161,7 +161,7 @@ fn later(last: Option<Day>, day: Day) -> Day
 }
 
 /// The components of a fund, securities or funds, each with its weight.
-#[derive(Debug, Drop)]
+#[derive(Drop)]
 pub struct Components {
     pairs: Vec<(Name, i64)>,
 }

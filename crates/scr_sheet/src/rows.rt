@@ -12,7 +12,7 @@ pub struct Group {
 }
 
 /// What the market risk sub-modules take a security to be.
-#[derive(Clone, Copy, Debug, PartialEq, Eq)]
+#[derive(Clone, Copy, PartialEq, Eq)]
 pub enum Class {
     /// Type 1 equity: listed in regulated markets of the EEA or the OECD, and its like (Article 168(2)).
     Type1Equity,
@@ -69,7 +69,7 @@ pub struct Stake {
 }
 
 /// The kind of a liability of insurance obligations.
-#[derive(Clone, Copy, Debug, PartialEq, Eq)]
+#[derive(Clone, Copy, PartialEq, Eq)]
 pub enum LiabilityKind {
     /// Life underwriting risk (Article 136).
     Life,

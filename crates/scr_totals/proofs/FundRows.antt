@@ -1,78 +1,28 @@
 -- The components of the funds by number, as `scr_funds` takes them.
-use Rattle.std.proofs.Common.{◌≡◌, ℕ, suc, ◌+◌, ◌^◌, ◌<◌, ◌≤◌, ℤ, pos, negsuc, Bool, true, false, List, [], ◌∷◌, map, length, get_or, slice_get, nat_eq, unsigned_abs, FitsSigned, to_z, of_z, to_z-of_z, w64, Some, if◌then◌else◌, Contains, refl, sym, ap, subst, ◌∙◌, arith}
+use Rattle.std.proofs.Common.{◌≡◌, ℕ, suc, ◌+◌, ◌^◌, ◌<◌, ◌≤◌, ℤ, List, [], ◌∷◌, map, length, slice_get, nat_eq, Some, refl, sym, ap, subst, ◌∙◌, arith}
 use Rattle.std.specs.List.{All, AllByRecursion, enumerate_from}
-use Rattle.std.specs.Option.{option_map_or, option_map}
-use Rattle.std.proofs.lemmas.Int.{ints}
+use Rattle.std.specs.Option.{option_map}
 use Rattle.std.proofs.lemmas.List.{length-map, get_or_append_left}
 use Rattle.std.proofs.lemmas.List.Elements.{All-from_recursion}
-use Rattle.std.proofs.lemmas.Option.{slice_get_within, slice_get-get_or, get_or_from_slice_get, slice_get-map}
+use Rattle.std.proofs.lemmas.Option.{slice_get_within, get_or_from_slice_get, slice_get-map}
 use Rattle.scr_funds.specs.ByNumber.{IsRow, numbered, renamed, named}
 use Rattle.scr_funds.specs.Chains.{IsAcyclic}
 use Rattle.scr_funds.specs.LookThrough.{Weighted, names_in}
-use Rattle.scr_funds.proofs.Cycles.{acyclic_weaker}
 use Rattle.scr_funds.proofs.NamedTotals.{acyclic-by_number}
 use Rattle.scr_names.specs.Names.{same_name}
-use Rattle.scr_names.specs.Tables.{row_of}
+use Rattle.scr_names.proofs.TableRows.{same_name-is, same_name-itself, All-both}
 use Rattle.scr_sheet.specs.Records.{natural}
 use Rattle.scr_sheet.specs.Forms.{IsName}
 use Rattle.scr_sheet.specs.Totals.{shared, shared_funds}
-use Rattle.scr_sheet.specs.BalanceSheet.{stake_name, position_name, components_of}
+use Rattle.scr_sheet.specs.BalanceSheet.{stake_name, position_name}
 use Rattle.scr_sheet.specs.declared.sheet.BalanceSheet.{BalanceSheet}
 use Rattle.scr_sheet.specs.Validity.{Valid, IsHeld, IsStake, IsBetween}
 use Rattle.scr_profile.specs.declared.limits.TheConstants.{MIN_WEIGHT, MAX_WEIGHT}
-use Rattle.scr_sheet.specs.declared.rows.Fund.{Fund}
 use Rattle.scr_sheet.specs.declared.rows.Stake.{Stake}
-use Rattle.scr_names.proofs.TableRows.{same_name-is, same_name-itself, All-both}
+use Rattle.scr_sheet.proofs.HeldNames.{names-once}
+use Rattle.scr_sheet.proofs.SeenThrough.{each-map, weighted, weight-within, acyclic-names}
 use Rattle.scr_totals.specs.ByNumber.{names_by_number, component_by_number, row_by_number, rows_by_number}
-use Rattle.scr_totals.proofs.HolderNames.{name_at, count-names, names-once, one_to_one, numbered-name}
-
-pub each-map : {A B : Type 0} (P : B → Type 0) (f : A → B) (xs : List A) → AllByRecursion (λ x. P (f x)) xs → AllByRecursion P (map f xs)
-each-map P f [] all = tt
-each-map P f (x ∷ xs) all = (all.0, each-map P f xs all.1)
-
--- a weight of the sheet is above 0 and not too great
-pub weight-within : (z : ℤ) → IsBetween MIN_WEIGHT MAX_WEIGHT z → (1 ≤ natural z) × (natural z ≤ 10 ^ 9)
-weight-within (pos n) h = (omega (arith, ints, h.0), omega (arith, ints, h.1))
-weight-within (negsuc n) h = absurd (omega (arith, ints, h.0))
-
--- which is its size
-pub size-weight : (z : ℤ) → IsBetween MIN_WEIGHT MAX_WEIGHT z → unsigned_abs (to_z w64 (of_z w64 z)) ≡ natural z
-size-weight (pos n) h =
-    let most = h.1 in
-    let fits : FitsSigned w64 (pos n) = omega (arith, ints, most) in
-    ap unsigned_abs (to_z-of_z fits)
-size-weight (negsuc n) h = absurd (omega (arith, ints, h.0))
-
--- ---- by name
-
--- a component's name and its weight
-abbrev pub weighted : List ℕ × ℤ → List ℕ × ℕ
-weighted c = (c.0, natural c.1)
-
-abbrev component_name : List ℕ × ℤ → List ℕ
-component_name c = c.0
-
-components-names : (cs : List (List ℕ × ℤ)) → map (λ c. c.0) (map weighted cs) ≡ map component_name cs
-components-names [] = refl
-components-names (c ∷ cs) = ap (λ names. c.0 ∷ names) (components-names cs)
-
--- what a name has as components among the funds is what the sheet says
-pub names-in-is : (stakes : List Stake) (x : List ℕ) → names_in same_name (map shared stakes) x ≡ components_of stakes x
-names-in-is [] x = refl
-names-in-is (s ∷ stakes) x = by (same_name x s.fund.name) (names-in-is stakes x)
-  where
-    by : (b : Bool) → names_in same_name (map shared stakes) x ≡ components_of stakes x
-        → (if b then map (λ c. c.0) (map weighted s.fund.components) else names_in same_name (map shared stakes) x)
-        ≡ option_map_or (λ (t : Stake). map component_name t.fund.components) (if b then Some s else row_of stake_name x stakes) []
-    by true later = components-names s.fund.components
-    by false later = later
-
-pub acyclic-names : (sheet : BalanceSheet) → Valid sheet → IsAcyclic (names_in same_name (shared_funds sheet))
-acyclic-names sheet valid =
-    acyclic_weaker (components_of sheet.funds) (names_in same_name (shared_funds sheet))
-    (λ a c h. subst (λ row. Contains row c) (names-in-is sheet.funds a) h) valid.acyclic
-
--- ---- by number
+use Rattle.scr_totals.proofs.HolderNames.{name_at, count-names, one_to_one, numbered-name}
 
 module _ (sheet : BalanceSheet) (valid : Valid sheet) where
   pub apart-numbers : (j k : ℕ) → j < length (names_by_number sheet) → k < length (names_by_number sheet) → name_at sheet j ≡ name_at sheet k → j ≡ k
@@ -117,18 +67,6 @@ module _ (sheet : BalanceSheet) (valid : Valid sheet) where
           ∙ get_or_from_slice_get (map stake_name sheet.funds) k (stake_name s) [] there
 
   -- ---- what is asked of them
-
-  -- the fund at a place is that of the row
-  pub fund-at : (k : ℕ) (fund : Fund) (other : Stake) → k < length sheet.funds → option_map (λ (s : Stake). s.fund) (slice_get sheet.funds k) ≡ Some fund → (get_or sheet.funds k other).fund ≡ fund
-  fund-at k fund other within is =
-      let same : Some (get_or sheet.funds k other).fund ≡ Some fund = sym (ap (option_map (λ (s : Stake). s.fund)) (slice_get-get_or sheet.funds k other within)) ∙ is in
-      cc
-
-  pub weights-at : (k : ℕ) (fund : Fund) (other : Stake) → k < length sheet.funds → option_map (λ (s : Stake). s.fund) (slice_get sheet.funds k) ≡ Some fund
-      → AllByRecursion (λ c. IsName c.0 × IsBetween MIN_WEIGHT MAX_WEIGHT c.1) fund.components
-  weights-at k fund other within is =
-      subst (λ (f : Fund). AllByRecursion (λ c. IsName c.0 × IsBetween MIN_WEIGHT MAX_WEIGHT c.1) f.components) (fund-at k fund other within is)
-      (All-from_recursion IsStake sheet.funds valid.funds k other within).1
 
   row-below : (cs : List (List ℕ × ℤ)) → AllByRecursion (λ c. IsHeld sheet c.0) cs → AllByRecursion (λ (c : ℕ × ℕ). c.0 < length (names_by_number sheet)) (map (component_by_number sheet) cs)
   row-below [] held = tt

@@ -1,40 +1,21 @@
 -- The names of the funds and the securities of a sheet by number: no two numbers have one name.
-use Rattle.std.proofs.Common.{◌≡◌, ◌⊎◌, ℕ, zero, suc, ◌+◌, ◌<◌, true, false, IsTrue, List, [], ◌∷◌, ◌++◌, map, length, get_or, slice_get, Some, None, is_some, if◌then◌else◌, refl, sym, ap, ◌∙◌, inl, inr, arith}
+use Rattle.std.proofs.Common.{◌≡◌, ℕ, zero, suc, ◌+◌, ◌<◌, true, false, List, [], ◌∷◌, ◌++◌, map, length, get_or, slice_get, Some, None, if◌then◌else◌, refl, sym, ap, ◌∙◌, inl, inr, arith}
 use Rattle.std.specs.List.{AllByRecursion, IsDistinct}
-use Rattle.std.proofs.lemmas.Bool.{true≢false, or_cases}
+use Rattle.std.proofs.lemmas.Bool.{true≢false}
 use Rattle.std.proofs.lemmas.List.{get_or_append_left, get_or-append-add, length-append, length-map, map-append}
 use Rattle.std.proofs.lemmas.List.Elements.{All-from_recursion}
+use Rattle.std.proofs.lemmas.Simd.{map-map}
 use Rattle.std.proofs.lemmas.Option.{get_or_from_slice_get, slice_get_within, slice_get-get_or}
-use Rattle.scr_funds.proofs.Members.{IsMember, IsMember-left, IsMember-right, at_member}
+use Rattle.scr_funds.proofs.Members.{IsMember}
 use Rattle.scr_names.specs.Names.{same_name}
-use Rattle.scr_names.specs.Tables.{has_row}
-use Rattle.scr_sheet.specs.BalanceSheet.{group_name, position_name, liability_name, bank_name, rein_name, stake_name, names_of, stake_of}
+use Rattle.scr_names.proofs.TableRows.{same_name-itself, same_name-flip, same_name-is, same_or_other}
+use Rattle.scr_sheet.specs.BalanceSheet.{position_name, stake_name, names_of}
 use Rattle.scr_sheet.specs.declared.sheet.BalanceSheet.{BalanceSheet}
 use Rattle.scr_sheet.specs.Validity.{IsHeld}
-use Rattle.scr_sheet.specs.declared.keys.Table.{Table}
-use Rattle.scr_sheet.specs.declared.keys.Table.TheVariants as tables
-use Rattle.scr_sheet.specs.declared.rows.Position.{Position}
-use Rattle.scr_sheet.proofs.Holds.{distinct-right, distinct-securities, distinct-funds, no_fund}
-use Rattle.scr_names.proofs.TableRows.{IsFresh, All-append, All-map, same_name-itself, same_name-flip, same_name-is, same_or_other, row_of-later, fresh_from_has_row}
+use Rattle.scr_sheet.proofs.HeldNames.{held-member, names-once}
 use Rattle.scr_totals.specs.ByNumber.{names_by_number, place_among, number_of}
 
 -- ---- lists of names without repeats
-
-distinct-append : (xs ys : List (List ℕ)) → IsDistinct same_name xs → IsDistinct same_name ys → AllByRecursion (λ y. IsFresh y xs) ys → IsDistinct same_name (xs ++ ys)
-unfolding IsDistinct
-distinct-append [] ys left right fresh = right
-distinct-append (x ∷ xs) ys left right fresh = (
-  All-append (λ n. same_name x n ≡ false) xs ys left.0 (All-map (λ y. IsFresh y (x ∷ xs)) (λ y. same_name x y ≡ false) ys (λ y f. same_name-flip x y ∙ f.0) fresh),
-  distinct-append xs ys left.1 right (All-map (λ y. IsFresh y (x ∷ xs)) (λ y. IsFresh y xs) ys (λ y f. f.1) fresh),
-)
-
--- none stands in both of two lists without repeats
-apart_between : (xs ys : List (List ℕ)) → IsDistinct same_name (xs ++ ys) → (name : List ℕ) → IsMember name xs → IsMember name ys → ⊥
-unfolding IsDistinct
-apart_between [] ys apart name l r = absurd l
-apart_between (x ∷ xs) ys apart name (inl e) r =
-    true≢false (sym (same_name-itself x) ∙ ap (same_name x) (sym e) ∙ at_member (λ n. same_name x n ≡ false) (xs ++ ys) name apart.0 (IsMember-right xs ys name r))
-apart_between (x ∷ xs) ys apart name (inr m) r = apart_between xs ys apart.1 name m r
 
 -- what stands later is another name
 another : (n : List ℕ) (names : List (List ℕ)) → AllByRecursion (λ other. same_name n other ≡ false) names → (k : ℕ) → k < length names → same_name n (get_or names k []) ≡ false
@@ -88,22 +69,6 @@ place-back (n ∷ names) name m =
         let within : place_among names name < length names = h.1 in
         (ap (λ k. get_or (n ∷ names) k []) next ∙ h.0, omega arith)
 
--- where a name has a row, it is one of the rows' names
-pub member-row : {Row : Type 0} (name_of : Row → List ℕ) (name : List ℕ) (rows : List Row) → has_row name_of name rows ≡ true → IsMember name (map name_of rows)
-member-row name_of name [] has = absurd (cc)
-member-row name_of name (row ∷ rows) has =
-    same_or_other name (name_of row) (λ t. inl (same_name-is name (name_of row) t))
-    (λ f. inr (member-row name_of name rows (ap is_some (sym (row_of-later name_of name row rows f)) ∙ has)))
-
-pub member-get : (names : List (List ℕ)) (k : ℕ) (name : List ℕ) → slice_get names k ≡ Some name → IsMember name names
-member-get [] k name is = absurd (let clash : None ≡ Some name = is in cc)
-member-get (n ∷ names) zero name is = let e : n ≡ name = cc in inl (sym e)
-member-get (n ∷ names) (suc k) name is = inr (member-get names k name is)
-
-map-twice : {X Y Z : Type 0} (g : Y → Z) (f : X → Y) (xs : List X) → map g (map f xs) ≡ map (λ x. g (f x)) xs
-map-twice g f [] = refl
-map-twice g f (x ∷ xs) = ap (λ ys. g (f x) ∷ ys) (map-twice g f xs)
-
 -- ---- the numbers of a sheet
 
 module _ (sheet : BalanceSheet) where
@@ -121,41 +86,17 @@ module _ (sheet : BalanceSheet) where
   pub map-names : {X : Type 0} (f : List ℕ → X) → map f (names_by_number sheet) ≡ map (λ s. f (stake_name s)) sheet.funds ++ map (λ p. f (position_name p)) sheet.securities
   map-names f =
       map-append f (map stake_name sheet.funds) (map position_name sheet.securities)
-      ∙ ap (λ xs. xs ++ map f (map position_name sheet.securities)) (map-twice f stake_name sheet.funds)
-      ∙ ap (λ xs. map (λ s. f (stake_name s)) sheet.funds ++ xs) (map-twice f position_name sheet.securities)
-
-  held-member : (name : List ℕ) → IsHeld sheet name → IsMember name (map position_name sheet.securities) ⊎ IsMember name (map stake_name sheet.funds)
-  held-member name held = by (or_cases (has_row position_name name sheet.securities) (has_row stake_name name sheet.funds) held)
-    where
-      by : (has_row position_name name sheet.securities ≡ true) ⊎ (has_row stake_name name sheet.funds ≡ true)
-          → IsMember name (map position_name sheet.securities) ⊎ IsMember name (map stake_name sheet.funds)
-      by (inl e) = inl (member-row position_name name sheet.securities e)
-      by (inr e) = inr (member-row stake_name name sheet.funds e)
-
-  pub holder-member : (name : List ℕ) → IsHeld sheet name → IsMember name (names_by_number sheet)
-  holder-member name held = by (held-member name held)
-    where
-      by : IsMember name (map position_name sheet.securities) ⊎ IsMember name (map stake_name sheet.funds) → IsMember name (names_by_number sheet)
-      by (inl m) = IsMember-right (map stake_name sheet.funds) (map position_name sheet.securities) name m
-      by (inr m) = IsMember-left (map stake_name sheet.funds) (map position_name sheet.securities) name m
+      ∙ ap (λ xs. xs ++ map f (map position_name sheet.securities)) (map-map f stake_name sheet.funds)
+      ∙ ap (λ xs. map (λ s. f (stake_name s)) sheet.funds ++ xs) (map-map f position_name sheet.securities)
 
   -- a security or a fund has a number, and that number has its name
   pub numbered-name : (name : List ℕ) → IsHeld sheet name → (name_at (number_of sheet name) ≡ name) × (number_of sheet name < length (names_by_number sheet))
-  numbered-name name held = place-back (names_by_number sheet) name (holder-member name held)
+  numbered-name name held = place-back (names_by_number sheet) name (held-member sheet name held)
 
   module _ (apart : IsDistinct same_name (names_of sheet)) where
-    pub names-once : IsDistinct same_name (names_by_number sheet)
-    names-once =
-        distinct-append (map stake_name sheet.funds) (map position_name sheet.securities) (distinct-funds sheet apart) (distinct-securities sheet apart)
-        (each sheet.securities (no_fund sheet apart))
-      where
-        each : (ps : List Position) → AllByRecursion (λ p. stake_of (position_name p) sheet.funds ≡ None) ps → AllByRecursion (λ n. IsFresh n (map stake_name sheet.funds)) (map position_name ps)
-        each [] none = tt
-        each (p ∷ ps) none = (fresh_from_has_row stake_name (position_name p) sheet.funds (ap is_some none.0), each ps none.1)
-
     -- the number of a fund is its place
     pub number-fund : (k : ℕ) (name : List ℕ) → slice_get (map stake_name sheet.funds) k ≡ Some name → number_of sheet name ≡ k
-    number-fund k name is = place-at (names_by_number sheet) names-once k name there
+    number-fund k name is = place-at (names_by_number sheet) (names-once sheet apart) k name there
       where
         there : slice_get (names_by_number sheet) k ≡ Some name
         there =
@@ -165,7 +106,7 @@ module _ (sheet : BalanceSheet) where
 
     -- and that of a security comes after all funds
     pub number-security : (k : ℕ) (name : List ℕ) → slice_get (map position_name sheet.securities) k ≡ Some name → number_of sheet name ≡ length sheet.funds + k
-    number-security k name is = place-at (names_by_number sheet) names-once (length sheet.funds + k) name there
+    number-security k name is = place-at (names_by_number sheet) (names-once sheet apart) (length sheet.funds + k) name there
       where
         funds : List (List ℕ)
         funds = map stake_name sheet.funds

@@ -1,5 +1,5 @@
 -- A figure that is put under its node is known there, and the others stay known.
-use Rattle.std.proofs.Common.{◌≡◌, Contains, ℕ, suc, zero, ◌+◌, ◌||◌, Bool, true, false, cond, List, [], ◌∷◌, ◌++◌, map, take, slice_get, Option, Some, None, is_some, if◌then◌else◌, inl, inr, Result, Ok, Err, OnOk, refl, sym, ap, ap₂, ◌∙◌, add-one}
+use Rattle.std.proofs.Common.{◌≡◌, Contains, ℕ, suc, zero, ◌+◌, ◌||◌, true, List, [], ◌∷◌, map, take, slice_get, Option, Some, None, is_some, if◌then◌else◌, inl, inr, Result, Ok, Err, OnOk, refl, ap, ap₂, ◌∙◌, add-one}
 use Rattle.std.specs.List.{AllByRecursion, list_any}
 use Rattle.std.specs.Map.{lookup}
 use Rattle.std.specs.Option.{option_map}
@@ -16,7 +16,6 @@ use Rattle.scr_nodes.specs.Sources.{sources_of}
 use Rattle.scr_plan.specs.Close.{close_under, is_open_choice}
 use Rattle.scr_plan.specs.Worked.{worked}
 use Rattle.scr_tree.specs.declared.figures.Figure.{Figure}
-use Rattle.scr_tree.specs.declared.key.Key.{Key}
 use Rattle.scr_tree.specs.Keys.{key_of}
 use Rattle.scr_tree.specs.Figures.{Table, Worth, same_key, found, worth_of, worth_at, ArePut, IsKnown, opens}
 use Rattle.scr_tree.proofs.KeyLemmas.{one_node, own_key}
@@ -100,19 +99,10 @@ read-off factors sheet node figures list below spans listed is known spanned =
     (ap (map ends) spanned ∙ spans-worked factors sheet below (sources_of sheet node) worths, close-below factors sheet below (sources_of sheet node) worths)
 
 pub opens-is : (factors : FactorValues) (sheet : BalanceSheet) (node : Node) → opens node (worked factors sheet node) ≡ is_open_choice factors sheet node
-opens-is factors sheet (nodes.FundTotal name) = refl
-opens-is factors sheet (nodes.SecurityTotal name) = refl
-opens-is factors sheet (nodes.UnitLoss name way) = refl
-opens-is factors sheet (nodes.SecurityRate name way) = refl
-opens-is factors sheet (nodes.LiabilityRate name way) = refl
-opens-is factors sheet (nodes.CurrencyLoss name way) = refl
-opens-is factors sheet (nodes.InterestScenario way taken) = refl
 opens-is factors sheet (nodes.Choice which) = refl
-opens-is factors sheet (nodes.Picked which taken) = refl
-opens-is factors sheet (nodes.ClassSum class) = refl
-opens-is factors sheet (nodes.EquityPart kind) = refl
-opens-is factors sheet nodes.EquityRoot = refl
-opens-is factors sheet (nodes.NetPart risk) = refl
+opens-is factors sheet (nodes.CurrencyChoice currency) = refl
+opens-is factors sheet nodes.DefaultBand = refl
+opens-is factors sheet node = refl
 
 -- ---- walks along a list
 

@@ -1,3 +1,4 @@
 pub mod KeyLemmas
+pub mod KeyNodes
 pub mod Known
 pub mod TotalLemmas

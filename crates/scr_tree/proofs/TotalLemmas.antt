@@ -1,7 +1,7 @@
 -- What the totals are worth: the cents that are held, which rest on no choice.
-use Rattle.std.proofs.Common.{◌≡◌, ℕ, zero, suc, ◌+◌, ◌<◌, Bool, true, false, ◌||◌, pos, List, [], ◌∷◌, ◌++◌, map, slice_get, slice_index, Option, Some, None, is_some, if◌then◌else◌, refl, sym, ap, ap₂, ◌∙◌}
+use Rattle.std.proofs.Common.{◌≡◌, ℕ, zero, suc, Bool, true, false, ◌||◌, List, [], ◌∷◌, ◌++◌, map, slice_get, slice_index, Some, None, is_some, if◌then◌else◌, refl, sym, ap, ap₂, ◌∙◌}
 use Rattle.std.specs.List.{AllByRecursion, list_any}
-use Rattle.scr_num.specs.Rounding.{Ends, exact_ends}
+use Rattle.scr_num.specs.Rounding.{Ends}
 use Rattle.scr_factors.specs.Values.{FactorValues}
 use Rattle.scr_names.specs.Names.{same_name}
 use Rattle.scr_names.specs.Tables.{row_of, has_row}
@@ -19,7 +19,7 @@ use Rattle.scr_nodes.specs.Sources.{sources_of, fund_total, security_total}
 use Rattle.scr_nodes.proofs.Reckoning.{reckoned-only}
 use Rattle.scr_plan.specs.Close.{close_under, is_open_choice}
 use Rattle.scr_plan.proofs.Totals.{fund-worked, security-worked}
-use Rattle.scr_tree.specs.Figures.{Worth, total_worth, worth_at}
+use Rattle.scr_tree.specs.Figures.{total_worth, worth_at}
 
 -- ---- no choice lies under a total
 

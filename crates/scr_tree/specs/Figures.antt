@@ -56,6 +56,8 @@ HasTotals factors sheet figures = AllByRecursion (IsKnown factors sheet figures)
 -- these ends are the mask of a choice that is open
 abbrev pub opens : Node → Ends → Bool
 opens (nodes.Choice which) mask = is_open mask
+opens (nodes.CurrencyChoice currency) mask = is_open mask
+opens nodes.DefaultBand mask = is_open mask
 opens node mask = false
 
 -- so many cents, which rest on no choice

@@ -1,63 +1,95 @@
 -- The keys under which figures are kept (this project's own): a figure of each key, and a key of each figure.
-use Rattle.std.specs.Prelude.{ℕ, ◌+◌, ◌*◌, ◌==◌, List, [], Option, Some, None, if◌then◌else◌}
-use Rattle.std.specs.Option.{option_map_or}
-use Rattle.scr_sheet.specs.declared.rows.Class.{Class}
-use Rattle.scr_sheet.specs.declared.rows.Class.TheVariants as classes
-use Rattle.scr_nodes.specs.declared.node.Alternatives.TheVariants as alternatives
-use Rattle.scr_nodes.specs.declared.node.Direction.{Direction}
-use Rattle.scr_nodes.specs.declared.node.Direction.TheVariants as directions
-use Rattle.scr_nodes.specs.declared.node.Equities.{Equities}
-use Rattle.scr_nodes.specs.declared.node.Equities.TheVariants as equities
-use Rattle.scr_nodes.specs.declared.node.Measure.{Measure}
-use Rattle.scr_nodes.specs.declared.node.Measure.TheVariants as measures
+use Rattle.std.specs.Prelude.{ℕ, List, [], ◌∷◌, Some, None}
 use Rattle.scr_nodes.specs.declared.node.Node.{Node}
 use Rattle.scr_nodes.specs.declared.node.Node.TheVariants as nodes
-use Rattle.scr_nodes.specs.declared.node.Risk.TheVariants as risks
+use Rattle.scr_tree.specs.Numbers.{adjustment_number, alternatives_number, biometric_number, catastrophe_number, class_number, direction_number, equities_number, measure_number, operational_number, projection_number, risk_number, set_number}
+use Rattle.scr_tree.specs.declared.family.Family.{Family}
+use Rattle.scr_tree.specs.declared.family.Family.TheVariants as families
 use Rattle.scr_tree.specs.declared.key.Key.{Key}
 
-abbrev pub direction_number : Direction → ℕ
-direction_number directions.Up = 0
-direction_number directions.Down = 1
+abbrev pub named : Family → List ℕ → List ℕ → Key
+named family name numbers = record { family = family; name = Some name; numbers = numbers }
 
-abbrev pub measure_number : Measure → ℕ
-measure_number measures.Gross = 0
-measure_number measures.Net = 1
+abbrev pub single : Family → List ℕ → Key
+single family numbers = record { family = family; name = None; numbers = numbers }
 
-abbrev pub class_number : Class → ℕ
-class_number classes.Type1Equity = 0
-class_number classes.Type1Strategic = 1
-class_number classes.Type2Equity = 2
-class_number classes.Type2Strategic = 3
-class_number classes.Infrastructure = 4
-class_number classes.InfrastructureCorporate = 5
-class_number classes.Property = 6
-class_number classes.Bond = 7
-class_number classes.Government = 8
-class_number classes.Other = 9
+abbrev pub alone : Family → Key
+alone family = single family (0 ∷ 0 ∷ 0 ∷ [])
 
-abbrev pub equities_number : Equities → ℕ
-equities_number equities.Type1 = 0
-equities_number equities.Type2 = 1
-equities_number equities.Infrastructure = 2
-equities_number equities.InfrastructureCorporate = 3
+-- of intangible assets, of operational risk, or of all modules together
+abbrev pub whole_key : Node → Key
+whole_key nodes.Intangible = alone families.Intangible
+whole_key (nodes.Bscr taken) = single families.Bscr (measure_number taken ∷ 0 ∷ 0 ∷ [])
+whole_key (nodes.OpPart of) = single families.OpPart (operational_number of ∷ 0 ∷ 0 ∷ [])
+whole_key (nodes.Adjust by) = single families.Adjust (adjustment_number by ∷ 0 ∷ 0 ∷ [])
+whole_key nodes.Scr = alone families.Scr
+whole_key node = alone families.Diversification
 
-abbrev pub named : ℕ → List ℕ → ℕ → Key
-named family name part = record { family = family; name = Some name; part = part }
+-- of underwriting risk, or one of those
+abbrev pub underwriting_key : Node → Key
+underwriting_key (nodes.BioScenario obligations stress taken) = single families.BioScenario (biometric_number obligations ∷ projection_number stress ∷ measure_number taken ∷ [])
+underwriting_key (nodes.Life taken) = single families.Life (measure_number taken ∷ 0 ∷ 0 ∷ [])
+underwriting_key (nodes.Slt taken) = single families.Slt (measure_number taken ∷ 0 ∷ 0 ∷ [])
+underwriting_key (nodes.Segment of number) = single families.Segment (set_number of ∷ number ∷ 0 ∷ [])
+underwriting_key (nodes.PremiumReserve of) = single families.PremiumReserve (set_number of ∷ 0 ∷ 0 ∷ [])
+underwriting_key (nodes.CatCharge of) = single families.CatCharge (catastrophe_number of ∷ 0 ∷ 0 ∷ [])
+underwriting_key (nodes.Lapse of) = single families.Lapse (set_number of ∷ 0 ∷ 0 ∷ [])
+underwriting_key nodes.Natural = alone families.Natural
+underwriting_key nodes.ManMade = alone families.ManMade
+underwriting_key nodes.NonlifeCatastrophe = alone families.NonlifeCatastrophe
+underwriting_key nodes.HealthCatastrophe = alone families.HealthCatastrophe
+underwriting_key (nodes.Nslt taken) = single families.Nslt (measure_number taken ∷ 0 ∷ 0 ∷ [])
+underwriting_key (nodes.Health taken) = single families.Health (measure_number taken ∷ 0 ∷ 0 ∷ [])
+underwriting_key (nodes.Nonlife taken) = single families.Nonlife (measure_number taken ∷ 0 ∷ 0 ∷ [])
+underwriting_key node = whole_key node
 
-abbrev pub single : ℕ → ℕ → Key
-single family part = record { family = family; name = None; part = part }
+-- of counterparty default risk, or one of those
+abbrev pub default_key : Node → Key
+default_key (nodes.ClassLoss number) = single families.ClassLoss (number ∷ 0 ∷ 0 ∷ [])
+default_key (nodes.ClassSquare number) = single families.ClassSquare (number ∷ 0 ∷ 0 ∷ [])
+default_key nodes.Variance = alone families.Variance
+default_key nodes.DefaultBand = alone families.DefaultBand
+default_key nodes.DefaultType1 = alone families.DefaultType1
+default_key nodes.DefaultType2 = alone families.DefaultType2
+default_key nodes.Default = alone families.Default
+default_key node = underwriting_key node
 
+-- of market risk, or one of those
+abbrev pub market_key : Node → Key
+market_key (nodes.InterestScenario way taken) = single families.InterestScenario (direction_number way ∷ measure_number taken ∷ 0 ∷ [])
+market_key (nodes.Choice which) = single families.Choice (alternatives_number which ∷ 0 ∷ 0 ∷ [])
+market_key (nodes.Picked which taken) = single families.Picked (alternatives_number which ∷ measure_number taken ∷ 0 ∷ [])
+market_key (nodes.Currency taken) = single families.Currency (measure_number taken ∷ 0 ∷ 0 ∷ [])
+market_key (nodes.ClassSum of) = single families.ClassSum (class_number of ∷ 0 ∷ 0 ∷ [])
+market_key (nodes.EquityPart kind) = single families.EquityPart (equities_number kind ∷ 0 ∷ 0 ∷ [])
+market_key nodes.EquityRoot = alone families.EquityRoot
+market_key nodes.Property = alone families.Property
+market_key nodes.Spread = alone families.Spread
+market_key nodes.Assets = alone families.Assets
+market_key nodes.Concentration = alone families.Concentration
+market_key (nodes.NetPart of) = single families.NetPart (risk_number of ∷ 0 ∷ 0 ∷ [])
+market_key (nodes.Market taken) = single families.Market (measure_number taken ∷ 0 ∷ 0 ∷ [])
+market_key node = default_key node
+
+-- of a currency or a group, or one of those
+abbrev pub shared_key : Node → Key
+shared_key (nodes.CurrencyLoss currency way) = named families.CurrencyLoss currency (direction_number way ∷ 0 ∷ 0 ∷ [])
+shared_key (nodes.CurrencyScenario currency way taken) = named families.CurrencyScenario currency (direction_number way ∷ measure_number taken ∷ 0 ∷ [])
+shared_key (nodes.CurrencyChoice currency) = named families.CurrencyChoice currency (0 ∷ 0 ∷ 0 ∷ [])
+shared_key (nodes.CurrencyPicked currency taken) = named families.CurrencyPicked currency (measure_number taken ∷ 0 ∷ 0 ∷ [])
+shared_key (nodes.GroupTotal name) = named families.GroupTotal name (0 ∷ 0 ∷ 0 ∷ [])
+shared_key (nodes.ConcentrationSquare name) = named families.ConcentrationSquare name (0 ∷ 0 ∷ 0 ∷ [])
+shared_key (nodes.GroupLoss name) = named families.GroupLoss name (0 ∷ 0 ∷ 0 ∷ [])
+shared_key node = market_key node
+
+-- of a fund, a security or a liability, or one of those: any figure
 abbrev pub key_of : Node → Key
-key_of (nodes.FundTotal name) = named 0 name 0
-key_of (nodes.SecurityTotal name) = named 1 name 0
-key_of (nodes.UnitLoss name way) = named 2 name (direction_number way)
-key_of (nodes.SecurityRate name way) = named 3 name (direction_number way)
-key_of (nodes.LiabilityRate name way) = named 4 name (direction_number way)
-key_of (nodes.CurrencyLoss currency way) = named 5 currency (direction_number way)
-key_of (nodes.InterestScenario way taken) = single 6 (2 * direction_number way + measure_number taken)
-key_of (nodes.Choice alternatives.Interest) = single 7 0
-key_of (nodes.Picked alternatives.Interest taken) = single 8 (measure_number taken)
-key_of (nodes.ClassSum class) = single 9 (class_number class)
-key_of (nodes.EquityPart kind) = single 10 (equities_number kind)
-key_of nodes.EquityRoot = single 11 0
-key_of (nodes.NetPart risks.Equity) = single 12 0
+key_of (nodes.FundTotal name) = named families.FundTotal name (0 ∷ 0 ∷ 0 ∷ [])
+key_of (nodes.SecurityTotal name) = named families.SecurityTotal name (0 ∷ 0 ∷ 0 ∷ [])
+key_of (nodes.UnitLoss name way) = named families.UnitLoss name (direction_number way ∷ 0 ∷ 0 ∷ [])
+key_of (nodes.SecurityRate name way) = named families.SecurityRate name (direction_number way ∷ 0 ∷ 0 ∷ [])
+key_of (nodes.LiabilityRate name way) = named families.LiabilityRate name (direction_number way ∷ 0 ∷ 0 ∷ [])
+key_of (nodes.LiabilityPresent name) = named families.LiabilityPresent name (0 ∷ 0 ∷ 0 ∷ [])
+key_of (nodes.LiabilityLoss name stress) = named families.LiabilityLoss name (projection_number stress ∷ 0 ∷ 0 ∷ [])
+key_of (nodes.SecuritySpread name) = named families.SecuritySpread name (0 ∷ 0 ∷ 0 ∷ [])
+key_of node = shared_key node

@@ -5,6 +5,7 @@ ghost use Rattle.scr_sheet.specs.Faults.{fault_of};
 ghost use Rattle.scr_sheet.specs.Forms.{Formed};
 ghost use Rattle.scr_sheet.specs.Records.{applied};
 ghost use Rattle.scr_sheet.specs.Validity.{Valid};
+ghost use Rattle.scr_book.specs.Undone.{back, Fits};
 ghost use Rattle.scr_nodes.specs.Live.{is_live};
 ghost use Rattle.scr_plan.specs.Close.{close_under};
 ghost use Rattle.scr_plan.specs.Kept.{rows_of, all_discounts};
@@ -14,12 +15,13 @@ ghost use Rattle.scr_tree.specs.Standing.{Refuses, with_sheet};
 
 use crate::figures::{Figure, Figures};
 use crate::key::{Key, key_of};
-use crate::reckon::reckon_each;
+use crate::reckon::{Lookups, reckon_each};
 use crate::refusal::{Refusal, refused_for};
 use crate::totals::put_totals;
-use scr_book::{Book, Edit};
+use scr_book::{Book, Edit, Undo};
 use scr_factors::Factors;
-use scr_nodes::{Node, rest_nodes};
+use scr_live::{group_members, rest_nodes};
+use scr_nodes::Node;
 use scr_num::Span;
 use scr_plan::{Curves, curves};
 use scr_steps::Steps;
@@ -97,10 +99,7 @@ impl Engine {
                 self.figures = figures;
                 Ok(())
             }
-            Err(NoMemory) => {
-                self.book.put_back(undo);
-                Err(Refusal::NoMemory)
-            }
+            Err(NoMemory) => Err(take_back(&mut self.book, undo)),
         }
     }
 
@@ -179,6 +178,16 @@ impl Engine {
     }
 }
 
+/// Takes a record back for want of memory, which is the refusal.
+fn take_back(book: &mut Book, undo: Undo) -> Refusal
+    requires { Fits undo book.old }
+    ensures before { book.new ≡ back undo book.old }
+    ensures refusal { result ≡ Refusal.NoMemory }
+{
+    book.put_back(undo);
+    Refusal::NoMemory
+}
+
 /// Reckons the figures with a counter of its own.
 fn counted<L: Ledger>(
     alloc: Global,
@@ -211,6 +220,11 @@ fn reckon<L: Ledger>(
     let mut figures = Figures::new(alloc);
     put_totals(alloc, book.sheet(), &mut figures)?;
     let nodes = rest_nodes(alloc, book.sheet())?;
-    reckon_each(alloc, factors, book, &curves, &nodes, &mut figures, steps)?;
-    Ok(Reckoned { curves, figures })
+    let members = group_members(alloc, book.sheet())?;
+    let lookups = Lookups { curves, members };
+    reckon_each(alloc, factors, book, &lookups, &nodes, &mut figures, steps)?;
+    Ok(Reckoned {
+        curves: lookups.curves,
+        figures,
+    })
 }

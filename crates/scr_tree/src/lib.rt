@@ -2,8 +2,10 @@
 #![tactic(auto)]
 
 mod engine;
+mod family;
 mod figures;
 mod key;
+mod numbers;
 mod reckon;
 mod refusal;
 mod totals;

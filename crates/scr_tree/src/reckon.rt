@@ -7,6 +7,7 @@ ghost use Rattle.scr_nodes.specs.Live.{is_live};
 ghost use Rattle.scr_nodes.specs.LiveNodes.{rest_nodes};
 ghost use Rattle.scr_sheet.specs.Validity.{Valid};
 ghost use Rattle.scr_nodes.specs.Sources.{sources_of};
+ghost use Rattle.scr_live.specs.Members.{AreMembersOf};
 ghost use Rattle.scr_plan.specs.Close.{is_open as open_mask};
 ghost use Rattle.scr_plan.specs.Kept.{rows_of, all_discounts};
 ghost use Rattle.scr_tree.specs.Figures.{AreSettled, HasTotals, IsKnown, found, opens};
@@ -16,31 +17,41 @@ use crate::figures::{Figure, Figures};
 use crate::key::{Key, key_of};
 use scr_book::Book;
 use scr_factors::Factors;
-use scr_nodes::{Node, sources};
+use scr_live::{Members, sources_with};
+use scr_nodes::Node;
 use scr_num::Span;
 use scr_plan::{Curves, evaluate};
 use scr_steps::Steps;
 use std::alloc::{AllocError as NoMemory, Global};
 use std::sync::ledger::Ledger;
 
+/// What is found once for all figures of a book: the discounts of its currencies, and the
+/// securities of its groups.
+#[derive(Drop)]
+pub(crate) struct Lookups {
+    pub(crate) curves: Curves,
+    pub(crate) members: Members,
+}
+
 /// Reckons the figures above the totals, each from those before it, where the totals are known.
 pub(crate) fn reckon_each<L: Ledger>(
     alloc: Global,
     factors: &Factors,
     book: &Book,
-    curves: &Curves,
+    lookups: &Lookups,
     nodes: &[Node],
     figures: &mut Figures<Key>,
     steps: &mut Steps<L>,
 ) -> Result<(), NoMemory>
     requires valid { Valid book.now }
     requires rest { nodes.now ≡ rest_nodes book.now }
-    requires curves { rows_of curves.now ≡ all_discounts book.now }
+    requires curves { rows_of lookups.now.curves ≡ all_discounts book.now }
+    requires members { AreMembersOf book.now lookups.now.members }
     requires totals { HasTotals factors.now book.now figures.old }
     ensures { OnOk result (AreSettled factors.now book.now figures.new) }
 {
     for node in nodes {
-        reckon_one(alloc, factors, book, curves, node, figures, steps)?;
+        reckon_one(alloc, factors, book, lookups, node, figures, steps)?;
     }
     Ok(())
 }
@@ -50,21 +61,24 @@ fn reckon_one<L: Ledger>(
     alloc: Global,
     factors: &Factors,
     book: &Book,
-    curves: &Curves,
+    lookups: &Lookups,
     node: &Node,
     figures: &mut Figures<Key>,
     steps: &mut Steps<L>,
 ) -> Result<(), NoMemory>
     requires live { is_live book.now node.now ≡ true }
-    requires curves { rows_of curves.now ≡ all_discounts book.now }
+    requires curves { rows_of lookups.now.curves ≡ all_discounts book.now }
+    requires members { AreMembersOf book.now lookups.now.members }
     requires sources { AllByRecursion (IsKnown factors.now book.now figures.old) (sources_of book.now node.now) }
     ensures known { OnOk result (IsKnown factors.now book.now figures.new node.now) }
     ensures others { OnOk result ((other : Node) → IsKnown factors.now book.now figures.old other
         → IsKnown factors.now book.now figures.new other) }
 {
-    let below = figures_of(alloc, figures, &sources(alloc, book.sheet(), node)?)?;
+    factors.known();
+    let sources = sources_with(alloc, book.sheet(), &lookups.members, node)?;
+    let below = figures_of(alloc, figures, &sources)?;
     let spans = spans_of(alloc, &below)?;
-    let span = evaluate(factors, book, curves, *node, &spans, steps);
+    let span = evaluate(factors, book, &lookups.curves, *node, &spans, steps);
     let close = is_close(node, span, &below);
     figures.put(key_of(node), Figure { span, close })
 }
@@ -87,7 +101,7 @@ fn is_open_choice(node: &Node, span: Span) -> bool
     ensures { result ≡ opens node.now (ends span) }
 {
     match node {
-        Node::Choice(_) => is_open(span),
+        Node::Choice(_) | Node::CurrencyChoice(_) | Node::DefaultBand => is_open(span),
         _ => false,
     }
 }

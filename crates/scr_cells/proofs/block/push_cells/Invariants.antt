@@ -1,11 +1,11 @@
 use Rattle.std.proofs.Common.{◌≡◌, ◌++◌, drop}
-use Rattle.std.specs.Prelude.{flat_map, map}
-use Rattle.scr_cells.specs.Block.{cell_line}
-use Rattle.scr_cells.specs.Table.{seen}
+use Rattle.std.specs.Prelude.{flat_map}
+use Rattle.scr_cells.specs.Block.{block_text, cell_line}
+use Rattle.scr_cells.specs.Table.{table}
 use Rattle.scr_cells.proofs.block.push_cells.Given as goal
 
--- the lines so far, and those of the entries that are left, are those of all
-abbrev pub invariant-loop-entry : goal.invariant-loop-entry
-invariant-loop-entry l =
-    l.out.items ++ flat_map (cell_line l.engine.factors l.engine.sheet) (map seen (drop l.entry-index l.entries))
-    ≡ l.fn.out.items ++ flat_map (cell_line l.engine.factors l.engine.sheet) (map seen l.entries)
+-- the lines so far, and those of the cells that are left, are the block
+abbrev pub invariant-loop-k : goal.invariant-loop-k
+invariant-loop-k l =
+    l.out.items ++ flat_map (cell_line l.engine.factors l.engine.sheet) (drop l.k table)
+    ≡ l.fn.out.items ++ block_text l.engine.factors l.engine.sheet

@@ -15,10 +15,12 @@ pub loop-k-preserved : goal.loop-k-preserved
 loop-k-preserved c =
     elim c.if-is_closed.branch [
       | then-is_closed+else-left-eq0 w ↦ one_more
-          (is_closed) c.args.sheet.now.funds c.loop-k.k c.args.place c.loop-k.left c.if-is_closed.left c.at-stake.result.now c.at-stake.ensures
+          (is_closed) c.args.sheet.now.funds c.loop-k.k c.args.place c.loop-k.left c.if-is_closed.left
+          c.at-stake.result.now c.at-stake.ensures
           (sym c.is_closed.ensures ∙ w.if-is_closed.true) c.loop-k.invariant
           (omega (arith, w.if-left-eq0.false)) w.left-is
       | else-is_closed w ↦ none_more
-          (is_closed) c.args.sheet.now.funds c.loop-k.k c.args.place c.loop-k.left c.if-is_closed.left c.at-stake.result.now c.at-stake.ensures
+          (is_closed) c.args.sheet.now.funds c.loop-k.k c.args.place c.loop-k.left c.if-is_closed.left
+          c.at-stake.result.now c.at-stake.ensures
           (sym c.is_closed.ensures ∙ w.if-is_closed.false) c.loop-k.invariant w.left-is
     ]

@@ -15,9 +15,11 @@ pub loop-k-preserved : goal.loop-k-preserved
 loop-k-preserved c =
     elim c.if-holds.branch [
       | then-holds+else-left-eq0 w ↦ one_more
-          (holds c.args.name.now) c.args.sheet.now.funds c.loop-k.k c.args.place c.loop-k.left c.if-holds.left c.at-stake.result.now c.at-stake.ensures
+          (holds c.args.name.now) c.args.sheet.now.funds c.loop-k.k c.args.place c.loop-k.left c.if-holds.left
+          c.at-stake.result.now c.at-stake.ensures
           (sym c.holds.ensures ∙ w.if-holds.true) c.loop-k.invariant (omega (arith, w.if-left-eq0.false)) w.left-is
       | else-holds w ↦ none_more
-          (holds c.args.name.now) c.args.sheet.now.funds c.loop-k.k c.args.place c.loop-k.left c.if-holds.left c.at-stake.result.now c.at-stake.ensures
+          (holds c.args.name.now) c.args.sheet.now.funds c.loop-k.k c.args.place c.loop-k.left c.if-holds.left
+          c.at-stake.result.now c.at-stake.ensures
           (sym c.holds.ensures ∙ w.if-holds.false) c.loop-k.invariant w.left-is
     ]

@@ -1,15 +1,13 @@
-use Rattle.std.proofs.Common.{◌≡◌, ℕ, Some, Contains, length, slice_get, take, inl, inr, sym, ap, subst, ◌∙◌, arith}
+use Rattle.std.proofs.Common.{Some, Contains, slice_get, take, inl, inr, sym, ap, subst, ◌∙◌, arith}
 use Rattle.std.specs.List.{AllByRecursion}
 use Rattle.std.proofs.lemmas.List.{take_all}
 use Rattle.std.proofs.lemmas.List.Elements.{Contains-get_or}
 use Rattle.std.proofs.lemmas.Option.{slice_get-get_or}
-use Rattle.scr_nodes.specs.declared.node.Node.{Node}
-use Rattle.scr_nodes.specs.LiveNodes.{rest_nodes, total_nodes}
+use Rattle.scr_nodes.specs.LiveNodes.{total_nodes}
 use Rattle.scr_nodes.specs.Sources.{sources_of}
 use Rattle.scr_nodes.proofs.Ordered.{rest-after, rest-live, total-or-rest}
 use Rattle.scr_tree.specs.Figures.{IsKnown}
 use Rattle.scr_tree.proofs.Known.{all-contained, all-map, all-next, each-contained}
-use Rattle.scr_tree.proofs.reckon.reckon_each.Given as given
 use Rattle.scr_tree.proofs.reckon.reckon_each.Goals as goal
 
 pub reckon_one-requires-clause-live : goal.reckon_one-requires-clause-live

@@ -1,10 +1,9 @@
-use Rattle.std.proofs.Common.{◌≡◌, ◌||◌, Bool, List, map, Some, Result, Ok, Err, OnOk, if◌then◌else◌, refl, sym, subst, ap, ap₂, ◌∙◌}
+use Rattle.std.proofs.Common.{◌≡◌, ◌||◌, Bool, map, Some, OnOk, if◌then◌else◌, sym, subst, ap, ap₂, ◌∙◌}
 use Rattle.std.specs.List.{AllByRecursion, list_any}
 use Rattle.scr_num.specs.Rounding.{Ends, ends}
-use Rattle.scr_nodes.specs.declared.node.Node.{Node}
 use Rattle.scr_nodes.specs.OwnOf.{own_of}
 use Rattle.scr_nodes.specs.Sources.{sources_of}
-use Rattle.scr_plan.specs.Close.{close_under, is_open_choice}
+use Rattle.scr_live.specs.Members.{AreMembersOf}
 use Rattle.scr_plan.specs.Fits.{Fits}
 use Rattle.scr_plan.specs.Kept.{AreDiscountsOf}
 use Rattle.scr_plan.specs.Worked.{worked}
@@ -14,10 +13,14 @@ use Rattle.scr_plan.proofs.Ranges.{node-fits}
 use Rattle.scr_tree.specs.declared.figures.Figure.{Figure}
 use Rattle.std.specs.Map.{lookup}
 use Rattle.scr_tree.specs.declared.key.Key.{Key}
-use Rattle.scr_tree.specs.Figures.{ArePut, IsKnown, Worth, found, opens, same_key, worth_at, worth_of}
+use Rattle.scr_tree.specs.Figures.{ArePut, IsKnown, opens, same_key, worth_at, worth_of}
 use Rattle.scr_tree.proofs.Known.{all-there, known-kept, known-own, on-ok, opens-is, read-off}
 use Rattle.scr_tree.proofs.reckon.reckon_one.Given as given
 use Rattle.scr_tree.proofs.reckon.reckon_one.Goals as goal
+
+pub sources_with-requires : goal.sources_with-requires
+sources_with-requires g c =
+    subst (λ sheet. AreMembersOf sheet c.args.lookups.now.members) (sym c.sheet.ensures.sheet) c.requires.members
 
 pub figures_of-requires : goal.figures_of-requires
 figures_of-requires g c =
@@ -36,10 +39,10 @@ evaluate-span-requires-clause-fits g c =
     (c.deref.ensures.value ∙ c.in_ok-sources.ensures ∙ ap (λ sheet. sources_of sheet c.args.node.now) c.sheet.ensures.sheet)
     c.in_ok-below.ensures c.requires.sources
     (c.deref-3.ensures.value ∙ c.in_ok-spans.ensures ∙ ap (map (λ (figure : Figure). figure.span)) c.deref-2.ensures.value)).0)
-    (node-fits c.args.factors.now c.args.book.now c.sheet.ensures.valid c.args.node.now c.requires.live)
+    (node-fits c.args.factors.now c.known.ensures c.args.book.now c.sheet.ensures.valid c.args.node.now c.requires.live)
 
 -- what is put is worth what the node is
-worth : (g : given.Over) (c : goal.After-drop-below-2 g)
+worth : (g : given.Over) (c : goal.After-drop-sources-2 g)
     → worth_of (record { span = c.evaluate-span.result; close = c.is_close-close.result }) ≡ worth_at c.args.factors.now c.args.book.now c.args.node.now
 worth g c =
     let factors = c.args.factors.now in
@@ -57,7 +60,7 @@ worth g c =
     ∙ off.1)
     ∙ sym (close-equation factors sheet c.sheet.ensures.valid node))
 
-put : (g : given.Over) (c : goal.After-drop-below-2 g) → OnOk c.put.result
+put : (g : given.Over) (c : goal.After-drop-sources-2 g) → OnOk c.put.result
     (ArePut c.args.node.now (record { span = c.evaluate-span.result; close = c.is_close-close.result }) c.args.figures.now c.put.new.self)
 unfolding same_key
 put g c =

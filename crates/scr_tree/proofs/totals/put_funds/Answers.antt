@@ -1,8 +1,6 @@
-use Rattle.std.proofs.Common.{◌≡◌, length, map, take, slice_index, sym, ap, subst, ◌∙◌, arith}
+use Rattle.std.proofs.Common.{◌≡◌, take, subst, ◌∙◌, arith}
 use Rattle.std.specs.List.{AllByRecursion}
 use Rattle.std.proofs.lemmas.List.{take_all}
-use Rattle.scr_sheet.specs.BalanceSheet.{stake_name}
-use Rattle.scr_sheet.specs.Totals.{total_of}
 use Rattle.scr_nodes.specs.Sources.{fund_total}
 use Rattle.scr_tree.specs.Figures.{IsKnown, worth_at, worth_of}
 use Rattle.scr_tree.proofs.Known.{all-map, all-next, known-kept, known-own}

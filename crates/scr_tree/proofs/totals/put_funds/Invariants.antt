@@ -1,4 +1,4 @@
-use Rattle.std.proofs.Common.{map, take}
+use Rattle.std.proofs.Common.{take}
 use Rattle.std.specs.List.{AllByRecursion}
 use Rattle.scr_factors.specs.Values.{FactorValues}
 use Rattle.scr_nodes.specs.Sources.{fund_total}

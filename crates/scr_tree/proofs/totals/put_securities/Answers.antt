@@ -1,9 +1,7 @@
-use Rattle.std.proofs.Common.{◌≡◌, length, map, take, slice_index, sym, ap, subst, ◌∙◌, arith}
+use Rattle.std.proofs.Common.{◌≡◌, map, take, subst, ◌∙◌, arith}
 use Rattle.std.specs.List.{AllByRecursion}
 use Rattle.std.proofs.lemmas.List.{take_all}
 use Rattle.scr_factors.specs.Values.{FactorValues}
-use Rattle.scr_sheet.specs.BalanceSheet.{position_name}
-use Rattle.scr_sheet.specs.Totals.{total_of}
 use Rattle.scr_nodes.specs.Sources.{fund_total, security_total}
 use Rattle.scr_tree.specs.Figures.{IsKnown, worth_at, worth_of}
 use Rattle.scr_tree.proofs.Known.{all-map, all-next, known-kept, known-own}

@@ -1,8 +1,8 @@
-use Rattle.std.proofs.Common.{◌≡◌, ℕ, ◌<◌, pos, Some, false, if◌then◌else◌, refl, sym, ap, subst, ◌∙◌}
+use Rattle.std.proofs.Common.{◌≡◌, Some, false, if◌then◌else◌, ap, subst}
 use Rattle.std.specs.Map.{lookup}
-use Rattle.scr_num.specs.Rounding.{Ends, exact_ends}
+use Rattle.scr_num.specs.Rounding.{Ends}
 use Rattle.scr_tree.specs.declared.key.Key.{Key}
-use Rattle.scr_tree.specs.Figures.{ArePut, same_key, total_worth, worth_of}
+use Rattle.scr_tree.specs.Figures.{same_key}
 use Rattle.scr_tree.proofs.Known.{on-ok}
 use Rattle.scr_tree.proofs.totals.put_total.Goals as goal
 

@@ -1,4 +1,4 @@
-use Rattle.std.proofs.Common.{◌≡◌, ◌∙◌}
+use Rattle.std.proofs.Common.{◌∙◌}
 use Rattle.scr_totals.proofs.SeenThrough.{front-totals, rest-totals}
 use Rattle.scr_tree.proofs.totals.put_totals.Goals as goal
 

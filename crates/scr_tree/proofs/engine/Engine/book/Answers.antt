@@ -1,4 +1,4 @@
-use Rattle.std.proofs.Common.{◌≡◌, subst}
+use Rattle.std.proofs.Common.{subst}
 use Rattle.scr_sheet.specs.Validity.{Valid}
 use Rattle.scr_tree.specs.Standing.{Standing}
 use Rattle.scr_tree.proofs.engine.Engine.book.Goals as goal

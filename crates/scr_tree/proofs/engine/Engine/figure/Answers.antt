@@ -1,10 +1,9 @@
-use Rattle.std.proofs.Common.{◌≡◌, true, false, Option, Some, None, is_some, refl, sym, ap, subst, ◌∙◌}
+use Rattle.std.proofs.Common.{◌≡◌, true, false, Option, Some, None, is_some, sym, ap, subst, ◌∙◌}
 use Rattle.std.specs.Map.{lookup}
 use Rattle.std.specs.Option.{option_map}
 use Rattle.scr_nodes.specs.declared.node.Node.{Node}
 use Rattle.scr_nodes.specs.Live.{is_live}
 use Rattle.scr_tree.specs.declared.figures.Figure.{Figure}
-use Rattle.scr_tree.specs.Keys.{key_of}
 use Rattle.scr_tree.specs.Figures.{AreSettled, Table, Worth, found, same_key, worth_at, worth_of}
 use Rattle.scr_tree.specs.Standing.{Standing}
 use Rattle.scr_tree.proofs.Known.{known-there, known-worth}

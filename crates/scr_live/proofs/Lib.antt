@@ -1,0 +1,4 @@
+pub mod Families
+pub mod Placing
+pub mod Levels
+pub mod Grouped

@@ -1,0 +1,4 @@
+pub mod PlacedNames
+pub mod PlacedFunds
+pub mod Selections
+pub mod Members

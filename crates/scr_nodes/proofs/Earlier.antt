@@ -1,0 +1,223 @@
+-- The sources of a figure stand in earlier families than it.
+use Rattle.std.proofs.Common.{◌≡◌, ℕ, ◌<◌, nat_lt, Bool, true, List, map, filter, refl, arith}
+use Rattle.std.specs.List.{list_all}
+use Rattle.scr_names.proofs.TableRows.{All-append}
+use Rattle.scr_profile.specs.declared.set.Set.TheVariants as sets
+use Rattle.scr_sheet.specs.declared.keys.Projection.{Projection}
+use Rattle.scr_sheet.specs.declared.keys.Projection.TheVariants as projections
+use Rattle.scr_sheet.specs.declared.sheet.BalanceSheet.{BalanceSheet}
+use Rattle.scr_sheet.specs.declared.rows.Class.{Class}
+use Rattle.scr_sheet.specs.declared.rows.Class.TheVariants as classes
+use Rattle.scr_sheet.specs.declared.rows.Curve.{Curve}
+use Rattle.scr_sheet.specs.declared.rows.Liability.{Liability}
+use Rattle.scr_sheet.specs.declared.rows.Position.{Position}
+use Rattle.scr_nodes.specs.declared.node.Adjustment.TheVariants as adjustments
+use Rattle.scr_nodes.specs.declared.node.Alternatives.TheVariants as alternatives
+use Rattle.scr_nodes.specs.declared.node.Biometric.{Biometric}
+use Rattle.scr_nodes.specs.declared.node.Biometric.TheVariants as biometrics
+use Rattle.scr_nodes.specs.declared.node.Direction.{Direction}
+use Rattle.scr_nodes.specs.declared.node.Direction.TheVariants.{Up, Down}
+use Rattle.scr_nodes.specs.declared.node.Equities.TheVariants as equities
+use Rattle.scr_nodes.specs.declared.node.Measure.{Measure}
+use Rattle.scr_nodes.specs.declared.node.Measure.TheVariants.{Gross, Net}
+use Rattle.scr_nodes.specs.declared.node.Node.{Node}
+use Rattle.scr_nodes.specs.declared.node.Node.TheVariants as nodes
+use Rattle.scr_nodes.specs.declared.node.Operational.TheVariants as operations
+use Rattle.scr_nodes.specs.declared.node.Risk.TheVariants as risks
+use Rattle.scr_nodes.specs.Rows.{holds, is_closed, is_paying_in, is_owed_in, has_class, is_held_in, is_foreign, is_of_group, has_group, is_of_default_class, is_stressed}
+use Rattle.scr_nodes.specs.Sources.{sources_of, fund_total, security_total, security_rate, liability_rate, liability_present, liability_loss, currency_loss, currency_picked, security_spread, concentration_square, group_loss, rates_in, worths_in, funds_of_class, held_of_class, losses_of_class, losses_under, foreign_picked}
+use Rattle.scr_nodes.proofs.Chosen.{each-chosen, each-mapped, each-row}
+use Rattle.scr_nodes.proofs.Parts.{part_of, AllBelow, below-tested, below-weaker}
+
+module _ (sheet : BalanceSheet) where
+  -- the nodes of rows that a test chooses
+  below-chosen : {Row : Type 0} (part : ℕ) (test : Row → Bool) (node : Row → Node) (rows : List Row)
+      → ((r : Row) → part_of (node r) < part) → AllBelow part (map node (filter test rows))
+  below-chosen part test node rows less =
+      each-chosen (λ r. Unit {0}) (λ n. part_of n < part) test node rows (each-row rows) (λ r fact e. less r)
+
+  below-mapped : {Row : Type 0} (part : ℕ) (node : Row → Node) (rows : List Row)
+      → ((r : Row) → part_of (node r) < part) → AllBelow part (map node rows)
+  below-mapped part node rows less =
+      each-mapped (λ r. Unit {0}) (λ n. part_of n < part) (λ r. true) node rows (each-row rows) (λ r fact. less r)
+
+  below-rates : (currency : List ℕ) (direction : Direction) → AllBelow 8 (rates_in currency direction sheet)
+  below-rates currency direction =
+      All-append (λ n. part_of n < 8) (map (security_rate direction) (filter (is_paying_in currency) sheet.securities))
+      (map (liability_rate direction) (filter (is_owed_in currency) sheet.liabilities))
+      (below-chosen 8 (is_paying_in currency) (security_rate direction) sheet.securities (rate direction))
+      (below-chosen 8 (is_owed_in currency) (liability_rate direction) sheet.liabilities (cost direction))
+    where
+      rate : (d : Direction) (p : Position) → part_of (security_rate d p) < 8
+      rate Up p = omega arith
+      rate Down p = omega arith
+
+      cost : (d : Direction) (l : Liability) → part_of (liability_rate d l) < 8
+      cost Up l = omega arith
+      cost Down l = omega arith
+
+  below-worths : (currency : List ℕ) → AllBelow 9 (worths_in currency sheet)
+  below-worths currency =
+      All-append (λ n. part_of n < 9) (map security_total (filter (is_held_in currency) sheet.securities))
+      (map liability_present (filter (is_owed_in currency) sheet.liabilities))
+      (below-chosen 9 (is_held_in currency) security_total sheet.securities (λ p. omega arith))
+      (below-chosen 9 (is_owed_in currency) liability_present sheet.liabilities (λ l. omega arith))
+
+  below-held : (class : Class) → AllBelow 2 (held_of_class class sheet)
+  below-held class =
+      All-append (λ n. part_of n < 2) (map security_total (filter (has_class class) sheet.securities))
+      (funds_of_class class sheet)
+      (below-chosen 2 (has_class class) security_total sheet.securities (λ p. omega arith)) (funds class)
+    where
+      funds : (c : Class) → AllBelow 2 (funds_of_class c sheet)
+      funds classes.Type2Equity = below-chosen 2 is_closed fund_total sheet.funds (λ s. omega arith)
+      funds c = tt
+
+  below-currencies : (direction : Direction) → AllBelow 20 (map (currency_loss direction) sheet.curves)
+  below-currencies direction = below-mapped 20 (currency_loss direction) sheet.curves (loss direction)
+    where
+      loss : (d : Direction) (c : Curve) → part_of (currency_loss d c) < 20
+      loss Up c = omega arith
+      loss Down c = omega arith
+
+  below-losses : (biometric : Biometric) (projection : Projection) → AllBelow 18
+      (losses_under biometric projection sheet)
+  below-losses biometric projection =
+      below-chosen 18 (is_stressed biometric projection) (liability_loss projection) sheet.liabilities (loss projection)
+    where
+      loss : (p : Projection) (l : Liability) → part_of (liability_loss p l) < 18
+      loss projections.Base l = omega arith
+      loss projections.Mortality l = omega arith
+      loss projections.Longevity l = omega arith
+      loss projections.Disability l = omega arith
+      loss projections.Expense l = omega arith
+      loss projections.Revision l = omega arith
+      loss projections.LapseUp l = omega arith
+      loss projections.LapseDown l = omega arith
+      loss projections.LapseMass l = omega arith
+      loss projections.Catastrophe l = omega arith
+
+  below-class : (class : ℕ) → AllBelow 32 (losses_of_class class sheet)
+  below-class class = below-chosen 32 (is_of_default_class class) group_loss sheet.groups (λ g. omega arith)
+
+  below-picked : (measure : Measure) → AllBelow 27 (foreign_picked measure sheet)
+  below-picked Gross = below-chosen 27 (is_foreign sheet) (currency_picked Gross) sheet.curves (λ c. omega arith)
+  below-picked Net = below-chosen 27 (is_foreign sheet) (currency_picked Net) sheet.curves (λ c. omega arith)
+
+  tested : (node : Node) → list_all (λ n. nat_lt (part_of n) (part_of node)) (sources_of sheet node) ≡ true
+      → AllBelow (part_of node) (sources_of sheet node)
+  tested node h = below-tested (part_of node) (sources_of sheet node) h
+
+  pub sources-earlier : (node : Node) → 0 < part_of node → AllBelow (part_of node) (sources_of sheet node)
+  sources-earlier (nodes.FundTotal name) h = absurd (omega arith)
+  sources-earlier (nodes.SecurityTotal name) h = below-chosen 1 (holds name) fund_total sheet.funds (λ s. omega arith)
+  sources-earlier (nodes.UnitLoss name direction) h = tt
+  sources-earlier (nodes.SecurityRate name Up) h = tested (nodes.SecurityRate name Up) refl
+  sources-earlier (nodes.SecurityRate name Down) h = tested (nodes.SecurityRate name Down) refl
+  sources-earlier (nodes.LiabilityRate name direction) h = tt
+  sources-earlier (nodes.LiabilityPresent name) h = tt
+  sources-earlier (nodes.LiabilityLoss name projection) h = tt
+  sources-earlier (nodes.CurrencyLoss currency direction) h =
+      below-weaker 8 (part_of (nodes.CurrencyLoss currency direction)) (omega arith) (rates_in currency direction sheet)
+      (below-rates currency direction)
+  sources-earlier (nodes.InterestScenario direction Gross) h =
+      below-weaker 20 (part_of (nodes.InterestScenario direction Gross)) (omega arith)
+      (map (currency_loss direction) sheet.curves) (below-currencies direction)
+  sources-earlier (nodes.InterestScenario direction Net) h = (omega arith, tt)
+  sources-earlier (nodes.CurrencyScenario currency direction Gross) h =
+      below-weaker 9 (part_of (nodes.CurrencyScenario currency direction Gross)) (omega arith)
+      (worths_in currency sheet)
+      (below-worths currency)
+  sources-earlier (nodes.CurrencyScenario currency direction Net) h = (omega arith, tt)
+  sources-earlier (nodes.CurrencyChoice currency) h = tested (nodes.CurrencyChoice currency) refl
+  sources-earlier (nodes.CurrencyPicked currency Gross) h = tested (nodes.CurrencyPicked currency Gross) refl
+  sources-earlier (nodes.CurrencyPicked currency Net) h = tested (nodes.CurrencyPicked currency Net) refl
+  sources-earlier (nodes.Choice alternatives.Interest) h = tested (nodes.Choice alternatives.Interest) refl
+  sources-earlier (nodes.Choice alternatives.LifeLapse) h = tested (nodes.Choice alternatives.LifeLapse) refl
+  sources-earlier (nodes.Choice alternatives.HealthLapse) h = tested (nodes.Choice alternatives.HealthLapse) refl
+  sources-earlier (nodes.Picked alternatives.Interest Gross) h = tested (nodes.Picked alternatives.Interest Gross) refl
+  sources-earlier (nodes.Picked alternatives.Interest Net) h = tested (nodes.Picked alternatives.Interest Net) refl
+  sources-earlier (nodes.Picked alternatives.LifeLapse Gross) h =
+      tested (nodes.Picked alternatives.LifeLapse Gross) refl
+  sources-earlier (nodes.Picked alternatives.LifeLapse Net) h = tested (nodes.Picked alternatives.LifeLapse Net) refl
+  sources-earlier (nodes.Picked alternatives.HealthLapse Gross) h =
+      tested (nodes.Picked alternatives.HealthLapse Gross) refl
+  sources-earlier (nodes.Picked alternatives.HealthLapse Net) h =
+      tested (nodes.Picked alternatives.HealthLapse Net) refl
+  sources-earlier (nodes.Currency measure) h =
+      below-weaker 27 (part_of (nodes.Currency measure)) (omega arith) (foreign_picked measure sheet)
+      (below-picked measure)
+  sources-earlier (nodes.ClassSum class) h =
+      below-weaker 2 (part_of (nodes.ClassSum class)) (omega arith) (held_of_class class sheet) (below-held class)
+  sources-earlier (nodes.EquityPart equities.Type1) h = tested (nodes.EquityPart equities.Type1) refl
+  sources-earlier (nodes.EquityPart equities.Type2) h = tested (nodes.EquityPart equities.Type2) refl
+  sources-earlier (nodes.EquityPart equities.Infrastructure) h = tested (nodes.EquityPart equities.Infrastructure) refl
+  sources-earlier (nodes.EquityPart equities.InfrastructureCorporate) h =
+      tested (nodes.EquityPart equities.InfrastructureCorporate) refl
+  sources-earlier nodes.EquityRoot h = tested nodes.EquityRoot refl
+  sources-earlier nodes.Property h = tested nodes.Property refl
+  sources-earlier (nodes.SecuritySpread name) h = (omega arith, tt)
+  sources-earlier nodes.Spread h =
+      below-chosen 55 (has_class classes.Bond) security_spread sheet.securities (λ p. omega arith)
+  sources-earlier (nodes.GroupTotal name) h =
+      below-chosen 28 (is_of_group name) security_total sheet.securities (λ p. omega arith)
+  sources-earlier nodes.Assets h = below-chosen 29 has_group security_total sheet.securities (λ p. omega arith)
+  sources-earlier (nodes.ConcentrationSquare name) h = (omega arith, (omega arith, tt))
+  sources-earlier nodes.Concentration h = below-mapped 56 concentration_square sheet.groups (λ g. omega arith)
+  sources-earlier (nodes.NetPart risks.Equity) h = tested (nodes.NetPart risks.Equity) refl
+  sources-earlier (nodes.NetPart risks.Property) h = tested (nodes.NetPart risks.Property) refl
+  sources-earlier (nodes.NetPart risks.Spread) h = tested (nodes.NetPart risks.Spread) refl
+  sources-earlier (nodes.NetPart risks.Concentration) h = tested (nodes.NetPart risks.Concentration) refl
+  sources-earlier (nodes.NetPart risks.Default) h = tested (nodes.NetPart risks.Default) refl
+  sources-earlier (nodes.NetPart risks.HealthCatastrophe) h = tested (nodes.NetPart risks.HealthCatastrophe) refl
+  sources-earlier (nodes.Market Gross) h = tested (nodes.Market Gross) refl
+  sources-earlier (nodes.Market Net) h = tested (nodes.Market Net) refl
+  sources-earlier (nodes.GroupLoss name) h = tt
+  sources-earlier (nodes.ClassLoss class) h =
+      below-weaker 32 (part_of (nodes.ClassLoss class)) (omega arith) (losses_of_class class sheet) (below-class class)
+  sources-earlier (nodes.ClassSquare class) h =
+      below-weaker 32 (part_of (nodes.ClassSquare class)) (omega arith) (losses_of_class class sheet)
+      (below-class class)
+  sources-earlier nodes.Variance h = tested nodes.Variance refl
+  sources-earlier nodes.DefaultBand h = tested nodes.DefaultBand refl
+  sources-earlier nodes.DefaultType1 h = tested nodes.DefaultType1 refl
+  sources-earlier nodes.DefaultType2 h = tt
+  sources-earlier nodes.Default h = tested nodes.Default refl
+  sources-earlier (nodes.BioScenario biometrics.Life projection Gross) h =
+      below-weaker 18 (part_of (nodes.BioScenario biometrics.Life projection Gross)) (omega arith)
+      (losses_under biometrics.Life projection sheet) (below-losses biometrics.Life projection)
+  sources-earlier (nodes.BioScenario biometrics.Health projection Gross) h =
+      below-weaker 18 (part_of (nodes.BioScenario biometrics.Health projection Gross)) (omega arith)
+      (losses_under biometrics.Health projection sheet) (below-losses biometrics.Health projection)
+  sources-earlier (nodes.BioScenario biometric projection Net) h = (omega arith, tt)
+  sources-earlier (nodes.Life Gross) h = tested (nodes.Life Gross) refl
+  sources-earlier (nodes.Life Net) h = tested (nodes.Life Net) refl
+  sources-earlier (nodes.Slt Gross) h = tested (nodes.Slt Gross) refl
+  sources-earlier (nodes.Slt Net) h = tested (nodes.Slt Net) refl
+  sources-earlier (nodes.Segment set number) h = tt
+  sources-earlier (nodes.PremiumReserve sets.Nl) h = tested (nodes.PremiumReserve sets.Nl) refl
+  sources-earlier (nodes.PremiumReserve sets.Nslt) h = tested (nodes.PremiumReserve sets.Nslt) refl
+  sources-earlier (nodes.CatCharge key) h = tt
+  sources-earlier (nodes.Lapse set) h = tt
+  sources-earlier nodes.Intangible h = tt
+  sources-earlier nodes.Natural h = tested nodes.Natural refl
+  sources-earlier nodes.ManMade h = tested nodes.ManMade refl
+  sources-earlier nodes.NonlifeCatastrophe h = tested nodes.NonlifeCatastrophe refl
+  sources-earlier nodes.HealthCatastrophe h = tested nodes.HealthCatastrophe refl
+  sources-earlier (nodes.Nslt Gross) h = tested (nodes.Nslt Gross) refl
+  sources-earlier (nodes.Nslt Net) h = tested (nodes.Nslt Net) refl
+  sources-earlier (nodes.Health Gross) h = tested (nodes.Health Gross) refl
+  sources-earlier (nodes.Health Net) h = tested (nodes.Health Net) refl
+  sources-earlier (nodes.Nonlife Gross) h = tested (nodes.Nonlife Gross) refl
+  sources-earlier (nodes.Nonlife Net) h = tested (nodes.Nonlife Net) refl
+  sources-earlier (nodes.Bscr Gross) h = tested (nodes.Bscr Gross) refl
+  sources-earlier (nodes.Bscr Net) h = tested (nodes.Bscr Net) refl
+  sources-earlier nodes.Diversification h = tested nodes.Diversification refl
+  sources-earlier (nodes.OpPart operations.Premiums) h = tested (nodes.OpPart operations.Premiums) refl
+  sources-earlier (nodes.OpPart operations.Provisions) h = tested (nodes.OpPart operations.Provisions) refl
+  sources-earlier (nodes.OpPart operations.Cap) h = tested (nodes.OpPart operations.Cap) refl
+  sources-earlier (nodes.OpPart operations.Charge) h = tested (nodes.OpPart operations.Charge) refl
+  sources-earlier (nodes.Adjust adjustments.TechnicalProvisions) h =
+      tested (nodes.Adjust adjustments.TechnicalProvisions) refl
+  sources-earlier (nodes.Adjust adjustments.DeferredTaxes) h = tested (nodes.Adjust adjustments.DeferredTaxes) refl
+  sources-earlier nodes.Scr h = tested nodes.Scr refl

@@ -1,0 +1,27 @@
+use Rattle.std.proofs.Common.{sym, ◌∙◌, arith}
+use Rattle.scr_nodes.specs.Rows.{is_owed_in}
+use Rattle.scr_nodes.specs.Sources.{liability_present}
+use Rattle.scr_nodes.proofs.Walks.{found, one_more, none_more}
+use Rattle.scr_nodes.proofs.nth.nth_present_in.Goals as goal
+use Rattle.scr_nodes.proofs.nth.nth_present_in.Goals.{then-is_owed_in+else-left-eq0, else-is_owed_in}
+
+pub returns-then-left-eq0 : goal.returns-then-left-eq0
+returns-then-left-eq0 c =
+    found (is_owed_in c.args.currency.now)
+    liability_present c.args.sheet.now.liabilities c.loop-k.k c.args.place c.loop-k.left c.at-liability.result.now
+    c.at-liability.ensures
+    (sym c.is_owed_in.ensures ∙ c.if-is_owed_in.true) c.loop-k.invariant c.if-left-eq0.true
+
+pub loop-k-preserved : goal.loop-k-preserved
+loop-k-preserved c =
+    elim c.if-is_owed_in.branch [
+      | then-is_owed_in+else-left-eq0 w ↦ one_more
+          (is_owed_in c.args.currency.now) c.args.sheet.now.liabilities c.loop-k.k c.args.place c.loop-k.left
+          c.if-is_owed_in.left c.at-liability.result.now c.at-liability.ensures
+          (sym c.is_owed_in.ensures ∙ w.if-is_owed_in.true) c.loop-k.invariant
+          (omega (arith, w.if-left-eq0.false)) w.left-is
+      | else-is_owed_in w ↦ none_more
+          (is_owed_in c.args.currency.now) c.args.sheet.now.liabilities c.loop-k.k c.args.place c.loop-k.left
+          c.if-is_owed_in.left c.at-liability.result.now c.at-liability.ensures
+          (sym c.is_owed_in.ensures ∙ w.if-is_owed_in.false) c.loop-k.invariant w.left-is
+    ]

@@ -1,0 +1,311 @@
+-- The worked figures of charges that are handed in, of segments, of catastrophes, and of the non-life and health modules of
+-- a valid balance sheet: what they are, and how large.
+use Rattle.std.proofs.Common.{◌≡◌, ℕ, zero, suc, ◌+◌, ◌-◌, ◌*◌, ◌/◌, ◌^◌, ◌≤◌, List, [], ◌∷◌, length, map, drop, sum_by, pos, ◌<ℤ◌, Option, Some, None, refl, ap, ap₂, sym, subst, ◌∙◌, arith, lit≤}
+use Rattle.std.specs.Prelude.{slice_index, slice_index_or}
+use Rattle.std.specs.List.{AllByRecursion}
+use Rattle.std.specs.Option.{option_map_or}
+use Rattle.std.proofs.lemmas.Int.{ints}
+use Rattle.std.proofs.lemmas.List.Sums.{sum_by-cons}
+use Rattle.scr_num.specs.Amounts.{IsAmount, AreAmounts}
+use Rattle.scr_num.specs.Rounding.{Ends, exact_ends, sub_ends}
+use Rattle.scr_num.proofs.AmountBounds.{amount-exact, amount-wider, amount-high, amount-cut}
+use Rattle.scr_agg.specs.Absorbed.{net_ends}
+use Rattle.scr_agg.specs.Correlated.{table_of, CellsWithin}
+use Rattle.scr_bio.specs.BiometricEnds.{nslt_ends, health_cat_ends, health_ends}
+use Rattle.scr_bio.proofs.BiometricBounds.{nslt-size, health_cat-size, health-size}
+use Rattle.scr_nonlife.specs.NonlifeEnds.{premium_reserve_ends, nat_ends, manmade_ends, cat_ends, nonlife_ends}
+use Rattle.scr_nonlife.specs.Segment.{total_volume}
+use Rattle.scr_nonlife.specs.SegmentEnds.{segment_ends}
+use Rattle.scr_nonlife.proofs.NonlifeBounds.{premium_reserve-size, nat-size, manmade-size, cat-size, nonlife-size}
+use Rattle.scr_nonlife.proofs.SegmentBounds.{segment-size}
+use Rattle.scr_profile.proofs.CorrelationRules.{is_correlation-holds}
+use Rattle.scr_profile.specs.Segments.{segments}
+use Rattle.scr_profile.specs.declared.correlations.TheConstants.{NSLT}
+use Rattle.scr_profile.specs.declared.limits.TheConstants.{MAX_AMOUNT}
+use Rattle.scr_profile.specs.declared.set.Set.{Set}
+use Rattle.scr_profile.specs.declared.set.Set.TheVariants as sets
+use Rattle.scr_factors.specs.Values.{FactorValues, IsInForm, sigma_of}
+use Rattle.scr_sheet.specs.Absorptions.{absorbed}
+use Rattle.scr_sheet.specs.BalanceSheet.{volumes_of}
+use Rattle.scr_sheet.specs.Records.{cat_place, health_cat_place, lapse_place}
+use Rattle.scr_sheet.specs.Validity.{Valid}
+use Rattle.scr_sheet.specs.Validity as validity
+use Rattle.scr_sheet.specs.declared.keys.CatKey.{CatKey}
+use Rattle.scr_sheet.specs.declared.keys.CatKey.TheVariants as cats
+use Rattle.scr_sheet.specs.declared.numbers.Regions.{Regions}
+use Rattle.scr_sheet.specs.declared.sheet.BalanceSheet.{BalanceSheet}
+use Rattle.scr_nodes.specs.declared.node.Measure.{Measure}
+use Rattle.scr_nodes.specs.declared.node.Measure.TheVariants as measures
+use Rattle.scr_nodes.specs.declared.node.Node.{Node}
+use Rattle.scr_nodes.specs.declared.node.Node.TheVariants as nodes
+use Rattle.scr_nodes.specs.declared.node.Risk.TheVariants as risks
+use Rattle.scr_nodes.specs.OwnOf.{risk_key, catastrophe_cents, lapse_cents, volumes_in_regions, segment_correlations}
+use Rattle.scr_nodes.specs.Sources.{risk_part, segments_of}
+use Rattle.scr_plan.specs.NonlifeFits.{MAX_CHARGE}
+use Rattle.scr_plan.specs.Figures.{amount_of}
+use Rattle.scr_plan.specs.Worked.{worked}
+use Rattle.scr_plan.proofs.Equations.{worked-equation}
+
+-- what holds of each of a list and of what stands in for a missing one holds at a place
+pub each-at : {X : Type 0} (P : X → Type 0) (xs : List X) (place : ℕ) (missing : X) → P missing → AllByRecursion P xs
+    → P (slice_index_or xs place missing)
+each-at P [] place missing h all = h
+each-at P (x ∷ xs) zero missing h all = all.0
+each-at P (x ∷ xs) (suc place) missing h all = each-at P xs place missing h all.1
+
+-- what absorption leaves of an amount is no more than it
+pub net-amount : (most absorb : ℕ) (e : Ends) → IsAmount most e → IsAmount most (net_ends e absorb)
+net-amount most absorb e h =
+    let rising = h.ordered in
+    let above = amount-high most e h in
+    amount-cut most (sub_ends e (exact_ends (pos (1000 * absorb)))) (omega (arith, ints)) (omega (arith, ints))
+
+-- ---- segments by their places
+
+-- no volume in any region
+abbrev empty : Regions
+empty = record { volumes = [] }
+
+abbrev volume_at : List Regions → ℕ → ℕ
+volume_at segments place = total_volume (slice_index_or segments place empty).volumes
+
+abbrev all_volumes : List Regions → ℕ
+all_volumes segments = sum_by (λ (segment : Regions). total_volume segment.volumes) segments
+
+-- the volume at a place and those after it are all from that place on
+volume-first : (segments : List Regions) (place : ℕ)
+    → volume_at segments place + all_volumes (drop (suc place) segments) ≡ all_volumes (drop place segments)
+volume-first [] zero = refl
+volume-first [] (suc place) = refl
+volume-first (s ∷ rest) zero = sym (sum_by-cons (λ (segment : Regions). total_volume segment.volumes) s rest)
+volume-first (s ∷ rest) (suc place) = volume-first rest place
+
+pub volume-within : (segments : List Regions) (place : ℕ) → volume_at segments place ≤ all_volumes segments
+volume-within [] place = omega arith
+volume-within (s ∷ rest) zero = omega (arith, sum_by-cons (λ (segment : Regions). total_volume segment.volumes) s rest)
+volume-within (s ∷ rest) (suc place) =
+    omega (arith, volume-within rest place, sum_by-cons (λ (segment : Regions). total_volume segment.volumes) s rest)
+
+-- the grains of so many segments from a place on
+abbrev grains_from : (count place : ℕ) → List Regions → List ℕ
+grains_from zero place segments = []
+grains_from (suc count) place segments = 1000 * volume_at segments place ∷ grains_from count (suc place) segments
+
+grains-within : (count place : ℕ) (segments : List Regions)
+    → sum_by (λ most. most) (grains_from count place segments) ≤ 1000 * all_volumes (drop place segments)
+grains-within zero place segments = omega arith
+grains-within (suc count) place segments =
+    omega (
+      arith,
+      sum_by-cons (λ (most : ℕ). most) (1000 * volume_at segments place) (grains_from count (suc place) segments),
+      grains-within count (suc place) segments,
+      volume-first segments place,
+    )
+
+-- ---- charges from their grains
+quotient : (n : ℕ) → 1000 * n / 1000 ≡ n
+quotient n = omega arith
+
+same-three : {X : Type 0} (f : ℕ → ℕ → ℕ → X) (a b c x y z : ℕ) → a ≡ x → b ≡ y → c ≡ z → f a b c ≡ f x y z
+same-three f a b c x y z p q r = cc
+
+same-five : {X : Type 0} (f : ℕ → ℕ → ℕ → ℕ → ℕ → X) (a b c d e u v x y z : ℕ) → a ≡ u → b ≡ v → c ≡ x → d ≡ y → e ≡ z
+    → f a b c d e ≡ f u v x y z
+same-five f a b c d e u v x y z p q r s t = cc
+
+same-six : {X : Type 0} (f : ℕ → ℕ → ℕ → ℕ → ℕ → ℕ → X) (a b c d e g u v w x y z : ℕ) → a ≡ u → b ≡ v → c ≡ w → d ≡ x
+    → e ≡ y → g ≡ z → f a b c d e g ≡ f u v w x y z
+same-six f a b c d e g u v w x y z p q r s t o = cc
+
+module _ (factors : FactorValues) (known : IsInForm factors) (sheet : BalanceSheet) (valid : Valid sheet) where
+  abbrev figure : Node → Ends
+  figure node = worked factors sheet node
+
+  -- ---- charges that are handed in
+  pub charge-worked : (key : CatKey) → figure (nodes.CatCharge key) ≡ exact_ends (pos (1000 * catastrophe_cents key sheet.numbers))
+  charge-worked key = worked-equation factors sheet valid (nodes.CatCharge key)
+
+  pub catastrophe-within : (key : CatKey) → catastrophe_cents key sheet.numbers ≤ MAX_AMOUNT
+  catastrophe-within key = by (cat_place key) (health_cat_place key)
+    where
+      by : (place other : Option ℕ) → option_map_or (λ k. slice_index_or sheet.numbers.cat k 0) place
+          (option_map_or (λ k. slice_index_or sheet.numbers.health_cat k 0) other 0) ≤ MAX_AMOUNT
+      by (Some k) other = each-at validity.IsAmount sheet.numbers.cat k 0 (omega arith) valid.numbers.cat
+      by None (Some k) = each-at validity.IsAmount sheet.numbers.health_cat k 0 (omega arith) valid.numbers.health_cat
+      by None None = omega arith
+
+  pub charge-amount : (key : CatKey) → IsAmount MAX_CHARGE (figure (nodes.CatCharge key))
+  charge-amount key =
+      subst (IsAmount MAX_CHARGE) (sym (charge-worked key))
+      (amount-exact MAX_CHARGE (1000 * catastrophe_cents key sheet.numbers) (omega (arith, catastrophe-within key)))
+
+  pub charge-cents : (key : CatKey) → amount_of (figure (nodes.CatCharge key)) / 1000 ≡ catastrophe_cents key sheet.numbers
+  charge-cents key = ap (λ (e : Ends). amount_of e / 1000) (charge-worked key) ∙ quotient (catastrophe_cents key sheet.numbers)
+
+  pub lapse-within : (set : Set) → lapse_cents set sheet.numbers ≤ MAX_AMOUNT
+  lapse-within set = each-at validity.IsAmount sheet.numbers.lapse (lapse_place set) 0 (omega arith) valid.numbers.lapse
+
+  pub lapse-worked : (set : Set) → figure (nodes.Lapse set) ≡ exact_ends (pos (1000 * lapse_cents set sheet.numbers))
+  lapse-worked set = worked-equation factors sheet valid (nodes.Lapse set)
+
+  -- ---- segments
+  pub segment-worked : (set : Set) (number : ℕ) → figure (nodes.Segment set number)
+      ≡ segment_ends (volumes_in_regions set number sheet.numbers) (sigma_of factors set number).0 (sigma_of factors set number).1
+  segment-worked set number = worked-equation factors sheet valid (nodes.Segment set number)
+
+  pub deviations-within : (set : Set) (number : ℕ) → number ≤ segments set
+      → ((sigma_of factors set number).0 ≤ 1_000_000) × ((sigma_of factors set number).1 ≤ 1_000_000)
+  deviations-within sets.Nl number le = (
+    known.nl_premium.1 (number - 1) 0 (omega (arith, le, known.nl_premium.0)),
+    known.nl_reserve.1 (number - 1) 0 (omega (arith, le, known.nl_reserve.0)),
+  )
+  deviations-within sets.Nslt number le = (
+    known.nslt_premium.1 (number - 1) 0 (omega (arith, le, known.nslt_premium.0)),
+    known.nslt_reserve.1 (number - 1) 0 (omega (arith, le, known.nslt_reserve.0)),
+  )
+
+  pub volumes-within : (set : Set) (number : ℕ) → total_volume (volumes_in_regions set number sheet.numbers) ≤ MAX_AMOUNT
+  volumes-within set number = omega (arith, volume-within (volumes_of set sheet.numbers) (number - 1), valid.within.volumes set)
+
+  pub segment-amount : (set : Set) (number : ℕ) → number ≤ segments set
+      → IsAmount (1000 * total_volume (volumes_in_regions set number sheet.numbers)) (figure (nodes.Segment set number))
+  segment-amount set number le =
+      let small = deviations-within set number le in
+      subst (IsAmount (1000 * total_volume (volumes_in_regions set number sheet.numbers))) (sym (segment-worked set number))
+      (segment-size (volumes_in_regions set number sheet.numbers) (sigma_of factors set number).0 (sigma_of factors set number).1 small.0 small.1)
+
+  -- ---- premium and reserve risk
+  abbrev pub segment_grains : Set → List ℕ
+  segment_grains set = grains_from (segments set) 0 (volumes_of set sheet.numbers)
+
+  pub segments-amounts : (set : Set) → AreAmounts (segment_grains set) (map figure (segments_of set))
+  segments-amounts sets.Nl =
+      let s = segment-amount sets.Nl in (
+        s 1 (lit≤ tt),
+        (s 2 (lit≤ tt), (s 3 (lit≤ tt), (s 4 (lit≤ tt), (s 5 (lit≤ tt), (s 6 (lit≤ tt), (s 7 (lit≤ tt), (s 8 (lit≤ tt), (s 9 (lit≤ tt), (s 10 (lit≤ tt), (s 11 (lit≤ tt), (s 12 (lit≤ tt), tt))))))))))),
+      )
+  segments-amounts sets.Nslt =
+      let s = segment-amount sets.Nslt in (s 1 (lit≤ tt), (s 2 (lit≤ tt), (s 3 (lit≤ tt), (s 4 (lit≤ tt), tt))))
+
+  pub segments-within : (set : Set) → sum_by (λ most. most) (segment_grains set) ≤ MAX_CHARGE
+  segments-within set = omega (arith, grains-within (segments set) 0 (volumes_of set sheet.numbers), valid.within.volumes set)
+
+  pub correlations-positive : (set : Set) → pos 0 <ℤ (segment_correlations factors set).den
+  correlations-positive sets.Nl = known.correlations.denominator
+  correlations-positive sets.Nslt = (is_correlation-holds NSLT refl).denominator
+
+  pub correlations-within : (set : Set) → CellsWithin (segment_correlations factors set)
+  correlations-within sets.Nl = known.correlations.within
+  correlations-within sets.Nslt = (is_correlation-holds NSLT refl).within
+
+  pub segments-counted : (set : Set) → length (map figure (segments_of set)) ≡ (segment_correlations factors set).n
+  segments-counted sets.Nl = sym known.nl_segments
+  segments-counted sets.Nslt = refl
+
+  pub premium_reserve-worked : (set : Set) → figure (nodes.PremiumReserve set)
+      ≡ premium_reserve_ends (map figure (segments_of set)) (table_of (segment_correlations factors set))
+  premium_reserve-worked set = worked-equation factors sheet valid (nodes.PremiumReserve set)
+
+  pub premium_reserve-amount : (set : Set) → IsAmount 30_000_000_000_000_000 (figure (nodes.PremiumReserve set))
+  premium_reserve-amount set =
+      subst (IsAmount 30_000_000_000_000_000) (sym (premium_reserve-worked set))
+      (amount-wider (3 * sum_by (λ most. most) (segment_grains set)) 30_000_000_000_000_000 _ (omega (arith, segments-within set))
+      (premium_reserve-size (segment_correlations factors set) (segment_grains set) (map figure (segments_of set))
+      (correlations-positive set) (correlations-within set) (segments-counted set) (segments-amounts set)))
+
+  -- ---- catastrophes of non-life
+  cat-within : (k : ℕ) → slice_index sheet.numbers.cat k ≤ MAX_AMOUNT
+  cat-within k = each-at validity.IsAmount sheet.numbers.cat k 0 (omega arith) valid.numbers.cat
+
+  pub natural-worked : figure nodes.Natural ≡ nat_ends sheet.numbers.cat
+  natural-worked =
+      worked-equation factors sheet valid nodes.Natural
+      ∙ same-five (λ a b c d e. nat_ends (a ∷ b ∷ c ∷ d ∷ e ∷ [])) _ _ _ _ _ _ _ _ _ _
+      (charge-cents cats.Windstorm) (charge-cents cats.Earthquake) (charge-cents cats.Flood) (charge-cents cats.Hail) (charge-cents cats.Subsidence)
+
+  pub natural-amount : IsAmount (50 * 10 ^ 15) (figure nodes.Natural)
+  natural-amount =
+      subst (IsAmount (50 * 10 ^ 15)) (sym natural-worked)
+      (amount-wider _ (50 * 10 ^ 15) _ (omega (arith, cat-within 0, cat-within 1, cat-within 2, cat-within 3, cat-within 4)) (nat-size sheet.numbers.cat))
+
+  pub man_made-worked : figure nodes.ManMade ≡ manmade_ends sheet.numbers.cat
+  man_made-worked =
+      worked-equation factors sheet valid nodes.ManMade
+      ∙ same-six (λ a b c d e g. manmade_ends (0 ∷ 0 ∷ 0 ∷ 0 ∷ 0 ∷ 0 ∷ a ∷ b ∷ c ∷ d ∷ e ∷ g ∷ [])) _ _ _ _ _ _ _ _ _ _ _ _
+      (charge-cents cats.Motor) (charge-cents cats.Marine) (charge-cents cats.Aviation) (charge-cents cats.Fire) (charge-cents cats.Liability) (charge-cents cats.Credit)
+
+  pub man_made-amount : IsAmount (60 * 10 ^ 15) (figure nodes.ManMade)
+  man_made-amount =
+      subst (IsAmount (60 * 10 ^ 15)) (sym man_made-worked)
+      (amount-wider _ (60 * 10 ^ 15) _
+      (omega (arith, cat-within 6, cat-within 7, cat-within 8, cat-within 9, cat-within 10, cat-within 11)) (manmade-size sheet.numbers.cat))
+
+  pub catastrophe-worked : figure nodes.NonlifeCatastrophe
+      ≡ cat_ends (figure nodes.Natural) (figure nodes.ManMade) (catastrophe_cents cats.NonProportionalProperty sheet.numbers) (catastrophe_cents cats.Other sheet.numbers)
+  catastrophe-worked =
+      worked-equation factors sheet valid nodes.NonlifeCatastrophe
+      ∙ ap₂ (cat_ends (figure nodes.Natural) (figure nodes.ManMade)) (charge-cents cats.NonProportionalProperty) (charge-cents cats.Other)
+
+  pub catastrophe-amount : IsAmount (130 * 10 ^ 15) (figure nodes.NonlifeCatastrophe)
+  catastrophe-amount =
+      subst (IsAmount (130 * 10 ^ 15)) (sym catastrophe-worked)
+      (amount-wider _ (130 * 10 ^ 15) _
+      (omega (arith, catastrophe-within cats.NonProportionalProperty, catastrophe-within cats.Other))
+      (cat-size (50 * 10 ^ 15) (60 * 10 ^ 15) _ _ _ _ natural-amount man_made-amount))
+
+  -- ---- non-life
+  pub nonlife-worked : (measure : Measure) → figure (nodes.Nonlife measure)
+      ≡ nonlife_ends (figure (nodes.PremiumReserve sets.Nl)) (figure nodes.NonlifeCatastrophe) (lapse_cents sets.Nl sheet.numbers)
+  nonlife-worked measure = worked-equation factors sheet valid (nodes.Nonlife measure)
+
+  pub nonlife-amount : (measure : Measure) → IsAmount (170 * 10 ^ 15) (figure (nodes.Nonlife measure))
+  nonlife-amount measure =
+      subst (IsAmount (170 * 10 ^ 15)) (sym (nonlife-worked measure))
+      (amount-wider _ (170 * 10 ^ 15) _ (omega (arith, lapse-within sets.Nl))
+      (nonlife-size 30_000_000_000_000_000 (130 * 10 ^ 15) _ _ (lapse_cents sets.Nl sheet.numbers) (premium_reserve-amount sets.Nl) catastrophe-amount))
+
+  -- ---- health
+  pub health_catastrophe-worked : figure nodes.HealthCatastrophe
+      ≡ health_cat_ends (catastrophe_cents cats.MassAccident sheet.numbers) (catastrophe_cents cats.AccidentConcentration sheet.numbers) (catastrophe_cents cats.Pandemic sheet.numbers)
+  health_catastrophe-worked =
+      worked-equation factors sheet valid nodes.HealthCatastrophe
+      ∙ same-three health_cat_ends _ _ _ _ _ _ (charge-cents cats.MassAccident) (charge-cents cats.AccidentConcentration) (charge-cents cats.Pandemic)
+
+  pub health_catastrophe-amount : IsAmount (30 * 10 ^ 15) (figure nodes.HealthCatastrophe)
+  health_catastrophe-amount =
+      subst (IsAmount (30 * 10 ^ 15)) (sym health_catastrophe-worked)
+      (amount-wider _ (30 * 10 ^ 15) _
+      (omega (arith, catastrophe-within cats.MassAccident, catastrophe-within cats.AccidentConcentration, catastrophe-within cats.Pandemic))
+      (health_cat-size (catastrophe_cents cats.MassAccident sheet.numbers) (catastrophe_cents cats.AccidentConcentration sheet.numbers) (catastrophe_cents cats.Pandemic sheet.numbers)))
+
+  pub health_net-worked : figure (nodes.NetPart risks.HealthCatastrophe)
+      ≡ net_ends (figure nodes.HealthCatastrophe) (absorbed (risk_key risks.HealthCatastrophe) sheet.numbers)
+  health_net-worked = worked-equation factors sheet valid (nodes.NetPart risks.HealthCatastrophe)
+
+  pub health_part-amount : (measure : Measure) → IsAmount (30 * 10 ^ 15) (figure (risk_part risks.HealthCatastrophe measure))
+  health_part-amount measures.Gross = health_catastrophe-amount
+  health_part-amount measures.Net =
+      subst (IsAmount (30 * 10 ^ 15)) (sym health_net-worked)
+      (net-amount (30 * 10 ^ 15) (absorbed (risk_key risks.HealthCatastrophe) sheet.numbers) _ health_catastrophe-amount)
+
+  pub nslt-worked : (measure : Measure) → figure (nodes.Nslt measure)
+      ≡ nslt_ends (figure (nodes.PremiumReserve sets.Nslt)) (lapse_cents sets.Nslt sheet.numbers)
+  nslt-worked measure = worked-equation factors sheet valid (nodes.Nslt measure)
+
+  pub nslt-amount : (measure : Measure) → IsAmount (40 * 10 ^ 15) (figure (nodes.Nslt measure))
+  nslt-amount measure =
+      subst (IsAmount (40 * 10 ^ 15)) (sym (nslt-worked measure))
+      (amount-wider _ (40 * 10 ^ 15) _ (omega (arith, lapse-within sets.Nslt))
+      (nslt-size 30_000_000_000_000_000 _ (lapse_cents sets.Nslt sheet.numbers) (premium_reserve-amount sets.Nslt)))
+
+  pub health-worked : (measure : Measure) → figure (nodes.Health measure)
+      ≡ health_ends (figure (nodes.Slt measure)) (figure (nodes.Nslt measure)) (figure (risk_part risks.HealthCatastrophe measure))
+  health-worked measure = worked-equation factors sheet valid (nodes.Health measure)
+
+  -- of which so much is similar to life
+  pub health-amount : (most : ℕ) (measure : Measure) → IsAmount most (figure (nodes.Slt measure))
+      → IsAmount (most + 70 * 10 ^ 15) (figure (nodes.Health measure))
+  health-amount most measure h =
+      subst (IsAmount (most + 70 * 10 ^ 15)) (sym (health-worked measure))
+      (amount-wider _ (most + 70 * 10 ^ 15) _ (omega arith)
+      (health-size most (40 * 10 ^ 15) (30 * 10 ^ 15) _ _ _ h (nslt-amount measure) (health_part-amount measure)))

@@ -1,0 +1,98 @@
+-- The exact figures of the non-life module, of health that is not similar to life and of the health module, in cents
+-- (Articles 114 to 128, 144 to 148 and 160 of Delegated Regulation (EU) 2015/35). Nothing is rounded.
+use Rattle.std.specs.Prelude.{ℕ}
+use Rattle.scr_num.specs.Figure.{Figure, Figures}
+use Rattle.scr_num.specs.Figure.Figures.{more, none}
+use Rattle.scr_num.specs.Cents.{cents_figure}
+use Rattle.scr_agg.specs.Absorbed.{net_figure}
+use Rattle.scr_agg.specs.Correlated.{table_of}
+use Rattle.scr_bio.specs.Biometric.{nslt_figure, health_cat_figure, health_figure}
+use Rattle.scr_nonlife.specs.Segment.{segment_figure}
+use Rattle.scr_nonlife.specs.Nonlife.{premium_reserve_figure, nat_figure, manmade_figure, cat_figure, nonlife_figure}
+use Rattle.scr_profile.specs.declared.set.Set.{Set}
+use Rattle.scr_profile.specs.declared.set.Set.TheVariants as sets
+use Rattle.scr_factors.specs.Values.{FactorValues, sigma_of}
+use Rattle.scr_sheet.specs.Absorptions.{absorbed}
+use Rattle.scr_sheet.specs.declared.keys.AbsorbKey.TheVariants as absorb
+use Rattle.scr_sheet.specs.declared.keys.CatKey.{CatKey}
+use Rattle.scr_sheet.specs.declared.keys.CatKey.TheVariants as cats
+use Rattle.scr_sheet.specs.declared.sheet.BalanceSheet.{BalanceSheet}
+use Rattle.scr_nodes.specs.declared.node.Measure.{Measure}
+use Rattle.scr_nodes.specs.declared.node.Measure.TheVariants as measures
+use Rattle.scr_nodes.specs.OwnOf.{catastrophe_cents, lapse_cents, volumes_in_regions, segment_correlations}
+
+-- ---- charges that are handed in
+
+abbrev pub catastrophe_charge : BalanceSheet → CatKey → Figure
+catastrophe_charge sheet key = cents_figure (catastrophe_cents key sheet.numbers)
+
+abbrev pub lapse_charge : BalanceSheet → Set → Figure
+lapse_charge sheet set = cents_figure (lapse_cents set sheet.numbers)
+
+-- ---- premium and reserve risk
+
+-- a segment, numbered from 1: its standard deviation times its volume (Articles 116, 117, 147 and 148)
+unfoldable pub segment_exact : FactorValues → BalanceSheet → Set → ℕ → Figure
+segment_exact factors sheet set number =
+    let sigma = sigma_of factors set number in
+    segment_figure (volumes_in_regions set number sheet.numbers) sigma.0 sigma.1
+
+-- the twelve of non-life (Annex II), and the four of health (Annex XIV)
+abbrev pub segments_exact : FactorValues → BalanceSheet → Set → Figures
+segments_exact factors sheet sets.Nl =
+    let segment = segment_exact factors sheet sets.Nl in
+    more (segment 1) (more (segment 2) (more (segment 3) (more (segment 4) (more (segment 5) (more (segment 6)
+    (more (segment 7) (more (segment 8) (more (segment 9) (more (segment 10) (more (segment 11) (more (segment 12)
+    none)))))))))))
+segments_exact factors sheet sets.Nslt =
+    let segment = segment_exact factors sheet sets.Nslt in
+    more (segment 1) (more (segment 2) (more (segment 3) (more (segment 4) none)))
+
+-- three times the root over the segments (Articles 115, 117, 146 and 148)
+unfoldable pub premium_reserve_exact : FactorValues → BalanceSheet → Set → Figure
+premium_reserve_exact factors sheet set =
+    premium_reserve_figure (segments_exact factors sheet set) (table_of (segment_correlations factors set))
+
+-- ---- catastrophes
+
+-- natural ones (Article 120) and man-made ones (Article 128)
+unfoldable pub natural_exact : BalanceSheet → Figure
+natural_exact sheet = nat_figure sheet.numbers.cat
+
+unfoldable pub man_made_exact : BalanceSheet → Figure
+man_made_exact sheet = manmade_figure sheet.numbers.cat
+
+-- all of non-life (Article 119)
+unfoldable pub catastrophe_exact : BalanceSheet → Figure
+catastrophe_exact sheet =
+    cat_figure (natural_exact sheet) (man_made_exact sheet)
+    (catastrophe_cents cats.NonProportionalProperty sheet.numbers) (catastrophe_cents cats.Other sheet.numbers)
+
+-- those of health (Article 160), before and after absorption (Article 206(2))
+unfoldable pub health_catastrophe_exact : BalanceSheet → Measure → Figure
+health_catastrophe_exact sheet measures.Gross =
+    health_cat_figure (catastrophe_cents cats.MassAccident sheet.numbers)
+    (catastrophe_cents cats.AccidentConcentration sheet.numbers) (catastrophe_cents cats.Pandemic sheet.numbers)
+health_catastrophe_exact sheet measures.Net =
+    net_figure (health_cat_figure (catastrophe_cents cats.MassAccident sheet.numbers)
+    (catastrophe_cents cats.AccidentConcentration sheet.numbers) (catastrophe_cents cats.Pandemic sheet.numbers))
+    (absorbed absorb.HealthCatastrophe sheet.numbers)
+
+-- ---- modules, of which non-life and health not similar to life are the same before and after absorption (this
+-- project's own)
+
+-- non-life (Article 114)
+unfoldable pub nonlife_exact : FactorValues → BalanceSheet → Figure
+nonlife_exact factors sheet =
+    nonlife_figure (premium_reserve_exact factors sheet sets.Nl) (catastrophe_exact sheet)
+    (lapse_cents sets.Nl sheet.numbers)
+
+-- health that is not similar to life (Article 145)
+unfoldable pub nslt_exact : FactorValues → BalanceSheet → Figure
+nslt_exact factors sheet =
+    nslt_figure (premium_reserve_exact factors sheet sets.Nslt) (lapse_cents sets.Nslt sheet.numbers)
+
+-- health, of which `slt` is the part that is similar to life, before or after absorption (Article 144)
+unfoldable pub health_exact : (slt : Figure) → FactorValues → BalanceSheet → Measure → Figure
+health_exact slt factors sheet measure =
+    health_figure slt (nslt_exact factors sheet) (health_catastrophe_exact sheet measure)

@@ -1,0 +1,171 @@
+//! The rules of biometric stresses, and the roots over them.
+ghost use Rattle.std.specs.Prelude.{◌≡◌, ◌≤◌, map, sum_by, unsigned_abs};
+ghost use Rattle.std.specs.List.{range_with_len};
+ghost use Rattle.scr_num.specs.Rounding.{ends};
+ghost use Rattle.scr_bio.specs.BiometricEnds.{life_ends, slt_ends};
+ghost use Rattle.scr_nodes.specs.OwnOf.{liability_valued, paid_under, stress_absorbed as absorbed_of_stress, stress_key as key_of_stress};
+ghost use Rattle.scr_nodes.specs.declared.node.Biometric.TheVariants as biometrics;
+ghost use Rattle.scr_nodes.specs.declared.node.Node.TheVariants as nodes;
+ghost use Rattle.scr_sheet.specs.Validity.{Valid};
+ghost use Rattle.scr_plan.specs.Figures.{figures_from};
+ghost use Rattle.scr_plan.specs.Kept.{rows_of, row_in, discounts_in, AreDiscountsOf};
+ghost use Rattle.scr_plan.specs.LifeFits.{FitsExcess, FitsRoot};
+ghost use Rattle.scr_plan.specs.LifeRules.{excess_ends, valued_in, less_at};
+
+use crate::Curves;
+use crate::spans::at;
+use scr_book::{AbsorbKey, BalanceSheet, Name};
+use scr_dates::Day;
+use scr_flow::{bucket, present};
+use scr_nodes::Biometric;
+use scr_num::{Span, exact, max};
+use scr_sheet::Projection;
+
+/// By how much a liability is worth more under a stress than by the best estimate, in 10^-18 cents,
+/// a gain counting as nil.
+pub(crate) fn excess(
+    sheet: &BalanceSheet,
+    curves: &Curves,
+    name: &Name,
+    projection: Projection,
+) -> Span
+    requires valid { Valid sheet.now }
+    requires fits { FitsExcess (liability_valued sheet.now name.now)
+        (paid_under sheet.now name.now projection) }
+    requires rows { AreDiscountsOf sheet.now.curves (rows_of curves.now) }
+    ensures { ends result
+        ≡ excess_ends (liability_valued sheet.now name.now) (paid_under sheet.now name.now projection)
+        (discounts_in sheet.now (rows_of curves.now) (nodes.LiabilityLoss name.now projection)) }
+{
+    let Some(liability) = sheet.liabilities.get(name) else {
+        unreachable!()
+    };
+    let stressed = liability.flows.under(projection).as_slice();
+    let base = liability.flows.base.as_slice();
+    worth_more(sheet, curves, &liability.currency, stressed, base)
+}
+
+/// By how much payments in a currency are worth more than others. What falls due at one maturity is
+/// set off before it is discounted.
+fn worth_more(
+    sheet: &BalanceSheet,
+    curves: &Curves,
+    currency: &Name,
+    stressed: &[(Day, i64)],
+    base: &[(Day, i64)],
+) -> Span
+    requires valid { Valid sheet.now }
+    requires fits { FitsExcess (valued_in sheet.now currency.now base.now) stressed.now }
+    requires rows { AreDiscountsOf sheet.now.curves (rows_of curves.now) }
+    ensures value { ends result
+        ≡ excess_ends (valued_in sheet.now currency.now base.now) stressed.now
+        (row_in currency.now sheet.now.curves (rows_of curves.now)) }
+{
+    let Some(place) = sheet.curves.place(currency) else {
+        unreachable!()
+    };
+    let asof = sheet.numbers.asof;
+    let flows = less(&bucket(asof, stressed), &bucket(asof, base));
+    let [discounts, _, _] = curves.row(place);
+    max(present(&flows, discounts), exact(0))
+}
+
+/// The differences of the amounts at each maturity.
+fn less(amounts: &[i64; 100], others: &[i64; 100]) -> [i64; 100]
+    requires amounts { sum_by unsigned_abs amounts.now ≤ 50_000_000_000_000 }
+    requires others { sum_by unsigned_abs others.now ≤ 50_000_000_000_000 }
+    ensures value { result ≡ map (less_at amounts.now others.now) (range_with_len 0 100) }
+{
+    let mut differences = [0; 100];
+    for k in 0..100 {
+        differences[k] = amounts[k] - others[k];
+    }
+    differences
+}
+
+/// What is absorbed of a stress, in cents.
+pub(crate) fn stress_absorbed(
+    sheet: &BalanceSheet,
+    biometric: Biometric,
+    projection: Projection,
+) -> u64
+    ensures { result ≡ absorbed_of_stress sheet.now biometric projection }
+{
+    match stress_key(biometric, projection) {
+        Some(key) => sheet.numbers.absorbed(key),
+        None => 0,
+    }
+}
+
+fn stress_key(biometric: Biometric, projection: Projection) -> Option<AbsorbKey>
+    ensures { result ≡ key_of_stress biometric projection }
+{
+    match biometric {
+        Biometric::Life => life_key(projection),
+        Biometric::Health => health_key(projection),
+    }
+}
+
+fn life_key(projection: Projection) -> Option<AbsorbKey>
+    ensures { result ≡ key_of_stress biometrics.Life projection }
+{
+    match projection {
+        Projection::Base => None,
+        Projection::Mortality => Some(AbsorbKey::LifeMortality),
+        Projection::Longevity => Some(AbsorbKey::LifeLongevity),
+        Projection::Disability => Some(AbsorbKey::LifeDisability),
+        Projection::Expense => Some(AbsorbKey::LifeExpense),
+        Projection::Revision => Some(AbsorbKey::LifeRevision),
+        Projection::LapseUp => Some(AbsorbKey::LifeLapseUp),
+        Projection::LapseDown => Some(AbsorbKey::LifeLapseDown),
+        Projection::LapseMass => Some(AbsorbKey::LifeLapseMass),
+        Projection::Catastrophe => Some(AbsorbKey::LifeCatastrophe),
+    }
+}
+
+fn health_key(projection: Projection) -> Option<AbsorbKey>
+    ensures { result ≡ key_of_stress biometrics.Health projection }
+{
+    match projection {
+        Projection::Base | Projection::Catastrophe => None,
+        Projection::Mortality => Some(AbsorbKey::HealthMortality),
+        Projection::Longevity => Some(AbsorbKey::HealthLongevity),
+        Projection::Disability => Some(AbsorbKey::HealthDisability),
+        Projection::Expense => Some(AbsorbKey::HealthExpense),
+        Projection::Revision => Some(AbsorbKey::HealthRevision),
+        Projection::LapseUp => Some(AbsorbKey::HealthLapseUp),
+        Projection::LapseDown => Some(AbsorbKey::HealthLapseDown),
+        Projection::LapseMass => Some(AbsorbKey::HealthLapseMass),
+    }
+}
+
+/// The root over the seven risks of life insurance.
+pub(crate) fn life(spans: &[Span]) -> Span
+    requires { FitsRoot 7 (map ends spans.now) }
+    ensures { ends result ≡ life_ends (figures_from (map ends spans.now) 0 7) }
+{
+    scr_bio::life(&[
+        at(spans, 0),
+        at(spans, 1),
+        at(spans, 2),
+        at(spans, 3),
+        at(spans, 4),
+        at(spans, 5),
+        at(spans, 6),
+    ])
+}
+
+/// The root over the six risks of health insurance similar to life.
+pub(crate) fn slt(spans: &[Span]) -> Span
+    requires { FitsRoot 6 (map ends spans.now) }
+    ensures { ends result ≡ slt_ends (figures_from (map ends spans.now) 0 6) }
+{
+    scr_bio::slt(&[
+        at(spans, 0),
+        at(spans, 1),
+        at(spans, 2),
+        at(spans, 3),
+        at(spans, 4),
+        at(spans, 5),
+    ])
+}
