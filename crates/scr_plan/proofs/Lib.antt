@@ -36,3 +36,4 @@ pub mod MarketCode
 pub mod LifeCode
 pub mod DefaultCode
 pub mod NonlifeCode
+pub mod GroupSums

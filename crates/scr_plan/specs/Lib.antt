@@ -26,3 +26,4 @@ pub mod Close
 pub mod Kept
 pub mod Paid
 pub mod Weights
+pub mod GroupLosses

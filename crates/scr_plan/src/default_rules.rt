@@ -27,7 +27,14 @@ pub(crate) fn losses(sheet: &BalanceSheet, name: &Name) -> Span
         (map (λ b. b.cents) (filter (is_bank_of name.now) sheet.now.banks))
         (map reinsured (filter (is_reinsurer_of name.now) sheet.now.reinsurers)))) }
 {
-    exact(i128::from(group_losses(sheet, name)))
+    grains(group_losses(sheet, name))
+}
+
+/// A loss in grains, known exactly.
+pub(crate) fn grains(loss: u64) -> Span
+    ensures { ends result ≡ exact_ends (pos loss) }
+{
+    exact(i128::from(loss))
 }
 
 fn group_losses(sheet: &BalanceSheet, name: &Name) -> u64

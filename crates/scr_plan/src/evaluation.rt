@@ -5,12 +5,12 @@ ghost use Rattle.scr_nodes.specs.OwnOf.{own_of, currency_absorbed, interest_key 
 ghost use Rattle.scr_nodes.specs.Sources.{sources_of};
 ghost use Rattle.scr_sheet.specs.Validity.{Valid};
 ghost use Rattle.scr_plan.specs.Fits.{Fits};
+ghost use Rattle.scr_plan.specs.GroupLosses.{AreLossesOf};
 ghost use Rattle.scr_plan.specs.Kept.{rows_of, all_discounts, discounts_in, AreDiscountsOf};
 ghost use Rattle.scr_plan.specs.Rules.{rule};
 ghost use Rattle.scr_plan.specs.Worked.{worked};
 
-use crate::Curves;
-use crate::default_rules::{banded, bands, default, due, losses, squares, variance};
+use crate::default_rules::{banded, bands, default, due, grains, losses, squares, variance};
 use crate::held::held;
 use crate::life_rules::{excess, life, slt, stress_absorbed};
 use crate::loss_rules::{
@@ -25,6 +25,7 @@ use crate::nonlife_rules::{
 };
 use crate::paid::{cost, unit};
 use crate::rules::{choice, equities, fall, lost, net, picked, scaled};
+use crate::{Curves, GroupLosses};
 use scr_book::{AbsorbKey, BalanceSheet, Book, Name};
 use scr_factors::{Factors, Set};
 use scr_nodes::{Adjustment, Direction, Measure, Node, Operational, Risk};
@@ -64,7 +65,56 @@ pub fn evaluate<L: Ledger>(
     figure(factors, book.sheet(), curves, &node, spans)
 }
 
+/// The figure of a node as `evaluate` gives it, where the losses of all groups are known: that of a
+/// group is looked up there. It counts as one step.
+pub fn evaluate_with<L: Ledger>(
+    factors: &Factors,
+    book: &Book,
+    curves: &Curves,
+    losses: &GroupLosses,
+    node: Node,
+    spans: &[Span],
+    steps: &mut Steps<L>,
+) -> Span
+    requires rows { AreDiscountsOf book.now.curves (rows_of curves.now) }
+    requires losses { AreLossesOf book.now losses.now }
+    requires fits { Fits (own_of factors.now book.now node) (map ends spans.now) }
+    ensures rule { ends result
+        ≡ rule (own_of factors.now book.now node) (discounts_in book.now (rows_of curves.now) node) (map ends spans.now) }
+    ensures worked { rows_of curves.now ≡ all_discounts book.now
+        → map ends spans.now ≡ map (worked factors.now book.now) (sources_of book.now node)
+        → ends result ≡ worked factors.now book.now node }
+    ensures step { steps.new ≡ steps.old + 1 }
+{
+    steps.tick();
+    figure_with(factors, book.sheet(), curves, losses, &node, spans)
+}
+
 /// The same over a plain balance sheet.
+fn figure_with(
+    factors: &Factors,
+    sheet: &BalanceSheet,
+    curves: &Curves,
+    losses: &GroupLosses,
+    node: &Node,
+    spans: &[Span],
+) -> Span
+    requires valid { Valid sheet.now }
+    requires rows { AreDiscountsOf sheet.now.curves (rows_of curves.now) }
+    requires losses { AreLossesOf sheet.now losses.now }
+    requires fits { Fits (own_of factors.now sheet.now node.now) (map ends spans.now) }
+    ensures { ends result
+        ≡ rule (own_of factors.now sheet.now node.now) (discounts_in sheet.now (rows_of curves.now) node.now) (map ends spans.now) }
+{
+    if let Node::GroupLoss(name) = node {
+        if let Some(place) = sheet.groups.place(name) {
+            return grains(losses.at(place));
+        }
+    }
+    figure(factors, sheet, curves, node, spans)
+}
+
+/// The figure of a node, of which all is found anew.
 fn figure(
     factors: &Factors,
     sheet: &BalanceSheet,

@@ -2,6 +2,7 @@
 //! code that evaluates one.
 #![tactic(auto)]
 
+mod all_losses;
 mod by_weight;
 mod default_rules;
 mod discounting;
@@ -18,8 +19,9 @@ mod rules;
 mod sharing;
 mod spans;
 
+pub use all_losses::{GroupLosses, group_losses};
 pub use discounting::curves;
-pub use evaluation::{evaluate, source};
+pub use evaluation::{evaluate, evaluate_with, source};
 pub use kept::Curves;
 pub use scr_nodes::{Alternatives, Biometric, Direction, Equities, Measure, Node, Risk};
 pub use sharing::threads_share_curves;

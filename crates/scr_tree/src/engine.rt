@@ -23,7 +23,7 @@ use scr_factors::Factors;
 use scr_live::{group_members, rest_nodes};
 use scr_nodes::Node;
 use scr_num::Span;
-use scr_plan::{Curves, curves};
+use scr_plan::{Curves, curves, group_losses};
 use scr_steps::Steps;
 use std::alloc::{AllocError as NoMemory, Global};
 use std::marker::{Brand, Model};
@@ -221,7 +221,12 @@ fn reckon<L: Ledger>(
     put_totals(alloc, book.sheet(), &mut figures)?;
     let nodes = rest_nodes(alloc, book.sheet())?;
     let members = group_members(alloc, book.sheet())?;
-    let lookups = Lookups { curves, members };
+    let losses = group_losses(alloc, book)?;
+    let lookups = Lookups {
+        curves,
+        members,
+        losses,
+    };
     reckon_each(alloc, factors, book, &lookups, &nodes, &mut figures, steps)?;
     Ok(Reckoned {
         curves: lookups.curves,

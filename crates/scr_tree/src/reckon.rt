@@ -9,6 +9,7 @@ ghost use Rattle.scr_sheet.specs.Validity.{Valid};
 ghost use Rattle.scr_nodes.specs.Sources.{sources_of};
 ghost use Rattle.scr_live.specs.Members.{AreMembersOf};
 ghost use Rattle.scr_plan.specs.Close.{is_open as open_mask};
+ghost use Rattle.scr_plan.specs.GroupLosses.{AreLossesOf};
 ghost use Rattle.scr_plan.specs.Kept.{rows_of, all_discounts};
 ghost use Rattle.scr_tree.specs.Figures.{AreSettled, HasTotals, IsKnown, found, opens};
 ghost use Rattle.scr_tree.specs.declared.figures.Figure.{Figure};
@@ -20,17 +21,18 @@ use scr_factors::Factors;
 use scr_live::{Members, sources_with};
 use scr_nodes::Node;
 use scr_num::Span;
-use scr_plan::{Curves, evaluate};
+use scr_plan::{Curves, GroupLosses, evaluate_with};
 use scr_steps::Steps;
 use std::alloc::{AllocError as NoMemory, Global};
 use std::sync::ledger::Ledger;
 
-/// What is found once for all figures of a book: the discounts of its currencies, and the
-/// securities of its groups.
+/// What is found once for all figures of a book: the discounts of its currencies, the securities of
+/// its groups, and what is lost where each of these defaults.
 #[derive(Drop)]
 pub(crate) struct Lookups {
     pub(crate) curves: Curves,
     pub(crate) members: Members,
+    pub(crate) losses: GroupLosses,
 }
 
 /// Reckons the figures above the totals, each from those before it, where the totals are known.
@@ -47,6 +49,7 @@ pub(crate) fn reckon_each<L: Ledger>(
     requires rest { nodes.now ≡ rest_nodes book.now }
     requires curves { rows_of lookups.now.curves ≡ all_discounts book.now }
     requires members { AreMembersOf book.now lookups.now.members }
+    requires losses { AreLossesOf book.now lookups.now.losses }
     requires totals { HasTotals factors.now book.now figures.old }
     ensures { OnOk result (AreSettled factors.now book.now figures.new) }
 {
@@ -69,6 +72,7 @@ fn reckon_one<L: Ledger>(
     requires live { is_live book.now node.now ≡ true }
     requires curves { rows_of lookups.now.curves ≡ all_discounts book.now }
     requires members { AreMembersOf book.now lookups.now.members }
+    requires losses { AreLossesOf book.now lookups.now.losses }
     requires sources { AllByRecursion (IsKnown factors.now book.now figures.old) (sources_of book.now node.now) }
     ensures known { OnOk result (IsKnown factors.now book.now figures.new node.now) }
     ensures others { OnOk result ((other : Node) → IsKnown factors.now book.now figures.old other
@@ -78,7 +82,15 @@ fn reckon_one<L: Ledger>(
     let sources = sources_with(alloc, book.sheet(), &lookups.members, node)?;
     let below = figures_of(alloc, figures, &sources)?;
     let spans = spans_of(alloc, &below)?;
-    let span = evaluate(factors, book, &lookups.curves, *node, &spans, steps);
+    let span = evaluate_with(
+        factors,
+        book,
+        &lookups.curves,
+        &lookups.losses,
+        *node,
+        &spans,
+        steps,
+    );
     let close = is_close(node, span, &below);
     figures.put(key_of(node), Figure { span, close })
 }

@@ -29,12 +29,12 @@ figures_of-requires g c =
     (sym (c.deref.ensures.value ∙ c.in_ok-sources.ensures ∙ ap (λ sheet. sources_of sheet c.args.node.now) c.sheet.ensures.sheet))
     c.requires.sources)
 
-pub evaluate-span-requires-clause-rows : goal.evaluate-span-requires-clause-rows
-evaluate-span-requires-clause-rows g c =
+pub evaluate_with-span-requires-clause-rows : goal.evaluate_with-span-requires-clause-rows
+evaluate_with-span-requires-clause-rows g c =
     subst (AreDiscountsOf c.args.book.now.curves) (sym c.requires.curves) (all-are c.args.book.now c.sheet.ensures.valid)
 
-pub evaluate-span-requires-clause-fits : goal.evaluate-span-requires-clause-fits
-evaluate-span-requires-clause-fits g c =
+pub evaluate_with-span-requires-clause-fits : goal.evaluate_with-span-requires-clause-fits
+evaluate_with-span-requires-clause-fits g c =
     subst (Fits (own_of c.args.factors.now c.args.book.now c.args.node.now)) (sym (read-off c.args.factors.now c.args.book.now c.args.node.now c.args.figures.now c.deref.result.now c.in_ok-below.below.items c.deref-3.result.now
     (c.deref.ensures.value ∙ c.in_ok-sources.ensures ∙ ap (λ sheet. sources_of sheet c.args.node.now) c.sheet.ensures.sheet)
     c.in_ok-below.ensures c.requires.sources
@@ -43,7 +43,7 @@ evaluate-span-requires-clause-fits g c =
 
 -- what is put is worth what the node is
 worth : (g : given.Over) (c : goal.After-drop-sources-2 g)
-    → worth_of (record { span = c.evaluate-span.result; close = c.is_close-close.result }) ≡ worth_at c.args.factors.now c.args.book.now c.args.node.now
+    → worth_of (record { span = c.evaluate_with-span.result; close = c.is_close-close.result }) ≡ worth_at c.args.factors.now c.args.book.now c.args.node.now
 worth g c =
     let factors = c.args.factors.now in
     let sheet = c.args.book.now in
@@ -52,7 +52,7 @@ worth g c =
     (c.deref.ensures.value ∙ c.in_ok-sources.ensures ∙ ap (λ s. sources_of s node) c.sheet.ensures.sheet)
     c.in_ok-below.ensures c.requires.sources
     (c.deref-3.ensures.value ∙ c.in_ok-spans.ensures ∙ ap (map (λ (figure : Figure). figure.span)) c.deref-2.ensures.value) in
-    let is : ends c.evaluate-span.result ≡ worked factors sheet node = c.evaluate-span.ensures.worked c.requires.curves off.0 in
+    let is : ends c.evaluate_with-span.result ≡ worked factors sheet node = c.evaluate_with-span.ensures.worked c.requires.curves off.0 in
     ap₂ (λ (e : Ends) (b : Bool). record { worked = e; close = b }) is
     (c.is_close-close.ensures
     ∙ ap₂ (λ (a : Bool) (b : Bool). a || b) (ap (opens node) is ∙ opens-is factors sheet node)
@@ -61,11 +61,11 @@ worth g c =
     ∙ sym (close-equation factors sheet c.sheet.ensures.valid node))
 
 put : (g : given.Over) (c : goal.After-drop-sources-2 g) → OnOk c.put.result
-    (ArePut c.args.node.now (record { span = c.evaluate-span.result; close = c.is_close-close.result }) c.args.figures.now c.put.new.self)
+    (ArePut c.args.node.now (record { span = c.evaluate_with-span.result; close = c.is_close-close.result }) c.args.figures.now c.put.new.self)
 unfolding same_key
 put g c =
     subst (λ key. OnOk c.put.result ((other : Key) → lookup (same_key other) c.put.new.self
-    ≡ (if same_key key other then Some (record { span = c.evaluate-span.result; close = c.is_close-close.result }) else lookup (same_key other) c.args.figures.now)))
+    ≡ (if same_key key other then Some (record { span = c.evaluate_with-span.result; close = c.is_close-close.result }) else lookup (same_key other) c.args.figures.now)))
     c.key_of.ensures c.put.ensures.ok
 
 pub returns-clause-known : goal.returns-clause-known
