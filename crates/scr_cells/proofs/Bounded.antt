@@ -1,12 +1,12 @@
 -- The printed bounds of each cell enclose its exact figure.
-use Rattle.std.proofs.Common.{◌≡◌, ℕ, true, Option, Some, None, is_some, refl, sym, subst, lit<}
-use Rattle.std.proofs.lemmas.Bool.{true≢false}
+use Rattle.std.proofs.Common.{◌≡◌, ℕ, ◌==◌, ◌&&◌, true, Option, Some, None, is_some, refl, sym, subst, lit<}
+use Rattle.std.proofs.lemmas.Bool.{and_parts, eqb-true, true≢false}
 use Rattle.std.specs.List.{AllByRecursion}
 use Rattle.scr_num.specs.Enclosure.{Encloses}
 use Rattle.scr_num.specs.Figure.{Figure}
 use Rattle.scr_num.specs.Rounding.{Ends}
 use Rattle.scr_num.proofs.Enclosing.{Encloses-coarser}
-use Rattle.scr_names.proofs.TableRows.{All-both}
+use Rattle.scr_names.proofs.TableRows.{All-both, All-map}
 use Rattle.scr_factors.specs.Values.{FactorValues, IsInForm}
 use Rattle.scr_sheet.specs.declared.sheet.BalanceSheet.{BalanceSheet}
 use Rattle.scr_sheet.specs.Validity.{Valid}
@@ -14,10 +14,10 @@ use Rattle.scr_nodes.specs.declared.node.Node.{Node}
 use Rattle.scr_nodes.specs.Live.{is_live}
 use Rattle.scr_plan.specs.Exact.{exact, unit_of}
 use Rattle.scr_plan.specs.Worked.{worked}
-use Rattle.scr_plan.proofs.Enclosures.{node-encloses}
+use Rattle.scr_plan.proofs.Enclosures.{is_of_market, market-node-encloses, node-encloses}
 use Rattle.scr_cells.specs.Block.{lower_bound, upper_bound}
 use Rattle.scr_cells.specs.Certified.{Certified, IsBounded}
-use Rattle.scr_cells.specs.Table.{NamedFigure, table}
+use Rattle.scr_cells.specs.Table.{NamedFigure, market_cells, table}
 use Rattle.scr_cells.proofs.LiveCells.{IsLive, all-pass, all_live, in_grains}
 
 -- grains rounded outward to cents
@@ -38,18 +38,36 @@ all_shown : (factors : FactorValues) (sheet : BalanceSheet) → AllByRecursion (
 unfolding table
 all_shown factors sheet = all-pass (λ (cell : NamedFigure). is_some (exact factors sheet cell.node)) table refl
 
-module _ (factors : FactorValues) (known : IsInForm factors) (sheet : BalanceSheet) (valid : Valid sheet) where
-  bounded : (node : Node) → is_live sheet node ≡ true → unit_of node ≡ 1000 → is_some (exact factors sheet node) ≡ true
+module _ (factors : FactorValues) (sheet : BalanceSheet) (valid : Valid sheet) where
+  -- a figure whose ends enclose the exact one
+  bounded_by : (node : Node) → unit_of node ≡ 1000 → is_some (exact factors sheet node) ≡ true
+      → ((figure : Figure) → exact factors sheet node ≡ Some figure
+      → Encloses (unit_of node) (worked factors sheet node).low (worked factors sheet node).high figure)
       → IsBounded factors sheet node
-  bounded node live in_grains shown =
+  bounded_by node in_grains shown encloses =
       let figure = there (exact factors sheet node) shown in
       let ends = worked factors sheet node in (
         figure.0,
         figure.1,
         in-cents ends figure.0
-            (subst (λ (unit : ℕ). Encloses unit ends.low ends.high figure.0) in_grains
-            (node-encloses factors known sheet valid node live figure.0 figure.1)),
+            (subst (λ (unit : ℕ). Encloses unit ends.low ends.high figure.0) in_grains (encloses figure.0 figure.1)),
       )
+
+  -- those of market risk, whatever the factors
+  pub market_bounded : AllByRecursion (λ (cell : NamedFigure). IsBounded factors sheet cell.node) market_cells
+  market_bounded =
+      All-map (λ (cell : NamedFigure). (is_of_market cell.node && ((unit_of cell.node == 1000) && is_some (exact factors sheet cell.node))) ≡ true)
+      (λ cell. IsBounded factors sheet cell.node) market_cells
+      (λ cell passed. let (of_market, rest) = and_parts (is_of_market cell.node) _ passed in
+      let (grains, shown) = and_parts (unit_of cell.node == 1000) _ rest in
+      bounded_by cell.node (eqb-true (unit_of cell.node) 1000 grains) shown (market-node-encloses factors sheet valid cell.node of_market))
+      (all-pass (λ (cell : NamedFigure). is_of_market cell.node && ((unit_of cell.node == 1000) && is_some (exact factors sheet cell.node))) market_cells refl)
+
+module _ (factors : FactorValues) (known : IsInForm factors) (sheet : BalanceSheet) (valid : Valid sheet) where
+  bounded : (node : Node) → is_live sheet node ≡ true → unit_of node ≡ 1000 → is_some (exact factors sheet node) ≡ true
+      → IsBounded factors sheet node
+  bounded node live in_grains shown =
+      bounded_by factors sheet valid node in_grains shown (node-encloses factors known sheet valid node live)
 
   all_bounded : AllByRecursion (λ (cell : NamedFigure). IsBounded factors sheet cell.node) table
   all_bounded =

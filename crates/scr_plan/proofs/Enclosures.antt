@@ -157,6 +157,23 @@ not-second : (a b : Bool) → (a && b) ≡ false → a ≡ true → b ≡ false
 not-second true b h is = h
 not-second false b h is = absurd (true≢false (sym is))
 
+-- a figure of market risk which a cell shows
+abbrev pub is_of_market : Node → Bool
+is_of_market (nodes.InterestScenario direction measure) = true
+is_of_market (nodes.Picked alternatives.Interest measure) = true
+is_of_market (nodes.EquityPart kind) = true
+is_of_market nodes.EquityRoot = true
+is_of_market (nodes.NetPart risks.Equity) = true
+is_of_market (nodes.NetPart risks.Property) = true
+is_of_market (nodes.NetPart risks.Spread) = true
+is_of_market (nodes.NetPart risks.Concentration) = true
+is_of_market (nodes.Currency measure) = true
+is_of_market nodes.Property = true
+is_of_market nodes.Spread = true
+is_of_market nodes.Concentration = true
+is_of_market (nodes.Market measure) = true
+is_of_market node = false
+
 module _ (factors : FactorValues) (sheet : BalanceSheet) (valid : Valid sheet) where
   abbrev figure : Node → Ends
   figure node = worked factors sheet node
@@ -336,6 +353,25 @@ module _ (factors : FactorValues) (sheet : BalanceSheet) (valid : Valid sheet) w
       market-enclosed factors sheet valid measure (Frac (measured measure (decisive_outcome sheet))) (equity_exact sheet) (chosen outcomes) (chosen-is outcomes (lit< tt)).listed
       (picked-encloses measure) equity-encloses choice-has-decisive
 
+  -- ---- the figures of market risk, which hold for all factors
+
+  pub market-node-encloses : (node : Node) → is_of_market node ≡ true → (f : Figure) → exact factors sheet node ≡ Some f → Holds (unit_of node) (figure node) f
+  market-node-encloses (nodes.InterestScenario direction measures.Gross) of f is = told 1000 _ _ f is (scenario-encloses direction).gross
+  market-node-encloses (nodes.InterestScenario direction measures.Net) of f is = told 1000 _ _ f is (scenario-encloses direction).net
+  market-node-encloses (nodes.Picked alternatives.Interest measure) of f is = told 1000 _ _ f is (picked-encloses measure)
+  market-node-encloses (nodes.EquityPart kind) of f is = told 1000 _ _ f is (equities-enclose kind)
+  market-node-encloses nodes.EquityRoot of f is = told 1000 _ _ f is equity-encloses
+  market-node-encloses (nodes.NetPart risks.Equity) of f is = told 1000 _ _ f is equity-net
+  market-node-encloses (nodes.NetPart risks.Property) of f is = told 1000 _ _ f is (net-enclosed factors sheet valid risks.Property _ (property-enclosed factors sheet valid))
+  market-node-encloses (nodes.NetPart risks.Spread) of f is = told 1000 _ _ f is (net-enclosed factors sheet valid risks.Spread _ (spread-enclosed factors sheet valid))
+  market-node-encloses (nodes.NetPart risks.Concentration) of f is = told 1000 _ _ f is (net-enclosed factors sheet valid risks.Concentration _ (concentration-enclosed factors sheet valid))
+  market-node-encloses (nodes.Currency measure) of f is = told 1000 _ _ f is (currency-encloses factors sheet valid measure)
+  market-node-encloses nodes.Property of f is = told 1000 _ _ f is (property-enclosed factors sheet valid)
+  market-node-encloses nodes.Spread of f is = told 1000 _ _ f is (spread-enclosed factors sheet valid)
+  market-node-encloses nodes.Concentration of f is = told 1000 _ _ f is (concentration-enclosed factors sheet valid)
+  market-node-encloses (nodes.Market measure) of f is = told 1000 _ _ f is (market-encloses measure)
+  market-node-encloses node of f is = absurd (cc)
+
 -- ---- every live node with a figure, where the factors are in form
 module _ (factors : FactorValues) (known : IsInForm factors) (sheet : BalanceSheet) (valid : Valid sheet) where
   abbrev figure_of : Node → Ends
@@ -367,36 +403,36 @@ module _ (factors : FactorValues) (known : IsInForm factors) (sheet : BalanceShe
       let l = row-there liability_name name sheet.liabilities live in
       told one _ _ f (ap (λ found. Some (Frac (option_map_or (liability_loss sheet direction) found zero_fraction))) (sym l.1) ∙ is) (cost-encloses factors sheet valid direction name l.0 l.1)
   node-encloses (nodes.CurrencyLoss currency direction) live f is = told one _ _ f is (lost-encloses factors sheet valid direction currency)
-  node-encloses (nodes.InterestScenario direction measures.Gross) live f is = told 1000 _ _ f is (scenario-encloses factors sheet valid direction).gross
-  node-encloses (nodes.InterestScenario direction measures.Net) live f is = told 1000 _ _ f is (scenario-encloses factors sheet valid direction).net
+  node-encloses (nodes.InterestScenario direction measures.Gross) live f is = market-node-encloses factors sheet valid (nodes.InterestScenario direction measures.Gross) refl f is
+  node-encloses (nodes.InterestScenario direction measures.Net) live f is = market-node-encloses factors sheet valid (nodes.InterestScenario direction measures.Net) refl f is
   node-encloses (nodes.Choice which) live f is = absurd (let clash : None ≡ Some f = is in cc)
-  node-encloses (nodes.Picked alternatives.Interest measure) live f is = told 1000 _ _ f is (picked-encloses factors sheet valid measure)
+  node-encloses (nodes.Picked alternatives.Interest measure) live f is = market-node-encloses factors sheet valid (nodes.Picked alternatives.Interest measure) refl f is
   node-encloses (nodes.ClassSum class) live f is = told 1 _ _ f is (cents-enclose factors sheet valid _ _ (class-worked factors sheet valid class))
-  node-encloses (nodes.EquityPart kind) live f is = told 1000 _ _ f is (equities-enclose factors sheet valid kind)
-  node-encloses nodes.EquityRoot live f is = told 1000 _ _ f is (equity-encloses factors sheet valid)
-  node-encloses (nodes.NetPart risks.Equity) live f is = told 1000 _ _ f is (equity-net factors sheet valid)
-  node-encloses (nodes.NetPart risks.Property) live f is = told 1000 _ _ f is (net-enclosed factors sheet valid risks.Property _ (property-enclosed factors sheet valid))
-  node-encloses (nodes.NetPart risks.Spread) live f is = told 1000 _ _ f is (net-enclosed factors sheet valid risks.Spread _ (spread-enclosed factors sheet valid))
-  node-encloses (nodes.NetPart risks.Concentration) live f is = told 1000 _ _ f is (net-enclosed factors sheet valid risks.Concentration _ (concentration-enclosed factors sheet valid))
+  node-encloses (nodes.EquityPart kind) live f is = market-node-encloses factors sheet valid (nodes.EquityPart kind) refl f is
+  node-encloses nodes.EquityRoot live f is = market-node-encloses factors sheet valid nodes.EquityRoot refl f is
+  node-encloses (nodes.NetPart risks.Equity) live f is = market-node-encloses factors sheet valid (nodes.NetPart risks.Equity) refl f is
+  node-encloses (nodes.NetPart risks.Property) live f is = market-node-encloses factors sheet valid (nodes.NetPart risks.Property) refl f is
+  node-encloses (nodes.NetPart risks.Spread) live f is = market-node-encloses factors sheet valid (nodes.NetPart risks.Spread) refl f is
+  node-encloses (nodes.NetPart risks.Concentration) live f is = market-node-encloses factors sheet valid (nodes.NetPart risks.Concentration) refl f is
   node-encloses (nodes.LiabilityPresent name) live f is =
       let l = row-there liability_name name sheet.liabilities live in
       told one _ _ f (ap (λ found. Some (Frac (option_map_or (liability_worth sheet) found zero_fraction))) (sym l.1) ∙ is) (present-encloses factors sheet valid name l.0 l.1)
   node-encloses (nodes.CurrencyScenario currency direction measure) live f is = told 1000 _ _ f is (change-encloses factors sheet valid direction measure currency)
   node-encloses (nodes.CurrencyChoice currency) live f is = absurd (let clash : None ≡ Some f = is in cc)
   node-encloses (nodes.CurrencyPicked currency measure) live f is = told 1000 _ _ f is (change-picked-encloses factors sheet valid measure currency)
-  node-encloses (nodes.Currency measure) live f is = told 1000 _ _ f is (currency-encloses factors sheet valid measure)
-  node-encloses nodes.Property live f is = told 1000 _ _ f is (property-enclosed factors sheet valid)
+  node-encloses (nodes.Currency measure) live f is = market-node-encloses factors sheet valid (nodes.Currency measure) refl f is
+  node-encloses nodes.Property live f is = market-node-encloses factors sheet valid nodes.Property refl f is
   node-encloses (nodes.SecuritySpread name) live f is =
       let p = bond-there (position_of name sheet.securities) live in
       told 1_000_000_000 _ _ f (ap (λ found. Some (Frac (option_map_or (bond_exact factors sheet) found zero_fraction))) (sym p.1) ∙ is) (bond-enclosed factors sheet valid name p.0 p.1)
-  node-encloses nodes.Spread live f is = told 1000 _ _ f is (spread-enclosed factors sheet valid)
+  node-encloses nodes.Spread live f is = market-node-encloses factors sheet valid nodes.Spread refl f is
   node-encloses (nodes.GroupTotal name) live f is = told 1 _ _ f is (cents-enclose factors sheet valid _ _ (group-worked factors sheet valid name))
   node-encloses nodes.Assets live f is = told 1 _ _ f is (cents-enclose factors sheet valid _ _ (assets-worked factors sheet valid))
   node-encloses (nodes.ConcentrationSquare name) live f is =
       let g = row-there group_name name sheet.groups live in
       told 10_000_000_000 _ _ f (ap (λ found. Some (Frac (option_map_or (group_square_exact sheet) found zero_fraction))) (sym g.1) ∙ is) (square-enclosed factors sheet valid name g.0 g.1)
-  node-encloses nodes.Concentration live f is = told 1000 _ _ f is (concentration-enclosed factors sheet valid)
-  node-encloses (nodes.Market measure) live f is = told 1000 _ _ f is (market-encloses factors sheet valid measure)
+  node-encloses nodes.Concentration live f is = market-node-encloses factors sheet valid nodes.Concentration refl f is
+  node-encloses (nodes.Market measure) live f is = market-node-encloses factors sheet valid (nodes.Market measure) refl f is
   node-encloses (nodes.LiabilityLoss name projection) live f is = life.liability-encloses factors sheet valid name projection live f is
   node-encloses (nodes.BioScenario biometric projection measure) live f is = life.scenario-encloses factors sheet valid biometric projection measure f is
   node-encloses (nodes.Picked alternatives.LifeLapse measure) live f is = life.life_picked-encloses factors sheet valid measure f is

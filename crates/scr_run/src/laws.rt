@@ -6,8 +6,9 @@ ghost use Rattle.scr_factors.specs.Values.{FactorValues, IsInForm};
 ghost use Rattle.scr_sheet.specs.declared.sheet.BalanceSheet.{BalanceSheet};
 ghost use Rattle.scr_sheet.specs.Validity.{Valid};
 ghost use Rattle.scr_cells.specs.Block.{block_text};
-ghost use Rattle.scr_cells.specs.Certified.{Certified};
+ghost use Rattle.scr_cells.specs.Certified.{Certified, IsBounded};
 ghost use Rattle.scr_cells.specs.EquityCells.{AreBounded, equity_cells};
+ghost use Rattle.scr_cells.specs.Table.{market_cells};
 ghost use Rattle.scr_io.specs.Content.{Content, Holds};
 ghost use Rattle.scr_plans.specs.Outcome.{outcome};
 ghost use Rattle.scr_plans.specs.Outcome.Outcome.{Ends, Tells};
@@ -21,7 +22,8 @@ ghost use Rattle.scr_run.specs.declared.status.Status.{Status};
 /// Every balance sheet from which a block is printed is valid: that of a book file, and what each
 /// accepted record of its edits leaves. The values of every factor file that is read are in form.
 /// So the printed bounds of each cell of the report enclose its exact figure, whatever of the
-/// report was written. Those of equity risk do so for every balance sheet.
+/// report was written; those of market risk do so whatever the values, and those of equity risk for
+/// every balance sheet.
 pub fn enclosure()
     ensures valid { (book edits : List ℕ) (sheet : BalanceSheet) → sheet_of book ≡ Ok sheet
         → AllByRecursion Valid (printed sheet (answers (records edits) sheet)) }
@@ -32,6 +34,8 @@ pub fn enclosure()
         → AllByRecursion (Certified values) (printed sheet (answers (records edits) sheet)) }
     ensures certified { (values : FactorValues) (sheet : BalanceSheet) → IsInForm values
         → Valid sheet → Certified values sheet }
+    ensures market { (values : FactorValues) (sheet : BalanceSheet) → Valid sheet
+        → AllByRecursion (λ cell. IsBounded values sheet cell.node) market_cells }
     ensures equity { (sheet : BalanceSheet) → AreBounded (equity_cells sheet) }
 {}
 

@@ -1,5 +1,5 @@
 use Rattle.scr_csv.specs.Lines.{records}
-use Rattle.scr_cells.proofs.Bounded.{certified}
+use Rattle.scr_cells.proofs.Bounded.{certified, market_bounded}
 use Rattle.scr_cells.proofs.EquityBounded.{equity_bounded}
 use Rattle.scr_run.proofs.FactorForms.{factors-in-form}
 use Rattle.scr_run.proofs.PrintedSheets.{printed_certified, printed_valid}
@@ -11,5 +11,6 @@ returns c = record {
   in_form = factors-in-form;
   printed = λ values book edits sheet form e. printed_certified values form book (records edits) sheet e;
   certified = λ values sheet form valid. certified values form sheet valid;
+  market = market_bounded;
   equity = equity_bounded;
 }
