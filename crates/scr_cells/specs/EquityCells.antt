@@ -29,7 +29,7 @@ use Rattle.scr_cells.specs.Table.{NamedFigure, named, table}
 abbrev pub adjustment : BalanceSheet → ℤ
 adjustment sheet = int_max (negsuc 99_999) (int_min (pos 100_000) sheet.numbers.sym)
 
--- what technical provisions and deferred taxes absorb of the fall of equities, in cents (Article 206(2))
+-- what technical provisions absorb of the fall of equities, in cents (Article 206(2))
 abbrev pub equity_absorption : BalanceSheet → ℕ
 equity_absorption sheet = absorbed absorptions.Equity sheet.numbers
 
