@@ -8,7 +8,7 @@ use Rattle.scr_nodes.specs.declared.node.Node.{Node}
 use Rattle.scr_plan.specs.Close.{close_under}
 use Rattle.scr_plan.specs.Worked.{worked}
 use Rattle.scr_cells.specs.AmountTexts.{amount}
-use Rattle.scr_cells.specs.Table.{NamedFigure, table}
+use Rattle.scr_cells.specs.Table.{NamedFigure, requirement_cell, table}
 use Rattle.scr_cells.specs.Widths.{stated_width}
 use Rattle.scr_cells.specs.declared.bounds.Bounds.{Bounds}
 use Rattle.scr_cells.specs.declared.cells.Cell.{Cell}
@@ -57,6 +57,10 @@ bounds_line name bounds =
 
 unfoldable pub cell_line : FactorValues → BalanceSheet → NamedFigure → List ℕ
 cell_line factors sheet cell = bounds_line cell.name (bounds_at factors sheet cell.node)
+
+-- the line of the Solvency Capital Requirement
+unfoldable pub requirement_line : FactorValues → BalanceSheet → List ℕ
+requirement_line factors sheet = cell_line factors sheet requirement_cell
 
 -- the block of a balance sheet: the lines of all its cells
 unfoldable pub block_text : FactorValues → BalanceSheet → List ℕ

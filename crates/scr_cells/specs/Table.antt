@@ -24,6 +24,10 @@ pub record NamedFigure : Type 0 where
 abbrev pub named : List ℕ → Node → NamedFigure
 named name node = record { name = name; node = node }
 
+-- the cell of the Solvency Capital Requirement itself
+abbrev pub requirement_cell : NamedFigure
+requirement_cell = named (codes "S2501.scr") nodes.Scr
+
 -- S.25.01: the Solvency Capital Requirement
 abbrev pub requirement_cells : List NamedFigure
 requirement_cells =
@@ -43,7 +47,7 @@ requirement_cells =
     ∷ named (codes "S2501.adj.tp") (nodes.Adjust adjustments.TechnicalProvisions)
     ∷ named (codes "S2501.adj.dt") (nodes.Adjust adjustments.DeferredTaxes)
     ∷ named (codes "S2501.op") (nodes.OpPart operations.Charge)
-    ∷ named (codes "S2501.scr") nodes.Scr ∷ []
+    ∷ requirement_cell ∷ []
 
 -- S.26.01: market risk
 abbrev pub market_cells : List NamedFigure

@@ -1,7 +1,7 @@
 //! What is told of an engine's book.
-ghost use Rattle.std.specs.Prelude.{◌≡◌, ◌<◌, ◌++◌, true, is_ok, if◌then◌else◌, OnOk, Some};
+ghost use Rattle.std.specs.Prelude.{◌≡◌, ◌<◌, ◌++◌, true, is_ok, if◌then◌else◌, IfOk, OnOk, Some};
 ghost use Rattle.scr_nodes.specs.Live.{is_live};
-ghost use Rattle.scr_cells.specs.Block.{block_text, cell_at, cell_line, cell_of};
+ghost use Rattle.scr_cells.specs.Block.{block_text, cell_at, cell_line, cell_of, requirement_line};
 ghost use Rattle.scr_cells.specs.Shown.{node_of};
 ghost use Rattle.scr_cells.specs.Table.{seen};
 
@@ -9,7 +9,7 @@ use crate::bounds::{Bounds, bounds_at};
 use crate::cells::Cell;
 use crate::printing::push_bounds;
 use crate::shown::node_of;
-use crate::table::{CELL_COUNT, Entry, entry_of};
+use crate::table::{CELL_COUNT, Entry, REQUIREMENT, entry_of};
 use crate::widths::stated_width;
 use scr_tree::Engine;
 use std::alloc::{AllocError as NoMemory, Global};
@@ -47,6 +47,16 @@ pub fn print_block(alloc: Global, engine: &Engine, out: &mut Vec<u8>) -> Result<
     let mut block = Vec::new(alloc);
     push_cells(alloc, engine, &mut block)?;
     out.extend_from_slice(block.as_slice())
+}
+
+/// The line of the Solvency Capital Requirement of the engine's book, as it stands in the block.
+pub fn requirement_line(alloc: Global, engine: &Engine) -> Result<Vec<u8>, NoMemory>
+    ensures { IfOk result (λ line. line.items
+        ≡ requirement_line engine.now.factors engine.now.sheet) }
+{
+    let mut line = Vec::new(alloc);
+    push_cell(alloc, engine, entry_of(REQUIREMENT), &mut line)?;
+    Ok(line)
 }
 
 fn push_cells(alloc: Global, engine: &Engine, out: &mut Vec<u8>) -> Result<(), NoMemory>

@@ -11,6 +11,6 @@ mod shown;
 mod table;
 mod widths;
 
-pub use block::{cell, print_block};
+pub use block::{cell, print_block, requirement_line};
 pub use cells::Cell;
 pub use table::{CELL_COUNT, cell_name};

@@ -12,6 +12,9 @@ use scr_sheet::Projection;
 /// How many cells there are.
 pub const CELL_COUNT: u32 = 102;
 
+/// The number of the cell of the Solvency Capital Requirement.
+pub(crate) const REQUIREMENT: u32 = 16;
+
 /// A cell's name and the figure that it shows, which is in grains, thousandths of a cent.
 #[derive(Clone, Copy)]
 pub(crate) struct Entry {

@@ -30,3 +30,5 @@ mod records;
 mod sheets;
 #[cfg(test)]
 mod threads;
+#[cfg(test)]
+mod words;

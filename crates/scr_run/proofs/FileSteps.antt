@@ -1,5 +1,5 @@
 -- A file that is read, and what its bytes stand for.
-use Rattle.std.proofs.Common.{◌≡◌, ℕ, ◌<◌, List, length, Ok, Err, refl, ap, sym, subst, ◌∙◌}
+use Rattle.std.proofs.Common.{◌≡◌, ℕ, ◌<◌, ◌≤◌, Bool, true, false, cond, nat_le, le-leb, leb-true, arith, List, length, Ok, Err, refl, ap, sym, subst, ◌∙◌}
 use Rattle.scr_io.specs.Content.{IsPresentAnd}
 use Rattle.scr_io.specs.Reading.{UnlessFailed}
 use Rattle.scr_io.specs.declared.reading.ReadFault.{ReadFault}
@@ -7,6 +7,7 @@ use Rattle.scr_io.specs.declared.reading.ReadFault.TheVariants as read_faults
 use Rattle.scr_io.specs.declared.reading.TheConstants.{MAX_BYTES}
 use Rattle.scr_plans.specs.Moment.{Shelved}
 use Rattle.scr_plans.specs.Moment.Answer.{Due}
+use Rattle.scr_plans.specs.Plan.{and_then}
 use Rattle.scr_plans.specs.Steps.{Passed, Stopped}
 use Rattle.scr_plans.proofs.Walks.{exceeds, lacks_memory, passes_on, stops_on}
 use Rattle.scr_factors.specs.Reading.{Answers, values_in}
@@ -17,7 +18,7 @@ use Rattle.scr_sheet.specs.declared.sheet.BalanceSheet.{BalanceSheet}
 use Rattle.scr_sheet.specs.declared.fault.Fault.{Fault}
 use Rattle.scr_sheet.specs.declared.fault.Fault.TheVariants as faults
 use Rattle.scr_run.specs.BookFile.{sheet_of}
-use Rattle.scr_run.specs.Readings.{book_in, bytes_in, factors_in, sheet_or_fault, status_of_fault, too_long_of, values_or_fault}
+use Rattle.scr_run.specs.Readings.{CallsFor, book_in, bytes_in, edits_in, factors_in, sheet_or_fault, status_of_fault, too_long_of, values_or_fault}
 use Rattle.scr_run.specs.Statuses.{IsEarly, answer_of}
 use Rattle.scr_run.specs.declared.files.Role.{Role}
 use Rattle.scr_run.specs.declared.files.Role.TheVariants as roles
@@ -101,3 +102,42 @@ record_early line (faults.InUse n user) other = tt
 record_early line (faults.Cycle path) other = tt
 record_early line (faults.Range quantity value limit) other = tt
 record_early line faults.NoMemory other = absurd (other refl)
+
+-- ---- bytes at hand
+
+too_many : (n most : ℕ) → most < n → nat_le n most ≡ false
+too_many n most long = go (nat_le n most) refl
+  where
+    go : (b : Bool) → nat_le n most ≡ b → nat_le n most ≡ false
+    go true e = absurd (omega (arith, long, leb-true n most e))
+    go false e = e
+
+-- bytes at hand that are too long
+pub limits : (role : Role) (bytes : List ℕ) (status : Status) → MAX_BYTES < length bytes → status ≡ too_long_of role
+    → (status ≡ too_long_of role) × (bytes_in role bytes ≡ Err status)
+limits role bytes status long is =
+    (is, ap (λ b. cond b (Ok bytes) (Err (too_long_of role))) (too_many _ _ long) ∙ ap Err (sym is))
+
+pub within_limit : (role : Role) (bytes : List ℕ) → length bytes ≤ MAX_BYTES → bytes_in role bytes ≡ Ok bytes
+within_limit role bytes short = ap (λ b. cond b (Ok bytes) (Err (too_long_of role))) (le-leb _ _ short)
+
+module _ (bytes : List ℕ) where
+  -- a book that is too long
+  pub book_long : (status : Status) → status ≡ too_long_of roles.Book → bytes_in roles.Book bytes ≡ Err status
+      → CallsFor (book_in bytes) (answer_of status)
+  book_long status is e =
+      subst (λ s. CallsFor (book_in bytes) (answer_of s)) (sym is)
+      (ap (and_then (λ read. sheet_or_fault (sheet_of read))) (e ∙ ap Err is))
+
+  module _ (limited : bytes_in roles.Book bytes ≡ Ok bytes) where
+    pub book_read : (sheet : BalanceSheet) → sheet_of bytes ≡ Ok sheet → book_in bytes ≡ Ok sheet
+    book_read sheet e = ap (and_then (λ read. sheet_or_fault (sheet_of read))) limited ∙ ap sheet_or_fault e
+
+    pub book_faulty : (line : ℕ) (fault : Fault) → sheet_of bytes ≡ Err (line, fault)
+        → book_in bytes ≡ Err (statuses.Book line fault)
+    book_faulty line fault e = ap (and_then (λ read. sheet_or_fault (sheet_of read))) limited ∙ ap sheet_or_fault e
+
+-- edits that are too long
+pub edits_long : (bytes : List ℕ) (status : Status) → status ≡ too_long_of roles.Edits
+    → bytes_in roles.Edits bytes ≡ Err status → CallsFor (edits_in bytes) (answer_of status)
+edits_long bytes status is e = subst (λ s. CallsFor (edits_in bytes) (answer_of s)) (sym is) (e ∙ ap Err is)

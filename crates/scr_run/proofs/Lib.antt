@@ -6,6 +6,7 @@ pub mod Told
 pub mod Formed
 pub mod PrintedSheets
 pub mod Leads
-pub mod OptionSteps
 pub mod Engines
+pub mod MadeRuns
+pub mod ScriptSteps
 pub mod FactorForms

@@ -8,5 +8,5 @@ pub mod Readings
 pub mod Report
 pub mod StatusTexts
 pub mod Statuses
-pub mod Words
+pub mod Summary
 pub mod Writing

@@ -1,6 +1,6 @@
 -- What the bytes of each file stand for, or the status that they call for (this project's own). A file above its limit
 -- is too long, whatever its bytes.
-use Rattle.std.specs.Prelude.{ℕ, List, Result, Ok, Err}
+use Rattle.std.specs.Prelude.{◌≡◌, ℕ, List, Result, Ok, Err}
 use Rattle.scr_io.specs.declared.reading.TheConstants.{MAX_BYTES}
 use Rattle.scr_sheet.specs.declared.sheet.BalanceSheet.{BalanceSheet}
 use Rattle.scr_sheet.specs.declared.fault.Fault.{Fault}
@@ -8,7 +8,11 @@ use Rattle.scr_factors.specs.Reading.{values_in}
 use Rattle.scr_factors.specs.Values.{FactorValues}
 use Rattle.scr_factors.specs.declared.fault.FactorFault.{FactorFault}
 use Rattle.scr_factors.specs.declared.fault.FactorFault.TheVariants as factor_faults
+use Rattle.scr_plans.specs.Moment.{Answer}
+use Rattle.scr_plans.specs.Moment.Answer.{Due, GaveUp}
+use Rattle.scr_plans.specs.Moment.Cause.{Memory, Reading, Writing}
 use Rattle.scr_plans.specs.Plan.{limited, and_then}
+use Rattle.scr_run.specs.Statuses.{answer_of}
 use Rattle.scr_run.specs.BookFile.{sheet_of}
 use Rattle.scr_run.specs.declared.files.Role.{Role}
 use Rattle.scr_run.specs.declared.files.Role.TheVariants as roles
@@ -25,6 +29,23 @@ too_long_of roles.Edits = statuses.TooLong files.Edits
 -- the bytes of a file that is not too long
 abbrev pub bytes_in : Role → List ℕ → Result (List ℕ) Status
 bytes_in role bytes = limited MAX_BYTES (too_long_of role) bytes
+
+-- bytes at hand call for the status of this answer, or memory was refused
+abbrev pub CallsFor : {V : Type 0} → Result V Status → Answer Status → Type 0
+CallsFor due (Due status) = due ≡ Err status
+CallsFor due (GaveUp Reading) = ⊥
+CallsFor due (GaveUp Writing) = ⊥
+CallsFor due (GaveUp Memory) = Unit {0}
+
+-- what bytes at hand stand for, or the status that they call for
+abbrev pub Bears : {V : Type 0} → Result V Status → Result V Status → Type 0
+Bears due (Ok value) = due ≡ Ok value
+Bears due (Err status) = CallsFor due (answer_of status)
+
+-- bytes at hand are within the limit of a file, or call for this status
+abbrev pub IsLimited : Role → List ℕ → Result (Unit {0}) Status → Type 0
+IsLimited role bytes (Ok unit) = bytes_in role bytes ≡ Ok bytes
+IsLimited role bytes (Err status) = (status ≡ too_long_of role) × (bytes_in role bytes ≡ Err status)
 
 -- the values of a factor file, or its first fault
 abbrev pub values_or_fault : Result FactorValues FactorFault → Result FactorValues Status

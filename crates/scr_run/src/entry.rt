@@ -6,8 +6,8 @@ ghost use Rattle.scr_run.specs.Codes.{code_of};
 ghost use Rattle.scr_run.specs.Plans.{plan_of};
 ghost use Rattle.scr_run.specs.Statuses.{answer_of};
 ghost use Rattle.scr_run.specs.StatusTexts.{told_line};
-ghost use Rattle.scr_run.specs.Words.{named_files as words_say};
 ghost use Rattle.scr_run.specs.Writing.{IsTold, WritesText};
+ghost use Rattle.scr_words.specs.Forms.{said as words_say};
 ghost use Rattle.scr_run.specs.declared.status.Status.{Status as Ended};
 
 use crate::report::WriteFault;

@@ -3,14 +3,14 @@ ghost use Rattle.std.specs.Prelude.{◌≡◌, ◌≤◌, IfOk, IfErr, OnOk, vec
 ghost use Rattle.std.specs.Io.KnownBytes.{IsAtEnd};
 ghost use Rattle.scr_plans.specs.Moment.{shelved};
 ghost use Rattle.scr_plans.specs.Steps.{Passed, Stopped};
-ghost use Rattle.scr_run.specs.Readings.{too_long_of, bytes_in, factors_in, book_in, status_of_fault};
+ghost use Rattle.scr_run.specs.Readings.{Bears, IsLimited, too_long_of, bytes_in, factors_in, book_in, status_of_fault};
 ghost use Rattle.scr_run.specs.Statuses.{answer_of, IsEarly};
 
 use crate::records::{BookFault, read_book};
 use crate::status::{Status, Which};
 use scr_book::Book;
 use scr_factors::{FactorFault, Factors, read_factors};
-use scr_io::{ReadFault, Shelf, read_all};
+use scr_io::{MAX_BYTES, ReadFault, Shelf, read_all};
 use std::alloc::Global;
 
 /// What a file is read for.
@@ -67,6 +67,7 @@ pub fn file_factors<F: Shelf>(alloc: Global, shelf: &mut F, name: &str) -> Resul
         (shelved (F.content shelf.old) (F.faults shelf.old) (F.strays shelf.old))
         (shelved (F.content shelf.new) (F.faults shelf.new) (F.strays shelf.new))
         (answer_of status)) }
+    ensures end { OnOk result (IsAtEnd (F.left shelf.new)) }
     ensures early { IfErr result IsEarly }
 {
     let bytes = match file_bytes(alloc, shelf, name, Role::Factors) {
@@ -106,6 +107,35 @@ pub fn file_book<F: Shelf>(alloc: Global, shelf: &mut F, name: &str) -> Result<B
         Err(status) => return Err(status),
     };
     match read_book(alloc, bytes.as_slice()) {
+        Ok(book) => Ok(book),
+        Err(BookFault::NoMemory) => Err(Status::NoMemory),
+        Err(BookFault::Record(line, fault)) => Err(Status::Book(line, fault)),
+    }
+}
+
+/// Refuses bytes at hand that are more than a file may have.
+pub fn check_length(bytes: &[u8], role: Role) -> Result<(), Status>
+    ensures limited { IsLimited role bytes.now result }
+    ensures short { OnOk result (length bytes.now ≤ 67108864) }
+    ensures early { IfErr result IsEarly }
+{
+    if bytes.len() <= MAX_BYTES {
+        Ok(())
+    } else {
+        Err(too_long(role))
+    }
+}
+
+/// The book that bytes at hand spell, or the status that ends the run.
+pub fn book_of(alloc: Global, bytes: &[u8]) -> Result<Book, Status>
+    ensures answer { Bears (book_in bytes.now) result }
+    ensures early { IfErr result IsEarly }
+{
+    match check_length(bytes, Role::Book) {
+        Ok(()) => {}
+        Err(status) => return Err(status),
+    }
+    match read_book(alloc, bytes) {
         Ok(book) => Ok(book),
         Err(BookFault::NoMemory) => Err(Status::NoMemory),
         Err(BookFault::Record(line, fault)) => Err(Status::Book(line, fault)),

@@ -5,7 +5,7 @@ ghost use Rattle.scr_csv.specs.Lines.{records};
 ghost use Rattle.scr_factors.specs.Values.{FactorValues, IsInForm};
 ghost use Rattle.scr_sheet.specs.declared.sheet.BalanceSheet.{BalanceSheet};
 ghost use Rattle.scr_sheet.specs.Validity.{Valid};
-ghost use Rattle.scr_cells.specs.Block.{block_text};
+ghost use Rattle.scr_cells.specs.Block.{block_text, requirement_line};
 ghost use Rattle.scr_cells.specs.Certified.{Certified, IsBounded};
 ghost use Rattle.scr_cells.specs.EquityCells.{AreBounded, equity_cells};
 ghost use Rattle.scr_cells.specs.Table.{market_cells};
@@ -13,10 +13,11 @@ ghost use Rattle.scr_io.specs.Content.{Content, Holds};
 ghost use Rattle.scr_plans.specs.Outcome.{outcome};
 ghost use Rattle.scr_plans.specs.Outcome.Outcome.{Ends, Tells};
 ghost use Rattle.scr_run.specs.BookFile.{sheet_of};
-ghost use Rattle.scr_run.specs.Plans.{ended_status, report_plan};
+ghost use Rattle.scr_run.specs.Plans.{Names, ended_status, made_plan, report_plan};
 ghost use Rattle.scr_run.specs.Readings.{book_in, edits_in, factors_in};
 ghost use Rattle.scr_run.specs.Report.{answers, any_refused, printed, report_text};
-ghost use Rattle.scr_run.specs.Words.{Names};
+ghost use Rattle.scr_made.specs.Made.{book_text, script_text};
+ghost use Rattle.scr_run.specs.Summary.{summary_text};
 ghost use Rattle.scr_run.specs.declared.status.Status.{Status};
 
 /// Every balance sheet from which a block is printed is valid: that of a book file, and what each
@@ -64,4 +65,31 @@ pub fn outcomes()
         → content names.book ≡ Holds book → book_in book ≡ Ok sheet
         → content names.edits ≡ Holds edits → edits_in edits ≡ Err due
         → outcome (report_plan names) content ≡ Ends due }
+{}
+
+/// Where the plan of a made book leads by the contents of the factor file, and by what the made
+/// texts stand for: each that calls for a status ends the run, and where none does, the summary is
+/// written.
+pub fn made_outcomes()
+    ensures summary { (name : List ℕ) (number : ℕ) (content : List ℕ → Content) (factors : List ℕ)
+        (values : FactorValues) (sheet : BalanceSheet) (script : List ℕ)
+        → content name ≡ Holds factors → factors_in factors ≡ Ok values
+        → book_in (book_text number) ≡ Ok sheet → edits_in (script_text number) ≡ Ok script
+        → outcome (made_plan name number) content ≡ Tells
+        (ended_status (any_refused (answers (records script) sheet)))
+        (summary_text (requirement_line values) number script sheet) }
+    ensures factors { (name : List ℕ) (number : ℕ) (content : List ℕ → Content) (factors : List ℕ)
+        (due : Status)
+        → content name ≡ Holds factors → factors_in factors ≡ Err due
+        → outcome (made_plan name number) content ≡ Ends due }
+    ensures book { (name : List ℕ) (number : ℕ) (content : List ℕ → Content) (factors : List ℕ)
+        (values : FactorValues) (due : Status)
+        → content name ≡ Holds factors → factors_in factors ≡ Ok values
+        → book_in (book_text number) ≡ Err due
+        → outcome (made_plan name number) content ≡ Ends due }
+    ensures edits { (name : List ℕ) (number : ℕ) (content : List ℕ → Content) (factors : List ℕ)
+        (values : FactorValues) (sheet : BalanceSheet) (due : Status)
+        → content name ≡ Holds factors → factors_in factors ≡ Ok values
+        → book_in (book_text number) ≡ Ok sheet → edits_in (script_text number) ≡ Err due
+        → outcome (made_plan name number) content ≡ Ends due }
 {}

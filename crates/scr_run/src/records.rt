@@ -1,15 +1,25 @@
 //! The records of a book and of its edits, applied one after another.
-ghost use Rattle.std.specs.Prelude.{◌≡◌, ℕ, ◌≤◌, Ok, Err, IsErrOf, length};
+ghost use Rattle.std.specs.Prelude.{◌≡◌, ℕ, ◌<◌, ◌≤◌, Ok, Err, IsErrOf, OnOk, OnErr, length};
 ghost use Rattle.scr_sheet.specs.declared.fault.Fault.TheVariants as faults;
+ghost use Rattle.scr_sheet.specs.Faults.{fault_of};
+ghost use Rattle.scr_sheet.specs.Forms.{Formed};
+ghost use Rattle.scr_sheet.specs.Records.{applied};
+ghost use Rattle.scr_tree.specs.Standing.{Refuses, with_sheet};
 ghost use Rattle.scr_run.specs.BookFile.{recorded, sheet_of};
 ghost use Rattle.scr_run.specs.BookAnswers.{Recorded, Replied, Read};
 ghost use Rattle.scr_csv.specs.Lines.{records};
 ghost use Rattle.scr_csv.specs.LineOrder.{lines_left};
 
-use scr_book::{Book, Fault};
+use crate::crew::Crew;
+use scr_book::{Book, Edit, Fault};
 use scr_csv::{LineFault, lines, read_line};
+use scr_io::Gate;
+use scr_steps::Steps;
 use scr_tree::{Engine, Refusal};
 use std::alloc::Global;
+use std::marker::Brand;
+use std::sync::ledger::{Blank, Ledger};
+use std::thread::Threads;
 
 /// Why a file is no book.
 #[derive(Drop)]
@@ -55,13 +65,57 @@ pub fn record(alloc: Global, book: &mut Book, text: &[u8]) -> Result<(), Fault>
 /// Applies the record of a line to the book of the engine, which is as before where the record is
 /// refused.
 #[tactic(auto, unfolding(crate::specs::BookFile::recorded))]
-pub fn edit(alloc: Global, engine: &mut Engine, text: &[u8]) -> Result<(), Refusal>
-    requires { length text.now ≤ 67108864 }
+pub fn edit<R: Threads + Sync, G: Gate + Sync>(
+    crew: &Crew<'_, R, G>,
+    alloc: Global,
+    engine: &mut Engine,
+    text: &[u8],
+) -> Result<(), Refusal>
+    requires crew { (1 ≤ crew.now.workers) × (crew.now.workers ≤ 64) }
+    requires short { length text.now ≤ 67108864 }
     ensures { Replied (recorded text.now engine.old.sheet) engine.old result engine.new }
 {
     match read_line(alloc, text) {
-        Ok(edit) => engine.apply(alloc, &edit),
+        Ok(edit) => apply(crew, alloc, engine, &edit),
         Err(LineFault::Syntax(field)) => Err(Refusal::Fault(Fault::Syntax(field))),
         Err(LineFault::NoMemory) => Err(Refusal::NoMemory),
     }
+}
+
+/// Applies a record to the book of the engine, with a counter of its own.
+fn apply<R: Threads + Sync, G: Gate + Sync>(
+    crew: &Crew<'_, R, G>,
+    alloc: Global,
+    engine: &mut Engine,
+    edit: &Edit,
+) -> Result<(), Refusal>
+    requires crew { (1 ≤ crew.now.workers) × (crew.now.workers ≤ 64) }
+    requires formed { Formed edit.now }
+    ensures answer { Refuses (fault_of edit.now engine.old.sheet) result }
+    ensures ok { OnOk result (engine.new
+        ≡ with_sheet (applied edit.now engine.old.sheet) engine.old) }
+    ensures err { OnErr result (engine.new ≡ engine.old) }
+{
+    counted::<R, G, Brand>(crew, alloc, engine, edit, Blank::new(1))
+}
+
+fn counted<R: Threads + Sync, G: Gate + Sync, L: Ledger>(
+    crew: &Crew<'_, R, G>,
+    alloc: Global,
+    engine: &mut Engine,
+    edit: &Edit,
+    blank: Blank,
+) -> Result<(), Refusal>
+    requires crew { (1 ≤ crew.now.workers) × (crew.now.workers ≤ 64) }
+    requires formed { Formed edit.now }
+    requires name { blank.name ≡ L.name }
+    requires parts { blank.parts ≡ L.parts }
+    requires some { 0 < blank.parts }
+    ensures answer { Refuses (fault_of edit.now engine.old.sheet) result }
+    ensures ok { OnOk result (engine.new
+        ≡ with_sheet (applied edit.now engine.old.sheet) engine.old) }
+    ensures err { OnErr result (engine.new ≡ engine.old) }
+{
+    let mut steps = Steps::<L>::new(blank);
+    engine.edit(crew.rt, alloc, edit, crew.workers, crew.gate, &mut steps)
 }

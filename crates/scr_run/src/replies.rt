@@ -5,12 +5,15 @@ ghost use Rattle.scr_tree.specs.Standing.{with_sheet};
 ghost use Rattle.scr_run.specs.BookFile.{recorded};
 ghost use Rattle.scr_run.specs.Report.{opening_text, reply_start, accepted_text, refused_text, reply_text, after};
 
+use crate::crew::Crew;
 use crate::printing::{number_of, push, push_fault, push_number};
 use crate::records::edit;
 use scr_book::Fault;
 use scr_cells::print_block;
+use scr_io::Gate;
 use scr_tree::{Engine, Refusal};
 use std::alloc::{AllocError as NoMemory, Global};
+use std::thread::Threads;
 
 /// The reply to a record of the edits.
 #[derive(Drop)]
@@ -34,13 +37,15 @@ pub fn opening(alloc: Global, engine: &Engine) -> Result<Vec<u8>, NoMemory>
 /// Applies the record of a line to the engine's book, and replies: with the block of the book that
 /// it leaves, or with the fault for which it is refused. The book is as before where the record is
 /// refused.
-pub fn reply_to(
+pub fn reply_to<R: Threads + Sync, G: Gate + Sync>(
+    crew: &Crew<'_, R, G>,
     alloc: Global,
     engine: &mut Engine,
     number: u32,
     text: &[u8],
 ) -> Result<Reply, NoMemory>
-    requires { length text.now ≤ 67108864 }
+    requires crew { (1 ≤ crew.now.workers) × (crew.now.workers ≤ 64) }
+    requires short { length text.now ≤ 67108864 }
     ensures text { IfOk result (λ reply. reply.text.items ≡ reply_text
         (block_text engine.old.factors) number (recorded text.now engine.old.sheet)) }
     ensures refused { IfOk result (λ reply. reply.refused
@@ -48,7 +53,7 @@ pub fn reply_to(
     ensures engine { OnOk result (engine.new
         ≡ with_sheet (after (recorded text.now engine.old.sheet) engine.old.sheet) engine.old) }
 {
-    match edit(alloc, engine, text) {
+    match edit(crew, alloc, engine, text) {
         Ok(()) => Ok(Reply {
             text: accepted(alloc, engine, number)?,
             refused: false,

@@ -6,11 +6,13 @@ ghost use Rattle.scr_plans.specs.Moment.{sunk};
 ghost use Rattle.scr_run.specs.Report.{answers, any_refused, report_text};
 ghost use Rattle.scr_run.specs.Writing.{WritesText};
 
+use crate::crew::Crew;
 use crate::replies::{opening, reply_to};
 use scr_csv::lines;
-use scr_io::{Sink, write_all};
+use scr_io::{Gate, Sink, write_all};
 use scr_tree::Engine;
 use std::alloc::Global;
+use std::thread::Threads;
 
 /// Why a text was not written to its end.
 #[derive(Clone, Copy)]
@@ -23,13 +25,15 @@ pub enum WriteFault {
 
 /// Writes the report on the engine's book and the edits of a file, one piece for the book and one for each
 /// edit, and says whether an edit was refused.
-pub fn write_report<K: Sink>(
+pub fn write_report<R: Threads + Sync, K: Sink, G: Gate + Sync>(
+    crew: &Crew<'_, R, G>,
     alloc: Global,
     engine: &mut Engine,
     edits: &[u8],
     sink: &mut K,
 ) -> Result<bool, WriteFault>
-    requires { length edits.now ≤ 67108864 }
+    requires crew { (1 ≤ crew.now.workers) × (crew.now.workers ≤ 64) }
+    requires short { length edits.now ≤ 67108864 }
     ensures written { WritesText (report_text (block_text engine.old.factors) edits.now engine.old.sheet)
         (sunk (K.written sink.old) (K.faults sink.old))
         (sunk (K.written sink.new) (K.faults sink.new)) result }
@@ -45,7 +49,7 @@ pub fn write_report<K: Sink>(
     }
     let mut refused = false;
     for line in lines(edits) {
-        let Ok(reply) = reply_to(alloc, engine, line.number, line.text) else {
+        let Ok(reply) = reply_to(crew, alloc, engine, line.number, line.text) else {
             return Err(WriteFault::NoMemory);
         };
         refused |= reply.refused;

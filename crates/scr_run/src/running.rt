@@ -1,5 +1,5 @@
 //! A run of the program: from its words to its status.
-ghost use Rattle.std.specs.Prelude.{◌≡◌, ℕ, None};
+ghost use Rattle.std.specs.Prelude.{◌≡◌, ◌≤◌, ℕ, None};
 ghost use Rattle.std.specs.Io.KnownBytes.{IsAtEnd};
 ghost use Rattle.scr_plans.specs.Moment.{shelved, sunk};
 ghost use Rattle.scr_plans.specs.Outcome.{TellsNothing};
@@ -9,28 +9,40 @@ ghost use Rattle.scr_sheet.specs.declared.fault.Fault.TheVariants as faults;
 ghost use Rattle.scr_run.specs.FileNames.{names_of};
 ghost use Rattle.scr_run.specs.Plans.{ended_status, plan_of, plan_on, report_plan};
 ghost use Rattle.scr_run.specs.Statuses.{answer_of, IsEnded, IsQuiet};
-ghost use Rattle.scr_run.specs.Words.{named_files as words_say};
+ghost use Rattle.scr_words.specs.Forms.{said as words_say};
 
+use crate::crew::Crew;
 use crate::files::{Role, file_book, file_bytes, file_factors};
+use crate::making::run_made;
 use crate::report::{WriteFault, write_report};
 use crate::status::Status;
-use crate::words::{Files, named_files};
 use scr_io::{Gate, Shelf, Sink};
 use scr_tree::Engine;
+use scr_words::{Words, WordsFault, parse_words};
 use std::alloc::Global;
 use std::thread::Threads;
 
-/// Runs the program on its words, the words after its name: `--factors`, `--book` and `--edits`,
-/// each with the name of a file on the shelf, and `--workers` with a number, which has no effect
-/// yet. The report on the book and the edits goes to the sink. The files are read in this order,
-/// each is checked before the next is opened, and output begins when all were read.
+/// The names of the files of a report.
+#[derive(Clone, Copy)]
+struct Files<'a> {
+    factors: &'a str,
+    book: &'a str,
+    edits: &'a str,
+}
+
+/// Runs the program on its words, the words after its name. With `--factors`, `--book` and
+/// `--edits`, each with the name of a file on the shelf, the report on the book and the edits goes
+/// to the sink; with `--factors` and `--make` the summary of the book that is made from the number.
+/// The figures are reckoned by the number of `--workers`, on which the text does not depend. The
+/// files are read in this order, each is checked before the next is opened, and output begins when
+/// all were read.
 pub fn run<R: Threads + Sync, F: Shelf, K: Sink, G: Gate + Sync>(
-    _rt: &R,
+    rt: &R,
     alloc: Global,
     words: &[String],
     shelf: &mut F,
     sink: &mut K,
-    _gate: &G,
+    gate: &G,
 ) -> Status
     // What the words call for is done: the files of their plan are read in order, the first that
     // ends the run decides, and the text is written; or the run gives up, with its cause.
@@ -53,15 +65,47 @@ pub fn run<R: Threads + Sync, F: Shelf, K: Sink, G: Gate + Sync>(
         → sink.new ≡ sink.old }
     ensures read_to_end { IsEnded result → IsAtEnd (F.left shelf.new) }
 {
-    match named_files(alloc, words) {
-        Ok(Some(files)) => report(alloc, files, shelf, sink),
-        Ok(None) => Status::Usage,
-        Err(_) => Status::NoMemory,
+    match parse_words(alloc, words) {
+        Ok(
+            Words::Files {
+                factors,
+                book,
+                edits,
+                workers,
+            },
+        ) => {
+            let crew = Crew { rt, workers, gate };
+            let files = Files {
+                factors: factors.as_str(),
+                book: book.as_str(),
+                edits: edits.as_str(),
+            };
+            report(&crew, alloc, files, shelf, sink)
+        }
+        Ok(
+            Words::Make {
+                factors,
+                number,
+                workers,
+            },
+        ) => {
+            let crew = Crew { rt, workers, gate };
+            run_made(&crew, alloc, factors.as_str(), number, shelf, sink)
+        }
+        Err(WordsFault::Usage) => Status::Usage,
+        Err(WordsFault::NoMemory) => Status::NoMemory,
     }
 }
 
 /// Reads the factor file, the book and its edits, and writes the report on them.
-fn report<F: Shelf, K: Sink>(alloc: Global, files: Files<'_>, shelf: &mut F, sink: &mut K) -> Status
+fn report<R: Threads + Sync, F: Shelf, K: Sink, G: Gate + Sync>(
+    crew: &Crew<'_, R, G>,
+    alloc: Global,
+    files: Files<'_>,
+    shelf: &mut F,
+    sink: &mut K,
+) -> Status
+    requires crew { (1 ≤ crew.now.workers) × (crew.now.workers ≤ 64) }
     ensures owed { Owes (report_plan (names_of files.entry))
         (shelved (F.content shelf.old) (F.faults shelf.old) (F.strays shelf.old))
         (shelved (F.content shelf.new) (F.faults shelf.new) (F.strays shelf.new))
@@ -84,22 +128,24 @@ fn report<F: Shelf, K: Sink>(alloc: Global, files: Files<'_>, shelf: &mut F, sin
         Ok(book) => book,
         Err(status) => return status,
     };
-    let Ok(mut engine) = Engine::new(alloc, factors, book) else {
+    let Ok(mut engine) = Engine::new(crew.rt, alloc, factors, book, crew.workers, crew.gate) else {
         return Status::NoMemory;
     };
-    let status = report_on(alloc, &mut engine, files.edits, shelf, sink);
+    let status = report_on(crew, alloc, &mut engine, files.edits, shelf, sink);
     engine.close();
     status
 }
 
 /// Reads the edits of the engine's book, and writes the report on both.
-fn report_on<F: Shelf, K: Sink>(
+fn report_on<R: Threads + Sync, F: Shelf, K: Sink, G: Gate + Sync>(
+    crew: &Crew<'_, R, G>,
     alloc: Global,
     engine: &mut Engine,
     edits_name: &str,
     shelf: &mut F,
     sink: &mut K,
 ) -> Status
+    requires crew { (1 ≤ crew.now.workers) × (crew.now.workers ≤ 64) }
     ensures owed { Owes (plan_on engine.old.factors edits_name.now engine.old.sheet)
         (shelved (F.content shelf.old) (F.faults shelf.old) (F.strays shelf.old))
         (shelved (F.content shelf.new) (F.faults shelf.new) (F.strays shelf.new))
@@ -118,15 +164,15 @@ fn report_on<F: Shelf, K: Sink>(
         Ok(edits) => edits,
         Err(status) => return status,
     };
-    match write_report(alloc, engine, edits.as_slice(), sink) {
+    match write_report(crew, alloc, engine, edits.as_slice(), sink) {
         Ok(refused) => ended(refused),
         Err(WriteFault::Failed) => Status::Write,
         Err(WriteFault::NoMemory) => Status::NoMemory,
     }
 }
 
-/// The status of a run whose report is whole.
-fn ended(refused: bool) -> Status
+/// The status of a run whose text is whole.
+pub fn ended(refused: bool) -> Status
     ensures { result ≡ ended_status refused }
 {
     if refused {

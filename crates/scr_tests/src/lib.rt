@@ -5,6 +5,8 @@
 #[cfg(test)]
 mod outside;
 #[cfg(test)]
+mod passes;
+#[cfg(test)]
 mod runs;
 #[cfg(test)]
 mod statuses;

@@ -1,7 +1,7 @@
 //! A shelf, a sink, a reader and a writer that fail where they are told to.
 ghost use Rattle.std.specs.Prelude.{◌≤◌, min};
 
-use scr_io::{Failed, MemShelf, MemSink, OpenGate, read_step, write_step};
+use scr_io::{Failed, Gate, MemShelf, MemSink, OpenGate, read_step, write_step};
 use scr_run::{Status, run};
 use std::alloc::{AllocError, Global};
 use std::io::{self, ErrorKind, Read, Write};
@@ -74,17 +74,21 @@ pub fn outcome<R: Threads + Sync>(
     files: &[(&str, &str)],
     outside: &Outside,
 ) -> Result<End, AllocError> {
+    outcome_by(rt, alloc, files, outside, &OpenGate)
+}
+
+/// The same by a gate that each evaluation passes.
+pub fn outcome_by<R: Threads + Sync, G: Gate + Sync>(
+    rt: &R,
+    alloc: Global,
+    files: &[(&str, &str)],
+    outside: &Outside,
+    gate: &G,
+) -> Result<End, AllocError> {
     let words = owned(alloc, &WORDS)?;
     let mut shelf = shelf_of(alloc, files, outside)?;
     let mut sink = MemSink::new(alloc, [outside.writes].to_vec(alloc)?, outside.piece)?;
-    let status = run(
-        rt,
-        alloc,
-        words.as_slice(),
-        &mut shelf,
-        &mut sink,
-        &OpenGate,
-    );
+    let status = run(rt, alloc, words.as_slice(), &mut shelf, &mut sink, gate);
     Ok(End {
         status,
         written: sink.written().to_vec(alloc)?,

@@ -146,7 +146,7 @@ reserve = [100000, 100000, 100000, 100000]
 ";
 
 /// The three files, with one edit or none.
-fn files(edits: &str) -> [(&str, &str); 3] {
+pub fn files(edits: &str) -> [(&str, &str); 3] {
     [("f", FACTORS), ("b", BOOK), ("e", edits)]
 }
 

@@ -1,4 +1,11 @@
-pub mod KeyLemmas
-pub mod KeyNodes
 pub mod Known
+pub mod KeptRates
+pub mod Unreached
+pub mod Settled
+pub mod RankSteps
+pub mod RankLists
+pub mod Written
+pub mod Collected
+pub mod Grown
 pub mod TotalLemmas
+pub mod FirstTotals

@@ -1,5 +1,5 @@
 -- What the totals are worth: the cents that are held, which rest on no choice.
-use Rattle.std.proofs.Common.{◌≡◌, ℕ, zero, suc, Bool, true, false, ◌||◌, List, [], ◌∷◌, ◌++◌, map, slice_get, slice_index, Some, None, is_some, if◌then◌else◌, refl, sym, ap, ap₂, ◌∙◌}
+use Rattle.std.proofs.Common.{◌≡◌, ℕ, zero, suc, Bool, true, false, ◌||◌, List, [], ◌∷◌, map, slice_get, slice_index, Some, None, is_some, if◌then◌else◌, refl, sym, ap, ap₂, ◌∙◌}
 use Rattle.std.specs.List.{AllByRecursion, list_any}
 use Rattle.scr_num.specs.Rounding.{Ends}
 use Rattle.scr_factors.specs.Values.{FactorValues}
@@ -44,10 +44,12 @@ closed-step : (factors : FactorValues) (sheet : BalanceSheet) (node : Node) → 
 closed-step factors sheet _ (a_fund name) = sym (none-open (sources_of sheet (nodes.FundTotal name)))
 closed-step factors sheet _ (a_security name) = sym (none-open (sources_of sheet (nodes.SecurityTotal name)))
 
-never-close : (factors : FactorValues) (sheet : BalanceSheet) → Valid sheet → (node : Node) → IsTotal node → close_under factors sheet node ≡ false
+never-close : (factors : FactorValues) (sheet : BalanceSheet) → Valid sheet → (node : Node) → IsTotal node
+    → close_under factors sheet node ≡ false
 unfolding close_under
 never-close factors sheet valid node total =
-    sym (reckoned-only false (λ n below. is_open_choice factors sheet n || list_any (λ b. b) below) sheet valid IsTotal (sources-are sheet)
+    sym (reckoned-only false (λ n below. is_open_choice factors sheet n || list_any
+    (λ b. b) below) sheet valid IsTotal (sources-are sheet)
     (λ n. false) (closed-step factors sheet) node total)
 
 -- ---- rows of a table have their names in it
@@ -59,20 +61,23 @@ own-row name_of (r ∷ rows) zero row is =
     let same : r ≡ row = cc in rw (sym same) (rw (same_name-itself (name_of r)) refl)
 own-row name_of (r ∷ rows) (suc k) row is = later (same_name (name_of row) (name_of r)) (own-row name_of rows k row is)
   where
-    later : (b : Bool) → has_row name_of (name_of row) rows ≡ true → is_some (if b then Some r else row_of name_of (name_of row) rows) ≡ true
+    later : (b : Bool) → has_row name_of (name_of row) rows ≡ true
+        → is_some (if b then Some r else row_of name_of (name_of row) rows) ≡ true
     later true h = refl
     later false h = h
 
 -- ---- what each total is worth
 
-pub fund-worth : (factors : FactorValues) (sheet : BalanceSheet) → Valid sheet → (k : ℕ) (s : Stake) → slice_get sheet.funds k ≡ Some s
+pub fund-worth : (factors : FactorValues) (sheet : BalanceSheet) → Valid sheet → (k : ℕ) (s : Stake)
+    → slice_get sheet.funds k ≡ Some s
     → total_worth (total_of sheet s.fund.name) ≡ worth_at factors sheet (fund_total s)
 fund-worth factors sheet valid k s is =
     ap₂ (λ (e : Ends) (b : Bool). record { worked = e; close = b })
     (sym (fund-worked factors sheet valid s.fund.name (own-row stake_name sheet.funds k s is)))
     (sym (never-close factors sheet valid (nodes.FundTotal s.fund.name) (a_fund s.fund.name)))
 
-pub security-worth : (factors : FactorValues) (sheet : BalanceSheet) → Valid sheet → (k : ℕ) (p : Position) → slice_get sheet.securities k ≡ Some p
+pub security-worth : (factors : FactorValues) (sheet : BalanceSheet) → Valid sheet → (k : ℕ) (p : Position)
+    → slice_get sheet.securities k ≡ Some p
     → total_worth (total_of sheet p.security.name) ≡ worth_at factors sheet (nodes.SecurityTotal p.security.name)
 security-worth factors sheet valid k p is =
     ap₂ (λ (e : Ends) (b : Bool). record { worked = e; close = b })
@@ -80,28 +85,28 @@ security-worth factors sheet valid k p is =
     (sym (never-close factors sheet valid (nodes.SecurityTotal p.security.name) (a_security p.security.name)))
 
 -- the number at the place of a row
-pub value-at : {Row : Type 0} (f : Row → ℕ) (rows : List Row) (k : ℕ) (row : Row) (values : List ℕ) → values ≡ map f rows → slice_get rows k ≡ Some row
+pub value-at : {Row : Type 0} (f : Row → ℕ) (rows : List Row) (k : ℕ) (row : Row) (values : List ℕ)
+    → values ≡ map f rows → slice_get rows k ≡ Some row
     → slice_index values k ≡ f row
 value-at f [] k row values is at = absurd (let clash : None ≡ Some row = at in cc)
 value-at f (r ∷ rows) zero row values is at = let same : r ≡ row = cc in ap (λ vs. slice_index vs 0) is ∙ ap f same
 value-at f (r ∷ rows) (suc k) row [] is at = absurd (cc)
-value-at f (r ∷ rows) (suc k) row (v ∷ values) is at = let rest : values ≡ map f rows = cc in value-at f rows k row values rest at
-
-pub all-mapped : {X Y : Type 0} (P : Y → Type 0) (f : X → Y) (xs : List X) → AllByRecursion (λ x. P (f x)) xs → AllByRecursion P (map f xs)
-all-mapped P f [] all = tt
-all-mapped P f (x ∷ xs) all = (all.0, all-mapped P f xs all.1)
-
-pub all-joined : {X : Type 0} (P : X → Type 0) (xs ys : List X) → AllByRecursion P xs → AllByRecursion P ys → AllByRecursion P (xs ++ ys)
-all-joined P [] ys left right = right
-all-joined P (x ∷ xs) ys left right = (left.0, all-joined P xs ys left.1 right)
+value-at f (r ∷ rows) (suc k) row (v ∷ values) is at = let rest : values ≡ map f rows = cc in value-at f rows k row
+    values rest at
 
 -- a total by its place is worth what its node is
-pub fund-placed : (factors : FactorValues) (sheet : BalanceSheet) → Valid sheet → (totals : List ℕ) → totals ≡ map (λ s. total_of sheet (stake_name s)) sheet.funds
-    → (k : ℕ) (s : Stake) → slice_get sheet.funds k ≡ Some s → total_worth (slice_index totals k) ≡ worth_at factors sheet (fund_total s)
+pub fund-placed : (factors : FactorValues) (sheet : BalanceSheet) → Valid sheet → (totals : List ℕ)
+    → totals ≡ map (λ s. total_of sheet (stake_name s)) sheet.funds
+    → (k : ℕ) (s : Stake) → slice_get sheet.funds k ≡ Some s
+    → total_worth (slice_index totals k) ≡ worth_at factors sheet (fund_total s)
 fund-placed factors sheet valid totals are k s at =
-    ap total_worth (value-at (λ s. total_of sheet (stake_name s)) sheet.funds k s totals are at) ∙ fund-worth factors sheet valid k s at
+    ap total_worth (value-at (λ s. total_of sheet (stake_name s)) sheet.funds k s totals are at)
+    ∙ fund-worth factors sheet valid k s at
 
-pub security-placed : (factors : FactorValues) (sheet : BalanceSheet) → Valid sheet → (totals : List ℕ) → totals ≡ map (λ p. total_of sheet (position_name p)) sheet.securities
-    → (k : ℕ) (p : Position) → slice_get sheet.securities k ≡ Some p → total_worth (slice_index totals k) ≡ worth_at factors sheet (security_total p)
+pub security-placed : (factors : FactorValues) (sheet : BalanceSheet) → Valid sheet → (totals : List ℕ)
+    → totals ≡ map (λ p. total_of sheet (position_name p)) sheet.securities
+    → (k : ℕ) (p : Position) → slice_get sheet.securities k ≡ Some p
+    → total_worth (slice_index totals k) ≡ worth_at factors sheet (security_total p)
 security-placed factors sheet valid totals are k p at =
-    ap total_worth (value-at (λ p. total_of sheet (position_name p)) sheet.securities k p totals are at) ∙ security-worth factors sheet valid k p at
+    ap total_worth (value-at (λ p. total_of sheet (position_name p)) sheet.securities k p totals are at)
+    ∙ security-worth factors sheet valid k p at

@@ -1,5 +1,10 @@
-pub mod Numbers
-pub mod Keys
 pub mod Figures
+pub mod Dues
+pub mod Lost
+pub mod KeptRates
+pub mod Changed
 pub mod Standing
+pub mod Opened
 pub mod Kept
+pub mod Readiness
+pub mod First

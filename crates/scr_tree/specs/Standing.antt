@@ -1,9 +1,14 @@
 -- What an engine stands on, and when it refuses a record (this project's own).
-use Rattle.std.specs.Prelude.{◌≡◌, Option, Some, None, Result, Ok, Err}
+use Rattle.std.specs.Prelude.{◌≡◌, ℕ, ◌+◌, Option, Some, None, Result, Ok, Err, OnOk}
 use Rattle.scr_factors.specs.Values.{FactorValues}
+use Rattle.scr_sheet.specs.Records.{applied}
+use Rattle.scr_sheet.specs.declared.edit.Edit.{Edit}
 use Rattle.scr_sheet.specs.declared.fault.Fault.{Fault}
 use Rattle.scr_sheet.specs.declared.fault.Fault.TheVariants as faults
 use Rattle.scr_sheet.specs.declared.sheet.BalanceSheet.{BalanceSheet}
+use Rattle.scr_nodes.specs.declared.node.Node.{Node}
+use Rattle.scr_touched.specs.Touched.{IsTouched}
+use Rattle.scr_reach.specs.Leading.{IsCountOf, IsInReach}
 use Rattle.scr_tree.specs.declared.refusal.Refusal.{Refusal}
 use Rattle.scr_tree.specs.declared.refusal.Refusal.TheVariants as refusals
 
@@ -30,3 +35,14 @@ abbrev pub Refuses : Option Fault → Result (Unit {0}) Refusal → Type 0
 Refuses due (Ok done) = due ≡ None
 Refuses due (Err refusals.NoMemory) = Unit {0}
 Refuses due (Err (refusals.Fault fault)) = due ≡ Some fault
+
+-- the figures that a record reaches: those of the balance sheet after it that it touches, or that are reckoned from such
+abbrev pub IsReachedBy : FactorValues → BalanceSheet → Edit → Node → Type 0
+IsReachedBy factors sheet edit node = IsInReach (applied edit sheet) (IsTouched factors sheet edit) node
+
+-- Where one worker reckons, a record that is accepted takes as many steps as it reaches figures. One that has a fault takes
+-- none.
+pub record TakesSteps (factors : FactorValues) (sheet : BalanceSheet) (edit : Edit) (workers before after : ℕ) (result : Result (Unit {0}) Refusal) : Type 0 where
+  pub accepted : OnOk result (workers ≡ 1
+      → (count : ℕ) × IsCountOf (IsReachedBy factors sheet edit) count × (after ≡ before + count))
+  pub refused : (fault : Fault) → result ≡ Err (refusals.Fault fault) → after ≡ before

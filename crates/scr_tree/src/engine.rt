@@ -1,5 +1,5 @@
 //! The engine.
-ghost use Rattle.std.specs.Prelude.{◌≡◌, ◌<◌, ◌≤◌, true, IfOk, OnOk, OnErr};
+ghost use Rattle.std.specs.Prelude.{◌≡◌, ◌≤◌, true, IfOk, OnOk, OnErr};
 ghost use Rattle.scr_num.specs.Rounding.{ends};
 ghost use Rattle.scr_sheet.specs.Faults.{fault_of};
 ghost use Rattle.scr_sheet.specs.Forms.{Formed};
@@ -8,26 +8,27 @@ ghost use Rattle.scr_sheet.specs.Validity.{Valid};
 ghost use Rattle.scr_book.specs.Undone.{back, Fits};
 ghost use Rattle.scr_nodes.specs.Live.{is_live};
 ghost use Rattle.scr_plan.specs.Close.{close_under};
-ghost use Rattle.scr_plan.specs.Kept.{rows_of, all_discounts};
 ghost use Rattle.scr_plan.specs.Worked.{worked};
-ghost use Rattle.scr_tree.specs.Figures.{AreSettled};
-ghost use Rattle.scr_tree.specs.Standing.{Refuses, with_sheet};
+ghost use Rattle.scr_tree.specs.Standing.{Refuses, TakesSteps, with_sheet};
 
-use crate::figures::{Figure, Figures};
-use crate::key::{Key, key_of};
-use crate::reckon::{Lookups, reckon_each};
+use crate::changes::{Change, change_of};
+use crate::figures::{Figure, figure_kept};
+use crate::opening::{Opened, reckon_all};
 use crate::refusal::{Refusal, refused_for};
-use crate::totals::put_totals;
 use scr_book::{Book, Edit, Undo};
 use scr_factors::Factors;
-use scr_live::{group_members, rest_nodes};
+use scr_io::Gate;
+use scr_links::Links;
 use scr_nodes::Node;
 use scr_num::Span;
-use scr_plan::{Curves, curves, group_losses};
+use scr_plan::Curves;
+use scr_reach::Places;
 use scr_steps::Steps;
+use scr_touched::touched;
 use std::alloc::{AllocError as NoMemory, Global};
-use std::marker::{Brand, Model};
-use std::sync::ledger::{Blank, Ledger};
+use std::marker::Model;
+use std::sync::ledger::Ledger;
+use std::thread::Threads;
 
 /// A book with the factors of the formula and all its figures, which are those of today's book at all times.
 #[derive(Drop)]
@@ -35,7 +36,9 @@ pub struct Engine {
     factors: Factors,
     book: Book,
     curves: Curves,
-    figures: Figures<Key>,
+    places: Places,
+    figures: Vec<Figure>,
+    links: Links,
 }
 
 impl Model for Engine {
@@ -50,24 +53,35 @@ impl Model for Engine {
     ghost invariant = { IsKept };
 }
 
-/// The discounts and the figures of a book.
-#[derive(Drop)]
-struct Reckoned {
-    curves: Curves,
-    figures: Figures<Key>,
-}
-
 impl Engine {
-    /// The engine over a book. Want of memory lets factors and book go.
-    pub fn new(alloc: Global, factors: Factors, book: Book) -> Result<Engine, NoMemory>
+    /// The engine over a book, whose figures are reckoned by so many workers. The gate is passed before each
+    /// evaluation. Want of memory lets factors and book go.
+    pub fn new<R: Threads + Sync, G: Gate + Sync>(
+        rt: &R,
+        alloc: Global,
+        factors: Factors,
+        book: Book,
+        workers: u32,
+        gate: &G,
+    ) -> Result<Engine, NoMemory>
+        requires { (1 ≤ workers) × (workers ≤ 64) }
         ensures { IfOk result (λ engine. engine ≡ record { factors = factors; sheet = book }) }
     {
-        match counted::<Brand>(alloc, &factors, &book, Blank::new(1)) {
-            Ok(Reckoned { curves, figures }) => Ok(Engine {
+        match reckon_all(rt, alloc, &factors, &book, workers, gate) {
+            Ok(
+                Opened {
+                    curves,
+                    places,
+                    figures,
+                    links,
+                },
+            ) => Ok(Engine {
                 factors,
                 book,
                 curves,
+                places,
                 figures,
+                links,
             }),
             Err(NoMemory) => {
                 book.close();
@@ -76,58 +90,56 @@ impl Engine {
         }
     }
 
-    /// Applies a record and reckons the figures anew, or refuses it exactly as the book does; book and figures are then as
-    /// before.
-    pub fn edit<L: Ledger>(
+    /// Applies a record and reckons the figures anew that depend on it, by so many workers, or refuses it exactly as the
+    /// book does; book and figures are then as before. The gate is passed before each evaluation. One worker takes a
+    /// step for each figure that the record reaches.
+    pub fn edit<R: Threads + Sync, G: Gate + Sync, L: Ledger>(
         &mut self,
+        rt: &R,
         alloc: Global,
         edit: &Edit,
+        workers: u32,
+        gate: &G,
         steps: &mut Steps<L>,
     ) -> Result<(), Refusal>
-        requires { Formed edit.now }
+        requires formed { Formed edit.now }
+        requires workers { (1 ≤ workers) × (workers ≤ 64) }
         ensures answer { Refuses (fault_of edit.now self.old.sheet) result }
         ensures ok { OnOk result (self.new ≡ with_sheet (applied edit.now self.old.sheet) self.old) }
         ensures err { OnErr result (self.new ≡ self.old) }
+        ensures steps { TakesSteps self.old.factors self.old.sheet edit.now workers steps.old steps.new result }
     {
+        let touched = match touched(alloc, &self.book, edit) {
+            Ok(touched) => touched,
+            Err(NoMemory) => return Err(Refusal::NoMemory),
+        };
         let undo = match self.book.apply_kept(alloc, edit) {
             Ok(undo) => undo,
             Err(fault) => return Err(refused_for(fault)),
         };
-        match reckon(alloc, &self.factors, &self.book, steps) {
-            Ok(Reckoned { curves, figures }) => {
-                self.curves = curves;
-                self.figures = figures;
+        let change = change_of(
+            rt,
+            alloc,
+            &self.factors,
+            &self.book,
+            &self.curves,
+            &mut self.places,
+            &mut self.figures,
+            &mut self.links,
+            &touched,
+            edit,
+            workers,
+            gate,
+            steps,
+        );
+        self.places.len();
+        match change {
+            Ok(change) => {
+                change.make(&mut self.curves, &mut self.figures, &mut self.links);
                 Ok(())
             }
             Err(NoMemory) => Err(take_back(&mut self.book, undo)),
         }
-    }
-
-    /// Does and refuses as `edit`, with a counter of its own.
-    pub fn apply(&mut self, alloc: Global, edit: &Edit) -> Result<(), Refusal>
-        requires { Formed edit.now }
-        ensures answer { Refuses (fault_of edit.now self.old.sheet) result }
-        ensures ok { OnOk result (self.new ≡ with_sheet (applied edit.now self.old.sheet) self.old) }
-        ensures err { OnErr result (self.new ≡ self.old) }
-    {
-        self.edit_counted::<Brand>(alloc, edit, Blank::new(1))
-    }
-
-    fn edit_counted<L: Ledger>(
-        &mut self,
-        alloc: Global,
-        edit: &Edit,
-        blank: Blank,
-    ) -> Result<(), Refusal>
-        requires formed { Formed edit.now }
-        requires name { blank.name ≡ L.name }
-        requires parts { blank.parts ≡ L.parts }
-        requires some { 0 < blank.parts }
-        ensures answer { Refuses (fault_of edit.now self.old.sheet) result }
-        ensures ok { OnOk result (self.new ≡ with_sheet (applied edit.now self.old.sheet) self.old) }
-        ensures err { OnErr result (self.new ≡ self.old) }
-    {
-        self.edit(alloc, edit, &mut Steps::<L>::new(blank))
     }
 
     /// The figure of a node that the book has.
@@ -151,8 +163,8 @@ impl Engine {
         ensures span { ends result.span ≡ worked self.now.factors self.now.sheet node.now }
         ensures close { result.close ≡ close_under self.now.factors self.now.sheet node.now }
     {
-        match self.figures.get(&key_of(node)) {
-            Some(figure) => figure,
+        match self.places.find(node) {
+            Some(place) => figure_kept(&self.figures, place),
             None => unreachable!(),
         }
     }
@@ -186,50 +198,4 @@ fn take_back(book: &mut Book, undo: Undo) -> Refusal
 {
     book.put_back(undo);
     Refusal::NoMemory
-}
-
-/// Reckons the figures with a counter of its own.
-fn counted<L: Ledger>(
-    alloc: Global,
-    factors: &Factors,
-    book: &Book,
-    blank: Blank,
-) -> Result<Reckoned, NoMemory>
-    requires name { blank.name ≡ L.name }
-    requires parts { blank.parts ≡ L.parts }
-    requires some { 0 < blank.parts }
-    ensures curves { IfOk result (λ r. rows_of r.curves ≡ all_discounts book.now) }
-    ensures figures { IfOk result (λ r. AreSettled factors.now book.now r.figures) }
-    ensures valid { OnOk result (Valid book.now) }
-{
-    reckon(alloc, factors, book, &mut Steps::<L>::new(blank))
-}
-
-/// All figures of a book. Each that is no total counts as a step.
-fn reckon<L: Ledger>(
-    alloc: Global,
-    factors: &Factors,
-    book: &Book,
-    steps: &mut Steps<L>,
-) -> Result<Reckoned, NoMemory>
-    ensures curves { IfOk result (λ r. rows_of r.curves ≡ all_discounts book.now) }
-    ensures figures { IfOk result (λ r. AreSettled factors.now book.now r.figures) }
-    ensures valid { OnOk result (Valid book.now) }
-{
-    let curves = curves(alloc, factors, book)?;
-    let mut figures = Figures::new(alloc);
-    put_totals(alloc, book.sheet(), &mut figures)?;
-    let nodes = rest_nodes(alloc, book.sheet())?;
-    let members = group_members(alloc, book.sheet())?;
-    let losses = group_losses(alloc, book)?;
-    let lookups = Lookups {
-        curves,
-        members,
-        losses,
-    };
-    reckon_each(alloc, factors, book, &lookups, &nodes, &mut figures, steps)?;
-    Ok(Reckoned {
-        curves: lookups.curves,
-        figures,
-    })
 }

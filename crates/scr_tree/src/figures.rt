@@ -1,11 +1,15 @@
 //! The figures that are known.
-ghost use Rattle.std.specs.Prelude.{◌≡◌, [], Some, OnOk, OnErr, if◌then◌else◌};
+ghost use Rattle.std.specs.Prelude.{◌≡◌, ◌<◌, ℕ, [], Some, All, length, nat_eq, slice_get, OnOk, OnErr, if◌then◌else◌};
 ghost use Rattle.std.specs.Map.{lookup};
+ghost use Rattle.scr_rounds.specs.declared.ranks.Due.{Due};
+ghost use Rattle.scr_reach.specs.Dues.{numbers_of};
+ghost use Rattle.scr_tree.specs.Dues.{AreWritten};
+ghost use Rattle.scr_tree.specs.Figures.{figure_at};
 
 use indexmap::IndexMap;
 use scr_num::Span;
+use scr_rounds::Due;
 use std::alloc::{AllocError as NoMemory, Global};
-use std::hash::Hash;
 use std::marker::Model;
 
 /// A figure: its span, and whether it rests on a choice that is open.
@@ -15,47 +19,92 @@ pub(crate) struct Figure {
     pub(crate) close: bool,
 }
 
-/// Figures, each under its key.
+/// What stands at a place of which no figure is known.
+pub(crate) const NO_FIGURE: Figure = Figure {
+    span: Span { low: 0, high: 0 },
+    close: false,
+};
+
+/// Figures that were reckoned anew, each under its place. Those that are kept stand beside them.
 #[derive(Drop)]
-pub(crate) struct Figures<K: Eq + Hash + Copy + Drop> {
-    map: IndexMap<K, Figure>,
+pub(crate) struct Fresh {
+    map: IndexMap<u32, Figure>,
 }
 
-impl<K: Eq + Hash + Copy + Drop> Model for Figures<K> {
-    ghost use Rattle.std.specs.Prelude.{List};
-    ghost use Rattle.scr_tree.specs.declared.figures.Figure.{Figure};
+impl Model for Fresh {
+    ghost use Rattle.scr_tree.specs.Figures.{Fresh};
 
-    ghost Value = { List (K × Figure) };
+    ghost Value = { Fresh };
 
     ghost view = { λ figures. figures.map.entries };
 }
 
-impl<K: Eq + Hash + Copy + Drop> Figures<K> {
+impl Fresh {
     /// No figure.
-    pub(crate) fn new(alloc: Global) -> Figures<K>
+    pub(crate) fn new(alloc: Global) -> Fresh
         ensures { result ≡ [] }
     {
-        Figures {
+        Fresh {
             map: IndexMap::new(alloc),
         }
     }
 
-    /// The figure under a key, if it is known.
-    pub(crate) fn get(&self, key: &K) -> Option<Figure>
-        ensures { result ≡ lookup (K.eq key.now) self.now }
+    /// The figure of a place, if it is new.
+    pub(crate) fn get(&self, place: u32) -> Option<Figure>
+        ensures { result ≡ lookup (nat_eq place) self.now }
     {
-        self.map.get(key).copied()
+        self.map.get(&place).copied()
     }
 
-    /// Puts a figure under its key, and leaves the others.
-    pub(crate) fn put(&mut self, key: K, figure: Figure) -> Result<(), NoMemory>
-        ensures ok { OnOk result ((other : K) → lookup (K.eq other) self.new
-            ≡ (if K.eq key other then Some figure else lookup (K.eq other) self.old)) }
+    /// The figure of a place: the new one, and where there is none the one that is kept.
+    pub(crate) fn or_kept(&self, kept: &[Figure], place: u32) -> Option<Figure>
+        ensures { result ≡ figure_at kept.now self.now place }
+    {
+        match self.get(place) {
+            Some(figure) => Some(figure),
+            None => kept.get(place as usize).copied(),
+        }
+    }
+
+    /// Puts the figure of a place, and leaves the others.
+    pub(crate) fn put(&mut self, place: u32, figure: Figure) -> Result<(), NoMemory>
+        ensures ok { OnOk result ((other : ℕ) → lookup (nat_eq other) self.new
+            ≡ (if nat_eq place other then Some figure else lookup (nat_eq other) self.old)) }
         ensures err { OnErr result (self.new ≡ self.old) }
     {
-        match self.map.insert(key, figure) {
+        match self.map.insert(place, figure) {
             Ok(_) => Ok(()),
             Err(_) => Err(NoMemory),
         }
     }
+
+    /// Writes the new figures of these places over those that are kept.
+    pub(crate) fn write(&self, dues: &[Due], kept: &mut [Figure])
+        requires { All (λ (due : Due). due.number < length kept.old) dues.now }
+        ensures count { length kept.new ≡ length kept.old }
+        ensures written { AreWritten self.now (numbers_of dues.now) kept.old kept.new }
+    {
+        for due in dues {
+            kept[due.number as usize] = self.current(kept, due.number);
+        }
+    }
+
+    /// The figure that stands at a place: the new one, and where there is none the one that is kept.
+    fn current(&self, kept: &[Figure], place: u32) -> Figure
+        requires { place < length kept.now }
+        ensures { figure_at kept.now self.now place ≡ Some result }
+    {
+        match self.get(place) {
+            Some(figure) => figure,
+            None => figure_kept(kept, place),
+        }
+    }
+}
+
+/// The figure that is kept at a place.
+pub(crate) fn figure_kept(kept: &[Figure], place: u32) -> Figure
+    requires { place < length kept.now }
+    ensures { slice_get kept.now place ≡ Some result }
+{
+    kept[place as usize]
 }

@@ -1,13 +1,17 @@
 //! The engine: a book with all its figures.
 #![tactic(auto)]
 
+mod changes;
+mod edits;
 mod engine;
-mod family;
 mod figures;
-mod key;
-mod numbers;
+mod inputs;
+mod opening;
 mod reckon;
 mod refusal;
+mod rest;
+mod rounds;
+mod spread;
 mod totals;
 
 pub use engine::Engine;

@@ -1,98 +1,96 @@
-//! All figures of a book, each reckoned from those before it.
-ghost use Rattle.std.specs.Prelude.{◌≡◌, ◌||◌, true, All, map, Some, is_some, IfOk, OnOk, nat_le, count_ones};
+//! A figure, reckoned from those of its sources.
+ghost use Rattle.std.specs.Prelude.{◌≡◌, ◌+◌, ◌||◌, ℕ, Some, is_some, map, true, IfOk, OnOk, nat_le, count_ones};
 ghost use Rattle.std.specs.List.{AllByRecursion, list_any};
 ghost use Rattle.scr_num.specs.Rounding.{ends};
-ghost use Rattle.scr_nodes.specs.declared.node.Node.{Node};
-ghost use Rattle.scr_nodes.specs.Live.{is_live};
-ghost use Rattle.scr_nodes.specs.LiveNodes.{rest_nodes};
-ghost use Rattle.scr_sheet.specs.Validity.{Valid};
+ghost use Rattle.scr_nodes.specs.OwnOf.{own_of};
 ghost use Rattle.scr_nodes.specs.Sources.{sources_of};
-ghost use Rattle.scr_live.specs.Members.{AreMembersOf};
 ghost use Rattle.scr_plan.specs.Close.{is_open as open_mask};
-ghost use Rattle.scr_plan.specs.GroupLosses.{AreLossesOf};
-ghost use Rattle.scr_plan.specs.Kept.{rows_of, all_discounts};
-ghost use Rattle.scr_tree.specs.Figures.{AreSettled, HasTotals, IsKnown, found, opens};
+ghost use Rattle.scr_plan.specs.Fits.{Fits};
+ghost use Rattle.scr_plan.specs.Kept.{rows_of, all_discounts, AreDiscountsOf};
+ghost use Rattle.scr_plan.specs.Worked.{worked};
+ghost use Rattle.scr_reach.specs.Dues.{IsDue};
+ghost use Rattle.scr_tree.specs.Figures.{IsKnown, IsOf, figure_at, opens};
+ghost use Rattle.scr_tree.specs.Lost.{AreLossesFor};
 ghost use Rattle.scr_tree.specs.declared.figures.Figure.{Figure};
 
-use crate::figures::{Figure, Figures};
-use crate::key::{Key, key_of};
+use crate::figures::{Figure, Fresh};
 use scr_book::Book;
 use scr_factors::Factors;
-use scr_live::{Members, sources_with};
+use scr_io::Gate;
 use scr_nodes::Node;
 use scr_num::Span;
-use scr_plan::{Curves, GroupLosses, evaluate_with};
+use scr_plan::{Curves, GroupLosses, evaluate, evaluate_with};
+use scr_reach::Places;
+use scr_rounds::Due;
 use scr_steps::Steps;
 use std::alloc::{AllocError as NoMemory, Global};
 use std::sync::ledger::Ledger;
 
-/// What is found once for all figures of a book: the discounts of its currencies, the securities of
-/// its groups, and what is lost where each of these defaults.
+/// What is lost where a group defaults: found with each figure, or for all groups at once.
 #[derive(Drop)]
-pub(crate) struct Lookups {
-    pub(crate) curves: Curves,
-    pub(crate) members: Members,
-    pub(crate) losses: GroupLosses,
+pub(crate) enum Losses {
+    Each,
+    All(GroupLosses),
 }
 
-/// Reckons the figures above the totals, each from those before it, where the totals are known.
-pub(crate) fn reckon_each<L: Ledger>(
+/// The figure of a due, where those of its sources are known. The gate is passed before it is
+/// evaluated.
+pub(crate) fn figure_of<G: Gate, L: Ledger>(
     alloc: Global,
     factors: &Factors,
     book: &Book,
-    lookups: &Lookups,
-    nodes: &[Node],
-    figures: &mut Figures<Key>,
+    curves: &Curves,
+    losses: &Losses,
+    places: &Places,
+    kept: &[Figure],
+    fresh: &Fresh,
+    due: &Due,
+    gate: &G,
     steps: &mut Steps<L>,
-) -> Result<(), NoMemory>
-    requires valid { Valid book.now }
-    requires rest { nodes.now ≡ rest_nodes book.now }
-    requires curves { rows_of lookups.now.curves ≡ all_discounts book.now }
-    requires members { AreMembersOf book.now lookups.now.members }
-    requires losses { AreLossesOf book.now lookups.now.losses }
-    requires totals { HasTotals factors.now book.now figures.old }
-    ensures { OnOk result (AreSettled factors.now book.now figures.new) }
-{
-    for node in nodes {
-        reckon_one(alloc, factors, book, lookups, node, figures, steps)?;
-    }
-    Ok(())
-}
-
-/// Reckons a figure, where those of its sources are known.
-fn reckon_one<L: Ledger>(
-    alloc: Global,
-    factors: &Factors,
-    book: &Book,
-    lookups: &Lookups,
-    node: &Node,
-    figures: &mut Figures<Key>,
-    steps: &mut Steps<L>,
-) -> Result<(), NoMemory>
-    requires live { is_live book.now node.now ≡ true }
-    requires curves { rows_of lookups.now.curves ≡ all_discounts book.now }
-    requires members { AreMembersOf book.now lookups.now.members }
-    requires losses { AreLossesOf book.now lookups.now.losses }
-    requires sources { AllByRecursion (IsKnown factors.now book.now figures.old) (sources_of book.now node.now) }
-    ensures known { OnOk result (IsKnown factors.now book.now figures.new node.now) }
-    ensures others { OnOk result ((other : Node) → IsKnown factors.now book.now figures.old other
-        → IsKnown factors.now book.now figures.new other) }
+) -> Result<Figure, NoMemory>
+    requires due { IsDue book.now places.now due.now }
+    requires curves { rows_of curves.now ≡ all_discounts book.now }
+    requires losses { AreLossesFor book.now losses.now }
+    requires sources { AllByRecursion (IsKnown factors.now book.now places.now kept.now fresh.now)
+        due.now.sources.items }
+    ensures figure { IfOk result (IsOf factors.now book.now places.now due.now.number) }
+    ensures step { OnOk result (steps.new ≡ steps.old + 1) }
 {
     factors.known();
-    let sources = sources_with(alloc, book.sheet(), &lookups.members, node)?;
-    let below = figures_of(alloc, figures, &sources)?;
+    book.sheet();
+    let below = figures_of(alloc, kept, fresh, due.sources.as_slice())?;
     let spans = spans_of(alloc, &below)?;
-    let span = evaluate_with(
-        factors,
-        book,
-        &lookups.curves,
-        &lookups.losses,
-        *node,
-        &spans,
-        steps,
-    );
-    let close = is_close(node, span, &below);
-    figures.put(key_of(node), Figure { span, close })
+    gate.pass(due.number);
+    let node = places.at(due.number);
+    let span = evaluated(factors, book, curves, losses, node, &spans, steps);
+    Ok(Figure {
+        span,
+        close: is_close(node, span, &below),
+    })
+}
+
+/// The figure of a node by its rule.
+fn evaluated<L: Ledger>(
+    factors: &Factors,
+    book: &Book,
+    curves: &Curves,
+    losses: &Losses,
+    node: &Node,
+    spans: &[Span],
+    steps: &mut Steps<L>,
+) -> Span
+    requires rows { AreDiscountsOf book.now.curves (rows_of curves.now) }
+    requires losses { AreLossesFor book.now losses.now }
+    requires fits { Fits (own_of factors.now book.now node.now) (map ends spans.now) }
+    ensures worked { rows_of curves.now ≡ all_discounts book.now
+        → map ends spans.now ≡ map (worked factors.now book.now) (sources_of book.now node.now)
+        → ends result ≡ worked factors.now book.now node.now }
+    ensures step { steps.new ≡ steps.old + 1 }
+{
+    match losses {
+        Losses::Each => evaluate(factors, book, curves, *node, spans, steps),
+        Losses::All(losses) => evaluate_with(factors, book, curves, losses, *node, spans, steps),
+    }
 }
 
 /// The figure is a choice that is open, or one of its sources rests on one.
@@ -124,18 +122,19 @@ fn is_open(mask: Span) -> bool
     mask.low.max(0).unsigned_abs().count_ones() >= 2
 }
 
-/// The figures of nodes of which each is known.
+/// The figures at places at each of which there is one.
 fn figures_of(
     alloc: Global,
-    figures: &Figures<Key>,
-    nodes: &[Node],
+    kept: &[Figure],
+    fresh: &Fresh,
+    places: &[u32],
 ) -> Result<Vec<Figure>, NoMemory>
-    requires { AllByRecursion (λ node. is_some (found node figures.now) ≡ true) nodes.now }
-    ensures { IfOk result (λ list. map Some list.items ≡ map (λ node. found node figures.now) nodes.now) }
+    requires { AllByRecursion (λ place. is_some (figure_at kept.now fresh.now place) ≡ true) places.now }
+    ensures { IfOk result (λ list. map Some list.items ≡ map (figure_at kept.now fresh.now) places.now) }
 {
     let mut list = Vec::new(alloc);
-    for node in nodes {
-        match figures.get(&key_of(node)) {
+    for place in places {
+        match fresh.or_kept(kept, *place) {
             Some(figure) => list.push(figure)?,
             None => unreachable!(),
         }

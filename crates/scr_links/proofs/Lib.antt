@@ -1,0 +1,6 @@
+pub mod Lists
+pub mod Rings
+pub mod Linked
+pub mod Changed
+pub mod Joins
+pub mod States

@@ -1,0 +1,48 @@
+-- How the edges are kept (this project's own): each at a place, which is in the list of the edges that stand, in
+-- that of its source and in that of its dependant. A place without an edge is free.
+use Rattle.std.specs.Prelude.{◌≡◌, ℕ, ◌==◌, ◌<◌, ◌≤◌, true, List, map, filter, length}
+use Rattle.scr_links.specs.Edges.{Edge, Linked, edge, linked}
+use Rattle.scr_links.specs.Places.{has, AreApart}
+use Rattle.scr_links.specs.Chains.{list_of, none}
+use Rattle.scr_links.specs.Ends.{pair_at}
+use Rattle.scr_links.specs.declared.links.Pair.{Pair}
+use Rattle.scr_links.specs.declared.links.Links.TheInside.{Inside}
+
+abbrev pub edge_at : List Pair → ℕ → Edge
+edge_at pairs place = edge (pair_at pairs place).source (pair_at pairs place).dependant place
+
+abbrev pub standing : Inside → List ℕ
+standing links = list_of links.tables.order 0
+
+abbrev pub free : Inside → List ℕ
+free links = list_of links.tables.order 1
+
+abbrev pub with_source : List Pair → ℕ → List ℕ → List ℕ
+with_source pairs number places = filter (λ place. (pair_at pairs place).source == number) places
+
+abbrev pub with_dependant : List Pair → ℕ → List ℕ → List ℕ
+with_dependant pairs number places = filter (λ place. (pair_at pairs place).dependant == number) places
+
+abbrev pub linked_of : Inside → Linked
+linked_of links = linked (map (edge_at links.tables.pairs.items) (standing links)) links.spare links.size
+
+pub record AreKept (links : Inside) : Type 0 where
+  pub distinct : AreApart (standing links)
+  pub placed : (number place : ℕ) → has place (list_of links.tables.order number) ≡ true → place < links.places
+  pub counted : links.spare ≡ length (free links)
+  pub sources : (number : ℕ) → list_of links.tables.by_source number ≡ with_source links.tables.pairs.items number
+      (standing links)
+  pub dependants : (number : ℕ)
+      → list_of links.tables.by_dependant number ≡ with_dependant links.tables.pairs.items number (standing links)
+  pub low_source : (place : ℕ) → has place (standing links) ≡ true
+      → (pair_at links.tables.pairs.items place).source < links.size
+  pub low_dependant : (place : ℕ) → has place (standing links) ≡ true
+      → (pair_at links.tables.pairs.items place).dependant < links.size
+  pub few : links.places < none
+  pub in_order : links.places ≤ length links.tables.order.links
+  pub in_sources : links.places ≤ length links.tables.by_source.links
+  pub in_dependants : links.places ≤ length links.tables.by_dependant.links
+  pub in_pairs : links.places ≤ length links.tables.pairs.items
+  pub two_lists : 2 ≤ length links.tables.order.ends
+  pub source_lists : links.size ≤ length links.tables.by_source.ends
+  pub dependant_lists : links.size ≤ length links.tables.by_dependant.ends

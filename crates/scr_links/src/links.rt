@@ -1,0 +1,259 @@
+//! Edges that join and leave the lists of their two numbers at a constant cost.
+ghost use Rattle.std.specs.Prelude.{◌≡◌, ℕ, ◌+◌, ◌-◌, ◌<◌, ◌≤◌, ◌==◌, ◌++◌, ◌∷◌, [], max};
+ghost use Rattle.std.specs.Prelude.{All, IsTrue, true, false, eqb, length, IfOk, OnOk, OnErr};
+ghost use Rattle.std.specs.List.{IsDistinct};
+ghost use Rattle.scr_links.specs.Edges.{edge, linked, ids_of, is_edge, edges_without};
+ghost use Rattle.scr_links.specs.Places.{has};
+ghost use Rattle.scr_links.specs.Chains.{none, list_of};
+ghost use Rattle.scr_links.specs.Growth.{Freed};
+ghost use Rattle.scr_links.specs.Edges.{sources_of, dependants_of};
+
+use crate::chains::Chains;
+use crate::walk::{Towards, Walk};
+use std::alloc::{AllocError as NoMemory, Global};
+use std::marker::Model;
+
+/// The most places for edges: their names have 32 bits, of which two values are no names.
+const MAX_PLACES: u32 = u32::MAX - 1;
+
+/// The edges that stand are the places of this list, in the order in which they joined.
+const STANDING: u32 = 0;
+
+/// The places that an edge can join at.
+const FREE: u32 = 1;
+
+/// The name of an edge, from `Links::join` to `Links::cut`. Contracts see it as a number.
+#[derive(Clone, Copy, Debug, PartialEq, Eq)]
+pub struct EdgeId {
+    place: u32,
+}
+
+impl Model for EdgeId {
+    ghost use Rattle.std.specs.Prelude.{ℕ};
+
+    ghost Value = { ℕ };
+
+    ghost view = { λ id. id.place };
+
+    ghost inverse = { λ place. record { place = place } };
+}
+
+impl EdgeId {
+    /// The name of the edge at a place.
+    pub(crate) fn new(place: u32) -> EdgeId
+        ensures { result ≡ place }
+    {
+        EdgeId { place }
+    }
+}
+
+/// The two numbers of an edge.
+#[derive(Clone, Copy)]
+pub(crate) struct Pair {
+    pub(crate) source: u32,
+    pub(crate) dependant: u32,
+}
+
+/// Where the edges are: all in one list, and each in that of its source and in that of its
+/// dependant.
+#[derive(Drop)]
+struct Tables {
+    order: Chains,
+    by_source: Chains,
+    by_dependant: Chains,
+    pairs: Vec<Pair>,
+}
+
+impl Tables {
+    ghost use Rattle.std.specs.Prelude.{◌≤◌, OnOk};
+    ghost use Rattle.scr_links.specs.Chains.{none};
+    ghost use Rattle.scr_links.specs.Growth.{HasGrown, HasRoom};
+
+    /// Room for so many places, and for lists of so many numbers. What is in the lists stays.
+    fn grow(&mut self, places: u32, size: u32) -> Result<(), NoMemory>
+        requires { places ≤ none }
+        ensures grown { HasGrown self.old self.new }
+        ensures ok { OnOk result (HasRoom self.new places size) }
+    {
+        let places = places as usize;
+        let size = size as usize;
+        self.order.grow(places, 2)?;
+        self.by_source.grow(places, size)?;
+        self.by_dependant.grow(places, size)?;
+        if places > self.pairs.len() {
+            self.pairs.resize(
+                places,
+                Pair {
+                    source: 0,
+                    dependant: 0,
+                },
+            )?;
+        }
+        Ok(())
+    }
+}
+
+/// Edges from sources to dependants. Contracts see the list of the edges in the order in which they
+/// joined, no two of one name, how many more can join without memory (`spare`), and the number that
+/// sources and dependants must be below (`size`).
+#[derive(Drop)]
+pub struct Links {
+    tables: Tables,
+    places: u32,
+    spare: u32,
+    size: u32,
+}
+
+impl Model for Links {
+    ghost use Rattle.scr_links.specs.Edges.{Linked};
+
+    ghost Value = { Linked };
+
+    ghost use Rattle.scr_links.specs.Kept.{linked_of, AreKept};
+
+    ghost view = { linked_of };
+
+    ghost invariant = { AreKept };
+}
+
+impl Links {
+    /// No edges, and room for none.
+    pub fn new(alloc: Global) -> Result<Links, NoMemory>
+        ensures { IfOk result (λ links. links ≡ linked [] 0 0) }
+    {
+        let mut order = Chains::new(alloc);
+        order.grow(0, 2)?;
+        let tables = Tables {
+            order,
+            by_source: Chains::new(alloc),
+            by_dependant: Chains::new(alloc),
+            pairs: Vec::new(alloc),
+        };
+        Ok(Links {
+            tables,
+            places: 0,
+            spare: 0,
+            size: 0,
+        })
+    }
+
+    /// Makes room: for so many edges more, and for numbers below `size`. What room there was stays,
+    /// and so does every edge. Where memory is refused, all is as before; room for more than
+    /// 2^32 - 2 edges is refused as if for want of memory.
+    pub fn reserve(&mut self, alloc: Global, spare: u32, size: u32) -> Result<(), NoMemory>
+        ensures ok { OnOk result (self.new
+            ≡ linked self.old.edges (max self.old.spare spare) (max self.old.size size)) }
+        ensures err { OnErr result (self.new ≡ self.old) }
+    {
+        let places = places_with(self.places, self.spare, spare)?;
+        let size = self.size.max(size);
+        self.tables.grow(places, size)?;
+        free(&mut self.tables.order, self.places, places);
+        self.spare += places - self.places;
+        self.places = places;
+        self.size = size;
+        Ok(())
+    }
+
+    /// Joins an edge after the others, without memory. Its name is none of theirs.
+    pub fn join(&mut self, source: u32, dependant: u32) -> EdgeId
+        requires room { 0 < self.old.spare }
+        requires source { source < self.old.size }
+        requires dependant { dependant < self.old.size }
+        ensures joined { self.new ≡ linked (self.old.edges ++ edge source dependant result ∷ [])
+            (self.old.spare - 1) self.old.size }
+        ensures name { is_edge self.old result ≡ false }
+    {
+        let place = self.tables.order.first(FREE);
+        self.tables.order.remove(FREE, place);
+        self.tables.order.append(STANDING, place);
+        self.tables.pairs[place as usize] = Pair { source, dependant };
+        self.tables.by_source.append(source, place);
+        self.tables.by_dependant.append(dependant, place);
+        self.spare -= 1;
+        EdgeId::new(place)
+    }
+
+    /// Takes an edge that stands out. The others stay in their order. Its place can be joined at
+    /// again, so from then on its name may be that of another edge.
+    pub fn cut(&mut self, id: EdgeId)
+        requires { IsTrue (is_edge self.old id) }
+        ensures { self.new ≡ linked (edges_without self.old id) (self.old.spare + 1) self.old.size }
+    {
+        let place = id.place;
+        let Pair { source, dependant } = self.tables.pairs[place as usize];
+        self.tables.by_source.remove(source, place);
+        self.tables.by_dependant.remove(dependant, place);
+        self.tables.order.remove(STANDING, place);
+        self.tables.order.append(FREE, place);
+        self.spare += 1;
+    }
+
+    /// What a number is reckoned from: each source with the name of its edge, in the order in which
+    /// the edges joined. A number at `size` or above has none.
+    pub fn sources(&self, number: u32) -> Walk<'_>
+        ensures { result ≡ sources_of self.now number }
+    {
+        Walk::new(
+            &self.tables.by_dependant,
+            self.tables.pairs.as_slice(),
+            Towards::Source,
+            number,
+        )
+    }
+
+    /// What is reckoned from a number: each dependant with the name of its edge, in the order in
+    /// which the edges joined. A number at `size` or above has none.
+    pub fn dependants(&self, number: u32) -> Walk<'_>
+        ensures { result ≡ dependants_of self.now number }
+    {
+        Walk::new(
+            &self.tables.by_source,
+            self.tables.pairs.as_slice(),
+            Towards::Dependant,
+            number,
+        )
+    }
+
+    /// How many more edges can join without memory. No two edges have one name.
+    pub fn spare(&self) -> u32
+        ensures value { result ≡ self.now.spare }
+        ensures apart { IsDistinct eqb (ids_of self.now) }
+    {
+        self.spare
+    }
+
+    /// The number that sources and dependants must be below. Those of every edge are.
+    pub fn size(&self) -> u32
+        ensures value { result ≡ self.now.size }
+        ensures below { All (λ e. (e.source < self.now.size) × (e.dependant < self.now.size))
+            self.now.edges }
+    {
+        self.size
+    }
+}
+
+/// How many places there are where so many are to be spare, of these places of which `spare` are.
+fn places_with(places: u32, spare: u32, wanted: u32) -> Result<u32, NoMemory>
+    ensures count { IfOk result (λ count. count + spare ≡ places + max spare wanted) }
+    ensures few { IfOk result (λ count. count < none) }
+{
+    match places.checked_add(wanted.saturating_sub(spare)) {
+        Some(count) if count <= MAX_PLACES => Ok(count),
+        _ => Err(NoMemory),
+    }
+}
+
+/// Frees the places from one number up to another.
+fn free(order: &mut Chains, from: u32, to: u32)
+    requires range { from ≤ to }
+    requires places { to ≤ length order.old.links }
+    requires numbers { 2 ≤ length order.old.ends }
+    requires placed { (number place : ℕ)
+        → has place (list_of order.old number) ≡ true → place < from }
+    ensures { Freed order.old order.new from to }
+{
+    for place in from..to {
+        order.append(FREE, place);
+    }
+}

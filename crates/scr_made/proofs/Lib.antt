@@ -1,0 +1,5 @@
+mod Steps
+mod NamesRead
+mod Members
+mod FormedRecords
+mod ReadBack

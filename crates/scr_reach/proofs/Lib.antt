@@ -1,0 +1,16 @@
+pub mod KeyNodes
+pub mod KeyLemmas
+pub mod Placed
+pub mod Keyed
+pub mod Reaching
+pub mod Counting
+pub mod Edits
+pub mod Growing
+pub mod Ranks
+pub mod Starting
+pub mod Drawing
+pub mod Relinked
+pub mod Cutting
+pub mod Joining
+pub mod Linkable
+pub mod FirstLinks

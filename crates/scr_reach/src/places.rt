@@ -1,0 +1,95 @@
+//! The place of each figure.
+ghost use Rattle.std.specs.Prelude.{◌≡◌, ◌<◌, ◌++◌, ◌⊎◌, [], ◌∷◌, Some, Contains, length, slice_get, IfSome, IfOk, IsNone, OnOk, OnErr};
+ghost use Rattle.scr_nodes.specs.LiveNodes.{HasNoRepeats};
+ghost use Rattle.scr_nodes.specs.declared.node.Node.{Node};
+
+use crate::key::{Key, key_of};
+use crate::slots::Slots;
+use scr_nodes::Node;
+use std::alloc::{AllocError as NoMemory, Global};
+use std::marker::Model;
+
+/// Figures, each at a place that it keeps. Contracts see the list of the figures.
+#[derive(Drop)]
+pub struct Places {
+    slots: Slots<Key, Node>,
+}
+
+impl Model for Places {
+    ghost use Rattle.std.specs.Prelude.{◌≡◌, ◌<◌, ◌^◌, List, length, map};
+    ghost use Rattle.std.specs.Map.{keys_of, values_of};
+    ghost use Rattle.scr_nodes.specs.declared.node.Node.{Node};
+    ghost use Rattle.scr_reach.specs.Keys.{key_of};
+
+    ghost Value = { List Node };
+
+    ghost view = { λ places. values_of places.slots };
+
+    ghost invariant = { λ places. (keys_of places.slots ≡ map key_of (values_of places.slots))
+        × (length places.slots < 2 ^ 32) };
+}
+
+impl Places {
+    /// No figure has a place.
+    pub fn new(alloc: Global) -> Places
+        ensures { result ≡ [] }
+    {
+        Places {
+            slots: Slots::new(alloc),
+        }
+    }
+
+    /// How many figures have a place. No figure has two.
+    pub fn len(&self) -> usize
+        ensures count { result ≡ length self.now }
+        ensures once { HasNoRepeats self.now }
+    {
+        self.slots.len()
+    }
+
+    /// The figure at a place.
+    pub fn at(&self, place: u32) -> &Node
+        requires { place < length self.now }
+        ensures { slice_get self.now place ≡ Some result.now }
+    {
+        self.slots.at(place as usize)
+    }
+
+    /// The place of a figure; none exactly where it has none.
+    pub fn find(&self, node: &Node) -> Option<u32>
+        ensures there { IfSome result (λ place. slice_get self.now place ≡ Some node.now) }
+        ensures absent { IsNone result → Contains self.now node.now → ⊥ }
+    {
+        match self.slots.place(&key_of(node)) {
+            Some(place) => Some(place as u32),
+            None => None,
+        }
+    }
+
+    /// The place of a figure, which is given the next one where it has none.
+    pub fn enter(&mut self, node: &Node) -> Result<u32, NoMemory>
+        ensures there { IfOk result (λ place. slice_get self.new place ≡ Some node.now) }
+        ensures others { OnOk result ((self.new ≡ self.old) ⊎ (self.new ≡ self.old ++ node.now ∷ [])) }
+        ensures err { OnErr result (self.new ≡ self.old) }
+    {
+        if let Some(place) = self.find(node) {
+            return Ok(place);
+        }
+        self.add(node)
+    }
+
+    /// Gives a figure that has no place the next one. As many figures as places can be numbered.
+    fn add(&mut self, node: &Node) -> Result<u32, NoMemory>
+        requires { Contains self.old node.now → ⊥ }
+        ensures there { IfOk result (λ place. slice_get self.new place ≡ Some node.now) }
+        ensures others { OnOk result (self.new ≡ self.old ++ node.now ∷ []) }
+        ensures err { OnErr result (self.new ≡ self.old) }
+    {
+        let place = self.slots.len();
+        if place >= u32::MAX as usize {
+            return Err(NoMemory);
+        }
+        self.slots.add(key_of(node), *node)?;
+        Ok(place as u32)
+    }
+}

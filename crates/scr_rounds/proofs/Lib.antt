@@ -1,0 +1,6 @@
+pub mod Members
+pub mod Ranking
+pub mod Placing
+pub mod Rounds
+pub mod Climbing
+pub mod Reaching

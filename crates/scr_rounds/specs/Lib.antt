@@ -1,0 +1,5 @@
+pub mod Buckets
+pub mod Dues
+pub mod Levels
+pub mod Ranks
+pub mod Reached

@@ -1,0 +1,10 @@
+//! Rounds: what is reached along edges, and in which rounds what is reached can be reckoned. All go
+//! by plain numbers.
+#![tactic(auto)]
+
+mod climbs;
+pub mod laws;
+mod ranks;
+
+pub use climbs::climb;
+pub use ranks::{Due, by_rank};

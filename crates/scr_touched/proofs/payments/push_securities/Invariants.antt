@@ -1,0 +1,7 @@
+use Rattle.std.proofs.Common.{◌≡◌, ◌++◌, flat_map, take}
+use Rattle.scr_touched.specs.Payments.{security_figures}
+use Rattle.scr_touched.proofs.payments.push_securities.Given as goal
+
+-- what the rows so far give stands behind what stood there
+abbrev pub invariant-loop-k : goal.invariant-loop-k
+invariant-loop-k l = l.list.items ≡ l.initial.list.items ++ flat_map security_figures (take l.k l.sheet.securities)

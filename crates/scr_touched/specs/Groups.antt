@@ -1,0 +1,91 @@
+-- Which figures an exchanged group of counterparties touches (this project's own).
+use Rattle.std.specs.Prelude.{ℕ, ◌&&◌, ◌||◌, ◌++◌, Bool, true, false, not, List, [], ◌∷◌, Option, Some, None, nat_eq, nat_lt, is_some, filter, map}
+use Rattle.std.specs.Bool.{beq}
+use Rattle.std.specs.Option.{option_eq, option_map_or}
+use Rattle.scr_names.specs.Names.{same_name}
+use Rattle.scr_profile.specs.declared.group_kind.GroupKind.{GroupKind}
+use Rattle.scr_profile.specs.declared.group_kind.GroupKind.TheVariants as group_kinds
+use Rattle.scr_sheet.specs.BalanceSheet.{position_of}
+use Rattle.scr_sheet.specs.declared.rows.Group.{Group}
+use Rattle.scr_sheet.specs.declared.sheet.BalanceSheet.{BalanceSheet}
+use Rattle.scr_nodes.specs.Live.{is_bond}
+use Rattle.scr_nodes.specs.Rows.{is_of_group, is_of_default_class, class_of_step}
+use Rattle.scr_nodes.specs.Sources.{security_spread}
+use Rattle.scr_nodes.specs.declared.node.Node.{Node}
+use Rattle.scr_nodes.specs.declared.node.Node.TheVariants as nodes
+use Rattle.scr_touched.specs.Comparisons.{is_touched, is_kept}
+
+-- ---- what is read of a group, if there is one
+
+abbrev pub kind_of : Option Group → GroupKind
+kind_of group = option_map_or (λ g. g.kind) group group_kinds.Name
+
+abbrev pub step_of : Option Group → Option ℕ
+step_of group = option_map_or (λ g. g.step) group None
+
+abbrev pub is_same_kind : GroupKind → GroupKind → Bool
+is_same_kind group_kinds.Name group_kinds.Name = true
+is_same_kind group_kinds.Covered group_kinds.Covered = true
+is_same_kind group_kinds.Property group_kinds.Property = true
+is_same_kind group_kinds.State group_kinds.State = true
+is_same_kind kind other = false
+
+abbrev pub same_step : Option Group → Option Group → Bool
+same_step old new = option_eq nat_eq (step_of old) (step_of new)
+
+-- a security of this name that is of the group
+abbrev pub counts_in : BalanceSheet → List ℕ → List ℕ → Bool
+counts_in sheet group name = option_map_or (is_of_group group) (position_of name sheet.securities) false
+
+-- ---- families of figures of one group
+
+-- it comes or goes
+abbrev pub is_moved : Option Group → Option Group → Bool
+is_moved old new = is_touched (is_some old) (is_some new) true true
+
+abbrev pub square_touched : Option Group → Option Group → Bool
+square_touched old new =
+    is_touched (is_some old) (is_some new) (is_same_kind (kind_of old) (kind_of new) && same_step old new) true
+
+abbrev pub class_touched : Option Group → Option Group → ℕ → Bool
+class_touched old new class =
+    let has = nat_lt class 6 in is_touched has has true (is_kept (is_of_default_class class) old new)
+
+-- the step of a bond is that of its group
+abbrev pub step_touched : BalanceSheet → List ℕ → Option Group → Option Group → List ℕ → Bool
+step_touched sheet name old new security =
+    let has = is_bond sheet security in
+    is_touched has has (not (counts_in sheet name security) || same_step old new) true
+
+-- ---- all families
+
+-- the group of counterparties of this name becomes another, or comes or goes
+abbrev pub group_touches : BalanceSheet → List ℕ → Option Group → Option Group → Node → Bool
+group_touches sheet name old new (nodes.SecuritySpread x) = step_touched sheet name old new x
+group_touches sheet name old new (nodes.GroupTotal x) = same_name x name && is_moved old new
+group_touches sheet name old new (nodes.ConcentrationSquare x) = same_name x name && square_touched old new
+group_touches sheet name old new nodes.Concentration = is_touched true true true (beq (is_some old) (is_some new))
+group_touches sheet name old new (nodes.GroupLoss x) = same_name x name && is_moved old new
+group_touches sheet name old new (nodes.ClassLoss class) = class_touched old new class
+group_touches sheet name old new (nodes.ClassSquare class) = class_touched old new class
+group_touches sheet name old new node = false
+
+-- ---- what may be touched
+
+-- the figures of the group itself, and the one over all groups
+abbrev pub own_nodes : List ℕ → List Node
+own_nodes name =
+    nodes.GroupTotal name ∷ nodes.ConcentrationSquare name ∷ nodes.GroupLoss name ∷ nodes.Concentration ∷ []
+
+-- those of its class of probabilities of default
+abbrev pub class_nodes : Option Group → List Node
+class_nodes None = []
+class_nodes (Some group) =
+    nodes.ClassLoss (class_of_step group.step) ∷ nodes.ClassSquare (class_of_step group.step) ∷ []
+
+-- those of its securities
+abbrev pub spread_nodes : BalanceSheet → List ℕ → List Node
+spread_nodes sheet name = map security_spread (filter (is_of_group name) sheet.securities)
+
+abbrev pub group_nodes : BalanceSheet → List ℕ → Option Group → Option Group → List Node
+group_nodes sheet name old new = own_nodes name ++ ((class_nodes old ++ class_nodes new) ++ spread_nodes sheet name)

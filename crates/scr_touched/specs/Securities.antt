@@ -1,0 +1,104 @@
+-- Which figures an exchanged security touches (this project's own).
+use Rattle.std.specs.Prelude.{ℕ, ℤ, ◌==◌, ◌&&◌, ◌++◌, Bool, true, false, List, [], ◌∷◌, Option, Some, None, nat_eq, is_some}
+use Rattle.std.specs.Option.{option_eq, option_map_or}
+use Rattle.scr_dates.specs.declared.day.Day.{Day}
+use Rattle.scr_names.specs.Names.{same_name}
+use Rattle.scr_names.specs.Tables.{has_row}
+use Rattle.scr_sheet.specs.BalanceSheet.{curve_name}
+use Rattle.scr_sheet.specs.declared.rows.Class.TheVariants as classes
+use Rattle.scr_sheet.specs.declared.rows.Position.{Position}
+use Rattle.scr_sheet.specs.declared.sheet.BalanceSheet.{BalanceSheet}
+use Rattle.scr_nodes.specs.Live.{is_foreign_currency, is_group}
+use Rattle.scr_nodes.specs.Rows.{has_class, has_group, is_held_in, is_of_group, is_paying, is_paying_in, rates_of, step_of}
+use Rattle.scr_nodes.specs.declared.node.Direction.TheVariants as directions
+use Rattle.scr_nodes.specs.declared.node.Measure.TheVariants as measures
+use Rattle.scr_nodes.specs.declared.node.Node.{Node}
+use Rattle.scr_nodes.specs.declared.node.Node.TheVariants as nodes
+use Rattle.scr_touched.specs.Comparisons.{is_touched, passes, is_kept, same_payments, same_rates}
+
+-- ---- what is read of a security, if there is one
+
+abbrev pub held_of : Option Position → ℕ
+held_of position = option_map_or (λ p. p.held) position 0
+
+abbrev pub flows_of : Option Position → List (Day × ℤ)
+flows_of position = option_map_or (λ p. p.security.flows) position []
+
+-- the rates of its currency
+abbrev pub rates_for : BalanceSheet → Option Position → List ℤ
+rates_for sheet position = option_map_or (λ (p : Position). rates_of p.security.currency sheet) position []
+
+abbrev pub duration_of : Option Position → ℕ
+duration_of position = option_map_or (λ p. p.security.duration) position 0
+
+-- the credit quality step of its group
+abbrev pub step_for : BalanceSheet → Option Position → Option ℕ
+step_for sheet position = option_map_or (step_of sheet) position None
+
+-- ---- families of figures of one security
+
+abbrev pub total_touched : Option Position → Option Position → Bool
+total_touched old new = is_touched (is_some old) (is_some new) (held_of old == held_of new) true
+
+abbrev pub unit_touched : BalanceSheet → Option Position → Option Position → Bool
+unit_touched sheet old new =
+    is_touched (passes is_paying old) (passes is_paying new)
+    (same_payments (flows_of old) (flows_of new) && same_rates (rates_for sheet old) (rates_for sheet new)) true
+
+abbrev pub rate_touched : Option Position → Option Position → Bool
+rate_touched old new = is_touched (passes is_paying old) (passes is_paying new) true true
+
+abbrev pub spread_touched : BalanceSheet → Option Position → Option Position → Bool
+spread_touched sheet old new =
+    is_touched (passes (has_class classes.Bond) old) (passes (has_class classes.Bond) new)
+    (option_eq nat_eq (step_for sheet old) (step_for sheet new) && (duration_of old == duration_of new)) true
+
+-- ---- all families
+
+-- the security of this name becomes another, or comes or goes
+abbrev pub security_touches : BalanceSheet → List ℕ → Option Position → Option Position → Node → Bool
+security_touches sheet name old new (nodes.SecurityTotal x) = same_name x name && total_touched old new
+security_touches sheet name old new (nodes.UnitLoss x direction) = same_name x name && unit_touched sheet old new
+security_touches sheet name old new (nodes.SecurityRate x direction) = same_name x name && rate_touched old new
+security_touches sheet name old new (nodes.CurrencyLoss currency direction) =
+    let has = has_row curve_name currency sheet.curves in
+    is_touched has has true (is_kept (is_paying_in currency) old new)
+security_touches sheet name old new (nodes.CurrencyScenario currency direction measures.Gross) =
+    let foreign = is_foreign_currency sheet currency in
+    let kept = is_kept (is_held_in currency) old new in
+    is_touched foreign foreign kept kept
+security_touches sheet name old new (nodes.ClassSum class) =
+    is_touched true true true (is_kept (has_class class) old new)
+security_touches sheet name old new (nodes.SecuritySpread x) = same_name x name && spread_touched sheet old new
+security_touches sheet name old new nodes.Spread = is_touched true true true (is_kept (has_class classes.Bond) old new)
+security_touches sheet name old new (nodes.GroupTotal group) =
+    let has = is_group sheet group in
+    is_touched has has true (is_kept (is_of_group group) old new)
+security_touches sheet name old new nodes.Assets = is_touched true true true (is_kept has_group old new)
+security_touches sheet name old new node = false
+
+-- ---- what may be touched
+
+-- the figures of the security itself, and those of which there is one for all
+abbrev pub own_nodes : List ℕ → List Node
+own_nodes name =
+    nodes.SecurityTotal name ∷ nodes.UnitLoss name directions.Up ∷ nodes.UnitLoss name directions.Down
+    ∷ nodes.SecurityRate name directions.Up ∷ nodes.SecurityRate name directions.Down
+    ∷ nodes.SecuritySpread name ∷ nodes.Spread ∷ nodes.Assets ∷ []
+
+abbrev pub group_nodes : Option (List ℕ) → List Node
+group_nodes None = []
+group_nodes (Some group) = nodes.GroupTotal group ∷ []
+
+-- the figures of its currency, its class and its group
+abbrev pub row_nodes : Option Position → List Node
+row_nodes None = []
+row_nodes (Some position) =
+    nodes.CurrencyLoss position.security.currency directions.Up
+    ∷ nodes.CurrencyLoss position.security.currency directions.Down
+    ∷ nodes.CurrencyScenario position.security.currency directions.Up measures.Gross
+    ∷ nodes.CurrencyScenario position.security.currency directions.Down measures.Gross
+    ∷ nodes.ClassSum position.security.class ∷ group_nodes position.security.group
+
+abbrev pub security_nodes : List ℕ → Option Position → Option Position → List Node
+security_nodes name old new = own_nodes name ++ (row_nodes old ++ row_nodes new)

@@ -1,0 +1,39 @@
+-- Which figures a record touches (this project's own): those whose own data or list of sources it changes, and those
+-- which it makes or takes away.
+use Rattle.std.specs.Prelude.{◌≡◌, ◌↔◌, ◌||◌, IsTrue, List, Contains, None}
+use Rattle.scr_factors.specs.Values.{FactorValues}
+use Rattle.scr_sheet.specs.Faults.{fault_of}
+use Rattle.scr_sheet.specs.Records.{applied}
+use Rattle.scr_sheet.specs.declared.edit.Edit.{Edit}
+use Rattle.scr_sheet.specs.declared.sheet.BalanceSheet.{BalanceSheet}
+use Rattle.scr_nodes.specs.Live.{is_live}
+use Rattle.scr_nodes.specs.OwnOf.{own_of}
+use Rattle.scr_nodes.specs.Sources.{sources_of}
+use Rattle.scr_nodes.specs.declared.node.Node.{Node}
+
+-- two balance sheets have the figure or lack it both, and it is reckoned from the same data and the same figures
+pub record IsSame (factors : FactorValues) (before after : BalanceSheet) (node : Node) : Type 0 where
+  pub live : is_live before node ≡ is_live after node
+  pub own : own_of factors before node ≡ own_of factors after node
+  pub sources : sources_of before node ≡ sources_of after node
+
+-- it is a figure of one of them, and not the same
+pub record IsChanged (factors : FactorValues) (before after : BalanceSheet) (node : Node) : Type 0 where
+  pub live : IsTrue (is_live before node || is_live after node)
+  pub changed : ¬ (IsSame factors before after node)
+
+abbrev pub IsTouched : FactorValues → BalanceSheet → Edit → Node → Type 0
+IsTouched factors sheet edit node = IsChanged factors sheet (applied edit sheet) node
+
+-- the figure stands in the list exactly where the record touches it, and a figure of the balance sheet before or after
+-- that does not stand there is the same
+pub record IsTold (factors : FactorValues) (sheet : BalanceSheet) (edit : Edit) (list : List Node) (node : Node)
+    : Type 0 where
+  pub listed : Contains list node ↔ IsTouched factors sheet edit node
+  pub rest : (Contains list node → ⊥) → IsTrue (is_live sheet node || is_live (applied edit sheet) node)
+      → IsSame factors sheet (applied edit sheet) node
+
+-- the list has just the figures that the record touches, whatever the factors, unless the record has a fault
+unfoldable pub AreTouched : BalanceSheet → Edit → List Node → Type 0
+AreTouched sheet edit list = (factors : FactorValues) (node : Node) → fault_of edit sheet ≡ None
+    → IsTold factors sheet edit list node

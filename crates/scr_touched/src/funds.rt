@@ -1,0 +1,163 @@
+//! Which figures an exchanged fund touches.
+ghost use Rattle.std.specs.Prelude.{◌≡◌, ◌++◌, IfOk, OnOk};
+ghost use Rattle.std.specs.List.{flat_map};
+ghost use Rattle.std.specs.Option.{option_copied};
+ghost use Rattle.scr_nodes.specs.Rows.{is_closed};
+ghost use Rattle.scr_touched.specs.Comparisons.{is_kept, passes};
+ghost use Rattle.scr_touched.specs.FundShares.{AreBothShares};
+ghost use Rattle.scr_touched.specs.Funds.{held_of, held_kept, is_fund_after, fund_touched, holding_touched, fund_touches, totals_of, component_nodes, fund_nodes};
+
+use crate::comparisons::is_touched;
+use crate::component::Shares;
+use crate::weighed::{kept, weighed};
+use scr_nodes::Node;
+use scr_nodes::rows::is_closed;
+use scr_sheet::{BalanceSheet, Class, Name, Stake};
+use std::alloc::{AllocError as NoMemory, Global};
+
+/// The shares in the fund before and after it is exchanged, in the time of its components.
+pub(crate) fn shares(
+    alloc: Global,
+    old: Option<&Stake>,
+    new: Option<&Stake>,
+) -> Result<Shares, NoMemory>
+    ensures { IfOk result (λ shares. AreBothShares shares (option_copied old.entry)
+        (option_copied new.entry)) }
+{
+    let old = weighed(alloc, old)?;
+    let new = weighed(alloc, new)?;
+    Ok(Shares { old, new })
+}
+
+/// Whether a figure is touched where the fund of this name becomes another, or comes or goes.
+pub(crate) fn fund_touches(
+    sheet: &BalanceSheet,
+    name: &Name,
+    shares: &Shares,
+    old: Option<&Stake>,
+    new: Option<&Stake>,
+    node: &Node,
+) -> bool
+    requires { AreBothShares shares.now (option_copied old) (option_copied new) }
+    ensures { result ≡ fund_touches sheet.now name.now (option_copied old.entry)
+        (option_copied new.entry) node.now }
+{
+    match node {
+        Node::FundTotal(x) => fund_touched(sheet, name, shares, old, new, x),
+        Node::SecurityTotal(x) => holding_touched(sheet, shares, old, new, x),
+        Node::ClassSum(Class::Type2Equity) => {
+            is_touched(true, true, true, closed(old) == closed(new))
+        }
+        _ => false,
+    }
+}
+
+/// What is held of a fund.
+fn fund_touched(
+    sheet: &BalanceSheet,
+    name: &Name,
+    shares: &Shares,
+    old: Option<&Stake>,
+    new: Option<&Stake>,
+    x: &Name,
+) -> bool
+    requires { AreBothShares shares.now (option_copied old) (option_copied new) }
+    ensures { result ≡ fund_touched sheet.now name.now (option_copied old.entry)
+        (option_copied new.entry) x.now }
+{
+    let before = sheet.funds.contains(x);
+    let after = is_fund_after(sheet, name, new, x);
+    let held = held_kept(name, old, new, x);
+    let (share, holder) = kept(x, &shares.old, &shares.new, old, new);
+    is_touched(before, after, held && share, holder)
+}
+
+/// What is held of a security.
+fn holding_touched(
+    sheet: &BalanceSheet,
+    shares: &Shares,
+    old: Option<&Stake>,
+    new: Option<&Stake>,
+    x: &Name,
+) -> bool
+    requires { AreBothShares shares.now (option_copied old) (option_copied new) }
+    ensures { result ≡ holding_touched sheet.now (option_copied old.entry)
+        (option_copied new.entry) x.now }
+{
+    let has = sheet.securities.contains(x);
+    let (share, holder) = kept(x, &shares.old, &shares.new, old, new);
+    is_touched(has, has, share, holder)
+}
+
+/// There is a fund of this name afterwards.
+fn is_fund_after(sheet: &BalanceSheet, name: &Name, new: Option<&Stake>, x: &Name) -> bool
+    ensures { result ≡ is_fund_after sheet.now name.now (option_copied new.entry) x.now }
+{
+    if x == name {
+        new.is_some()
+    } else {
+        sheet.funds.contains(x)
+    }
+}
+
+/// As much is held directly of the fund of this name.
+fn held_kept(name: &Name, old: Option<&Stake>, new: Option<&Stake>, x: &Name) -> bool
+    ensures { result ≡ held_kept name.now (option_copied old.entry) (option_copied new.entry)
+        x.now }
+{
+    x != name || held_of(old) == held_of(new)
+}
+
+fn held_of(stake: Option<&Stake>) -> u64
+    ensures { result ≡ held_of (option_copied stake.entry) }
+{
+    match stake {
+        Some(stake) => stake.held,
+        None => 0,
+    }
+}
+
+fn closed(stake: Option<&Stake>) -> bool
+    ensures { result ≡ passes is_closed (option_copied stake.entry) }
+{
+    match stake {
+        Some(stake) => is_closed(stake),
+        None => false,
+    }
+}
+
+/// The figures that an exchanged fund may touch.
+pub(crate) fn fund_nodes(
+    alloc: Global,
+    name: &Name,
+    old: Option<&Stake>,
+    new: Option<&Stake>,
+) -> Result<Vec<Node>, NoMemory>
+    ensures { IfOk result (λ list. list.items ≡ fund_nodes name.now
+        (option_copied old.entry) (option_copied new.entry)) }
+{
+    let mut list = vec![in alloc; Node::FundTotal(*name), Node::ClassSum(Class::Type2Equity)]?;
+    push_components(&mut list, old)?;
+    push_components(&mut list, new)?;
+    Ok(list)
+}
+
+fn push_components(list: &mut Vec<Node>, stake: Option<&Stake>) -> Result<(), NoMemory>
+    ensures { OnOk result (list.new.items
+        ≡ list.old.items ++ component_nodes (option_copied stake.entry)) }
+{
+    match stake {
+        Some(stake) => push_totals(list, stake),
+        None => Ok(()),
+    }
+}
+
+fn push_totals(list: &mut Vec<Node>, stake: &Stake) -> Result<(), NoMemory>
+    ensures { OnOk result (list.new.items
+        ≡ list.old.items ++ flat_map (λ c. totals_of c.0) stake.now.fund.components) }
+{
+    for (name, _) in stake.fund.components.as_slice() {
+        list.extend_from_slice(&[Node::FundTotal(*name), Node::SecurityTotal(*name)])?;
+    }
+    Ok(())
+}

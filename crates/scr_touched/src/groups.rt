@@ -1,0 +1,197 @@
+//! Which figures an exchanged group of counterparties touches.
+ghost use Rattle.std.specs.Prelude.{◌≡◌, ◌++◌, IfOk, OnOk};
+ghost use Rattle.std.specs.Option.{option_copied};
+ghost use Rattle.scr_nodes.specs.Live.{is_bond};
+ghost use Rattle.scr_nodes.specs.Rows.{class_of_step, is_of_default_class, is_of_group};
+ghost use Rattle.scr_touched.specs.Comparisons.{is_kept, passes};
+ghost use Rattle.scr_touched.specs.Groups.{group_touches, group_nodes, is_moved, square_touched, class_touched, step_touched, same_step, step_of, kind_of, counts_in, own_nodes, class_nodes, spread_nodes};
+
+use crate::comparisons::is_touched;
+use scr_nodes::Node;
+use scr_nodes::rows::{has_class, is_of_default_class};
+use scr_nodes::selections::{Holdings, is_counted};
+use scr_profile::GroupKind;
+use scr_sheet::{BalanceSheet, Class, Group, Name, Position};
+use std::alloc::{AllocError as NoMemory, Global};
+
+/// Whether a figure is touched where the group of counterparties of this name becomes another, or
+/// comes or goes.
+pub(crate) fn group_touches(
+    sheet: &BalanceSheet,
+    name: &Name,
+    old: Option<&Group>,
+    new: Option<&Group>,
+    node: &Node,
+) -> bool
+    ensures { result ≡ group_touches sheet.now name.now (option_copied old.entry)
+        (option_copied new.entry) node.now }
+{
+    match node {
+        Node::SecuritySpread(x) => step_touched(sheet, name, old, new, x),
+        Node::GroupTotal(x) => x == name && is_moved(old, new),
+        Node::ConcentrationSquare(x) => x == name && square_touched(old, new),
+        Node::Concentration => is_touched(true, true, true, old.is_some() == new.is_some()),
+        Node::GroupLoss(x) => x == name && is_moved(old, new),
+        Node::ClassLoss(class) => class_touched(old, new, *class),
+        Node::ClassSquare(class) => class_touched(old, new, *class),
+        _ => false,
+    }
+}
+
+/// It comes or goes.
+fn is_moved(old: Option<&Group>, new: Option<&Group>) -> bool
+    ensures { result ≡ is_moved (option_copied old.entry) (option_copied new.entry) }
+{
+    is_touched(old.is_some(), new.is_some(), true, true)
+}
+
+/// Its kind or its credit quality step changes, or it comes or goes.
+fn square_touched(old: Option<&Group>, new: Option<&Group>) -> bool
+    ensures { result ≡ square_touched (option_copied old.entry) (option_copied new.entry) }
+{
+    let own = kind_of(old) == kind_of(new) && same_step(old, new);
+    is_touched(old.is_some(), new.is_some(), own, true)
+}
+
+/// It begins or ends to be of the class.
+fn class_touched(old: Option<&Group>, new: Option<&Group>, class: u8) -> bool
+    ensures { result ≡ class_touched (option_copied old.entry) (option_copied new.entry) class }
+{
+    let has = class < 6;
+    is_touched(
+        has,
+        has,
+        true,
+        is_of_class(class, old) == is_of_class(class, new),
+    )
+}
+
+/// The security is a bond of the group, whose credit quality step changes.
+fn step_touched(
+    sheet: &BalanceSheet,
+    name: &Name,
+    old: Option<&Group>,
+    new: Option<&Group>,
+    security: &Name,
+) -> bool
+    ensures { result ≡ step_touched sheet.now name.now (option_copied old.entry)
+        (option_copied new.entry) security.now }
+{
+    let has = is_bond(sheet, security);
+    let own = !counts_in(sheet, name, security) || same_step(old, new);
+    is_touched(has, has, own, true)
+}
+
+fn is_bond(sheet: &BalanceSheet, security: &Name) -> bool
+    ensures { result ≡ is_bond sheet.now security.now }
+{
+    match sheet.securities.get(security) {
+        Some(position) => has_class(Class::Bond, position),
+        None => false,
+    }
+}
+
+/// The security is of the group.
+fn counts_in(sheet: &BalanceSheet, group: &Name, security: &Name) -> bool
+    ensures { result ≡ counts_in sheet.now group.now security.now }
+{
+    match sheet.securities.get(security) {
+        Some(position) => is_of_group(group, position),
+        None => false,
+    }
+}
+
+fn is_of_group(group: &Name, position: &Position) -> bool
+    ensures { result ≡ is_of_group group.now position.now }
+{
+    is_counted(&Holdings::OfGroup(*group), position)
+}
+
+fn is_of_class(class: u8, group: Option<&Group>) -> bool
+    ensures { result ≡ passes (is_of_default_class class) (option_copied group.entry) }
+{
+    match group {
+        Some(group) => is_of_default_class(class, group),
+        None => false,
+    }
+}
+
+fn kind_of(group: Option<&Group>) -> GroupKind
+    ensures { result ≡ kind_of (option_copied group.entry) }
+{
+    match group {
+        Some(group) => group.kind,
+        None => GroupKind::Name,
+    }
+}
+
+fn step_of(group: Option<&Group>) -> Option<u8>
+    ensures { result ≡ step_of (option_copied group.entry) }
+{
+    group?.step
+}
+
+fn same_step(old: Option<&Group>, new: Option<&Group>) -> bool
+    ensures { result ≡ same_step (option_copied old.entry) (option_copied new.entry) }
+{
+    step_of(old) == step_of(new)
+}
+
+/// The figures that an exchanged group may touch: its own, those of its class before and after, and
+/// those of its securities.
+pub(crate) fn group_nodes(
+    alloc: Global,
+    sheet: &BalanceSheet,
+    name: &Name,
+    old: Option<&Group>,
+    new: Option<&Group>,
+) -> Result<Vec<Node>, NoMemory>
+    ensures { IfOk result (λ list. list.items ≡ group_nodes sheet.now name.now
+        (option_copied old.entry) (option_copied new.entry)) }
+{
+    let mut list = vec![in alloc;
+        Node::GroupTotal(*name),
+        Node::ConcentrationSquare(*name),
+        Node::GroupLoss(*name),
+        Node::Concentration,
+    ]?;
+    push_class(&mut list, old)?;
+    push_class(&mut list, new)?;
+    push_spreads(&mut list, sheet, name)?;
+    Ok(list)
+}
+
+fn push_class(list: &mut Vec<Node>, group: Option<&Group>) -> Result<(), NoMemory>
+    ensures { OnOk result (list.new.items
+        ≡ list.old.items ++ class_nodes (option_copied group.entry)) }
+{
+    let Some(group) = group else {
+        return Ok(());
+    };
+    let class = class_of_step(group.step);
+    list.extend_from_slice(&[Node::ClassLoss(class), Node::ClassSquare(class)])?;
+    Ok(())
+}
+
+/// The class of probabilities of default of a step.
+fn class_of_step(step: Option<u8>) -> u8
+    ensures { result ≡ class_of_step step }
+{
+    match step {
+        Some(step) if step < 5 => step,
+        _ => 5,
+    }
+}
+
+/// What the bonds of the group lose.
+fn push_spreads(list: &mut Vec<Node>, sheet: &BalanceSheet, name: &Name) -> Result<(), NoMemory>
+    ensures { OnOk result (list.new.items ≡ list.old.items ++ spread_nodes sheet.now name.now) }
+{
+    for k in 0..sheet.securities.len() {
+        let position = sheet.securities.at(k);
+        if is_of_group(name, position) {
+            list.push(Node::SecuritySpread(position.security.name))?;
+        }
+    }
+    Ok(())
+}

@@ -1,0 +1,100 @@
+//! Which figures another reference date, or another reporting currency, touches.
+ghost use Rattle.std.specs.Prelude.{◌≡◌, IfOk};
+ghost use Rattle.scr_nodes.specs.Live.{is_stressed_liability, pays};
+ghost use Rattle.scr_touched.specs.ReferenceDates.{same_date, is_foreign_to, dated_touched, reporting_touched, date_touches, date_nodes};
+
+use crate::comparisons::is_touched;
+use crate::curves::{moved_nodes, push_foreign};
+use crate::liabilities::is_under;
+use crate::lookups::is_foreign_currency;
+use scr_dates::Day;
+use scr_nodes::rows::is_paying;
+use scr_nodes::{Measure, Node};
+use scr_sheet::{BalanceSheet, Name, Projection};
+use std::alloc::{AllocError as NoMemory, Global};
+
+/// Whether a figure is touched where the reference date and the reporting currency become these.
+pub(crate) fn date_touches(sheet: &BalanceSheet, date: Day, currency: &Name, node: &Node) -> bool
+    ensures { result ≡ date_touches sheet.now date currency.now node.now }
+{
+    match node {
+        Node::UnitLoss(x, _) => dated_touched(sheet, date, pays(sheet, x)),
+        Node::LiabilityRate(x, _) => dated_touched(sheet, date, sheet.liabilities.contains(x)),
+        Node::LiabilityPresent(x) => dated_touched(sheet, date, sheet.liabilities.contains(x)),
+        Node::LiabilityLoss(x, projection) => {
+            dated_touched(sheet, date, is_stressed_liability(sheet, x, *projection))
+        }
+        Node::CurrencyScenario(x, _, _) => reporting_touched(sheet, currency, x),
+        Node::CurrencyChoice(x) => reporting_touched(sheet, currency, x),
+        Node::CurrencyPicked(x, _) => reporting_touched(sheet, currency, x),
+        Node::Currency(_) => is_touched(true, true, true, sheet.numbers.currency == *currency),
+        _ => false,
+    }
+}
+
+/// Payments are discounted from another day.
+fn dated_touched(sheet: &BalanceSheet, date: Day, live: bool) -> bool
+    ensures { result ≡ dated_touched sheet.now date live }
+{
+    is_touched(live, live, same_date(sheet, date), true)
+}
+
+fn same_date(sheet: &BalanceSheet, date: Day) -> bool
+    ensures { result ≡ same_date sheet.now date }
+{
+    sheet.numbers.asof == date
+}
+
+/// The currency becomes a foreign one, or ceases to be one.
+fn reporting_touched(sheet: &BalanceSheet, reporting: &Name, currency: &Name) -> bool
+    ensures { result ≡ reporting_touched sheet.now reporting.now currency.now }
+{
+    is_touched(
+        is_foreign_currency(sheet, currency),
+        is_foreign_to(sheet, reporting, currency),
+        true,
+        true,
+    )
+}
+
+fn is_foreign_to(sheet: &BalanceSheet, reporting: &Name, currency: &Name) -> bool
+    ensures { result ≡ is_foreign_to sheet.now reporting.now currency.now }
+{
+    match sheet.curves.get(currency) {
+        Some(curve) => *reporting != curve.currency,
+        None => false,
+    }
+}
+
+fn pays(sheet: &BalanceSheet, security: &Name) -> bool
+    ensures { result ≡ pays sheet.now security.now }
+{
+    match sheet.securities.get(security) {
+        Some(position) => is_paying(position),
+        None => false,
+    }
+}
+
+fn is_stressed_liability(sheet: &BalanceSheet, liability: &Name, projection: Projection) -> bool
+    ensures { result ≡ is_stressed_liability sheet.now liability.now projection }
+{
+    is_under(projection, sheet.liabilities.get(liability))
+}
+
+/// The figures that they may touch: those of payments, unless the date stays, and those of the
+/// reporting currency before and after. The cost is that of all securities and liabilities, unless
+/// the date stays.
+pub(crate) fn date_nodes(
+    alloc: Global,
+    sheet: &BalanceSheet,
+    date: Day,
+    currency: &Name,
+) -> Result<Vec<Node>, NoMemory>
+    ensures { IfOk result (λ list. list.items ≡ date_nodes sheet.now date currency.now) }
+{
+    let mut list = moved_nodes(alloc, sheet, same_date(sheet, date))?;
+    push_foreign(&mut list, &sheet.numbers.currency)?;
+    push_foreign(&mut list, currency)?;
+    list.extend_from_slice(&[Node::Currency(Measure::Gross), Node::Currency(Measure::Net)])?;
+    Ok(list)
+}

@@ -1,0 +1,255 @@
+//! Which figures an exchanged security touches.
+ghost use Rattle.std.specs.Prelude.{◌≡◌, ◌++◌, IfOk, OnOk};
+ghost use Rattle.std.specs.Option.{option_copied};
+ghost use Rattle.scr_nodes.specs.Rows.{has_class, is_paying, is_paying_in};
+ghost use Rattle.scr_nodes.specs.Selections.{is_counted};
+ghost use Rattle.scr_sheet.specs.declared.rows.Class.TheVariants as classes;
+ghost use Rattle.scr_touched.specs.Comparisons.{is_kept, passes};
+ghost use Rattle.scr_touched.specs.Securities.{flows_of, rates_for, step_for, duration_of, held_of, total_touched, unit_touched, rate_touched, spread_touched, security_touches, own_nodes, row_nodes, security_nodes};
+
+use crate::comparisons::{is_touched, same_payments, same_rates};
+use crate::lookups::{is_foreign_currency, rates_of, step_of};
+use scr_dates::Day;
+use scr_nodes::rows::{has_class, is_paying, is_paying_in};
+use scr_nodes::selections::{Holdings, is_counted};
+use scr_nodes::{Direction, Measure, Node};
+use scr_sheet::{BalanceSheet, Class, Name, Position};
+use std::alloc::{AllocError as NoMemory, Global};
+
+/// Whether a figure is touched where the security of this name becomes another, or comes or goes.
+pub(crate) fn security_touches(
+    sheet: &BalanceSheet,
+    name: &Name,
+    old: Option<&Position>,
+    new: Option<&Position>,
+    node: &Node,
+) -> bool
+    ensures { result ≡ security_touches sheet.now name.now (option_copied old.entry)
+        (option_copied new.entry) node.now }
+{
+    match node {
+        Node::SecurityTotal(x) => x == name && total_touched(old, new),
+        Node::UnitLoss(x, _) => x == name && unit_touched(sheet, old, new),
+        Node::SecurityRate(x, _) => x == name && rate_touched(old, new),
+        Node::CurrencyLoss(currency, _) => {
+            let has = sheet.curves.contains(currency);
+            is_touched(has, has, true, is_kept_paying(currency, old, new))
+        }
+        Node::CurrencyScenario(currency, _, Measure::Gross) => {
+            let foreign = is_foreign_currency(sheet, currency);
+            let kept = is_kept(&Holdings::In(*currency), old, new);
+            is_touched(foreign, foreign, kept, kept)
+        }
+        Node::ClassSum(class) => {
+            is_touched(
+                true,
+                true,
+                true,
+                is_kept(&Holdings::OfClass(*class), old, new),
+            )
+        }
+        Node::SecuritySpread(x) => x == name && spread_touched(sheet, old, new),
+        Node::Spread => {
+            is_touched(
+                true,
+                true,
+                true,
+                is_kept(&Holdings::OfClass(Class::Bond), old, new),
+            )
+        }
+        Node::GroupTotal(group) => {
+            let has = sheet.groups.contains(group);
+            is_touched(
+                has,
+                has,
+                true,
+                is_kept(&Holdings::OfGroup(*group), old, new),
+            )
+        }
+        Node::Assets => is_touched(true, true, true, is_kept(&Holdings::Grouped, old, new)),
+        _ => false,
+    }
+}
+
+/// What is held of the security changes, or it comes or goes.
+fn total_touched(old: Option<&Position>, new: Option<&Position>) -> bool
+    ensures { result ≡ total_touched (option_copied old.entry) (option_copied new.entry) }
+{
+    let held = held_of(old) == held_of(new);
+    is_touched(old.is_some(), new.is_some(), held, true)
+}
+
+/// Its payments change, or the rates by which they are discounted.
+fn unit_touched(sheet: &BalanceSheet, old: Option<&Position>, new: Option<&Position>) -> bool
+    ensures { result ≡ unit_touched sheet.now (option_copied old.entry) (option_copied new.entry) }
+{
+    let own = same_payments(flows_of(old), flows_of(new))
+        && same_rates(rates_for(sheet, old), rates_for(sheet, new));
+    is_touched(pays(old), pays(new), own, true)
+}
+
+/// It begins or ends to pay.
+fn rate_touched(old: Option<&Position>, new: Option<&Position>) -> bool
+    ensures { result ≡ rate_touched (option_copied old.entry) (option_copied new.entry) }
+{
+    is_touched(pays(old), pays(new), true, true)
+}
+
+/// The credit quality step or the duration of the bond changes, or it comes or goes as a bond.
+fn spread_touched(sheet: &BalanceSheet, old: Option<&Position>, new: Option<&Position>) -> bool
+    ensures { result ≡ spread_touched sheet.now (option_copied old.entry)
+        (option_copied new.entry) }
+{
+    let own = step_for(sheet, old) == step_for(sheet, new) && duration_of(old) == duration_of(new);
+    is_touched(is_bond(old), is_bond(new), own, true)
+}
+
+fn pays(position: Option<&Position>) -> bool
+    ensures { result ≡ passes is_paying (option_copied position.entry) }
+{
+    match position {
+        Some(position) => is_paying(position),
+        None => false,
+    }
+}
+
+fn is_bond(position: Option<&Position>) -> bool
+    ensures { result ≡ passes (has_class classes.Bond) (option_copied position.entry) }
+{
+    match position {
+        Some(position) => has_class(Class::Bond, position),
+        None => false,
+    }
+}
+
+fn is_counted_of(holdings: &Holdings, position: Option<&Position>) -> bool
+    ensures { result ≡ passes (is_counted holdings.now) (option_copied position.entry) }
+{
+    match position {
+        Some(position) => is_counted(holdings, position),
+        None => false,
+    }
+}
+
+/// The security is one of them before as it is after.
+fn is_kept(holdings: &Holdings, old: Option<&Position>, new: Option<&Position>) -> bool
+    ensures { result ≡ is_kept (is_counted holdings.now) (option_copied old.entry)
+        (option_copied new.entry) }
+{
+    is_counted_of(holdings, old) == is_counted_of(holdings, new)
+}
+
+fn pays_in(currency: &Name, position: Option<&Position>) -> bool
+    ensures { result ≡ passes (is_paying_in currency.now) (option_copied position.entry) }
+{
+    match position {
+        Some(position) => is_paying_in(currency, position),
+        None => false,
+    }
+}
+
+fn is_kept_paying(currency: &Name, old: Option<&Position>, new: Option<&Position>) -> bool
+    ensures { result ≡ is_kept (is_paying_in currency.now) (option_copied old.entry)
+        (option_copied new.entry) }
+{
+    pays_in(currency, old) == pays_in(currency, new)
+}
+
+fn held_of(position: Option<&Position>) -> u64
+    ensures { result ≡ held_of (option_copied position.entry) }
+{
+    match position {
+        Some(position) => position.held,
+        None => 0,
+    }
+}
+
+fn flows_of(position: Option<&Position>) -> &[(Day, i64)]
+    ensures { result.now ≡ flows_of (option_copied position.entry) }
+{
+    match position {
+        Some(position) => position.security.flows.as_slice(),
+        None => &[],
+    }
+}
+
+fn rates_for<'a>(sheet: &'a BalanceSheet, position: Option<&Position>) -> &'a [i64]
+    ensures { result.now ≡ rates_for sheet.now (option_copied position.entry) }
+{
+    match position {
+        Some(position) => rates_of(sheet, &position.security.currency),
+        None => &[],
+    }
+}
+
+fn duration_of(position: Option<&Position>) -> u32
+    ensures { result ≡ duration_of (option_copied position.entry) }
+{
+    match position {
+        Some(position) => position.security.duration,
+        None => 0,
+    }
+}
+
+fn step_for(sheet: &BalanceSheet, position: Option<&Position>) -> Option<u8>
+    ensures { result ≡ step_for sheet.now (option_copied position.entry) }
+{
+    match position {
+        Some(position) => step_of(sheet, position.security.group),
+        None => None,
+    }
+}
+
+/// The figures that an exchanged security may touch: its own, and those of its currency, class and
+/// group before and after.
+pub(crate) fn security_nodes(
+    alloc: Global,
+    name: &Name,
+    old: Option<&Position>,
+    new: Option<&Position>,
+) -> Result<Vec<Node>, NoMemory>
+    ensures { IfOk result (λ list. list.items ≡ security_nodes name.now (option_copied old.entry)
+        (option_copied new.entry)) }
+{
+    let mut list = own_nodes(alloc, name)?;
+    push_row(&mut list, old)?;
+    push_row(&mut list, new)?;
+    Ok(list)
+}
+
+fn own_nodes(alloc: Global, name: &Name) -> Result<Vec<Node>, NoMemory>
+    ensures { IfOk result (λ list. list.items ≡ own_nodes name.now) }
+{
+    let list = vec![in alloc;
+        Node::SecurityTotal(*name),
+        Node::UnitLoss(*name, Direction::Up),
+        Node::UnitLoss(*name, Direction::Down),
+        Node::SecurityRate(*name, Direction::Up),
+        Node::SecurityRate(*name, Direction::Down),
+        Node::SecuritySpread(*name),
+        Node::Spread,
+        Node::Assets,
+    ]?;
+    Ok(list)
+}
+
+fn push_row(list: &mut Vec<Node>, position: Option<&Position>) -> Result<(), NoMemory>
+    ensures { OnOk result (list.new.items
+        ≡ list.old.items ++ row_nodes (option_copied position.entry)) }
+{
+    let Some(position) = position else {
+        return Ok(());
+    };
+    let currency = position.security.currency;
+    list.extend_from_slice(&[
+        Node::CurrencyLoss(currency, Direction::Up),
+        Node::CurrencyLoss(currency, Direction::Down),
+        Node::CurrencyScenario(currency, Direction::Up, Measure::Gross),
+        Node::CurrencyScenario(currency, Direction::Down, Measure::Gross),
+        Node::ClassSum(position.security.class),
+    ])?;
+    if let Some(group) = position.security.group {
+        list.push(Node::GroupTotal(group))?;
+    }
+    Ok(())
+}

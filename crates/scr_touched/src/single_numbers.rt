@@ -1,0 +1,226 @@
+//! Which figures other single numbers touch, the reference date and the reporting currency aside.
+ghost use Rattle.std.specs.Prelude.{◌≡◌, ◌++◌, ◌&&◌, true, IfOk, OnOk};
+ghost use Rattle.scr_nodes.specs.Live.{is_segment};
+ghost use Rattle.scr_nodes.specs.OwnOf.{volumes_in_regions};
+ghost use Rattle.scr_nodes.specs.Rows.{has_stress};
+ghost use Rattle.scr_profile.specs.Segments.{segments};
+ghost use Rattle.scr_nodes.specs.declared.node.Measure.TheVariants.{Net};
+ghost use Rattle.scr_nodes.specs.declared.node.Node.TheVariants as nodes;
+ghost use Rattle.scr_touched.specs.SingleNumbers.{same_volumes, same_due, same_operations, numbers_touch, scenario_nodes, nonlife_nodes, number_nodes, risk_nodes, stress_nodes, charge_nodes, requirement_nodes};
+
+use crate::charges::{catastrophe_cents, interest_key, lapse_cents, risk_key, stress_cents};
+use scr_nodes::words::{
+    equity_parts, health_perils, interest_scenarios, lapse_scenarios, man_made_perils,
+    natural_perils, nonlife_segments, nslt_segments,
+};
+use scr_nodes::{Adjustment, Biometric, Measure, Node, Operational, Risk};
+use scr_profile::Set;
+use scr_sheet::{CatKey, Numbers, Projection};
+use std::alloc::{AllocError as NoMemory, Global};
+
+/// Whether a figure is touched where the single numbers become others.
+pub(crate) fn numbers_touch(old: &Numbers, new: &Numbers, node: &Node) -> bool
+    ensures { result ≡ numbers_touch old.now new.now node.now }
+{
+    match node {
+        Node::InterestScenario(direction, Measure::Net) => {
+            let key = interest_key(*direction);
+            old.absorbed(key) != new.absorbed(key)
+        }
+        Node::EquityPart(_) => old.sym != new.sym,
+        Node::NetPart(risk) => {
+            let key = risk_key(*risk);
+            old.absorbed(key) != new.absorbed(key)
+        }
+        Node::DefaultType2 => !are_due_same(old, new),
+        Node::BioScenario(biometric, projection, Measure::Net) => {
+            is_stress_touched(old, new, *biometric, *projection)
+        }
+        Node::Segment(set, number) => is_segment_touched(old, new, *set, *number),
+        Node::CatCharge(key) => catastrophe_cents(old, *key) != catastrophe_cents(new, *key),
+        Node::Lapse(set) => lapse_cents(old, *set) != lapse_cents(new, *set),
+        Node::Nslt(_) => lapse_cents(old, Set::Nslt) != lapse_cents(new, Set::Nslt),
+        Node::Nonlife(_) => lapse_cents(old, Set::Nl) != lapse_cents(new, Set::Nl),
+        Node::Intangible | Node::Bscr(_) => old.intangible != new.intangible,
+        Node::OpPart(part) => !are_operations_same(old, new, *part),
+        Node::Adjust(Adjustment::TechnicalProvisions) => old.fdb != new.fdb,
+        Node::Adjust(Adjustment::DeferredTaxes) => !(old.tax == new.tax && old.cap == new.cap),
+        _ => false,
+    }
+}
+
+fn are_due_same(old: &Numbers, new: &Numbers) -> bool
+    ensures { result ≡ (same_due 0 old.now new.now && same_due 1 old.now new.now) }
+{
+    old.due[0] == new.due[0] && old.due[1] == new.due[1]
+}
+
+fn is_stress_touched(
+    old: &Numbers,
+    new: &Numbers,
+    biometric: Biometric,
+    projection: Projection,
+) -> bool
+    ensures { result ≡ numbers_touch old.now new.now (nodes.BioScenario biometric projection Net) }
+{
+    has_stress(biometric, projection)
+        && stress_cents(old, biometric, projection) != stress_cents(new, biometric, projection)
+}
+
+/// The stresses of a kind of obligations.
+fn has_stress(biometric: Biometric, projection: Projection) -> bool
+    ensures { result ≡ has_stress biometric projection }
+{
+    match (biometric, projection) {
+        (_, Projection::Base) | (Biometric::Health, Projection::Catastrophe) => false,
+        _ => true,
+    }
+}
+
+fn is_segment_touched(old: &Numbers, new: &Numbers, set: Set, number: u8) -> bool
+    ensures { result ≡ numbers_touch old.now new.now (nodes.Segment set number) }
+{
+    is_segment(set, number) && !are_volumes_same(old, new, set, number)
+}
+
+fn is_segment(set: Set, number: u8) -> bool
+    ensures { result ≡ is_segment set number }
+{
+    1 <= number && number <= segments(set)
+}
+
+fn segments(set: Set) -> u8
+    ensures { result ≡ segments set }
+{
+    match set {
+        Set::Nl => 12,
+        Set::Nslt => 4,
+    }
+}
+
+fn are_volumes_same(old: &Numbers, new: &Numbers, set: Set, number: u8) -> bool
+    requires { is_segment set number ≡ true }
+    ensures { result ≡ same_volumes (volumes_in_regions set number old.now)
+        (volumes_in_regions set number new.now) }
+{
+    let place = usize::from(number) - 1;
+    match set {
+        Set::Nl => old.nl[place].volumes == new.nl[place].volumes,
+        Set::Nslt => old.nslt[place].volumes == new.nslt[place].volumes,
+    }
+}
+
+fn are_operations_same(old: &Numbers, new: &Numbers, part: Operational) -> bool
+    ensures { result ≡ same_operations part old.now new.now }
+{
+    match part {
+        Operational::Premiums => {
+            old.earned[0] == new.earned[0]
+                && old.earned[1] == new.earned[1]
+                && old.earned[2] == new.earned[2]
+                && old.earned[3] == new.earned[3]
+                && old.earned[4] == new.earned[4]
+                && old.earned[5] == new.earned[5]
+        }
+        Operational::Provisions => {
+            old.provisions[0] == new.provisions[0]
+                && old.provisions[1] == new.provisions[1]
+                && old.provisions[2] == new.provisions[2]
+        }
+        Operational::Cap => true,
+        Operational::Charge => old.earned[6] == new.earned[6],
+    }
+}
+
+/// The figures that the single numbers may touch.
+pub(crate) fn number_nodes(alloc: Global) -> Result<Vec<Node>, NoMemory>
+    ensures { IfOk result (λ list. list.items ≡ number_nodes) }
+{
+    let mut list = Vec::new(alloc);
+    push_scenarios(&mut list)?;
+    push_nonlife(&mut list)?;
+    Ok(list)
+}
+
+fn push_scenarios(list: &mut Vec<Node>) -> Result<(), NoMemory>
+    ensures { OnOk result (list.new.items ≡ list.old.items ++ scenario_nodes) }
+{
+    list.extend_from_slice(&interest_scenarios())?;
+    list.extend_from_slice(&equity_parts())?;
+    list.extend_from_slice(&risk_nodes())?;
+    list.extend_from_slice(&stress_nodes(Biometric::Life))?;
+    list.extend_from_slice(&lapse_scenarios(Biometric::Life))?;
+    list.extend_from_slice(&stress_nodes(Biometric::Health))?;
+    list.extend_from_slice(&lapse_scenarios(Biometric::Health))?;
+    Ok(())
+}
+
+fn push_nonlife(list: &mut Vec<Node>) -> Result<(), NoMemory>
+    ensures { OnOk result (list.new.items ≡ list.old.items ++ nonlife_nodes) }
+{
+    list.extend_from_slice(&nonlife_segments())?;
+    list.extend_from_slice(&nslt_segments())?;
+    list.extend_from_slice(&natural_perils())?;
+    list.extend_from_slice(&man_made_perils())?;
+    list.extend_from_slice(&health_perils())?;
+    list.extend_from_slice(&charge_nodes())?;
+    list.extend_from_slice(&requirement_nodes())?;
+    Ok(())
+}
+
+fn risk_nodes() -> [Node; 7]
+    ensures { result ≡ risk_nodes }
+{
+    [
+        Node::NetPart(Risk::Equity),
+        Node::NetPart(Risk::Property),
+        Node::NetPart(Risk::Spread),
+        Node::NetPart(Risk::Concentration),
+        Node::NetPart(Risk::Default),
+        Node::NetPart(Risk::HealthCatastrophe),
+        Node::DefaultType2,
+    ]
+}
+
+fn stress_nodes(biometric: Biometric) -> [Node; 6]
+    ensures { result ≡ stress_nodes biometric }
+{
+    [
+        Node::BioScenario(biometric, Projection::Mortality, Measure::Net),
+        Node::BioScenario(biometric, Projection::Longevity, Measure::Net),
+        Node::BioScenario(biometric, Projection::Disability, Measure::Net),
+        Node::BioScenario(biometric, Projection::Expense, Measure::Net),
+        Node::BioScenario(biometric, Projection::Revision, Measure::Net),
+        Node::BioScenario(biometric, Projection::Catastrophe, Measure::Net),
+    ]
+}
+
+fn charge_nodes() -> [Node; 8]
+    ensures { result ≡ charge_nodes }
+{
+    [
+        Node::CatCharge(CatKey::NonProportionalProperty),
+        Node::CatCharge(CatKey::Other),
+        Node::Lapse(Set::Nl),
+        Node::Lapse(Set::Nslt),
+        Node::Nslt(Measure::Gross),
+        Node::Nslt(Measure::Net),
+        Node::Nonlife(Measure::Gross),
+        Node::Nonlife(Measure::Net),
+    ]
+}
+
+fn requirement_nodes() -> [Node; 8]
+    ensures { result ≡ requirement_nodes }
+{
+    [
+        Node::Intangible,
+        Node::Bscr(Measure::Gross),
+        Node::Bscr(Measure::Net),
+        Node::OpPart(Operational::Premiums),
+        Node::OpPart(Operational::Provisions),
+        Node::OpPart(Operational::Charge),
+        Node::Adjust(Adjustment::TechnicalProvisions),
+        Node::Adjust(Adjustment::DeferredTaxes),
+    ]
+}

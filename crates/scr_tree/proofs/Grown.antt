@@ -1,0 +1,70 @@
+-- What follows of a recorded edit once its figures have places.
+use Rattle.std.proofs.Common.{◌≡◌, ◌⊎◌, ◌↔◌, inl, inr, ◌||◌, ℕ, ◌+◌, ◌<◌, ◌++◌, Bool, true, List, [], length, Option, Some, None, slice_get, Contains, refl, sym, ap, subst, ◌∙◌}
+use Rattle.scr_links.specs.Edges.{Edge}
+use Rattle.scr_rounds.specs.declared.ranks.Due.{Due}
+use Rattle.scr_factors.specs.Values.{FactorValues}
+use Rattle.scr_sheet.specs.Validity.{Valid}
+use Rattle.scr_sheet.specs.declared.edit.Edit.{Edit}
+use Rattle.scr_sheet.specs.declared.sheet.BalanceSheet.{BalanceSheet}
+use Rattle.scr_nodes.specs.declared.node.Node.{Node}
+use Rattle.scr_nodes.specs.Live.{is_live}
+use Rattle.scr_nodes.specs.LiveNodes.{HasNoRepeats}
+use Rattle.scr_plan.specs.Discounts.{CurrencyDiscounts}
+use Rattle.scr_reach.specs.Dues.{AreDueAfter, AreEdited, AreStarts, numbers_of}
+use Rattle.scr_reach.specs.Leading.{IsCountOf, IsInReach}
+use Rattle.scr_reach.specs.Linked.{AreLinked, Grows}
+use Rattle.scr_reach.proofs.Growing.{linked-grown}
+use Rattle.std.specs.Option.{option_map_or}
+use Rattle.scr_curve.specs.declared.table.Discounts.{Discounts}
+use Rattle.scr_plan.specs.Kept.{all_discounts, rows_of}
+use Rattle.scr_tree.specs.Changed.{AreRowsFor, IsRecorded, StepsReach}
+use Rattle.scr_tree.proofs.KeptRates.{rates-kept}
+use Rattle.scr_tree.specs.Dues.{AreOthersKept}
+use Rattle.scr_tree.specs.Figures.{AreSettled}
+use Rattle.scr_tree.specs.declared.figures.Figure.{Figure}
+use Rattle.scr_tree.proofs.Settled.{AreKept, edited-from, others-from, settled-grown, steps-from}
+
+module _ (factors : FactorValues) (after : BalanceSheet) (valid : Valid after) (edit : Edit) (listed : List Node)
+    (rows : List CurrencyDiscounts) (old new : List Node) (kept : List Figure) (edges : List Edge)
+    (recorded : IsRecorded factors after edit listed rows old kept edges) (grown : Grows old new) (once : HasNoRepeats new)
+    (starts : List ℕ) (are : AreStarts new listed starts) where
+  pub edited-grown : AreEdited after new edges starts
+  edited-grown =
+      subst (λ places. HasNoRepeats places → AreStarts places listed starts → AreEdited after places edges starts) (sym grown.1)
+      (λ o a. edited-from factors after valid edit listed rows old grown.0 kept edges recorded o starts a) once are
+
+  pub steps-grown : (dues : List Due) → AreDueAfter after new edges starts dues
+      → IsCountOf (IsInReach after (Contains listed)) (length (numbers_of dues))
+  steps-grown dues due =
+      subst (λ places. HasNoRepeats places → AreStarts places listed starts → AreDueAfter after places edges starts dues
+      → IsCountOf (IsInReach after (Contains listed)) (length (numbers_of dues))) (sym grown.1)
+      (λ o a d. steps-from factors after valid edit listed rows old grown.0 kept edges recorded o starts a dues d) once are due
+
+  pub others-grown : (now : List Figure) → AreKept old kept now → (dues : List Due) → AreDueAfter after new edges starts dues
+      → AreOthersKept factors after new now dues
+  others-grown now stay dues due =
+      subst (λ places. HasNoRepeats places → AreStarts places listed starts → AreDueAfter after places edges starts dues
+      → AreOthersKept factors after places now dues) (sym grown.1)
+      (λ o a d. others-from factors after valid edit listed rows old grown.0 kept edges recorded o starts a now stay dues d) once are due
+
+-- figures and links of a balance sheet stay its own when further figures are given places
+module _ (factors : FactorValues) (sheet : BalanceSheet) (old new : List Node) (grown : Grows old new) (once : HasNoRepeats new)
+    (edges : List Edge) (linked : AreLinked sheet old edges) where
+  pub linked-kept : AreLinked sheet new edges
+  linked-kept =
+      subst (λ places. HasNoRepeats places → AreLinked sheet places edges) (sym grown.1)
+      (λ o. linked-grown sheet old grown.0 o edges linked) once
+
+  pub settled-kept : (kept now : List Figure) → AreKept old kept now → AreSettled factors sheet old kept []
+      → AreSettled factors sheet new now []
+  settled-kept kept now stay settled =
+      subst (λ places. HasNoRepeats places → AreSettled factors sheet places now []) (sym grown.1)
+      (λ o. settled-grown factors sheet old grown.0 o linked.placed kept now stay settled) once
+
+-- the discounts after a record: new ones where it changes rates, else those before
+pub rows-after : (factors : FactorValues) (after : BalanceSheet) (edit : Edit) (listed : List Node) (rows : List CurrencyDiscounts) (places : List Node)
+    (kept : List Figure) (edges : List Edge) → IsRecorded factors after edit listed rows places kept edges
+    → (new : Option (List (List Discounts))) → AreRowsFor edit after new → option_map_or rows_of new rows ≡ all_discounts after
+rows-after factors after edit listed rows places kept edges recorded None keeps =
+    recorded.curves ∙ sym (rates-kept edit recorded.before keeps) ∙ ap all_discounts (sym recorded.is)
+rows-after factors after edit listed rows places kept edges recorded (Some new) are = are

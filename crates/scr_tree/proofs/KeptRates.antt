@@ -1,0 +1,63 @@
+-- The discounts of all currencies stay where a record leaves their rates as they are.
+use Rattle.std.proofs.Common.{◌≡◌, ℕ, true, List, [], ◌∷◌, map, Option, Some, None, refl, sym, ap, ◌∙◌}
+use Rattle.std.specs.Option.{option_map_or}
+use Rattle.scr_names.specs.Tables.{row_of, with_row, changed}
+use Rattle.scr_names.proofs.TableRows.{same_or_other, same_name-is, name_of-row_of, row_of-here, row_of-later, with_row-here, with_row-later}
+use Rattle.scr_sheet.specs.BalanceSheet.{curve_name}
+use Rattle.scr_sheet.specs.Records.{applied, with_absorb}
+use Rattle.scr_sheet.specs.declared.edit.Edit.{Edit}
+use Rattle.scr_sheet.specs.declared.edit.Edit.TheVariants as edits
+use Rattle.scr_sheet.specs.declared.keys.AbsorbKey.{AbsorbKey}
+use Rattle.scr_sheet.specs.declared.keys.AbsorbKey.TheVariants as absorb
+use Rattle.scr_sheet.specs.declared.keys.Table.TheVariants as tables
+use Rattle.scr_sheet.specs.declared.rows.Curve.{Curve}
+use Rattle.scr_sheet.specs.declared.sheet.BalanceSheet.{BalanceSheet}
+use Rattle.scr_plan.specs.Discounts.{CurrencyDiscounts, discounts_at}
+use Rattle.scr_plan.specs.Kept.{all_discounts}
+use Rattle.scr_tree.specs.KeptRates.{keeps_rates}
+
+module _ {Row X : Type 0} (name_of : Row → List ℕ) (f : Row → X) where
+  -- a row in the place of one of its name that is the same for the map
+  map-with_row : (new old : Row) (rows : List Row) → row_of name_of (name_of new) rows ≡ Some old → f new ≡ f old
+      → map f (with_row name_of new rows) ≡ map f rows
+  map-with_row new old [] found same = let no : None ≡ Some old = found in absurd (cc)
+  map-with_row new old (row ∷ rows) found same =
+      same_or_other (name_of new) (name_of row)
+      (λ e. let is : Some row ≡ Some old = sym (row_of-here name_of (name_of new) row rows e) ∙ found in
+      ap (map f) (with_row-here name_of new row rows e) ∙ ap (λ x. x ∷ map f rows) (same ∙ ap f (sym (cc))))
+      (λ e. ap (map f) (with_row-later name_of new row rows e)
+      ∙ ap (λ xs. f row ∷ xs) (map-with_row new old rows (sym (row_of-later name_of (name_of new) row rows e) ∙ found) same))
+
+  -- a row changed so that its name stays and it is the same for the map
+  map-changed : (change : Row → Row) (name : List ℕ) (rows : List Row)
+      → ((row : Row) → name_of (change row) ≡ name_of row) → ((row : Row) → f (change row) ≡ f row)
+      → map f (changed name_of change name rows) ≡ map f rows
+  map-changed change name rows named same = by (row_of name_of name rows) refl
+    where
+      by : (found : Option Row) → row_of name_of name rows ≡ found
+          → map f (option_map_or (λ row. with_row name_of (change row) rows) found rows) ≡ map f rows
+      by None e = refl
+      by (Some row) e =
+          let own : name ≡ name_of (change row) = same_name-is name (name_of row) (name_of-row_of name_of name rows row e)
+          ∙ sym (named row) in
+          map-with_row (change row) row rows (ap (λ n. row_of name_of n rows) (sym own) ∙ e) (same row)
+
+abbrev at_rates : Curve → CurrencyDiscounts
+at_rates curve = discounts_at curve.rates
+
+absorb-keeps : (key : AbsorbKey) (cents : ℕ) (curves : List Curve)
+    → map at_rates (with_absorb key cents curves) ≡ map at_rates curves
+absorb-keeps (absorb.CurrencyUp currency) cents curves =
+    map-changed curve_name at_rates (λ c. record c { absorb_up = cents }) currency curves (λ c. refl) (λ c. refl)
+absorb-keeps (absorb.CurrencyDown currency) cents curves =
+    map-changed curve_name at_rates (λ c. record c { absorb_down = cents }) currency curves (λ c. refl) (λ c. refl)
+absorb-keeps key cents curves = refl
+
+pub rates-kept : (edit : Edit) (sheet : BalanceSheet) → keeps_rates edit ≡ true
+    → all_discounts (applied edit sheet) ≡ all_discounts sheet
+unfolding discounts_at
+rates-kept (edits.Curve currency rates) sheet keeps = absurd (cc)
+rates-kept (edits.Remove tables.Curve name) sheet keeps = absurd (cc)
+rates-kept (edits.Remove table name) sheet keeps = refl
+rates-kept (edits.Absorb key cents) sheet keeps = absorb-keeps key _ sheet.curves
+rates-kept edit sheet keeps = refl

@@ -1,0 +1,188 @@
+//! What an accepted record changes of an engine beside the book: all that takes memory first, and
+//! then the writes.
+ghost use Rattle.std.specs.Prelude.{◌≡◌, ◌≤◌, ◌<◌, ℕ, All, length, slice_get, IfOk, OnOk, OnErr};
+ghost use Rattle.std.specs.Option.{option_map_or};
+ghost use Rattle.scr_plan.specs.Kept.{rows_of, all_discounts};
+ghost use Rattle.scr_rounds.specs.declared.ranks.Due.{Due};
+ghost use Rattle.scr_reach.specs.Dues.{AreRelinked, numbers_of, sources_count};
+ghost use Rattle.scr_reach.specs.Linked.{Grows};
+ghost use Rattle.scr_reach.specs.Relinking.{AreLinkable};
+ghost use Rattle.scr_tree.specs.Changed.{AreRowsFor, IsChangeOf, IsRecorded, StepsReach};
+ghost use Rattle.scr_tree.specs.Dues.{AreWritten};
+ghost use Rattle.scr_tree.specs.KeptRates.{keeps_rates};
+
+use crate::edits::{dues_of, enter_all};
+use crate::figures::{Figure, Fresh};
+use crate::reckon::Losses;
+use crate::rounds::reckon_dues;
+use scr_book::{Book, Edit, Table};
+use scr_factors::Factors;
+use scr_io::Gate;
+use scr_links::Links;
+use scr_nodes::Node;
+use scr_plan::{Curves, curves};
+use scr_reach::{Places, Starts, relink};
+use scr_rounds::Due;
+use scr_steps::Steps;
+use std::alloc::{AllocError as NoMemory, Global};
+use std::sync::ledger::Ledger;
+use std::thread::Threads;
+
+/// What a record changes: the discounts, where it changes rates; what stands at the starts, of which
+/// the links are made anew; and the figures of all that is reached from there.
+#[derive(Drop)]
+pub(crate) struct Change {
+    curves: Option<Curves>,
+    starts: Starts,
+    dues: Vec<Due>,
+    fresh: Fresh,
+}
+
+/// What a record changes that the book has taken. Only want of memory is refused, and then no figure
+/// and no link has changed.
+pub(crate) fn change_of<R: Threads + Sync, G: Gate + Sync, L: Ledger>(
+    rt: &R,
+    alloc: Global,
+    factors: &Factors,
+    book: &Book,
+    kept_curves: &Curves,
+    places: &mut Places,
+    figures: &mut Vec<Figure>,
+    links: &mut Links,
+    touched: &[Node],
+    edit: &Edit,
+    workers: u32,
+    gate: &G,
+    steps: &mut Steps<L>,
+) -> Result<Change, NoMemory>
+    requires { IsRecorded factors.now book.now edit.now touched.now (rows_of kept_curves.now)
+        places.old figures.old.items links.old.edges }
+    ensures grown { Grows places.old places.new }
+    ensures room { length places.new ≤ length figures.new.items }
+    ensures kept { (place : ℕ) → place < length places.old
+        → slice_get figures.new.items place ≡ slice_get figures.old.items place }
+    ensures links { links.new.edges ≡ links.old.edges }
+    ensures change { IfOk result (IsChangeOf factors.now book.now (rows_of kept_curves.now)
+        places.new figures.new.items links.new) }
+    ensures steps { OnOk result (workers ≡ 1
+        → StepsReach book.now touched.now steps.old steps.new) }
+{
+    let starts = enter_all(alloc, places, figures, touched)?;
+    let size = places.len();
+    let dues = dues_of(alloc, book.sheet(), places, links, &starts)?;
+    reserve(alloc, links, size, &dues)?;
+    let curves = new_curves(alloc, factors, book, edit)?;
+    let fresh = reckon_dues(
+        rt,
+        alloc,
+        factors,
+        book,
+        new_or_kept(&curves, kept_curves),
+        &Losses::Each,
+        places,
+        figures,
+        &dues,
+        workers,
+        gate,
+        steps,
+    )?;
+    Ok(Change {
+        curves,
+        starts,
+        dues,
+        fresh,
+    })
+}
+
+/// The discounts where the record changes rates.
+fn new_curves(
+    alloc: Global,
+    factors: &Factors,
+    book: &Book,
+    edit: &Edit,
+) -> Result<Option<Curves>, NoMemory>
+    ensures { IfOk result (AreRowsFor edit.now book.now) }
+{
+    if keeps_rates(edit) {
+        return Ok(None);
+    }
+    Ok(Some(curves(alloc, factors, book)?))
+}
+
+/// The new discounts, and where there are none those that are kept.
+fn new_or_kept<'a>(new: &'a Option<Curves>, kept: &'a Curves) -> &'a Curves
+    ensures { rows_of result.now ≡ option_map_or rows_of new.now (rows_of kept.now) }
+{
+    match new {
+        Some(curves) => curves,
+        None => kept,
+    }
+}
+
+/// The record leaves the rates of all currencies as they are.
+fn keeps_rates(edit: &Edit) -> bool
+    ensures { result ≡ keeps_rates edit.now }
+{
+    !matches!(
+        edit,
+        Edit::Curve { .. }
+            | Edit::Remove {
+                table: Table::Curve,
+                ..
+            }
+    )
+}
+
+/// Room for the links of all dues, between so many places.
+fn reserve(alloc: Global, links: &mut Links, size: usize, dues: &[Due]) -> Result<(), NoMemory>
+    ensures edges { links.new.edges ≡ links.old.edges }
+    ensures size { OnOk result (size ≤ links.new.size) }
+    ensures spare { OnOk result (sources_count dues.now ≤ links.new.spare) }
+{
+    let count = count_of(dues)?;
+    match u32::try_from(size) {
+        Ok(size) => links.reserve(alloc, count, size),
+        Err(_) => Err(NoMemory),
+    }
+}
+
+/// How many sources all dues have, as far as edges can be numbered.
+fn count_of(dues: &[Due]) -> Result<u32, NoMemory>
+    ensures { IfOk result (λ count. count ≡ sources_count dues.now) }
+{
+    let mut count: u32 = 0;
+    for due in dues {
+        let Ok(more) = u32::try_from(due.sources.len()) else {
+            return Err(NoMemory);
+        };
+        let Some(sum) = count.checked_add(more) else {
+            return Err(NoMemory);
+        };
+        count = sum;
+    }
+    Ok(count)
+}
+
+impl Change {
+    /// Writes the change, without memory.
+    pub(crate) fn make(self, curves: &mut Curves, figures: &mut Vec<Figure>, links: &mut Links)
+        requires within { All (λ (due : Due). due.number < length figures.old.items) self.dues.items }
+        requires linkable { AreLinkable links.old self.dues.items }
+        ensures curves { rows_of curves.new ≡ option_map_or rows_of self.curves (rows_of curves.old) }
+        ensures figures { AreWritten self.fresh (numbers_of self.dues.items) figures.old.items figures.new.items }
+        ensures count { length figures.new.items ≡ length figures.old.items }
+        ensures links { AreRelinked self.starts self.dues.items links.old.edges links.new.edges }
+    {
+        let Change {
+            curves: new_curves,
+            starts,
+            dues,
+            fresh,
+        } = self;
+        fresh.write(&dues, figures.as_mut_slice());
+        relink(links, &starts, &dues);
+        if let Some(new_curves) = new_curves {
+            *curves = new_curves;
+        }
+    }
+}

@@ -1,0 +1,4 @@
+pub mod Matched
+pub mod Steps
+pub mod Spelling
+pub mod Workers
