@@ -1,0 +1,84 @@
+//! Tells how many figures a run evaluates for its book and for each record of its edits: it takes the words of `scr`, and
+//! prints the first line of each piece of the report with the number of evaluations since the piece before.
+#![tactic(auto)]
+
+use scr_io::{Gate, HostShelf, HostSink};
+use scr_run::run;
+use std::env;
+use std::io::{self, Write};
+use std::process::ExitCode;
+use std::sync::atomic::{AtomicU64, Ordering};
+
+/// A gate that counts what passes it.
+#[derive(Drop)]
+struct Counter {
+    passes: AtomicU64,
+}
+
+impl Gate for Counter {
+    fn pass(&self, _node: u32) {
+        self.passes.fetch_add(1, Ordering::Relaxed);
+    }
+}
+
+/// A writer that takes each piece whole, and hands its first line on with what passed since.
+#[derive(Drop)]
+struct Tally<'a, W: Write> {
+    out: W,
+    gate: &'a Counter,
+    told: u64,
+}
+
+impl<W: Write> Write for Tally<'_, W> {
+    fn write(&mut self, buf: &[u8]) -> io::Result<usize> {
+        let passes = self.gate.passes.load(Ordering::Relaxed);
+        let line = first_line(buf);
+        self.out.write_all(line)?;
+        writeln!(self.out, " evaluations {}", passes.wrapping_sub(self.told))?;
+        self.told = passes;
+        Ok(buf.len())
+    }
+
+    fn flush(&mut self) -> io::Result<()> {
+        self.out.flush()
+    }
+}
+
+fn first_line(piece: &[u8]) -> &[u8] {
+    match piece.iter().position(|byte| *byte == b'\n') {
+        Some(end) => &piece[..end],
+        None => piece,
+    }
+}
+
+fn main(rt: HostRuntime) -> ExitCode {
+    let gate = Counter {
+        passes: AtomicU64::new(0),
+    };
+    let Ok(words) = arguments(&rt) else {
+        return ExitCode::from(7);
+    };
+    let mut sink = HostSink::new(Tally {
+        out: rt.stdout(),
+        gate: &gate,
+        told: 0,
+    });
+    let status = run(
+        &rt,
+        rt.alloc(),
+        words.as_slice(),
+        &mut HostShelf::new(&rt),
+        &mut sink,
+        &gate,
+    );
+    ExitCode::from(status.code())
+}
+
+/// The words after the program's name.
+fn arguments(rt: &HostRuntime) -> io::Result<Vec<String>> {
+    let mut words = Vec::new(rt.alloc());
+    for word in env::args(rt)?.skip(1) {
+        words.push(word)?;
+    }
+    Ok(words)
+}
