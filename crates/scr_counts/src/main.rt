@@ -2,6 +2,9 @@
 //! prints the first line of each piece of the report with the number of evaluations since the piece before.
 #![tactic(auto)]
 
+ghost use Rattle.std.specs.Prelude.{◌≡◌, ◌≤◌, ◌<◌, ◌+◌, ◌==◌, IfSome, length, position};
+ghost use Rattle.scr_counts.specs.FirstLine as piece;
+
 use scr_io::{Gate, HostShelf, HostSink};
 use scr_run::run;
 use std::env;
@@ -34,7 +37,7 @@ impl<W: Write> Write for Tally<'_, W> {
         let passes = self.gate.passes.load(Ordering::Relaxed);
         let line = first_line(buf);
         self.out.write_all(line)?;
-        writeln!(self.out, " evaluations {}", passes.wrapping_sub(self.told))?;
+        writeln!(self.out, " evaluations {}", since(passes, self.told))?;
         self.told = passes;
         Ok(buf.len())
     }
@@ -44,11 +47,29 @@ impl<W: Write> Write for Tally<'_, W> {
     }
 }
 
-fn first_line(piece: &[u8]) -> &[u8] {
-    match piece.iter().position(|byte| *byte == b'\n') {
-        Some(end) => &piece[..end],
-        None => piece,
+/// What passed since so many were told.
+fn since(passes: u64, told: u64) -> u64
+    ensures { told ≤ passes → result + told ≡ passes }
+{
+    passes.saturating_sub(told)
+}
+
+/// The bytes of a piece before its first newline.
+fn first_line(bytes: &[u8]) -> &[u8]
+    ensures { result.now ≡ piece.first_line bytes.now }
+{
+    match newline_at(bytes) {
+        Some(end) => &bytes[..end],
+        None => bytes,
     }
+}
+
+/// The place of the first newline.
+fn newline_at(bytes: &[u8]) -> Option<usize>
+    ensures place { result ≡ position (λ b. b == 10) bytes.now }
+    ensures within { IfSome result (λ end. end < length bytes.now) }
+{
+    bytes.iter().position(|b| *b == b'\n')
 }
 
 fn main(rt: HostRuntime) -> ExitCode {
