@@ -9,11 +9,11 @@ use Rattle.scr_num.specs.Enclosure.{Encloses}
 use Rattle.scr_num.specs.Amounts.{IsAmount}
 use Rattle.scr_num.proofs.AmountBounds.{amount-exact, amount-hull, amount-max, amount-cut}
 use Rattle.scr_num.proofs.SumLemmas.{Encloses-cut_last}
-use Rattle.scr_agg.specs.Absorbed.{net_ends, net_amount}
+use Rattle.scr_agg.specs.Absorbed.{net_ends, net_exact}
 use Rattle.scr_agg.specs.Unbeaten.{Alternative, alternative_at, unbeaten, hull_of, greatest_of, chosen_gross}
 use Rattle.scr_agg.specs.Unbeaten.{chosen_net}
 use Rattle.scr_agg.proofs.NetAmounts.{Encloses-net}
-use Rattle.scr_agg.proofs.ExactAmounts.{Encloses-greater, Encloses-net_amount}
+use Rattle.scr_agg.proofs.ExactAmounts.{Encloses-greater, Encloses-net_exact}
 
 pub amount-net : (most : ℕ) (gross : Ends) (absorb : ℕ) → gross.low ≤ℤ gross.high → gross.high ≤ℤ pos most
     → IsAmount most (net_ends gross absorb)
@@ -21,10 +21,10 @@ amount-net most gross absorb order high =
     amount-cut most (sub_ends gross (exact_ends (pos (1000 * absorb)))) (omega (arith, ints)) (omega (arith, ints))
 
 pub Encloses-left : (gross : Ends) (absorb : ℕ) (p : Fraction) → Encloses 1000 gross.low gross.high (Frac p)
-    → Encloses 1000 (net_ends gross absorb).low (net_ends gross absorb).high (Frac (net_amount p absorb))
+    → Encloses 1000 (net_ends gross absorb).low (net_ends gross absorb).high (Frac (net_exact p absorb))
 Encloses-left gross absorb p h =
     let e = net_ends gross absorb in
-    Encloses-net_amount 1000 e.low e.high p absorb (Encloses-net gross absorb (Frac p) h)
+    Encloses-net_exact 1000 e.low e.high p absorb (Encloses-net gross absorb (Frac p) h)
 
 pub Encloses-counted : (unit : ℕ) (e : Ends) (p : Fraction) → Encloses unit e.low e.high (Frac p)
     → let cut = max_ends e (exact_ends (pos 0)) in Encloses unit cut.low cut.high (Frac (greater p zero_fraction))

@@ -4,7 +4,7 @@ use Rattle.scr_num.specs.Fraction.{Fraction, ◌≼◌, over, minus, whole, zero
 use Rattle.scr_num.specs.Figure.{Frac, Max, AtMost}
 use Rattle.scr_num.specs.Enclosure.{Encloses}
 use Rattle.scr_num.proofs.Fractions.{≼_refl, ≼_trans, minus_mono}
-use Rattle.scr_agg.specs.Absorbed.{net_figure, net_amount}
+use Rattle.scr_agg.specs.Absorbed.{net_figure, net_exact}
 use Rattle.scr_agg.proofs.Chosen.{not_less, less_le}
 
 -- ---- the greater of two fractions
@@ -43,11 +43,11 @@ Encloses-greater unit low high p q h = record {
 }
 
 -- what is at most and at least a difference, as one of the difference
-pub Encloses-net_amount : (unit : ℕ) (low high : ℤ) (gross : Fraction) (absorb : ℕ)
+pub Encloses-net_exact : (unit : ℕ) (low high : ℤ) (gross : Fraction) (absorb : ℕ)
     → Encloses unit low high (net_figure (Frac gross) absorb)
-    → Encloses unit low high (Frac (net_amount gross absorb))
+    → Encloses unit low high (Frac (net_exact gross absorb))
 unfolding AtMost
-Encloses-net_amount unit low high gross absorb h =
+Encloses-net_exact unit low high gross absorb h =
     let taken = whole (pos absorb) in
     let left = minus gross taken in
     let b = h.at_least.1 in

@@ -15,5 +15,5 @@ abbrev pub net_ends : Ends → ℕ → Ends
 net_ends gross absorb = max_ends (exact_ends (pos 0)) (sub_ends gross (exact_ends (pos (1000 * absorb))))
 
 -- what is left of an exact amount
-abbrev pub net_amount : Fraction → ℕ → Fraction
-net_amount gross absorb = greater zero_fraction (minus gross (whole (pos absorb)))
+abbrev pub net_exact : Fraction → ℕ → Fraction
+net_exact gross absorb = greater zero_fraction (minus gross (whole (pos absorb)))

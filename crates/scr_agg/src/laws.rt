@@ -12,7 +12,7 @@ ghost use Rattle.scr_num.specs.Amounts.{IsAmount, AreAmounts};
 ghost use Rattle.scr_num.specs.Table.{IsSquare};
 ghost use Rattle.scr_profile.specs.declared.matrix.Matrix.{Matrix};
 ghost use Rattle.scr_agg.specs.Correlated.{table_of, CellsWithin};
-ghost use Rattle.scr_agg.specs.Absorbed.{net_figure, net_ends, net_amount};
+ghost use Rattle.scr_agg.specs.Absorbed.{net_figure, net_ends, net_exact};
 ghost use Rattle.scr_agg.specs.Choice.{Outcome, IsChosen, chosen, outcome_at};
 ghost use Rattle.scr_agg.specs.Unbeaten.{Alternative, EncloseOutcomes, HasSeveral, Holds, unbeaten};
 ghost use Rattle.scr_agg.specs.Unbeaten.{alternative_at, is_beaten, mask_of, chosen_gross};
@@ -28,7 +28,7 @@ pub fn absorption()
     ensures fraction { (gross : Ends) (absorb : ℕ) (amount : Fraction)
         → Encloses 1000 gross.low gross.high (Frac amount)
         → Encloses 1000 (net_ends gross absorb).low (net_ends gross absorb).high
-        (Frac (net_amount amount absorb)) }
+        (Frac (net_exact amount absorb)) }
     ensures size { (most : ℕ) (gross : Ends) (absorb : ℕ) → gross.low ≤ℤ gross.high
         → gross.high ≤ℤ pos most
         → IsAmount most (net_ends gross absorb) }
@@ -58,7 +58,7 @@ pub fn exact_amounts()
         → Encloses unit low high (Frac (greater p q)) }
     ensures net { (unit : ℕ) (low high : ℤ) (gross : Fraction) (absorb : ℕ)
         → Encloses unit low high (net_figure (Frac gross) absorb)
-        → Encloses unit low high (Frac (net_amount gross absorb)) }
+        → Encloses unit low high (Frac (net_exact gross absorb)) }
     ensures counted { (unit : ℕ) (e : Ends) (amount : Fraction)
         → Encloses unit e.low e.high (Frac amount)
         → let cut = max_ends e (exact_ends (pos 0)) in

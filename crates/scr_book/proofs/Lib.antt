@@ -1,6 +1,9 @@
 pub mod OpeningSheet
 pub mod Reduced
 pub mod Moved
+pub mod LastDays
+pub mod LastYears
 pub mod Holders
+pub mod ComponentCounts
 pub mod Applied
 pub mod Anew

@@ -3,4 +3,6 @@ pub mod Places
 pub mod Kept
 pub mod Verbs
 pub mod Holders
+pub mod LastDays
+pub mod ComponentCounts
 pub mod Undone

@@ -16,6 +16,7 @@ use crate::{
 };
 use scr_graph::FundGraph;
 use scr_profile::Set;
+use scr_tally::{DayTally, NameTally};
 use std::alloc::{AllocError as NoMemory, Global};
 use std::marker::Model;
 
@@ -24,6 +25,10 @@ use std::marker::Model;
 pub struct Book {
     pub(crate) sheet: BalanceSheet,
     pub(crate) sums: Sums,
+    /// The last days of all lists of payments.
+    pub(crate) days: DayTally,
+    /// How often each name is a component of a fund.
+    pub(crate) holders: NameTally,
     pub(crate) graph: FundGraph,
     /// The graph is another's, and has to be made anew before it is used.
     pub(crate) is_graph_due: bool,
@@ -47,6 +52,7 @@ impl Book {
         ensures { IfOk result (λ book. book ≡ opening) }
     {
         let graph = FundGraph::new(alloc)?;
+        let days = DayTally::new(alloc)?;
         Ok(Book {
             sheet: BalanceSheet::opening(alloc)?,
             sums: Sums {
@@ -57,6 +63,8 @@ impl Book {
                 defaults: 0,
                 components: 0,
             },
+            days,
+            holders: NameTally::new(alloc),
             graph,
             is_graph_due: false,
         })

@@ -1,12 +1,13 @@
 //! Whether a record may be applied.
-ghost use Rattle.std.specs.Prelude.{◌≡◌, None};
-ghost use Rattle.scr_sheet.specs.Faults.{unknown_name, wrong_kind, cycle, fault_of, Answers};
+ghost use Rattle.std.specs.Prelude.{◌≡◌, None, true};
+ghost use Rattle.scr_sheet.specs.Faults.{unknown_name, wrong_kind, in_use, cycle, fault_of, Answers};
+ghost use Rattle.scr_sheet.specs.Users.{user_of, holder_of};
 ghost use Rattle.scr_sheet.specs.Forms.{Formed};
 ghost use Rattle.scr_book.specs.Holders.{IsGraphOf};
 
 use crate::due::graph_of;
 use crate::ranges::check_ranges;
-use crate::{BalanceSheet, Book, Components, Edit, Fault, Name};
+use crate::{BalanceSheet, Book, Components, Edit, Fault, Name, Table};
 use scr_graph::{FundGraph, GraphFault};
 use scr_sheet::{check_kinds, check_lists, check_names, check_uses};
 use std::alloc::{AllocError as NoMemory, Global};
@@ -25,13 +26,46 @@ pub fn check(alloc: Global, book: &Book, edit: &Edit) -> Result<(), Fault>
     if let Err(fault) = check_kinds(book.sheet(), edit) {
         return Err(fault);
     }
-    if let Err(fault) = check_uses(book.sheet(), edit) {
+    if let Err(fault) = check_users(book, edit) {
         return Err(fault);
     }
     if let Err(fault) = check_cycle(alloc, book, edit) {
         return Err(fault);
     }
     check_ranges(book, edit)
+}
+
+// ---- nothing uses what would be dropped
+
+// Only where something may use it are the rows looked at, for the first user.
+fn check_users(book: &Book, edit: &Edit) -> Result<(), Fault>
+    ensures { Answers (in_use edit.now book.now) result }
+{
+    match edit {
+        Edit::Remove { table, name } if is_idle(book, *table, name) => Ok(()),
+        _ => check_uses(book.sheet(), edit),
+    }
+}
+
+// By what the book counts, nothing uses the row.
+fn is_idle(book: &Book, table: Table, name: &Name) -> bool
+    ensures { result ≡ true → user_of table name.now book.now ≡ None }
+{
+    match table {
+        Table::Security | Table::Fund => is_holding_idle(book, name),
+        Table::Liability | Table::Bank | Table::Rein => true,
+        Table::Group | Table::Curve => false,
+    }
+}
+
+// Nothing is held of the security or fund, and no fund has it as a component.
+fn is_holding_idle(book: &Book, name: &Name) -> bool
+    ensures { result ≡ true → holder_of name.now book.now ≡ None }
+{
+    if book.holders.is_unused(name) {
+        return book.held(name) == 0;
+    }
+    false
 }
 
 // ---- no fund holds itself

@@ -3,6 +3,8 @@
 
 mod book;
 mod checks;
+mod components;
+mod days;
 mod due;
 mod parts;
 mod puts;

@@ -1,13 +1,43 @@
-//! What the row of a name is of a sum that the book keeps.
-ghost use Rattle.std.specs.Prelude.{◌≡◌, ◌+◌, ◌≤◌, length};
+//! What the row of a name is of a sum or a count that the book keeps.
+ghost use Rattle.std.specs.Prelude.{◌≡◌, ℤ, [], ◌+◌, ◌≤◌, length};
 ghost use Rattle.std.specs.Option.{option_map_or};
 ghost use Rattle.scr_names.specs.Tables.{row_of};
-ghost use Rattle.scr_sheet.specs.CashFlows.{total, flows_under};
+ghost use Rattle.scr_tally.specs.Days.{ends_on, IsDayOrNone};
+ghost use Rattle.scr_sheet.specs.CashFlows.{total, last_day, flows_under};
+ghost use Rattle.scr_sheet.specs.Records.{kept_flows};
+ghost use Rattle.scr_book.specs.LastDays.{lists_ending};
 ghost use Rattle.scr_sheet.specs.BalanceSheet.{stake_name, liability_name, bank_name, rein_name, liability_flows_total, defaults_total, components_total};
 
 use crate::{Book, Name, Projection};
+use scr_dates::Day;
 
 impl Book {
+    // The last day of the payments of the security of this name, none where it pays nothing or is not there.
+    pub(crate) fn last_promised(&self, name: &Name) -> Option<Day>
+        ensures value { result ≡ last_day (kept_flows name.now self.now.securities) }
+        ensures on_day { IsDayOrNone result }
+        ensures part { (day : ℤ) → ends_on day result ≤ lists_ending day self.now }
+    {
+        match self.sheet().securities.get(name) {
+            Some(position) => position.security.flows.last_day(),
+            None => None,
+        }
+    }
+
+    // The last day of the payments of the liability of this name under the projection.
+    pub(crate) fn last_projected(&self, name: &Name, projection: Projection) -> Option<Day>
+        ensures value { result
+            ≡ last_day (option_map_or (λ l. flows_under projection l.flows)
+            (row_of liability_name name.now self.now.liabilities) []) }
+        ensures on_day { IsDayOrNone result }
+        ensures part { (day : ℤ) → ends_on day result ≤ lists_ending day self.now }
+    {
+        match self.sheet().liabilities.get(name) {
+            Some(liability) => liability.flows.under(projection).last_day(),
+            None => None,
+        }
+    }
+
     // The number of components of the fund of this name, 0 where there is none.
     pub(crate) fn component_count(&self, name: &Name) -> u64
         ensures value { result

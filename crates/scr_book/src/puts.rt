@@ -10,6 +10,8 @@ ghost use Rattle.scr_sheet.specs.Records.{applied};
 ghost use Rattle.scr_names.specs.Tables.{row_of};
 ghost use Rattle.scr_book.specs.Verbs.{is_of_numbers, takes_no_memory};
 
+use crate::components::{exchange_components, renew, take_components};
+use crate::days::take_projected;
 use crate::due::refresh;
 use crate::{
     AbsorbKey, Bank, Book, Class, Components, Curve, Edit, Flows, Fund, Group, GroupKind,
@@ -17,7 +19,7 @@ use crate::{
     Stake, Table,
 };
 use scr_profile::Set;
-use scr_sheet::natural;
+use scr_sheet::{PROJECTIONS, natural};
 use std::alloc::{AllocError as NoMemory, Global};
 
 impl Book {
@@ -172,6 +174,9 @@ impl Book {
         ensures err { OnErr result (self.new ≡ self.old) }
     {
         let promised = flows.copy(alloc)?;
+        let old = self.last_promised(name);
+        self.days.take(old);
+        self.days.add(flows.last_day());
         self.sheet
             .securities
             .change(name, |position| position.security.flows = promised);
@@ -196,12 +201,20 @@ impl Book {
         refresh(&mut self.graph, self.is_graph_due, alloc, &self.sheet)?;
         self.graph.enter(*name)?;
         self.graph.put(alloc, name, components.as_slice())?;
+        renew(&mut self.holders, alloc, &self.sheet.funds);
+        exchange_components(
+            &mut self.holders,
+            &self.sheet.funds,
+            name,
+            components.as_slice(),
+        );
         let fund = Fund {
             name: *name,
             components,
         };
         let Ok(()) = self.sheet.funds.put(Stake { fund, held }) else {
             self.graph.clear(name);
+            self.holders.lose();
             return Err(NoMemory);
         };
         self.sums.components = self.sums.components - old + new;
@@ -268,6 +281,9 @@ impl Book {
         let projected = flows.copy(alloc)?;
         let old = self.liability_total(name, projection);
         let new = flows.total() as u64;
+        let last = self.last_projected(name, projection);
+        self.days.take(last);
+        self.days.add(flows.last_day());
         self.sheet.liabilities.change(name, |liability| liability.flows.put(projection, projected));
         self.sums.exchange_liability_flows(projection, old, new);
         Ok(())
@@ -356,13 +372,23 @@ impl Book {
     {
         match table {
             Table::Group => self.sheet.groups.remove(name),
-            Table::Security => self.sheet.securities.remove(name),
+            Table::Security => self.remove_security(name),
             Table::Fund => self.remove_fund(name),
             Table::Liability => self.remove_liability(name),
             Table::Bank => self.remove_bank(name),
             Table::Rein => self.remove_rein(name),
             Table::Curve => self.sheet.curves.remove(name),
         }
+    }
+
+    fn remove_security(&mut self, name: &Name)
+        requires formed { Formed (Edit.Remove Table.Security name.now) }
+        requires no_fault { fault_of (Edit.Remove Table.Security name.now) self.old ≡ None }
+        ensures { self.new ≡ applied (Edit.Remove Table.Security name.now) self.old }
+    {
+        let old = self.last_promised(name);
+        self.days.take(old);
+        self.sheet.securities.remove(name);
     }
 
     fn remove_fund(&mut self, name: &Name)
@@ -372,6 +398,7 @@ impl Book {
     {
         let old = self.component_count(name);
         self.graph.clear(name);
+        take_components(&mut self.holders, &self.sheet.funds, name);
         self.sheet.funds.remove(name);
         self.sums.components -= old;
     }
@@ -385,6 +412,7 @@ impl Book {
             return;
         };
         self.sums.take_liability(&liability.flows);
+        take_projected(&mut self.days, &liability.flows, &PROJECTIONS);
         self.sheet.liabilities.remove(name);
     }
 

@@ -1,6 +1,5 @@
 //! The quantities of the whole book, as a record would leave it.
 ghost use Rattle.std.specs.Prelude.{◌≡◌, ◌^◌, ◌+◌, ◌-◌, ◌<◌, ◌≤◌, None, true, if◌then◌else◌, length, max};
-ghost use Rattle.std.specs.List.{AllByRecursion};
 ghost use Rattle.std.specs.Option.{option_or, option_map_or};
 ghost use Rattle.scr_dates.specs.Civil.{IsDay};
 ghost use Rattle.scr_names.specs.Tables.{row_of, rows_with};
@@ -10,21 +9,19 @@ ghost use Rattle.scr_sheet.specs.BalanceSheet.{group_name, position_name, liabil
 ghost use Rattle.scr_sheet.specs.Faults.{Answers, list_fault, unknown_name, wrong_kind, in_use, out_of_range, sheet_outside, above};
 ghost use Rattle.scr_sheet.specs.Forms.{Formed, AreOnDays};
 ghost use Rattle.scr_sheet.specs.Records.{applied, natural};
-ghost use Rattle.scr_sheet.specs.Validity.{IsSecurity, IsLiability};
 ghost use Rattle.scr_book.specs.Verbs.{is_liability_flows, is_segment};
 
 use crate::{
-    Book, Components, Edit, Fault, Flows, Liability, MAX_AMOUNT, MAX_COMPONENTS, MAX_CURRENCIES,
+    Book, Components, Edit, Fault, Flows, MAX_AMOUNT, MAX_COMPONENTS, MAX_CURRENCIES,
     MAX_EXPOSURES, MAX_FUNDS, MAX_GROUPS, MAX_HELD, MAX_LIABILITIES, MAX_LIABILITY_FLOWS,
-    MAX_SECURITIES, MAX_YEARS, Name, Position, Projection, Quantity, Table,
+    MAX_SECURITIES, MAX_YEARS, Name, Projection, Quantity, Table,
 };
 use scr_dates::{Day, Maturity, maturity};
 use scr_profile::Set;
-use scr_sheet::{PROJECTIONS, Rows, above, fields_outside, first_of, natural};
+use scr_sheet::{above, fields_outside, first_of, natural};
 
 /// The first quantity that lies outside its limits in the book as the record would leave it. Sums are those that the
-/// book keeps, so a record costs its own length, that of the flows that it replaces and some look-ups; only a new
-/// reference date walks the rows, and looks at the last payment of each.
+/// book keeps, so a record costs its own length, that of the flows that it replaces and some look-ups.
 pub(crate) fn check_ranges(book: &Book, edit: &Edit) -> Result<(), Fault>
     requires formed { Formed edit.now }
     requires list { list_fault edit.now ≡ None }
@@ -295,14 +292,16 @@ fn outside_years(years: u16) -> Option<Fault>
     above(Quantity::Years, u128::from(years), u64::from(MAX_YEARS))
 }
 
-// The greatest number of years from the date to a payment of the book.
+// The greatest number of years from the date to a payment of the book, that of the last one.
 fn years_at(book: &Book, asof: Day) -> u16
     requires { IsDay asof.number }
     ensures { result ≡ max (greatest (security_years asof.number) book.now.securities)
         (greatest (liability_years asof.number) book.now.liabilities) }
 {
-    let securities = security_years(&book.sheet().securities, asof);
-    securities.max(all_liability_years(&book.sheet().liabilities, asof))
+    match book.days.last() {
+        Some(last) => years_of(maturity(asof, last)),
+        None => 0,
+    }
 }
 
 // The greatest number of years to a payment, that of the last one; none where it is past.
@@ -325,41 +324,4 @@ fn years_of(maturity: Maturity) -> u16
         Maturity::Years(years) => u16::from(years),
         Maturity::TooFar(years) => years,
     }
-}
-
-fn security_years(securities: &Rows<Position>, asof: Day) -> u16
-    requires asof_in { IsDay asof.number }
-    requires formed { AllByRecursion IsSecurity securities.now }
-    ensures { result ≡ greatest (security_years asof.number) securities.now }
-{
-    let mut most = 0;
-    for position in securities.iter() {
-        most = most.max(years(asof, &position.security.flows));
-    }
-    most
-}
-
-fn all_liability_years(liabilities: &Rows<Liability>, asof: Day) -> u16
-    requires asof_in { IsDay asof.number }
-    requires formed { AllByRecursion IsLiability liabilities.now }
-    ensures { result ≡ greatest (liability_years asof.number) liabilities.now }
-{
-    let mut most = 0;
-    for liability in liabilities.iter() {
-        most = most.max(liability_years(liability, &PROJECTIONS, asof));
-    }
-    most
-}
-
-fn liability_years(liability: &Liability, projections: &[Projection], asof: Day) -> u16
-    requires asof_in { IsDay asof.number }
-    requires formed { IsLiability liability.now }
-    ensures { result
-        ≡ greatest (λ projection. greatest_years asof.number (flows_under projection liability.now.flows)) projections.now }
-{
-    let mut most = 0;
-    for projection in projections {
-        most = most.max(years(asof, liability.flows.under(*projection)));
-    }
-    most
 }

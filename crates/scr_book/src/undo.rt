@@ -6,6 +6,7 @@ ghost use Rattle.scr_sheet.specs.Records.{applied};
 ghost use Rattle.scr_book.specs.Undone.{back, Fits};
 
 use crate::checks::check;
+use crate::days::recount;
 use crate::sums::Sums;
 use crate::{Book, Edit, Fault};
 use scr_sheet::Earlier;
@@ -63,7 +64,7 @@ impl Book {
         })
     }
 
-    /// The book as it was before the record, without memory.
+    /// The book as it was before the record, without memory. The last days of payments are counted anew.
     pub fn put_back(&mut self, undo: Undo)
         requires { Fits undo self.old }
         ensures { self.new ≡ back undo self.old }
@@ -72,5 +73,7 @@ impl Book {
         self.sheet.put_back(earlier);
         self.sums = sums;
         self.is_graph_due = true;
+        self.holders.lose();
+        recount(&mut self.days, &self.sheet);
     }
 }

@@ -20,7 +20,7 @@ pub(crate) fn bounds_at(engine: &Engine, node: &Node) -> Bounds
     requires { is_live engine.now.sheet node.now ≡ true }
     ensures { result ≡ bounds_at engine.now.factors engine.now.sheet node.now }
 {
-    let grains = engine.span(node);
+    let grains = engine.span(*node);
     Bounds {
         low: rounded_down(grains.low),
         high: rounded_up(grains.high),

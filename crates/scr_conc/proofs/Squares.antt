@@ -13,9 +13,9 @@ use Rattle.scr_num.proofs.AmountBounds.{is_amount, amount-scale}
 use Rattle.scr_num.proofs.Roots.{ceil_root-least, roots-in-order}
 use Rattle.scr_num.proofs.Enclosing.{Encloses-exact, Encloses-root_of, Encloses-divided, Encloses-same}
 use Rattle.scr_num.proofs.SumLemmas.{Encloses-sum_fraction}
-use Rattle.scr_conc.specs.Thresholds.{threshold_exact, factor_exact, threshold_of, charge_of}
+use Rattle.scr_conc.specs.Thresholds.{threshold_exact, factor_exact, threshold_units, factor_units}
 use Rattle.scr_conc.specs.Concentration.{Exposure, excess_exact, requirement_exact, square_exact, squares_exact, concentration_figure}
-use Rattle.scr_conc.specs.ConcentrationEnds.{requirement_units, square_units, square_of, squares_of, concentration_ends}
+use Rattle.scr_conc.specs.ConcentrationEnds.{requirement_units, square_units, exposure_square_units, squares_units, concentration_ends}
 use Rattle.scr_conc.proofs.Table.{threshold-exact, factor-exact, charge-size}
 
 -- ---- products of whole numbers of a finer unit
@@ -117,28 +117,28 @@ square-size base x ct g few =
 
 -- ---- the sum of all
 abbrev exacts : ℕ → List Exposure → List Ends
-exacts base exposures = map (λ (e : Exposure). exact_ends (pos (square_of base e))) exposures
+exacts base exposures = map (λ (e : Exposure). exact_ends (pos (exposure_square_units base e))) exposures
 
 each : (base : ℕ) (exposures : List Exposure) → EncloseEach 10000000000 (exacts base exposures)
     (map Frac (map (square_exact base) exposures))
 each base [] = tt
 each base (e ∷ rest) = (
-  Encloses-exact 10000000000 (pos (square_of base e)) (square_exact base e)
-      (square-exact base e.cents (threshold_of e.kind e.step) (charge_of e.kind e.step)
+  Encloses-exact 10000000000 (pos (exposure_square_units base e)) (square_exact base e)
+      (square-exact base e.cents (threshold_units e.kind e.step) (factor_units e.kind e.step)
       (threshold_exact e.kind e.step) (factor_exact e.kind e.step)
       (threshold-exact e.kind e.step) (factor-exact e.kind e.step)),
   each base rest,
 )
 
 sum_is : (base : ℕ) (exposures : List Exposure) → sum_ends (exacts base exposures) ≡ exact_ends
-    (pos (squares_of base exposures))
+    (pos (squares_units base exposures))
 sum_is base [] = refl
 sum_is base (e ∷ rest) =
-    ap (add_ends (exact_ends (pos (square_of base e)))) (sum_is base rest)
-    ∙ ap (λ (n : ℕ). exact_ends (pos n)) (sym (sum_by-cons (square_of base) e rest))
+    ap (add_ends (exact_ends (pos (exposure_square_units base e)))) (sum_is base rest)
+    ∙ ap (λ (n : ℕ). exact_ends (pos n)) (sym (sum_by-cons (exposure_square_units base) e rest))
 
 pub squares-enclosed : (base : ℕ) (exposures : List Exposure)
-    → let sum = squares_of base exposures in Encloses 10000000000 (pos sum) (pos sum)
+    → let sum = squares_units base exposures in Encloses 10000000000 (pos sum) (pos sum)
     (Frac (squares_exact base exposures))
 squares-enclosed base exposures =
     let is = sum_is base exposures in
@@ -154,24 +154,24 @@ root-encloses sum figure h =
     (Encloses-root_of 100000 (pos sum) (pos sum) figure h)
 
 pub concentration-encloses : (base : ℕ) (exposures : List Exposure)
-    → let e = concentration_ends (squares_of base exposures) in
+    → let e = concentration_ends (squares_units base exposures) in
     Encloses 1000 e.low e.high (concentration_figure base exposures)
 concentration-encloses base exposures =
-    root-encloses (squares_of base exposures) (Frac (squares_exact base exposures)) (squares-enclosed base exposures)
+    root-encloses (squares_units base exposures) (Frac (squares_exact base exposures)) (squares-enclosed base exposures)
 
 -- ---- how large they are
 squares-le : (base : ℕ) (exposures : List Exposure)
-    → let all = 73000 * sum_by (λ (e : Exposure). e.cents) exposures in squares_of base exposures ≤ all * all
+    → let all = 73000 * sum_by (λ (e : Exposure). e.cents) exposures in squares_units base exposures ≤ all * all
 squares-le base [] = omega arith
 squares-le base (e ∷ rest) =
-    let one = square-size base e.cents (threshold_of e.kind e.step) (charge_of e.kind e.step)
+    let one = square-size base e.cents (threshold_units e.kind e.step) (factor_units e.kind e.step)
     (charge-size e.kind e.step) in
     let others = squares-le base rest in
-    rw (sum_by-cons (square_of base) e rest, sum_by-cons (λ (x : Exposure). x.cents) e rest) (omega arith)
+    rw (sum_by-cons (exposure_square_units base) e rest, sum_by-cons (λ (x : Exposure). x.cents) e rest) (omega arith)
 
 pub squares-size : (base : ℕ) (exposures : List Exposure)
     → sum_by (λ (e : Exposure). e.cents) exposures ≤ 50000000000000
-    → squares_of base exposures ≤ 14 * 10 ^ 36
+    → squares_units base exposures ≤ 14 * 10 ^ 36
 squares-size base exposures few =
     let all : 73000 * sum_by (λ (e : Exposure). e.cents) exposures ≤ 3650000000000000000 = omega arith in
     omega (arith, squares-le base exposures, mul-le-mul all all)

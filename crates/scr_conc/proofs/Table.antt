@@ -12,7 +12,7 @@ use Rattle.scr_profile.specs.declared.group_kind.GroupKind.TheVariants.{Name, Co
 use Rattle.scr_profile.specs.StepTables.{thresholds, risk_factors}
 use Rattle.scr_profile.specs.declared.tables.TheConstants.{CT, G}
 use Rattle.scr_profile.proofs.Ranges.{all-range}
-use Rattle.scr_conc.specs.Thresholds.{thousandths_of_percent, threshold_of_step, factor_of_step, step_of, threshold_exact, factor_exact, threshold_of, charge_of}
+use Rattle.scr_conc.specs.Thresholds.{thousandths_of_percent, threshold_of_step, factor_of_step, step_of, threshold_exact, factor_exact, threshold_units, factor_units}
 
 int_eq-true : (a b : ℤ) → int_eq a b ≡ true → a ≡ b
 int_eq-true a b e = grind (arith, ints)
@@ -45,7 +45,7 @@ pub any_factor : (step : ℕ) → Measures 100 (pos (slice_index G step)) (facto
 any_factor step = any_step 100 G risk_factors step (lit< tt) (lit≤ tt) (lit≤ tt) refl
 
 pub threshold-exact : (kind : GroupKind) (step : Option ℕ)
-    → Measures 1000 (pos (threshold_of kind step)) (threshold_exact kind step)
+    → Measures 1000 (pos (threshold_units kind step)) (threshold_exact kind step)
 threshold-exact Name step = any_threshold (step_of step)
 threshold-exact Covered step = covered (nat_lt (step_of step) 2)
   where
@@ -58,7 +58,7 @@ threshold-exact Property step = record { positive = lit< tt; equal = refl }
 threshold-exact State step = any_threshold (step_of step)
 
 pub factor-exact : (kind : GroupKind) (step : Option ℕ)
-    → Measures 100 (pos (charge_of kind step)) (factor_exact kind step)
+    → Measures 100 (pos (factor_units kind step)) (factor_exact kind step)
 factor-exact Name step = any_factor (step_of step)
 factor-exact Covered step = any_factor (step_of step)
 factor-exact Property step = record { positive = lit< tt; equal = refl }
@@ -72,7 +72,7 @@ any_charge step =
       | inr ge ↦ rw (get_or-eq_default G 0 ge) (omega arith)
     ]
 
-pub charge-size : (kind : GroupKind) (step : Option ℕ) → charge_of kind step ≤ 73
+pub charge-size : (kind : GroupKind) (step : Option ℕ) → factor_units kind step ≤ 73
 charge-size Name step = any_charge (step_of step)
 charge-size Covered step = any_charge (step_of step)
 charge-size Property step = omega arith
@@ -85,7 +85,7 @@ any_limit step =
       | inr ge ↦ rw (get_or-eq_default CT 0 ge) (omega arith)
     ]
 
-pub threshold-size : (kind : GroupKind) (step : Option ℕ) → threshold_of kind step ≤ 150
+pub threshold-size : (kind : GroupKind) (step : Option ℕ) → threshold_units kind step ≤ 150
 threshold-size Name step = any_limit (step_of step)
 threshold-size Covered step =
     cond_both (nat_lt (step_of step) 2) 150 (slice_index CT (step_of step)) (λ n. n ≤ 150) (λ e. omega arith)

@@ -22,6 +22,7 @@ excess_exact assets exposure threshold = greater zero_fraction (minus exposure (
 abbrev pub requirement_exact : (assets exposure threshold factor : Fraction) → Fraction
 requirement_exact assets exposure threshold factor = product (excess_exact assets exposure threshold) factor
 
+-- the square of the requirement for one exposure, of which the assets are in cents
 abbrev pub square_exact : ℕ → Exposure → Fraction
 square_exact assets e =
     square

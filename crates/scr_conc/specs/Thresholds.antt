@@ -42,14 +42,14 @@ factor_exact Property step = percent 12
 factor_exact State step = percent 0
 
 -- ---- the same as whole numbers: thresholds in thousandths, and factors in hundredths
-abbrev pub threshold_of : GroupKind → Option ℕ → ℕ
-threshold_of Name step = slice_index CT (step_of step)
-threshold_of Covered step = if nat_lt (step_of step) 2 then 150 else slice_index CT (step_of step)
-threshold_of Property step = 100
-threshold_of State step = slice_index CT (step_of step)
+abbrev pub threshold_units : GroupKind → Option ℕ → ℕ
+threshold_units Name step = slice_index CT (step_of step)
+threshold_units Covered step = if nat_lt (step_of step) 2 then 150 else slice_index CT (step_of step)
+threshold_units Property step = 100
+threshold_units State step = slice_index CT (step_of step)
 
-abbrev pub charge_of : GroupKind → Option ℕ → ℕ
-charge_of Name step = slice_index G (step_of step)
-charge_of Covered step = slice_index G (step_of step)
-charge_of Property step = 12
-charge_of State step = 0
+abbrev pub factor_units : GroupKind → Option ℕ → ℕ
+factor_units Name step = slice_index G (step_of step)
+factor_units Covered step = slice_index G (step_of step)
+factor_units Property step = 12
+factor_units State step = 0

@@ -27,7 +27,7 @@ pub const MAX_SQUARES: u128 = 14_000_000_000_000_000_000_000_000_000_000_000_000
 /// and 187. A group without a credit quality step has that of step 5.
 pub fn threshold_of(kind: GroupKind, step: Option<u8>) -> u32
     requires { step_of step ≤ 6 }
-    ensures value { result ≡ table.threshold_of kind step }
+    ensures value { result ≡ table.threshold_units kind step }
     ensures exact { Measures 1000 (pos result) (threshold_exact kind step) }
     ensures size { result ≤ 150 }
 {
@@ -42,7 +42,7 @@ pub fn threshold_of(kind: GroupKind, step: Option<u8>) -> u32
 /// The risk factor of a group, in hundredths: Articles 186 and 187.
 pub fn charge_of(kind: GroupKind, step: Option<u8>) -> u32
     requires { step_of step ≤ 6 }
-    ensures value { result ≡ table.charge_of kind step }
+    ensures value { result ≡ table.factor_units kind step }
     ensures exact { Measures 100 (pos result) (factor_exact kind step) }
     ensures size { result ≤ 73 }
 {

@@ -24,34 +24,43 @@ impl Gate for Counter {
     }
 }
 
+/// How much of what passed is told.
+#[derive(Drop)]
+struct Told {
+    passes: u64,
+}
+
+impl Told {
+    /// What passed since so much was told, where all that passed is told from now on.
+    fn since(&mut self, passes: u64) -> u64
+        ensures since { self.old.passes ≤ passes → result + self.old.passes ≡ passes }
+        ensures told { self.new.passes ≡ passes }
+    {
+        let since = passes.saturating_sub(self.passes);
+        self.passes = passes;
+        since
+    }
+}
+
 /// A writer that takes each piece whole, and hands its first line on with what passed since.
 #[derive(Drop)]
 struct Tally<'a, W: Write> {
     out: W,
     gate: &'a Counter,
-    told: u64,
+    told: Told,
 }
 
 impl<W: Write> Write for Tally<'_, W> {
     fn write(&mut self, buf: &[u8]) -> io::Result<usize> {
-        let passes = self.gate.passes.load(Ordering::Relaxed);
-        let line = first_line(buf);
-        self.out.write_all(line)?;
-        writeln!(self.out, " evaluations {}", since(passes, self.told))?;
-        self.told = passes;
+        let since = self.told.since(self.gate.passes.load(Ordering::Relaxed));
+        self.out.write_all(first_line(buf))?;
+        writeln!(self.out, " evaluations {since}")?;
         Ok(buf.len())
     }
 
     fn flush(&mut self) -> io::Result<()> {
         self.out.flush()
     }
-}
-
-/// What passed since so many were told.
-fn since(passes: u64, told: u64) -> u64
-    ensures { told ≤ passes → result + told ≡ passes }
-{
-    passes.saturating_sub(told)
 }
 
 /// The bytes of a piece before its first newline.
@@ -82,7 +91,7 @@ fn main(rt: HostRuntime) -> ExitCode {
     let mut sink = HostSink::new(Tally {
         out: rt.stdout(),
         gate: &gate,
-        told: 0,
+        told: Told { passes: 0 },
     });
     let status = run(
         &rt,

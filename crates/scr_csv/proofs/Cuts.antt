@@ -1,9 +1,8 @@
 -- The first piece of a list that is cut at each item which passes a test.
-use Rattle.std.proofs.Common.{◌≡◌, ℕ, ◌+◌, ◌-◌, ◌<◌, Bool, true, false, cond, List, [], ◌∷◌, length, length-drop, take}
+use Rattle.std.proofs.Common.{◌≡◌, ℕ, ◌+◌, ◌<◌, Bool, true, false, cond, List, [], ◌∷◌, length, take}
 use Rattle.std.proofs.Common.{drop, refl, ap, ◌∙◌, arith, Some, None}
 use Rattle.std.specs.Prelude.{position, nat_lt}
 use Rattle.std.specs.List.{slice_split, position_or_len}
-use Rattle.std.proofs.lemmas.List.{take_all}
 use Rattle.std.proofs.lemmas.List.Quantifiers.{position-Some}
 use Rattle.std.proofs.lemmas.List.Splits.{slice_split_first, slice_split_none, length-slice_split}
 use Rattle.std.proofs.lemmas.List.Sums.{fails_before_first, position_or_len_is}
@@ -30,7 +29,3 @@ cut_nowhere test xs none =
 
 pub pieces_left : (test : ℕ → Bool) (xs : List ℕ) → 0 < length (slice_split test xs)
 pieces_left test xs = omega (arith, length-slice_split test xs)
-
--- a slice to the end is what is left
-pub all_left : (n : ℕ) (xs : List ℕ) → take (length xs - n) (drop n xs) ≡ drop n xs
-all_left n xs = take_all _ (drop n xs) (grind (arith, length-drop))

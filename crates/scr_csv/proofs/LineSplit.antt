@@ -1,9 +1,9 @@
 -- How a line is split into fields: csv's way is a cut at the commas where there is no double quote.
-use Rattle.std.proofs.Common.{◌≡◌, ℕ, ◌+◌, ◌≤◌, ◌==◌, ◌||◌, Bool, true, false, cond, List, [], ◌∷◌, ◌++◌, length}
+use Rattle.std.proofs.Common.{◌≡◌, ℕ, ◌+◌, ◌≤◌, ◌==◌, Bool, true, false, cond, List, [], ◌∷◌, ◌++◌, length}
 use Rattle.std.proofs.Common.{Option, Some, None, refl, ap, ◌∙◌, append_assoc, arith, length-append, inl, inr}
 use Rattle.std.specs.Prelude.{nat_le, option_map}
 use Rattle.std.specs.List.{list_all, list_any, onto_first}
-use Rattle.std.proofs.lemmas.Bool.{cases_Bool}
+use Rattle.std.proofs.lemmas.Bool.{cases_Bool, and_parts, or_parts}
 use Rattle.std.proofs.lemmas.List.{append-nil}
 use Rattle.csv.specs.Machine.{Read, next_record, step, is_end, ends_at_end, fields_after, field_after}
 use Rattle.csv.specs.Reading.{default_config, strip_bom}
@@ -13,7 +13,6 @@ use Rattle.csv.specs.declared.parser.Action.{Action}
 use Rattle.csv.specs.declared.parser.Action.TheVariants as action
 use Rattle.scr_csv.specs.LineFields.{fields_read, line_fields, is_printed, is_quote}
 use Rattle.scr_csv.specs.Sources.{pieces}
-use Rattle.scr_csv.proofs.Decimals.{both_true}
 
 printed_other : (b n : ℕ) → is_printed b ≡ true → nat_le 0x20 n ≡ false → (b == n) ≡ false
 printed_other b n h small = grind (arith, h, small)
@@ -27,7 +26,7 @@ unfolding strip_bom
 no_mark [] h = refl
 no_mark (a ∷ []) h = refl
 no_mark (a ∷ b ∷ []) h = refl
-no_mark (a ∷ b ∷ c ∷ rest) h = rw (printed_low a (both_true _ _ h).0) refl
+no_mark (a ∷ b ∷ c ∷ rest) h = rw (printed_low a (and_parts _ _ h).0) refl
 
 pub fields_of_read : (o : Option Read) (fields : List (List ℕ)) → Some fields ≡ option_map (λ read. read.0) o
     → fields_read o ≡ fields
@@ -40,10 +39,6 @@ fields_of_none None h = refl
 fields_of_none (Some read) h = absurd (cc)
 
 -- ---- a cut at the commas
-
-or_false : (a b : Bool) → (a || b) ≡ false → (a ≡ false) × (b ≡ false)
-or_false true b h = absurd (cc)
-or_false false b h = (refl, h)
 
 -- what stands in front joins the first piece
 abbrev joined : List ℕ → List (List ℕ) → List (List ℕ)
@@ -62,7 +57,7 @@ joined-one c (piece ∷ more) = refl
 pub printed_at : (c : ℕ) (rest : List ℕ) → list_all is_printed (c ∷ rest) ≡ true
     → ((c == 13) ≡ false) × ((c == 10) ≡ false) × (list_all is_printed rest ≡ true)
 printed_at c rest h =
-    let parts = both_true (is_printed c) (list_all is_printed rest) h in
+    let parts = and_parts (is_printed c) (list_all is_printed rest) h in
     (printed_other c 13 parts.0 refl, printed_other c 10 parts.0 refl, parts.1)
 
 mutual
@@ -75,7 +70,7 @@ mutual
   in_field fields field [] printed unquoted = rw (append-nil field) refl
   in_field fields field (c ∷ rest) printed unquoted =
       let p = printed_at c rest printed in
-      let q = or_false (c == 34) (list_any is_quote rest) unquoted in
+      let q = or_parts (c == 34) (list_any is_quote rest) unquoted in
       elim (cases_Bool (c == 44)) [
         | inl comma ↦ rw (comma, append-nil field)
             (at_start (fields ++ (field ∷ [])) rest p.2 q.1
@@ -91,7 +86,7 @@ mutual
   at_start fields [] printed unquoted = refl
   at_start fields (c ∷ rest) printed unquoted =
       let p = printed_at c rest printed in
-      let q = or_false (c == 34) (list_any is_quote rest) unquoted in
+      let q = or_parts (c == 34) (list_any is_quote rest) unquoted in
       elim (cases_Bool (c == 44)) [
         | inl comma ↦ rw (q.0, comma)
             (at_start (fields ++ ([] ∷ [])) rest p.2 q.1
@@ -107,7 +102,7 @@ line_fields-cut : (c : ℕ) (rest : List ℕ) → list_all is_printed (c ∷ res
 unfolding line_fields next_record
 line_fields-cut c rest printed unquoted =
     let p = printed_at c rest printed in
-    let q = or_false (c == 34) (list_any is_quote rest) unquoted in
+    let q = or_parts (c == 34) (list_any is_quote rest) unquoted in
     elim (cases_Bool (c == 44)) [
       | inl comma ↦ rw (p.0, p.1, q.0, comma) (ap fields_read (at_start ([] ∷ []) rest p.2 q.1))
       | inr other ↦ rw (p.0, p.1, q.0, other)

@@ -5,7 +5,7 @@ use Rattle.std.specs.List.{AllByRecursion}
 use Rattle.std.proofs.lemmas.List.{append-nil}
 use Rattle.scr_csv.specs.declared.fault.LineFault.{LineFault}
 use Rattle.scr_csv.specs.declared.fault.LineFault.TheVariants.{Syntax, NoMemory}
-use Rattle.scr_csv.specs.Numbers.{number_value}
+use Rattle.scr_spelling.specs.Numbers.{number_value}
 use Rattle.scr_csv.specs.Reading.{Rest, field, next, read_to, made, listed, value_in, numbers_from, pairs_from, Answers}
 
 -- the members so far, and those that follow them

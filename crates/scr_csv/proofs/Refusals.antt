@@ -1,9 +1,9 @@
 -- A reader tells the first field with which nothing that it reads can begin.
 use Rattle.std.proofs.Common.{◌≡◌, ℕ, suc, ℤ, pos, ◌+◌, ◌<◌, ◌≤◌, List, [], ◌∷◌, ◌++◌, length, take, Option, Some}
-use Rattle.std.proofs.Common.{None, Result, Ok, Err, refl, sym, ◌∙◌, codes, arith}
+use Rattle.std.proofs.Common.{None, Result, Ok, Err, refl, sym, ap, ◌∙◌, codes, arith}
 use Rattle.scr_csv.specs.declared.fault.LineFault.{LineFault}
 use Rattle.scr_csv.specs.declared.fault.LineFault.TheVariants.{Syntax}
-use Rattle.scr_csv.specs.Numbers.{number_value}
+use Rattle.scr_spelling.specs.Numbers.{number_value}
 use Rattle.scr_csv.specs.Reading.{Rest, ◌>>=◌, field, next, only, value_in, made, listed}
 use Rattle.scr_csv.specs.Reading.{both, numbers_from, pairs_from}
 
@@ -25,47 +25,81 @@ pub record Fault {B : Type 0} (reader : Rest → Result B LineFault) (n : ℕ) (
   pub before : Begin reader n (take j fields)
   pub wrong : j < length fields → ¬ Begin reader n (take (suc j) fields)
 
-abbrev pub Told : {B : Type 0} → (Rest → Result B LineFault) → ℕ → List (List ℕ) → ℕ → Type 0
-Told reader n fields k = (j : ℕ) × (k ≡ n + j) × Fault reader n fields j
+-- the fault is told of the field in such a place
+abbrev pub Told : {B : Type 0} → (Rest → Result B LineFault) → ℕ → List (List ℕ) → LineFault → Type 0
+Told reader n fields fault = (j : ℕ) × (fault ≡ Syntax (n + j)) × Fault reader n fields j
 
 pub record Telling {B : Type 0} (reader : Rest → Result B LineFault) : Type 0 where
   pub finish : (n : ℕ) → Begin reader n []
-  pub told : (n k : ℕ) (fields : List (List ℕ)) → reader (from n fields) ≡ Err (Syntax k) → Told reader n fields k
+  pub told : (n : ℕ) (fields : List (List ℕ)) (fault : LineFault) → reader (from n fields) ≡ Err fault
+      → Told reader n fields fault
 
 -- ---- one field
 
-at_number : (n k : ℕ) → ◌≡◌ {A = LineFault} (Syntax n) (Syntax k) → k ≡ n + 0
-at_number n k h = let same : n ≡ k = cc in omega (arith, same)
+fault_here : {B : Type 0} (answer : Result B LineFault) (n : ℕ) (fault : LineFault) → answer ≡ Err (Syntax n)
+    → answer ≡ Err fault → fault ≡ Syntax (n + 0)
+fault_here {B} answer n fault is h =
+    let both_are : ◌≡◌ {A = Result B LineFault} (Err (Syntax n)) (Err fault) = sym is ∙ h in
+    let same : Syntax n ≡ fault = cc in
+    sym same ∙ ap Syntax (omega arith)
 
-fault_at : {B : Type 0} (n k : ℕ) → ◌≡◌ {A = Result B LineFault} (Err (Syntax n)) (Err (Syntax k)) → k ≡ n + 0
-fault_at {B} n k h = let same : n ≡ k = cc in omega (arith, same)
+not_ok : {B : Type 0} (answer : Result B LineFault) (n : ℕ) → answer ≡ Err (Syntax n) → ¬ ((b : B) × (answer ≡ Ok b))
+not_ok answer n h read = absurd (cc (sym h ∙ read.1))
 
 -- nothing is left where more is due
-pub missing : {B : Type 0} (reader : Rest → Result B LineFault) (n : ℕ) → Begin reader n [] → Fault reader n [] 0
-missing reader n finish = record { within = omega arith; before = finish; wrong = λ more. absurd (omega (arith, more)) }
+lacking : {B : Type 0} (reader : Rest → Result B LineFault) (n : ℕ) (fault : LineFault) → Begin reader n []
+    → reader (from n []) ≡ Err (Syntax n) → reader (from n []) ≡ Err fault → Told reader n [] fault
+lacking reader n fault finish is h = (
+  0,
+  fault_here _ n fault is h,
+  record { within = omega arith; before = finish; wrong = λ more. absurd (omega (arith, more)) },
+)
 
 -- the first field spoils all that could follow
-pub spoilt : {B : Type 0} (reader : Rest → Result B LineFault) (n : ℕ) (first : List ℕ) (fields : List (List ℕ))
-    → Begin reader n []
-    → ((more : List (List ℕ)) → ¬ Are reader n (first ∷ more)) → Fault reader n (first ∷ fields) 0
-spoilt reader n first fields finish none = record
-    { within = omega arith; before = finish; wrong = λ there begins. none begins.0 begins.1 }
+spoilt : {B : Type 0} (reader : Rest → Result B LineFault) (n : ℕ) (first : List ℕ) (fields : List (List ℕ))
+    (fault : LineFault)
+    → Begin reader n [] → ((more : List (List ℕ)) → reader (from n (first ∷ more)) ≡ Err (Syntax n))
+    → reader (from n (first ∷ fields)) ≡ Err fault → Told reader n (first ∷ fields) fault
+spoilt reader n first fields fault finish spoils h = (
+  0,
+  fault_here _ n fault (spoils fields) h,
+  record
+      { within = omega arith; before = finish; wrong = λ there begins. not_ok _ n (spoils begins.0) begins.1 },
+)
 
 -- the first field is read, and the fault comes after it
-pub after : {B : Type 0} (reader then : Rest → Result B LineFault) (n m : ℕ) (first : List ℕ) (fields : List (List ℕ))
-    (j : ℕ)
-    → ((more : List (List ℕ)) → reader (from n (first ∷ more)) ≡ then (from m more))
-    → Fault then m fields j → Fault reader n (first ∷ fields) (suc j)
-after reader then n m first fields j step fault = record {
-  within = omega (arith, fault.within);
-  before = (fault.before.0, (fault.before.1.0, step (take j fields ++ fault.before.0) ∙ fault.before.1.1));
-  wrong = λ there begins. fault.wrong (omega (arith, there))
-      (begins.0, (begins.1.0, sym (step (take (suc j) fields ++ begins.0)) ∙ begins.1.1));
-}
+after : {B : Type 0} (reader then : Rest → Result B LineFault) (n : ℕ) (first : List ℕ) (fields : List (List ℕ))
+    (fault : LineFault)
+    → ((more : List (List ℕ)) → reader (from n (first ∷ more)) ≡ then (from (n + 1) more))
+    → Told then (n + 1) fields fault → Told reader n (first ∷ fields) fault
+after reader then n first fields fault step (j, is, there) =
+    let place : (n + 1) + j ≡ n + suc j = omega arith in
+    let more = there.before.0 in (
+      suc j,
+      is ∙ ap Syntax place,
+      record {
+        within = omega (arith, there.within);
+        before = (more, (there.before.1.0, step (take j fields ++ more) ∙ there.before.1.1));
+        wrong = λ lt begins. there.wrong (omega (arith, lt))
+            (begins.0, (begins.1.0, sym (step (take (suc j) fields ++ begins.0)) ∙ begins.1.1));
+      },
+    )
 
-pub not_ok : {B : Type 0} (answer : Result B LineFault) (k : ℕ) → answer ≡ Err (Syntax k)
-    → ¬ ((b : B) × (answer ≡ Ok b))
-not_ok {B} answer k h read = absurd (cc (sym h ∙ read.1))
+-- what asks for this form, and then for what the value in it asks for
+first_told : {A B : Type 0} (form : List ℕ → Option A) (reader : Rest → Result B LineFault)
+    (then : A → Rest → Result B LineFault) (n : ℕ) (first : List ℕ) (fields : List (List ℕ)) (fault : LineFault)
+    → Begin reader n []
+    → ((more : List (List ℕ)) → form first ≡ None → reader (from n (first ∷ more)) ≡ Err (Syntax n))
+    → ((a : A) (more : List (List ℕ)) → form first ≡ Some a
+    → reader (from n (first ∷ more)) ≡ then a (from (n + 1) more))
+    → ((a : A) → then a (from (n + 1) fields) ≡ Err fault → Told (then a) (n + 1) fields fault)
+    → reader (from n (first ∷ fields)) ≡ Err fault → Told reader n (first ∷ fields) fault
+first_told {A} {B} form reader then n first fields fault finish spoils step told h = go (form first) refl
+  where
+    go : (o : Option A) → form first ≡ o → Told reader n (first ∷ fields) fault
+    go None none = spoilt reader n first fields fault finish (λ more. spoils more none) h
+    go (Some a) some = after reader (then a) n first fields fault (λ more. step a more some)
+        (told a (sym (step a fields some) ∙ h))
 
 -- ---- one reader, and then what follows it
 
@@ -86,9 +120,6 @@ next_missing : {A B : Type 0} (form : List ℕ → Option A) (then : A → Rest 
 unfolding next field
 next_missing form then n = refl
 
-plus_one : (n k j : ℕ) → k ≡ (n + 1) + j → k ≡ n + suc j
-plus_one n k j h = omega (arith, h)
-
 -- a form that some text has, and what tells its faults after it
 pub telling-next : {A B : Type 0} (form : List ℕ → Option A) (text : List ℕ) (value : A) → form text ≡ Some value
     → (then : A → Rest → Result B LineFault) → ((a : A) → Telling (then a)) → Telling (next form >>= then)
@@ -99,26 +130,12 @@ telling-next {A} {B} form text value has then telling = record { finish = finish
         let (more, (b, is)) = (telling value).finish (n + 1) in
         (text ∷ more, (b, next_is form then n text value more has ∙ is))
 
-    go : (n k : ℕ) (first : List ℕ) (fields : List (List ℕ)) (o : Option A) → form first ≡ o
-        → (next form >>= then) (from n (first ∷ fields)) ≡ Err (Syntax k)
-        → Told (next form >>= then) n (first ∷ fields) k
-    go n k first fields None none h = (
-      0,
-      fault_at n k (sym (next_not form then n first fields none) ∙ h),
-      spoilt (next form >>= then) n first fields (finish n) (λ more. not_ok _ n (next_not form then n first more none)),
-    )
-    go n k first fields (Some a) is h =
-        let (j, number, fault) = (telling a).told (n + 1) k fields (sym (next_is form then n first a fields is) ∙ h) in (
-          suc j,
-          plus_one n k j number,
-          after (next form >>= then) (then a) n (n + 1) first fields j
-              (λ more. next_is form then n first a more is) fault,
-        )
-
-    told : (n k : ℕ) (fields : List (List ℕ)) → (next form >>= then) (from n fields) ≡ Err (Syntax k)
-        → Told (next form >>= then) n fields k
-    told n k [] h = (0, fault_at n k (sym (next_missing form then n) ∙ h), missing (next form >>= then) n (finish n))
-    told n k (first ∷ fields) h = go n k first fields (form first) refl h
+    told : (n : ℕ) (fields : List (List ℕ)) (fault : LineFault) → (next form >>= then) (from n fields) ≡ Err fault
+        → Told (next form >>= then) n fields fault
+    told n [] fault h = lacking (next form >>= then) n fault (finish n) (next_missing form then n) h
+    told n (first ∷ fields) fault h = first_told form (next form >>= then) then n first fields fault (finish n)
+        (next_not form then n first) (next_is form then n first)
+        (λ a. (telling a).told (n + 1) fields fault) h
 
 only_finish : {B : Type 0} (value : B) (n : ℕ) → Begin (only value) n []
 unfolding only
@@ -129,16 +146,12 @@ only_surplus : {B : Type 0} (value : B) (n : ℕ) (first : List ℕ) (more : Lis
 unfolding only
 only_surplus value n first more = refl
 
-only_told : {B : Type 0} (value : B) (n k : ℕ) (fields : List (List ℕ)) → only value (from n fields) ≡ Err (Syntax k)
-    → Told (only value) n fields k
+only_told : {B : Type 0} (value : B) (n : ℕ) (fields : List (List ℕ)) (fault : LineFault)
+    → only value (from n fields) ≡ Err fault → Told (only value) n fields fault
 unfolding only
-only_told value n k [] h = absurd (cc)
-only_told value n k (first ∷ fields) h = (
-  0,
-  fault_at n k h,
-  spoilt (only value) n first fields (only_finish value n)
-      (λ more. not_ok _ n (only_surplus value n first more)),
-)
+only_told value n [] fault h = absurd (cc)
+only_told value n (first ∷ fields) fault h =
+    spoilt (only value) n first fields fault (only_finish value n) (only_surplus value n first) h
 
 -- no field is left where none may be
 pub telling-only : {B : Type 0} (value : B) → Telling (only value)
@@ -164,29 +177,13 @@ number_not : {B : Type 0} (make : List ℤ → B) (n : ℕ) (first : List ℕ) (
     → numbers make (from n (first ∷ more)) ≡ Err (Syntax n)
 number_not make n first more h = rw h refl
 
--- the first number, where `more` tells the faults of what follows it
-number_told : {B : Type 0} (make : List ℤ → B) (n k : ℕ) (first : List ℕ) (fields : List (List ℕ))
-    → ((make : List ℤ → B) (n k : ℕ) → numbers make (from n fields) ≡ Err (Syntax k) → Told (numbers make) n fields k)
-    → (o : Option ℤ) → number_value first ≡ o → numbers make (from n (first ∷ fields)) ≡ Err (Syntax k)
-    → Told (numbers make) n (first ∷ fields) k
-number_told make n k first fields more None none h = (
-  0,
-  fault_at n k (sym (number_not make n first fields none) ∙ h),
-  spoilt (numbers make) n first fields ([], (make [], refl)) (λ rest. not_ok _ n (number_not make n first rest none)),
-)
-number_told make n k first fields more (Some z) is h =
-    let (j, number, fault) = more (λ rest. make (z ∷ rest)) (n + 1) k (sym (number_is make n first z fields is) ∙ h) in (
-      suc j,
-      plus_one n k j number,
-      after (numbers make) (numbers (λ rest. make (z ∷ rest))) n (n + 1) first fields j
-          (λ rest. number_is make n first z rest is) fault,
-    )
-
-numbers_told : {B : Type 0} (make : List ℤ → B) (n k : ℕ) (fields : List (List ℕ))
-    → numbers make (from n fields) ≡ Err (Syntax k) → Told (numbers make) n fields k
-numbers_told make n k [] h = absurd (cc)
-numbers_told make n k (first ∷ fields) h = number_told make n k first fields
-    (λ make n k h. numbers_told make n k fields h) (number_value first) refl h
+numbers_told : {B : Type 0} (make : List ℤ → B) (n : ℕ) (fields : List (List ℕ)) (fault : LineFault)
+    → numbers make (from n fields) ≡ Err fault → Told (numbers make) n fields fault
+numbers_told make n [] fault h = absurd (cc)
+numbers_told make n (first ∷ fields) fault h =
+    first_told number_value (numbers make) (λ z. numbers (λ rest. make (z ∷ rest))) n first fields fault
+    ([], (make [], refl)) (number_not make n first) (number_is make n first)
+    (λ z. numbers_told (λ rest. make (z ∷ rest)) (n + 1) fields fault) h
 
 pub telling-numbers : {B : Type 0} (make : List ℤ → B) → Telling (numbers make)
 telling-numbers make = record { finish = λ n. ([], (make [], refl)); told = numbers_told make }
@@ -194,9 +191,13 @@ telling-numbers make = record { finish = λ n. ([], (make [], refl)); told = num
 abbrev pairs : {A B : Type 0} → (List ℕ → Option A) → (List (A × ℤ) → B) → Rest → Result B LineFault
 pairs form make rest = made make (pairs_from form rest.number rest.fields)
 
+-- more pairs, where this one is read
+abbrev paired : {A B : Type 0} → (List ℕ → Option A) → (List (A × ℤ) → B) → A → ℤ → Rest → Result B LineFault
+paired form make a z = pairs form (λ rest. make ((a, z) ∷ rest))
+
 -- what is left of a pair whose value is read: its number, and more pairs
 abbrev halved : {A B : Type 0} → (List ℕ → Option A) → (List (A × ℤ) → B) → A → Rest → Result B LineFault
-halved form make a = next number_value >>= (λ z. pairs form (λ rest. make ((a, z) ∷ rest)))
+halved form make a = next number_value >>= paired form make a
 
 pair_number : {A B : Type 0} (form : List ℕ → Option A) (make : List (A × ℤ) → B) (n : ℕ) (a : A) (second : List ℕ)
     (more : List (List ℕ)) (o : Option ℤ)
@@ -227,71 +228,32 @@ half_finish : {A B : Type 0} (form : List ℕ → Option A) (make : List (A × �
     → Begin (halved form make a) n []
 half_finish form make a n = (
   codes "0" ∷ [],
-  (
-    make ((a, pos 0) ∷ []),
-    next_is number_value (λ z. pairs form (λ rest. make ((a, z) ∷ rest))) n
-        (codes "0") (pos 0) [] refl,
-  ),
+  (make ((a, pos 0) ∷ []), next_is number_value (paired form make a) n (codes "0") (pos 0) [] refl),
 )
 
--- the first pair's value, where `more` tells the faults of what follows it
-pair_told : {A B : Type 0} (form : List ℕ → Option A) (make : List (A × ℤ) → B) (n k : ℕ) (first : List ℕ)
-    (fields : List (List ℕ))
-    → ((a : A) → halved form make a (from (n + 1) fields) ≡ Err (Syntax k) → Told (halved form make a) (n + 1) fields k)
-    → (o : Option A) → form first ≡ o → pairs form make (from n (first ∷ fields)) ≡ Err (Syntax k)
-    → Told (pairs form make) n (first ∷ fields) k
-pair_told form make n k first fields more None none h = (
-  0,
-  fault_at n k (sym (pair_not form make n first fields none) ∙ h),
-  spoilt (pairs form make) n first fields ([], (make [], refl))
-      (λ rest. not_ok _ n (pair_not form make n first rest none)),
-)
-pair_told form make n k first fields more (Some a) is h =
-    let (j, number, fault) = more a (sym (pair_is form make n first a fields is) ∙ h) in (
-      suc j,
-      plus_one n k j number,
-      after (pairs form make) (halved form make a) n (n + 1) first fields j
-          (λ rest. pair_is form make n first a rest is) fault,
-    )
+-- the first pair's value, and what tells the faults after it
+value_told : {A B : Type 0} (form : List ℕ → Option A) (make : List (A × ℤ) → B) (n : ℕ) (first : List ℕ)
+    (fields : List (List ℕ)) (fault : LineFault)
+    → ((a : A) → halved form make a (from (n + 1) fields) ≡ Err fault → Told (halved form make a) (n + 1) fields fault)
+    → pairs form make (from n (first ∷ fields)) ≡ Err fault → Told (pairs form make) n (first ∷ fields) fault
+value_told form make n first fields fault told h =
+    first_told form (pairs form make) (halved form make) n first fields fault ([], (make [], refl))
+    (pair_not form make n first) (pair_is form make n first) told h
 
--- its number
-half_told : {A B : Type 0} (form : List ℕ → Option A) (make : List (A × ℤ) → B) (a : A) (n k : ℕ) (second : List ℕ)
-    (fields : List (List ℕ))
-    → ((make : List (A × ℤ) → B) (n k : ℕ) → pairs form make (from n fields) ≡ Err (Syntax k)
-    → Told (pairs form make) n fields k)
-    → (o : Option ℤ) → number_value second ≡ o → halved form make a (from n (second ∷ fields)) ≡ Err (Syntax k)
-    → Told (halved form make a) n (second ∷ fields) k
-half_told form make a n k second fields more None none h = (
-  0,
-  fault_at n k (sym (next_not number_value (λ z. pairs form (λ rest. make ((a, z) ∷ rest))) n second fields none) ∙ h),
-  spoilt (halved form make a) n second fields (half_finish form make a n)
-      (λ rest. not_ok _ n (next_not number_value (λ z. pairs form (λ rest. make ((a, z) ∷ rest))) n second rest none)),
-)
-half_told {A} {B} form make a n k second fields more (Some z) is h =
-    let then : ℤ → Rest → Result B LineFault = λ z. pairs form (λ rest. make ((a, z) ∷ rest)) in
-    let (j, number, fault) = more (λ rest. make ((a, z) ∷ rest)) (n + 1) k
-    (sym (next_is number_value then n second z fields is) ∙ h) in (
-      suc j,
-      plus_one n k j number,
-      after (halved form make a) (then z) n (n + 1) second fields j
-          (λ rest. next_is number_value then n second z rest is) fault,
-    )
-
-pairs_told : {A B : Type 0} (form : List ℕ → Option A) (make : List (A × ℤ) → B) (n k : ℕ) (fields : List (List ℕ))
-    → pairs form make (from n fields) ≡ Err (Syntax k) → Told (pairs form make) n fields k
-pairs_told form make n k [] h = absurd (cc)
-pairs_told form make n k (first ∷ []) h =
-    pair_told form make n k first []
-    (λ a lacking. (
-      0,
-      fault_at (n + 1) k (sym (next_missing number_value (λ z. pairs form (λ rest. make ((a, z) ∷ rest))) (n + 1))
-          ∙ lacking),
-      missing (halved form make a) (n + 1) (half_finish form make a (n + 1)),
-    )) (form first) refl h
-pairs_told form make n k (first ∷ second ∷ fields) h =
-    pair_told form make n k first (second ∷ fields)
-    (λ a half. half_told form make a (n + 1) k second fields (λ make n k h. pairs_told form make n k fields h)
-    (number_value second) refl half) (form first) refl h
+pairs_told : {A B : Type 0} (form : List ℕ → Option A) (make : List (A × ℤ) → B) (n : ℕ) (fields : List (List ℕ))
+    (fault : LineFault)
+    → pairs form make (from n fields) ≡ Err fault → Told (pairs form make) n fields fault
+pairs_told form make n [] fault h = absurd (cc)
+pairs_told form make n (first ∷ []) fault h =
+    value_told form make n first [] fault
+    (λ a. lacking (halved form make a) (n + 1) fault (half_finish form make a (n + 1))
+    (next_missing number_value (paired form make a) (n + 1))) h
+pairs_told form make n (first ∷ second ∷ fields) fault h =
+    value_told form make n first (second ∷ fields) fault
+    (λ a. first_told number_value (halved form make a) (paired form make a) (n + 1) second fields fault
+    (half_finish form make a (n + 1)) (next_not number_value (paired form make a) (n + 1) second)
+    (next_is number_value (paired form make a) (n + 1) second)
+    (λ z. pairs_told form (λ rest. make ((a, z) ∷ rest)) ((n + 1) + 1) fields fault)) h
 
 pub telling-pairs : {A B : Type 0} (form : List ℕ → Option A) (make : List (A × ℤ) → B) → Telling (pairs form make)
 telling-pairs form make = record { finish = λ n. ([], (make [], refl)); told = pairs_told form make }

@@ -1,40 +1,39 @@
 -- A record's line is read as the record.
-use Rattle.std.proofs.Common.{◌≡◌, ℕ, ℤ, pos, ◌+◌, ◌<◌, ◌≤◌, ◌^◌, ◌==◌, ◌&&◌, Bool, true, false, not, List, []}
-use Rattle.std.proofs.Common.{◌∷◌, ◌++◌, map, Option, Some, None, Ok, length, refl, ap, ◌∙◌, codes, arith}
-use Rattle.std.specs.Prelude.{flat_map, nat_le, nat_eq}
-use Rattle.std.specs.Char.{is_ascii_alphanumeric}
+use Rattle.std.proofs.Common.{◌≡◌, ℕ, ℤ, pos, ◌+◌, ◌<◌, ◌==◌, ◌&&◌, Bool, true, false, not, List, []}
+use Rattle.std.proofs.Common.{◌∷◌, ◌++◌, map, Some, Ok, length, refl, ap, ◌∙◌, arith}
+use Rattle.std.specs.Prelude.{flat_map}
 use Rattle.std.specs.List.{list_all, list_any, AllByRecursion, onto_first}
 use Rattle.std.proofs.lemmas.List.{append-nil}
+use Rattle.std.proofs.lemmas.Bool.{and_parts, and_from}
+use Rattle.std.proofs.lemmas.List.Folds.{list_all-append}
 use Rattle.scr_dates.specs.declared.day.Day.{Day}
 use Rattle.scr_dates.specs.Text.{day_of_text}
-use Rattle.scr_names.specs.Names.{is_name_byte}
-use Rattle.scr_profile.specs.Segments.{segments}
-use Rattle.scr_profile.specs.declared.set.Set.{Set}
-use Rattle.scr_profile.specs.declared.set.Set.TheVariants as sets
-use Rattle.scr_sheet.specs.Forms.{IsNumber, IsName, IsNameOrNone, IsStepOrNone, AreFlows, AreComponents, Formed}
+use Rattle.scr_sheet.specs.Forms.{IsNumber, AreFlows, AreComponents, Formed}
 use Rattle.scr_sheet.specs.declared.edit.Edit.{Edit}
 use Rattle.scr_sheet.specs.declared.edit.Edit.TheVariants as edits
+use Rattle.scr_spelling.specs.FieldForms.{name_of}
+use Rattle.scr_spelling.specs.Texts.{number_text}
+use Rattle.scr_spelling.specs.Words.{value_of}
+use Rattle.scr_spelling.proofs.AbsorbKeys.{currency_found, key_read}
+use Rattle.scr_spelling.proofs.FormLemmas.{list_all-weaker}
+use Rattle.scr_spelling.proofs.PlainTexts.{Plain, is_plain, name_plain, currency_plain, absorb_key_plain}
+use Rattle.scr_spelling.proofs.Spelled.{spelled_table, spelled_group_kind, spelled_class, spelled_liability_kind}
+use Rattle.scr_spelling.proofs.Spelled.{spelled_projection, spelled_set, spelled_cat_key}
+use Rattle.scr_spelling.proofs.WrittenDays.{day_read, day_plain}
+use Rattle.scr_spelling.proofs.WrittenForms.{name_read, group_read, group_plain, step_read, step_plain, segment_fits}
+use Rattle.scr_spelling.proofs.WrittenForms.{segment_read, region_read}
+use Rattle.scr_spelling.proofs.WrittenNumbers.{number_read, number_plain}
 use Rattle.scr_csv.specs.declared.verb.Verb.{Verb}
-use Rattle.scr_csv.specs.FieldForms.{name_of, group_of, step_of, small_number, segment_of, region_of}
 use Rattle.scr_csv.specs.LineFields.{is_printed, is_quote}
 use Rattle.scr_csv.specs.Reading.{next, field, only, numbers_from, pairs_from}
 use Rattle.scr_csv.specs.Records.{any_record, record_of, edit_of_line}
-use Rattle.scr_csv.specs.RecordTexts.{number_text, or_dash, step_text, flow_fields, component_fields}
-use Rattle.scr_csv.specs.RecordTexts.{next_field, record_text, edit_verb, edit_fields, edit_text}
+use Rattle.scr_csv.specs.RecordTexts.{flow_fields, component_fields, next_field, record_text, edit_verb, edit_fields}
+use Rattle.scr_csv.specs.RecordTexts.{edit_text}
 use Rattle.scr_csv.specs.Sources.{pieces}
-use Rattle.scr_csv.specs.Words.{verb_word, all_verbs, value_of, is_text}
-use Rattle.scr_csv.proofs.AbsorbKeys.{currency_found, key_read}
-use Rattle.scr_csv.proofs.Decimals.{both_true}
-use Rattle.scr_csv.proofs.FormLemmas.{list_all-weaker}
+use Rattle.scr_csv.specs.Verbs.{verb_word, all_verbs}
 use Rattle.scr_csv.proofs.LineSplit.{line_fields-not_empty}
-use Rattle.scr_csv.proofs.PlainTexts.{Plain, is_plain, name_plain, currency_plain, verb_plain}
-use Rattle.scr_csv.proofs.PlainTexts.{table_plain, group_kind_plain, class_plain, liability_kind_plain}
-use Rattle.scr_csv.proofs.PlainTexts.{projection_plain, set_plain, cat_key_plain, absorb_key_plain}
-use Rattle.scr_csv.proofs.ReadWords.{read_verb, read_table, read_group_kind, read_class, read_line_kind}
-use Rattle.scr_csv.proofs.ReadWords.{read_projection, read_set, read_cat_key}
 use Rattle.scr_csv.proofs.Refusals.{from}
-use Rattle.scr_csv.proofs.WrittenDays.{day_read, day_plain}
-use Rattle.scr_csv.proofs.WrittenNumbers.{number_read, number_plain, number_no_dash}
+use Rattle.scr_csv.proofs.Verbs.{spelled_verb}
 
 -- ---- the cut of a line at its commas
 
@@ -47,13 +46,13 @@ plain_parts b h = (grind (arith, h), grind (arith, h), grind (arith, h))
 piece_ends : (xs ys : List ℕ) → Plain xs → pieces (xs ++ (44 ∷ ys)) ≡ xs ∷ pieces ys
 piece_ends [] ys h = refl
 piece_ends (x ∷ xs) ys h =
-    let parts = both_true (is_plain x) (list_all is_plain xs) h in
+    let parts = and_parts (is_plain x) (list_all is_plain xs) h in
     rw ((plain_parts x parts.0).1) (ap (onto_first x) (piece_ends xs ys parts.1))
 
 one_piece : (xs : List ℕ) → Plain xs → pieces xs ≡ xs ∷ []
 one_piece [] h = refl
 one_piece (x ∷ xs) h =
-    let parts = both_true (is_plain x) (list_all is_plain xs) h in
+    let parts = and_parts (is_plain x) (list_all is_plain xs) h in
     rw ((plain_parts x parts.0).1) (ap (onto_first x) (one_piece xs parts.1))
 
 fields_cut : (first : List ℕ) (fields : List (List ℕ)) → Plain first → AllPlain fields
@@ -69,18 +68,12 @@ fields_cut first (second ∷ fields) h k =
 abbrev is_shown : ℕ → Bool
 is_shown b = is_printed b && not (is_quote b)
 
-and_both : (a b : Bool) → a ≡ true → b ≡ true → (a && b) ≡ true
-and_both a b h k = rw (h, k) refl
-
 plain_shown : (b : ℕ) → is_plain b ≡ true → is_shown b ≡ true
 plain_shown b h = let p = plain_parts b h in rw (p.0, p.2) refl
 
 shown-append : (xs ys : List ℕ) → list_all is_shown xs ≡ true → list_all is_shown ys ≡ true
     → list_all is_shown (xs ++ ys) ≡ true
-shown-append [] ys h k = k
-shown-append (x ∷ xs) ys h k =
-    let parts = both_true (is_shown x) (list_all is_shown xs) h in
-    and_both (is_shown x) (list_all is_shown (xs ++ ys)) parts.0 (shown-append xs ys parts.1 k)
+shown-append xs ys h k = list_all-append is_shown xs ys ∙ and_from _ _ h k
 
 plain_text_shown : (text : List ℕ) → Plain text → list_all is_shown text ≡ true
 plain_text_shown text h = list_all-weaker is_plain is_shown plain_shown text h
@@ -93,7 +86,7 @@ fields_shown (first ∷ fields) h = shown-append (44 ∷ first) (flat_map next_f
 
 shown_printed : (text : List ℕ) → list_all is_shown text ≡ true → list_all is_printed text ≡ true
 shown_printed text h = list_all-weaker is_shown is_printed
-    (λ b k. (both_true (is_printed b) (not (is_quote b)) k).0) text h
+    (λ b k. (and_parts (is_printed b) (not (is_quote b)) k).0) text h
 
 not_true : (b : Bool) → not b ≡ true → b ≡ false
 not_true true h = absurd (cc)
@@ -102,8 +95,8 @@ not_true false h = refl
 shown_unquoted : (text : List ℕ) → list_all is_shown text ≡ true → list_any is_quote text ≡ false
 shown_unquoted [] h = refl
 shown_unquoted (b ∷ bs) h =
-    let parts = both_true (is_shown b) (list_all is_shown bs) h in
-    let byte = both_true (is_printed b) (not (is_quote b)) parts.0 in
+    let parts = and_parts (is_shown b) (list_all is_shown bs) h in
+    let byte = and_parts (is_printed b) (not (is_quote b)) parts.0 in
     rw (not_true (is_quote b) byte.1) (shown_unquoted bs parts.1)
 
 -- ---- the fields of a written line
@@ -123,74 +116,18 @@ unfolding record_text
 line_read verb fields h =
     let text = verb_word verb ++ flat_map next_field fields in
     let shown = shown-append (verb_word verb) (flat_map next_field fields)
-    (plain_text_shown (verb_word verb) (verb_plain verb)) (fields_shown fields h) in
+    (plain_text_shown (verb_word verb) (spelled_verb verb).plain) (fields_shown fields h) in
     let printed = shown_printed text shown in
     let some = filled (verb_word verb) (flat_map next_field fields)
-    (verb_filled verb (verb_word verb) (read_verb verb)) in
+    (verb_filled verb (verb_word verb) (spelled_verb verb).read) in
     let cut = line_fields-not_empty text some printed (shown_unquoted text shown)
-    ∙ fields_cut (verb_word verb) fields (verb_plain verb) h in
+    ∙ fields_cut (verb_word verb) fields (spelled_verb verb).plain h in
     rw printed (ap (λ (all : List (List ℕ)). any_record (from 0 all)) cut)
 
 verb_read : (verb : Verb) (fields : List (List ℕ))
     → any_record (from 0 (verb_word verb ∷ fields)) ≡ record_of verb (from 1 fields)
 unfolding any_record next field
-verb_read verb fields = rw (read_verb verb) refl
-
--- ---- single fields
-
-name_read : (name : List ℕ) → IsName name → name_of name ≡ Some name
-unfolding name_of
-name_read name h = rw h refl
-
-dash_first : (b : ℕ) → is_ascii_alphanumeric b ≡ true → nat_eq 45 b ≡ false
-dash_first b h = grind (arith, h)
-
-name_no_dash : (name : List ℕ) → IsName name → is_text (codes "-") name ≡ false
-name_no_dash [] h = absurd (cc)
-name_no_dash (b ∷ bs) h =
-    let parts = both_true (is_ascii_alphanumeric b && list_all is_name_byte bs) _ h in
-    rw (dash_first b (both_true (is_ascii_alphanumeric b) (list_all is_name_byte bs) parts.0).0) refl
-
-group_read : (group : Option (List ℕ)) → IsNameOrNone group → group_of (or_dash group) ≡ Some group
-unfolding group_of
-group_read None h = refl
-group_read (Some name) h = rw (name_no_dash name h, name_read name h) refl
-
-group_plain : (group : Option (List ℕ)) → IsNameOrNone group → Plain (or_dash group)
-group_plain None h = refl
-group_plain (Some name) h = name_plain name h
-
-small_read : (low high n : ℕ) → low ≤ n → n ≤ high → n < 10 ^ 18 → small_number low high (number_text (pos n)) ≡ Some n
-unfolding small_number
-small_read low high n least most fits =
-    let a : nat_le low n ≡ true = grind (arith, least) in
-    let b : nat_le n high ≡ true = grind (arith, most) in
-    rw (number_read (pos n) fits, a, b) refl
-
-step_read : (step : Option ℕ) → IsStepOrNone step → step_of (step_text step) ≡ Some step
-unfolding step_of
-step_read None h = refl
-step_read (Some n) h = rw
-    (number_no_dash n (omega (arith, h)), small_read 0 6 n (omega arith) h (omega (arith, h))) refl
-
-step_plain : (step : Option ℕ) → IsStepOrNone step → Plain (step_text step)
-step_plain None h = refl
-step_plain (Some n) h = number_plain (pos n) (omega (arith, h))
-
-few_segments : (set : Set) → segments set ≤ 12
-few_segments sets.Nl = omega arith
-few_segments sets.Nslt = omega arith
-
-segment_fits : (set : Set) (n : ℕ) → n ≤ segments set → n < 10 ^ 18
-segment_fits set n h = omega (arith, h, few_segments set)
-
-segment_read : (set : Set) (n : ℕ) → 1 ≤ n → n ≤ segments set → segment_of set (number_text (pos n)) ≡ Some n
-unfolding segment_of
-segment_read set n least most = small_read 1 (segments set) n least most (segment_fits set n most)
-
-region_read : (n : ℕ) → 1 ≤ n → n ≤ 18 → region_of (number_text (pos n)) ≡ Some n
-unfolding region_of
-region_read n least most = small_read 1 18 n least most (omega (arith, most))
+verb_read verb fields = rw ((spelled_verb verb).read) refl
 
 -- ---- lists
 
@@ -225,25 +162,25 @@ components_plain (c ∷ components) h = (name_plain c.0 h.0.0, (number_plain c.1
 fields_plain : (edit : Edit) → Formed edit → AllPlain (edit_fields edit)
 fields_plain (edits.Asof date currency) h = (day_plain date h.0, (currency_plain currency h.1, tt))
 fields_plain (edits.Curve currency rates) h = (currency_plain currency h.0, numbers_plain rates h.1)
-fields_plain (edits.Group name kind step) h = (name_plain name h.0, (group_kind_plain kind, (step_plain step h.1, tt)))
+fields_plain (edits.Group name kind step) h = (name_plain name h.0, ((spelled_group_kind kind).plain, (step_plain step h.1, tt)))
 fields_plain (edits.Security name class group currency duration) h = (
   name_plain name h.0,
-  (class_plain class, (group_plain group h.1, (currency_plain currency h.2, (number_plain duration h.3, tt)))),
+  ((spelled_class class).plain, (group_plain group h.1, (currency_plain currency h.2, (number_plain duration h.3, tt)))),
 )
 fields_plain (edits.Flows security flows) h = (name_plain security h.0, flows_plain flows h.1)
 fields_plain (edits.Fund name components) h = (name_plain name h.0, components_plain components h.1)
 fields_plain (edits.Hold name cents) h = (name_plain name h.0, (number_plain cents h.1, tt))
 fields_plain (edits.Liability name kind currency) h = (
   name_plain name h.0,
-  (liability_kind_plain kind, (currency_plain currency h.1, tt)),
+  ((spelled_liability_kind kind).plain, (currency_plain currency h.1, tt)),
 )
 fields_plain (edits.LiabilityFlows liability projection flows) h = (
   name_plain liability h.0,
-  (projection_plain projection, flows_plain flows h.1),
+  ((spelled_projection projection).plain, flows_plain flows h.1),
 )
 fields_plain (edits.Absorb key cents) h = (absorb_key_plain key h.0, (number_plain cents h.1, tt))
 fields_plain (edits.Segment set number region premium reserve) h = (
-  set_plain set,
+  (spelled_set set).plain,
   (
     number_plain (pos number) (segment_fits set number h.1),
     (
@@ -252,8 +189,8 @@ fields_plain (edits.Segment set number region premium reserve) h = (
     ),
   ),
 )
-fields_plain (edits.Cat key cents) h = (cat_key_plain key, (number_plain cents h, tt))
-fields_plain (edits.Lapse set cents) h = (set_plain set, (number_plain cents h, tt))
+fields_plain (edits.Cat key cents) h = ((spelled_cat_key key).plain, (number_plain cents h, tt))
+fields_plain (edits.Lapse set cents) h = ((spelled_set set).plain, (number_plain cents h, tt))
 fields_plain (edits.Rein name group recoverables mitigation collateral) h = (
   name_plain name h.0,
   (
@@ -289,17 +226,17 @@ fields_plain (edits.Sym millionths) h = (number_plain millionths h, tt)
 fields_plain (edits.Tax millionths most) h = (number_plain millionths h.0, (number_plain most h.1, tt))
 fields_plain (edits.Fdb cents) h = (number_plain cents h, tt)
 fields_plain (edits.Intangible cents) h = (number_plain cents h, tt)
-fields_plain (edits.Remove table name) h = (table_plain table, (name_plain name h, tt))
+fields_plain (edits.Remove table name) h = ((spelled_table table).plain, (name_plain name h, tt))
 
 fields_read : (edit : Edit) → Formed edit → record_of (edit_verb edit) (from 1 (edit_fields edit)) ≡ Ok edit
 unfolding next field only
 fields_read (edits.Asof date currency) h = rw (day_read date h.0, currency_found currency h.1) refl
 fields_read (edits.Curve currency rates) h = rw (currency_found currency h.0, numbers_read 2 rates h.1) refl
-fields_read (edits.Group name kind step) h = rw (name_read name h.0, read_group_kind kind, step_read step h.1) refl
+fields_read (edits.Group name kind step) h = rw (name_read name h.0, (spelled_group_kind kind).read, step_read step h.1) refl
 fields_read (edits.Security name class group currency duration) h =
     rw (
       name_read name h.0,
-      read_class class,
+      (spelled_class class).read,
       group_read group h.1,
       currency_found currency h.2,
       number_read duration h.3,
@@ -308,20 +245,20 @@ fields_read (edits.Flows security flows) h = rw (name_read security h.0, flows_r
 fields_read (edits.Fund name components) h = rw (name_read name h.0, components_read 2 components h.1) refl
 fields_read (edits.Hold name cents) h = rw (name_read name h.0, number_read cents h.1) refl
 fields_read (edits.Liability name kind currency) h = rw
-    (name_read name h.0, read_line_kind kind, currency_found currency h.1) refl
+    (name_read name h.0, (spelled_liability_kind kind).read, currency_found currency h.1) refl
 fields_read (edits.LiabilityFlows liability projection flows) h = rw
-    (name_read liability h.0, read_projection projection, flows_read 3 flows h.1) refl
+    (name_read liability h.0, (spelled_projection projection).read, flows_read 3 flows h.1) refl
 fields_read (edits.Absorb key cents) h = rw (key_read key h.0, number_read cents h.1) refl
 fields_read (edits.Segment set number region premium reserve) h =
     rw (
-      read_set set,
+      (spelled_set set).read,
       segment_read set number h.0 h.1,
       region_read region h.2 h.3,
       number_read premium h.4,
       number_read reserve h.5,
     ) refl
-fields_read (edits.Cat key cents) h = rw (read_cat_key key, number_read cents h) refl
-fields_read (edits.Lapse set cents) h = rw (read_set set, number_read cents h) refl
+fields_read (edits.Cat key cents) h = rw ((spelled_cat_key key).read, number_read cents h) refl
+fields_read (edits.Lapse set cents) h = rw ((spelled_set set).read, number_read cents h) refl
 fields_read (edits.Rein name group recoverables mitigation collateral) h =
     rw (
       name_read name h.0,
@@ -349,7 +286,7 @@ fields_read (edits.Sym millionths) h = rw (number_read millionths h) refl
 fields_read (edits.Tax millionths most) h = rw (number_read millionths h.0, number_read most h.1) refl
 fields_read (edits.Fdb cents) h = rw (number_read cents h) refl
 fields_read (edits.Intangible cents) h = rw (number_read cents h) refl
-fields_read (edits.Remove table name) h = rw (read_table table, name_read name h) refl
+fields_read (edits.Remove table name) h = rw ((spelled_table table).read, name_read name h) refl
 
 pub record_read : (edit : Edit) → Formed edit → edit_of_line (edit_text edit) ≡ Ok edit
 unfolding edit_text

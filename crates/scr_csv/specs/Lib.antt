@@ -1,14 +1,11 @@
 pub mod Lines
 pub mod LineOrder
-pub mod Numbers
-pub mod Words
-pub mod FieldForms
+pub mod Verbs
 pub mod LineFields
 pub mod Reading
 pub mod Sources
 pub mod Splits
 pub mod Records
-pub mod KeyWords
 pub mod Refusals
 pub mod RecordTexts
 pub mod FieldTexts

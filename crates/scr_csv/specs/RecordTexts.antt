@@ -1,54 +1,16 @@
 -- How a record is written (this project's own): its verb, and then its fields in their order with a comma before each,
 -- without quotes, and each number without leading zeros.
-use Rattle.std.specs.Prelude.{ℕ, ℤ, pos, neg_ℤ, ◌+◌, ◌/◌, ◌%◌, ◌++◌, ◌||◌, Bool, not, int_lt, unsigned_abs, List, []}
-use Rattle.std.specs.Prelude.{◌∷◌, Option, Some, None, map, flat_map, codes, if◌then◌else◌}
-use Rattle.std.specs.Fmt.{signed_decimal}
+use Rattle.std.specs.Prelude.{ℕ, ℤ, pos, ◌++◌, ◌∷◌, List, [], map, flat_map}
 use Rattle.scr_dates.specs.declared.day.Day.{Day}
-use Rattle.scr_dates.specs.Civil.{CivilDate, date_of}
 use Rattle.scr_sheet.specs.declared.edit.Edit.{Edit}
 use Rattle.scr_sheet.specs.declared.edit.Edit.TheVariants as edits
+use Rattle.scr_spelling.specs.KeyWords.{absorb_text}
+use Rattle.scr_spelling.specs.Texts.{number_text, day_text, or_dash, step_text}
+use Rattle.scr_spelling.specs.Words.{table_word, group_kind_word, class_word, liability_kind_word}
+use Rattle.scr_spelling.specs.Words.{projection_word, set_word, cat_key_word}
 use Rattle.scr_csv.specs.declared.verb.Verb.{Verb}
 use Rattle.scr_csv.specs.declared.verb.Verb.TheVariants as verbs
-use Rattle.scr_csv.specs.KeyWords.{absorb_text}
-use Rattle.scr_csv.specs.Words.{verb_word, table_word, group_kind_word, class_word, liability_kind_word}
-use Rattle.scr_csv.specs.Words.{projection_word, set_word, cat_key_word}
-
--- the digits without leading zeros, after a `-` where the number is below 0
-abbrev pub number_text : ℤ → List ℕ
-number_text z = signed_decimal z
-
--- the two digits of a number below 100
-abbrev pub tens : ℕ → ℕ
-tens n = 48 + n / 10
-
-abbrev pub ones : ℕ → ℕ
-ones n = 48 + n % 10
-
--- `YYYY-MM-DD` of a date of the years 0 to 9999
-unfoldable pub date_text : ℕ → ℕ → ℕ → List ℕ
-date_text year month day =
-    tens (year / 100) ∷ ones (year / 100) ∷ tens (year % 100) ∷ ones (year % 100)
-    ∷ 45 ∷ tens month ∷ ones month ∷ 45 ∷ tens day ∷ ones day ∷ []
-
--- 1 January 1900 to 31 December 2200
-abbrev pub is_taken : ℤ → Bool
-is_taken number = not (int_lt number (neg_ℤ (pos 25_567)) || int_lt (pos 84_370) number)
-
-abbrev pub civil_text : CivilDate → List ℕ
-civil_text date = date_text (unsigned_abs date.year) date.month date.day
-
--- the date of a day that records may have; another has no text
-unfoldable pub day_text : Day → List ℕ
-day_text day = if is_taken day.number then civil_text (date_of day.number) else []
-
--- `-` where there is none
-abbrev pub or_dash : Option (List ℕ) → List ℕ
-or_dash None = codes "-"
-or_dash (Some text) = text
-
-abbrev pub step_text : Option ℕ → List ℕ
-step_text None = codes "-"
-step_text (Some step) = number_text (pos step)
+use Rattle.scr_csv.specs.Verbs.{verb_word}
 
 abbrev pub flow_fields : List (Day × ℤ) → List (List ℕ)
 flow_fields flows = flat_map (λ flow. day_text flow.0 ∷ number_text flow.1 ∷ []) flows

@@ -8,20 +8,20 @@ ghost use Rattle.scr_dates.specs.Civil.{IsDay};
 ghost use Rattle.scr_dates.specs.Text.{day_of_text};
 ghost use Rattle.scr_profile.specs.Segments.{segments};
 ghost use Rattle.scr_sheet.specs.Forms as formed;
-ghost use Rattle.scr_csv.specs.FieldForms as forms_of;
-ghost use Rattle.scr_csv.specs.Numbers.{number_value};
+ghost use Rattle.scr_spelling.specs.FieldForms as forms_of;
+ghost use Rattle.scr_spelling.specs.Numbers.{number_value};
 ghost use Rattle.scr_csv.specs.Reading.{field, next, only, found_to, read_to, numbers_from};
 ghost use Rattle.scr_csv.specs.Reading.{pairs_from, Answers};
 ghost use Rattle.scr_csv.specs.LineFields.{line_fields, is_printed, is_quote};
-ghost use Rattle.scr_csv.specs.Words.{value_of};
+ghost use Rattle.scr_spelling.specs.Words.{value_of};
 
+use crate::LineFault;
 use crate::source::Source;
-use crate::words::{Word, value};
-use crate::{LineFault, forms, numbers};
 use csv::ByteRecord;
 use scr_dates::{Day, parse_day};
 use scr_profile::Set;
 use scr_sheet::{AbsorbKey, Components, Edit, Flows, Name, Rates};
+use scr_spelling::{Word, forms, read_number, value};
 use std::alloc::Global;
 use std::marker::Model;
 
@@ -125,7 +125,7 @@ impl<'a> Fields<'a> {
         ensures formed { IfOk result formed.IsNumber }
     {
         let (number, field) = self.field()?;
-        numbers::read_number(field).ok_or(LineFault::Syntax(number))
+        read_number(field).ok_or(LineFault::Syntax(number))
     }
 
     pub fn step(&mut self) -> Result<Option<u8>, LineFault>

@@ -1,7 +1,10 @@
 //! The verbs of records.
+ghost use Rattle.scr_csv.specs.Verbs.{verb_word, all_verbs};
+
+use scr_spelling::Word;
 
 /// The verbs of records.
-#[derive(Clone, Copy, Debug, PartialEq, Eq)]
+#[derive(Clone, Copy)]
 pub enum Verb {
     Asof,
     Curve,
@@ -25,4 +28,66 @@ pub enum Verb {
     Fdb,
     Intangible,
     Remove,
+}
+
+const VERBS: [Verb; 22] = [
+    Verb::Asof,
+    Verb::Curve,
+    Verb::Group,
+    Verb::Security,
+    Verb::Flows,
+    Verb::Fund,
+    Verb::Hold,
+    Verb::Liability,
+    Verb::LiabilityFlows,
+    Verb::Absorb,
+    Verb::Segment,
+    Verb::Cat,
+    Verb::Lapse,
+    Verb::Rein,
+    Verb::Bank,
+    Verb::Due,
+    Verb::Op,
+    Verb::Sym,
+    Verb::Tax,
+    Verb::Fdb,
+    Verb::Intangible,
+    Verb::Remove,
+];
+
+impl Word for Verb {
+    ghost word_of = { verb_word };
+
+    ghost all = { all_verbs };
+
+    fn all() -> &'static [Verb] {
+        &VERBS
+    }
+
+    fn word(self) -> &'static [u8] {
+        match self {
+            Verb::Asof => b"asof",
+            Verb::Curve => b"curve",
+            Verb::Group => b"group",
+            Verb::Security => b"sec",
+            Verb::Flows => b"flows",
+            Verb::Fund => b"fund",
+            Verb::Hold => b"hold",
+            Verb::Liability => b"line",
+            Verb::LiabilityFlows => b"lflow",
+            Verb::Absorb => b"absorb",
+            Verb::Segment => b"seg",
+            Verb::Cat => b"cat",
+            Verb::Lapse => b"lapse",
+            Verb::Rein => b"rein",
+            Verb::Bank => b"bank",
+            Verb::Due => b"due",
+            Verb::Op => b"op",
+            Verb::Sym => b"sym",
+            Verb::Tax => b"tax",
+            Verb::Fdb => b"fdb",
+            Verb::Intangible => b"intangible",
+            Verb::Remove => b"drop",
+        }
+    }
 }

@@ -1,8 +1,10 @@
 -- The stressed rates in whole parts are those of the rule.
-use Rattle.std.proofs.Common.{◌≡◌, ℕ, ◌+◌, ◌*◌, ◌<◌, ◌≤◌, nat_le, Bool, true, false, refl, ap, ◌∙◌, get_or, ℤ, pos, negsuc, ◌+ℤ◌, ◌-ℤ◌, ◌*ℤ◌, ◌≤ℤ◌, ◌<ℤ◌, arith, leb-true, lit<, le_refl}
+use Rattle.std.proofs.Common.{◌≡◌, ℕ, ◌+◌, ◌*◌, ◌<◌, ◌≤◌, nat_le, Bool, true, false, refl, ap, ◌∙◌, get_or, ℤ, pos, negsuc, ◌+ℤ◌, ◌-ℤ◌, ◌*ℤ◌, ◌≤ℤ◌, ◌<ℤ◌, arith, leb-true, lit<, le_refl, FitsSigned, to_z-of_z, w64}
 use Rattle.std.specs.Prelude.{int_lt, if◌then◌else◌}
 use Rattle.std.specs.Int.{int_max}
-use Rattle.std.proofs.lemmas.Int.{ints, clamps}
+use Rattle.std.proofs.lemmas.Int.{ints, clamps, fits_signed_from_abs}
+use Rattle.std.specs.Int.{w32}
+use mir.Val.{to_z, of_z}
 use Rattle.std.proofs.lemmas.Bool.{cond_both}
 use Rattle.std.proofs.lemmas.List.FromFn.{get_or-map-range_with_len}
 use Rattle.std.proofs.lemmas.List.Sums.{AllPass-from_list_all}
@@ -16,6 +18,13 @@ use Rattle.scr_profile.specs.Interest.{rise, fall, stress}
 use Rattle.scr_profile.proofs.StressRules.{interest_up, interest_down}
 use Rattle.scr_curve.specs.Rate.{raised, lowered}
 use Rattle.scr_curve.specs.Parts.{parts, IsRateInMillionths, IsRateInParts}
+
+-- ---- a rate that may be handed in keeps its value in 32 bits
+pub narrowed_rate : (z : ℤ) → IsRateInMillionths z → to_z w32 (of_z w32 (to_z w64 (of_z w64 z))) ≡ z
+narrowed_rate z h =
+    let wide : FitsSigned w64 z = fits_signed_from_abs w64 _ (omega (arith, ints, h.low, h.high)) in
+    let narrow : FitsSigned w32 z = fits_signed_from_abs w32 _ (omega (arith, ints, h.low, h.high)) in
+    simp to_z-of_z
 
 -- ---- the tables
 pub rise_at : (place : ℕ) → place < 100 → get_or INTEREST_UP place 0 ≡ stress rise (place + 1)

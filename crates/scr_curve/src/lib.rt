@@ -9,6 +9,6 @@ mod table;
 mod tilt;
 
 pub use discount::discounts;
-pub use rate::{stressed, yearly};
+pub use rate::{stressed, yearly, yearly_at};
 pub use table::{Discounts, MAX_DISCOUNT};
 pub use tilt::Tilt;

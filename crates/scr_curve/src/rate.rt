@@ -6,7 +6,7 @@ ghost use Rattle.scr_num.specs.Fraction.{millionths};
 ghost use Rattle.scr_num.specs.Enclosure.{Measures};
 ghost use Rattle.scr_profile.specs.Interest.{rise, fall, stress};
 ghost use Rattle.scr_curve.specs.Rate.{tilted, rate};
-ghost use Rattle.scr_curve.specs.Parts.{parts, IsRateInMillionths, IsRateInParts, AreRates, rates_in_parts};
+ghost use Rattle.scr_curve.specs.Parts.{parts, IsCurveInMillionths, IsRateInMillionths, IsRateInParts, AreRates, rates_in_parts};
 
 use crate::Tilt;
 use scr_profile::{INTEREST_DOWN, INTEREST_UP};
@@ -46,6 +46,15 @@ pub fn yearly(rates: &[i64], tilt: Tilt) -> [i64; 100]
 {
     let narrow = narrowed(rates);
     stressed(&narrow[..rates.len()], tilt)
+}
+
+/// The same of the maturity at a place alone.
+pub fn yearly_at(rates: &[i64], tilt: Tilt, place: usize) -> i64
+    requires curve { IsCurveInMillionths rates.now }
+    requires place { place < 100 }
+    ensures { (d : ℤ) → result ≡ slice_index_or (rates_in_parts rates.now tilt) place d }
+{
+    stressed_rate(rates[place.min(rates.len() - 1)] as i32, tilt, place)
 }
 
 /// The same rates, followed by zeros.

@@ -1,23 +1,16 @@
 -- The anniversaries of a date, and the least number of years to a payment.
-use Rattle.std.proofs.Common.{◌≡◌, ℕ, zero, suc, ◌+◌, ◌<◌, ◌≤◌, inl, inr, Bool, true, false, not, ◌&&◌, ◌==◌, cond, min}
-use Rattle.std.proofs.Common.{sym, ◌∙◌, arith, ℤ, pos, neg_ℤ, ◌+ℤ◌, ◌-ℤ◌, ◌*ℤ◌, ◌<ℤ◌, ◌≤ℤ◌, int_le, unsigned_abs}
+use Rattle.std.proofs.Common.{◌≡◌, ℕ, zero, suc, ◌+◌, ◌<◌, ◌≤◌, ◌⊎◌, inl, inr, nat_lt, Bool, true, false, not, ◌&&◌, ◌||◌, ◌==◌, cond, min}
+use Rattle.std.proofs.Common.{sym, arith, ℤ, pos, neg_ℤ, ◌+ℤ◌, ◌-ℤ◌, ◌<ℤ◌, ◌≤ℤ◌, int_le, unsigned_abs}
 use Rattle.std.proofs.Common.{add-one}
 use Rattle.std.proofs.lemmas.Bool.{cases_lt}
 use Rattle.std.proofs.lemmas.Bool.Decides.{nat_tests}
 use Rattle.std.proofs.lemmas.Int.{ints, by_lt_z}
 use Rattle.jiff_core.specs.declared.civil.date.Date.{Date}
-use Rattle.jiff_core.specs.declared.span.Span.{Span}
-use Rattle.jiff_core.specs.declared.unit.Unit.TheVariants.{Year}
-use Rattle.jiff_core.specs.Span.{IsOnly}
-use Rattle.jiff_span.specs.Add.{date_add, CanAddToDate}
-use Rattle.jiff.proofs.SpanFacts.{date_add-years}
-use Rattle.jiff_core.specs.Calendar.{IsEpochDay, days_in_month, is_leap_year, IsCivilDate}
+use Rattle.jiff_core.specs.Calendar.{days_in_month, is_leap_year, IsCivilDate}
 use Rattle.jiff_core.specs.Date.{epoch_day}
 use Rattle.jiff_core.proofs.SignedLemmas.{signed_arith}
-use Rattle.jiff_core.proofs.CalendarLemmas.{days_in_month_bounds, days_from_civil-day_count, day_count_bounds}
-use Rattle.jiff_span.specs.Months.{add_months}
-use Rattle.jiff_span.proofs.MonthLemmas.{shift_parts}
-use Rattle.jiff_core.proofs.DateLemmas.{civil}
+use Rattle.jiff_core.proofs.CalendarLemmas.{days_in_month_bounds}
+use Rattle.jiff_core.proofs.DateLemmas.{civil, epoch_day-lt, epoch_day_same}
 use Rattle.scr_dates.specs.Civil.{civil_date, day_number}
 use Rattle.scr_dates.specs.Years.{years_later, is_reached, least_from, years_to, IsLeast}
 use Rattle.scr_dates.proofs.Dates.{days_from_civil-lt_year, date_of-epoch_day, unsigned_abs-same, year_in_range}
@@ -31,17 +24,6 @@ kept_day : (year : ℤ) (later : ℤ) (month day : ℕ) → day ≤ days_in_mont
     → cond ((month == 2) && (day == 29) && not (is_leap_year later)) 28 day ≡ min day (days_in_month later month)
 kept_day year later month day h = grind (arith, nat_tests)
 
--- the library moves a date by years as the definition does
-pub anniversary-add_months : (d : Date) (n : ℕ) → date_anniversary d n ≡ add_months d (pos n *ℤ pos 12)
-anniversary-add_months d n =
-    let moved = shift_parts d (pos n *ℤ pos 12) (d.year +ℤ pos n) d.month
-    (omega (arith, signed_arith)) d.month_in.0 d.month_in.1 in
-    rw (moved.0, moved.1, kept_day d.year (d.year +ℤ pos n) d.month d.day d.day_in.1)
-
--- a span of years takes a date of the library to its anniversary
-pub date_add-anniversary : (d : Date) (n : ℕ) (s : Span) → IsOnly Year (pos n) s → date_add d s ≡ date_anniversary d n
-date_add-anniversary d n s h = date_add-years d (pos n) s h ∙ sym (anniversary-add_months d n)
-
 -- the anniversary is a date
 pub anniversary_civil : (d : Date) (n : ℕ) → (d.year +ℤ pos n) ≤ℤ pos 9999
     → IsCivilDate (d.year +ℤ pos n) d.month (years_later (civil_date d) n).day
@@ -49,17 +31,6 @@ anniversary_civil d n h =
     let long = days_in_month_bounds (d.year +ℤ pos n) d.month in
     let day = kept_day d.year (d.year +ℤ pos n) d.month d.day d.day_in.1 in
     ((omega (arith, signed_arith, d.year_in), h), d.month_in, rw day (omega (arith, d.day_in), omega arith))
-
--- which the library has up to the year 9999
-pub can_add_years : (d : Date) (n : ℕ) (s : Span) → (d.year +ℤ pos n) ≤ℤ pos 9999 → IsOnly Year (pos n) s
-    → CanAddToDate d s
-can_add_years d n s h only =
-    let c = anniversary_civil d n h in
-    let moved = shift_parts d (pos n *ℤ pos 12) (d.year +ℤ pos n) d.month
-    (omega (arith, signed_arith)) d.month_in.0 d.month_in.1 in
-    let range : IsEpochDay (date_anniversary d n) =
-    omega (arith, signed_arith, days_from_civil-day_count, day_count_bounds _ _ _ c) in
-    (rw (only.months, moved.0) c.0, rw (date_add-anniversary d n s only) range)
 
 -- a later anniversary has a greater day number
 pub anniversary-lt : (d : Date) (n k : ℕ) → (d.year +ℤ pos k) ≤ℤ pos 9999 → n < k
@@ -166,3 +137,55 @@ found_same d e (suc n) low ahead year reached =
     (years_later (civil_date d) n).day e.year e.month e.day (anniversary_civil d n here) e.day_in.0
     (omega (arith, signed_arith)) in
     rw (← add-one) (found_after d (epoch_day e) n low there before (rw add-one reached))
+
+-- ---- what it is to come later in a year, and what it is not
+pub later_is : (m n d e : ℕ) → (nat_lt m n || ((m == n) && nat_lt d e)) ≡ true → (m < n) ⊎ ((m ≡ n) × (d < e))
+later_is m n d e h =
+    elim (cases_lt m n) [
+      | inl lt ↦ inl lt
+      | inr ge ↦
+          let same : m ≡ n = grind (arith, nat_tests) in
+          let less : d < e = grind (arith, nat_tests) in
+          inr (same, less)
+    ]
+
+pub other_is : (m n d e : ℕ) → (nat_lt m n || ((m == n) && nat_lt d e)) ≡ false → (n < m) ⊎ ((n ≡ m) × (e ≤ d))
+other_is m n d e h =
+    elim (cases_lt n m) [
+      | inl lt ↦ inl lt
+      | inr ge ↦
+          let same : n ≡ m = grind (arith, nat_tests) in
+          let least : e ≤ d = grind (arith, nat_tests) in
+          inr (same, least)
+    ]
+
+-- ---- a date and the anniversary in its year, by their months and days
+module _ (d e : Date) (n : ℕ) (year : d.year +ℤ pos n ≡ e.year) where
+  in_range : (d.year +ℤ pos n) ≤ℤ pos 9999
+  in_range = omega (arith, signed_arith, e.year_in)
+
+  -- the anniversary as a date of the library
+  there : Date
+  there =
+      let c = anniversary_civil d n in_range in
+      record { year = d.year +ℤ pos n; month = d.month; day = (years_later (civil_date d) n).day; year_in = c.0; month_in = c.1; day_in = c.2 }
+
+  its_day : (years_later (civil_date d) n).day ≡ min d.day (days_in_month e.year d.month)
+  its_day = rw (← year) (kept_day d.year (d.year +ℤ pos n) d.month d.day d.day_in.1)
+
+  pub anniversary_before : (d.month < e.month) ⊎ ((d.month ≡ e.month) × (d.day < e.day)) → date_anniversary d n <ℤ epoch_day e
+  unfolding there
+  anniversary_before (inl month) = epoch_day-lt there e (inr (year, inl month))
+  anniversary_before (inr (month, day)) = epoch_day-lt there e (inr (year, inr (month, omega (arith, its_day, day))))
+
+  pub anniversary_reached : (e.month < d.month) ⊎ ((e.month ≡ d.month) × (e.day ≤ d.day)) → epoch_day e ≤ℤ date_anniversary d n
+  unfolding there
+  anniversary_reached (inl month) = let lt = epoch_day-lt e there (inr (sym year, inl month)) in omega (arith, signed_arith, lt)
+  anniversary_reached (inr (month, day)) =
+      let most : e.day ≤ days_in_month e.year d.month = rw (← month) e.day_in.1 in
+      elim (cases_lt e.day (years_later (civil_date d) n).day) [
+        | inl before ↦ let lt = epoch_day-lt e there (inr (sym year, inr (month, before))) in omega (arith, signed_arith, lt)
+        | inr after ↦
+            let same = epoch_day_same e there (sym year) month (omega (arith, its_day, day, most, after)) in
+            omega (arith, signed_arith, same)
+      ]

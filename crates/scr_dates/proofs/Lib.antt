@@ -1,3 +1,4 @@
 pub mod Dates
 pub mod Texts
 pub mod Anniversaries
+pub mod LastDays

@@ -1,5 +1,5 @@
 -- How many years it is to a payment (this project's own).
-use Rattle.std.specs.Prelude.{ℕ, zero, suc, ◌+◌, ◌<◌, ◌≤◌, nat_le, Bool, not, ◌&&◌, ◌==◌, int_le, if◌then◌else◌, ℤ, pos}
+use Rattle.std.specs.Prelude.{ℕ, zero, suc, ◌+◌, ◌<◌, ◌≤◌, nat_le, nat_lt, Bool, not, ◌&&◌, ◌||◌, ◌==◌, int_le, if◌then◌else◌, ℤ, pos}
 use Rattle.std.specs.Prelude.{◌+ℤ◌, ◌-ℤ◌, ◌<ℤ◌, ◌≤ℤ◌, unsigned_abs}
 use Rattle.jiff_core.specs.Calendar.{is_leap_year}
 use Rattle.scr_dates.specs.declared.term.Maturity.{Maturity}
@@ -12,6 +12,10 @@ years_later date n =
     let year = date.year +ℤ pos n in
     let is_lost = (date.month == 2) && (date.day == 29) && not (is_leap_year year) in
     record { year = year; month = date.month; day = if is_lost then 28 else date.day }
+
+-- a date comes later in its year than another in its own
+abbrev pub is_later_in_year : CivilDate → CivilDate → Bool
+is_later_in_year date other = nat_lt date.month other.month || ((date.month == other.month) && nat_lt date.day other.day)
 
 -- the day n years after the reference day
 abbrev pub anniversary : ℤ → ℕ → ℤ

@@ -1,14 +1,12 @@
 //! How many years it is to a payment.
 ghost use Rattle.std.specs.Prelude.{◌≡◌, ◌<◌, ◌≤◌, pos, neg_ℤ, ◌+ℤ◌, ◌<ℤ◌, ◌≤ℤ◌};
 ghost use Rattle.jiff_core.specs.Date.{epoch_day};
-ghost use Rattle.scr_dates.specs.Civil.{IsDay, civil_date, day_number};
+ghost use Rattle.scr_dates.specs.Civil.{IsDay, civil_date};
 ghost use Rattle.scr_dates.specs.Years as spec;
-ghost use Rattle.scr_dates.specs.Years.{maturity_of, IsLeast, IsMaturity};
+ghost use Rattle.scr_dates.specs.Years.{is_later_in_year, maturity_of, IsLeast, IsMaturity};
 
 use crate::{Day, Maturity};
-use jiff::ToSpan;
-use jiff::civil::Date;
-use jiff_core::civil;
+use jiff_core::civil::Date;
 
 /// The maturity of a payment: the least number of years, from 1 on, that takes the reference date
 /// to the payment or past it. 29 February plus some years is 28 February in a year without a 29
@@ -41,7 +39,7 @@ fn years_to(asof: Day, pay: Day) -> u16
     // In the years before that of the payment the anniversary is too early, and in the years after
     // it late enough.
     let years = years_between(start, end);
-    if years_later(start, years) < pay {
+    if is_later_in_year(start, end) {
         years + 1
     } else {
         years
@@ -53,24 +51,20 @@ fn years_between(start: Date, end: Date) -> u16
     requires { start.year ≤ℤ end.year }
     ensures { start.year +ℤ pos result ≡ end.year }
 {
-    end.year().abs_diff(start.year())
+    end.year.abs_diff(start.year)
 }
 
 fn date_of(day: Day) -> Date
     requires { IsDay day.number }
     ensures { epoch_day result ≡ day.number }
 {
-    let plain = civil::Date::from_unix_epoch_day(i64::from(day.number)).unwrap();
-    Date::from_plain(plain)
+    Date::from_unix_epoch_day(i64::from(day.number)).unwrap()
 }
 
-// The date so many years later.
-fn years_later(date: Date, years: u16) -> Day
-    requires { (date.year +ℤ pos years) ≤ℤ pos 9999 }
-    ensures { result.number ≡ day_number (spec.years_later (civil_date date) years) }
+// The second date comes later in its year than the first in its own: it is after the anniversary. So it is also of
+// 29 February, which falls on the 28th only where no 29th follows.
+fn is_later_in_year(start: Date, end: Date) -> bool
+    ensures { result ≡ is_later_in_year (civil_date start) (civil_date end) }
 {
-    let later = date.checked_add(i64::from(years).years()).unwrap();
-    Day {
-        number: later.to_plain().to_unix_epoch_day(),
-    }
+    start.month < end.month || start.month == end.month && start.day < end.day
 }

@@ -18,12 +18,12 @@ use Rattle.scr_agg.specs.Unbeaten.{Holds, HasSeveral, hull_of}
 use Rattle.scr_agg.proofs.Chosen.{not_less}
 use Rattle.scr_agg.proofs.Enclosed.{low_below, high_above}
 use Rattle.scr_default.specs.Losses.{grains}
-use Rattle.scr_default.specs.Type1.{is_above, band_of, multiple, deviation_figure, charge_in, type1_figure}
+use Rattle.scr_default.specs.Type1.{is_above, band_of, multiple, deviation_figure, charge_figure, type1_figure}
 use Rattle.scr_default.specs.Type1Ends.{is_possible, charge_ends, possible_bands, type1_mask, type1_ends, hull_of_bands, bit_of}
 use Rattle.scr_num.specs.Amounts.{IsAmount}
 
 -- ---- squares in order
-less_not : (p q : Fraction) → is_less p q ≡ true → q ≼ p → ⊥
+pub less_not : (p q : Fraction) → is_less p q ≡ true → q ≼ p → ⊥
 less_not p q e h = both (p.num *ℤ pos q.den) (q.num *ℤ pos p.den) e h.cross
   where
     both : (a b : ℤ) → int_lt a b ≡ true → b ≤ℤ a → ⊥
@@ -86,7 +86,7 @@ band_is_possible total variance v h =
 pub charge-encloses : (total : ℕ) (variance : Ends) (v : Fraction) (band : ℕ)
     → Encloses 1000000 variance.low variance.high (Frac v)
     → let e = charge_ends (root_ends variance) total band in
-    Encloses 1000 e.low e.high (charge_in band (grains total) v)
+    Encloses 1000 e.low e.high (charge_figure band (grains total) v)
 charge-encloses total variance v zero h =
     Encloses-scale 1000 1000 3 1 _ _ (deviation_figure v) (multiple 3) (lit< tt)
     (record { positive = lit< tt; equal = refl })
@@ -159,7 +159,7 @@ type1-encloses total variance v h =
     let charges = charge_ends (root_ends variance) total in
     let within = held charges (is_possible (root_ends variance) total) band (band-below (grains total) v)
     (band_is_possible total variance v h) in
-    Encloses-wider 1000 _ _ _ _ (charge_in band (grains total) v) within.low within.high
+    Encloses-wider 1000 _ _ _ _ (charge_figure band (grains total) v) within.low within.high
     (charge-encloses total variance v band h)
 
 -- ---- the bits

@@ -7,7 +7,8 @@ use Rattle.scr_num.specs.Enclosure.{Encloses}
 use Rattle.scr_num.proofs.AmountBounds.{amount-add}
 use Rattle.scr_num.proofs.Enclosing.{Encloses-add, Encloses-plus}
 use Rattle.scr_default.specs.Probabilities.{probability_of_class}
-use Rattle.scr_default.specs.Variance.{between_coefficient, within_coefficient, between_term, between_exact, within_term, within_exact, variance_exact, sum_of_classes}
+use Rattle.scr_default.specs.LossesEnds.{totals_in, squares_in}
+use Rattle.scr_default.specs.Variance.{between_coefficient, within_coefficient, between_term_exact, between_exact, within_term_exact, within_exact, variance_exact, sum_of_classes}
 use Rattle.scr_default.specs.VarianceEnds.{between_num, between_den, within_num, within_den, between_term_ends, between_ends, within_term_ends, within_ends, variance_ends, sum_of_class_ends}
 use Rattle.scr_num.specs.Amounts.{IsAmount}
 use Rattle.scr_default.proofs.AddedUp.{ends_below, Encloses-sum, amount-sum_below}
@@ -16,39 +17,39 @@ use Rattle.scr_default.proofs.Parts.{measured, Encloses-term, amount-term}
 
 -- ---- what it encloses
 between : (totals : List ℕ) (j k : ℕ) → j < 6 → k < 6
-    → let e = between_term_ends totals j k in Encloses 1000000 e.low e.high (Frac (between_term totals j k))
+    → let e = between_term_ends totals j k in Encloses 1000000 e.low e.high (Frac (between_term_exact (totals_in totals) j k))
 between totals j k a b =
     let c = between_coefficient (probability_of_class j) (probability_of_class k) in
     let is = between-quotient j k a b in
     let x = slice_index totals j * slice_index totals k in
-    Encloses-term x (between_num j k) (between_den j k) (between_term totals j k) is.positive
+    Encloses-term x (between_num j k) (between_den j k) (between_term_exact (totals_in totals) j k) is.positive
     (measured c.num x (between_num j k) (between_den j k) c.den is.positive is.equal)
 
 within : (squares : List ℕ) (j : ℕ) → j < 6 → let e = within_term_ends squares j in
-    Encloses 1000000 e.low e.high (Frac (within_term squares j))
+    Encloses 1000000 e.low e.high (Frac (within_term_exact (squares_in squares) j))
 within squares j a =
     let c = within_coefficient (probability_of_class j) in
     let is = within-quotient j a in
     let x = slice_index squares j in
-    Encloses-term x (within_num j) (within_den j) (within_term squares j) is.positive
+    Encloses-term x (within_num j) (within_den j) (within_term_exact (squares_in squares) j) is.positive
     (measured c.num x (within_num j) (within_den j) c.den is.positive is.equal)
 
 row : (totals : List ℕ) (j : ℕ) → j < 6
     → let e = sum_of_class_ends (between_term_ends totals j) in
-    Encloses 1000000 e.low e.high (Frac (sum_of_classes (between_term totals j)))
-row totals j a = Encloses-sum 1000000 (between_term_ends totals j) (between_term totals j) 6 (lit< tt)
+    Encloses 1000000 e.low e.high (Frac (sum_of_classes (between_term_exact (totals_in totals) j)))
+row totals j a = Encloses-sum 1000000 (between_term_ends totals j) (between_term_exact (totals_in totals) j) 6 (lit< tt)
     (λ k b. between totals j k a b)
 
 pub variance-encloses : (totals squares : List ℕ)
-    → let e = variance_ends totals squares in Encloses 1000000 e.low e.high (Frac (variance_exact totals squares))
+    → let e = variance_ends totals squares in Encloses 1000000 e.low e.high (Frac (variance_exact (totals_in totals) (squares_in squares)))
 variance-encloses totals squares =
     let a = between_ends totals in
     let b = within_ends squares in
-    Encloses-plus 1000000 (a.low +ℤ b.low) (a.high +ℤ b.high) (between_exact totals) (within_exact squares)
-    (Encloses-add 1000000 a.low a.high b.low b.high (Frac (between_exact totals)) (Frac (within_exact squares))
+    Encloses-plus 1000000 (a.low +ℤ b.low) (a.high +ℤ b.high) (between_exact (totals_in totals)) (within_exact (squares_in squares))
+    (Encloses-add 1000000 a.low a.high b.low b.high (Frac (between_exact (totals_in totals))) (Frac (within_exact (squares_in squares)))
     (Encloses-sum 1000000 (λ j. sum_of_class_ends (between_term_ends totals j))
-    (λ j. sum_of_classes (between_term totals j)) 6 (lit< tt) (row totals))
-    (Encloses-sum 1000000 (within_term_ends squares) (within_term squares) 6 (lit< tt) (within squares)))
+    (λ j. sum_of_classes (between_term_exact (totals_in totals) j)) 6 (lit< tt) (row totals))
+    (Encloses-sum 1000000 (within_term_ends squares) (within_term_exact (squares_in squares)) 6 (lit< tt) (within squares)))
 
 -- ---- how large it is
 abbrev pub AreLosses : List ℕ → Type 0

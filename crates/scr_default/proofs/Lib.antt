@@ -4,3 +4,4 @@ pub mod Parts
 pub mod Enclosed
 pub mod Band
 pub mod Roots
+pub mod Alike

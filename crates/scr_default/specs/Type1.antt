@@ -25,10 +25,10 @@ abbrev pub deviation_figure : Fraction → Figure
 deviation_figure variance = RootOf (Frac variance)
 
 -- three times the standard deviation, five times, and the whole total (Article 200(1), (2) and (3))
-abbrev pub charge_in : (band : ℕ) (total variance : Fraction) → Figure
-charge_in zero total variance = Times (deviation_figure variance) (multiple 3)
-charge_in (suc zero) total variance = Times (deviation_figure variance) (multiple 5)
-charge_in (suc (suc _)) total variance = Frac total
+abbrev pub charge_figure : (band : ℕ) (total variance : Fraction) → Figure
+charge_figure zero total variance = Times (deviation_figure variance) (multiple 3)
+charge_figure (suc zero) total variance = Times (deviation_figure variance) (multiple 5)
+charge_figure (suc (suc _)) total variance = Frac total
 
 abbrev pub type1_figure : (total variance : Fraction) → Figure
-type1_figure total variance = charge_in (band_of total variance) total variance
+type1_figure total variance = charge_figure (band_of total variance) total variance

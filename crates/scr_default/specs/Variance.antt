@@ -1,11 +1,10 @@
 -- The variance of the loss distribution of the type 1 exposures, in square cents: Article 201 of Delegated Regulation
 -- (EU) 2015/35. Nothing is rounded. The totals are the losses given default of the counterparties of each class of
--- probability, in grains, and the squares are the sums of their squared losses, in square grains.
-use Rattle.std.specs.Prelude.{ℕ, suc, ℤ, pos, List, slice_index}
+-- probability, and the squares are the sums of their squared losses.
+use Rattle.std.specs.Prelude.{ℕ, suc, ℤ, pos}
 use Rattle.std.proofs.Common.{lit<, zero-lt-suc}
 use Rattle.scr_num.specs.Fraction.{Fraction, over, whole, plus, minus, product, zero_fraction}
 use Rattle.scr_default.specs.Probabilities.{probability_of_class}
-use Rattle.scr_default.specs.Losses.{grains}
 use Rattle.scr_default.specs.Sums.{sum_below}
 
 -- decimal numbers of one and two places
@@ -14,10 +13,6 @@ tenths n = over (pos n) 10 (lit< tt)
 
 abbrev pub hundredths : ℕ → Fraction
 hundredths n = over (pos n) 100 (lit< tt)
-
--- so many square grains
-abbrev pub square_grains : ℕ → Fraction
-square_grains n = over (pos n) 1_000_000 (lit< tt)
 
 -- one divided by p, where p is above 0
 abbrev pub inverse_of : ℤ → ℕ → Fraction
@@ -46,20 +41,19 @@ abbrev pub sum_of_classes : (ℕ → Fraction) → Fraction
 sum_of_classes term = sum_below zero_fraction plus term 6
 
 -- over all ordered pairs of classes, a class with itself among them
-abbrev pub between_term : (totals : List ℕ) (j k : ℕ) → Fraction
-between_term totals j k =
-    product (between_coefficient (probability_of_class j) (probability_of_class k))
-    (product (grains (slice_index totals j)) (grains (slice_index totals k)))
+abbrev pub between_term_exact : (totals : ℕ → Fraction) (j k : ℕ) → Fraction
+between_term_exact totals j k =
+    product (between_coefficient (probability_of_class j) (probability_of_class k)) (product (totals j) (totals k))
 
-abbrev pub between_exact : List ℕ → Fraction
-between_exact totals = sum_of_classes (λ j. sum_of_classes (between_term totals j))
+abbrev pub between_exact : (totals : ℕ → Fraction) → Fraction
+between_exact totals = sum_of_classes (λ j. sum_of_classes (between_term_exact totals j))
 
-abbrev pub within_term : (squares : List ℕ) → ℕ → Fraction
-within_term squares j = product (within_coefficient (probability_of_class j)) (square_grains (slice_index squares j))
+abbrev pub within_term_exact : (squares : ℕ → Fraction) → ℕ → Fraction
+within_term_exact squares j = product (within_coefficient (probability_of_class j)) (squares j)
 
-abbrev pub within_exact : List ℕ → Fraction
-within_exact squares = sum_of_classes (within_term squares)
+abbrev pub within_exact : (squares : ℕ → Fraction) → Fraction
+within_exact squares = sum_of_classes (within_term_exact squares)
 
 -- the sum of both (Article 201(1))
-abbrev pub variance_exact : (totals squares : List ℕ) → Fraction
+abbrev pub variance_exact : (totals squares : ℕ → Fraction) → Fraction
 variance_exact totals squares = plus (between_exact totals) (within_exact squares)

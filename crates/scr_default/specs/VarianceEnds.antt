@@ -9,18 +9,18 @@ use Rattle.scr_default.specs.Sums.{sum_below}
 abbrev pub probability : ℕ → ℕ
 probability class = slice_index PD class
 
-abbrev pub spread_of : ℕ → ℕ
-spread_of class = probability class * (100_000 - probability class)
+abbrev pub dispersion_units : ℕ → ℕ
+dispersion_units class = probability class * (100_000 - probability class)
 
 -- the coefficients of Article 201(2) and (3), as quotients of whole numbers
 unfoldable pub between_num : (j k : ℕ) → ℕ
-between_num j k = 4 * spread_of j * spread_of k
+between_num j k = 4 * dispersion_units j * dispersion_units k
 
 unfoldable pub between_den : (j k : ℕ) → ℕ
 between_den j k = 10_000_000_000 * (500_000 * (probability j + probability k) - 4 * probability j * probability k)
 
 unfoldable pub within_num : ℕ → ℕ
-within_num j = 3 * spread_of j
+within_num j = 3 * dispersion_units j
 
 unfoldable pub within_den : ℕ → ℕ
 within_den j = 100_000 * (500_000 - 2 * probability j)

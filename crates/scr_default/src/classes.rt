@@ -28,9 +28,9 @@ pub(crate) fn probability(class: usize) -> u128
 }
 
 // Its product with what it leaves of 1.
-pub(crate) fn spread(class: usize) -> u128
+pub(crate) fn dispersion(class: usize) -> u128
     requires { class < 6 }
-    ensures value { result ≡ worked.spread_of class }
+    ensures value { result ≡ worked.dispersion_units class }
     ensures size { result ≤ 420_000_000 }
 {
     let probability = probability(class);

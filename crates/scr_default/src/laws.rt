@@ -10,15 +10,23 @@ ghost use Rattle.scr_agg.specs.Unbeaten.{HasSeveral};
 ghost use Rattle.scr_profile.specs.declared.tables.TheConstants.{PD};
 ghost use Rattle.scr_default.specs.Probabilities.{probability_of_step, probability_of_class, class_of_step};
 ghost use Rattle.scr_default.specs.Losses.{grains, lgd_bank_exact, lgd_rein_exact};
-ghost use Rattle.scr_default.specs.LossesEnds.{lgd_bank_grains, lgd_rein_grains};
+ghost use Rattle.scr_default.specs.LossesEnds.{lgd_bank_grains, lgd_rein_grains, totals_in, squares_in};
 ghost use Rattle.scr_default.specs.Variance.{variance_exact};
 ghost use Rattle.scr_default.specs.VarianceEnds.{variance_ends};
 ghost use Rattle.scr_default.specs.Type1.{band_of, type1_figure};
 ghost use Rattle.scr_default.specs.Type1Ends.{possible_bands, type1_ends, type1_mask};
-ghost use Rattle.scr_default.specs.Default.{type2_figure, default_figure};
+ghost use Rattle.scr_agg.specs.Correlated.{table_of};
+ghost use Rattle.scr_profile.specs.declared.correlations.TheConstants.{DEFAULT};
+ghost use Rattle.scr_default.specs.Default.{type2_figure, default_correlations, default_figure};
 ghost use Rattle.scr_default.specs.DefaultEnds.{type2_ends, default_ends};
 ghost use Rattle.scr_num.specs.Amounts.{IsAmount};
 ghost use Rattle.scr_default.specs.declared.TheConstants.{MAX_LOSS};
+
+/// The table that the root over type 1 and type 2 exposures is taken over is that of Delegated Regulation (EU) 2015/35,
+/// Article 189(1).
+pub fn table()
+    ensures default { table_of DEFAULT ≡ default_correlations }
+{}
 
 /// The table in hundred-thousandths has the probabilities of Delegated Regulation (EU) 2015/35, Article 199. The steps
 /// of one class share one probability, a group without a step has that of step 5, and a later class has a greater one.
@@ -47,7 +55,7 @@ pub fn losses()
 /// For all totals and squares the ends of the variance enclose the exact one.
 pub fn variance_enclosure()
     ensures encloses { (totals squares : List ℕ) → let worked = variance_ends totals squares in
-        Encloses 1_000_000 worked.low worked.high (Frac (variance_exact totals squares)) }
+        Encloses 1_000_000 worked.low worked.high (Frac (variance_exact (totals_in totals) (squares_in squares))) }
     ensures size { (totals squares : List ℕ) → ((k : ℕ) → k < 6 → slice_index totals k ≤ MAX_LOSS)
         → ((k : ℕ) → k < 6 → slice_index squares k ≤ slice_index totals k * slice_index totals k)
         → IsAmount (105 * 10 ^ 30) (variance_ends totals squares) }
@@ -64,7 +72,7 @@ pub fn type1_enclosure()
     ensures over_losses { (total : ℕ) (totals squares : List ℕ)
         → let worked = type1_ends total (variance_ends totals squares) in
         Encloses 1000 worked.low worked.high
-        (type1_figure (grains total) (variance_exact totals squares)) }
+        (type1_figure (grains total) (variance_exact (totals_in totals) (squares_in squares))) }
     ensures band { (total : ℕ) (variance : Ends) (exact : Fraction)
         → Encloses 1_000_000 variance.low variance.high (Frac exact)
         → IsBitSet (type1_mask total variance) (band_of (grains total) exact) }

@@ -3,7 +3,7 @@
 ghost use Rattle.std.specs.Prelude.{◌≡◌, ◌*◌, ◌^◌, ◌<◌, ◌≤◌};
 ghost use Rattle.scr_default.specs.VarianceEnds.{between_num, between_den, within_num, within_den};
 
-use crate::classes::{probability, spread};
+use crate::classes::{dispersion, probability};
 
 /// At most a fortieth, with a product of both that leaves room in 128 bits.
 #[derive(Clone, Copy)]
@@ -24,7 +24,7 @@ pub(crate) fn between(j: usize, k: usize) -> Coefficient
 {
     let (p, q) = (probability(j), probability(k));
     Coefficient {
-        num: 4 * spread(j) * spread(k),
+        num: 4 * dispersion(j) * dispersion(k),
         den: 10_000_000_000 * (500_000 * (p + q) - 4 * p * q),
     }
 }
@@ -36,7 +36,7 @@ pub(crate) fn within(j: usize) -> Coefficient
     ensures den { result.den ≡ within_den j }
 {
     Coefficient {
-        num: 3 * spread(j),
+        num: 3 * dispersion(j),
         den: 100_000 * (500_000 - 2 * probability(j)),
     }
 }

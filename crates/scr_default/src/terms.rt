@@ -4,6 +4,7 @@ ghost use Rattle.std.specs.Prelude.{◌≡◌, ℕ, ◌*◌, ◌^◌, ◌<◌, �
 ghost use Rattle.scr_num.specs.Figure.{Frac};
 ghost use Rattle.scr_num.specs.Enclosure.{Encloses};
 ghost use Rattle.scr_num.specs.Rounding.{ends, exact_ends, scale_ends};
+ghost use Rattle.scr_default.specs.LossesEnds.{totals_in, squares_in};
 ghost use Rattle.scr_default.specs.Variance.{variance_exact};
 ghost use Rattle.scr_default.specs.VarianceEnds.{between_term_ends, within_term_ends, sum_of_class_ends, between_ends, within_ends, variance_ends};
 ghost use Rattle.scr_num.specs.Amounts.{IsAmount};
@@ -23,7 +24,7 @@ pub fn variance(totals: &[u64; 6], squares: &[u128; 6]) -> Span
         → slice_index squares.now k ≤ slice_index totals.now k * slice_index totals.now k }
     ensures ends { ends result ≡ variance_ends totals.now squares.now }
     ensures encloses { Encloses 1_000_000 result.low result.high
-        (Frac (variance_exact totals.now squares.now)) }
+        (Frac (variance_exact (totals_in totals.now) (squares_in squares.now))) }
     ensures size { IsAmount (105 * 10 ^ 30) (ends result) }
 {
     add(between_classes(totals), within_classes(squares))

@@ -1,6 +1,6 @@
 -- The numbers of a factor file (its form is this project's own): the factors of spread risk (Delegated Regulation (EU)
--- 2015/35, Article 176) and the standard deviations and correlations of premium and reserve risk (Articles 117 and
--- 148).
+-- 2015/35, Article 176), and of premium and reserve risk the standard deviations (Articles 117 and 148, Annexes II and
+-- XIV) and the correlations between the non-life segments (Annex IV).
 use Rattle.std.specs.Prelude.{◌≡◌, ℕ, ◌+◌, ◌-◌, ◌*◌, ◌≤◌, List, [], All, length, slice_index, slice_index_or, pos}
 use Rattle.scr_profile.specs.declared.matrix.Matrix.{Matrix}
 use Rattle.scr_profile.specs.declared.set.Set.{Set}

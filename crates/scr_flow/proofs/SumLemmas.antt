@@ -177,3 +177,17 @@ sum_more i flows es sum term z d a same is low high h =
       high = size_more (unsigned_abs (get_or flows i z)) (sum_by unsigned_abs (drop (i + 1) flows)) (most * sum_by unsigned_abs flows) (sum.high +ℤ term.high) sum.high term.high refl high
           (rw rest at h.high);
     }
+
+-- where nothing is paid, the sum stays
+flow_zero : (e : Ends) → flow_ends (pos 0) e ≡ exact_ends (pos 0)
+flow_zero e =
+    let low : (pos 0 *ℤ e.low) ≡ pos 0 = omega (arith, ints) in
+    let high : (pos 0 *ℤ e.high) ≡ pos 0 = omega (arith, ints) in
+    rw (low, high) refl
+
+pub sum_kept : (i : ℕ) (flows : List ℤ) (es : List Ends) (sum : Ends) (z : ℤ) → i < length flows → length flows ≡ length es → get_or flows i z ≡ pos 0
+    → IsSumBefore i flows es sum → IsSumBefore (i + 1) flows es sum
+sum_kept i flows es sum z a same none h =
+    let d = exact_ends (pos 0) in
+    let term : d ≡ flow_ends (get_or flows i z) (get_or es i d) = rw none (sym (flow_zero (get_or es i d))) in
+    subst (IsSumBefore (i + 1) flows es) (add_ends-zero sum) (sum_more i flows es sum d z d a same term (omega arith) (omega arith) h)

@@ -8,5 +8,5 @@ mod loss;
 mod value;
 
 pub use due::bucket;
-pub use loss::{per_million, unit_loss};
+pub use loss::{curve_loss, per_million, unit_loss};
 pub use value::present;

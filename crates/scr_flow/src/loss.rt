@@ -1,21 +1,22 @@
 //! What payments lose.
 
-ghost use Rattle.std.specs.Prelude.{◌≡◌, ℕ, ◌*◌, ◌≤◌, All, map, sum_by, unsigned_abs};
+ghost use Rattle.std.specs.Prelude.{◌≡◌, ℕ, ℤ, ◌*◌, ◌<◌, ◌≤◌, All, map, slice_index_or, sum_by, unsigned_abs};
 ghost use Rattle.scr_num.specs.Fraction.{Fraction};
 ghost use Rattle.scr_num.specs.Figure.{Frac};
 ghost use Rattle.scr_num.specs.Rounding.{ends};
 ghost use Rattle.scr_num.specs.Enclosure.{Encloses};
-ghost use Rattle.scr_curve.specs.Parts.{AreRates};
+ghost use Rattle.scr_curve.specs.Parts.{AreRates, IsCurveInMillionths, rates_in_parts};
 ghost use Rattle.scr_curve.specs.DiscountEnds.{one, IsDiscount, EncloseDiscounts};
 ghost use Rattle.scr_flow.specs.Loss.{loss_exact};
-ghost use Rattle.scr_flow.specs.Sums.{difference};
+ghost use Rattle.scr_curve.specs.declared.tilt.Tilt.TheVariants as tilts;
+ghost use Rattle.scr_flow.specs.Sums.{difference, flow_ends};
 ghost use Rattle.scr_flow.specs.LossEnds.{loss_ends, scaled_ends};
 ghost use Rattle.scr_num.specs.Sizes.{IsWithin};
 ghost use Rattle.scr_curve.specs.declared.table.TheConstants.{MAX_DISCOUNT};
 ghost use Rattle.scr_profile.specs.declared.limits.TheConstants.{MAX_HELD};
 
 use crate::value::weighted;
-use scr_curve::Discounts;
+use scr_curve::{Discounts, Tilt, yearly_at};
 use scr_num::{Span, add, exact, scale, sub};
 
 /// What payments after 1 to 100 years lose where the rates `base` become `stressed`, in 10^-18 of their unit: the sum
@@ -49,6 +50,53 @@ pub fn unit_loss(
         sum = add(sum, weighted(flows[i], fall));
     }
     sum
+}
+
+/// The same where the rates of a curve in millionths are stressed by a tilt. The rates are found only of the maturities at
+/// which something is paid, so that it costs little where payments are few.
+pub fn curve_loss(
+    flows: &[i64; 100],
+    rates: &[i64],
+    from: &Discounts,
+    tilt: Tilt,
+    to: &Discounts,
+) -> Span
+    requires small { sum_by unsigned_abs flows.now ≤ 100_000_000_000_000 }
+    requires curve { IsCurveInMillionths rates.now }
+    requires from_in { All (λ span. IsDiscount (ends span)) from.now.at }
+    requires to_in { All (λ span. IsDiscount (ends span)) to.now.at }
+    ensures ends { ends result ≡ loss_ends flows.now (rates_in_parts rates.now tilts.Base) (map ends from.now.at)
+        (rates_in_parts rates.now tilt) (map ends to.now.at) }
+    ensures low_size { unsigned_abs result.low ≤ MAX_DISCOUNT * sum_by unsigned_abs flows.now }
+    ensures high_size { unsigned_abs result.high ≤ MAX_DISCOUNT * sum_by unsigned_abs flows.now }
+{
+    let mut sum = exact(0);
+    for i in 0..100 {
+        let flow = flows[i];
+        let (before, after) = (from.at[i], to.at[i]);
+        if flow != 0 {
+            sum = add(sum, lost_at(flow, rates, i, before, tilt, after));
+        }
+    }
+    sum
+}
+
+/// What is lost of the payment of one maturity.
+fn lost_at(flow: i64, rates: &[i64], place: usize, from: Span, tilt: Tilt, to: Span) -> Span
+    requires flow_in { unsigned_abs flow ≤ 100_000_000_000_000 }
+    requires curve { IsCurveInMillionths rates.now }
+    requires place { place < 100 }
+    requires from_in { IsDiscount (ends from) }
+    requires to_in { IsDiscount (ends to) }
+    ensures ends { (d : ℤ) → ends result ≡ flow_ends flow
+        (difference (slice_index_or (rates_in_parts rates.now tilts.Base) place d) (ends from)
+        (slice_index_or (rates_in_parts rates.now tilt) place d) (ends to)) }
+    ensures low_size { unsigned_abs result.low ≤ MAX_DISCOUNT * unsigned_abs flow }
+    ensures high_size { unsigned_abs result.high ≤ MAX_DISCOUNT * unsigned_abs flow }
+{
+    let base = yearly_at(rates, Tilt::Base, place);
+    let stressed = yearly_at(rates, tilt, place);
+    weighted(flow, fall_of(base, from, stressed, to))
 }
 
 /// By how much the discount of one maturity falls.

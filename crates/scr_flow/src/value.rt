@@ -27,7 +27,11 @@ pub fn present(flows: &[i64; 100], d: &Discounts) -> Span
 {
     let mut sum = exact(0);
     for i in 0..100 {
-        sum = add(sum, weighted(flows[i], d.at[i]));
+        let flow = flows[i];
+        let discount = d.at[i];
+        if flow != 0 {
+            sum = add(sum, weighted(flow, discount));
+        }
     }
     sum
 }

@@ -140,12 +140,12 @@ impl Links {
     /// Makes room: for so many edges more, and for numbers below `size`. What room there was stays,
     /// and so does every edge. Where memory is refused, all is as before; room for more than
     /// 2^32 - 2 edges is refused as if for want of memory.
-    pub fn reserve(&mut self, alloc: Global, spare: u32, size: u32) -> Result<(), NoMemory>
+    pub fn reserve(&mut self, alloc: Global, n: u32, size: u32) -> Result<(), NoMemory>
         ensures ok { OnOk result (self.new
-            ≡ linked self.old.edges (max self.old.spare spare) (max self.old.size size)) }
+            ≡ linked self.old.edges (max self.old.spare n) (max self.old.size size)) }
         ensures err { OnErr result (self.new ≡ self.old) }
     {
-        let places = places_with(self.places, self.spare, spare)?;
+        let places = places_with(self.places, self.spare, n)?;
         let size = self.size.max(size);
         self.tables.grow(places, size)?;
         free(&mut self.tables.order, self.places, places);
@@ -176,11 +176,11 @@ impl Links {
 
     /// Takes an edge that stands out. The others stay in their order. Its place can be joined at
     /// again, so from then on its name may be that of another edge.
-    pub fn cut(&mut self, id: EdgeId)
-        requires { IsTrue (is_edge self.old id) }
-        ensures { self.new ≡ linked (edges_without self.old id) (self.old.spare + 1) self.old.size }
+    pub fn cut(&mut self, e: EdgeId)
+        requires { IsTrue (is_edge self.old e) }
+        ensures { self.new ≡ linked (edges_without self.old e) (self.old.spare + 1) self.old.size }
     {
-        let place = id.place;
+        let place = e.place;
         let Pair { source, dependant } = self.tables.pairs[place as usize];
         self.tables.by_source.remove(source, place);
         self.tables.by_dependant.remove(dependant, place);
@@ -191,27 +191,27 @@ impl Links {
 
     /// What a number is reckoned from: each source with the name of its edge, in the order in which
     /// the edges joined. A number at `size` or above has none.
-    pub fn sources(&self, number: u32) -> Walk<'_>
-        ensures { result ≡ sources_of self.now number }
+    pub fn sources(&self, n: u32) -> Walk<'_>
+        ensures { result ≡ sources_of self.now n }
     {
         Walk::new(
             &self.tables.by_dependant,
             self.tables.pairs.as_slice(),
             Towards::Source,
-            number,
+            n,
         )
     }
 
     /// What is reckoned from a number: each dependant with the name of its edge, in the order in
     /// which the edges joined. A number at `size` or above has none.
-    pub fn dependants(&self, number: u32) -> Walk<'_>
-        ensures { result ≡ dependants_of self.now number }
+    pub fn dependants(&self, n: u32) -> Walk<'_>
+        ensures { result ≡ dependants_of self.now n }
     {
         Walk::new(
             &self.tables.by_source,
             self.tables.pairs.as_slice(),
             Towards::Dependant,
-            number,
+            n,
         )
     }
 

@@ -7,7 +7,8 @@ use Rattle.scr_num.specs.Fraction.{whole, percent, product}
 use Rattle.scr_num.specs.Figure.{Figure}
 use Rattle.scr_num.specs.Table.{IsSquare}
 use Rattle.scr_num.specs.Rounding.{Ends, ends, or_zero}
-use Rattle.scr_num.specs.Amounts.{IsAmount, AreAmounts, AreTogether}
+use Rattle.scr_num.specs.Amounts.{IsAmount, AreAmounts}
+use Rattle.scr_num.specs.Sizes.{AreTogether}
 use Rattle.scr_num.specs.Enclosure.{Encloses}
 use Rattle.scr_num.specs.Sums.{EncloseEach, parts_of, sum_ends, sum_figure}
 use Rattle.scr_num.proofs.AmountBounds.{amount-exact, amount-add, amount-high, amount-total}

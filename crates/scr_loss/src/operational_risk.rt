@@ -15,31 +15,31 @@ use scr_profile::OpInput;
 
 /// The capital requirement for operational risk, of the Basic Solvency Capital Requirement in
 /// grains and of premiums and provisions: Delegated Regulation (EU) 2015/35, Article 204.
-pub fn operational(bscr: Span, input: &OpInput) -> Operational
+pub fn operational(bscr: Span, op: &OpInput) -> Operational
     requires low { unsigned_abs bscr.low ≤ 5_000_000_000_000_000_000 }
     requires high { unsigned_abs bscr.high ≤ 5_000_000_000_000_000_000 }
-    requires input { IsWithinLimits input.now }
-    ensures prem { ends result.prem ≡ prem_ends input.now }
-    ensures prov { ends result.prov ≡ prov_ends input.now }
+    requires input { IsWithinLimits op.now }
+    ensures prem { ends result.prem ≡ prem_ends op.now }
+    ensures prov { ends result.prov ≡ prov_ends op.now }
     ensures cap { ends result.cap ≡ cap_ends (ends bscr) }
-    ensures op { ends result.op ≡ op_ends (cap_ends (ends bscr)) (prem_ends input.now)
-        (prov_ends input.now) input.now.expul }
-    ensures prem_within { Encloses 1000 result.prem.low result.prem.high (prem_figure input.now) }
-    ensures prov_within { Encloses 1000 result.prov.low result.prov.high (prov_figure input.now) }
+    ensures op { ends result.op ≡ op_ends (cap_ends (ends bscr)) (prem_ends op.now)
+        (prov_ends op.now) op.now.expul }
+    ensures prem_within { Encloses 1000 result.prem.low result.prem.high (prem_figure op.now) }
+    ensures prov_within { Encloses 1000 result.prov.low result.prov.high (prov_figure op.now) }
     ensures cap_within { (f : Figure) → Encloses 1000 bscr.low bscr.high f
         → Encloses 1000 result.cap.low result.cap.high (cap_figure f) }
     ensures op_within { (f : Figure) → Encloses 1000 bscr.low bscr.high f
         → Encloses 1000 result.op.low result.op.high
-        (op_figure (cap_figure f) (prem_figure input.now) (prov_figure input.now) input.now.expul) }
+        (op_figure (cap_figure f) (prem_figure op.now) (prov_figure op.now) op.now.expul) }
 {
-    let prem = prem(input);
-    let prov = prov(input);
+    let prem = prem(op);
+    let prov = prov(op);
     let cap = cap(bscr);
     Operational {
         prem,
         prov,
         cap,
-        op: op(cap, prem, prov, input.expul),
+        op: self::op(cap, prem, prov, op.expul),
     }
 }
 

@@ -1,10 +1,11 @@
 -- The text of records that have their form is read as those records.
 use Rattle.std.proofs.Common.{◌≡◌, ℕ, zero, suc, ◌+◌, ◌-◌, ◌<◌, ◌==◌, ◌&&◌, ◌++◌, Bool, true, false, cond}
-use Rattle.std.proofs.Common.{List, [], ◌∷◌, length, get_or, map, codes, refl, ap, ◌∙◌, arith, Result, Ok, Err}
+use Rattle.std.proofs.Common.{List, [], ◌∷◌, length, get_or, map, codes, refl, ap, ◌∙◌, arith, rules, Result, Ok, Err}
 use Rattle.std.specs.Prelude.{nat_le, filter}
 use Rattle.std.specs.List.{AllByRecursion, list_all, enumerate_from, slice_split}
 use Rattle.std.specs.Str.Lines.{lines, lines_of_parts, strip_carriage_return}
 use Rattle.std.proofs.lemmas.List.Splits.{slice_split_at}
+use Rattle.std.proofs.lemmas.Bool.{and_parts}
 use mathlib.Core.List.{append_assoc}
 use Rattle.scr_sheet.specs.declared.edit.Edit.{Edit}
 use Rattle.scr_sheet.specs.Forms.{Formed}
@@ -12,12 +13,10 @@ use Rattle.scr_csv.specs.LineFields.{is_printed}
 use Rattle.scr_csv.specs.Lines.{records, without_mark, is_record}
 use Rattle.scr_csv.specs.Records.{edit_of_line}
 use Rattle.scr_csv.specs.RecordTexts.{edit_text, edit_verb, record_text}
-use Rattle.scr_csv.specs.Words.{verb_word}
+use Rattle.scr_csv.specs.Verbs.{verb_word}
 use Rattle.scr_csv.specs.declared.fault.LineFault.{LineFault}
 use Rattle.scr_csv.specs.declared.verb.Verb.{Verb}
-use Rattle.scr_csv.specs.declared.verb.Verb.TheVariants as verbs
 use Rattle.scr_csv.proofs.Cuts.{pieces_left}
-use Rattle.scr_csv.proofs.Decimals.{both_true}
 use Rattle.scr_csv.proofs.Written.{record_read}
 use Rattle.scr_made.specs.ReadBack.{edits_read}
 use Rattle.scr_made.specs.Records.{record_line, records_text}
@@ -42,28 +41,7 @@ start-append [] ys h = absurd (cc)
 start-append (x ∷ xs) ys h = h
 
 verb_start : (verb : Verb) → starts_small (verb_word verb) ≡ true
-verb_start verbs.Asof = refl
-verb_start verbs.Curve = refl
-verb_start verbs.Group = refl
-verb_start verbs.Security = refl
-verb_start verbs.Flows = refl
-verb_start verbs.Fund = refl
-verb_start verbs.Hold = refl
-verb_start verbs.Liability = refl
-verb_start verbs.LiabilityFlows = refl
-verb_start verbs.Absorb = refl
-verb_start verbs.Segment = refl
-verb_start verbs.Cat = refl
-verb_start verbs.Lapse = refl
-verb_start verbs.Rein = refl
-verb_start verbs.Bank = refl
-verb_start verbs.Due = refl
-verb_start verbs.Op = refl
-verb_start verbs.Sym = refl
-verb_start verbs.Tax = refl
-verb_start verbs.Fdb = refl
-verb_start verbs.Intangible = refl
-verb_start verbs.Remove = refl
+verb_start = search rules
 
 edit_start : (edit : Edit) → starts_small (edit_text edit) ≡ true
 unfolding edit_text record_text
@@ -97,9 +75,9 @@ apart_at : (byte : ℕ) → ((b : ℕ) → is_printed b ≡ true → (b == byte)
     → list_all is_printed text ≡ true → (k d : ℕ) → k < length text → (get_or text k d == byte) ≡ false
 apart_at byte apart [] all k d h = absurd (omega (arith, h))
 apart_at byte apart (b ∷ bytes) all zero d h =
-    apart b (both_true (is_printed b) (list_all is_printed bytes) all).0
+    apart b (and_parts (is_printed b) (list_all is_printed bytes) all).0
 apart_at byte apart (b ∷ bytes) all (suc k) d h =
-    apart_at byte apart bytes (both_true (is_printed b) (list_all is_printed bytes) all).1 k d (omega (arith, h))
+    apart_at byte apart bytes (and_parts (is_printed b) (list_all is_printed bytes) all).1 k d (omega (arith, h))
 
 filled : (text : List ℕ) → starts_small text ≡ true → 0 < length text
 filled [] h = absurd (cc)

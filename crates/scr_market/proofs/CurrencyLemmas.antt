@@ -12,7 +12,7 @@ use Rattle.scr_num.proofs.SumLemmas.{Encloses-cut_first}
 use Rattle.scr_num.proofs.Quotients.{floor_div-le-ceil_div, times_le}
 use Rattle.scr_num.proofs.AmountBounds.{amount-cut, ceil_div-least}
 use Rattle.scr_agg.proofs.ExactAmounts.{Encloses-greater}
-use Rattle.scr_market.specs.Currency.{quarter, currency_rise, currency_fall}
+use Rattle.scr_market.specs.Currency.{quarter, currency_rise_exact, currency_fall_exact}
 use Rattle.scr_market.specs.CurrencyEnds.{fine_ends, quarter_ends, currency_rise_ends, currency_fall_ends}
 
 -- ---- enclosure
@@ -54,12 +54,12 @@ difference a b p q h k =
     (Encloses-sub 1000000000000000000 a.low a.high b.low b.high (Frac p) (Frac q) h k)
 
 module _ (assets : ℕ) (l : Ends) (p : Fraction) (h : Encloses 1000000000000000000 l.low l.high (Frac p)) where
-  pub rise-encloses : let e = currency_rise_ends assets l in Encloses 1000 e.low e.high (Frac (currency_rise assets p))
+  pub rise-encloses : let e = currency_rise_ends assets l in Encloses 1000 e.low e.high (Frac (currency_rise_exact assets p))
   rise-encloses =
       quarter-encloses (sub_ends l (fine_ends assets)) (minus p (whole (pos assets)))
       (difference l (fine_ends assets) p (whole (pos assets)) h (fine-encloses assets))
 
-  pub fall-encloses : let e = currency_fall_ends assets l in Encloses 1000 e.low e.high (Frac (currency_fall assets p))
+  pub fall-encloses : let e = currency_fall_ends assets l in Encloses 1000 e.low e.high (Frac (currency_fall_exact assets p))
   fall-encloses =
       quarter-encloses (sub_ends (fine_ends assets) l) (minus (whole (pos assets)) p)
       (difference (fine_ends assets) l (whole (pos assets)) p (fine-encloses assets) h)

@@ -11,8 +11,8 @@ use Rattle.scr_num.proofs.Enclosing.{Encloses-exact, Encloses-divided}
 use Rattle.scr_num.proofs.AmountBounds.{amount-exact, amount-scale}
 use Rattle.scr_factors.specs.Values.{FactorValues, spread_at}
 use Rattle.scr_market.specs.Equity.{part_of}
-use Rattle.scr_market.specs.Spread.{thousandths, lesser, counted_duration, band_of, start_of, stress_share, bond_loss}
-use Rattle.scr_market.specs.SpreadEnds.{stress_of, bond_ends, spread_ends}
+use Rattle.scr_market.specs.Spread.{thousandths, lesser, counted_duration, band_of, start_of, stress_exact, bond_loss_exact}
+use Rattle.scr_market.specs.SpreadEnds.{stress_units, bond_loss_ends, spread_ends}
 
 -- a + b · x for a and b in millionths and x in thousandths, and no more than 100 percent
 module _ (a b x : ℕ) where
@@ -48,7 +48,7 @@ module _ (a b x : ℕ) where
   share-measured = measures (is_less uncut (percent 100)) refl
 
 pub stress-measured : (factors : FactorValues) (row duration : ℕ)
-    → Measures 1000000000 (pos (stress_of factors row duration)) (stress_share factors row duration)
+    → Measures 1000000000 (pos (stress_units factors row duration)) (stress_exact factors row duration)
 stress-measured factors row duration =
     let counted = counted_duration duration in
     let band = band_of counted in
@@ -67,21 +67,21 @@ bond_numbers cents s p e = numbers p.num p.den e
         omega (arith, ints, more)
     numbers (negsuc n) d h = absurd (omega (arith, ints))
 
-pub bond-encloses : (factors : FactorValues) (cents row duration : ℕ) → let e = bond_ends factors cents row duration in
-    Encloses 1000000000 e.low e.high (Frac (bond_loss factors cents row duration))
+pub bond-encloses : (factors : FactorValues) (cents row duration : ℕ) → let e = bond_loss_ends factors cents row duration in
+    Encloses 1000000000 e.low e.high (Frac (bond_loss_exact factors cents row duration))
 bond-encloses factors cents row duration =
-    let s = stress_of factors row duration in
+    let s = stress_units factors row duration in
     let measured = stress-measured factors row duration in
-    Encloses-exact 1000000000 (pos (cents * s)) (part_of cents (stress_share factors row duration))
-    (record { positive = lit< tt; equal = bond_numbers cents s (stress_share factors row duration) measured.equal })
+    Encloses-exact 1000000000 (pos (cents * s)) (part_of cents (stress_exact factors row duration))
+    (record { positive = lit< tt; equal = bond_numbers cents s (stress_exact factors row duration) measured.equal })
 
-pub stress-size : (factors : FactorValues) (row duration : ℕ) → stress_of factors row duration ≤ 1000000000
+pub stress-size : (factors : FactorValues) (row duration : ℕ) → stress_units factors row duration ≤ 1000000000
 stress-size factors row duration = omega arith
 
 pub bond-size : (factors : FactorValues) (cents row duration : ℕ)
-    → IsAmount (cents * 1000000000) (bond_ends factors cents row duration)
+    → IsAmount (cents * 1000000000) (bond_loss_ends factors cents row duration)
 bond-size factors cents row duration =
-    amount-exact (cents * 1000000000) (cents * stress_of factors row duration)
+    amount-exact (cents * 1000000000) (cents * stress_units factors row duration)
     (omega (arith, mul-le-mul_right cents (stress-size factors row duration)))
 
 pub spread-encloses : (sum : Ends) (f : Figure) → Encloses 1000000000 sum.low sum.high f → let e = spread_ends sum in

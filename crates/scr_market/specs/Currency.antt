@@ -10,9 +10,9 @@ abbrev pub quarter : Share
 quarter = record { num = 25; den = 100; positive = lit< tt }
 
 -- what is lost where the currency rises: a quarter of what its liabilities exceed its assets by
-abbrev pub currency_rise : ℕ → Fraction → Fraction
-currency_rise assets liabilities = greater zero_fraction (times (minus liabilities (whole (pos assets))) quarter)
+abbrev pub currency_rise_exact : ℕ → Fraction → Fraction
+currency_rise_exact assets liabilities = greater zero_fraction (times (minus liabilities (whole (pos assets))) quarter)
 
 -- where it falls: a quarter of what its assets exceed its liabilities by
-abbrev pub currency_fall : ℕ → Fraction → Fraction
-currency_fall assets liabilities = greater zero_fraction (times (minus (whole (pos assets)) liabilities) quarter)
+abbrev pub currency_fall_exact : ℕ → Fraction → Fraction
+currency_fall_exact assets liabilities = greater zero_fraction (times (minus (whole (pos assets)) liabilities) quarter)

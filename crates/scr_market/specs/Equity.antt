@@ -7,7 +7,7 @@ use Rattle.scr_num.specs.Figure.Figure.{Frac, Sum, Root}
 use Rattle.scr_num.specs.Figure.Figures.{more, none}
 use Rattle.scr_num.specs.Table.{Table}
 
--- that share of so many cents
+-- a share of so many cents
 abbrev pub part_of : ℕ → Fraction → Fraction
 part_of cents share = product (whole (pos cents)) share
 
@@ -24,11 +24,12 @@ type1_figure cents strategic sym = Frac (fall_of cents strategic 39 sym)
 abbrev pub type2_figure : (cents strategic : ℕ) → ℤ → Figure
 type2_figure cents strategic sym = Frac (fall_of cents strategic 49 sym)
 
--- those of infrastructure by 30 percent and 77 percent of the adjustment (Articles 164a and 169(3))
+-- equities of qualifying infrastructure by 30 percent and 77 percent of the adjustment (Articles 164a and 169(3))
 abbrev pub infra_figure : ℕ → ℤ → Figure
 infra_figure cents sym = Frac (part_of cents (plus (percent 30) (product (percent 77) (millionths sym))))
 
--- those of infrastructure corporates by 36 percent and 92 percent of the adjustment (Articles 164b and 169(4))
+-- equities of qualifying infrastructure corporates by 36 percent and 92 percent of the adjustment (Articles 164b and
+-- 169(4))
 abbrev pub infracorp_figure : ℕ → ℤ → Figure
 infracorp_figure cents sym = Frac (part_of cents (plus (percent 36) (product (percent 92) (millionths sym))))
 

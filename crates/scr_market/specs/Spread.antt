@@ -37,8 +37,8 @@ abbrev pub lesser : Fraction → Fraction → Fraction
 lesser p q = if is_less q p then q else p
 
 -- a, and b for each year that the duration is above the start of its band, and no more than 100 percent
-abbrev pub stress_share : FactorValues → (row duration : ℕ) → Fraction
-stress_share factors row duration =
+abbrev pub stress_exact : FactorValues → (row duration : ℕ) → Fraction
+stress_exact factors row duration =
     let counted = counted_duration duration in
     let band = band_of counted in
     let factor = spread_at factors row band in
@@ -46,5 +46,5 @@ stress_share factors row duration =
     (plus (millionths (pos factor.0)) (product (millionths (pos factor.1)) (thousandths (counted - start_of band))))
 
 -- what a bond loses
-abbrev pub bond_loss : FactorValues → (cents row duration : ℕ) → Fraction
-bond_loss factors cents row duration = part_of cents (stress_share factors row duration)
+abbrev pub bond_loss_exact : FactorValues → (cents row duration : ℕ) → Fraction
+bond_loss_exact factors cents row duration = part_of cents (stress_exact factors row duration)

@@ -6,16 +6,16 @@ use Rattle.scr_factors.specs.Values.{FactorValues, spread_at}
 use Rattle.scr_market.specs.Spread.{counted_duration, band_of, start_of}
 
 -- in 10^-9
-abbrev pub stress_of : FactorValues → (row duration : ℕ) → ℕ
-stress_of factors row duration =
+abbrev pub stress_units : FactorValues → (row duration : ℕ) → ℕ
+stress_units factors row duration =
     let counted = counted_duration duration in
     let band = band_of counted in
     let factor = spread_at factors row band in
     min (1000 * factor.0 + factor.1 * (counted - start_of band)) 1_000_000_000
 
 -- what a bond loses, in 10^-9 cents
-abbrev pub bond_ends : FactorValues → (cents row duration : ℕ) → Ends
-bond_ends factors cents row duration = exact_ends (pos (cents * stress_of factors row duration))
+abbrev pub bond_loss_ends : FactorValues → (cents row duration : ℕ) → Ends
+bond_loss_ends factors cents row duration = exact_ends (pos (cents * stress_units factors row duration))
 
 -- from 10^-9 cents to grains
 abbrev pub spread_ends : Ends → Ends

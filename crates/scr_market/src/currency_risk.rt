@@ -9,7 +9,7 @@ ghost use Rattle.scr_num.specs.Amounts.{IsAmount};
 ghost use Rattle.scr_num.specs.Enclosure.{Encloses};
 ghost use Rattle.scr_num.specs.Sums.{EncloseEach};
 ghost use Rattle.scr_profile.specs.declared.limits.TheConstants.{MAX_HELD};
-ghost use Rattle.scr_market.specs.Currency.{currency_rise, currency_fall};
+ghost use Rattle.scr_market.specs.Currency.{currency_rise_exact, currency_fall_exact};
 ghost use Rattle.scr_market.specs.CurrencyEnds.{quarter_ends, currency_rise_ends};
 ghost use Rattle.scr_market.specs.CurrencyEnds.{currency_fall_ends};
 
@@ -31,7 +31,7 @@ pub fn currency(assets: u64, liabilities: Span) -> [Span; 2]
     ensures encloses { (l : Fraction) → Encloses 1_000_000_000_000_000_000 liabilities.low liabilities.high
         (Frac l)
         → EncloseEach 1000 (map ends result)
-        (Frac (currency_rise assets l) ∷ Frac (currency_fall assets l) ∷ []) }
+        (Frac (currency_rise_exact assets l) ∷ Frac (currency_fall_exact assets l) ∷ []) }
     ensures size { AllByRecursion (IsAmount MAX_CURRENCY) (map ends result) }
 {
     let held = exact(1_000_000_000_000_000_000 * i128::from(assets));

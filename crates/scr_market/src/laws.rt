@@ -18,12 +18,23 @@ ghost use Rattle.scr_factors.specs.Values.{FactorValues};
 ghost use Rattle.scr_market.specs.declared.property_risk.TheConstants.{MAX_PROPERTY};
 ghost use Rattle.scr_market.specs.Property.{property_figure};
 ghost use Rattle.scr_market.specs.PropertyEnds.{property_ends};
-ghost use Rattle.scr_market.specs.Spread.{stress_share, bond_loss};
-ghost use Rattle.scr_market.specs.SpreadEnds.{stress_of, bond_ends, spread_ends};
-ghost use Rattle.scr_market.specs.Currency.{currency_rise, currency_fall};
+ghost use Rattle.scr_market.specs.Spread.{stress_exact, bond_loss_exact};
+ghost use Rattle.scr_market.specs.SpreadEnds.{stress_units, bond_loss_ends, spread_ends};
+ghost use Rattle.scr_market.specs.Currency.{currency_rise_exact, currency_fall_exact};
 ghost use Rattle.scr_market.specs.CurrencyEnds.{currency_rise_ends, currency_fall_ends};
-ghost use Rattle.scr_market.specs.Market.{market_figure};
+ghost use Rattle.scr_agg.specs.Correlated.{table_of};
+ghost use Rattle.scr_profile.specs.declared.correlations.TheConstants.{EQUITY, MARKET_0, MARKET_HALF};
+ghost use Rattle.scr_market.specs.Equity.{equity_correlations};
+ghost use Rattle.scr_market.specs.Market.{market_correlations, market_figure};
 ghost use Rattle.scr_market.specs.MarketEnds.{market_ends};
+
+/// The tables that the roots are taken over are those of the Regulation: of equity risk, and of
+/// market risk where the rise of interest rates decides and where their fall does.
+pub fn tables()
+    ensures equity { table_of EQUITY ≡ equity_correlations }
+    ensures rise { table_of MARKET_0 ≡ market_correlations 0 }
+    ensures fall { table_of MARKET_HALF ≡ market_correlations 1 }
+{}
 
 /// The ends of each part of equity risk, as worked out, enclose its exact figure, whatever is held
 /// and adjusted; those of the root enclose the root of what the ends of type 1 equities and of all
@@ -83,13 +94,13 @@ pub fn property_risk()
 /// cents enclose.
 pub fn spread_risk()
     ensures stress { (factors : FactorValues) (row duration : ℕ)
-        → Measures 1_000_000_000 (pos (stress_of factors row duration))
-        (stress_share factors row duration) }
+        → Measures 1_000_000_000 (pos (stress_units factors row duration))
+        (stress_exact factors row duration) }
     ensures bond { (factors : FactorValues) (cents row duration : ℕ)
-        → let e = bond_ends factors cents row duration in
-        Encloses 1_000_000_000 e.low e.high (Frac (bond_loss factors cents row duration)) }
+        → let e = bond_loss_ends factors cents row duration in
+        Encloses 1_000_000_000 e.low e.high (Frac (bond_loss_exact factors cents row duration)) }
     ensures bond_size { (factors : FactorValues) (cents row duration : ℕ)
-        → IsAmount (cents * 1_000_000_000) (bond_ends factors cents row duration) }
+        → IsAmount (cents * 1_000_000_000) (bond_loss_ends factors cents row duration) }
     ensures sum { (sum : Ends) (f : Figure) → Encloses 1_000_000_000 sum.low sum.high f
         → let e = spread_ends sum in Encloses 1000 e.low e.high f }
     ensures sum_size { (most : ℕ) (sum : Ends) → IsAmount (most * 1_000_000) sum
@@ -103,11 +114,11 @@ pub fn currency_risk()
     ensures rise { (assets : ℕ) (l : Ends) (liabilities : Fraction)
         → Encloses 1_000_000_000_000_000_000 l.low l.high (Frac liabilities)
         → let e = currency_rise_ends assets l in
-        Encloses 1000 e.low e.high (Frac (currency_rise assets liabilities)) }
+        Encloses 1000 e.low e.high (Frac (currency_rise_exact assets liabilities)) }
     ensures fall { (assets : ℕ) (l : Ends) (liabilities : Fraction)
         → Encloses 1_000_000_000_000_000_000 l.low l.high (Frac liabilities)
         → let e = currency_fall_ends assets l in
-        Encloses 1000 e.low e.high (Frac (currency_fall assets liabilities)) }
+        Encloses 1000 e.low e.high (Frac (currency_fall_exact assets liabilities)) }
     ensures rise_size { (assets most : ℕ) (l : Ends) → l.low ≤ℤ l.high
         → unsigned_abs l.low + 1_000_000_000_000_000_000 * assets ≤ most * 4_000_000_000_000_000
         → unsigned_abs l.high + 1_000_000_000_000_000_000 * assets ≤ most * 4_000_000_000_000_000

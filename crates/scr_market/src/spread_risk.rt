@@ -6,8 +6,8 @@ ghost use Rattle.scr_num.specs.Rounding.{ends};
 ghost use Rattle.scr_num.specs.Amounts.{IsAmount};
 ghost use Rattle.scr_num.specs.Enclosure.{Encloses, Measures};
 ghost use Rattle.scr_profile.specs.declared.limits.TheConstants.{MAX_DURATION};
-ghost use Rattle.scr_market.specs.Spread.{band_of, start_of, stress_share};
-ghost use Rattle.scr_market.specs.SpreadEnds.{stress_of, spread_ends};
+ghost use Rattle.scr_market.specs.Spread.{band_of, start_of, stress_exact};
+ghost use Rattle.scr_market.specs.SpreadEnds.{stress_units, spread_ends};
 
 use scr_factors::Factors;
 use scr_num::{Span, scale};
@@ -21,8 +21,8 @@ const ALL: u64 = 1_000_000_000;
 pub fn stress(factors: &Factors, row: u8, duration: u32) -> u64
     requires row { row < 8 }
     requires duration { pos duration ≤ℤ MAX_DURATION }
-    ensures value { result ≡ stress_of factors.now row duration }
-    ensures exact { Measures 1_000_000_000 (pos result) (stress_share factors.now row duration) }
+    ensures value { result ≡ stress_units factors.now row duration }
+    ensures exact { Measures 1_000_000_000 (pos result) (stress_exact factors.now row duration) }
     ensures size { result ≤ ALL }
 {
     let counted = duration.max(1000);

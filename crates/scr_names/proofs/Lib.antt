@@ -4,3 +4,4 @@ pub mod TableSums
 pub mod Entries
 pub mod Moves
 pub mod PastRows
+pub mod Counted

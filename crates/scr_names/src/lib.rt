@@ -1,6 +1,7 @@
 //! Names, and tables of rows that each stand under a name of their own.
 #![tactic(auto)]
 
+mod earliest;
 mod name;
 mod past;
 mod room;

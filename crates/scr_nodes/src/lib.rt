@@ -4,11 +4,13 @@
 #![tactic(auto)]
 
 pub mod laws;
+pub mod live;
 mod node;
 mod nth;
 mod one_source;
 pub mod rows;
 pub mod selections;
+pub mod single_numbers;
 pub mod words;
 
 pub use node::{

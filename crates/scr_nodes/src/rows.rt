@@ -74,8 +74,8 @@ pub fn is_foreign(sheet: &BalanceSheet, curve: &Curve) -> bool
     sheet.numbers.currency != curve.currency
 }
 
-/// The security is of the group.
-pub(crate) fn is_of_group(name: &Name, position: &Position) -> bool
+/// Whether the security is of the group of counterparties (Article 182(1)).
+pub fn is_of_group(name: &Name, position: &Position) -> bool
     ensures { result ≡ is_of_group name.now position.now }
 {
     match position.security.group {
@@ -91,8 +91,9 @@ pub(crate) fn has_group(position: &Position) -> bool
     position.security.group.is_some()
 }
 
-/// The class of probabilities of default of a step.
-pub(crate) fn class_of_step(step: Option<u8>) -> u8
+/// The class of probabilities of default of a credit quality step, by number as in
+/// `is_of_default_class`; 5 where there is no step.
+pub fn class_of_step(step: Option<u8>) -> u8
     ensures { result ≡ class_of_step step }
 {
     match step {

@@ -1,5 +1,6 @@
 -- The exact figures of the non-life underwriting risk module: Articles 114, 115, 117, 119, 120 and 128 of Delegated
--- Regulation (EU) 2015/35. Nothing is rounded. The thirteen catastrophe charges are in cents, in this order: windstorm,
+-- Regulation (EU) 2015/35; and of premium and reserve risk of NSLT health, health that is not similar to life: Articles
+-- 146 and 148 and Annex XV. Nothing is rounded. The thirteen catastrophe charges are in cents, in this order: windstorm,
 -- earthquake, flood, hail, subsidence, non-proportional property reinsurance, motor, marine, aviation, fire, liability,
 -- credit and suretyship, and other non-life catastrophes.
 use Rattle.std.specs.Prelude.{ℕ, pos, List, [], ◌∷◌, slice_index}
@@ -19,6 +20,19 @@ three = record { num = 3; den = 1; positive = lit< tt }
 -- with the correlations between segments (Articles 115 and 117; for health Articles 146 and 148)
 abbrev pub premium_reserve_figure : Figures → Table → Figure
 premium_reserve_figure segments correlations = Times (Root segments correlations) three
+
+-- any two of the four segments of health that is not similar to life are correlated 0.5 (Annex XV); the cells are
+-- quarters
+abbrev pub nslt_correlations : Table
+nslt_correlations = record {
+  den = 4;
+  rows =
+      (pos 4 ∷ pos 2 ∷ pos 2 ∷ pos 2 ∷ [])
+      ∷ (pos 2 ∷ pos 4 ∷ pos 2 ∷ pos 2 ∷ [])
+      ∷ (pos 2 ∷ pos 2 ∷ pos 4 ∷ pos 2 ∷ [])
+      ∷ (pos 2 ∷ pos 2 ∷ pos 2 ∷ pos 4 ∷ [])
+      ∷ [];
+}
 
 -- ---- catastrophe risk
 -- the charge at a place

@@ -31,12 +31,12 @@ abbrev pub share_of : ℕ → ℕ → Share
 share_of num zero = record { num = 1; den = 1; positive = lit< tt }
 share_of num (suc n) = record { num = num; den = suc n; positive = zero-lt-suc n }
 
--- the geographical diversification: the squares of the regional volumes over the square of their sum (Article 116),
--- and 1 where there is no volume (this project's own)
+-- the geographical diversification: the squares of the regional volumes over the square of their sum (Article 116 and
+-- Annex III), and 1 where there is no volume (this project's own)
 abbrev pub diversification : List (ℕ × ℕ) → Share
 diversification volumes = share_of (squared_volumes volumes) (total_volume volumes * total_volume volumes)
 
--- 0.75 + 0.25 * DIV, which the volume measure of a segment is multiplied with (Article 116)
+-- 0.75 + 0.25 * DIV, by which the sum of a segment's volumes is multiplied for its volume measure (Article 116)
 abbrev pub diversified : Share → Share
 diversified share = record {
   num = 3 * share.den + share.num;

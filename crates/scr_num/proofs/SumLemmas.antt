@@ -8,7 +8,7 @@ use Rattle.std.proofs.lemmas.List.Sums.{sum_by-cons}
 use Rattle.scr_num.specs.Fraction.{Fraction, zero_fraction}
 use Rattle.scr_num.specs.Figure.{Figure, Frac, Max}
 use Rattle.scr_num.specs.Rounding.{Ends, exact_ends, add_ends, max_ends}
-use Rattle.scr_num.specs.Amounts.{IsWithin, AreTogether}
+use Rattle.scr_num.specs.Sizes.{IsWithin, AreTogether}
 use Rattle.scr_num.specs.Enclosure.{Encloses, EncloseAll}
 use Rattle.scr_num.specs.Sums.{sum_fraction, sum_figure, sum_ends, parts_of, EncloseEach}
 use Rattle.scr_num.proofs.AddedEnds.{same_ends, add_ends-assoc, zero-add_ends}

@@ -1,4 +1,4 @@
--- How large the ends of an amount are (this project's own).
+-- How large the ends of an amount, which is not negative, are (this project's own).
 use Rattle.std.specs.Prelude.{ℕ, ◌≤◌, pos, ◌≤ℤ◌, List, [], ◌∷◌, sum_by, unsigned_abs}
 use Rattle.scr_num.specs.Rounding.{Ends}
 
@@ -15,14 +15,3 @@ AreAmounts [] [] = Unit {0}
 AreAmounts (most ∷ mosts) (e ∷ es) = IsAmount most e × AreAmounts mosts es
 AreAmounts [] (e ∷ es) = ⊥
 AreAmounts (most ∷ mosts) [] = ⊥
-
--- ---- of either sign
--- neither end is further from 0
-pub record IsWithin (most : ℕ) (e : Ends) : Type 0 where
-  pub low : unsigned_abs e.low ≤ most
-  pub high : unsigned_abs e.high ≤ most
-
--- neither the low nor the high ends, without their signs, sum to more
-pub record AreTogether (most : ℕ) (list : List Ends) : Type 0 where
-  pub lows : sum_by (λ e. unsigned_abs e.low) list ≤ most
-  pub highs : sum_by (λ e. unsigned_abs e.high) list ≤ most

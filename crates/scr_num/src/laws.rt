@@ -10,7 +10,8 @@ ghost use Rattle.scr_num.specs.Figure.{Figure, Figures, Frac, Max, Times, Root, 
 ghost use Rattle.scr_num.specs.Rounding.{Ends, exact_ends, add_ends, max_ends, hull_ends};
 ghost use Rattle.scr_num.specs.Rounding.{scale_ends, floor_div, ceil_div, floor_root, ceil_root};
 ghost use Rattle.scr_num.specs.Rounding.{quad_ends};
-ghost use Rattle.scr_num.specs.Amounts.{IsAmount, AreAmounts, IsWithin, AreTogether};
+ghost use Rattle.scr_num.specs.Amounts.{IsAmount, AreAmounts};
+ghost use Rattle.scr_num.specs.Sizes.{IsWithin, AreTogether};
 ghost use Rattle.scr_num.specs.Enclosure.{Encloses, EncloseAll};
 ghost use Rattle.scr_num.specs.Cents.{cents_figure, cents_ends};
 ghost use Rattle.scr_num.specs.Ratio.{ratio_unit, ratio_ends, fraction_of, IsAtMostShare};

@@ -7,7 +7,7 @@ ghost use Rattle.std.specs.Int.{int_max, int_min};
 ghost use Rattle.scr_num.specs.Fraction.{Fraction, Share};
 ghost use Rattle.scr_num.specs.Figure.{Figure, Frac, Sum, Diff, Times, Max, Min, RootOf};
 ghost use Rattle.scr_num.specs.Enclosure.{Encloses, Measures, Converts};
-ghost use Rattle.scr_num.specs.Amounts.{IsWithin, AreTogether};
+ghost use Rattle.scr_num.specs.Sizes.{IsWithin, AreTogether};
 ghost use Rattle.scr_num.specs.Sums.{sum_ends, sum_figure, EncloseEach};
 ghost use Rattle.scr_num.specs.Rounding.{ends, exact_ends, add_ends, sub_ends, max_ends, min_ends};
 ghost use Rattle.scr_num.specs.Rounding.{hull_ends, scale_ends, root_ends, floor_div, ceil_div};

@@ -12,16 +12,12 @@ use Rattle.scr_num.specs.Amounts.{IsAmount}
 use Rattle.scr_num.specs.Rounding.{Ends, ends, exact_ends}
 use Rattle.scr_num.specs.declared.span.Span.{Span}
 use Rattle.scr_num.proofs.AmountBounds.{amount-exact}
-use Rattle.scr_num.specs.Fraction.{Fraction}
 use Rattle.scr_dates.specs.declared.day.Day.{Day}
-use Rattle.scr_curve.specs.Discount.{discount_exact}
-use Rattle.scr_curve.specs.DiscountEnds.{one, IsDiscount, EncloseDiscounts}
-use Rattle.scr_curve.specs.Parts.{rates_in_parts, AreRates}
+use Rattle.scr_curve.specs.DiscountEnds.{IsDiscount}
+use Rattle.scr_curve.specs.Parts.{rates_in_parts}
 use Rattle.scr_curve.specs.declared.tilt.Tilt.TheVariants as tilts
-use Rattle.scr_curve.proofs.SameRates.{Same-rates, Same-discount, Same-below, Same-turned}
 use Rattle.scr_flow.specs.Due.{dues}
 use Rattle.scr_flow.specs.LossEnds.{loss_ends}
-use Rattle.scr_flow.proofs.OneValue.{Encloses-one}
 use Rattle.scr_curve.specs.declared.table.Discounts.{Discounts}
 use Rattle.scr_agg.specs.Unbeaten.{Alternative, alternative, alternatives}
 use Rattle.scr_agg.specs.declared.scenario.Scenario.{Scenario}
@@ -334,16 +330,6 @@ module _ (sheet : BalanceSheet) (currency : List ℕ) (payments : List (Day × �
       → e ≡ paid_ends (paid_in sheet currency payments direction) (row_in currency sheet.curves rows)
   unfolding paid_ends
   paid-down direction down to_is is = rw (down, found.own, found.rates_are, base_is, to_is, sym flows_are) is
-
--- a table encloses the discounts at any fractions that are the same rates
-pub enclose-same : (curve : List ℤ) (table : List Ends) (r r' : ℕ → Fraction) → length table ≤ length curve → AreRates curve r → AreRates curve r' → EncloseDiscounts r table → EncloseDiscounts r' table
-enclose-same curve table r r' few a b h = record {
-  each = λ k d within.
-      let inside : k < length curve = omega (arith, within, few) in
-      let same = Same-discount (r (k + 1)) (r' (k + 1)) (k + 1) (Same-rates (get_or curve k (pos 0)) (r (k + 1)) (r' (k + 1)) (a.each k (pos 0) inside) (b.each k (pos 0) inside)) in
-      Encloses-one one _ _ (discount_exact (r (k + 1)) (k + 1)) (discount_exact (r' (k + 1)) (k + 1))
-      (record { below = Same-below _ _ same; above = Same-below _ _ (Same-turned _ _ same) }) (h.each k d within);
-}
 
 -- what holds of a table of ends holds of its spans
 pub along-table : (spans : List Span) → All IsDiscount (map ends spans) → All (λ (span : Span). IsDiscount (ends span)) spans

@@ -1,20 +1,27 @@
 -- For every figure of counterparty default risk, the worked ends enclose the exact figure.
-use Rattle.std.proofs.Common.{◌≡◌, ℕ, ◌+◌, ◌*◌, ◌<◌, Bool, true, false, List, [], ◌∷◌, if◌then◌else◌, ℤ, pos, negsuc, ◌+ℤ◌, ◌*ℤ◌, refl, ap, sym, subst, Some, arith, lit<}
-use Rattle.std.specs.Prelude.{IsBitSet}
+use Rattle.std.proofs.Common.{◌≡◌, ℕ, zero, suc, ◌+◌, ◌*◌, ◌<◌, Bool, true, false, List, [], ◌∷◌, if◌then◌else◌, ℤ, pos, negsuc, ◌+ℤ◌, ◌*ℤ◌, refl, ap, sym, subst, Some, arith, lit<}
+use Rattle.std.specs.Prelude.{IsBitSet, slice_index}
 use Rattle.std.specs.List.{AllByRecursion}
 use Rattle.std.proofs.lemmas.Int.{ints}
 use Rattle.std.proofs.lemmas.List.Sums.{sum_by-cons}
 use Rattle.scr_num.specs.Figure.{Figure, AtMost}
-use Rattle.scr_num.specs.Fraction.{Fraction, zero_fraction, percent, plus, minus, product, square, is_less}
+use Rattle.scr_num.specs.Fraction.{Fraction, ◌≼◌, zero_fraction, percent, plus, minus, product, square, is_less}
 use Rattle.scr_num.specs.Enclosure.{Encloses, Measures}
 use Rattle.scr_num.specs.Rounding.{Ends, exact_ends, add_ends}
+use Rattle.scr_num.specs.Sums.{Equals}
+use Rattle.scr_num.proofs.AddedEnds.{same_ends}
 use Rattle.scr_num.proofs.Enclosing.{Encloses-exact}
 use Rattle.scr_num.proofs.SumLemmas.{Encloses-zero}
 use Rattle.scr_agg.specs.Absorbed.{net_figure}
 use Rattle.scr_agg.proofs.Chosen.{not_less, less_le}
 use Rattle.scr_agg.proofs.NetAmounts.{Encloses-net}
-use Rattle.scr_default.specs.Losses.{cents, lgd_bank_exact, lgd_rein_exact}
-use Rattle.scr_default.specs.LossesEnds.{lgd_bank_grains, lgd_rein_grains}
+use Rattle.scr_default.specs.Losses.{cents, grains, lgd_bank_exact, lgd_rein_exact}
+use Rattle.scr_default.specs.LossesEnds.{lgd_bank_grains, lgd_rein_grains, square_grains, totals_in, squares_in}
+use Rattle.scr_default.specs.Sums.{sum_below}
+use Rattle.scr_default.specs.Type1Ends.{type1_mask}
+use Rattle.scr_default.specs.Variance.{variance_exact}
+use Rattle.scr_default.proofs.AddedUp.{ends_below, Encloses-sum}
+use Rattle.scr_default.proofs.Alike.{AreAlike, variance-alike, band-alike, type1-alike, Encloses-alike}
 use Rattle.scr_default.proofs.Band.{type1-encloses, type1-bit}
 use Rattle.scr_default.proofs.Enclosed.{variance-encloses}
 use Rattle.scr_default.proofs.Roots.{type2-encloses, default-encloses}
@@ -28,7 +35,7 @@ use Rattle.scr_nodes.specs.declared.node.Node.TheVariants as nodes
 use Rattle.scr_nodes.specs.declared.node.Risk.TheVariants as risks
 use Rattle.scr_nodes.specs.OwnOf.{risk_key}
 use Rattle.scr_nodes.specs.Rows.{is_bank_of, is_reinsurer_of, is_of_default_class}
-use Rattle.scr_plan.specs.DefaultExact.{total_where, bank_loss, reinsurer_loss, bank_grains, reinsurer_grains, group_loss, class_loss, class_square, group_grains, class_grains, class_square_grains, in_classes, total_grains, default_variance, default_band, overdue_cents, other_due_cents, type1_exact, type2_due, default_exact}
+use Rattle.scr_plan.specs.DefaultExact.{total_where, bank_loss, reinsurer_loss, bank_grains, reinsurer_grains, group_loss, class_loss, class_square, group_grains, class_grains, class_square_grains, in_classes, total_grains, total_loss, default_variance, default_band, overdue_cents, other_due_cents, type1_exact, due_exact, default_exact}
 use Rattle.scr_plan.specs.Exact.{exact, unit_of}
 use Rattle.scr_plan.specs.LifeExact.{sum_where}
 use Rattle.scr_plan.specs.Rules.{amount_of}
@@ -98,6 +105,25 @@ rein-told r m c = told-exactly 1000 (lgd_rein_grains r m c) (lgd_rein_exact r m 
     by true e = let some = (less_le zero_fraction (uncovered r m c) e).cross in omega (arith, ints, some)
     by false e = let none = (not_less zero_fraction (uncovered r m c) e).cross in omega (arith, ints, none)
 
+-- ---- whole numbers that are fractions
+grains-equal : (n : ℕ) (p : Fraction) → Told 1000 n p → Equals (grains n) p
+unfolding AtMost
+grains-equal n p h = record { below = record { cross = h.at_most.cross }; above = record { cross = h.at_least.cross } }
+
+square_grains-equal : (n : ℕ) (p : Fraction) → Told 1_000_000 n p → Equals (square_grains n) p
+unfolding AtMost
+square_grains-equal n p h = record { below = record { cross = h.at_most.cross }; above = record { cross = h.at_least.cross } }
+
+grains-least : (n : ℕ) → zero_fraction ≼ grains n
+grains-least n = record { cross = omega (arith, ints) }
+
+square_grains-least : (n : ℕ) → zero_fraction ≼ square_grains n
+square_grains-least n = record { cross = omega (arith, ints) }
+
+six-added : (g : ℕ → ℕ) → ends_below (λ (class : ℕ). exact_ends (pos (g class))) 6 ≡ exact_ends (pos (g 0 + g 1 + g 2 + g 3 + g 4 + g 5))
+unfolding sum_below
+six-added g = same_ends _ _ _ _ (omega (arith, ints)) (omega (arith, ints))
+
 module _ (sheet : BalanceSheet) where
   -- the losses in grains are those of the articles
   pub group-told : (name : List ℕ) → Told 1000 (group_grains sheet name) (group_loss sheet name)
@@ -124,6 +150,43 @@ module _ (sheet : BalanceSheet) where
       (every (λ (g : Group). Told 1_000_000 (group_grains sheet g.name * group_grains sheet g.name) (square (group_loss sheet g.name))) sheet.groups
       (λ g. told-exactly 1_000_000 (group_grains sheet g.name * group_grains sheet g.name) (square (group_loss sheet g.name)) (square-measured (group_grains sheet g.name) (group_loss sheet g.name) (measured-by (group_grains sheet g.name) (group_loss sheet g.name) (group-told g.name)))))
 
+  -- so they are the same fractions, and none is negative
+  totals-alike : AreAlike (totals_in (in_classes (class_grains sheet))) (class_loss sheet)
+  totals-alike = record { least = λ j a. grains-least (slice_index (in_classes (class_grains sheet)) j); equal = by }
+    where
+      one : (class : ℕ) → Equals (grains (class_grains sheet class)) (class_loss sheet class)
+      one class = grains-equal (class_grains sheet class) (class_loss sheet class) (class-told class)
+
+      by : (j : ℕ) → j < 6 → Equals (totals_in (in_classes (class_grains sheet)) j) (class_loss sheet j)
+      by zero a = one 0
+      by (suc zero) a = one 1
+      by (suc (suc zero)) a = one 2
+      by (suc (suc (suc zero))) a = one 3
+      by (suc (suc (suc (suc zero)))) a = one 4
+      by (suc (suc (suc (suc (suc zero))))) a = one 5
+      by (suc (suc (suc (suc (suc (suc n)))))) a = absurd (omega (arith, a))
+
+  squares-alike : AreAlike (squares_in (in_classes (class_square_grains sheet))) (class_square sheet)
+  squares-alike = record { least = λ j a. square_grains-least (slice_index (in_classes (class_square_grains sheet)) j); equal = by }
+    where
+      one : (class : ℕ) → Equals (square_grains (class_square_grains sheet class)) (class_square sheet class)
+      one class = square_grains-equal (class_square_grains sheet class) (class_square sheet class) (square-told class)
+
+      by : (j : ℕ) → j < 6 → Equals (squares_in (in_classes (class_square_grains sheet)) j) (class_square sheet j)
+      by zero a = one 0
+      by (suc zero) a = one 1
+      by (suc (suc zero)) a = one 2
+      by (suc (suc (suc zero))) a = one 3
+      by (suc (suc (suc (suc zero)))) a = one 4
+      by (suc (suc (suc (suc (suc zero))))) a = one 5
+      by (suc (suc (suc (suc (suc (suc n)))))) a = absurd (omega (arith, a))
+
+  total-alike : Equals (grains (total_grains sheet)) (total_loss sheet)
+  total-alike =
+      grains-equal (total_grains sheet) (total_loss sheet)
+      (subst (λ (e : Ends). Enclosed 1000 e (total_loss sheet)) (six-added (class_grains sheet))
+      (Encloses-sum 1000 (λ class. exact_ends (pos (class_grains sheet class))) (class_loss sheet) 6 (lit< tt) (λ class a. class-told class)))
+
 abbrev Holds : ℕ → Ends → Figure → Type 0
 Holds unit e f = Encloses unit e.low e.high f
 
@@ -149,7 +212,10 @@ module _ (factors : FactorValues) (sheet : BalanceSheet) (valid : Valid sheet) w
   variance-holds : Enclosed 1_000_000 (figure nodes.Variance) (default_variance sheet)
   unfolding default_variance
   variance-holds =
-      subst (λ (e : Ends). Enclosed 1_000_000 e (default_variance sheet)) (sym (variance-is factors sheet valid)) (variance-encloses (in_classes (class_grains sheet)) (in_classes (class_square_grains sheet)))
+      subst (λ (e : Ends). Enclosed 1_000_000 e (default_variance sheet)) (sym (variance-is factors sheet valid))
+      (Encloses-alike 1_000_000 _ _ (variance_exact (totals_in (in_classes (class_grains sheet))) (squares_in (in_classes (class_square_grains sheet)))) (variance_exact (class_loss sheet) (class_square sheet))
+      (variance-alike (totals_in (in_classes (class_grains sheet))) (class_loss sheet) (squares_in (in_classes (class_square_grains sheet))) (class_square sheet) (totals-alike sheet) (squares-alike sheet))
+      (variance-encloses (in_classes (class_grains sheet)) (in_classes (class_square_grains sheet))))
 
   pub variance-node-encloses : NodeEncloses nodes.Variance
   variance-node-encloses f is = told 1_000_000 _ _ f is variance-holds
@@ -157,18 +223,22 @@ module _ (factors : FactorValues) (sheet : BalanceSheet) (valid : Valid sheet) w
   -- the mask of the bands has the bit of the one that decides by the exact variance
   pub band-has-decisive : IsBitSet (amount_of (figure nodes.DefaultBand)) (default_band sheet)
   band-has-decisive =
-      subst (λ (e : Ends). IsBitSet (amount_of e) (default_band sheet)) (sym (band-is factors sheet valid)) (type1-bit (total_grains sheet) (figure nodes.Variance) (default_variance sheet) variance-holds)
+      subst (λ (e : Ends). IsBitSet (amount_of e) (default_band sheet)) (sym (band-is factors sheet valid))
+      (subst (λ (band : ℕ). IsBitSet (type1_mask (total_grains sheet) (figure nodes.Variance)) band) (band-alike (grains (total_grains sheet)) (total_loss sheet) (default_variance sheet) (grains-least (total_grains sheet)) (total-alike sheet))
+      (type1-bit (total_grains sheet) (figure nodes.Variance) (default_variance sheet) variance-holds))
 
   type1-holds : Holds 1000 (figure nodes.DefaultType1) (type1_exact sheet)
   unfolding type1_exact
   type1-holds =
-      subst (λ (e : Ends). Holds 1000 e (type1_exact sheet)) (sym (type1-is factors sheet valid)) (type1-encloses (total_grains sheet) (figure nodes.Variance) (default_variance sheet) variance-holds)
+      subst (λ (e : Ends). Holds 1000 e (type1_exact sheet)) (sym (type1-is factors sheet valid))
+      (type1-alike 1000 _ _ (grains (total_grains sheet)) (total_loss sheet) (default_variance sheet) (grains-least (total_grains sheet)) (total-alike sheet)
+      (type1-encloses (total_grains sheet) (figure nodes.Variance) (default_variance sheet) variance-holds))
 
   pub type1-node-encloses : NodeEncloses nodes.DefaultType1
   type1-node-encloses f is = told 1000 _ _ f is type1-holds
 
-  type2-holds : Holds 1000 (figure nodes.DefaultType2) (type2_due sheet)
-  type2-holds = subst (λ (e : Ends). Holds 1000 e (type2_due sheet)) (sym (type2-is factors sheet valid)) (type2-encloses (overdue_cents sheet) (other_due_cents sheet))
+  type2-holds : Holds 1000 (figure nodes.DefaultType2) (due_exact sheet)
+  type2-holds = subst (λ (e : Ends). Holds 1000 e (due_exact sheet)) (sym (type2-is factors sheet valid)) (type2-encloses (overdue_cents sheet) (other_due_cents sheet))
 
   pub type2-node-encloses : NodeEncloses nodes.DefaultType2
   type2-node-encloses f is = told 1000 _ _ f is type2-holds
@@ -177,7 +247,7 @@ module _ (factors : FactorValues) (sheet : BalanceSheet) (valid : Valid sheet) w
   unfolding default_exact
   default-holds =
       subst (λ (e : Ends). Holds 1000 e (default_exact sheet)) (sym (default-is factors sheet valid))
-      (default-encloses 1000 (figure nodes.DefaultType1) (figure nodes.DefaultType2) (type1_exact sheet) (type2_due sheet) (lit< tt) (type1-amount factors sheet valid).not_negative (type2-amount factors sheet valid).not_negative type1-holds type2-holds)
+      (default-encloses 1000 (figure nodes.DefaultType1) (figure nodes.DefaultType2) (type1_exact sheet) (due_exact sheet) (lit< tt) (type1-amount factors sheet valid).not_negative (type2-amount factors sheet valid).not_negative type1-holds type2-holds)
 
   pub default-node-encloses : NodeEncloses nodes.Default
   default-node-encloses f is = told 1000 _ _ f is default-holds

@@ -24,9 +24,9 @@ use Rattle.scr_agg.specs.Unbeaten.{Alternative, EncloseOutcome, EncloseOutcomes}
 use Rattle.scr_agg.proofs.Bits.{mask_bits}
 use Rattle.scr_agg.proofs.Chosen.{chosen-is}
 use Rattle.scr_agg.proofs.Enclosed.{chosen_unbeaten, gross_encloses, net_encloses}
-use Rattle.scr_agg.proofs.ExactAmounts.{Encloses-greater, Encloses-net_amount}
+use Rattle.scr_agg.proofs.ExactAmounts.{Encloses-greater, Encloses-net_exact}
 use Rattle.scr_agg.proofs.NetAmounts.{Encloses-net}
-use Rattle.scr_rate.specs.InterestRisk.{counted, gross_exact}
+use Rattle.scr_rate.specs.Interest.{counted, gross_exact}
 use Rattle.scr_rate.specs.InterestEnds.{EncloseLosses}
 use Rattle.scr_rate.proofs.Costs as costs
 use Rattle.scr_market.proofs.EquityBounds.{type1-encloses, type2-encloses, infra-encloses, infracorp-encloses, root-encloses}
@@ -267,10 +267,10 @@ module _ (factors : FactorValues) (sheet : BalanceSheet) (valid : Valid sheet) w
   unfolding scenario_of
   absorb-is directions.Up =
       let e = figure (nodes.InterestScenario directions.Up measures.Gross) in
-      Encloses-net_amount 1000 _ _ (gross_exact (losses sheet directions.Up)) (up_absorption sheet) (Encloses-net e (up_absorption sheet) (Frac (gross_exact (losses sheet directions.Up))) (gross-encloses directions.Up))
+      Encloses-net_exact 1000 _ _ (gross_exact (losses sheet directions.Up)) (up_absorption sheet) (Encloses-net e (up_absorption sheet) (Frac (gross_exact (losses sheet directions.Up))) (gross-encloses directions.Up))
   absorb-is directions.Down =
       let e = figure (nodes.InterestScenario directions.Down measures.Gross) in
-      Encloses-net_amount 1000 _ _ (gross_exact (losses sheet directions.Down)) (down_absorption sheet) (Encloses-net e (down_absorption sheet) (Frac (gross_exact (losses sheet directions.Down))) (gross-encloses directions.Down))
+      Encloses-net_exact 1000 _ _ (gross_exact (losses sheet directions.Down)) (down_absorption sheet) (Encloses-net e (down_absorption sheet) (Frac (gross_exact (losses sheet directions.Down))) (gross-encloses directions.Down))
 
   scenario-gross : (direction : Direction) → Holds 1000 (figure (nodes.InterestScenario direction measures.Gross)) (Frac (scenario_of sheet direction).gross)
   unfolding scenario_of

@@ -17,7 +17,8 @@ use Rattle.scr_nodes.specs.Own.{Valued}
 use Rattle.scr_plan.specs.Discounts.{CurrencyDiscounts}
 use Rattle.scr_plan.specs.Kept.{row_in}
 use Rattle.scr_plan.specs.LifeFits.{FitsExcess}
-use Rattle.scr_plan.specs.LifeRules.{excess_dues, excess_ends, valued_in, less_at}
+use Rattle.scr_plan.specs.LifeRules.{excess_dues, excess_ends, less_at}
+use Rattle.scr_plan.specs.Paid.{valued_in}
 use Rattle.scr_plan.proofs.CodeLemmas.{IsRowAt}
 use Rattle.scr_plan.proofs.ExcessValues.{apart-small}
 

@@ -14,16 +14,16 @@ use Rattle.scr_agg.specs.Unbeaten.{EncloseOutcome, EncloseOutcomes}
 use Rattle.scr_agg.proofs.Bits.{mask_bits}
 use Rattle.scr_agg.proofs.Chosen.{chosen-is}
 use Rattle.scr_agg.proofs.Enclosed.{chosen_unbeaten, gross_encloses, net_encloses}
-use Rattle.scr_agg.proofs.ExactAmounts.{Encloses-net_amount}
+use Rattle.scr_agg.proofs.ExactAmounts.{Encloses-net_exact}
 use Rattle.scr_agg.proofs.NetAmounts.{Encloses-net}
 use Rattle.scr_factors.specs.Values.{FactorValues}
 use Rattle.scr_market.specs.Market.{market_figure}
-use Rattle.scr_market.specs.Spread.{row_of as factor_row, bond_loss}
+use Rattle.scr_market.specs.Spread.{row_of as factor_row, bond_loss_exact}
 use Rattle.scr_market.proofs.CurrencyLemmas.{rise-encloses, fall-encloses}
 use Rattle.scr_market.proofs.MarketLemmas.{market-encloses}
 use Rattle.scr_market.proofs.PropertyLemmas.{property-encloses}
 use Rattle.scr_market.proofs.SpreadLemmas.{bond-encloses, spread-encloses}
-use Rattle.scr_conc.specs.Thresholds.{threshold_of, charge_of, threshold_exact, factor_exact}
+use Rattle.scr_conc.specs.Thresholds.{threshold_units, factor_units, threshold_exact, factor_exact}
 use Rattle.scr_conc.proofs.Squares.{square-exact, concentration-encloses}
 use Rattle.scr_conc.proofs.Table.{threshold-exact, factor-exact}
 use Rattle.scr_names.proofs.TableRows.{All-map, name_of-row_of, same_name-is}
@@ -100,7 +100,7 @@ module _ (factors : FactorValues) (sheet : BalanceSheet) (valid : Valid sheet) w
       let absorb = currency_absorbed sheet currency direction in
       let gross = (change_outcome sheet currency direction).gross in
       subst (λ (f : Ends). Holds 1000 f (Frac (change_outcome sheet currency direction).net)) (sym (worked-equation factors sheet valid (nodes.CurrencyScenario currency direction measures.Net)))
-      (Encloses-net_amount 1000 _ _ gross absorb (Encloses-net e absorb (Frac gross) (change-gross direction currency)))
+      (Encloses-net_exact 1000 _ _ gross absorb (Encloses-net e absorb (Frac gross) (change-gross direction currency)))
 
   pub change-encloses : (direction : Direction) (measure : Measure) (currency : List ℕ)
       → Holds 1000 (figure (nodes.CurrencyScenario currency direction measure)) (Frac (measured measure (change_outcome sheet currency direction)))
@@ -165,8 +165,8 @@ module _ (factors : FactorValues) (sheet : BalanceSheet) (valid : Valid sheet) w
   pub bond-enclosed : (name : List ℕ) (p : Position) → position_of name sheet.securities ≡ Some p → Holds 1_000_000_000 (figure (nodes.SecuritySpread name)) (Frac (bond_exact factors sheet p))
   bond-enclosed name p is =
       let row = factor_row (step_of sheet p) in
-      subst (λ (n : List ℕ). Holds 1_000_000_000 (figure (nodes.SecuritySpread name)) (Frac (bond_loss factors (total_of sheet n) row p.security.duration))) (own-name name p is)
-      (subst (λ (e : Ends). Holds 1_000_000_000 e (Frac (bond_loss factors (total_of sheet name) row p.security.duration))) (sym (bond-worked factors sheet valid name p is))
+      subst (λ (n : List ℕ). Holds 1_000_000_000 (figure (nodes.SecuritySpread name)) (Frac (bond_loss_exact factors (total_of sheet n) row p.security.duration))) (own-name name p is)
+      (subst (λ (e : Ends). Holds 1_000_000_000 e (Frac (bond_loss_exact factors (total_of sheet name) row p.security.duration))) (sym (bond-worked factors sheet valid name p is))
       (bond-encloses factors (total_of sheet name) row p.security.duration))
 
   pub spread-enclosed : Holds 1000 (figure nodes.Spread) (spread_exact factors sheet)
@@ -182,7 +182,7 @@ module _ (factors : FactorValues) (sheet : BalanceSheet) (valid : Valid sheet) w
   square-enclosed name g is =
       subst (λ (e : Ends). Holds 10_000_000_000 e (Frac (group_square_exact sheet g))) (sym (square-worked factors sheet valid name g is))
       (Encloses-exact 10_000_000_000 (pos (square_cents factors sheet valid g)) (group_square_exact sheet g)
-      (square-exact (assets_cents sheet) (group_cents sheet g.name) (threshold_of g.kind g.step) (charge_of g.kind g.step) (threshold_exact g.kind g.step) (factor_exact g.kind g.step)
+      (square-exact (assets_cents sheet) (group_cents sheet g.name) (threshold_units g.kind g.step) (factor_units g.kind g.step) (threshold_exact g.kind g.step) (factor_exact g.kind g.step)
       (threshold-exact g.kind g.step) (factor-exact g.kind g.step)))
 
   pub concentration-enclosed : Holds 1000 (figure nodes.Concentration) (concentration_exact sheet)

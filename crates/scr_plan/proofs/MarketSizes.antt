@@ -31,7 +31,7 @@ use Rattle.scr_profile.specs.declared.limits.TheConstants.{MAX_HELD}
 use Rattle.scr_market.specs.MarketEnds.{market_ends}
 use Rattle.scr_market.specs.PropertyEnds.{property_ends}
 use Rattle.scr_market.specs.Spread.{row_of as factor_row}
-use Rattle.scr_market.specs.SpreadEnds.{bond_ends, spread_ends}
+use Rattle.scr_market.specs.SpreadEnds.{bond_loss_ends, spread_ends}
 use Rattle.scr_market.specs.declared.equity_parts.TheConstants.{MAX_EQUITY_PART}
 use Rattle.scr_market.specs.declared.property_risk.TheConstants.{MAX_PROPERTY}
 use Rattle.scr_market.proofs.CurrencyLemmas.{rise-size, fall-size}
@@ -39,7 +39,7 @@ use Rattle.scr_market.proofs.MarketLemmas.{market-size}
 use Rattle.scr_market.proofs.PropertyLemmas.{property-size}
 use Rattle.scr_market.proofs.SpreadLemmas.{bond-size, spread-size}
 use Rattle.scr_conc.specs.Concentration.{Exposure}
-use Rattle.scr_conc.specs.ConcentrationEnds.{square_of, squares_of, concentration_ends}
+use Rattle.scr_conc.specs.ConcentrationEnds.{exposure_square_units, squares_units, concentration_ends}
 use Rattle.scr_conc.specs.declared.TheConstants.{MAX_SQUARES}
 use Rattle.scr_conc.proofs.Squares.{squares-size, root-size}
 use Rattle.scr_sheet.specs.Absorptions.{absorbed}
@@ -353,13 +353,13 @@ module _ (factors : FactorValues) (sheet : BalanceSheet) (valid : Valid sheet) w
 
   -- what a bond loses
   pub bond-worked : (name : List ℕ) (p : Position) → position_of name sheet.securities ≡ Some p
-      → figure (nodes.SecuritySpread name) ≡ bond_ends factors (total_of sheet name) (factor_row (step_of sheet p)) p.security.duration
+      → figure (nodes.SecuritySpread name) ≡ bond_loss_ends factors (total_of sheet name) (factor_row (step_of sheet p)) p.security.duration
   bond-worked name p is = bond-equation (position_of name sheet.securities) is (worked-equation factors sheet valid (nodes.SecuritySpread name))
-      ∙ ap (λ (e : Ends). bond_ends factors (or_zero e.low) (factor_row (step_of sheet p)) p.security.duration) (security-worked factors sheet valid name (ap is_some is))
+      ∙ ap (λ (e : Ends). bond_loss_ends factors (or_zero e.low) (factor_row (step_of sheet p)) p.security.duration) (security-worked factors sheet valid name (ap is_some is))
     where
       bond-equation : (found : Option Position) → found ≡ Some p
           → figure (nodes.SecuritySpread name) ≡ (let own = option_map_or (bond_stressed factors sheet) found (Stressed factors None 0) in rule own (own_discounts own) (figure (nodes.SecurityTotal name) ∷ []))
-          → figure (nodes.SecuritySpread name) ≡ bond_ends factors (amount_of (figure (nodes.SecurityTotal name))) (factor_row (step_of sheet p)) p.security.duration
+          → figure (nodes.SecuritySpread name) ≡ bond_loss_ends factors (amount_of (figure (nodes.SecurityTotal name))) (factor_row (step_of sheet p)) p.security.duration
       bond-equation found e is_rule =
           is_rule ∙ ap (λ o. let own = option_map_or (bond_stressed factors sheet) o (Stressed factors None 0) in rule own (own_discounts own) (figure (nodes.SecurityTotal name) ∷ [])) e
 
@@ -424,7 +424,7 @@ module _ (factors : FactorValues) (sheet : BalanceSheet) (valid : Valid sheet) w
 
   -- the square of the requirement for a group
   abbrev pub square_cents : Group → ℕ
-  square_cents g = square_of (assets_cents sheet) (exposure_to sheet g)
+  square_cents g = exposure_square_units (assets_cents sheet) (exposure_to sheet g)
 
   pub square-worked : (name : List ℕ) (g : Group) → group_of name sheet.groups ≡ Some g → figure (nodes.ConcentrationSquare name) ≡ exact_ends (pos (square_cents g))
   square-worked name g is =
@@ -447,10 +447,10 @@ module _ (factors : FactorValues) (sheet : BalanceSheet) (valid : Valid sheet) w
   abbrev pub square_ends_of : List Ends
   square_ends_of = map figure (map concentration_square sheet.groups)
 
-  squares-of : sum_by square_cents sheet.groups ≡ squares_of (assets_cents sheet) exposures
-  squares-of = sym (sum_by-map (square_of (assets_cents sheet)) (exposure_to sheet) sheet.groups)
+  squares-of : sum_by square_cents sheet.groups ≡ squares_units (assets_cents sheet) exposures
+  squares-of = sym (sum_by-map (exposure_square_units (assets_cents sheet)) (exposure_to sheet) sheet.groups)
 
-  pub squares-sum : sum_ends square_ends_of ≡ exact_ends (pos (squares_of (assets_cents sheet) exposures))
+  pub squares-sum : sum_ends square_ends_of ≡ exact_ends (pos (squares_units (assets_cents sheet) exposures))
   squares-sum = all-sum figure concentration_square square_cents sheet.groups squares-are ∙ ap (λ (n : ℕ). exact_ends (pos n)) squares-of
 
   -- no security is exposed to two groups
@@ -474,7 +474,7 @@ module _ (factors : FactorValues) (sheet : BalanceSheet) (valid : Valid sheet) w
       by name None n = omega arith
       by name (Some other) n = omega arith
 
-  pub squares-small : squares_of (assets_cents sheet) exposures ≤ MAX_SQUARES
+  pub squares-small : squares_units (assets_cents sheet) exposures ≤ MAX_SQUARES
   squares-small = squares-size (assets_cents sheet) exposures (let once = exposed-once in omega (arith, once, sum_by-map (λ (e : Exposure). e.cents) (exposure_to sheet) sheet.groups))
 
   pub squares-together : AreTogether MAX_SQUARES square_ends_of
@@ -491,7 +491,7 @@ module _ (factors : FactorValues) (sheet : BalanceSheet) (valid : Valid sheet) w
   pub squares-amount : IsAmount MAX_SQUARES (sum_ends square_ends_of)
   squares-amount = subst (IsAmount MAX_SQUARES) (sym squares-sum) (amount-exact MAX_SQUARES _ squares-small)
 
-  pub concentration-worked : figure nodes.Concentration ≡ concentration_ends (squares_of (assets_cents sheet) exposures)
+  pub concentration-worked : figure nodes.Concentration ≡ concentration_ends (squares_units (assets_cents sheet) exposures)
   concentration-worked = worked-equation factors sheet valid nodes.Concentration ∙ ap (λ (e : Ends). concentration_ends (or_zero e.low)) squares-sum
 
   pub concentration-amount : IsAmount (38 * 10 ^ 15) (figure nodes.Concentration)

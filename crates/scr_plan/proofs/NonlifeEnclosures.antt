@@ -1,11 +1,11 @@
 -- For a valid balance sheet the worked ends of charges that are handed in, of segments, of catastrophes, and of the non-life
 -- and health modules enclose the exact figures.
-use Rattle.std.proofs.Common.{◌≡◌, ℕ, ◌<◌, ◌≤◌, length, map, ℤ, pos, ◌<ℤ◌, ◌≤ℤ◌, sym, subst, arith, lit≤}
+use Rattle.std.proofs.Common.{◌≡◌, refl, ℕ, ◌<◌, ◌≤◌, length, map, ℤ, pos, ◌<ℤ◌, ◌≤ℤ◌, sym, subst, arith, lit≤}
 use Rattle.std.proofs.lemmas.Int.{ints}
 use Rattle.scr_num.specs.Figure.{Figure}
 use Rattle.scr_num.specs.Enclosure.{Encloses, EncloseAll}
 use Rattle.scr_num.specs.Rounding.{Ends, or_zero}
-use Rattle.scr_num.specs.Table.{IsSquare}
+use Rattle.scr_num.specs.Table.{Table, IsSquare}
 use Rattle.scr_num.proofs.CentAmounts.{Encloses-cents, or_zero-is}
 use Rattle.scr_agg.specs.Correlated.{table_of}
 use Rattle.scr_agg.proofs.NetAmounts.{Encloses-net}
@@ -30,7 +30,9 @@ use Rattle.scr_nodes.specs.declared.node.Node.TheVariants as nodes
 use Rattle.scr_nodes.specs.declared.node.Risk.TheVariants as risks
 use Rattle.scr_nodes.specs.OwnOf.{risk_key, catastrophe_cents, lapse_cents, volumes_in_regions, segment_correlations}
 use Rattle.scr_nodes.specs.Sources.{risk_part, segments_of}
-use Rattle.scr_plan.specs.NonlifeExact.{catastrophe_charge, lapse_charge, segment_exact, segments_exact, premium_reserve_exact, natural_exact, man_made_exact, catastrophe_exact, health_catastrophe_exact, nonlife_exact, nslt_exact, health_exact}
+use Rattle.scr_nonlife.specs.Nonlife.{premium_reserve_figure}
+use Rattle.scr_nonlife.specs.NonlifeEnds.{premium_reserve_ends}
+use Rattle.scr_plan.specs.NonlifeExact.{catastrophe_charge, lapse_charge, segment_exact, segments_exact, segment_table, premium_reserve_exact, natural_exact, man_made_exact, catastrophe_exact, health_catastrophe_exact, nonlife_exact, nslt_exact, health_exact}
 use Rattle.scr_plan.specs.Worked.{worked}
 use Rattle.scr_plan.proofs.NonlifeSizes as sizes
 
@@ -80,12 +82,19 @@ module _ (factors : FactorValues) (known : IsInForm factors) (sheet : BalanceShe
       subst (λ n. IsSquare n (table_of (segment_correlations factors set))) (sym (sizes.segments-counted factors known sheet valid set))
       (table_of-square (segment_correlations factors set))
 
+  -- the table of the code is that of the Regulation
+  tables : (set : Set) → table_of (segment_correlations factors set) ≡ segment_table factors set
+  tables sets.Nl = refl
+  tables sets.Nslt = refl
+
   pub premium_reserve-holds : (set : Set) → Holds (figure (nodes.PremiumReserve set)) (premium_reserve_exact factors sheet set)
   unfolding premium_reserve_exact
   premium_reserve-holds set =
       is-enclosed _ _ _ (sizes.premium_reserve-worked factors known sheet valid set)
+      (subst (λ (t : Table). Holds (premium_reserve_ends (map figure (segments_of set)) (table_of (segment_correlations factors set)))
+      (premium_reserve_figure (segments_exact factors sheet set) t)) (tables set)
       (premium_reserve-encloses (map figure (segments_of set)) (segments_exact factors sheet set) (table_of (segment_correlations factors set))
-      (positive (segment_correlations factors set).den (sizes.correlations-positive factors known sheet valid set)) (square set) (segments-hold set))
+      (positive (segment_correlations factors set).den (sizes.correlations-positive factors known sheet valid set)) (square set) (segments-hold set)))
 
   -- ---- catastrophes
   pub natural-holds : Holds (figure nodes.Natural) (natural_exact sheet)

@@ -3,9 +3,9 @@
 use Rattle.std.specs.Prelude.{ℕ, ◌+◌, ◌*◌, Bool, List, [], ◌∷◌, slice_index_or, sum_by, if◌then◌else◌}
 use Rattle.scr_num.specs.Fraction.{Fraction, plus, square}
 use Rattle.scr_num.specs.Figure.{Figure}
-use Rattle.scr_default.specs.Losses.{grains, lgd_bank_exact, lgd_rein_exact}
+use Rattle.scr_default.specs.Losses.{lgd_bank_exact, lgd_rein_exact}
 use Rattle.scr_default.specs.LossesEnds.{lgd_bank_grains, lgd_rein_grains}
-use Rattle.scr_default.specs.Variance.{variance_exact}
+use Rattle.scr_default.specs.Variance.{sum_of_classes, variance_exact}
 use Rattle.scr_default.specs.Type1.{band_of, type1_figure}
 use Rattle.scr_default.specs.Default.{type2_figure, default_figure}
 use Rattle.scr_sheet.specs.declared.rows.Bank.{Bank}
@@ -35,7 +35,40 @@ unfoldable pub class_square : BalanceSheet → (class : ℕ) → Fraction
 class_square sheet class =
     sum_where (is_of_default_class class) (λ group. square (group_loss sheet group.name)) sheet.groups
 
--- ---- the same in grains, thousandths of a cent, in which each is a whole number
+-- ---- type 1 and type 2 exposures (Articles 199 to 202)
+
+-- the losses of all classes together
+abbrev pub total_loss : BalanceSheet → Fraction
+total_loss sheet = sum_of_classes (class_loss sheet)
+
+-- the variance of the loss distribution of all type 1 exposures (Article 201)
+unfoldable pub default_variance : BalanceSheet → Fraction
+default_variance sheet = variance_exact (class_loss sheet) (class_square sheet)
+
+-- the band of the standard deviation that decides: 0 up to 7 percent of all losses, 1 up to 20 percent, 2 above (Article
+-- 200)
+abbrev pub default_band : BalanceSheet → ℕ
+default_band sheet = band_of (total_loss sheet) (default_variance sheet)
+
+-- the capital requirements for type 1 exposures, for type 2 exposures and for both together (Articles 200, 202 and 189(1))
+unfoldable pub type1_exact : BalanceSheet → Figure
+type1_exact sheet = type1_figure (total_loss sheet) (default_variance sheet)
+
+-- what has been due for more than three months, and all else that is due, in cents
+abbrev pub overdue_cents : BalanceSheet → ℕ
+overdue_cents sheet = slice_index_or sheet.numbers.due 0 0
+
+abbrev pub other_due_cents : BalanceSheet → ℕ
+other_due_cents sheet = slice_index_or sheet.numbers.due 1 0
+
+abbrev pub due_exact : BalanceSheet → Figure
+due_exact sheet = type2_figure (overdue_cents sheet) (other_due_cents sheet)
+
+unfoldable pub default_exact : BalanceSheet → Figure
+default_exact sheet = default_figure (type1_exact sheet) (due_exact sheet)
+
+-- ---- the losses as they are worked out (this project's own): in grains, thousandths of a cent, in which each is a whole
+-- number. The law `default_losses` says that they are exactly the losses above.
 
 -- a sum over the rows that pass a test
 abbrev pub total_where : {Row : Type 0} → (Row → Bool) → (Row → ℕ) → List Row → ℕ
@@ -67,29 +100,3 @@ abbrev pub total_grains : BalanceSheet → ℕ
 total_grains sheet =
     class_grains sheet 0 + class_grains sheet 1 + class_grains sheet 2 + class_grains sheet 3 + class_grains sheet 4
     + class_grains sheet 5
-
--- ---- type 1 and type 2 exposures (Articles 199 to 202)
-
--- of the losses of all classes
-unfoldable pub default_variance : BalanceSheet → Fraction
-default_variance sheet = variance_exact (in_classes (class_grains sheet)) (in_classes (class_square_grains sheet))
-
--- the band of the standard deviation that decides
-abbrev pub default_band : BalanceSheet → ℕ
-default_band sheet = band_of (grains (total_grains sheet)) (default_variance sheet)
-
-unfoldable pub type1_exact : BalanceSheet → Figure
-type1_exact sheet = type1_figure (grains (total_grains sheet)) (default_variance sheet)
-
--- what has been due for more than three months, and all else that is due, in cents
-abbrev pub overdue_cents : BalanceSheet → ℕ
-overdue_cents sheet = slice_index_or sheet.numbers.due 0 0
-
-abbrev pub other_due_cents : BalanceSheet → ℕ
-other_due_cents sheet = slice_index_or sheet.numbers.due 1 0
-
-abbrev pub type2_due : BalanceSheet → Figure
-type2_due sheet = type2_figure (overdue_cents sheet) (other_due_cents sheet)
-
-unfoldable pub default_exact : BalanceSheet → Figure
-default_exact sheet = default_figure (type1_exact sheet) (type2_due sheet)

@@ -1,5 +1,6 @@
 -- The exact figure of each node, in the words of the Regulation (Delegated Regulation (EU) 2015/35, Articles 84, 87, 114 to
--- 207, and Article 103 of Directive 2009/138/EC). Nothing is rounded, and no step of the reckoning is named.
+-- 207, and Article 103 of Directive 2009/138/EC). Nothing is rounded, and no step of the reckoning is named. In the files
+-- named `Exact` each definition is the exact figure of a balance sheet: a fraction, or a formula where there are roots.
 pub use Rattle.scr_plan.specs.Measured.{measured}
 use Rattle.std.specs.Prelude.{ℕ, pos, Option, Some, None, List, [], ◌∷◌}
 use Rattle.std.specs.Option.{option_map_or}
@@ -9,7 +10,7 @@ use Rattle.scr_num.specs.Figure.Figure.{Frac, Sum}
 use Rattle.scr_num.specs.Sums.{parts_of}
 use Rattle.scr_agg.specs.Absorbed.{net_figure}
 use Rattle.scr_agg.specs.Choice.{chosen}
-use Rattle.scr_rate.specs.InterestRisk.{counted}
+use Rattle.scr_rate.specs.Interest.{counted}
 use Rattle.scr_market.specs.Equity.{type1_figure, type2_figure, infra_figure, infracorp_figure, equity_root_figure}
 use Rattle.scr_market.specs.Market.{market_figure}
 use Rattle.scr_factors.specs.Values.{FactorValues}
@@ -34,7 +35,7 @@ use Rattle.scr_nodes.specs.Rows.{group_of, liability_of}
 use Rattle.scr_loss.specs.Bscr.{intangible_figure}
 use Rattle.scr_plan.specs.Holdings.{class_total}
 use Rattle.scr_plan.specs.LifeExact.{stress_loss, stress_outcome, lapse_outcome, life_exact, slt_exact}
-use Rattle.scr_plan.specs.DefaultExact.{group_loss, class_loss, class_square, default_variance, type1_exact, type2_due, default_exact}
+use Rattle.scr_plan.specs.DefaultExact.{group_loss, class_loss, class_square, default_variance, type1_exact, due_exact, default_exact}
 use Rattle.scr_plan.specs.LossExact.{OtherModules, bscr_exact, diversification_exact, operational_exact, adjustment_exact, scr_exact}
 use Rattle.scr_plan.specs.NonlifeExact.{catastrophe_charge, lapse_charge, segment_exact, premium_reserve_exact, natural_exact}
 use Rattle.scr_plan.specs.NonlifeExact.{man_made_exact, catastrophe_exact, health_catastrophe_exact, nonlife_exact, nslt_exact, health_exact}
@@ -155,7 +156,7 @@ exact factors sheet (nodes.ClassSquare class) = Some (Frac (class_square sheet c
 exact factors sheet nodes.Variance = Some (Frac (default_variance sheet))
 exact factors sheet nodes.DefaultBand = None
 exact factors sheet nodes.DefaultType1 = Some (type1_exact sheet)
-exact factors sheet nodes.DefaultType2 = Some (type2_due sheet)
+exact factors sheet nodes.DefaultType2 = Some (due_exact sheet)
 exact factors sheet nodes.Default = Some (default_exact sheet)
 exact factors sheet (nodes.NetPart risks.Default) = Some (net_figure (default_exact sheet) (absorbed (risk_key risks.Default) sheet.numbers))
 exact factors sheet (nodes.Segment set number) = Some (segment_exact factors sheet set number)

@@ -8,7 +8,7 @@ use Rattle.scr_curve.specs.Rate.{rate}
 use Rattle.scr_curve.specs.declared.tilt.Tilt.TheVariants as tilts
 use Rattle.scr_flow.specs.Payments.{payments_loss_exact}
 use Rattle.scr_agg.specs.Choice.{Outcome}
-use Rattle.scr_rate.specs.InterestRisk.{scenario_outcome, interest_outcome}
+use Rattle.scr_rate.specs.Interest.{scenario_outcome, interest_outcome}
 use Rattle.scr_names.specs.Names.{same_name}
 use Rattle.scr_sheet.specs.declared.sheet.BalanceSheet.{BalanceSheet}
 use Rattle.scr_sheet.specs.Absorptions.{absorbed}

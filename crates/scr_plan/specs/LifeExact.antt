@@ -10,7 +10,7 @@ use Rattle.scr_curve.specs.Discount.{discount_exact}
 use Rattle.scr_curve.specs.Rate.{rate}
 use Rattle.scr_curve.specs.declared.tilt.Tilt.TheVariants as tilts
 use Rattle.scr_flow.specs.Payments.{payments_exact}
-use Rattle.scr_agg.specs.Absorbed.{net_amount}
+use Rattle.scr_agg.specs.Absorbed.{net_exact}
 use Rattle.scr_agg.specs.Choice.{Outcome, outcome_at, chosen}
 use Rattle.scr_bio.specs.Biometric.{life_figure, slt_figure}
 use Rattle.scr_sheet.specs.CashFlows.{flows_under}
@@ -53,9 +53,9 @@ stress_total sheet biometric projection =
 unfoldable pub stress_outcome : BalanceSheet → Biometric → Projection → Outcome
 stress_outcome sheet biometric projection =
     let gross = stress_total sheet biometric projection in
-    record { gross = gross; net = net_amount gross (stress_absorbed sheet biometric projection) }
+    record { gross = gross; net = net_exact gross (stress_absorbed sheet biometric projection) }
 
--- more, fewer and mass lapses, in this order (Articles 142(1) and 159(1))
+-- a permanent rise of lapse rates, a permanent fall of them and a mass lapse, in this order (Articles 142(1) and 159(1))
 abbrev pub lapse_outcomes : BalanceSheet → Biometric → List Outcome
 lapse_outcomes sheet biometric =
     stress_outcome sheet biometric projections.LapseUp ∷ stress_outcome sheet biometric projections.LapseDown

@@ -6,9 +6,7 @@ use Rattle.scr_num.specs.Rounding.{Ends, exact_ends, max_ends}
 use Rattle.scr_dates.specs.declared.day.Day.{Day}
 use Rattle.scr_flow.specs.Due.{due_in}
 use Rattle.scr_flow.specs.LossEnds.{present_ends}
-use Rattle.scr_sheet.specs.declared.sheet.BalanceSheet.{BalanceSheet}
 use Rattle.scr_nodes.specs.Own.{Valued}
-use Rattle.scr_nodes.specs.Rows.{rates_of}
 use Rattle.scr_plan.specs.Discounts.{CurrencyDiscounts}
 
 -- what falls due under a stress less what does by the best estimate, after 1, 2, 3 and up to 100 years
@@ -22,11 +20,6 @@ excess_ends valued stressed discounts =
     max_ends (present_ends (excess_dues valued.asof stressed valued.payments) discounts.base) (exact_ends (pos 0))
 
 -- ---- as the code takes them
-
--- payments in a currency of the balance sheet
-abbrev pub valued_in : BalanceSheet → (currency : List ℕ) → (payments : List (Day × ℤ)) → Valued
-valued_in sheet currency payments =
-    record { asof = sheet.numbers.asof.number; payments = payments; rates = rates_of currency sheet }
 
 -- the difference of two amounts at one place
 abbrev pub less_at : List ℤ → List ℤ → ℕ → ℤ

@@ -51,6 +51,7 @@ module _ (others : OtherModules) (factors : FactorValues) (sheet : BalanceSheet)
   unfoldable pub bscr_exact : Measure → Figure
   bscr_exact measure = bscr_figure (modules_exact measure) sheet.numbers.intangible
 
+  -- what the modules sum to above the root over them
   unfoldable pub diversification_exact : Figure
   diversification_exact = diversification_figure (modules_exact measures.Gross)
 
@@ -67,15 +68,18 @@ module _ (others : OtherModules) (factors : FactorValues) (sheet : BalanceSheet)
 
   -- ---- adjustments (Articles 206 and 207), and all (Article 103 of the Directive)
 
+  -- by the loss-absorbing capacity of technical provisions
   unfoldable pub provisions_exact : Figure
   provisions_exact = adj_tp_figure (bscr_exact measures.Gross) (bscr_exact measures.Net) sheet.numbers.fdb
 
+  -- by that, and by the loss-absorbing capacity of deferred taxes
   unfoldable pub adjustment_exact : Adjustment → Figure
   adjustment_exact adjustments.TechnicalProvisions = provisions_exact
   adjustment_exact adjustments.DeferredTaxes =
       adj_dt_figure (bscr_exact measures.Gross) provisions_exact (operational_exact operations.Charge) sheet.numbers.tax
       sheet.numbers.cap
 
+  -- the Solvency Capital Requirement
   unfoldable pub scr_exact : Figure
   scr_exact =
       scr_figure (bscr_exact measures.Gross) (adjustment_exact adjustments.TechnicalProvisions)

@@ -9,12 +9,12 @@ use Rattle.scr_curve.specs.Discount.{discount_exact}
 use Rattle.scr_curve.specs.Rate.{rate}
 use Rattle.scr_curve.specs.declared.tilt.Tilt.TheVariants as tilts
 use Rattle.scr_flow.specs.Payments.{payments_exact}
-use Rattle.scr_agg.specs.Absorbed.{net_amount}
+use Rattle.scr_agg.specs.Absorbed.{net_exact}
 use Rattle.scr_agg.specs.Choice.{Outcome, outcome_at, chosen}
 use Rattle.scr_factors.specs.Values.{FactorValues}
-use Rattle.scr_market.specs.Currency.{currency_rise, currency_fall}
+use Rattle.scr_market.specs.Currency.{currency_rise_exact, currency_fall_exact}
 use Rattle.scr_market.specs.Property.{property_figure}
-use Rattle.scr_market.specs.Spread.{row_of, bond_loss}
+use Rattle.scr_market.specs.Spread.{row_of, bond_loss_exact}
 use Rattle.scr_conc.specs.Concentration.{Exposure, square_exact, concentration_figure}
 use Rattle.scr_sheet.specs.declared.sheet.BalanceSheet.{BalanceSheet}
 use Rattle.scr_sheet.specs.declared.rows.Class.TheVariants as classes
@@ -50,14 +50,14 @@ liabilities_in currency sheet =
     sum_fraction (map (liability_worth sheet) (filter (is_owed_in currency) sheet.liabilities))
 
 abbrev pub change_cost : Direction → ℕ → Fraction → Fraction
-change_cost directions.Up assets liabilities = currency_rise assets liabilities
-change_cost directions.Down assets liabilities = currency_fall assets liabilities
+change_cost directions.Up assets liabilities = currency_rise_exact assets liabilities
+change_cost directions.Down assets liabilities = currency_fall_exact assets liabilities
 
 -- what a rise or a fall of the currency costs before and after absorption
 unfoldable pub change_outcome : BalanceSheet → List ℕ → Direction → Outcome
 change_outcome sheet currency direction =
     let gross = change_cost direction (assets_in currency sheet) (liabilities_in currency sheet) in
-    record { gross = gross; net = net_amount gross (currency_absorbed sheet currency direction) }
+    record { gross = gross; net = net_exact gross (currency_absorbed sheet currency direction) }
 
 -- the rise, listed first, and the fall
 abbrev pub change_outcomes : BalanceSheet → List ℕ → List Outcome
@@ -86,7 +86,7 @@ property_exact sheet = property_figure (class_total classes.Property sheet)
 -- what a bond loses
 abbrev pub bond_exact : FactorValues → BalanceSheet → Position → Fraction
 bond_exact factors sheet p =
-    bond_loss factors (security_cents sheet p) (row_of (step_of sheet p)) p.security.duration
+    bond_loss_exact factors (security_cents sheet p) (row_of (step_of sheet p)) p.security.duration
 
 -- what all bonds lose
 unfoldable pub spread_exact : FactorValues → BalanceSheet → Figure

@@ -8,8 +8,8 @@ use Rattle.scr_factors.specs.Values.{FactorValues}
 use Rattle.scr_profile.specs.declared.group_kind.GroupKind.{GroupKind}
 use Rattle.scr_market.specs.CurrencyEnds.{currency_rise_ends, currency_fall_ends}
 use Rattle.scr_market.specs.Spread.{row_of}
-use Rattle.scr_market.specs.SpreadEnds.{bond_ends}
-use Rattle.scr_conc.specs.ConcentrationEnds.{square_of}
+use Rattle.scr_market.specs.SpreadEnds.{bond_loss_ends}
+use Rattle.scr_conc.specs.ConcentrationEnds.{exposure_square_units}
 use Rattle.scr_nodes.specs.declared.node.Direction.{Direction}
 use Rattle.scr_nodes.specs.declared.node.Direction.TheVariants as directions
 use Rattle.scr_nodes.specs.Own.{Valued}
@@ -31,10 +31,10 @@ multiple_ends times cents = exact_ends (pos (times * cents))
 
 -- what a bond of so many cents loses, by its credit quality step, or none, and its duration (Article 176)
 abbrev pub stressed_ends : FactorValues → Option ℕ → ℕ → ℕ → Ends
-stressed_ends factors step duration cents = bond_ends factors cents (row_of step) duration
+stressed_ends factors step duration cents = bond_loss_ends factors cents (row_of step) duration
 
 -- the square of the requirement for a group of this kind and step, or none, of the assets and the exposure in cents
 -- (Articles 183(2) and 184(1))
 abbrev pub group_square_ends : GroupKind → Option ℕ → ℕ → ℕ → Ends
 group_square_ends kind step assets exposure =
-    exact_ends (pos (square_of assets (record { cents = exposure; kind = kind; step = step })))
+    exact_ends (pos (exposure_square_units assets (record { cents = exposure; kind = kind; step = step })))

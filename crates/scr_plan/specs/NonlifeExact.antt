@@ -3,12 +3,13 @@
 use Rattle.std.specs.Prelude.{ℕ}
 use Rattle.scr_num.specs.Figure.{Figure, Figures}
 use Rattle.scr_num.specs.Figure.Figures.{more, none}
+use Rattle.scr_num.specs.Table.{Table}
 use Rattle.scr_num.specs.Cents.{cents_figure}
 use Rattle.scr_agg.specs.Absorbed.{net_figure}
 use Rattle.scr_agg.specs.Correlated.{table_of}
 use Rattle.scr_bio.specs.Biometric.{nslt_figure, health_cat_figure, health_figure}
 use Rattle.scr_nonlife.specs.Segment.{segment_figure}
-use Rattle.scr_nonlife.specs.Nonlife.{premium_reserve_figure, nat_figure, manmade_figure, cat_figure, nonlife_figure}
+use Rattle.scr_nonlife.specs.Nonlife.{premium_reserve_figure, nslt_correlations, nat_figure, manmade_figure, cat_figure, nonlife_figure}
 use Rattle.scr_profile.specs.declared.set.Set.{Set}
 use Rattle.scr_profile.specs.declared.set.Set.TheVariants as sets
 use Rattle.scr_factors.specs.Values.{FactorValues, sigma_of}
@@ -19,7 +20,7 @@ use Rattle.scr_sheet.specs.declared.keys.CatKey.TheVariants as cats
 use Rattle.scr_sheet.specs.declared.sheet.BalanceSheet.{BalanceSheet}
 use Rattle.scr_nodes.specs.declared.node.Measure.{Measure}
 use Rattle.scr_nodes.specs.declared.node.Measure.TheVariants as measures
-use Rattle.scr_nodes.specs.OwnOf.{catastrophe_cents, lapse_cents, volumes_in_regions, segment_correlations}
+use Rattle.scr_nodes.specs.OwnOf.{catastrophe_cents, lapse_cents, volumes_in_regions}
 
 -- ---- charges that are handed in
 
@@ -48,10 +49,16 @@ segments_exact factors sheet sets.Nslt =
     let segment = segment_exact factors sheet sets.Nslt in
     more (segment 1) (more (segment 2) (more (segment 3) (more (segment 4) none)))
 
+-- the correlations between segments: those of non-life are handed in (Annex IV of the Delegated Regulation), and those of
+-- health are the Regulation's (Annex XV)
+abbrev pub segment_table : FactorValues → Set → Table
+segment_table factors sets.Nl = table_of factors.correlations
+segment_table factors sets.Nslt = nslt_correlations
+
 -- three times the root over the segments (Articles 115, 117, 146 and 148)
 unfoldable pub premium_reserve_exact : FactorValues → BalanceSheet → Set → Figure
 premium_reserve_exact factors sheet set =
-    premium_reserve_figure (segments_exact factors sheet set) (table_of (segment_correlations factors set))
+    premium_reserve_figure (segments_exact factors sheet set) (segment_table factors set)
 
 -- ---- catastrophes
 

@@ -1,7 +1,7 @@
 //! The figure of a node from those of its sources.
 ghost use Rattle.std.specs.Prelude.{◌≡◌, ◌+◌, map, slice_get};
 ghost use Rattle.scr_num.specs.Rounding.{ends};
-ghost use Rattle.scr_nodes.specs.OwnOf.{own_of, currency_absorbed, interest_key as key_of_interest, risk_key as key_of_risk};
+ghost use Rattle.scr_nodes.specs.OwnOf.{own_of, currency_absorbed};
 ghost use Rattle.scr_nodes.specs.Sources.{sources_of};
 ghost use Rattle.scr_sheet.specs.Validity.{Valid};
 ghost use Rattle.scr_plan.specs.Fits.{Fits};
@@ -20,15 +20,16 @@ use crate::market_rules::{
     foreign, market, property, spread, square, squares_root, stressed, worth,
 };
 use crate::nonlife_rules::{
-    catastrophe_cents, catastrophes, charged, health, health_catastrophe, lapse_cents, man_made,
-    natural, nonlife, nslt, premium_reserve, segment,
+    catastrophes, charged, health, health_catastrophe, man_made, natural, nonlife, nslt,
+    premium_reserve, segment,
 };
 use crate::paid::{cost, unit};
 use crate::rules::{choice, equities, fall, lost, net, picked, scaled};
 use crate::{Curves, GroupLosses};
-use scr_book::{AbsorbKey, BalanceSheet, Book, Name};
+use scr_book::{BalanceSheet, Book, Name};
 use scr_factors::{Factors, Set};
-use scr_nodes::{Adjustment, Direction, Measure, Node, Operational, Risk};
+use scr_nodes::single_numbers::{catastrophe_cents, interest_key, lapse_cents, risk_key};
+use scr_nodes::{Adjustment, Direction, Measure, Node, Operational};
 use scr_num::Span;
 use scr_rate::{gross, total};
 use scr_steps::Steps;
@@ -214,27 +215,5 @@ fn change_absorbed(sheet: &BalanceSheet, currency: &Name, direction: Direction) 
             Direction::Down => curve.absorb_down,
         },
         None => 0,
-    }
-}
-
-fn interest_key(direction: Direction) -> AbsorbKey
-    ensures { result ≡ key_of_interest direction }
-{
-    match direction {
-        Direction::Up => AbsorbKey::InterestUp,
-        Direction::Down => AbsorbKey::InterestDown,
-    }
-}
-
-fn risk_key(risk: Risk) -> AbsorbKey
-    ensures { result ≡ key_of_risk risk }
-{
-    match risk {
-        Risk::Equity => AbsorbKey::Equity,
-        Risk::Property => AbsorbKey::Property,
-        Risk::Spread => AbsorbKey::Spread,
-        Risk::Concentration => AbsorbKey::Concentration,
-        Risk::Default => AbsorbKey::Default,
-        Risk::HealthCatastrophe => AbsorbKey::HealthCatastrophe,
     }
 }

@@ -98,7 +98,7 @@ pub fn default_bands()
         → IsBitSet (amount_of (worked factors sheet nodes.DefaultBand)) (default_band sheet) }
 {}
 
-/// The losses given default in grains, which the variance is of, are exactly those of the articles (Article 192).
+/// The losses given default in grains, of which the variance is worked out, are exactly those of Article 192.
 pub fn default_losses()
     ensures group { (sheet : BalanceSheet) (name : List ℕ)
         → Encloses 1000 (pos (group_grains sheet name)) (pos (group_grains sheet name)) (Frac (group_loss sheet name)) }

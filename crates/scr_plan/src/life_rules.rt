@@ -3,21 +3,22 @@ ghost use Rattle.std.specs.Prelude.{◌≡◌, ◌≤◌, map, sum_by, unsigned_
 ghost use Rattle.std.specs.List.{range_with_len};
 ghost use Rattle.scr_num.specs.Rounding.{ends};
 ghost use Rattle.scr_bio.specs.BiometricEnds.{life_ends, slt_ends};
-ghost use Rattle.scr_nodes.specs.OwnOf.{liability_valued, paid_under, stress_absorbed as absorbed_of_stress, stress_key as key_of_stress};
-ghost use Rattle.scr_nodes.specs.declared.node.Biometric.TheVariants as biometrics;
+ghost use Rattle.scr_nodes.specs.OwnOf.{liability_valued, paid_under, stress_absorbed as absorbed_of_stress};
 ghost use Rattle.scr_nodes.specs.declared.node.Node.TheVariants as nodes;
 ghost use Rattle.scr_sheet.specs.Validity.{Valid};
 ghost use Rattle.scr_plan.specs.Figures.{figures_from};
 ghost use Rattle.scr_plan.specs.Kept.{rows_of, row_in, discounts_in, AreDiscountsOf};
 ghost use Rattle.scr_plan.specs.LifeFits.{FitsExcess, FitsRoot};
-ghost use Rattle.scr_plan.specs.LifeRules.{excess_ends, valued_in, less_at};
+ghost use Rattle.scr_plan.specs.LifeRules.{excess_ends, less_at};
+ghost use Rattle.scr_plan.specs.Paid.{valued_in};
 
 use crate::Curves;
 use crate::spans::at;
-use scr_book::{AbsorbKey, BalanceSheet, Name};
+use scr_book::{BalanceSheet, Name};
 use scr_dates::Day;
 use scr_flow::{bucket, present};
 use scr_nodes::Biometric;
+use scr_nodes::single_numbers::stress_key;
 use scr_num::{Span, exact, max};
 use scr_sheet::Projection;
 
@@ -94,48 +95,6 @@ pub(crate) fn stress_absorbed(
     match stress_key(biometric, projection) {
         Some(key) => sheet.numbers.absorbed(key),
         None => 0,
-    }
-}
-
-fn stress_key(biometric: Biometric, projection: Projection) -> Option<AbsorbKey>
-    ensures { result ≡ key_of_stress biometric projection }
-{
-    match biometric {
-        Biometric::Life => life_key(projection),
-        Biometric::Health => health_key(projection),
-    }
-}
-
-fn life_key(projection: Projection) -> Option<AbsorbKey>
-    ensures { result ≡ key_of_stress biometrics.Life projection }
-{
-    match projection {
-        Projection::Base => None,
-        Projection::Mortality => Some(AbsorbKey::LifeMortality),
-        Projection::Longevity => Some(AbsorbKey::LifeLongevity),
-        Projection::Disability => Some(AbsorbKey::LifeDisability),
-        Projection::Expense => Some(AbsorbKey::LifeExpense),
-        Projection::Revision => Some(AbsorbKey::LifeRevision),
-        Projection::LapseUp => Some(AbsorbKey::LifeLapseUp),
-        Projection::LapseDown => Some(AbsorbKey::LifeLapseDown),
-        Projection::LapseMass => Some(AbsorbKey::LifeLapseMass),
-        Projection::Catastrophe => Some(AbsorbKey::LifeCatastrophe),
-    }
-}
-
-fn health_key(projection: Projection) -> Option<AbsorbKey>
-    ensures { result ≡ key_of_stress biometrics.Health projection }
-{
-    match projection {
-        Projection::Base | Projection::Catastrophe => None,
-        Projection::Mortality => Some(AbsorbKey::HealthMortality),
-        Projection::Longevity => Some(AbsorbKey::HealthLongevity),
-        Projection::Disability => Some(AbsorbKey::HealthDisability),
-        Projection::Expense => Some(AbsorbKey::HealthExpense),
-        Projection::Revision => Some(AbsorbKey::HealthRevision),
-        Projection::LapseUp => Some(AbsorbKey::HealthLapseUp),
-        Projection::LapseDown => Some(AbsorbKey::HealthLapseDown),
-        Projection::LapseMass => Some(AbsorbKey::HealthLapseMass),
     }
 }
 

@@ -6,7 +6,7 @@ ghost use Rattle.scr_nonlife.specs.SegmentEnds.{segment_ends};
 ghost use Rattle.scr_profile.specs.Segments.{segments};
 ghost use Rattle.scr_profile.specs.declared.limits.TheConstants.{MAX_AMOUNT};
 ghost use Rattle.scr_factors.specs.Values.{sigma_of};
-ghost use Rattle.scr_nodes.specs.OwnOf.{catastrophe_cents as cents_of_catastrophe, lapse_cents as cents_of_lapse, volumes_in_regions, segment_correlations};
+ghost use Rattle.scr_nodes.specs.OwnOf.{volumes_in_regions, segment_correlations};
 ghost use Rattle.scr_plan.specs.NonlifeFits.{MAX_CHARGE, FitsCharged, FitsSegment, FitsPremiumReserve, FitsNatural, FitsManMade, FitsCatastrophes, FitsHealthCatastrophe, FitsNonlife, FitsNslt, FitsHealth};
 ghost use Rattle.scr_plan.specs.NonlifeRules.{numbered_volumes, charged_ends, cents_at, premium_reserve_from, natural_from, man_made_from, catastrophes_from, health_catastrophe_from, nonlife_from, nslt_from, health_from};
 ghost use Rattle.scr_plan.specs.Figures.{figure_at};
@@ -14,7 +14,7 @@ ghost use Rattle.scr_plan.specs.Figures.{figure_at};
 use crate::spans::at;
 use scr_factors::{Factors, NSLT, Set};
 use scr_num::{Span, exact};
-use scr_sheet::{CatKey, Numbers, Regions};
+use scr_sheet::{Numbers, Regions};
 
 /// So many grains for each of so many cents.
 pub(crate) fn charged(times: u64, cents: u64) -> Span
@@ -22,40 +22,6 @@ pub(crate) fn charged(times: u64, cents: u64) -> Span
     ensures { ends result ≡ charged_ends times cents }
 {
     exact(i128::from(times * cents))
-}
-
-/// The cents of a handed-in charge of catastrophe risk.
-pub(crate) fn catastrophe_cents(numbers: &Numbers, key: CatKey) -> u64
-    ensures { result ≡ cents_of_catastrophe key numbers.now }
-{
-    match key {
-        CatKey::Windstorm => numbers.cat[0],
-        CatKey::Earthquake => numbers.cat[1],
-        CatKey::Flood => numbers.cat[2],
-        CatKey::Hail => numbers.cat[3],
-        CatKey::Subsidence => numbers.cat[4],
-        CatKey::NonProportionalProperty => numbers.cat[5],
-        CatKey::Motor => numbers.cat[6],
-        CatKey::Marine => numbers.cat[7],
-        CatKey::Aviation => numbers.cat[8],
-        CatKey::Fire => numbers.cat[9],
-        CatKey::Liability => numbers.cat[10],
-        CatKey::Credit => numbers.cat[11],
-        CatKey::Other => numbers.cat[12],
-        CatKey::MassAccident => numbers.health_cat[0],
-        CatKey::AccidentConcentration => numbers.health_cat[1],
-        CatKey::Pandemic => numbers.health_cat[2],
-    }
-}
-
-/// The cents of a handed-in charge of lapse risk.
-pub(crate) fn lapse_cents(numbers: &Numbers, set: Set) -> u64
-    ensures { result ≡ cents_of_lapse set numbers.now }
-{
-    match set {
-        Set::Nl => numbers.lapse[0],
-        Set::Nslt => numbers.lapse[1],
-    }
 }
 
 /// A segment by its number from 1; nothing where the set has no such segment.

@@ -16,9 +16,9 @@ ghost use Rattle.scr_nodes.specs.declared.node.Node.TheVariants as nodes;
 
 use crate::Curves;
 use scr_book::{BalanceSheet, Name};
-use scr_curve::{Discounts, Tilt, yearly};
+use scr_curve::{Discounts, Tilt};
 use scr_dates::Day;
-use scr_flow::{bucket, unit_loss};
+use scr_flow::{bucket, curve_loss};
 use scr_nodes::Direction;
 use scr_num::{Span, exact, sub};
 
@@ -97,7 +97,5 @@ fn loss(flows: &[i64; 100], rates: &[i64], from: &Discounts, tilt: Tilt, to: &Di
         (rates_in_parts rates.now tilt) (map ends to.now.at) }
     ensures small { IsWithin (2 ^ 125) (ends result) }
 {
-    let base = yearly(rates, Tilt::Base);
-    let stressed = yearly(rates, tilt);
-    unit_loss(flows, &base, from, &stressed, to)
+    curve_loss(flows, rates, from, tilt, to)
 }

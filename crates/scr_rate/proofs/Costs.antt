@@ -8,8 +8,8 @@ use Rattle.scr_num.specs.Enclosure.{Encloses}
 use Rattle.scr_num.proofs.Enclosing.{Encloses-exact, Encloses-add, Encloses-plus, Encloses-divided}
 use Rattle.scr_agg.specs.Unbeaten.{EncloseOutcome, EncloseOutcomes}
 use Rattle.scr_agg.proofs.NetAmounts.{Encloses-net}
-use Rattle.scr_agg.proofs.ExactAmounts.{Encloses-net_amount}
-use Rattle.scr_rate.specs.InterestRisk.{counted, gross_exact, scenario_outcome, interest_outcomes}
+use Rattle.scr_agg.proofs.ExactAmounts.{Encloses-net_exact}
+use Rattle.scr_rate.specs.Interest.{counted, gross_exact, scenario_outcome, interest_outcomes}
 use Rattle.scr_num.specs.Sums.{sum_ends}
 use Rattle.scr_rate.specs.InterestEnds.{gross_ends, scenario_ends, interest_ends, EncloseLosses}
 
@@ -33,7 +33,7 @@ pub scenario_encloses : (es : List Ends) (losses : List Fraction) (absorb : ℕ)
 scenario_encloses es losses absorb h = record {
   gross = gross_encloses es losses h;
   net = let e = (scenario_ends es absorb).net in
-      Encloses-net_amount 1000 e.low e.high (gross_exact losses) absorb (Encloses-net (gross_ends es) absorb (Frac (gross_exact losses)) (gross_encloses es losses h));
+      Encloses-net_exact 1000 e.low e.high (gross_exact losses) absorb (Encloses-net (gross_ends es) absorb (Frac (gross_exact losses)) (gross_encloses es losses h));
 }
 
 pub outcomes_enclosed : (up down : List Ends) (ups downs : List Fraction) (absorb_up absorb_down : ℕ) → EncloseLosses up ups → EncloseLosses down downs

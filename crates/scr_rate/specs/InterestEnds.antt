@@ -8,7 +8,7 @@ use Rattle.scr_num.specs.Sums.{sum_ends}
 use Rattle.scr_num.specs.Enclosure.{Encloses}
 use Rattle.scr_agg.specs.Absorbed.{net_ends}
 use Rattle.scr_agg.specs.Unbeaten.{Alternative}
-use Rattle.scr_rate.specs.InterestRisk.{counted}
+use Rattle.scr_rate.specs.Interest.{counted}
 use Rattle.scr_num.specs.Sizes.{IsWithin}
 
 -- before absorption, in grains

@@ -1,2 +1,2 @@
-pub mod InterestRisk
+pub mod Interest
 pub mod InterestEnds

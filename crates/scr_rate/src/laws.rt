@@ -9,7 +9,7 @@ ghost use Rattle.scr_num.specs.Fraction.{Fraction};
 ghost use Rattle.scr_num.specs.Rounding.{Ends};
 ghost use Rattle.scr_agg.specs.Absorbed.{net_ends};
 ghost use Rattle.scr_agg.specs.Unbeaten.{EncloseOutcome, EncloseOutcomes};
-ghost use Rattle.scr_rate.specs.InterestRisk.{gross_exact, scenario_outcome, interest_outcomes};
+ghost use Rattle.scr_rate.specs.Interest.{gross_exact, scenario_outcome, interest_outcomes};
 ghost use Rattle.scr_num.specs.Sums.{sum_ends};
 ghost use Rattle.scr_rate.specs.InterestEnds.{gross_ends, scenario_ends, interest_ends, EncloseLosses, IsCost};
 ghost use Rattle.scr_num.specs.Sizes.{IsWithin, AreTogether};

@@ -9,7 +9,7 @@ ghost use Rattle.scr_num.specs.Rounding.{ends};
 ghost use Rattle.scr_agg.specs.Choice.{chosen};
 ghost use Rattle.scr_agg.specs.Correlated.{all_ends};
 ghost use Rattle.scr_agg.specs.Unbeaten.{alternative, unbeaten, mask_of, chosen_gross, chosen_net};
-ghost use Rattle.scr_rate.specs.InterestRisk.{gross_exact, scenario_outcome, interest_outcomes, interest_outcome};
+ghost use Rattle.scr_rate.specs.Interest.{gross_exact, scenario_outcome, interest_outcomes, interest_outcome};
 ghost use Rattle.scr_rate.specs.InterestEnds.{scenario_ends, interest_ends, EncloseLosses, IsCost};
 
 mod interest_risk;

@@ -13,7 +13,7 @@ pub fn places_of(alloc: Global, places: &Places, nodes: &[Node]) -> Result<Vec<u
     requires { AllByRecursion (IsPlaced places.now) nodes.now }
     ensures { IfOk result (λ numbers. AreAt places.now numbers.items nodes.now) }
 {
-    let mut numbers = Vec::new(alloc);
+    let mut numbers = Vec::with_capacity(alloc, nodes.len())?;
     for node in nodes {
         match places.find(node) {
             Some(place) => numbers.push(place)?,

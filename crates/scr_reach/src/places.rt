@@ -30,13 +30,12 @@ impl Model for Places {
 }
 
 impl Places {
-    /// No figure has a place.
-    pub fn new(alloc: Global) -> Places
-        ensures { result ≡ [] }
+    /// No figure has a place, and there is room for so many. More can be entered.
+    pub fn with_capacity(alloc: Global, count: usize) -> Result<Places, NoMemory>
+        ensures { IfOk result (λ places. places ≡ []) }
     {
-        Places {
-            slots: Slots::new(alloc),
-        }
+        let slots = Slots::with_capacity(alloc, count)?;
+        Ok(Places { slots })
     }
 
     /// How many figures have a place. No figure has two.

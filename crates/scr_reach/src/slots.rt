@@ -1,5 +1,5 @@
 //! A map in which each key keeps its place.
-ghost use Rattle.std.specs.Prelude.{◌≡◌, ◌<◌, ◌++◌, [], ◌∷◌, None, Some, length, slice_get, is_some, IfSome, OnOk, OnErr};
+ghost use Rattle.std.specs.Prelude.{◌≡◌, ◌<◌, ◌++◌, [], ◌∷◌, None, Some, length, slice_get, is_some, IfSome, IfOk, OnOk, OnErr};
 ghost use Rattle.std.specs.List.{IsDistinct};
 ghost use Rattle.std.specs.Map.{keys_of, lookup, values_of};
 
@@ -23,13 +23,12 @@ impl<K: Eq + Hash + Copy + Drop, V: Copy + Drop> Model for Slots<K, V> {
 }
 
 impl<K: Eq + Hash + Copy + Drop, V: Copy + Drop> Slots<K, V> {
-    /// No value.
-    pub(crate) fn new(alloc: Global) -> Slots<K, V>
-        ensures { result ≡ [] }
+    /// No value, and room for so many.
+    pub(crate) fn with_capacity(alloc: Global, count: usize) -> Result<Slots<K, V>, NoMemory>
+        ensures { IfOk result (λ slots. slots ≡ []) }
     {
-        Slots {
-            table: IndexMap::new(alloc),
-        }
+        let table = IndexMap::with_capacity(alloc, count)?;
+        Ok(Slots { table })
     }
 
     /// How many values there are. No two of them have one key.

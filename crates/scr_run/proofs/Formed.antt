@@ -3,7 +3,7 @@ use Rattle.std.proofs.Common.{◌≡◌, ℕ, zero, suc, ℤ, pos, negsuc, neg_�
 use Rattle.std.specs.Char.{is_ascii_digit}
 use Rattle.std.specs.List.{AllByRecursion, list_all}
 use Rattle.std.specs.Option.{option_or}
-use Rattle.std.proofs.lemmas.Bool.{leb-true}
+use Rattle.std.proofs.lemmas.Bool.{leb-true, and_parts}
 use Rattle.scr_dates.proofs.Texts.{day_of_text-range}
 use Rattle.scr_dates.specs.Civil.{IsDay}
 use Rattle.scr_dates.specs.Text.{day_of_text}
@@ -15,18 +15,18 @@ use Rattle.scr_sheet.specs.declared.edit.Edit.{Edit}
 use Rattle.scr_sheet.specs.declared.edit.Edit.TheVariants as edits
 use Rattle.scr_sheet.specs.declared.keys.AbsorbKey.TheVariants as absorb
 use Rattle.scr_sheet.specs.Forms.{AreComponents, AreFlows, Formed, IsAbsorbKey, IsCurrency, IsName, IsNameOrNone, IsNumber, IsStepOrNone}
-use Rattle.scr_csv.specs.FieldForms.{absorb_key_of, between, currency_key_of, currency_of, group_of, name_of, region_of, segment_of, small_number, step_of, turn_of}
-use Rattle.scr_csv.specs.Numbers.{are_digits, decimal_value, digits_value, number_value}
+use Rattle.scr_spelling.specs.FieldForms.{absorb_key_of, between, currency_key_of, currency_of, group_of, name_of, region_of, segment_of, small_number, step_of, turn_of}
+use Rattle.scr_spelling.specs.Numbers.{are_digits, decimal_value, digits_value, number_value}
 use Rattle.scr_csv.specs.LineFields.{is_printed, line_fields}
 use Rattle.scr_csv.specs.Reading.{Rest, both, continued, field, last, listed, made, next, numbers_from, only, pairs_from, read_to, value_in}
 use Rattle.scr_csv.specs.Records as rules_of
-use Rattle.scr_csv.specs.Words.{all_absorb_keys, has_word, is_text, scenario_of}
+use Rattle.scr_spelling.specs.Words.{all_scenarios, is_text, scenario_word, value_of}
 use Rattle.scr_csv.specs.declared.fault.LineFault.{LineFault}
 use Rattle.scr_csv.specs.declared.fault.LineFault.TheVariants as line_faults
 use Rattle.scr_csv.specs.declared.verb.Verb.{Verb}
 use Rattle.scr_csv.specs.declared.verb.Verb.TheVariants as verbs
-use Rattle.scr_csv.proofs.Decimals.{below_power, both_true, digit_at, powers_rise}
-use Rattle.scr_csv.proofs.FormLemmas.{found_is}
+use Rattle.scr_spelling.proofs.Decimals.{below_power, digit_at, powers_rise}
+use Rattle.scr_spelling.proofs.FormLemmas.{found_is}
 use Rattle.scr_csv.proofs.Steps.{formed_if}
 
 -- ---- the forms of fields
@@ -65,7 +65,7 @@ fold_below : (digits : List ℕ) (value i : ℕ) → list_all is_ascii_digit dig
 fold_below [] value i all h = let same : i + 0 ≡ i = omega arith in rw same h
 fold_below (d ∷ digits) value i all h =
     let digit = digit_at (d ∷ digits) 0 all (omega arith) in
-    let parts = both_true (is_ascii_digit d) (list_all is_ascii_digit digits) all in
+    let parts = and_parts (is_ascii_digit d) (list_all is_ascii_digit digits) all in
     let later = fold_below digits (value * 10 + (d - 48)) (i + 1) parts.1
     (below_power value i (d - 48) h (omega (arith, digit))) in
     let same : i + suc (length digits) ≡ i + 1 + length digits = omega arith in
@@ -73,8 +73,8 @@ fold_below (d ∷ digits) value i all h =
 
 decimal_below : (digits : List ℕ) → are_digits digits ≡ true → decimal_value digits < 10 ^ 18
 decimal_below digits h =
-    let parts = both_true (nat_le 1 (length digits) && nat_le (length digits) 18) (list_all is_ascii_digit digits) h in
-    let sizes = both_true (nat_le 1 (length digits)) (nat_le (length digits) 18) parts.0 in
+    let parts = and_parts (nat_le 1 (length digits) && nat_le (length digits) 18) (list_all is_ascii_digit digits) h in
+    let sizes = and_parts (nat_le 1 (length digits)) (nat_le (length digits) 18) parts.0 in
     let few : 0 + length digits ≤ 18 = omega (arith, leb-true (length digits) 18 sizes.1) in
     let below : decimal_value digits < 10 ^ (0 + length digits) = fold_below digits 0 0 parts.1 (omega arith) in
     omega (arith, below, powers_rise (0 + length digits) 18 few)
@@ -107,7 +107,7 @@ between_ok : (low high : ℕ) (o : Option ℤ) → IfSome (option_and_then (betw
 between_ok low high None = tt
 between_ok low high (Some (pos n)) =
     if_passes (λ n. (low ≤ n) × (n ≤ high)) (nat_le low n && nat_le n high) n
-    (λ h. let parts = both_true (nat_le low n) (nat_le n high) h in (leb-true low n parts.0, leb-true n high parts.1))
+    (λ h. let parts = and_parts (nat_le low n) (nat_le n high) h in (leb-true low n parts.0, leb-true n high parts.1))
 between_ok low high (Some (negsuc n)) = tt
 
 small_ok : (low high : ℕ) (field : List ℕ) → IfSome (small_number low high field) (λ n. (low ≤ n) × (n ≤ high))
@@ -164,10 +164,10 @@ or_ok P None b h k = k
 or_ok P (Some a) b h k = h
 
 absorb_key_ok : (field : List ℕ) → IfSome (absorb_key_of field) IsAbsorbKey
-unfolding absorb_key_of scenario_of
+unfolding absorb_key_of value_of
 absorb_key_ok field =
-    or_ok IsAbsorbKey (scenario_of field) (currency_key_of field)
-    (found_is IsAbsorbKey (λ key. has_word key field) all_absorb_keys (search rules)) (currency_key_ok field)
+    or_ok IsAbsorbKey (value_of scenario_word all_scenarios field) (currency_key_of field)
+    (found_is IsAbsorbKey (λ key. is_text (scenario_word key) field) all_scenarios (search rules)) (currency_key_ok field)
 
 -- any value will do
 any_ok : {A : Type 0} (form : List ℕ → Option A) (field : List ℕ) → IfSome (form field) (λ a. Unit {0})

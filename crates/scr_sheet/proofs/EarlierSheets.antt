@@ -10,11 +10,8 @@ use Rattle.scr_sheet.specs.BalanceSheet.{position_name, liability_name, curve_na
 use Rattle.scr_sheet.specs.Earlier.{with_earlier, FitsIn, LeadsBack}
 use Rattle.scr_sheet.specs.Records.{natural}
 use Rattle.scr_sheet.specs.Validity.{Valid}
-use Rattle.scr_sheet.specs.Verbs.{changes_numbers_alone}
 use Rattle.scr_sheet.specs.declared.earlier.Earlier.TheVariants as earlier
-use Rattle.scr_sheet.specs.declared.edit.Edit.{Edit}
 use Rattle.scr_sheet.specs.declared.edit.Edit.TheVariants as edits
-use Rattle.scr_sheet.specs.declared.keys.AbsorbKey.{AbsorbKey}
 use Rattle.scr_sheet.specs.declared.keys.AbsorbKey.TheVariants as absorb
 use Rattle.scr_sheet.specs.declared.rows.Curve.{Curve}
 use Rattle.scr_sheet.specs.declared.rows.Liability.{Liability}
@@ -87,23 +84,3 @@ module _ (sheet : BalanceSheet) where
   back-absorb_down currency cents past back =
       let rows = back-changed curve_name (λ c. record c { absorb_down = natural cents }) currency past sheet.curves (λ c. refl) back in
       record { back = ap (λ rs. record sheet { curves = rs }) rows.0; fits = rows.1 }
-
-  pub back-absorb : (key : AbsorbKey) (cents : ℤ) → ((currency : List ℕ) → key ≡ absorb.CurrencyUp currency → ⊥) → ((currency : List ℕ) → key ≡ absorb.CurrencyDown currency → ⊥)
-      → LeadsBack (earlier.Numbers sheet.numbers) (edits.Absorb key cents) sheet
-  back-absorb (absorb.CurrencyUp currency) cents up down = absurd (up currency refl)
-  back-absorb (absorb.CurrencyDown currency) cents up down = absurd (down currency refl)
-  back-absorb key cents up down = record { back = refl; fits = tt }
-
-  -- the single numbers
-  pub back-numbers : (edit : Edit) → changes_numbers_alone edit ≡ true → LeadsBack (earlier.Numbers sheet.numbers) edit sheet
-  back-numbers (edits.Asof date currency) alone = record { back = refl; fits = tt }
-  back-numbers (edits.Segment set number region premium reserve) alone = record { back = refl; fits = tt }
-  back-numbers (edits.Cat key cents) alone = record { back = refl; fits = tt }
-  back-numbers (edits.Lapse set cents) alone = record { back = refl; fits = tt }
-  back-numbers (edits.Due overdue other) alone = record { back = refl; fits = tt }
-  back-numbers (edits.Op tpl tpul tpn el eul pel peul en pen expul) alone = record { back = refl; fits = tt }
-  back-numbers (edits.Sym millionths) alone = record { back = refl; fits = tt }
-  back-numbers (edits.Tax millionths most) alone = record { back = refl; fits = tt }
-  back-numbers (edits.Fdb cents) alone = record { back = refl; fits = tt }
-  back-numbers (edits.Intangible cents) alone = record { back = refl; fits = tt }
-  back-numbers edit alone = absurd (cc)

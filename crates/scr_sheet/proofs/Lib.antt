@@ -12,9 +12,8 @@ pub mod Greatest
 pub mod Quiet
 pub mod Sums
 pub mod MetNames
-pub mod Walks
+pub mod Due
 pub mod EarlierSheets
 pub mod HeldNames
 pub mod SeenThrough
 pub mod CycleFaults
-pub mod LastDays

@@ -173,10 +173,6 @@ on_days flows formed = All-map _ _ flows (λ flow h. h.0) formed
 
 -- ---- the quantities of the whole book
 
--- a sheet whose liabilities are the same
-same_liabilities : (sheet : BalanceSheet) → Valid sheet → (projection : Projection) → liability_flows_total projection sheet ≤ MAX_LIABILITY_FLOWS
-same_liabilities sheet valid = valid.within.liability_flows
-
 liability_flows_after : (edit : Edit) (sheet : BalanceSheet) → Valid sheet → liability_flows_outside edit (applied edit sheet) ≡ None → (projection : Projection) → liability_flows_total projection (applied edit sheet) ≤ MAX_LIABILITY_FLOWS
 liability_flows_after (edits.Liability name kind currency) sheet valid none projection =
     let f : Liability → ℕ = λ l. total (flows_under projection l.flows) in

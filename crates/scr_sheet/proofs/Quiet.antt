@@ -168,12 +168,6 @@ module _ (sheet : BalanceSheet) (valid : Valid sheet) where
   abbrev liability_most : ℕ
   liability_most = greatest (liability_years asof) sheet.liabilities
 
-  pub outside-asof : (date : Day) (currency : List ℕ) → let edit = edits.Asof date currency in
-      sheet_outside edit (applied edit sheet) ≡ above quantities.Years (sheet_years (applied edit sheet)) MAX_YEARS
-  outside-asof date currency =
-      let w = valid.within in
-      first_outside-years _ _ _ _ _ _ _ _ _ _ _ _ w.held refl refl w.defaults w.currencies w.securities w.funds w.components w.liabilities w.groups w.exposures
-
   pub outside-curve : (currency : List ℕ) (rates : List ℤ) → let edit = edits.Curve currency rates in
       sheet_outside edit (applied edit sheet) ≡ above quantities.Currencies (length sheet.curves + added (row_of curve_name currency sheet.curves)) MAX_CURRENCIES
   outside-curve currency rates =

@@ -176,6 +176,3 @@ module _ (sheet : BalanceSheet) (valid : Valid sheet) where
 
   pub security-small : (name : List ℕ) → has_row position_name name sheet.securities ≡ true → total_of sheet name ≤ MAX_HELD
   security-small name has = let all : held_total sheet ≤ MAX_HELD = valid.within.held in omega (arith, all, small name (security-member sheet name has))
-
-  pub seen-small : securities_total sheet + closed_total sheet ≤ MAX_HELD
-  seen-small = let all : held_total sheet ≤ MAX_HELD = valid.within.held in omega (arith, all, all-seen)

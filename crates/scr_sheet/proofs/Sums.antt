@@ -198,19 +198,6 @@ held-part name sheet =
     let funds = part-le stake_name (λ s. s.held) name sheet.funds in
     omega arith
 
--- what is held of a security or a fund is what its row says
-pub held_of-security : (name : List ℕ) (sheet : BalanceSheet) (p : Position) → row_of position_name name sheet.securities ≡ Some p → is_in tables.Fund name sheet ≡ false → held_of sheet name ≡ p.held
-held_of-security name sheet p is other =
-    let own : option_map_or (λ q. q.held) (row_of position_name name sheet.securities) 0 ≡ p.held = ap (λ o. option_map_or (λ q. q.held) o 0) is in
-    let none = part-none stake_name (λ s. s.held) name sheet.funds other in
-    omega arith
-
-pub held_of-fund : (name : List ℕ) (sheet : BalanceSheet) (s : Stake) → is_in tables.Security name sheet ≡ false → row_of stake_name name sheet.funds ≡ Some s → held_of sheet name ≡ s.held
-held_of-fund name sheet s other is =
-    let own : option_map_or (λ t. t.held) (row_of stake_name name sheet.funds) 0 ≡ s.held = ap (λ o. option_map_or (λ t. t.held) o 0) is in
-    let none = part-none position_name (λ p. p.held) name sheet.securities other in
-    omega arith
-
 -- a security that is made or replaced keeps what is held of it
 held-security : (name : List ℕ) (class : Class) (group : Option (List ℕ)) (currency : List ℕ) (duration : ℤ) (sheet : BalanceSheet) → held_total (applied (edits.Security name class group currency duration) sheet) ≡ held_total sheet
 held-security name class group currency duration sheet =
@@ -428,14 +415,6 @@ pub volumes-segment : (set : Set) (number region : ℕ) (premium reserve : ℤ) 
     → volumes_total set (applied (edits.Segment set number region premium reserve) sheet) + (old.0 + old.1) ≡ volumes_total set sheet + (natural premium + natural reserve)
 volumes-segment sets.Nl number region premium reserve sheet old is = volumes-written number region old sheet.numbers.nl is (natural premium, natural reserve)
 volumes-segment sets.Nslt number region premium reserve sheet old is = volumes-written number region old sheet.numbers.nslt is (natural premium, natural reserve)
-
--- the other set's stay
-pub volumes-other : (set other : Set) (number region : ℕ) (premium reserve : ℤ) (sheet : BalanceSheet)
-    → (set ≡ other) ⊎ (volumes_total other (applied (edits.Segment set number region premium reserve) sheet) ≡ volumes_total other sheet)
-volumes-other sets.Nl sets.Nl number region premium reserve sheet = inl refl
-volumes-other sets.Nl sets.Nslt number region premium reserve sheet = inr refl
-volumes-other sets.Nslt sets.Nl number region premium reserve sheet = inr refl
-volumes-other sets.Nslt sets.Nslt number region premium reserve sheet = inl refl
 
 -- those of one segment and region are a part of the sum
 pub volumes-part : (set : Set) (number region : ℕ) (sheet : BalanceSheet) (old : ℕ × ℕ) → volumes_in set number region sheet.numbers ≡ Some old → old.0 + old.1 ≤ volumes_total set sheet

@@ -1,29 +1,13 @@
--- Payments (this project's own): each a day and an amount.
-pub use Rattle.scr_sheet.specs.Payments.{total, last_day}
-use Rattle.std.specs.Prelude.{ℕ, ℤ, max, Bool, ◌||◌, true, false, List, [], ◌∷◌}
+-- The payments of liabilities under their projections (this project's own).
+pub use Rattle.scr_dates.specs.Payments.{total, last_day, years_of, greatest_years}
+use Rattle.std.specs.Prelude.{ℤ, Bool, ◌||◌, true, false, List, [], ◌∷◌}
 use Rattle.std.specs.List.{list_all}
 use Rattle.scr_dates.specs.declared.day.Day.{Day}
-use Rattle.scr_dates.specs.declared.term.Maturity.{Maturity}
-use Rattle.scr_dates.specs.declared.term.Maturity.TheVariants as maturities
-use Rattle.scr_dates.specs.Years.{maturity_of}
 use Rattle.scr_sheet.specs.declared.keys.Projection.{Projection}
 use Rattle.scr_sheet.specs.declared.keys.Projection.TheVariants as projections
 use Rattle.scr_sheet.specs.declared.rows.LiabilityKind.{LiabilityKind}
 use Rattle.scr_sheet.specs.declared.rows.LiabilityKind.TheVariants as kinds
 use Rattle.scr_sheet.specs.declared.rows.LiabilityFlows.{LiabilityFlows}
-
--- the years of a maturity, none for a payment that is past
-abbrev pub years_of : Maturity → ℕ
-years_of maturities.Past = 0
-years_of (maturities.Years n) = n
-years_of (maturities.TooFar n) = n
-
--- the greatest number of years from the reference date to a payment
-abbrev pub greatest_years : ℤ → List (Day × ℤ) → ℕ
-greatest_years asof [] = 0
-greatest_years asof (flow ∷ flows) = max (years_of (maturity_of asof flow.0.number)) (greatest_years asof flows)
-
--- ---- the projections of a liability
 
 -- a liability's flows under a projection
 abbrev pub flows_under : Projection → LiabilityFlows → List (Day × ℤ)

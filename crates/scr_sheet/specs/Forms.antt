@@ -3,6 +3,7 @@ use Rattle.std.specs.Prelude.{ℕ, ℤ, ◌^◌, ◌<◌, ◌≤◌, List, Optio
 use Rattle.std.specs.List.{AllByRecursion}
 use Rattle.scr_dates.specs.declared.day.Day.{Day}
 use Rattle.scr_dates.specs.Civil.{IsDay}
+pub use Rattle.scr_dates.specs.Payments.{AreOnDays}
 use Rattle.scr_names.specs.Names.{is_name, is_currency}
 use Rattle.scr_sheet.specs.declared.edit.Edit.{Edit}
 use Rattle.scr_sheet.specs.declared.edit.Edit.TheVariants as edits
@@ -29,10 +30,6 @@ IsNameOrNone (Some name) = IsName name
 abbrev pub IsStepOrNone : Option ℕ → Type 0
 IsStepOrNone None = Unit {0}
 IsStepOrNone (Some step) = step ≤ 6
-
--- payments on days of the calendar
-abbrev pub AreOnDays : List (Day × ℤ) → Type 0
-AreOnDays flows = AllByRecursion (λ flow. IsDay flow.0.number) flows
 
 abbrev pub AreFlows : List (Day × ℤ) → Type 0
 AreFlows flows = AllByRecursion (λ flow. IsDay flow.0.number × IsNumber flow.1) flows

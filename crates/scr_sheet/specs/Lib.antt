@@ -1,4 +1,3 @@
-pub mod Payments
 pub mod CashFlows
 pub mod BalanceSheet
 pub mod Records

@@ -1,7 +1,7 @@
 //! The quantities that a record gives itself.
 ghost use Rattle.std.specs.Prelude.{◌≡◌, ◌^◌, ◌<◌, [], ◌∷◌, true};
 ghost use Rattle.std.specs.Option.{option_or};
-ghost use Rattle.scr_sheet.specs.Faults.{outside, above, below_zero, outside_amounts, outside_provisions, outside_weight, first_fault, fields_outside};
+ghost use Rattle.scr_sheet.specs.Faults.{outside, above, below_zero, outside_amounts, outside_weight, first_fault, fields_outside};
 ghost use Rattle.scr_sheet.specs.Verbs.{is_operational};
 
 use crate::{
@@ -46,7 +46,9 @@ pub fn fields_outside(edit: &Edit) -> Option<Fault>
         Edit::Due { overdue, other } => outside_amounts(&[overdue, other]),
         Edit::Op { .. } => outside_in_operational(edit),
         Edit::Sym { millionths } => outside(Quantity::Sym, -MAX_SYM, MAX_SYM, millionths),
-        Edit::Tax { millionths, cap } => { outside_tax(millionths, cap) }
+        Edit::Tax { millionths, cap } => {
+            outside_amounts(&[cap]).or(outside(Quantity::TaxRate, 0, MAX_TAX, millionths))
+        }
         Edit::Asof { .. }
         | Edit::Group { .. }
         | Edit::Liability { .. }
@@ -95,23 +97,16 @@ fn outside_in_operational(edit: &Edit) -> Option<Fault>
             en,
             pen,
             expul,
-        } => { outside_operational([el, eul, pel, peul, en, pen, expul], [tpl, tpul, tpn]) }
+        } => {
+            let provisions = [tpl, tpul, tpn];
+            outside_amounts(&[el, eul, pel, peul, en, pen, expul]).or(first_outside(
+                Quantity::Provision,
+                -AMOUNT,
+                AMOUNT,
+                &provisions,
+            ))
+        }
         _ => None,
-    }
-}
-
-fn outside_operational(amounts: [i64; 7], provisions: [i64; 3]) -> Option<Fault>
-    ensures { result ≡ option_or (outside_amounts amounts) (outside_provisions provisions) }
-{
-    first_of(outside_amounts(&amounts), outside_provisions(&provisions))
-}
-
-fn outside_tax(millionths: i64, cap: i64) -> Option<Fault>
-    ensures { result ≡ fields_outside (Edit.Tax millionths cap) }
-{
-    match outside_amounts(&[cap]) {
-        None => outside(Quantity::TaxRate, 0, MAX_TAX, millionths),
-        fault => fault,
     }
 }
 
@@ -128,12 +123,6 @@ fn outside_amounts(values: &[i64]) -> Option<Fault>
     ensures { result ≡ outside_amounts values.now }
 {
     first_outside(Quantity::Amount, 0, AMOUNT, values)
-}
-
-fn outside_provisions(values: &[i64]) -> Option<Fault>
-    ensures { result ≡ outside_provisions values.now }
-{
-    first_outside(Quantity::Provision, -AMOUNT, AMOUNT, values)
 }
 
 // The first of the numbers that lies outside the limits.

@@ -3,7 +3,7 @@
 use crate::Name;
 
 /// The tables of rows.
-#[derive(Clone, Copy, PartialEq, Eq)]
+#[derive(Clone, Copy)]
 pub enum Table {
     Group,
     Security,

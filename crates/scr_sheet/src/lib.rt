@@ -10,7 +10,6 @@ mod fields;
 mod keys;
 mod kinds;
 pub mod laws;
-mod lists;
 mod numbers;
 mod opening;
 mod row_names;
@@ -25,12 +24,12 @@ pub use edit::Edit;
 pub use fault::{Fault, Quantity, User};
 pub use fields::{above, fields_outside, first_of};
 pub use keys::{AbsorbKey, CatKey, PROJECTIONS, Projection, Table};
-pub use lists::{Components, Flows, Rates};
 pub use numbers::{Numbers, Regions};
 pub use rows::{
-    Bank, Class, Curve, Fund, Group, Liability, LiabilityFlows, LiabilityKind, Position, Rein,
-    Security, Stake,
+    Bank, Class, Components, Curve, Fund, Group, Liability, LiabilityFlows, LiabilityKind,
+    Position, Rates, Rein, Security, Stake,
 };
+pub use scr_dates::Flows;
 pub use scr_names::{Copied, Name, Names, Past, Row, Rows};
 pub use scr_profile::{
     GroupKind, MAX_AMOUNT, MAX_COMPONENTS, MAX_CURRENCIES, MAX_DURATION, MAX_EXPOSURES, MAX_FLOWS,

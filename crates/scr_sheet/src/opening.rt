@@ -1,10 +1,9 @@
 //! The balance sheet before the first record.
-ghost use Rattle.std.specs.Prelude.{◌≡◌, [], ◌∷◌, pos, IfOk};
-ghost use Rattle.scr_sheet.specs.BalanceSheet.{opening_numbers, no_volumes, euro};
+ghost use Rattle.std.specs.Prelude.{◌≡◌};
+ghost use Rattle.scr_sheet.specs.BalanceSheet.{opening_numbers, euro};
 
-use crate::{Curve, Name, Numbers, Rates, Regions};
+use crate::{Name, Numbers, Regions};
 use scr_dates::Day;
-use std::alloc::{AllocError as NoMemory, Global};
 
 /// 1 January 2000, the reference date until a record gives another.
 const OPENING_DAY: i32 = 10_957;
@@ -20,7 +19,9 @@ pub(crate) fn euro() -> Name
 pub(crate) fn numbers() -> Numbers
     ensures { result ≡ opening_numbers }
 {
-    let none = no_volumes();
+    let none = Regions {
+        volumes: [(0, 0); 18],
+    };
     Numbers {
         asof: Day {
             number: OPENING_DAY,
@@ -41,24 +42,4 @@ pub(crate) fn numbers() -> Numbers
         fdb: 0,
         intangible: 0,
     }
-}
-
-fn no_volumes() -> Regions
-    ensures { result ≡ no_volumes }
-{
-    Regions {
-        volumes: [(0, 0); 18],
-    }
-}
-
-/// The euro's curve, with the single rate 0.
-pub(crate) fn curve(alloc: Global) -> Result<Curve, NoMemory>
-    ensures { IfOk result (λ c. c ≡ record { currency = euro; rates = pos 0 ∷ []; absorb_up = 0; absorb_down = 0 }) }
-{
-    Ok(Curve {
-        currency: euro(),
-        rates: Rates::new(vec![in alloc; 0]?),
-        absorb_up: 0,
-        absorb_down: 0,
-    })
 }

@@ -1,7 +1,14 @@
 //! The rows of the tables.
 
-use crate::{Components, Flows, Name, Rates};
+use crate::{Flows, Name};
+use scr_names::Series;
 use scr_profile::GroupKind;
+
+/// The yearly rates of a curve in millionths, from the maturity of one year on.
+pub type Rates = Series<i64>;
+
+/// The components of a fund, securities or funds, each with its weight.
+pub type Components = Series<(Name, i64)>;
 
 /// A group of counterparties, with its credit quality step, if it has one.
 #[derive(Clone, Copy)]
@@ -69,7 +76,7 @@ pub struct Stake {
 }
 
 /// The kind of a liability of insurance obligations.
-#[derive(Clone, Copy, PartialEq, Eq)]
+#[derive(Clone, Copy)]
 pub enum LiabilityKind {
     /// Life underwriting risk (Article 136).
     Life,

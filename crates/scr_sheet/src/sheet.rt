@@ -4,7 +4,8 @@ ghost use Rattle.std.specs.Option.{option_map_or};
 ghost use Rattle.scr_sheet.specs.BalanceSheet.{opening, is_in, is_named, position_of, stake_of};
 
 use crate::{
-    Bank, Curve, Group, Liability, Name, Numbers, Position, Rein, Rows, Stake, Table, opening,
+    Bank, Curve, Group, Liability, Name, Numbers, Position, Rates, Rein, Rows, Stake, Table,
+    opening,
 };
 use std::alloc::{AllocError as NoMemory, Global};
 
@@ -28,7 +29,12 @@ impl BalanceSheet {
         ensures { IfOk result (λ sheet. sheet ≡ opening) }
     {
         let mut curves = Rows::new(alloc);
-        curves.put(opening::curve(alloc)?)?;
+        curves.put(Curve {
+            currency: opening::euro(),
+            rates: Rates::new(vec![in alloc; 0]?),
+            absorb_up: 0,
+            absorb_down: 0,
+        })?;
         Ok(BalanceSheet {
             groups: Rows::new(alloc),
             securities: Rows::new(alloc),

@@ -1,12 +1,12 @@
 //! What a record changes within a row, or among the single numbers.
-ghost use Rattle.std.specs.Prelude.{◌≡◌, ℕ, ◌<◌, ◌≤◌, ◌-◌, slice_get, Some, None, true, IfSome, IfOk, slice_set};
+ghost use Rattle.std.specs.Prelude.{◌≡◌, ◌<◌, ◌≤◌, ◌-◌, slice_get, Some, None, true, IfSome};
 ghost use Rattle.scr_sheet.specs.Absorptions.{absorbed};
 ghost use Rattle.scr_sheet.specs.declared.sheet.BalanceSheet.{BalanceSheet};
 ghost use Rattle.scr_sheet.specs.CashFlows.{flows_under, with_flows, no_flows};
 ghost use Rattle.scr_sheet.specs.Faults.{fields_outside};
 ghost use Rattle.scr_profile.specs.Segments.{segments};
 ghost use Rattle.scr_sheet.specs.Forms.{Formed};
-ghost use Rattle.scr_sheet.specs.Records.{applied, natural, placed, absorb_place, cat_place, health_cat_place, with_absorb, with_segment, lapse_place};
+ghost use Rattle.scr_sheet.specs.Records.{applied, natural, placed, absorb_place, cat_place, health_cat_place, with_absorb, with_segment};
 ghost use Rattle.scr_sheet.specs.Verbs.{is_operational};
 ghost use Rattle.scr_sheet.specs.Volumes.{volumes_in};
 
@@ -130,7 +130,14 @@ impl Numbers {
                 self.put_volumes(*set, *number, *region, new);
             }
             Edit::Cat { key, cents } => self.put_cat(*key, natural(*cents)),
-            Edit::Lapse { set, cents } => self.put_lapse(*set, natural(*cents)),
+            Edit::Lapse {
+                set: Set::Nl,
+                cents,
+            } => self.lapse[0] = natural(*cents),
+            Edit::Lapse {
+                set: Set::Nslt,
+                cents,
+            } => self.lapse[1] = natural(*cents),
             Edit::Due { overdue, other } => self.due = [natural(*overdue), natural(*other)],
             Edit::Op { .. } => self.put_operational(edit),
             Edit::Sym { millionths } => self.sym = *millionths as i32,
@@ -211,20 +218,23 @@ impl Numbers {
           health_cat = placed (health_cat_place key) cents self.old.health_cat;
         } }
     {
-        if let Some(place) = cat_place(key) {
-            self.cat[place] = cents;
-        }
-        if let Some(place) = health_cat_place(key) {
-            self.health_cat[place] = cents;
-        }
-    }
-
-    fn put_lapse(&mut self, set: Set, cents: u64)
-        ensures { self.new ≡ record self.old { lapse = slice_set self.old.lapse (lapse_place set) cents } }
-    {
-        match set {
-            Set::Nl => self.lapse[0] = cents,
-            Set::Nslt => self.lapse[1] = cents,
+        match key {
+            CatKey::Windstorm => self.cat[0] = cents,
+            CatKey::Earthquake => self.cat[1] = cents,
+            CatKey::Flood => self.cat[2] = cents,
+            CatKey::Hail => self.cat[3] = cents,
+            CatKey::Subsidence => self.cat[4] = cents,
+            CatKey::NonProportionalProperty => self.cat[5] = cents,
+            CatKey::Motor => self.cat[6] = cents,
+            CatKey::Marine => self.cat[7] = cents,
+            CatKey::Aviation => self.cat[8] = cents,
+            CatKey::Fire => self.cat[9] = cents,
+            CatKey::Liability => self.cat[10] = cents,
+            CatKey::Credit => self.cat[11] = cents,
+            CatKey::Other => self.cat[12] = cents,
+            CatKey::MassAccident => self.health_cat[0] = cents,
+            CatKey::AccidentConcentration => self.health_cat[1] = cents,
+            CatKey::Pandemic => self.health_cat[2] = cents,
         }
     }
 }
@@ -267,39 +277,5 @@ fn absorb_place(key: AbsorbKey) -> Option<usize>
         AbsorbKey::HealthLapseDown => Some(22),
         AbsorbKey::HealthLapseMass => Some(23),
         AbsorbKey::HealthCatastrophe => Some(24),
-    }
-}
-
-fn cat_place(key: CatKey) -> Option<usize>
-    ensures value { result ≡ cat_place key }
-    ensures fits { IfSome result (λ k. k < 13) }
-{
-    match key {
-        CatKey::Windstorm => Some(0),
-        CatKey::Earthquake => Some(1),
-        CatKey::Flood => Some(2),
-        CatKey::Hail => Some(3),
-        CatKey::Subsidence => Some(4),
-        CatKey::NonProportionalProperty => Some(5),
-        CatKey::Motor => Some(6),
-        CatKey::Marine => Some(7),
-        CatKey::Aviation => Some(8),
-        CatKey::Fire => Some(9),
-        CatKey::Liability => Some(10),
-        CatKey::Credit => Some(11),
-        CatKey::Other => Some(12),
-        CatKey::MassAccident | CatKey::AccidentConcentration | CatKey::Pandemic => None,
-    }
-}
-
-fn health_cat_place(key: CatKey) -> Option<usize>
-    ensures value { result ≡ health_cat_place key }
-    ensures fits { IfSome result (λ k. k < 3) }
-{
-    match key {
-        CatKey::MassAccident => Some(0),
-        CatKey::AccidentConcentration => Some(1),
-        CatKey::Pandemic => Some(2),
-        _ => None,
     }
 }

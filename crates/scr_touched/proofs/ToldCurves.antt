@@ -2,7 +2,7 @@
 use Rattle.std.proofs.Common.{◌≡◌, ℕ, ℤ, ◌==◌, ◌&&◌, ◌||◌, not, Bool, true, false, List, [], Option, Some, None, is_some, inl, inr, refl, ap, subst}
 use Rattle.std.specs.Bool.{Decides, beq}
 use Rattle.std.specs.Option.{option_map_or}
-use Rattle.std.proofs.lemmas.Bool.Decides.{Decides-at, Decides-eqb, Decides-like}
+use Rattle.std.proofs.lemmas.Bool.Decides.{Decides-eqb, Decides-like}
 use Rattle.scr_factors.specs.Values.{FactorValues}
 use Rattle.scr_funds.proofs.Members.{IsMember, IsMember-left, IsMember-right}
 use Rattle.scr_names.specs.Names.{same_name}
@@ -28,16 +28,19 @@ use Rattle.scr_nodes.specs.declared.node.Direction.TheVariants as directions
 use Rattle.scr_nodes.specs.declared.node.Measure.TheVariants as measures
 use Rattle.scr_nodes.specs.declared.node.Node.{Node}
 use Rattle.scr_nodes.specs.declared.node.Node.TheVariants as nodes
-use Rattle.scr_touched.specs.Curves.{absorption_by, currency_nodes, currency_touched, curve_nodes, curve_touches, foreign_nodes, foreign_touched, keeps_liability, keeps_rates, keeps_security, loss_moved, moved_nodes, net_touched, rates_by, unit_moved, value_moved}
-use Rattle.scr_touched.specs.Changes.{after}
-use Rattle.scr_touched.specs.Comparisons.{is_touched, passes, is_kept, same_rates}
-use Rattle.scr_touched.specs.Exchanges.{HasName}
+use Rattle.scr_changes.specs.Readings.{keeps_liability, keeps_rates, keeps_security, rates_by}
+use Rattle.scr_touched.specs.Curves.{absorption_by, currency_nodes, currency_touched, curve_nodes, curve_touches, foreign_nodes, foreign_touched, loss_moved, moved_nodes, net_touched, unit_moved, value_moved}
+use Rattle.scr_changes.specs.Changes.{after}
+use Rattle.scr_changes.specs.Comparisons.{passes, is_kept, same_rates}
+use Rattle.scr_touched.specs.Comparisons.{is_touched}
+use Rattle.scr_changes.specs.Exchanges.{HasName}
 use Rattle.scr_touched.specs.Liabilities.{is_under}
 use Rattle.scr_touched.specs.Payments.{payment_figures, value_figures}
-use Rattle.scr_touched.specs.declared.change.Change.TheVariants as changes
-use Rattle.scr_touched.proofs.Decided.{Tells, Tells-at, always, Decides-rates, first_of_both, told-by, unread, untouched}
-use Rattle.scr_touched.proofs.Exchanged.{listed, listed_all, one-row}
-use Rattle.scr_touched.proofs.LookedUp.{looked-up}
+use Rattle.scr_changes.specs.declared.change.Change.TheVariants as changes
+use Rattle.scr_changes.proofs.Compared.{always, Decides-rates, first_of_both}
+use Rattle.scr_touched.proofs.Decided.{Tells, Tells-at, told-by, unread, untouched}
+use Rattle.scr_changes.proofs.Exchanged.{listed, listed_all, one-row}
+use Rattle.scr_changes.proofs.LookedUp.{looked-up}
 use Rattle.scr_touched.proofs.PaidFigures.{cost-told, excess-told, loss-listed, loss-told, paid-rates, present-in, rate-in, unit-listed, value-listed, worth, worth-rates, worth-told}
 
 net-told : (a b : ℕ) → Decides (a == b) (Net a ≡ Net b)

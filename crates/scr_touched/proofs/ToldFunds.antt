@@ -21,16 +21,19 @@ use Rattle.scr_nodes.specs.Rows.{holders, holds, is_closed, is_component, securi
 use Rattle.scr_nodes.specs.Sources.{fund_total, holder_totals}
 use Rattle.scr_nodes.specs.declared.node.Node.{Node}
 use Rattle.scr_nodes.specs.declared.node.Node.TheVariants as nodes
-use Rattle.scr_touched.specs.Funds.{component_nodes, fund_nodes, fund_touches, share_kept, held_kept, held_of, is_fund_after, is_same_share, holder_kept, share_of, totals_of}
-use Rattle.scr_touched.specs.Parts.{gives_same}
-use Rattle.scr_touched.specs.Changes.{after}
-use Rattle.scr_touched.specs.Comparisons.{is_touched, is_kept, passes}
-use Rattle.scr_touched.specs.Exchanges.{HasName}
-use Rattle.scr_touched.specs.declared.change.Change.TheVariants as changes
-use Rattle.scr_touched.proofs.Covered.{in-either}
-use Rattle.scr_touched.proofs.Decided.{Tells, always, told-by, unread, moved}
-use Rattle.scr_touched.proofs.Exchanged.{listed, preceded, row-other, row-own}
-use Rattle.scr_touched.proofs.Given.{given, in-given}
+use Rattle.scr_changes.specs.Readings.{held_kept, stake_held, is_fund_after}
+use Rattle.scr_touched.specs.Funds.{component_nodes, fund_nodes, fund_touches, share_kept, is_same_share, holder_kept, share_of, totals_of}
+use Rattle.scr_changes.specs.Parts.{gives_same}
+use Rattle.scr_changes.specs.Changes.{after}
+use Rattle.scr_changes.specs.Comparisons.{is_kept, passes}
+use Rattle.scr_touched.specs.Comparisons.{is_touched}
+use Rattle.scr_changes.specs.Exchanges.{HasName}
+use Rattle.scr_changes.specs.declared.change.Change.TheVariants as changes
+use Rattle.scr_changes.proofs.Covered.{in-either}
+use Rattle.scr_changes.proofs.Compared.{always}
+use Rattle.scr_touched.proofs.Decided.{Tells, told-by, unread, moved}
+use Rattle.scr_changes.proofs.Exchanged.{listed, preceded, row-other, row-own}
+use Rattle.scr_changes.proofs.Given.{given, in-given}
 
 -- ---- what totals read
 
@@ -129,17 +132,17 @@ module _ (factors : FactorValues) (sheet : BalanceSheet) (name : List ℕ) (new 
       ∙ ap (λ b. cond b (is_some new) (is_some (found x))) (sym e))
       (λ e. ap is_some (after-other x e) ∙ ap (λ b. cond b (is_some new) (is_some (found x))) (sym e))
 
-  held-told : (x : List ℕ) → Decides (held_kept name old new x) (held_of (found x) ≡ held_of (found_after x))
+  held-told : (x : List ℕ) → Decides (held_kept name old new x) (stake_held (found x) ≡ stake_held (found_after x))
   held-told x =
       same_or_other x name
-      (λ e. subst (λ b. Decides (not b || (held_of old == held_of new)) (held_of (found x) ≡ held_of (found_after x)))
+      (λ e. subst (λ b. Decides (not b || (stake_held old == stake_held new)) (stake_held (found x) ≡ stake_held (found_after x)))
       (sym e)
-      (subst (λ n. Decides (held_of old == held_of new) (held_of (found n) ≡ held_of (found_after n)))
+      (subst (λ n. Decides (stake_held old == stake_held new) (stake_held (found n) ≡ stake_held (found_after n)))
       (sym (same_name-is x name e))
-      (subst (λ s. Decides (held_of old == held_of new) (held_of old ≡ held_of s)) (sym after-own)
-      (Decides-eqb (held_of old) (held_of new)))))
-      (λ e. subst (λ b. Decides (not b || (held_of old == held_of new)) (held_of (found x) ≡ held_of (found_after x)))
-      (sym e) (always (ap held_of (sym (after-other x e)))))
+      (subst (λ s. Decides (stake_held old == stake_held new) (stake_held old ≡ stake_held s)) (sym after-own)
+      (Decides-eqb (stake_held old) (stake_held new)))))
+      (λ e. subst (λ b. Decides (not b || (stake_held old == stake_held new)) (stake_held (found x) ≡ stake_held (found_after x)))
+      (sym e) (always (ap stake_held (sym (after-other x e)))))
 
   -- ---- the shares and the totals of the holders
 
@@ -162,7 +165,7 @@ module _ (factors : FactorValues) (sheet : BalanceSheet) (name : List ℕ) (new 
   told (nodes.FundTotal x) =
       told-by factors sheet later (nodes.FundTotal x) (is_some (found x)) (is_fund_after sheet name new x)
       (held_kept name old new x && share_kept x old new) (holder_kept x old new) refl (live-after x)
-      (held-same (held_kept name old new x) (share_kept x old new) (held_of (found x)) (held_of (found_after x))
+      (held-same (held_kept name old new x) (share_kept x old new) (stake_held (found x)) (stake_held (found_after x))
       (map (share_in x) (holders x sheet)) (map (share_in x) (holders x later)) (held-told x) (shares-told x))
       (holders-told x)
   told (nodes.SecurityTotal x) =
@@ -196,7 +199,7 @@ module _ (factors : FactorValues) (sheet : BalanceSheet) (name : List ℕ) (new 
       (λ h. in-held (nodes.FundTotal x) x (λ stake f. (in-components x stake.fund.components f).0)
       (moved (is_some (found x)) (share_kept x old new) (holder_kept x old new)
       (ap (λ b. is_touched (is_some (found x)) (cond b (is_some new) (is_some (found x)))
-      ((not b || (held_of old == held_of new)) && share_kept x old new) (holder_kept x old new)) (sym h) ∙ touched)))
+      ((not b || (stake_held old == stake_held new)) && share_kept x old new) (holder_kept x old new)) (sym h) ∙ touched)))
   covers (nodes.SecurityTotal x) touched =
       in-held (nodes.SecurityTotal x) x (λ stake f. (in-components x stake.fund.components f).1)
       (moved (has_row position_name x sheet.securities) (share_kept x old new) (holder_kept x old new) touched)

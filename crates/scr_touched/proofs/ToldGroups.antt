@@ -3,7 +3,7 @@ use Rattle.std.proofs.Common.{◌≡◌, ℕ, Bool, true, false, not, ◌&&◌, 
 use Rattle.std.specs.Bool.{Decides, beq}
 use Rattle.std.specs.Prelude.{nat_lt}
 use Rattle.std.specs.Option.{option_map_or}
-use Rattle.std.proofs.lemmas.Bool.Decides.{Decides-and, Decides-at, Decides-eqb, Decides-like}
+use Rattle.std.proofs.lemmas.Bool.Decides.{Decides-and, Decides-eqb, Decides-like}
 use Rattle.scr_factors.specs.Values.{FactorValues}
 use Rattle.scr_funds.proofs.Members.{IsMember, IsMember-left, IsMember-right}
 use Rattle.scr_names.specs.Names.{same_name}
@@ -24,15 +24,19 @@ use Rattle.scr_nodes.specs.Rows.{class_of_step, is_of_default_class, is_of_group
 use Rattle.scr_nodes.specs.Sources.{concentration_square, group_loss, security_spread, sources_of}
 use Rattle.scr_nodes.specs.declared.node.Node.{Node}
 use Rattle.scr_nodes.specs.declared.node.Node.TheVariants as nodes
-use Rattle.scr_touched.specs.Groups.{group_touches, group_nodes, own_nodes, class_nodes, spread_nodes, is_same_kind, kind_of, step_of, same_step, counts_in, is_moved, square_touched}
-use Rattle.scr_touched.specs.Changes.{after}
-use Rattle.scr_touched.specs.Comparisons.{is_touched, is_kept}
-use Rattle.scr_touched.specs.Exchanges.{HasName}
-use Rattle.scr_touched.specs.declared.change.Change.TheVariants as changes
-use Rattle.scr_touched.proofs.Decided.{Tells, Tells-at, always, told-by, unread, untouched, moved, Decides-number_or_none, first_of_both}
-use Rattle.scr_touched.proofs.Exchanged.{one-row, row-own, row-other, listed, listed_all}
-use Rattle.scr_touched.proofs.Covered.{in-either}
-use Rattle.scr_touched.proofs.Given.{same-class, own-moved, in-chosen}
+use Rattle.scr_changes.specs.Readings.{is_same_kind, kind_of, step_of, same_step}
+use Rattle.scr_touched.specs.Groups.{group_touches, group_nodes, own_nodes, class_nodes, spread_nodes, counts_in, is_moved, square_touched}
+use Rattle.scr_changes.specs.Changes.{after}
+use Rattle.scr_changes.specs.Comparisons.{is_kept}
+use Rattle.scr_touched.specs.Comparisons.{is_touched}
+use Rattle.scr_changes.specs.Exchanges.{HasName}
+use Rattle.scr_changes.specs.declared.change.Change.TheVariants as changes
+use Rattle.scr_changes.proofs.Compared.{always, Decides-number_or_none, first_of_both}
+use Rattle.scr_touched.proofs.Decided.{Tells, Tells-at, told-by, unread, untouched, moved}
+use Rattle.scr_changes.proofs.Exchanged.{one-row, row-own, row-other, listed, listed_all}
+use Rattle.scr_changes.proofs.Covered.{in-either}
+use Rattle.scr_changes.proofs.Given.{in-chosen}
+use Rattle.scr_touched.proofs.Given.{same-class, own-moved}
 
 Decides-kinds : (a b : GroupKind) → Decides (is_same_kind a b) (a ≡ b)
 Decides-kinds group_kinds.Name group_kinds.Name = always refl

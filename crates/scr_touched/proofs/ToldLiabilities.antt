@@ -2,7 +2,7 @@
 use Rattle.std.proofs.Common.{◌≡◌, ℕ, ℤ, ◌&&◌, Bool, true, false, List, [], ◌++◌, Option, Some, None, is_some, inl, inr, refl, sym, ap, subst, ◌∙◌}
 use Rattle.std.specs.Bool.{Decides}
 use Rattle.std.specs.Option.{option_map_or}
-use Rattle.std.proofs.lemmas.Bool.Decides.{Decides-at, Decides-like}
+use Rattle.std.proofs.lemmas.Bool.Decides.{Decides-like}
 use Rattle.scr_factors.specs.Values.{FactorValues}
 use Rattle.scr_funds.proofs.Members.{IsMember, IsMember-left, IsMember-mapped, IsMember-right}
 use Rattle.scr_names.specs.Names.{same_name}
@@ -30,15 +30,18 @@ use Rattle.scr_nodes.specs.declared.node.Direction.TheVariants as directions
 use Rattle.scr_nodes.specs.declared.node.Measure.TheVariants as measures
 use Rattle.scr_nodes.specs.declared.node.Node.{Node}
 use Rattle.scr_nodes.specs.declared.node.Node.TheVariants as nodes
-use Rattle.scr_touched.specs.Changes.{after}
-use Rattle.scr_touched.specs.Comparisons.{is_touched, is_kept, same_payments}
-use Rattle.scr_touched.specs.Exchanges.{HasName}
-use Rattle.scr_touched.specs.Liabilities.{best_estimate_of, is_under, liability_nodes, liability_touches, loss_touched, owed_nodes, paid_for, rates_for, same_value, stress_nodes, value_touched}
+use Rattle.scr_changes.specs.Changes.{after}
+use Rattle.scr_changes.specs.Comparisons.{is_kept, same_payments}
+use Rattle.scr_touched.specs.Comparisons.{is_touched}
+use Rattle.scr_changes.specs.Exchanges.{HasName}
+use Rattle.scr_changes.specs.Readings.{best_estimate_of, paid_for}
+use Rattle.scr_touched.specs.Liabilities.{is_under, liability_nodes, liability_touches, loss_touched, owed_nodes, rates_for, same_value, stress_nodes, value_touched}
 use Rattle.scr_touched.specs.Payments.{loss_figures, stresses, value_figures}
-use Rattle.scr_touched.specs.declared.change.Change.TheVariants as changes
-use Rattle.scr_touched.proofs.Covered.{in-either}
-use Rattle.scr_touched.proofs.Decided.{Tells, Tells-at, always, first_of_both, moved, second_of_both, told-by, unread, untouched}
-use Rattle.scr_touched.proofs.Exchanged.{listed, one-row, preceded}
+use Rattle.scr_changes.specs.declared.change.Change.TheVariants as changes
+use Rattle.scr_changes.proofs.Covered.{in-either}
+use Rattle.scr_changes.proofs.Compared.{always, first_of_both, second_of_both}
+use Rattle.scr_touched.proofs.Decided.{Tells, Tells-at, moved, told-by, unread, untouched}
+use Rattle.scr_changes.proofs.Exchanged.{listed, one-row, preceded}
 use Rattle.scr_touched.proofs.PaidFigures.{cost-told, excess-both, loss-in, paid, paid-compared, present-in, rate-in, stress-in, worth, worth-compared, worth-told}
 
 module _ (factors : FactorValues) (sheet : BalanceSheet) (name : List ℕ) (new : Option Liability)

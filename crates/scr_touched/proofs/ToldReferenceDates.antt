@@ -33,15 +33,17 @@ use Rattle.scr_nodes.specs.declared.node.Measure.TheVariants as measures
 use Rattle.scr_nodes.specs.declared.node.Node.{Node}
 use Rattle.scr_nodes.specs.declared.node.Node.TheVariants as nodes
 use Rattle.scr_nodes.specs.declared.node.Operational.TheVariants as operations
-use Rattle.scr_touched.specs.Changes.{after}
-use Rattle.scr_touched.specs.Comparisons.{is_touched, passes}
+use Rattle.scr_changes.specs.Changes.{after}
+use Rattle.scr_changes.specs.Comparisons.{passes}
+use Rattle.scr_touched.specs.Comparisons.{is_touched}
 use Rattle.scr_touched.specs.Curves.{foreign_nodes, moved_nodes}
 use Rattle.scr_touched.specs.Liabilities.{is_under}
 use Rattle.scr_touched.specs.Payments.{payment_figures, value_figures}
 use Rattle.scr_touched.specs.ReferenceDates.{date_nodes, date_touches, dated_touched, same_date}
-use Rattle.scr_touched.specs.declared.change.Change.TheVariants as changes
-use Rattle.scr_touched.proofs.Decided.{Tells, always, told-by, unread}
-use Rattle.scr_touched.proofs.LookedUp.{found-member, found-name}
+use Rattle.scr_changes.specs.declared.change.Change.TheVariants as changes
+use Rattle.scr_changes.proofs.Compared.{always}
+use Rattle.scr_touched.proofs.Decided.{Tells, told-by, unread}
+use Rattle.scr_changes.proofs.LookedUp.{found-member, found-name}
 use Rattle.scr_touched.proofs.PaidFigures.{cost-told, excess-told, loss-listed, loss-told, paid-dated, present-in, rate-in, unit-listed, value-listed, worth, worth-dated, worth-told}
 use Rattle.scr_touched.proofs.ToldCurves.{moved-in, not-same, under-stress}
 

@@ -2,7 +2,7 @@
 use Rattle.std.proofs.Common.{◌≡◌, ℕ, ℤ, ◌==◌, ◌&&◌, Bool, true, false, List, [], ◌++◌, map, filter, Option, Some, None, is_some, nat_eq, refl, sym, ap, ◌∙◌, inl, inr}
 use Rattle.std.specs.Bool.{Decides}
 use Rattle.std.specs.Option.{option_eq, option_map_or}
-use Rattle.std.proofs.lemmas.Bool.Decides.{Decides-and, Decides-at, Decides-eqb, Decides-like}
+use Rattle.std.proofs.lemmas.Bool.Decides.{Decides-and, Decides-eqb, Decides-like}
 use Rattle.scr_dates.specs.declared.day.Day.{Day}
 use Rattle.scr_factors.specs.Values.{FactorValues}
 use Rattle.scr_funds.proofs.Members.{IsMember, IsMember-right}
@@ -28,14 +28,17 @@ use Rattle.scr_nodes.specs.declared.node.Direction.TheVariants as directions
 use Rattle.scr_nodes.specs.declared.node.Measure.TheVariants as measures
 use Rattle.scr_nodes.specs.declared.node.Node.{Node}
 use Rattle.scr_nodes.specs.declared.node.Node.TheVariants as nodes
-use Rattle.scr_touched.specs.Changes.{after}
-use Rattle.scr_touched.specs.Comparisons.{is_touched, passes, is_kept, same_payments, same_rates}
-use Rattle.scr_touched.specs.Exchanges.{HasName}
-use Rattle.scr_touched.specs.Securities.{duration_of, flows_of, group_nodes, held_of, rates_for, rate_touched, row_nodes, own_nodes, security_nodes, security_touches, spread_touched, step_for, total_touched, unit_touched}
-use Rattle.scr_touched.specs.declared.change.Change.TheVariants as changes
-use Rattle.scr_touched.proofs.Decided.{Tells, Tells-at, always, Decides-number_or_none, Decides-payments, Decides-rates, first_of_both, moved, told-by, unread, untouched}
-use Rattle.scr_touched.proofs.Covered.{in-either}
-use Rattle.scr_touched.proofs.Exchanged.{counted, followed, listed, one-row}
+use Rattle.scr_changes.specs.Changes.{after}
+use Rattle.scr_changes.specs.Comparisons.{passes, is_kept, same_payments, same_rates}
+use Rattle.scr_touched.specs.Comparisons.{is_touched}
+use Rattle.scr_changes.specs.Exchanges.{HasName}
+use Rattle.scr_changes.specs.Readings.{duration_of, flows_of, position_held}
+use Rattle.scr_touched.specs.Securities.{group_nodes, rates_for, rate_touched, row_nodes, own_nodes, security_nodes, security_touches, spread_touched, step_for, total_touched, unit_touched}
+use Rattle.scr_changes.specs.declared.change.Change.TheVariants as changes
+use Rattle.scr_changes.proofs.Compared.{always, Decides-number_or_none, Decides-payments, Decides-rates, first_of_both}
+use Rattle.scr_touched.proofs.Decided.{Tells, Tells-at, moved, told-by, unread, untouched}
+use Rattle.scr_changes.proofs.Covered.{in-either}
+use Rattle.scr_changes.proofs.Exchanged.{counted, followed, listed, one-row}
 
 -- ---- what of a security's own data is read
 
@@ -154,7 +157,7 @@ module _ (factors : FactorValues) (sheet : BalanceSheet) (name : List ℕ) (new 
       (stressed-same factors (step_for sheet p) (step_for sheet q) (duration_of p) (duration_of q))
 
   total-still : (p : Option Position) → total_touched p p ≡ false
-  total-still p = untouched (is_some p) (held_of p == held_of p) true (itself (held_of p)) refl
+  total-still p = untouched (is_some p) (position_held p == position_held p) true (itself (position_held p)) refl
 
   unit-still : (p : Option Position) → unit_touched sheet p p ≡ false
   unit-still p =
@@ -177,8 +180,8 @@ module _ (factors : FactorValues) (sheet : BalanceSheet) (name : List ℕ) (new 
   told (nodes.SecurityTotal x) =
       own-row total_touched total-still (nodes.SecurityTotal x) x
       (told-by factors sheet later (nodes.SecurityTotal x) (is_some (found x)) (is_some (found_after x))
-      (held_of (found x) == held_of (found_after x)) true refl refl
-      (held-same (map (share_in x) (holders x sheet)) (held_of (found x)) (held_of (found_after x))) (always refl))
+      (position_held (found x) == position_held (found_after x)) true refl refl
+      (held-same (map (share_in x) (holders x sheet)) (position_held (found x)) (position_held (found_after x))) (always refl))
   told (nodes.UnitLoss x direction) =
       own-row (unit_touched sheet) unit-still (nodes.UnitLoss x direction) x
       (told-by factors sheet later (nodes.UnitLoss x direction) (passes is_paying (found x))

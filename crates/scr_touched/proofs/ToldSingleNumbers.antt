@@ -30,10 +30,11 @@ use Rattle.scr_nodes.specs.declared.node.Node.TheVariants as nodes
 use Rattle.scr_nodes.specs.declared.node.Operational.TheVariants as operations
 use Rattle.scr_nodes.specs.declared.node.Risk.TheVariants as risks
 use Rattle.scr_nodes.proofs.Apart.{member-at}
-use Rattle.scr_touched.specs.Changes.{after}
+use Rattle.scr_changes.specs.Changes.{after}
 use Rattle.scr_touched.specs.SingleNumbers.{earned_at, number_nodes, numbers_touch, provision_at, same_earned, same_operations, same_provision, same_volume, same_volumes, stress_cents}
-use Rattle.scr_touched.specs.declared.change.Change.TheVariants as changes
-use Rattle.scr_touched.proofs.Decided.{Tells, always, first_of_both, second_of_both, told-always, told-moved, unread}
+use Rattle.scr_changes.specs.declared.change.Change.TheVariants as changes
+use Rattle.scr_changes.proofs.Compared.{always, first_of_both, second_of_both}
+use Rattle.scr_touched.proofs.Decided.{Tells, told-always, told-moved, unread}
 
 -- ---- own data that is the same where its numbers are
 

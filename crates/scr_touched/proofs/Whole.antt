@@ -12,17 +12,16 @@ use Rattle.scr_sheet.specs.declared.sheet.BalanceSheet.{BalanceSheet}
 use Rattle.scr_nodes.specs.Live.{is_live}
 use Rattle.scr_nodes.specs.declared.node.Node.{Node}
 use Rattle.scr_touched.specs.Candidates.{touches, candidates}
-use Rattle.scr_touched.specs.Changes.{after, change_of, IsNamed}
+use Rattle.scr_changes.specs.Changes.{after, change_of, IsNamed}
 use Rattle.scr_touched.specs.Touched.{IsChanged, IsSame, IsTold, AreTouched}
 use Rattle.scr_touched.proofs.Decided.{Tells}
-use Rattle.scr_touched.specs.declared.change.Change.{Change}
-use Rattle.scr_touched.specs.declared.change.Change.TheVariants as changes
-use Rattle.scr_touched.proofs.AsExchanged.{as-change, named-change}
+use Rattle.scr_changes.specs.declared.change.Change.{Change}
+use Rattle.scr_changes.specs.declared.change.Change.TheVariants as changes
+use Rattle.scr_changes.proofs.AsExchanged.{as-change, named-change}
 use Rattle.scr_touched.proofs.ToldSecurities as securities
 use Rattle.scr_touched.proofs.ToldFunds as funds
 use Rattle.scr_touched.proofs.ToldGroups as groups
-use Rattle.scr_touched.proofs.ToldBanks as banks
-use Rattle.scr_touched.proofs.ToldReinsurers as reinsurers
+use Rattle.scr_touched.proofs.ToldDebts as debts
 use Rattle.scr_touched.proofs.ToldLiabilities as liabilities
 use Rattle.scr_touched.proofs.ToldCurves as curves
 use Rattle.scr_touched.proofs.ToldReferenceDates as dates
@@ -61,8 +60,8 @@ module _ (factors : FactorValues) (sheet : BalanceSheet) (valid : Valid sheet) w
   all-told (changes.Security name new) named node = securities.told factors sheet name new valid named node
   all-told (changes.Fund name new) named node = funds.told factors sheet name new valid named node
   all-told (changes.Group name new) named node = groups.told factors sheet name new valid named node
-  all-told (changes.Bank name new) named node = banks.told factors sheet name new valid named node
-  all-told (changes.Rein name new) named node = reinsurers.told factors sheet name new valid named node
+  all-told (changes.Bank name new) named node = debts.told-bank factors sheet name new named node
+  all-told (changes.Rein name new) named node = debts.told-rein factors sheet name new named node
   all-told (changes.Liability name new) named node = liabilities.told factors sheet name new valid named node
   all-told (changes.Curve name new) named node = curves.told factors sheet name new valid named node
   all-told (changes.Asof date currency) named node = dates.told factors sheet date currency valid node
@@ -73,8 +72,8 @@ module _ (factors : FactorValues) (sheet : BalanceSheet) (valid : Valid sheet) w
   all-covered (changes.Security name new) named node e = securities.covers factors sheet name new valid named node e
   all-covered (changes.Fund name new) named node e = funds.covers factors sheet name new valid named node e
   all-covered (changes.Group name new) named node e = groups.covers factors sheet name new valid named node e
-  all-covered (changes.Bank name new) named node e = banks.covers factors sheet name new valid named node e
-  all-covered (changes.Rein name new) named node e = reinsurers.covers factors sheet name new valid named node e
+  all-covered (changes.Bank name new) named node e = debts.covers sheet _ _ node e
+  all-covered (changes.Rein name new) named node e = debts.covers sheet _ _ node e
   all-covered (changes.Liability name new) named node e = liabilities.covers factors sheet name new valid named node e
   all-covered (changes.Curve name new) named node e = curves.covers factors sheet name new valid named node e
   all-covered (changes.Asof date currency) named node e = dates.covers factors sheet date currency valid node e

@@ -1,5 +1,5 @@
 -- Which figures an exchanged curve touches (this project's own).
-use Rattle.std.specs.Prelude.{ℕ, ℤ, ◌==◌, ◌&&◌, ◌||◌, ◌++◌, not, Bool, true, false, List, [], ◌∷◌, Option, is_some, if◌then◌else◌}
+use Rattle.std.specs.Prelude.{ℕ, ◌==◌, ◌&&◌, ◌++◌, Bool, true, false, List, [], ◌∷◌, Option, is_some, if◌then◌else◌}
 use Rattle.std.specs.Bool.{beq}
 use Rattle.std.specs.Option.{option_map_or}
 use Rattle.scr_names.specs.Names.{same_name}
@@ -16,34 +16,19 @@ use Rattle.scr_nodes.specs.declared.node.Direction.TheVariants as directions
 use Rattle.scr_nodes.specs.declared.node.Measure.TheVariants as measures
 use Rattle.scr_nodes.specs.declared.node.Node.{Node}
 use Rattle.scr_nodes.specs.declared.node.Node.TheVariants as nodes
-use Rattle.scr_touched.specs.Comparisons.{is_touched, passes, is_kept, same_rates}
+use Rattle.scr_changes.specs.Comparisons.{passes, is_kept, same_rates}
+use Rattle.scr_changes.specs.Readings.{keeps_liability, keeps_security, rates_by}
+use Rattle.scr_touched.specs.Comparisons.{is_touched}
 use Rattle.scr_touched.specs.Liabilities.{is_under}
 use Rattle.scr_touched.specs.Payments.{payment_figures}
 
 -- ---- what is read of a curve, if there is one
-
--- its rates
-abbrev pub rates_by : Option Curve → List ℤ
-rates_by curve = option_map_or (λ (c : Curve). c.rates) curve []
 
 -- the absorption of a change of the currency
 abbrev pub absorption_by : Direction → Option Curve → ℕ
 absorption_by direction curve = option_map_or (absorbed_by direction) curve 0
 
 -- ---- figures of payments, by whether the rates of their currency stay
-
--- the currency is another, or its rates stay
-abbrev pub keeps_rates : List ℕ → Option Curve → Option Curve → List ℕ → Bool
-keeps_rates name old new currency = not (same_name currency name) || same_rates (rates_by old) (rates_by new)
-
--- of a security or a liability, if there is one
-abbrev pub keeps_security : List ℕ → Option Curve → Option Curve → Option Position → Bool
-keeps_security name old new position =
-    option_map_or (λ (p : Position). keeps_rates name old new p.security.currency) position true
-
-abbrev pub keeps_liability : List ℕ → Option Curve → Option Curve → Option Liability → Bool
-keeps_liability name old new liability =
-    option_map_or (λ (l : Liability). keeps_rates name old new l.currency) liability true
 
 abbrev pub unit_moved : List ℕ → Option Curve → Option Curve → Option Position → Bool
 unit_moved name old new position =

@@ -5,8 +5,8 @@ use Rattle.scr_sheet.specs.BalanceSheet.{stake_name}
 use Rattle.scr_sheet.specs.declared.rows.Stake.{Stake}
 use Rattle.scr_sheet.specs.declared.sheet.BalanceSheet.{BalanceSheet}
 use Rattle.scr_touched.specs.Weighed.{AreShares}
-use Rattle.scr_touched.specs.declared.change.Change.{Change}
-use Rattle.scr_touched.specs.declared.change.Change.TheVariants as changes
+use Rattle.scr_changes.specs.declared.change.Change.{Change}
+use Rattle.scr_changes.specs.declared.change.Change.TheVariants as changes
 use Rattle.scr_touched.specs.declared.component.Shares.{Shares}
 
 pub record AreBothShares (shares : Shares) (old new : Option Stake) : Type 0 where

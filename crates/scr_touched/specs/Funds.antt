@@ -1,9 +1,8 @@
 -- Which figures an exchanged fund touches (this project's own).
-use Rattle.std.specs.Prelude.{ℕ, ◌==◌, ◌&&◌, ◌||◌, ◌++◌, Bool, true, false, not, List, [], ◌∷◌, Option, Some, None, is_some, if◌then◌else◌}
+use Rattle.std.specs.Prelude.{ℕ, ◌==◌, ◌&&◌, ◌++◌, Bool, true, false, List, [], ◌∷◌, Option, Some, None, is_some, if◌then◌else◌}
 use Rattle.std.specs.Bool.{beq}
 use Rattle.std.specs.List.{flat_map}
-use Rattle.std.specs.Option.{option_eq, option_map_or}
-use Rattle.scr_names.specs.Names.{same_name}
+use Rattle.std.specs.Option.{option_eq}
 use Rattle.scr_names.specs.Tables.{has_row}
 use Rattle.scr_sheet.specs.BalanceSheet.{position_name, stake_name}
 use Rattle.scr_sheet.specs.declared.rows.Class.TheVariants as classes
@@ -13,12 +12,11 @@ use Rattle.scr_nodes.specs.Own.{Share}
 use Rattle.scr_nodes.specs.Rows.{holds, is_closed, share_in}
 use Rattle.scr_nodes.specs.declared.node.Node.{Node}
 use Rattle.scr_nodes.specs.declared.node.Node.TheVariants as nodes
-use Rattle.scr_touched.specs.Comparisons.{is_touched, is_kept}
+use Rattle.scr_changes.specs.Comparisons.{is_kept}
+use Rattle.scr_changes.specs.Readings.{held_kept, is_fund_after}
+use Rattle.scr_touched.specs.Comparisons.{is_touched}
 
 -- ---- what is read of a fund, if there is one
-
-abbrev pub held_of : Option Stake → ℕ
-held_of stake = option_map_or (λ s. s.held) stake 0
 
 abbrev pub is_same_share : Share → Share → Bool
 is_same_share a b = (a.before == b.before) && ((a.through == b.through) && (a.all == b.all))
@@ -37,14 +35,6 @@ abbrev pub holder_kept : List ℕ → Option Stake → Option Stake → Bool
 holder_kept x old new = beq (is_some (share_of x old)) (is_some (share_of x new))
 
 -- ---- families of figures
-
--- a fund of this name, after
-abbrev pub is_fund_after : BalanceSheet → List ℕ → Option Stake → List ℕ → Bool
-is_fund_after sheet name new x = if same_name x name then is_some new else has_row stake_name x sheet.funds
-
--- as much is held directly of the fund of this name
-abbrev pub held_kept : List ℕ → Option Stake → Option Stake → List ℕ → Bool
-held_kept name old new x = not (same_name x name) || (held_of old == held_of new)
 
 abbrev pub fund_touched : BalanceSheet → List ℕ → Option Stake → Option Stake → List ℕ → Bool
 fund_touched sheet name old new x =

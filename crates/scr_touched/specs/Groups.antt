@@ -1,9 +1,8 @@
 -- Which figures an exchanged group of counterparties touches (this project's own).
-use Rattle.std.specs.Prelude.{ℕ, ◌&&◌, ◌||◌, ◌++◌, Bool, true, false, not, List, [], ◌∷◌, Option, Some, None, nat_eq, nat_lt, is_some, filter, map}
+use Rattle.std.specs.Prelude.{ℕ, ◌&&◌, ◌||◌, ◌++◌, Bool, true, false, not, List, [], ◌∷◌, Option, Some, None, nat_lt, is_some, filter, map}
 use Rattle.std.specs.Bool.{beq}
-use Rattle.std.specs.Option.{option_eq, option_map_or}
+use Rattle.std.specs.Option.{option_map_or}
 use Rattle.scr_names.specs.Names.{same_name}
-use Rattle.scr_profile.specs.declared.group_kind.GroupKind.{GroupKind}
 use Rattle.scr_profile.specs.declared.group_kind.GroupKind.TheVariants as group_kinds
 use Rattle.scr_sheet.specs.BalanceSheet.{position_of}
 use Rattle.scr_sheet.specs.declared.rows.Group.{Group}
@@ -13,25 +12,11 @@ use Rattle.scr_nodes.specs.Rows.{is_of_group, is_of_default_class, class_of_step
 use Rattle.scr_nodes.specs.Sources.{security_spread}
 use Rattle.scr_nodes.specs.declared.node.Node.{Node}
 use Rattle.scr_nodes.specs.declared.node.Node.TheVariants as nodes
-use Rattle.scr_touched.specs.Comparisons.{is_touched, is_kept}
+use Rattle.scr_changes.specs.Comparisons.{is_kept}
+use Rattle.scr_changes.specs.Readings.{is_same_kind, kind_of, same_step}
+use Rattle.scr_touched.specs.Comparisons.{is_touched}
 
 -- ---- what is read of a group, if there is one
-
-abbrev pub kind_of : Option Group → GroupKind
-kind_of group = option_map_or (λ g. g.kind) group group_kinds.Name
-
-abbrev pub step_of : Option Group → Option ℕ
-step_of group = option_map_or (λ g. g.step) group None
-
-abbrev pub is_same_kind : GroupKind → GroupKind → Bool
-is_same_kind group_kinds.Name group_kinds.Name = true
-is_same_kind group_kinds.Covered group_kinds.Covered = true
-is_same_kind group_kinds.Property group_kinds.Property = true
-is_same_kind group_kinds.State group_kinds.State = true
-is_same_kind kind other = false
-
-abbrev pub same_step : Option Group → Option Group → Bool
-same_step old new = option_eq nat_eq (step_of old) (step_of new)
 
 -- a security of this name that is of the group
 abbrev pub counts_in : BalanceSheet → List ℕ → List ℕ → Bool

@@ -1,11 +1,9 @@
 -- Which figures an exchanged liability touches (this project's own).
 use Rattle.std.specs.Prelude.{ℕ, ℤ, ◌&&◌, ◌++◌, Bool, true, false, List, [], ◌∷◌, Option, Some, None, is_some, map}
 use Rattle.std.specs.Option.{option_map_or}
-use Rattle.scr_dates.specs.declared.day.Day.{Day}
 use Rattle.scr_names.specs.Names.{same_name}
 use Rattle.scr_names.specs.Tables.{has_row}
 use Rattle.scr_sheet.specs.BalanceSheet.{curve_name}
-use Rattle.scr_sheet.specs.CashFlows.{flows_under}
 use Rattle.scr_sheet.specs.declared.keys.Projection.{Projection}
 use Rattle.scr_sheet.specs.declared.rows.Liability.{Liability}
 use Rattle.scr_sheet.specs.declared.sheet.BalanceSheet.{BalanceSheet}
@@ -17,18 +15,12 @@ use Rattle.scr_nodes.specs.declared.node.Direction.TheVariants as directions
 use Rattle.scr_nodes.specs.declared.node.Measure.TheVariants as measures
 use Rattle.scr_nodes.specs.declared.node.Node.{Node}
 use Rattle.scr_nodes.specs.declared.node.Node.TheVariants as nodes
-use Rattle.scr_touched.specs.Comparisons.{is_touched, passes, is_kept, same_payments, same_rates}
+use Rattle.scr_changes.specs.Comparisons.{passes, is_kept, same_payments, same_rates}
+use Rattle.scr_changes.specs.Readings.{best_estimate_of, paid_for}
+use Rattle.scr_touched.specs.Comparisons.{is_touched}
 use Rattle.scr_touched.specs.Payments.{loss_figures, stresses, value_figures}
 
 -- ---- what is read of a liability, if there is one
-
--- what is paid for it by the best estimate
-abbrev pub best_estimate_of : Option Liability → List (Day × ℤ)
-best_estimate_of liability = option_map_or (λ (l : Liability). l.flows.base) liability []
-
--- what is paid for it under a projection
-abbrev pub paid_for : Projection → Option Liability → List (Day × ℤ)
-paid_for projection liability = option_map_or (λ (l : Liability). flows_under projection l.flows) liability []
 
 -- the rates of its currency
 abbrev pub rates_for : BalanceSheet → Option Liability → List ℤ

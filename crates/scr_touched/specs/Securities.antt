@@ -1,7 +1,6 @@
 -- Which figures an exchanged security touches (this project's own).
 use Rattle.std.specs.Prelude.{ℕ, ℤ, ◌==◌, ◌&&◌, ◌++◌, Bool, true, false, List, [], ◌∷◌, Option, Some, None, nat_eq, is_some}
 use Rattle.std.specs.Option.{option_eq, option_map_or}
-use Rattle.scr_dates.specs.declared.day.Day.{Day}
 use Rattle.scr_names.specs.Names.{same_name}
 use Rattle.scr_names.specs.Tables.{has_row}
 use Rattle.scr_sheet.specs.BalanceSheet.{curve_name}
@@ -14,22 +13,15 @@ use Rattle.scr_nodes.specs.declared.node.Direction.TheVariants as directions
 use Rattle.scr_nodes.specs.declared.node.Measure.TheVariants as measures
 use Rattle.scr_nodes.specs.declared.node.Node.{Node}
 use Rattle.scr_nodes.specs.declared.node.Node.TheVariants as nodes
-use Rattle.scr_touched.specs.Comparisons.{is_touched, passes, is_kept, same_payments, same_rates}
+use Rattle.scr_changes.specs.Comparisons.{passes, is_kept, same_payments, same_rates}
+use Rattle.scr_changes.specs.Readings.{duration_of, flows_of, position_held}
+use Rattle.scr_touched.specs.Comparisons.{is_touched}
 
 -- ---- what is read of a security, if there is one
-
-abbrev pub held_of : Option Position → ℕ
-held_of position = option_map_or (λ p. p.held) position 0
-
-abbrev pub flows_of : Option Position → List (Day × ℤ)
-flows_of position = option_map_or (λ p. p.security.flows) position []
 
 -- the rates of its currency
 abbrev pub rates_for : BalanceSheet → Option Position → List ℤ
 rates_for sheet position = option_map_or (λ (p : Position). rates_of p.security.currency sheet) position []
-
-abbrev pub duration_of : Option Position → ℕ
-duration_of position = option_map_or (λ p. p.security.duration) position 0
 
 -- the credit quality step of its group
 abbrev pub step_for : BalanceSheet → Option Position → Option ℕ
@@ -38,7 +30,7 @@ step_for sheet position = option_map_or (step_of sheet) position None
 -- ---- families of figures of one security
 
 abbrev pub total_touched : Option Position → Option Position → Bool
-total_touched old new = is_touched (is_some old) (is_some new) (held_of old == held_of new) true
+total_touched old new = is_touched (is_some old) (is_some new) (position_held old == position_held new) true
 
 abbrev pub unit_touched : BalanceSheet → Option Position → Option Position → Bool
 unit_touched sheet old new =

@@ -7,19 +7,18 @@ ghost use Rattle.scr_touched.specs.Candidates.{touches, candidates};
 ghost use Rattle.scr_touched.specs.FundShares.{AreSharesOf};
 ghost use Rattle.scr_touched.specs.Touched.{AreTouched};
 
-use crate::banks::{bank_nodes, bank_touches};
-use crate::change::Change;
-use crate::changes::change_of;
 use crate::component::Shares;
 use crate::curves::{curve_nodes, curve_touches};
+use crate::debts::{debt_nodes, debt_touches};
 use crate::funds::{fund_nodes, fund_touches, shares};
 use crate::groups::{group_nodes, group_touches};
 use crate::liabilities::{liability_nodes, liability_touches};
 use crate::reference_dates::{date_nodes, date_touches};
-use crate::reinsurers::{rein_nodes, rein_touches};
 use crate::securities::{security_nodes, security_touches};
 use crate::single_numbers::{number_nodes, numbers_touch};
 use scr_book::Book;
+use scr_changes::debts::{bank_debt, rein_debt};
+use scr_changes::{Change, change_of};
 use scr_nodes::Node;
 use scr_sheet::{BalanceSheet, Edit, fields_outside};
 use std::alloc::{AllocError as NoMemory, Global};
@@ -104,10 +103,15 @@ fn touches(sheet: &BalanceSheet, change: &Change, shares: &Shares, node: &Node) 
             group_touches(sheet, name, sheet.groups.get(name), new.as_ref(), node)
         }
         Change::Bank(name, new) => {
-            bank_touches(sheet, sheet.banks.get(name), new.as_ref(), node)
+            let (old, new) = (bank_debt(sheet.banks.get(name)), bank_debt(new.as_ref()));
+            debt_touches(sheet, old.as_ref(), new.as_ref(), node)
         }
         Change::Rein(name, new) => {
-            rein_touches(sheet, sheet.reinsurers.get(name), new.as_ref(), node)
+            let (old, new) = (
+                rein_debt(sheet.reinsurers.get(name)),
+                rein_debt(new.as_ref()),
+            );
+            debt_touches(sheet, old.as_ref(), new.as_ref(), node)
         }
         Change::Liability(name, new) => {
             liability_touches(sheet, name, sheet.liabilities.get(name), new.as_ref(), node)
@@ -132,8 +136,17 @@ fn candidates(alloc: Global, sheet: &BalanceSheet, change: &Change) -> Result<Ve
         Change::Group(name, new) => {
             group_nodes(alloc, sheet, name, sheet.groups.get(name), new.as_ref())
         }
-        Change::Bank(name, new) => { bank_nodes(alloc, sheet.banks.get(name), new.as_ref()) }
-        Change::Rein(name, new) => { rein_nodes(alloc, sheet.reinsurers.get(name), new.as_ref()) }
+        Change::Bank(name, new) => {
+            let (old, new) = (bank_debt(sheet.banks.get(name)), bank_debt(new.as_ref()));
+            debt_nodes(alloc, old.as_ref(), new.as_ref())
+        }
+        Change::Rein(name, new) => {
+            let (old, new) = (
+                rein_debt(sheet.reinsurers.get(name)),
+                rein_debt(new.as_ref()),
+            );
+            debt_nodes(alloc, old.as_ref(), new.as_ref())
+        }
         Change::Liability(name, new) => {
             liability_nodes(alloc, name, sheet.liabilities.get(name), new.as_ref())
         }

@@ -1,13 +1,17 @@
 //! Which figures an exchanged curve touches.
 ghost use Rattle.std.specs.Prelude.{◌≡◌, ◌++◌, IfOk, OnOk};
 ghost use Rattle.std.specs.Option.{option_copied};
-ghost use Rattle.scr_nodes.specs.Rows.{is_foreign, is_paying};
-ghost use Rattle.scr_touched.specs.Comparisons.{is_kept, passes};
-ghost use Rattle.scr_touched.specs.Curves.{rates_by, absorption_by, keeps_rates, keeps_security, keeps_liability, unit_moved, value_moved, loss_moved, currency_touched, foreign_touched, net_touched, curve_touches, currency_nodes, foreign_nodes, moved_nodes, curve_nodes};
+ghost use Rattle.scr_nodes.specs.Rows.{is_foreign};
+ghost use Rattle.scr_changes.specs.Comparisons.{passes};
+ghost use Rattle.scr_changes.specs.Readings.{rates_by, keeps_security, keeps_liability};
+ghost use Rattle.scr_touched.specs.Curves.{absorption_by, unit_moved, value_moved, loss_moved, foreign_touched, net_touched, curve_touches, currency_nodes, foreign_nodes, moved_nodes, curve_nodes};
 
-use crate::comparisons::{is_touched, same_rates};
+use crate::comparisons::is_touched;
 use crate::liabilities::is_under;
 use crate::payments::payment_figures;
+use crate::securities::pays;
+use scr_changes::comparisons::same_rates;
+use scr_changes::readings::{keeps_liability, keeps_security, rates_by};
 use scr_nodes::rows::{is_foreign, is_paying};
 use scr_nodes::{Direction, Measure, Node};
 use scr_sheet::{BalanceSheet, Curve, Liability, Name, Position, Projection};
@@ -31,10 +35,10 @@ pub(crate) fn curve_touches(
         Node::LiabilityLoss(x, projection) => {
             loss_moved(name, old, new, *projection, sheet.liabilities.get(x))
         }
-        Node::CurrencyLoss(x, _) => x == name && currency_touched(old, new),
-        Node::InterestScenario(_, Measure::Gross) => {
-            is_touched(true, true, true, old.is_some() == new.is_some())
+        Node::CurrencyLoss(x, _) => {
+            x == name && is_touched(old.is_some(), new.is_some(), true, true)
         }
+        Node::InterestScenario(_, Measure::Gross) => old.is_some() != new.is_some(),
         Node::CurrencyScenario(x, _, Measure::Gross) => {
             x == name && foreign_touched(sheet, old, new)
         }
@@ -43,7 +47,7 @@ pub(crate) fn curve_touches(
         }
         Node::CurrencyChoice(x) => x == name && foreign_touched(sheet, old, new),
         Node::CurrencyPicked(x, _) => x == name && foreign_touched(sheet, old, new),
-        Node::Currency(_) => is_touched(true, true, true, is_kept_foreign(sheet, old, new)),
+        Node::Currency(_) => is_other(sheet, old) != is_other(sheet, new),
         _ => false,
     }
 }
@@ -96,13 +100,6 @@ fn loss_moved(
     )
 }
 
-/// The currency comes or goes.
-fn currency_touched(old: Option<&Curve>, new: Option<&Curve>) -> bool
-    ensures { result ≡ currency_touched (option_copied old.entry) (option_copied new.entry) }
-{
-    is_touched(old.is_some(), new.is_some(), true, true)
-}
-
 /// The currency comes or goes as a foreign one.
 fn foreign_touched(sheet: &BalanceSheet, old: Option<&Curve>, new: Option<&Curve>) -> bool
     ensures { result ≡ foreign_touched sheet.now (option_copied old.entry)
@@ -125,62 +122,6 @@ fn net_touched(
     is_touched(is_other(sheet, old), is_other(sheet, new), own, true)
 }
 
-fn pays(position: Option<&Position>) -> bool
-    ensures { result ≡ passes is_paying (option_copied position.entry) }
-{
-    match position {
-        Some(position) => is_paying(position),
-        None => false,
-    }
-}
-
-/// The currency is another, or its rates stay.
-fn keeps_rates(name: &Name, old: Option<&Curve>, new: Option<&Curve>, currency: &Name) -> bool
-    ensures { result ≡ keeps_rates name.now (option_copied old.entry) (option_copied new.entry)
-        currency.now }
-{
-    currency != name || same_rates(rates_by(old), rates_by(new))
-}
-
-fn keeps_security(
-    name: &Name,
-    old: Option<&Curve>,
-    new: Option<&Curve>,
-    position: Option<&Position>,
-) -> bool
-    ensures { result ≡ keeps_security name.now (option_copied old.entry) (option_copied new.entry)
-        (option_copied position.entry) }
-{
-    match position {
-        Some(position) => keeps_rates(name, old, new, &position.security.currency),
-        None => true,
-    }
-}
-
-fn keeps_liability(
-    name: &Name,
-    old: Option<&Curve>,
-    new: Option<&Curve>,
-    liability: Option<&Liability>,
-) -> bool
-    ensures { result ≡ keeps_liability name.now (option_copied old.entry) (option_copied new.entry)
-        (option_copied liability.entry) }
-{
-    match liability {
-        Some(liability) => keeps_rates(name, old, new, &liability.currency),
-        None => true,
-    }
-}
-
-fn rates_by(curve: Option<&Curve>) -> &[i64]
-    ensures { result.now ≡ rates_by (option_copied curve.entry) }
-{
-    match curve {
-        Some(curve) => curve.rates.as_slice(),
-        None => &[],
-    }
-}
-
 fn absorption_by(direction: Direction, curve: Option<&Curve>) -> u64
     ensures { result ≡ absorption_by direction (option_copied curve.entry) }
 {
@@ -201,13 +142,6 @@ fn is_other(sheet: &BalanceSheet, curve: Option<&Curve>) -> bool
         Some(curve) => is_foreign(sheet, curve),
         None => false,
     }
-}
-
-fn is_kept_foreign(sheet: &BalanceSheet, old: Option<&Curve>, new: Option<&Curve>) -> bool
-    ensures { result ≡ is_kept (is_foreign sheet.now) (option_copied old.entry)
-        (option_copied new.entry) }
-{
-    is_other(sheet, old) == is_other(sheet, new)
 }
 
 /// The figures that an exchanged curve may touch: those of payments, unless the rates stay, and

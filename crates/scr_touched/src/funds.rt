@@ -3,13 +3,15 @@ ghost use Rattle.std.specs.Prelude.{◌≡◌, ◌++◌, IfOk, OnOk};
 ghost use Rattle.std.specs.List.{flat_map};
 ghost use Rattle.std.specs.Option.{option_copied};
 ghost use Rattle.scr_nodes.specs.Rows.{is_closed};
-ghost use Rattle.scr_touched.specs.Comparisons.{is_kept, passes};
+ghost use Rattle.scr_changes.specs.Comparisons.{passes};
 ghost use Rattle.scr_touched.specs.FundShares.{AreBothShares};
-ghost use Rattle.scr_touched.specs.Funds.{held_of, held_kept, is_fund_after, fund_touched, holding_touched, fund_touches, totals_of, component_nodes, fund_nodes};
+ghost use Rattle.scr_changes.specs.Readings.{held_kept, is_fund_after};
+ghost use Rattle.scr_touched.specs.Funds.{fund_touched, holding_touched, fund_touches, totals_of, component_nodes, fund_nodes};
 
 use crate::comparisons::is_touched;
 use crate::component::Shares;
 use crate::weighed::{kept, weighed};
+use scr_changes::readings::{held_kept, is_fund_after};
 use scr_nodes::Node;
 use scr_nodes::rows::is_closed;
 use scr_sheet::{BalanceSheet, Class, Name, Stake};
@@ -45,9 +47,7 @@ pub(crate) fn fund_touches(
     match node {
         Node::FundTotal(x) => fund_touched(sheet, name, shares, old, new, x),
         Node::SecurityTotal(x) => holding_touched(sheet, shares, old, new, x),
-        Node::ClassSum(Class::Type2Equity) => {
-            is_touched(true, true, true, closed(old) == closed(new))
-        }
+        Node::ClassSum(Class::Type2Equity) => closed(old) != closed(new),
         _ => false,
     }
 }
@@ -87,34 +87,6 @@ fn holding_touched(
     let has = sheet.securities.contains(x);
     let (share, holder) = kept(x, &shares.old, &shares.new, old, new);
     is_touched(has, has, share, holder)
-}
-
-/// There is a fund of this name afterwards.
-fn is_fund_after(sheet: &BalanceSheet, name: &Name, new: Option<&Stake>, x: &Name) -> bool
-    ensures { result ≡ is_fund_after sheet.now name.now (option_copied new.entry) x.now }
-{
-    if x == name {
-        new.is_some()
-    } else {
-        sheet.funds.contains(x)
-    }
-}
-
-/// As much is held directly of the fund of this name.
-fn held_kept(name: &Name, old: Option<&Stake>, new: Option<&Stake>, x: &Name) -> bool
-    ensures { result ≡ held_kept name.now (option_copied old.entry) (option_copied new.entry)
-        x.now }
-{
-    x != name || held_of(old) == held_of(new)
-}
-
-fn held_of(stake: Option<&Stake>) -> u64
-    ensures { result ≡ held_of (option_copied stake.entry) }
-{
-    match stake {
-        Some(stake) => stake.held,
-        None => 0,
-    }
 }
 
 fn closed(stake: Option<&Stake>) -> bool

@@ -3,15 +3,16 @@ ghost use Rattle.std.specs.Prelude.{◌≡◌, ◌++◌, IfOk, OnOk};
 ghost use Rattle.std.specs.Option.{option_copied};
 ghost use Rattle.scr_nodes.specs.Live.{is_bond};
 ghost use Rattle.scr_nodes.specs.Rows.{class_of_step, is_of_default_class, is_of_group};
-ghost use Rattle.scr_touched.specs.Comparisons.{is_kept, passes};
-ghost use Rattle.scr_touched.specs.Groups.{group_touches, group_nodes, is_moved, square_touched, class_touched, step_touched, same_step, step_of, kind_of, counts_in, own_nodes, class_nodes, spread_nodes};
+ghost use Rattle.scr_changes.specs.Comparisons.{passes};
+ghost use Rattle.scr_changes.specs.Readings.{same_step, kind_of};
+ghost use Rattle.scr_touched.specs.Groups.{group_touches, group_nodes, is_moved, square_touched, class_touched, step_touched, counts_in, class_nodes, spread_nodes};
 
 use crate::comparisons::is_touched;
+use scr_changes::readings::{kind_of, same_step};
 use scr_nodes::Node;
-use scr_nodes::rows::{has_class, is_of_default_class};
-use scr_nodes::selections::{Holdings, is_counted};
-use scr_profile::GroupKind;
-use scr_sheet::{BalanceSheet, Class, Group, Name, Position};
+use scr_nodes::live::is_bond;
+use scr_nodes::rows::{class_of_step, is_of_default_class, is_of_group};
+use scr_sheet::{BalanceSheet, Group, Name};
 use std::alloc::{AllocError as NoMemory, Global};
 
 /// Whether a figure is touched where the group of counterparties of this name becomes another, or
@@ -30,7 +31,7 @@ pub(crate) fn group_touches(
         Node::SecuritySpread(x) => step_touched(sheet, name, old, new, x),
         Node::GroupTotal(x) => x == name && is_moved(old, new),
         Node::ConcentrationSquare(x) => x == name && square_touched(old, new),
-        Node::Concentration => is_touched(true, true, true, old.is_some() == new.is_some()),
+        Node::Concentration => old.is_some() != new.is_some(),
         Node::GroupLoss(x) => x == name && is_moved(old, new),
         Node::ClassLoss(class) => class_touched(old, new, *class),
         Node::ClassSquare(class) => class_touched(old, new, *class),
@@ -58,12 +59,8 @@ fn class_touched(old: Option<&Group>, new: Option<&Group>, class: u8) -> bool
     ensures { result ≡ class_touched (option_copied old.entry) (option_copied new.entry) class }
 {
     let has = class < 6;
-    is_touched(
-        has,
-        has,
-        true,
-        is_of_class(class, old) == is_of_class(class, new),
-    )
+    let kept = is_of_class(class, old) == is_of_class(class, new);
+    is_touched(has, has, true, kept)
 }
 
 /// The security is a bond of the group, whose credit quality step changes.
@@ -82,15 +79,6 @@ fn step_touched(
     is_touched(has, has, own, true)
 }
 
-fn is_bond(sheet: &BalanceSheet, security: &Name) -> bool
-    ensures { result ≡ is_bond sheet.now security.now }
-{
-    match sheet.securities.get(security) {
-        Some(position) => has_class(Class::Bond, position),
-        None => false,
-    }
-}
-
 /// The security is of the group.
 fn counts_in(sheet: &BalanceSheet, group: &Name, security: &Name) -> bool
     ensures { result ≡ counts_in sheet.now group.now security.now }
@@ -101,12 +89,6 @@ fn counts_in(sheet: &BalanceSheet, group: &Name, security: &Name) -> bool
     }
 }
 
-fn is_of_group(group: &Name, position: &Position) -> bool
-    ensures { result ≡ is_of_group group.now position.now }
-{
-    is_counted(&Holdings::OfGroup(*group), position)
-}
-
 fn is_of_class(class: u8, group: Option<&Group>) -> bool
     ensures { result ≡ passes (is_of_default_class class) (option_copied group.entry) }
 {
@@ -114,27 +96,6 @@ fn is_of_class(class: u8, group: Option<&Group>) -> bool
         Some(group) => is_of_default_class(class, group),
         None => false,
     }
-}
-
-fn kind_of(group: Option<&Group>) -> GroupKind
-    ensures { result ≡ kind_of (option_copied group.entry) }
-{
-    match group {
-        Some(group) => group.kind,
-        None => GroupKind::Name,
-    }
-}
-
-fn step_of(group: Option<&Group>) -> Option<u8>
-    ensures { result ≡ step_of (option_copied group.entry) }
-{
-    group?.step
-}
-
-fn same_step(old: Option<&Group>, new: Option<&Group>) -> bool
-    ensures { result ≡ same_step (option_copied old.entry) (option_copied new.entry) }
-{
-    step_of(old) == step_of(new)
 }
 
 /// The figures that an exchanged group may touch: its own, those of its class before and after, and
@@ -171,16 +132,6 @@ fn push_class(list: &mut Vec<Node>, group: Option<&Group>) -> Result<(), NoMemor
     let class = class_of_step(group.step);
     list.extend_from_slice(&[Node::ClassLoss(class), Node::ClassSquare(class)])?;
     Ok(())
-}
-
-/// The class of probabilities of default of a step.
-fn class_of_step(step: Option<u8>) -> u8
-    ensures { result ≡ class_of_step step }
-{
-    match step {
-        Some(step) if step < 5 => step,
-        _ => 5,
-    }
 }
 
 /// What the bonds of the group lose.

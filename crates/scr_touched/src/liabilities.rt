@@ -2,13 +2,16 @@
 ghost use Rattle.std.specs.Prelude.{◌≡◌, ◌++◌, IfOk, OnOk};
 ghost use Rattle.std.specs.Option.{option_copied};
 ghost use Rattle.scr_nodes.specs.Rows.{has_stress, is_owed_in, is_stress, is_stressed};
-ghost use Rattle.scr_touched.specs.Comparisons.{is_kept, passes};
-ghost use Rattle.scr_touched.specs.Liabilities.{best_estimate_of, paid_for, rates_for, is_under, same_value, value_touched, loss_touched, liability_touches, stress_nodes, owed_nodes, liability_nodes};
+ghost use Rattle.scr_changes.specs.Comparisons.{is_kept, passes};
+ghost use Rattle.scr_changes.specs.Readings.{best_estimate_of, paid_for};
+ghost use Rattle.scr_touched.specs.Liabilities.{rates_for, is_under, same_value, value_touched, loss_touched, liability_touches, stress_nodes, owed_nodes, liability_nodes};
 
-use crate::comparisons::{is_touched, same_payments, same_rates};
-use crate::lookups::{is_foreign_currency, rates_of};
+use crate::comparisons::is_touched;
+use crate::lookups::rates_of;
 use crate::payments::{push_losses, push_values};
-use scr_dates::Day;
+use scr_changes::comparisons::{same_payments, same_rates};
+use scr_changes::readings::{best_estimate_of, paid_for};
+use scr_nodes::live::{has_stress, is_foreign_currency, is_stress};
 use scr_nodes::rows::{has_flows, is_owed_in, is_stressed};
 use scr_nodes::{Biometric, Direction, Measure, Node};
 use scr_sheet::{BalanceSheet, Liability, Name, Projection};
@@ -41,8 +44,9 @@ pub(crate) fn liability_touches(
         }
         Node::BioScenario(biometric, projection, Measure::Gross) => {
             let has = has_stress(*biometric, *projection);
-            let kept = is_kept_stressed(*biometric, *projection, old, new);
-            is_touched(has, has, true, kept)
+            let before = suffers(*biometric, *projection, old);
+            let after = suffers(*biometric, *projection, new);
+            is_touched(has, has, true, before == after)
         }
         _ => false,
     }
@@ -85,24 +89,6 @@ fn same_value(sheet: &BalanceSheet, old: Option<&Liability>, new: Option<&Liabil
         && same_rates(rates_for(sheet, old), rates_for(sheet, new))
 }
 
-fn best_estimate_of(liability: Option<&Liability>) -> &[(Day, i64)]
-    ensures { result.now ≡ best_estimate_of (option_copied liability.entry) }
-{
-    match liability {
-        Some(liability) => liability.flows.base.as_slice(),
-        None => &[],
-    }
-}
-
-fn paid_for(projection: Projection, liability: Option<&Liability>) -> &[(Day, i64)]
-    ensures { result.now ≡ paid_for projection (option_copied liability.entry) }
-{
-    match liability {
-        Some(liability) => liability.flows.under(projection).as_slice(),
-        None => &[],
-    }
-}
-
 fn rates_for<'a>(sheet: &'a BalanceSheet, liability: Option<&Liability>) -> &'a [i64]
     ensures { result.now ≡ rates_for sheet.now (option_copied liability.entry) }
 {
@@ -119,26 +105,6 @@ pub(crate) fn is_under(projection: Projection, liability: Option<&Liability>) ->
     match liability {
         Some(liability) => is_stress(projection) && has_flows(projection, liability),
         None => false,
-    }
-}
-
-fn is_stress(projection: Projection) -> bool
-    ensures { result ≡ is_stress projection }
-{
-    match projection {
-        Projection::Base => false,
-        _ => true,
-    }
-}
-
-/// The obligations have the stress (Articles 137 to 143 and 152 to 159).
-fn has_stress(biometric: Biometric, projection: Projection) -> bool
-    ensures { result ≡ has_stress biometric projection }
-{
-    match (biometric, projection) {
-        (_, Projection::Base) => false,
-        (Biometric::Health, Projection::Catastrophe) => false,
-        _ => true,
     }
 }
 
@@ -165,18 +131,6 @@ fn suffers(biometric: Biometric, projection: Projection, liability: Option<&Liab
         Some(liability) => is_stressed(biometric, projection, liability),
         None => false,
     }
-}
-
-fn is_kept_stressed(
-    biometric: Biometric,
-    projection: Projection,
-    old: Option<&Liability>,
-    new: Option<&Liability>,
-) -> bool
-    ensures { result ≡ is_kept (is_stressed biometric projection) (option_copied old.entry)
-        (option_copied new.entry) }
-{
-    suffers(biometric, projection, old) == suffers(biometric, projection, new)
 }
 
 /// The figures that an exchanged liability may touch: its own, the stresses, and those of its

@@ -2,21 +2,17 @@
 //! and those that it makes or takes away.
 #![tactic(auto)]
 
-mod banks;
 mod candidates;
-mod change;
-mod changes;
-mod charges;
 mod comparisons;
 mod component;
 mod curves;
+mod debts;
 mod funds;
 mod groups;
 mod liabilities;
 mod lookups;
 mod payments;
 mod reference_dates;
-mod reinsurers;
 mod securities;
 mod single_numbers;
 mod weighed;

@@ -5,10 +5,8 @@ ghost use Rattle.scr_touched.specs.ReferenceDates.{same_date, is_foreign_to, dat
 
 use crate::comparisons::is_touched;
 use crate::curves::{moved_nodes, push_foreign};
-use crate::liabilities::is_under;
-use crate::lookups::is_foreign_currency;
 use scr_dates::Day;
-use scr_nodes::rows::is_paying;
+use scr_nodes::live::{is_foreign_currency, is_stressed_liability, pays};
 use scr_nodes::{Measure, Node};
 use scr_sheet::{BalanceSheet, Name, Projection};
 use std::alloc::{AllocError as NoMemory, Global};
@@ -27,7 +25,7 @@ pub(crate) fn date_touches(sheet: &BalanceSheet, date: Day, currency: &Name, nod
         Node::CurrencyScenario(x, _, _) => reporting_touched(sheet, currency, x),
         Node::CurrencyChoice(x) => reporting_touched(sheet, currency, x),
         Node::CurrencyPicked(x, _) => reporting_touched(sheet, currency, x),
-        Node::Currency(_) => is_touched(true, true, true, sheet.numbers.currency == *currency),
+        Node::Currency(_) => sheet.numbers.currency != *currency,
         _ => false,
     }
 }
@@ -49,12 +47,9 @@ fn same_date(sheet: &BalanceSheet, date: Day) -> bool
 fn reporting_touched(sheet: &BalanceSheet, reporting: &Name, currency: &Name) -> bool
     ensures { result ≡ reporting_touched sheet.now reporting.now currency.now }
 {
-    is_touched(
-        is_foreign_currency(sheet, currency),
-        is_foreign_to(sheet, reporting, currency),
-        true,
-        true,
-    )
+    let before = is_foreign_currency(sheet, currency);
+    let after = is_foreign_to(sheet, reporting, currency);
+    is_touched(before, after, true, true)
 }
 
 fn is_foreign_to(sheet: &BalanceSheet, reporting: &Name, currency: &Name) -> bool
@@ -64,21 +59,6 @@ fn is_foreign_to(sheet: &BalanceSheet, reporting: &Name, currency: &Name) -> boo
         Some(curve) => *reporting != curve.currency,
         None => false,
     }
-}
-
-fn pays(sheet: &BalanceSheet, security: &Name) -> bool
-    ensures { result ≡ pays sheet.now security.now }
-{
-    match sheet.securities.get(security) {
-        Some(position) => is_paying(position),
-        None => false,
-    }
-}
-
-fn is_stressed_liability(sheet: &BalanceSheet, liability: &Name, projection: Projection) -> bool
-    ensures { result ≡ is_stressed_liability sheet.now liability.now projection }
-{
-    is_under(projection, sheet.liabilities.get(liability))
 }
 
 /// The figures that they may touch: those of payments, unless the date stays, and those of the

@@ -1,15 +1,18 @@
 //! Which figures an exchanged security touches.
 ghost use Rattle.std.specs.Prelude.{◌≡◌, ◌++◌, IfOk, OnOk};
 ghost use Rattle.std.specs.Option.{option_copied};
-ghost use Rattle.scr_nodes.specs.Rows.{has_class, is_paying, is_paying_in};
+ghost use Rattle.scr_nodes.specs.Rows.{is_paying, is_paying_in};
 ghost use Rattle.scr_nodes.specs.Selections.{is_counted};
 ghost use Rattle.scr_sheet.specs.declared.rows.Class.TheVariants as classes;
-ghost use Rattle.scr_touched.specs.Comparisons.{is_kept, passes};
-ghost use Rattle.scr_touched.specs.Securities.{flows_of, rates_for, step_for, duration_of, held_of, total_touched, unit_touched, rate_touched, spread_touched, security_touches, own_nodes, row_nodes, security_nodes};
+ghost use Rattle.scr_changes.specs.Comparisons.{is_kept, passes};
+ghost use Rattle.scr_changes.specs.Readings.{flows_of, duration_of, position_held};
+ghost use Rattle.scr_touched.specs.Securities.{rates_for, step_for, total_touched, unit_touched, spread_touched, security_touches, own_nodes, row_nodes, security_nodes};
 
-use crate::comparisons::{is_touched, same_payments, same_rates};
-use crate::lookups::{is_foreign_currency, rates_of, step_of};
-use scr_dates::Day;
+use crate::comparisons::is_touched;
+use crate::lookups::{rates_of, step_of};
+use scr_changes::comparisons::{same_payments, same_rates};
+use scr_changes::readings::{duration_of, flows_of, position_held};
+use scr_nodes::live::is_foreign_currency;
 use scr_nodes::rows::{has_class, is_paying, is_paying_in};
 use scr_nodes::selections::{Holdings, is_counted};
 use scr_nodes::{Direction, Measure, Node};
@@ -30,43 +33,26 @@ pub(crate) fn security_touches(
     match node {
         Node::SecurityTotal(x) => x == name && total_touched(old, new),
         Node::UnitLoss(x, _) => x == name && unit_touched(sheet, old, new),
-        Node::SecurityRate(x, _) => x == name && rate_touched(old, new),
+        Node::SecurityRate(x, _) => x == name && is_touched(pays(old), pays(new), true, true),
         Node::CurrencyLoss(currency, _) => {
             let has = sheet.curves.contains(currency);
-            is_touched(has, has, true, is_kept_paying(currency, old, new))
+            let kept = pays_in(currency, old) == pays_in(currency, new);
+            is_touched(has, has, true, kept)
         }
         Node::CurrencyScenario(currency, _, Measure::Gross) => {
             let foreign = is_foreign_currency(sheet, currency);
             let kept = is_kept(&Holdings::In(*currency), old, new);
             is_touched(foreign, foreign, kept, kept)
         }
-        Node::ClassSum(class) => {
-            is_touched(
-                true,
-                true,
-                true,
-                is_kept(&Holdings::OfClass(*class), old, new),
-            )
-        }
+        Node::ClassSum(class) => !is_kept(&Holdings::OfClass(*class), old, new),
         Node::SecuritySpread(x) => x == name && spread_touched(sheet, old, new),
-        Node::Spread => {
-            is_touched(
-                true,
-                true,
-                true,
-                is_kept(&Holdings::OfClass(Class::Bond), old, new),
-            )
-        }
+        Node::Spread => !is_kept(&Holdings::OfClass(Class::Bond), old, new),
         Node::GroupTotal(group) => {
             let has = sheet.groups.contains(group);
-            is_touched(
-                has,
-                has,
-                true,
-                is_kept(&Holdings::OfGroup(*group), old, new),
-            )
+            let kept = is_kept(&Holdings::OfGroup(*group), old, new);
+            is_touched(has, has, true, kept)
         }
-        Node::Assets => is_touched(true, true, true, is_kept(&Holdings::Grouped, old, new)),
+        Node::Assets => !is_kept(&Holdings::Grouped, old, new),
         _ => false,
     }
 }
@@ -75,7 +61,7 @@ pub(crate) fn security_touches(
 fn total_touched(old: Option<&Position>, new: Option<&Position>) -> bool
     ensures { result ≡ total_touched (option_copied old.entry) (option_copied new.entry) }
 {
-    let held = held_of(old) == held_of(new);
+    let held = position_held(old) == position_held(new);
     is_touched(old.is_some(), new.is_some(), held, true)
 }
 
@@ -88,36 +74,22 @@ fn unit_touched(sheet: &BalanceSheet, old: Option<&Position>, new: Option<&Posit
     is_touched(pays(old), pays(new), own, true)
 }
 
-/// It begins or ends to pay.
-fn rate_touched(old: Option<&Position>, new: Option<&Position>) -> bool
-    ensures { result ≡ rate_touched (option_copied old.entry) (option_copied new.entry) }
-{
-    is_touched(pays(old), pays(new), true, true)
-}
-
 /// The credit quality step or the duration of the bond changes, or it comes or goes as a bond.
 fn spread_touched(sheet: &BalanceSheet, old: Option<&Position>, new: Option<&Position>) -> bool
     ensures { result ≡ spread_touched sheet.now (option_copied old.entry)
         (option_copied new.entry) }
 {
     let own = step_for(sheet, old) == step_for(sheet, new) && duration_of(old) == duration_of(new);
-    is_touched(is_bond(old), is_bond(new), own, true)
+    let bonds = Holdings::OfClass(Class::Bond);
+    let (before, after) = (is_counted_of(&bonds, old), is_counted_of(&bonds, new));
+    is_touched(before, after, own, true)
 }
 
-fn pays(position: Option<&Position>) -> bool
+pub(crate) fn pays(position: Option<&Position>) -> bool
     ensures { result ≡ passes is_paying (option_copied position.entry) }
 {
     match position {
         Some(position) => is_paying(position),
-        None => false,
-    }
-}
-
-fn is_bond(position: Option<&Position>) -> bool
-    ensures { result ≡ passes (has_class classes.Bond) (option_copied position.entry) }
-{
-    match position {
-        Some(position) => has_class(Class::Bond, position),
         None => false,
     }
 }
@@ -148,46 +120,12 @@ fn pays_in(currency: &Name, position: Option<&Position>) -> bool
     }
 }
 
-fn is_kept_paying(currency: &Name, old: Option<&Position>, new: Option<&Position>) -> bool
-    ensures { result ≡ is_kept (is_paying_in currency.now) (option_copied old.entry)
-        (option_copied new.entry) }
-{
-    pays_in(currency, old) == pays_in(currency, new)
-}
-
-fn held_of(position: Option<&Position>) -> u64
-    ensures { result ≡ held_of (option_copied position.entry) }
-{
-    match position {
-        Some(position) => position.held,
-        None => 0,
-    }
-}
-
-fn flows_of(position: Option<&Position>) -> &[(Day, i64)]
-    ensures { result.now ≡ flows_of (option_copied position.entry) }
-{
-    match position {
-        Some(position) => position.security.flows.as_slice(),
-        None => &[],
-    }
-}
-
 fn rates_for<'a>(sheet: &'a BalanceSheet, position: Option<&Position>) -> &'a [i64]
     ensures { result.now ≡ rates_for sheet.now (option_copied position.entry) }
 {
     match position {
         Some(position) => rates_of(sheet, &position.security.currency),
         None => &[],
-    }
-}
-
-fn duration_of(position: Option<&Position>) -> u32
-    ensures { result ≡ duration_of (option_copied position.entry) }
-{
-    match position {
-        Some(position) => position.security.duration,
-        None => 0,
     }
 }
 

@@ -3,12 +3,14 @@ ghost use Rattle.std.specs.Prelude.{◌≡◌, ◌++◌, ◌&&◌, true, IfOk, O
 ghost use Rattle.scr_nodes.specs.Live.{is_segment};
 ghost use Rattle.scr_nodes.specs.OwnOf.{volumes_in_regions};
 ghost use Rattle.scr_nodes.specs.Rows.{has_stress};
-ghost use Rattle.scr_profile.specs.Segments.{segments};
 ghost use Rattle.scr_nodes.specs.declared.node.Measure.TheVariants.{Net};
 ghost use Rattle.scr_nodes.specs.declared.node.Node.TheVariants as nodes;
-ghost use Rattle.scr_touched.specs.SingleNumbers.{same_volumes, same_due, same_operations, numbers_touch, scenario_nodes, nonlife_nodes, number_nodes, risk_nodes, stress_nodes, charge_nodes, requirement_nodes};
+ghost use Rattle.scr_touched.specs.SingleNumbers.{same_volumes, stress_cents, same_operations, numbers_touch, scenario_nodes, nonlife_nodes, number_nodes, risk_nodes, stress_nodes, charge_nodes, requirement_nodes};
 
-use crate::charges::{catastrophe_cents, interest_key, lapse_cents, risk_key, stress_cents};
+use scr_nodes::live::{has_stress, is_segment};
+use scr_nodes::single_numbers::{
+    catastrophe_cents, interest_key, lapse_cents, risk_key, stress_key,
+};
 use scr_nodes::words::{
     equity_parts, health_perils, interest_scenarios, lapse_scenarios, man_made_perils,
     natural_perils, nonlife_segments, nslt_segments,
@@ -32,7 +34,7 @@ pub(crate) fn numbers_touch(old: &Numbers, new: &Numbers, node: &Node) -> bool
             let key = risk_key(*risk);
             old.absorbed(key) != new.absorbed(key)
         }
-        Node::DefaultType2 => !are_due_same(old, new),
+        Node::DefaultType2 => !(old.due[0] == new.due[0] && old.due[1] == new.due[1]),
         Node::BioScenario(biometric, projection, Measure::Net) => {
             is_stress_touched(old, new, *biometric, *projection)
         }
@@ -49,12 +51,6 @@ pub(crate) fn numbers_touch(old: &Numbers, new: &Numbers, node: &Node) -> bool
     }
 }
 
-fn are_due_same(old: &Numbers, new: &Numbers) -> bool
-    ensures { result ≡ (same_due 0 old.now new.now && same_due 1 old.now new.now) }
-{
-    old.due[0] == new.due[0] && old.due[1] == new.due[1]
-}
-
 fn is_stress_touched(
     old: &Numbers,
     new: &Numbers,
@@ -67,13 +63,13 @@ fn is_stress_touched(
         && stress_cents(old, biometric, projection) != stress_cents(new, biometric, projection)
 }
 
-/// The stresses of a kind of obligations.
-fn has_stress(biometric: Biometric, projection: Projection) -> bool
-    ensures { result ≡ has_stress biometric projection }
+/// What is absorbed of a stress, in cents.
+fn stress_cents(numbers: &Numbers, biometric: Biometric, projection: Projection) -> u64
+    ensures { result ≡ stress_cents biometric projection numbers.now }
 {
-    match (biometric, projection) {
-        (_, Projection::Base) | (Biometric::Health, Projection::Catastrophe) => false,
-        _ => true,
+    match stress_key(biometric, projection) {
+        Some(key) => numbers.absorbed(key),
+        None => 0,
     }
 }
 
@@ -81,21 +77,6 @@ fn is_segment_touched(old: &Numbers, new: &Numbers, set: Set, number: u8) -> boo
     ensures { result ≡ numbers_touch old.now new.now (nodes.Segment set number) }
 {
     is_segment(set, number) && !are_volumes_same(old, new, set, number)
-}
-
-fn is_segment(set: Set, number: u8) -> bool
-    ensures { result ≡ is_segment set number }
-{
-    1 <= number && number <= segments(set)
-}
-
-fn segments(set: Set) -> u8
-    ensures { result ≡ segments set }
-{
-    match set {
-        Set::Nl => 12,
-        Set::Nslt => 4,
-    }
 }
 
 fn are_volumes_same(old: &Numbers, new: &Numbers, set: Set, number: u8) -> bool

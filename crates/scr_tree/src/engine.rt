@@ -143,11 +143,11 @@ impl Engine {
     }
 
     /// The figure of a node that the book has.
-    pub fn span(&self, node: &Node) -> Span
-        requires { is_live self.now.sheet node.now ≡ true }
-        ensures { ends result ≡ worked self.now.factors self.now.sheet node.now }
+    pub fn span(&self, node: Node) -> Span
+        requires { is_live self.now.sheet node ≡ true }
+        ensures { ends result ≡ worked self.now.factors self.now.sheet node }
     {
-        self.figure(node).span
+        self.figure(&node).span
     }
 
     /// The figure of a node rests on a choice that is open.

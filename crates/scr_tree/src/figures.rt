@@ -1,5 +1,5 @@
 //! The figures that are known.
-ghost use Rattle.std.specs.Prelude.{◌≡◌, ◌<◌, ℕ, [], Some, All, length, nat_eq, slice_get, OnOk, OnErr, if◌then◌else◌};
+ghost use Rattle.std.specs.Prelude.{◌≡◌, ◌<◌, ℕ, [], Some, All, length, nat_eq, slice_get, IfOk, OnOk, OnErr, if◌then◌else◌};
 ghost use Rattle.std.specs.Map.{lookup};
 ghost use Rattle.scr_rounds.specs.declared.ranks.Due.{Due};
 ghost use Rattle.scr_reach.specs.Dues.{numbers_of};
@@ -40,13 +40,12 @@ impl Model for Fresh {
 }
 
 impl Fresh {
-    /// No figure.
-    pub(crate) fn new(alloc: Global) -> Fresh
-        ensures { result ≡ [] }
+    /// No figure, and room for so many.
+    pub(crate) fn with_capacity(alloc: Global, count: usize) -> Result<Fresh, NoMemory>
+        ensures { IfOk result (λ fresh. fresh ≡ []) }
     {
-        Fresh {
-            map: IndexMap::new(alloc),
-        }
+        let map = IndexMap::with_capacity(alloc, count)?;
+        Ok(Fresh { map })
     }
 
     /// The figure of a place, if it is new.

@@ -46,8 +46,9 @@ pub(crate) fn reckon_all<R: Threads + Sync, G: Gate + Sync>(
     ensures { IfOk result (IsOpened factors.now book.now) }
 {
     let curves = curves(alloc, factors, book)?;
-    let mut places = Places::new(alloc);
-    let mut figures = Vec::new(alloc);
+    let count = expected(book);
+    let mut places = Places::with_capacity(alloc, count)?;
+    let mut figures = Vec::with_capacity(alloc, count)?;
     put_totals(alloc, book.sheet(), &mut places, &mut figures, gate)?;
     let dues = rest_dues(alloc, book.sheet(), &mut places, &mut figures)?;
     reckon_rest::<R, G, Brand>(
@@ -70,6 +71,24 @@ pub(crate) fn reckon_all<R: Threads + Sync, G: Gate + Sync>(
         figures,
         links,
     })
+}
+
+/// How many figures there is room for at first: those that a book has, or somewhat more. Of a security
+/// these are at most its total, two losses of a unit, two rates and a spread, and of a liability two
+/// rates, its present value and nine losses.
+fn expected(book: &Book) -> usize {
+    let sheet = book.sheet();
+    let mut count: usize = 200;
+    for (rows, each) in [
+        (sheet.funds.len(), 1),
+        (sheet.securities.len(), 6),
+        (sheet.liabilities.len(), 12),
+        (sheet.groups.len(), 3),
+        (sheet.curves.len(), 12),
+    ] {
+        count = count.saturating_add(rows.saturating_mul(each));
+    }
+    count
 }
 
 /// Reckons all that is due and writes it over the figures, with the losses of all groups found at

@@ -132,7 +132,7 @@ fn figures_of(
     requires { AllByRecursion (λ place. is_some (figure_at kept.now fresh.now place) ≡ true) places.now }
     ensures { IfOk result (λ list. map Some list.items ≡ map (figure_at kept.now fresh.now) places.now) }
 {
-    let mut list = Vec::new(alloc);
+    let mut list = Vec::with_capacity(alloc, places.len())?;
     for place in places {
         match fresh.or_kept(kept, *place) {
             Some(figure) => list.push(figure)?,

@@ -62,7 +62,7 @@ fn enter_each(
     ensures only { OnOk result ((place : ℕ) (node : Node) → slice_get places.new place ≡ Some node
         → (slice_get places.old place ≡ Some node) ⊎ Contains nodes.now node) }
 {
-    let mut numbers = Vec::new(alloc);
+    let mut numbers = Vec::with_capacity(alloc, nodes.len())?;
     for node in nodes {
         numbers.push(enter(places, figures, node)?)?;
     }
@@ -86,7 +86,7 @@ fn dues_at(
     ensures numbers { IfOk result (λ dues. numbers_of dues.items ≡ numbers.now) }
     ensures each { IfOk result (λ dues. AllByRecursion (IsDue sheet.now places.now) dues.items) }
 {
-    let mut dues = Vec::new(alloc);
+    let mut dues = Vec::with_capacity(alloc, nodes.len())?;
     for k in 0..nodes.len() {
         let sources = sources_with(alloc, sheet, members, &nodes[k])?;
         dues.push(Due {

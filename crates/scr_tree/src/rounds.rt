@@ -48,7 +48,7 @@ pub(crate) fn reckon_dues<R: Threads + Sync, G: Gate + Sync, L: Ledger>(
     ensures steps { OnOk result (workers ≡ 1 → steps.new ≡ steps.old + length dues.now) }
 {
     let ranks = by_rank(alloc, dues, levels(book))?;
-    let mut fresh = Fresh::new(alloc);
+    let mut fresh = Fresh::with_capacity(alloc, dues.len())?;
     for rank in &ranks {
         let figures = figures_in(
             rt, alloc, factors, book, curves, losses, places, kept, &fresh, dues, rank, workers,
@@ -135,7 +135,7 @@ fn figures_in_turn<G: Gate, L: Ledger>(
         (IsFor factors.now book.now places.now dues.now) rank.now figures.items) }
     ensures steps { OnOk result (steps.new ≡ steps.old + length rank.now) }
 {
-    let mut figures = Vec::new(alloc);
+    let mut figures = Vec::with_capacity(alloc, rank.len())?;
     for place in rank {
         let due = &dues[*place as usize];
         figures.push(figure_of(

@@ -1,5 +1,5 @@
 use Rattle.scr_num.proofs.Enclosing.{Encloses-plus, Encloses-minus}
-use Rattle.scr_agg.proofs.ExactAmounts.{Encloses-greater, Encloses-net_amount}
+use Rattle.scr_agg.proofs.ExactAmounts.{Encloses-greater, Encloses-net_exact}
 use Rattle.scr_agg.proofs.ChosenAmounts.{Encloses-counted}
 use Rattle.scr_agg.proofs.laws.exact_amounts.Goals as goal
 
@@ -13,7 +13,7 @@ pub returns-clause-greater : goal.returns-clause-greater
 returns-clause-greater c = Encloses-greater
 
 pub returns-clause-net : goal.returns-clause-net
-returns-clause-net c = Encloses-net_amount
+returns-clause-net c = Encloses-net_exact
 
 pub returns-clause-counted : goal.returns-clause-counted
 returns-clause-counted c = Encloses-counted

@@ -1,7 +1,7 @@
-use Rattle.std.proofs.Common.{◌≡◌, Some, None, sym, ap, ◌∙◌}
+use Rattle.std.proofs.Common.{sym, ap, ◌∙◌}
 use Rattle.std.specs.Option.{option_map_or}
 use Rattle.scr_sheet.specs.CashFlows.{years_of}
-use Rattle.scr_sheet.proofs.LastDays.{years_at, years-last, last-on_day}
+use Rattle.scr_dates.proofs.LastDays.{years_at, years-last, last-on_day}
 use Rattle.scr_book.proofs.ranges.years.Goals as goal
 
 pub maturity-requires-clause-pay_in : goal.maturity-requires-clause-pay_in

@@ -1,7 +1,8 @@
 -- The first field of a text, and what follows it.
 use Rattle.std.proofs.Common.{◌∷◌, ◌+◌, ◌∙◌, ap, sym, take}
 use Rattle.scr_csv.specs.Sources.{pieces}
-use Rattle.scr_csv.proofs.Cuts.{cut_at, cut_nowhere, all_left}
+use Rattle.scr_csv.proofs.Cuts.{cut_at, cut_nowhere}
+use Rattle.scr_spelling.proofs.FormLemmas.{all_left}
 use Rattle.scr_csv.proofs.source.first_field.Goals as goal
 
 pub returns-in-None : goal.returns-in-None

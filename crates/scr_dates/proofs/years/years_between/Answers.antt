@@ -8,7 +8,6 @@ pub returns : goal.returns
 returns c =
     let start : FitsSigned w16 c.args.start.year = omega (arith, signed_arith, c.args.start.year_in) in
     let end : FitsSigned w16 c.args.end.year = omega (arith, signed_arith, c.args.end.year_in) in
-    let size = rw (c.year.ensures, c.year-2.ensures, to_z-of_z w16 c.args.end.year, to_z-of_z w16 c.args.start.year) at
-    c.abs_diff.ensures in
+    let size = rw (to_z-of_z w16 c.args.end.year, to_z-of_z w16 c.args.start.year) at c.abs_diff.ensures in
     let same = unsigned_abs-same (c.args.end.year -ℤ c.args.start.year) (omega (arith, signed_arith)) in
     omega (arith, signed_arith, ap pos size ∙ same)

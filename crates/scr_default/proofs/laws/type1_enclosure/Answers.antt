@@ -1,5 +1,6 @@
 use Rattle.scr_num.specs.Rounding.{root_ends}
 use Rattle.scr_default.specs.Type1Ends.{is_possible}
+use Rattle.scr_default.specs.LossesEnds.{totals_in, squares_in}
 use Rattle.scr_default.specs.Variance.{variance_exact}
 use Rattle.scr_default.specs.VarianceEnds.{variance_ends}
 use Rattle.scr_default.proofs.Enclosed.{variance-encloses}
@@ -10,7 +11,7 @@ pub returns : goal.returns
 returns c = record {
   encloses = type1-encloses;
   over_losses = λ total totals squares. type1-encloses total (variance_ends totals squares)
-      (variance_exact totals squares) (variance-encloses totals squares);
+      (variance_exact (totals_in totals) (squares_in squares)) (variance-encloses totals squares);
   band = type1-bit;
   some_band = mask-positive;
   several = λ total variance. several (is_possible (root_ends variance) total);

@@ -5,7 +5,7 @@ use Rattle.scr_default.proofs.quotients.between.Goals as goal
 
 pub returns-clause-num : goal.returns-clause-num
 unfolding between_num
-returns-clause-num c = ap₂ (λ (p : ℕ) (q : ℕ). 4 * p * q) c.spread.ensures.value c.spread-2.ensures.value
+returns-clause-num c = ap₂ (λ (p : ℕ) (q : ℕ). 4 * p * q) c.dispersion.ensures.value c.dispersion-2.ensures.value
 
 pub returns-clause-den : goal.returns-clause-den
 unfolding between_den

@@ -4,7 +4,7 @@ use Rattle.scr_default.proofs.quotients.within.Goals as goal
 
 pub returns-clause-num : goal.returns-clause-num
 unfolding within_num
-returns-clause-num c = ap (λ (p : ℕ). 3 * p) c.spread.ensures.value
+returns-clause-num c = ap (λ (p : ℕ). 3 * p) c.dispersion.ensures.value
 
 pub returns-clause-den : goal.returns-clause-den
 unfolding within_den

@@ -4,7 +4,7 @@ use Rattle.scr_num.specs.Figure.{Frac}
 use Rattle.scr_num.specs.Amounts.{IsAmount}
 use Rattle.scr_num.proofs.Enclosing.{Encloses-span}
 use Rattle.scr_market.specs.declared.currency_risk.TheConstants.{MAX_CURRENCY}
-use Rattle.scr_market.specs.Currency.{currency_rise, currency_fall}
+use Rattle.scr_market.specs.Currency.{currency_rise_exact, currency_fall_exact}
 use Rattle.scr_market.specs.CurrencyEnds.{fine_ends, quarter_ends, currency_rise_ends, currency_fall_ends}
 use Rattle.scr_market.proofs.CurrencyLemmas.{rise-encloses, fall-encloses, rise-size, fall-size}
 use Rattle.scr_market.proofs.currency_risk.currency.Goals as goal
@@ -27,10 +27,10 @@ pub returns-clause-encloses : goal.returns-clause-encloses
 returns-clause-encloses c =
     let l = ends c.args.liabilities in
     λ p h. (
-      Encloses-span 1000 c.quarter.result (currency_rise_ends c.args.assets l) (Frac (currency_rise c.args.assets p))
+      Encloses-span 1000 c.quarter.result (currency_rise_ends c.args.assets l) (Frac (currency_rise_exact c.args.assets p))
           (rise c) (rise-encloses c.args.assets l p h),
       (
-        Encloses-span 1000 c.quarter-2.result (currency_fall_ends c.args.assets l) (Frac (currency_fall c.args.assets p))
+        Encloses-span 1000 c.quarter-2.result (currency_fall_ends c.args.assets l) (Frac (currency_fall_exact c.args.assets p))
             (fall c) (fall-encloses c.args.assets l p h),
         tt,
       ),

@@ -4,7 +4,7 @@ use Rattle.scr_num.specs.Rounding.{ends, max_ends}
 use Rattle.scr_curve.specs.DiscountEnds.{IsDiscount}
 use Rattle.scr_plan.specs.Discounts.{CurrencyDiscounts}
 use Rattle.scr_plan.specs.Kept.{rows_of, tables}
-use Rattle.scr_plan.specs.LifeRules.{valued_in}
+use Rattle.scr_plan.specs.Paid.{valued_in}
 use Rattle.scr_plan.proofs.CodeLemmas.{row-found, place-within, tables-are, along-table}
 use Rattle.scr_plan.proofs.LifeCode.{curve-there, flows-are, flows-small, excess-worked}
 use Rattle.scr_plan.proofs.life_rules.worth_more.Goals as goal

@@ -1,5 +1,6 @@
 use Rattle.std.proofs.Common.{sym, ap, ◌∙◌, rules, FitsSigned, w64}
 use Rattle.std.proofs.lemmas.Int.{to_z-of_z}
+use Rattle.std.specs.Option.{option_or}
 use Rattle.scr_sheet.specs.Faults.{fields_outside}
 use Rattle.scr_sheet.proofs.fields.outside_in_operational.Goals as goal
 
@@ -16,5 +17,6 @@ returns-in-Op c =
     let h8 : FitsSigned w64 op.en = search rules in
     let h9 : FitsSigned w64 op.pen = search rules in
     let h10 : FitsSigned w64 op.expul = search rules in
-    let told = simp to_z-of_z at c.outside_operational.ensures in
-    told ∙ sym (ap fields_outside op.is)
+    let amounts = simp to_z-of_z at c.outside_amounts.ensures in
+    let provisions = simp to_z-of_z at c.first_outside.ensures in
+    c.or.ensures ∙ (λ i. option_or (amounts i) (provisions i)) ∙ sym (ap fields_outside op.is)

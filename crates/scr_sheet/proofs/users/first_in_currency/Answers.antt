@@ -1,4 +1,4 @@
-use Rattle.std.proofs.Common.{ℕ, List, None, sym, ap, ◌∙◌, map, filter, fold}
+use Rattle.std.proofs.Common.{ℕ, List, None, sym, ap, ◌∙◌, map, filter, fold, rules}
 use Rattle.std.proofs.lemmas.List.Sums.{fold-append}
 use Rattle.scr_names.specs.Names.{same_name, earlier}
 use Rattle.scr_sheet.specs.BalanceSheet.{position_name, liability_name}
@@ -10,4 +10,6 @@ returns c =
     let sheet = c.args.sheet.now in
     let securities : List (List ℕ) = map position_name (filter (λ p. same_name currency p.security.currency) sheet.securities) in
     let liabilities : List (List ℕ) = map liability_name (filter (λ l. same_name currency l.currency) sheet.liabilities) in
-    c.liabilities_in_currency.ensures ∙ ap (λ first. fold earlier first liabilities) c.securities_in_currency-securities.ensures ∙ sym (fold-append earlier None securities liabilities)
+    c.earliest.ensures (λ l. same_name currency l.currency) (λ row told says. search rules)
+    ∙ ap (λ first. fold earlier first liabilities) (c.earliest-securities.ensures (λ p. same_name currency p.security.currency) (λ row told says. search rules))
+    ∙ sym (fold-append earlier None securities liabilities)

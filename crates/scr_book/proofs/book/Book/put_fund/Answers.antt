@@ -1,4 +1,4 @@
-use Rattle.std.proofs.Common.{◌≡◌, ℕ, ℤ, ◌+◌, ◌-◌, Bool, true, false, cond, List, [], length, map, sym, ap, subst, ◌∙◌, arith}
+use Rattle.std.proofs.Common.{refl, ◌≡◌, ℕ, ℤ, ◌+◌, ◌-◌, Bool, true, false, cond, List, [], length, map, sym, ap, subst, ◌∙◌, arith}
 use Rattle.std.specs.Option.{option_map_or}
 use Rattle.scr_funds.specs.Chains.{LeadsTo}
 use Rattle.scr_graph.specs.Graph.{Graph, entered_in, components_under, components_after, AreEntered}
@@ -16,7 +16,10 @@ use Rattle.scr_book.specs.declared.book.Book.TheInside.{Inside}
 use Rattle.scr_sheet.specs.declared.edit.Edit.{Edit}
 use Rattle.scr_sheet.specs.declared.edit.Edit.TheVariants as edits
 use Rattle.scr_book.proofs.Moved.{components_part, sums-fund}
-use Rattle.scr_book.proofs.Applied.{sums_now, kept-graph, kept-whole}
+use Rattle.scr_book.proofs.Applied.{sums_now, days_kept, kept-graph, kept-lost, kept-whole}
+use Rattle.scr_tally.specs.Users.{Moves, uses_each}
+use Rattle.scr_book.specs.ComponentCounts.{kept_components, AreHoldersOf}
+use Rattle.scr_book.proofs.ComponentCounts.{holders-fund}
 use Rattle.scr_book.proofs.Holders.{graph-entered, graph-fund, graph-undone, name_entered, components_entered, no_cycle_after}
 use Rattle.scr_book.proofs.book.Book.put_fund.Goals as goal
 
@@ -51,17 +54,17 @@ invariant_of-self-in_default c =
     let others : (x : List ℕ) → same_name x name ≡ false → components_under c.clear.new.self x ≡ components_under c.enter.new.self x =
     λ x e. cleared x false e ∙ (λ i. c.in_ok-put.ensures.ok i x) ∙ ap (λ (t : Bool). cond t (map (λ p. p.0) c.as_slice-2.result.now) (components_under c.enter.new.self x)) e in
     let undone = graph-undone sheet c.enter.new.self c.clear.new.self graph (λ x e. (λ i. c.clear.ensures.entered i x) ∙ (λ i. c.put.ensures.entered i x) ∙ e) name fresh (λ x e. cleared x true e) others in
-    subst (λ (rows : List Stake). IsKept (record c.self.inside { sheet = record c.self.inside.sheet { funds = rows }; graph = c.clear.new.self })) (sym c.in_default.ensures.err)
-    (kept-graph c.self.inside sheet c.self.view_is c.self.invariant c.clear.new.self (λ fresh. undone))
+    subst (λ (rows : List Stake). IsKept (record c.self.inside { sheet = record c.self.inside.sheet { funds = rows }; holders = c.lose.new.self; graph = c.clear.new.self })) (sym c.in_default.ensures.err)
+    (kept-lost (record c.self.inside { graph = c.clear.new.self }) c.lose.new.self c.lose.ensures (kept-graph c.self.inside sheet c.self.view_is c.self.invariant c.clear.new.self (λ fresh. undone)))
 
 kept : (c : goal.After-self-2-1) → let components : ℕ = c.self.inside.sums.components - c.component_count-old.result + length c.as_slice.result.now in
-    let new : Inside = record c.self.inside { sheet = record c.self.inside.sheet { funds = c.put-2.new.self }; graph = c.put.new.self; is_graph_due = false; sums = record c.self.inside.sums { components = components } } in
+    let new : Inside = record c.self.inside { sheet = record c.self.inside.sheet { funds = c.put-2.new.self }; holders = c.exchange_components.new.holders; graph = c.put.new.self; is_graph_due = false; sums = record c.self.inside.sums { components = components } } in
     IsKept new × (new.sheet ≡ applied (edits.Fund c.args.name.now c.args.components.now) c.args.self.now)
 kept c =
     let sheet = c.args.self.now in
     let name = c.args.name.now in
     let components : ℕ = c.self.inside.sums.components - c.component_count-old.result + length c.as_slice.result.now in
-    let new : Inside = record c.self.inside { sheet = record c.self.inside.sheet { funds = c.put-2.new.self }; graph = c.put.new.self; is_graph_due = false; sums = record c.self.inside.sums { components = components } } in
+    let new : Inside = record c.self.inside { sheet = record c.self.inside.sheet { funds = c.put-2.new.self }; holders = c.exchange_components.new.holders; graph = c.put.new.self; is_graph_due = false; sums = record c.self.inside.sums { components = components } } in
     let edit : Edit = edits.Fund name c.args.components.now in
     let rows : List (List ℕ × ℤ) → ℕ → List Stake = λ parts held. with_row stake_name (record { fund = record { name = name; components = parts }; held = held }) c.self.inside.sheet.funds in
     let held : c.fund_hold-held.result ≡ option_map_or (λ s. s.held) (row_of stake_name name c.self.inside.sheet.funds) 0 =
@@ -76,6 +79,11 @@ kept c =
     (ap (λ funds. record c.self.inside.sheet { funds = funds })
     (c.in-Ok.ensures.ok ∙ ap (λ parts. rows parts c.fund_hold-held.result) c.in_ok-components.ensures ∙ ap (rows c.args.components.now) held))
     (sums-fund name c.args.components.now sheet c.self.inside.sums components (sums_now c.self.inside sheet c.self.view_is c.self.invariant) sum)
+    (days_kept c.self.inside new sheet c.self.view_is c.self.invariant edit c.requires.formed c.requires.no_fault refl)
+    (holders-fund name c.args.components.now sheet c.renew.new.holders c.exchange_components.new.holders
+    (subst (λ (s : BalanceSheet). AreHoldersOf s.funds c.renew.new.holders) c.self.view_is c.renew.ensures)
+    (subst (λ (s : BalanceSheet). Moves (uses_each (kept_components name s.funds)) (uses_each c.args.components.now) c.renew.new.holders c.exchange_components.new.holders) c.self.view_is
+    (subst (λ (parts : List (List ℕ × ℤ)). Moves (uses_each (kept_components name c.self.inside.sheet.funds)) (uses_each parts) c.renew.new.holders c.exchange_components.new.holders) (c.as_slice-3.ensures ∙ c.in_ok-components.ensures) c.exchange_components.ensures)))
     (λ fresh. graph-fund sheet c.enter.new.self c.put.new.self graph (λ x e. (λ i. c.put.ensures.entered i x) ∙ e) name c.args.components.now own
     (c.in_ok-put.ensures.ok ∙ ap (λ (xs : List (List ℕ × ℤ)). components_after name xs c.enter.new.self) (c.as_slice-2.ensures ∙ c.in_ok-components.ensures)))
 

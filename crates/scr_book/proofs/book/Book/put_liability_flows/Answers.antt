@@ -10,8 +10,11 @@ use Rattle.scr_book.specs.Sums.{AreSumsOf, place_of}
 use Rattle.scr_book.specs.Kept.{IsKept}
 use Rattle.scr_book.specs.declared.book.Book.TheInside.{Inside}
 use Rattle.scr_sheet.specs.declared.edit.Edit.TheVariants as edits
-use Rattle.scr_book.proofs.Moved.{liability_part, liability_part-le, liability_flows-moved, liability_flows-most, liability_flows-carried, sums-liability_flows}
-use Rattle.scr_book.proofs.Applied.{changed-from, sums_now, kept-applied}
+use Rattle.scr_book.proofs.Moved.{liability_there, liability_part, liability_part-le, liability_flows-moved, liability_flows-most, liability_flows-carried, sums-liability_flows}
+use Rattle.scr_sheet.specs.Validity.{Valid}
+use Rattle.scr_tally.specs.Days.{IsDayOrNone}
+use Rattle.scr_book.proofs.LastDays.{has_room, on_day, flows-on_days, days-projected}
+use Rattle.scr_book.proofs.Applied.{changed-from, sums_now, days_now, kept-days}
 use Rattle.scr_book.proofs.book.Book.put_liability_flows.Goals as goal
 
 pub overflow_cast-new : goal.overflow_cast-new
@@ -31,10 +34,10 @@ exchange_liability_flows-requires-clause-fits c =
     let most = liability_flows-most c.args.name.now c.args.projection c.args.flows.now c.args.self.now c.requires.no_fault in
     omega (arith, c.total-new.ensures.sum, c.liability_total-old.ensures.value)
 
-kept : (c : goal.After-exchange_liability_flows) → let new : Inside = record c.self.inside { sheet = record c.self.inside.sheet { liabilities = c.change.new.self }; sums = c.exchange_liability_flows.new.self } in
+kept : (c : goal.After-exchange_liability_flows) → let new : Inside = record c.self.inside { sheet = record c.self.inside.sheet { liabilities = c.change.new.self }; days = c.add.new.self; sums = c.exchange_liability_flows.new.self } in
     IsKept new × (new.sheet ≡ applied (edits.LiabilityFlows c.args.name.now c.args.projection c.args.flows.now) c.args.self.now)
 kept c =
-    let new : Inside = record c.self.inside { sheet = record c.self.inside.sheet { liabilities = c.change.new.self }; sums = c.exchange_liability_flows.new.self } in
+    let new : Inside = record c.self.inside { sheet = record c.self.inside.sheet { liabilities = c.change.new.self }; days = c.add.new.self; sums = c.exchange_liability_flows.new.self } in
     let edit : Edit = edits.LiabilityFlows c.args.name.now c.args.projection c.args.flows.now in
     let change : List (Day × ℤ) → Liability → Liability = λ flows l. record l { flows = with_flows c.args.projection flows l.flows } in
     let written : c.change.new.self ≡ changed liability_name (change c.in_ok-projected.projected) c.args.name.now c.self.inside.sheet.liabilities =
@@ -43,13 +46,29 @@ kept c =
     let sum : n ≡ get_or c.self.inside.sums.liability_flows (place_of c.args.projection) 0 - liability_part c.args.projection c.args.name.now c.args.self.now + total c.args.flows.now =
     ap (λ m. get_or c.self.inside.sums.liability_flows (place_of c.args.projection) 0 - m + c.total-new.result) c.liability_total-old.ensures.value
     ∙ ap (λ m. get_or c.self.inside.sums.liability_flows (place_of c.args.projection) 0 - liability_part c.args.projection c.args.name.now c.args.self.now + m) c.total-new.ensures.sum in
-    kept-applied c.self.inside new c.args.self.now c.self.view_is c.self.invariant edit c.requires.formed c.requires.no_fault refl
+    kept-days c.self.inside new c.args.self.now c.self.view_is c.self.invariant edit c.requires.formed c.requires.no_fault refl
     (ap (λ rows. record c.self.inside.sheet { liabilities = rows }) (written ∙ ap (λ flows. changed liability_name (change flows) c.args.name.now c.self.inside.sheet.liabilities) c.in_ok-projected.ensures))
     (subst (AreSumsOf (applied edit c.args.self.now)) (sym c.exchange_liability_flows.ensures)
     (sums-liability_flows c.args.name.now c.args.projection c.args.flows.now c.args.self.now c.requires.no_fault c.self.inside.sums n (sums_now c.self.inside c.args.self.now c.self.view_is c.self.invariant) sum))
+    (let row = liability_there c.args.name.now c.args.projection c.args.flows.now c.args.self.now c.requires.no_fault in
+    days-projected c.args.name.now c.args.projection c.args.flows.now c.args.self.now row.0 row.1 c.self.inside.days c.take.new.self c.add.new.self c.last_projected-last.result c.last_day.result (days_now c.self.inside c.args.self.now c.self.view_is c.self.invariant)
+    c.last_projected-last.ensures.value c.last_day.ensures (c.take.ensures, c.add.ensures))
 
 pub invariant_of-self : goal.invariant_of-self
 invariant_of-self c = (kept c).0
 
 pub returns-clause-ok : goal.returns-clause-ok
 returns-clause-ok c = (kept c).1
+
+pub take-requires-clause-counted : goal.take-requires-clause-counted
+take-requires-clause-counted c day in_day =
+    let own = (days_now c.self.inside c.args.self.now c.self.view_is c.self.invariant).counted day in_day in
+    let part = c.last_projected-last.ensures.part day in
+    omega (arith, own, part)
+
+pub add-requires-clause-day : goal.add-requires-clause-day
+add-requires-clause-day c = subst IsDayOrNone (sym c.last_day.ensures) (on_day c.args.flows.now (flows-on_days c.args.flows.now c.requires.formed.1))
+
+pub add-requires-clause-fits : goal.add-requires-clause-fits
+add-requires-clause-fits c =
+    has_room c.args.self.now c.self.inside.days c.take.new.self c.last_projected-last.result c.last_day.result (subst Valid c.self.view_is c.self.invariant.valid) (days_now c.self.inside c.args.self.now c.self.view_is c.self.invariant) c.take.ensures

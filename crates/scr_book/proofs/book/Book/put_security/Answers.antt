@@ -14,7 +14,8 @@ use Rattle.scr_book.specs.Holders.{IsGraphOf}
 use Rattle.scr_book.specs.Kept.{IsKept}
 use Rattle.scr_book.specs.declared.book.Book.TheInside.{Inside}
 use Rattle.scr_book.proofs.Moved.{none_there}
-use Rattle.scr_book.proofs.Applied.{changed-from, replaced, graph_now, kept-graph, sums_kept, kept-whole}
+use Rattle.scr_book.proofs.Applied.{changed-from, replaced, days_kept, holders_now, graph_now, kept-graph, sums_kept, kept-whole}
+use Rattle.scr_book.proofs.ComponentCounts.{holders-stay}
 use Rattle.scr_book.proofs.Holders.{graph-entered, graph-security, row_entered, name_entered, others_entered}
 use Rattle.scr_book.proofs.book.Book.put_security.Goals as goal
 
@@ -41,6 +42,8 @@ kept-replaced c =
     kept-whole c.self.inside new c.args.self.now c.self.view_is c.self.invariant edit c.requires.formed c.requires.no_fault
     (ap (λ rows. record c.self.inside.sheet { securities = rows }) (written ∙ same))
     (sums_kept c.self.inside new c.args.self.now c.self.view_is c.self.invariant edit c.requires.formed c.requires.no_fault refl refl)
+    (days_kept c.self.inside new c.args.self.now c.self.view_is c.self.invariant edit c.requires.formed c.requires.no_fault refl)
+    (holders-stay edit c.args.self.now c.self.inside.holders refl (holders_now c.self.inside c.args.self.now c.self.view_is c.self.invariant))
     (λ fresh. let graph = graph_now c.self.inside c.args.self.now c.self.view_is c.self.invariant fresh in
     graph-security c.args.self.now c.self.inside.graph c.self.inside.graph graph (λ x e. e) _ (row_entered position_name c.self.inside.graph c.args.name.now c.args.self.now.securities has graph.securities) refl)
 
@@ -62,6 +65,8 @@ kept-made c =
     (c.in_ok-put.ensures.ok ∙ ap (λ d. with_row position_name (position d c.new-2.result 0) rows) amount ∙ ap (λ flows. with_row position_name (position (natural c.args.duration) flows 0) rows) promised
     ∙ ap (λ n. with_row position_name (position (natural c.args.duration) (kept_flows c.args.name.now rows) n) rows) held))
     (sums_kept c.self.inside new c.args.self.now c.self.view_is c.self.invariant edit c.requires.formed c.requires.no_fault refl refl)
+    (days_kept c.self.inside new c.args.self.now c.self.view_is c.self.invariant edit c.requires.formed c.requires.no_fault refl)
+    (holders-stay edit c.args.self.now c.self.inside.holders refl (holders_now c.self.inside c.args.self.now c.self.view_is c.self.invariant))
     (λ fresh. graph-security c.args.self.now c.self.inside.graph c.enter.new.self (graph_now c.self.inside c.args.self.now c.self.view_is c.self.invariant fresh) (others_entered c.args.name.now c.self.inside.graph c.enter.new.self entered) _
     (name_entered c.args.name.now c.self.inside.graph c.enter.new.self entered) c.enter.ensures.components)
 

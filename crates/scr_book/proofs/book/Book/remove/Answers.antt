@@ -17,13 +17,6 @@ kept-groups c =
     (sym (ap (λ (t : Table). fault_of (edits.Remove t c.args.name.now) c.args.self.now) c.in-Group.is) ∙ c.requires.no_fault) refl
     (ap (λ rows. record c.self.inside.sheet { groups = rows }) c.remove.ensures) refl
 
-kept-securities : (c : goal.After-remove-in-Security) → let new : Inside = record c.self-in-Security.inside { sheet = record c.self-in-Security.inside.sheet { securities = c.remove-in-Security.new.self } } in IsKept new × (new.sheet ≡ applied (edits.Remove tables.Security c.args.name.now) c.args.self.now)
-kept-securities c =
-    let new : Inside = record c.self-in-Security.inside { sheet = record c.self-in-Security.inside.sheet { securities = c.remove-in-Security.new.self } } in
-    kept-still c.self-in-Security.inside new c.args.self.now c.self-in-Security.view_is c.self-in-Security.invariant (edits.Remove tables.Security c.args.name.now) (subst (λ (t : Table). Formed (edits.Remove t c.args.name.now)) c.in-Security.is c.requires.formed)
-    (sym (ap (λ (t : Table). fault_of (edits.Remove t c.args.name.now) c.args.self.now) c.in-Security.is) ∙ c.requires.no_fault) refl
-    (ap (λ rows. record c.self-in-Security.inside.sheet { securities = rows }) c.remove-in-Security.ensures) refl
-
 kept-curves : (c : goal.After-remove-in-Curve) → let new : Inside = record c.self-in-Curve.inside { sheet = record c.self-in-Curve.inside.sheet { curves = c.remove-in-Curve.new.self } } in IsKept new × (new.sheet ≡ applied (edits.Remove tables.Curve c.args.name.now) c.args.self.now)
 kept-curves c =
     let new : Inside = record c.self-in-Curve.inside { sheet = record c.self-in-Curve.inside.sheet { curves = c.remove-in-Curve.new.self } } in
@@ -33,9 +26,6 @@ kept-curves c =
 
 pub invariant_of-self : goal.invariant_of-self
 invariant_of-self c = (kept-groups c).0
-
-pub invariant_of-self-in-Security : goal.invariant_of-self-in-Security
-invariant_of-self-in-Security c = (kept-securities c).0
 
 pub invariant_of-self-in-Curve : goal.invariant_of-self-in-Curve
 invariant_of-self-in-Curve c = (kept-curves c).0

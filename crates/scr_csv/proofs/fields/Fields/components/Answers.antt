@@ -3,8 +3,8 @@ use Rattle.std.proofs.Common.{w64, ◌≡◌, ◌≢◌, ◌++◌, ◌∷◌, []
 use Rattle.std.specs.Prelude.{is_ok, FitsSigned}
 use Rattle.std.proofs.lemmas.Int.{to_z-of_z}
 use Rattle.std.proofs.lemmas.Grind.{common_steps}
-use Rattle.scr_csv.specs.FieldForms.{name_of}
-use Rattle.scr_csv.specs.Numbers.{number_value}
+use Rattle.scr_spelling.specs.FieldForms.{name_of}
+use Rattle.scr_spelling.specs.Numbers.{number_value}
 use Rattle.scr_csv.specs.Reading.{pairs_from}
 use Rattle.scr_csv.proofs.ListSteps.{behind, behind_next, due_answers, all_push, next-shorter, pairs-next}
 use Rattle.scr_csv.proofs.ListSteps.{pairs-value_fault, pairs-number_fault}

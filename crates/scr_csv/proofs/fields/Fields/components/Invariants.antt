@@ -1,7 +1,7 @@
 -- The components so far, and those that follow.
 use Rattle.std.proofs.Common.{◌≡◌, length}
 use Rattle.scr_sheet.specs.Forms.{AreComponents}
-use Rattle.scr_csv.specs.FieldForms.{name_of}
+use Rattle.scr_spelling.specs.FieldForms.{name_of}
 use Rattle.scr_csv.specs.Reading.{pairs_from}
 use Rattle.scr_csv.proofs.ListSteps.{behind}
 use Rattle.scr_csv.proofs.fields.Fields.components.Given as goal

@@ -8,38 +8,38 @@ use Rattle.scr_links.proofs.links.Links.cut.Goals as goal
 
 pub index-requires : goal.index-requires
 index-requires c =
-    let stood = stands_at c.self.inside c.args.self.now c.id.inside.place c.args.id c.self.view_is c.id.view_is
+    let stood = stands_at c.self.inside c.args.self.now c.e.inside.place c.args.e c.self.view_is c.e.view_is
     c.requires in
-    let low = cut_in_pairs c.self.inside c.self.invariant c.id.inside.place stood in
+    let low = cut_in_pairs c.self.inside c.self.invariant c.e.inside.place stood in
     omega (arith, low, c.self.inside.tables.pairs.ok)
 
 pub remove-requires : goal.remove-requires
 remove-requires c =
-    let stood = stands_at c.self.inside c.args.self.now c.id.inside.place c.args.id c.self.view_is c.id.view_is
+    let stood = stands_at c.self.inside c.args.self.now c.e.inside.place c.args.e c.self.view_is c.e.view_is
     c.requires in
-    let low = cut_in_pairs c.self.inside c.self.invariant c.id.inside.place stood in
-    let pair = c.index.ensures ∙ get_or_default c.self.inside.tables.pairs.items c.id.inside.place c.index.result.now
+    let low = cut_in_pairs c.self.inside c.self.invariant c.e.inside.place stood in
+    let pair = c.index.ensures ∙ get_or_default c.self.inside.tables.pairs.items c.e.inside.place c.index.result.now
     (record { source = 0; dependant = 0 }) low in
-    cut_source_list c.self.inside c.self.invariant c.id.inside.place stood c.index.result.now pair
+    cut_source_list c.self.inside c.self.invariant c.e.inside.place stood c.index.result.now pair
 
 pub remove-requires-2 : goal.remove-requires-2
 remove-requires-2 c =
-    let stood = stands_at c.self.inside c.args.self.now c.id.inside.place c.args.id c.self.view_is c.id.view_is
+    let stood = stands_at c.self.inside c.args.self.now c.e.inside.place c.args.e c.self.view_is c.e.view_is
     c.requires in
-    let low = cut_in_pairs c.self.inside c.self.invariant c.id.inside.place stood in
-    let pair = c.index.ensures ∙ get_or_default c.self.inside.tables.pairs.items c.id.inside.place c.index.result.now
+    let low = cut_in_pairs c.self.inside c.self.invariant c.e.inside.place stood in
+    let pair = c.index.ensures ∙ get_or_default c.self.inside.tables.pairs.items c.e.inside.place c.index.result.now
     (record { source = 0; dependant = 0 }) low in
-    cut_dependant_list c.self.inside c.self.invariant c.id.inside.place stood c.index.result.now pair
+    cut_dependant_list c.self.inside c.self.invariant c.e.inside.place stood c.index.result.now pair
 
 pub remove-requires-3 : goal.remove-requires-3
 remove-requires-3 c =
-    stands_at c.self.inside c.args.self.now c.id.inside.place c.args.id c.self.view_is c.id.view_is c.requires
+    stands_at c.self.inside c.args.self.now c.e.inside.place c.args.e c.self.view_is c.e.view_is c.requires
 
 pub append-requires-clause-place : goal.append-requires-clause-place
 append-requires-clause-place c =
-    let stood = stands_at c.self.inside c.args.self.now c.id.inside.place c.args.id c.self.view_is c.id.view_is
+    let stood = stands_at c.self.inside c.args.self.now c.e.inside.place c.args.e c.self.view_is c.e.view_is
     c.requires in
-    let low = cut_low c.self.inside c.self.invariant c.id.inside.place stood in
+    let low = cut_low c.self.inside c.self.invariant c.e.inside.place stood in
     omega (arith, low, c.self.invariant.in_order, c.remove-3.ensures.places)
 
 abbrev after : goal.After-self-1 → Inside
@@ -57,23 +57,23 @@ after c = record {
 
 pub invariant_of-self : goal.invariant_of-self
 invariant_of-self c =
-    let stood = stands_at c.self.inside c.args.self.now c.id.inside.place c.args.id c.self.view_is c.id.view_is
+    let stood = stands_at c.self.inside c.args.self.now c.e.inside.place c.args.e c.self.view_is c.e.view_is
     c.requires in
-    let low = cut_in_pairs c.self.inside c.self.invariant c.id.inside.place stood in
-    let pair = c.index.ensures ∙ get_or_default c.self.inside.tables.pairs.items c.id.inside.place c.index.result.now
+    let low = cut_in_pairs c.self.inside c.self.invariant c.e.inside.place stood in
+    let pair = c.index.ensures ∙ get_or_default c.self.inside.tables.pairs.items c.e.inside.place c.index.result.now
     (record { source = 0; dependant = 0 }) low in
-    cut_kept c.self.inside c.self.invariant c.id.inside.place stood c.index.result.now pair _
+    cut_kept c.self.inside c.self.invariant c.e.inside.place stood c.index.result.now pair _
     (after c) c.remove-3.ensures refl
     c.append.ensures c.remove.ensures c.remove-2.ensures refl refl refl
 
 pub returns : goal.returns
 returns c =
-    let stood = stands_at c.self.inside c.args.self.now c.id.inside.place c.args.id c.self.view_is c.id.view_is
+    let stood = stands_at c.self.inside c.args.self.now c.e.inside.place c.args.e c.self.view_is c.e.view_is
     c.requires in
-    let low = cut_in_pairs c.self.inside c.self.invariant c.id.inside.place stood in
-    let pair = c.index.ensures ∙ get_or_default c.self.inside.tables.pairs.items c.id.inside.place c.index.result.now
+    let low = cut_in_pairs c.self.inside c.self.invariant c.e.inside.place stood in
+    let pair = c.index.ensures ∙ get_or_default c.self.inside.tables.pairs.items c.e.inside.place c.index.result.now
     (record { source = 0; dependant = 0 }) low in
-    cut_view c.self.inside c.self.invariant c.id.inside.place stood c.index.result.now pair _
+    cut_view c.self.inside c.self.invariant c.e.inside.place stood c.index.result.now pair _
     (after c) c.remove-3.ensures refl
-    c.append.ensures c.remove.ensures c.remove-2.ensures refl refl refl c.args.self.now c.args.id c.self.view_is
-    c.id.view_is
+    c.append.ensures c.remove.ensures c.remove-2.ensures refl refl refl c.args.self.now c.args.e c.self.view_is
+    c.e.view_is

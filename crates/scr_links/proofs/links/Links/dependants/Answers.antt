@@ -10,13 +10,13 @@ use Rattle.scr_links.proofs.links.Links.dependants.Goals as goal
 pub new-requires : goal.new-requires
 new-requires c =
     let P : List Pair → Type 0 = λ pairs. (place : ℕ)
-    → has place (list_of c.self.inside.tables.by_source c.args.number) ≡ true → place < length pairs in
+    → has place (list_of c.self.inside.tables.by_source c.args.n) ≡ true → place < length pairs in
     subst P (sym c.as_slice.ensures.value)
-    (source_paired c.self.inside c.self.invariant c.args.self.now c.self.view_is c.args.number)
+    (source_paired c.self.inside c.self.invariant c.args.self.now c.self.view_is c.args.n)
 
 pub returns : goal.returns
 returns c =
     c.new.ensures
     ∙ ap (λ (pairs : List Pair). map {B = ℕ × ℕ} (λ p. ((pair_at pairs p).dependant, p))
-    (list_of c.self.inside.tables.by_source c.args.number)) c.as_slice.ensures.value
-    ∙ dependants_shown c.self.inside c.self.invariant c.args.self.now c.self.view_is c.args.number
+    (list_of c.self.inside.tables.by_source c.args.n)) c.as_slice.ensures.value
+    ∙ dependants_shown c.self.inside c.self.invariant c.args.self.now c.self.view_is c.args.n

@@ -32,13 +32,13 @@ returns-clause-ok c =
     let wider : c.self.inside.size ≤ c.max-size.result = omega (arith, c.max-size.ensures) in
     let spare : ℕ = c.self.inside.spare + (c.in_ok-places.places - c.self.inside.places) in
     let counts : spare + c.self.inside.places ≡ c.self.inside.spare + c.in_ok-places.places = omega (arith, more) in
-    let is_spare : spare ≡ max c.args.self.now.spare c.args.spare =
-    (let same : spare ≡ max c.self.inside.spare c.args.spare = omega (arith, c.in_ok-places.ensures.count) in
-    same ∙ ap (λ (v : Linked). max v.spare c.args.spare) c.self.view_is) in
+    let is_spare : spare ≡ max c.args.self.now.spare c.args.n =
+    (let same : spare ≡ max c.self.inside.spare c.args.n = omega (arith, c.in_ok-places.ensures.count) in
+    same ∙ ap (λ (v : Linked). max v.spare c.args.n) c.self.view_is) in
     let is_size : c.max-size.result ≡ max c.args.self.now.size c.args.size =
     c.max-size.ensures ∙ ap (λ (v : Linked). max v.size c.args.size) c.self.view_is in
     reserved_view c.self.inside c.self.invariant c.grow.new.self c.grow.ensures.grown c.in_ok-places.places
     spare c.max-size.result c.in_ok-grow.ensures.ok c.in_ok-places.ensures.few c.free.new.order c.free.ensures
     more wider counts c.args.self.now c.self.view_is
     ∙ ap (λ (n : ℕ). linked c.args.self.now.edges n c.max-size.result) is_spare
-    ∙ ap (λ (n : ℕ). linked c.args.self.now.edges (max c.args.self.now.spare c.args.spare) n) is_size
+    ∙ ap (λ (n : ℕ). linked c.args.self.now.edges (max c.args.self.now.spare c.args.n) n) is_size

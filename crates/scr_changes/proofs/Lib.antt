@@ -1,0 +1,6 @@
+pub mod Exchanged
+pub mod Compared
+pub mod Covered
+pub mod LookedUp
+pub mod Given
+pub mod AsExchanged

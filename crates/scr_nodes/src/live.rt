@@ -1,0 +1,86 @@
+//! Whether a balance sheet has the rows, the stresses and the segments that figures stand for.
+ghost use Rattle.std.specs.Prelude.{◌≡◌};
+ghost use Rattle.scr_nodes.specs.Live.{pays, is_bond, is_stressed_liability, is_foreign_currency, is_segment};
+ghost use Rattle.scr_nodes.specs.Rows.{has_stress, is_stress};
+ghost use Rattle.scr_profile.specs.Segments.{segments};
+
+use crate::Biometric;
+use crate::rows::{has_class, has_flows, is_foreign, is_paying};
+use scr_profile::Set;
+use scr_sheet::{BalanceSheet, Class, Name, Projection};
+
+/// Whether there is a security of this name with payments, which a change of interest rates can
+/// make worth less (Article 165).
+pub fn pays(sheet: &BalanceSheet, security: &Name) -> bool
+    ensures { result ≡ pays sheet.now security.now }
+{
+    match sheet.securities.get(security) {
+        Some(position) => is_paying(position),
+        None => false,
+    }
+}
+
+/// Whether there is a security of this name that is a bond (Article 176).
+pub fn is_bond(sheet: &BalanceSheet, security: &Name) -> bool
+    ensures { result ≡ is_bond sheet.now security.now }
+{
+    match sheet.securities.get(security) {
+        Some(position) => has_class(Class::Bond, position),
+        None => false,
+    }
+}
+
+/// Whether the projection is a stress, and there is a liability of this name with payments under
+/// it.
+pub fn is_stressed_liability(sheet: &BalanceSheet, liability: &Name, projection: Projection) -> bool
+    ensures { result ≡ is_stressed_liability sheet.now liability.now projection }
+{
+    match sheet.liabilities.get(liability) {
+        Some(liability) => is_stress(projection) && has_flows(projection, liability),
+        None => false,
+    }
+}
+
+/// Whether the currency has a curve and is not the reporting one (Article 188(1)).
+pub fn is_foreign_currency(sheet: &BalanceSheet, currency: &Name) -> bool
+    ensures { result ≡ is_foreign_currency sheet.now currency.now }
+{
+    match sheet.curves.get(currency) {
+        Some(curve) => is_foreign(sheet, curve),
+        None => false,
+    }
+}
+
+/// Whether the projection is a stress, and not the best estimate.
+pub fn is_stress(projection: Projection) -> bool
+    ensures { result ≡ is_stress projection }
+{
+    !matches!(projection, Projection::Base)
+}
+
+/// Whether the obligations have the stress (Articles 137 to 143 and 152 to 159).
+pub fn has_stress(biometric: Biometric, projection: Projection) -> bool
+    ensures { result ≡ has_stress biometric projection }
+{
+    match (biometric, projection) {
+        (_, Projection::Base) | (Biometric::Health, Projection::Catastrophe) => false,
+        _ => true,
+    }
+}
+
+/// Whether the set has a segment of this number, from 1 on (Annexes II and XIV).
+pub fn is_segment(set: Set, number: u8) -> bool
+    ensures { result ≡ is_segment set number }
+{
+    1 <= number && number <= segments(set)
+}
+
+/// How many segments the set has.
+fn segments(set: Set) -> u8
+    ensures { result ≡ segments set }
+{
+    match set {
+        Set::Nl => 12,
+        Set::Nslt => 4,
+    }
+}

@@ -1,0 +1,9 @@
+pub mod Decimals
+pub mod FormLemmas
+pub mod PlainTexts
+pub mod Spelled
+pub mod AbsorbKeys
+pub mod WrittenNumbers
+pub mod Days
+pub mod WrittenDays
+pub mod WrittenForms

@@ -1,0 +1,4 @@
+pub mod Counts
+pub mod Days
+pub mod Kept
+pub mod Users

@@ -1,0 +1,91 @@
+//! Counts by place, of which the last that is not 0 is known.
+ghost use Rattle.std.specs.Prelude.{◌≡◌, ℕ, ◌+◌, ◌-◌, ◌<◌, ◌≤◌, ◌^◌, length, replicate, slice_set, IfOk};
+ghost use Rattle.scr_tally.specs.Counts.{count_at, IsLastPlace};
+
+use std::alloc::{AllocError as NoMemory, Global};
+use std::marker::Model;
+
+/// Counts by place. Contracts see the list of the counts.
+#[derive(Drop)]
+pub(crate) struct Counts {
+    counts: Vec<u32>,
+    /// The last place whose count is not 0.
+    last: Option<usize>,
+}
+
+impl Model for Counts {
+    ghost use Rattle.std.specs.Prelude.{ℕ, List};
+    ghost use Rattle.scr_tally.specs.Counts.{IsLastPlace};
+
+    ghost Value = { List ℕ };
+
+    ghost view = { λ counts. counts.counts.items };
+
+    ghost invariant = { λ counts. IsLastPlace counts.counts.items counts.last };
+}
+
+impl Counts {
+    /// So many places, each with the count 0.
+    pub(crate) fn new(alloc: Global, places: usize) -> Result<Counts, NoMemory>
+        ensures { IfOk result (λ counts. counts ≡ replicate places 0) }
+    {
+        let counts = vec![in alloc; 0; places]?;
+        Ok(Counts { counts, last: None })
+    }
+
+    /// One more at a place.
+    pub(crate) fn add(&mut self, place: usize)
+        requires place { place < length self.old }
+        requires fits { count_at self.old place + 1 < 2 ^ 32 }
+        ensures { self.new ≡ slice_set self.old place (count_at self.old place + 1) }
+    {
+        self.counts[place] += 1;
+        self.last = match self.last {
+            Some(last) => Some(last.max(place)),
+            None => Some(place),
+        };
+    }
+
+    /// One less at a place.
+    pub(crate) fn take(&mut self, place: usize)
+        requires place { place < length self.old }
+        requires some { 1 ≤ count_at self.old place }
+        ensures { self.new ≡ slice_set self.old place (count_at self.old place - 1) }
+    {
+        self.counts[place] -= 1;
+        let end = match self.last {
+            Some(last) => last + 1,
+            None => 0,
+        };
+        self.last = last_below(&self.counts, end);
+    }
+
+    /// Each count is 0 again.
+    pub(crate) fn clear(&mut self)
+        ensures { self.new ≡ replicate (length self.old) 0 }
+    {
+        self.counts.fill(0);
+        self.last = None;
+    }
+
+    /// The last place whose count is not 0.
+    pub(crate) fn last(&self) -> Option<usize>
+        ensures { IsLastPlace self.now result }
+    {
+        self.last
+    }
+}
+
+/// The last place whose count is not 0, where those from `end` on are 0.
+fn last_below(counts: &[u32], end: usize) -> Option<usize>
+    requires within { end ≤ length counts.now }
+    requires none { (place : ℕ) → end ≤ place → count_at counts.now place ≡ 0 }
+    ensures { IsLastPlace counts.now result }
+{
+    for place in (0..end).rev() {
+        if counts[place] != 0 {
+            return Some(place);
+        }
+    }
+    None
+}

@@ -1,0 +1,135 @@
+//! How many rows use each name.
+ghost use Rattle.std.specs.Prelude.{◌≡◌, ◌↔◌, ℕ, true};
+ghost use Rattle.scr_tally.specs.Users.{users_under, uses, uses_each, nothing, IsFresh, Moves, IsWritten, IsUnused};
+
+use scr_names::{Name, Row, Rows};
+use std::alloc::{AllocError as NoMemory, Global};
+use std::marker::Model;
+
+/// A name, and how many rows use it.
+#[derive(Drop)]
+pub(crate) struct Used {
+    name: Name,
+    users: u32,
+}
+
+impl Row for Used {
+    ghost use Rattle.scr_tally.specs.Users.{used_name};
+
+    ghost name_of = { used_name };
+
+    fn name(&self) -> Name {
+        self.name
+    }
+}
+
+/// How many rows use each name. A name that came stays. Where memory is refused the tally is lost: nothing is known of it until
+/// the rows are counted anew. Contracts see whether it is lost, and each name with its number of users.
+#[derive(Drop)]
+pub struct NameTally {
+    used: Rows<Used>,
+    is_lost: bool,
+}
+
+impl Model for NameTally {
+    ghost use Rattle.scr_tally.specs.Users.{Tallied};
+
+    ghost Value = { Tallied };
+
+    ghost view = { λ tally. record { used = tally.used; is_lost = tally.is_lost } };
+}
+
+impl NameTally {
+    /// No row was counted.
+    pub fn new(alloc: Global) -> NameTally
+        ensures { IsFresh result }
+    {
+        NameTally {
+            used: Rows::new(alloc),
+            is_lost: false,
+        }
+    }
+
+    /// Counts a row that uses each of these names.
+    pub fn add_each(&mut self, names: &[(Name, i64)])
+        ensures { Moves nothing (uses_each names.now) self.old self.new }
+    {
+        for (name, _) in names {
+            self.add(*name);
+        }
+    }
+
+    /// Takes away a row that uses each of these names.
+    pub fn take_each(&mut self, names: &[(Name, i64)])
+        ensures { Moves (uses_each names.now) nothing self.old self.new }
+    {
+        for (name, _) in names {
+            self.take(*name);
+        }
+    }
+
+    /// The tally is not lost, and no row uses the name.
+    pub fn is_unused(&self, name: &Name) -> bool
+        ensures { result ≡ true → IsUnused name.now self.now }
+    {
+        !self.is_lost && self.users(name) == 0
+    }
+
+    /// The tally is lost.
+    pub fn is_lost(&self) -> bool
+        ensures { result ≡ self.now.is_lost }
+    {
+        self.is_lost
+    }
+
+    /// From now on nothing is known of the tally.
+    pub fn lose(&mut self)
+        ensures { self.new.is_lost ≡ true }
+    {
+        self.is_lost = true;
+    }
+
+    // Counts a row that uses this name.
+    fn add(&mut self, name: Name)
+        ensures { Moves nothing (uses name) self.old self.new }
+    {
+        let count = self.users(&name);
+        if count == u32::MAX {
+            self.is_lost = true;
+            return;
+        }
+        self.write(name, count + 1);
+    }
+
+    // Takes away a row that uses this name.
+    fn take(&mut self, name: Name)
+        ensures { Moves (uses name) nothing self.old self.new }
+    {
+        let count = self.users(&name);
+        if count == 0 {
+            self.is_lost = true;
+            return;
+        }
+        self.write(name, count - 1);
+    }
+
+    // How many rows use this name.
+    fn users(&self, name: &Name) -> u32
+        ensures { result ≡ users_under name.now self.now }
+    {
+        match self.used.get(name) {
+            Some(used) => used.users,
+            None => 0,
+        }
+    }
+
+    // Writes how many rows use a name, or loses the tally.
+    fn write(&mut self, name: Name, users: u32)
+        ensures { IsWritten name users self.old self.new }
+    {
+        match self.used.put(Used { name, users }) {
+            Ok(()) => (),
+            Err(NoMemory) => self.is_lost = true,
+        }
+    }
+}
