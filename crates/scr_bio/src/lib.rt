@@ -8,6 +8,3 @@ mod uncorrelated;
 
 pub use health_risks::{health, health_cat, nslt, slt};
 pub use life_risks::{life, loss};
-
-#[cfg(test)]
-mod tests;

@@ -110,10 +110,6 @@ module _ (now : Graph) (stake : Stake) (rest funds : List Stake) (so_far : HaveP
           (λ e. ap (λ b. cond b (map (λ c. c.0) stake.fund.components) (components_under now x)) e
           ∙ so_far.done x (ap is_some (row_of-later stake_name x stake rest e) ∙ fresh))
 
--- all are done
-pub put-all : (now : Graph) (funds : List Stake) → HavePut now [] funds → components_under now ≡ components_of funds
-put-all now funds so_far = λ i x. so_far.done x refl i
-
 -- ---- the graph of a sheet
 
 pub sheet_funds_apart : (sheet : BalanceSheet) → Valid sheet → IsDistinct same_name (map stake_name sheet.funds)

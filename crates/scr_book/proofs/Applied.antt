@@ -21,14 +21,11 @@ use Rattle.scr_book.proofs.Moved.{row_there, moves_a_sum, sums-same}
 use Rattle.scr_book.specs.Kept.{IsKept}
 use Rattle.scr_book.specs.Holders.{IsGraphOf}
 use Rattle.scr_book.specs.LastDays.{AreDaysOf}
-use Rattle.scr_book.specs.ComponentCounts.{AreHoldersOf}
-use Rattle.scr_tally.specs.Users.{Tallied}
-use Rattle.scr_book.proofs.ComponentCounts.{holders-stay, holders-lost, graph-components}
 use Rattle.scr_book.proofs.LastDays.{moves_days, days-same}
 use Rattle.scr_graph.specs.Graph.{Graph}
 use Rattle.scr_book.proofs.Holders.{is_of_graph, graph-same}
 use Rattle.scr_book.specs.Sums.{AreSumsOf}
-use Rattle.scr_book.specs.declared.book.Book.TheInside.{Inside}
+use Rattle.scr_book.specs.declared.ledger.Ledger.TheInside.{Inside}
 
 -- a row written in its place is the row changed
 pub changed-from : {Row : Type 0} (name_of : Row → List ℕ) (change : Row → Row) (Q : Row → Row → Type 0) (name : List ℕ) (rows after : List Row) → ((old new : Row) → Q old new → new ≡ change old)
@@ -55,21 +52,13 @@ sums_now book now view kept = subst (λ sheet. AreSumsOf sheet book.sums) view k
 pub days_now : (book : Inside) (now : BalanceSheet) → book.sheet ≡ now → IsKept book → AreDaysOf now book.days
 days_now book now view kept = subst (λ sheet. AreDaysOf sheet book.days) view kept.days
 
--- and its components
-pub holders_now : (book : Inside) (now : BalanceSheet) → book.sheet ≡ now → IsKept book → AreHoldersOf now.funds book.holders
-holders_now book now view kept = subst (λ (sheet : BalanceSheet). AreHoldersOf sheet.funds book.holders) view kept.holders
-
 -- and so is its graph, where it is not due
 pub graph_now : (book : Inside) (now : BalanceSheet) → book.sheet ≡ now → IsKept book → book.is_graph_due ≡ false → IsGraphOf now book.graph
 graph_now book now view kept fresh = subst (λ sheet. IsGraphOf sheet book.graph) view (kept.graph fresh)
 
 -- a book whose sheet has another graph
 pub kept-graph : (book : Inside) (now : BalanceSheet) → book.sheet ≡ now → IsKept book → (graph : Graph) → (book.is_graph_due ≡ false → IsGraphOf now graph) → IsKept (record book { graph = graph })
-kept-graph book now view kept graph is = record { valid = kept.valid; sums = kept.sums; days = kept.days; holders = kept.holders; graph = λ fresh. subst (λ sheet. IsGraphOf sheet graph) (sym view) (is fresh) }
-
--- a book whose tally of components was lost
-pub kept-lost : (book : Inside) (holders : Tallied) → holders.is_lost ≡ true → IsKept book → IsKept (record book { holders = holders })
-kept-lost book holders lost kept = record { valid = kept.valid; sums = kept.sums; days = kept.days; holders = holders-lost book.sheet.funds holders lost; graph = kept.graph }
+kept-graph book now view kept graph is = record { valid = kept.valid; sums = kept.sums; days = kept.days; graph = λ fresh. subst (λ sheet. IsGraphOf sheet graph) (sym view) (is fresh) }
 
 -- the records that move neither a sum nor the graph nor the counts of last days
 abbrev pub moves_beside : Edit → Bool
@@ -77,14 +66,13 @@ moves_beside edit = moves_a_sum edit || (is_of_graph edit || moves_days edit)
 
 module _ (old new : Inside) (now : BalanceSheet) (view : old.sheet ≡ now) (kept : IsKept old) (edit : Edit) (formed : Formed edit) (none : fault_of edit now ≡ None) where
   -- the tables and numbers are as the record leaves them, and so are each sum, the counts of last days and the graph
-  pub kept-whole : new.sheet ≡ applied edit old.sheet → AreSumsOf (applied edit now) new.sums → AreDaysOf (applied edit now) new.days → AreHoldersOf (applied edit now).funds new.holders → (new.is_graph_due ≡ false → IsGraphOf (applied edit now) new.graph) → IsKept new × (new.sheet ≡ applied edit now)
-  kept-whole rows sums days holders graph =
+  pub kept-whole : new.sheet ≡ applied edit old.sheet → AreSumsOf (applied edit now) new.sums → AreDaysOf (applied edit now) new.days → (new.is_graph_due ≡ false → IsGraphOf (applied edit now) new.graph) → IsKept new × (new.sheet ≡ applied edit now)
+  kept-whole rows sums days graph =
       let is : new.sheet ≡ applied edit now = rows ∙ ap (applied edit) view in (
         record {
           valid = subst Valid (sym is) (Valid-applied edit now formed (subst Valid view kept.valid) none);
           sums = subst (λ sheet. AreSumsOf sheet new.sums) (sym is) sums;
           days = subst (λ sheet. AreDaysOf sheet new.days) (sym is) days;
-          holders = subst (λ (sheet : BalanceSheet). AreHoldersOf sheet.funds new.holders) (sym is) holders;
           graph = λ fresh. subst (λ sheet. IsGraphOf sheet new.graph) (sym is) (graph fresh);
         },
         is,
@@ -101,14 +89,13 @@ module _ (old new : Inside) (now : BalanceSheet) (view : old.sheet ≡ now) (kep
 
   -- where the record leaves the graph
   pub kept-days : is_of_graph edit ≡ false → new.sheet ≡ applied edit old.sheet → AreSumsOf (applied edit now) new.sums → AreDaysOf (applied edit now) new.days
-      → let same : Inside = record new { holders = old.holders; graph = old.graph; is_graph_due = old.is_graph_due } in IsKept same × (same.sheet ≡ applied edit now)
+      → let same : Inside = record new { graph = old.graph; is_graph_due = old.is_graph_due } in IsKept same × (same.sheet ≡ applied edit now)
   kept-days apart rows sums days =
       let is : new.sheet ≡ applied edit now = rows ∙ ap (applied edit) view in (
         record {
           valid = subst Valid (sym is) (Valid-applied edit now formed (subst Valid view kept.valid) none);
           sums = subst (λ sheet. AreSumsOf sheet new.sums) (sym is) sums;
           days = subst (λ sheet. AreDaysOf sheet new.days) (sym is) days;
-          holders = subst (λ (sheet : BalanceSheet). AreHoldersOf sheet.funds old.holders) (sym is) (holders-stay edit now old.holders (graph-components edit apart) (holders_now old now view kept));
           graph = λ fresh. subst (λ sheet. IsGraphOf sheet old.graph) (sym is) (graph-same edit now old.graph (graph_now old now view kept fresh) apart);
         },
         is,
@@ -117,14 +104,14 @@ module _ (old new : Inside) (now : BalanceSheet) (view : old.sheet ≡ now) (kep
 -- where the record leaves the graph and the counts of last days
 module _ (old new : Inside) (now : BalanceSheet) (view : old.sheet ≡ now) (kept : IsKept old) (edit : Edit) (formed : Formed edit) (none : fault_of edit now ≡ None) where
   pub kept-applied : (is_of_graph edit || moves_days edit) ≡ false → new.sheet ≡ applied edit old.sheet → AreSumsOf (applied edit now) new.sums
-      → let same : Inside = record new { days = old.days; holders = old.holders; graph = old.graph; is_graph_due = old.is_graph_due } in IsKept same × (same.sheet ≡ applied edit now)
+      → let same : Inside = record new { days = old.days; graph = old.graph; is_graph_due = old.is_graph_due } in IsKept same × (same.sheet ≡ applied edit now)
   kept-applied apart rows sums =
       let both = or_false (is_of_graph edit) (moves_days edit) apart in
       kept-days old (record new { days = old.days }) now view kept edit formed none both.0 rows sums (days_kept old new now view kept edit formed none both.1)
 
   -- where the record moves no sum either
   pub kept-still : moves_beside edit ≡ false → new.sheet ≡ applied edit old.sheet → new.sums ≡ old.sums
-      → let same : Inside = record new { days = old.days; holders = old.holders; graph = old.graph; is_graph_due = old.is_graph_due } in IsKept same × (same.sheet ≡ applied edit now)
+      → let same : Inside = record new { days = old.days; graph = old.graph; is_graph_due = old.is_graph_due } in IsKept same × (same.sheet ≡ applied edit now)
   kept-still still rows sums =
       let apart = or_false (moves_a_sum edit) (is_of_graph edit || moves_days edit) still in
       kept-applied apart.1 rows (sums_kept old new now view kept edit formed none apart.0 sums)

@@ -4,6 +4,6 @@ pub mod Moved
 pub mod LastDays
 pub mod LastYears
 pub mod Holders
-pub mod ComponentCounts
+pub mod Tallies
 pub mod Applied
 pub mod Anew

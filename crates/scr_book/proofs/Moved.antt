@@ -251,10 +251,6 @@ module _ (liability : List ℕ) (projection : Projection) (flows : List (Day × 
         components = components_stay edit sheet sums are refl;
       }
 
--- a liability that a record drops is there
-pub dropped_liability : (liability : List ℕ) (sheet : BalanceSheet) → fault_of (edits.Remove tables.Liability liability) sheet ≡ None → (l : Liability) × (row_of liability_name liability sheet.liabilities ≡ Some l)
-dropped_liability liability sheet none = let p = passes (edits.Remove tables.Liability liability) sheet none in row_there liability_name liability sheet.liabilities (right_table tables.Liability liability sheet p.known p.kind)
-
 module _ (liability : List ℕ) (sheet : BalanceSheet) (l : Liability) (is : row_of liability_name liability sheet.liabilities ≡ Some l) where
   liability_flows-left : (projection : Projection) → liability_flows_total projection (applied (edits.Remove tables.Liability liability) sheet) ≡ liability_flows_total projection sheet - liability_total projection l
   liability_flows-left projection =

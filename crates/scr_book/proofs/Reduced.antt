@@ -31,9 +31,9 @@ first_by_is sheet fault edit own is first = subst (IsFirst sheet fault) (sym is)
 rows_with-is : {Row : Type 0} (name_of : Row → List ℕ) (name : List ℕ) (rows : List Row) → rows_with name_of name rows ≡ length rows + added (row_of name_of name rows)
 rows_with-is name_of name rows = added-is (row_of name_of name rows) (length rows)
 
-pub above-with : {Row : Type 0} (quantity : Quantity) (limit : ℕ) (name_of : Row → List ℕ) (name : List ℕ) (rows : List Row)
-    → above quantity (rows_with name_of name rows) limit ≡ above quantity (length rows + added (row_of name_of name rows)) limit
-above-with quantity limit name_of name rows = ap (λ (n : ℕ). above quantity n limit) (rows_with-is name_of name rows)
+pub above-with : {Row : Type 0} (quantity : Quantity) (limit : ℕ) (name_of : Row → List ℕ) (name : List ℕ) (rows own : List Row) → rows ≡ own
+    → above quantity (rows_with name_of name rows) limit ≡ above quantity (length own + added (row_of name_of name own)) limit
+above-with quantity limit name_of name rows own is = ap (λ rs. above quantity (rows_with name_of name rs) limit) is ∙ ap (λ (n : ℕ). above quantity n limit) (rows_with-is name_of name own)
 
 -- ---- exposures
 

@@ -4,5 +4,5 @@ pub mod Kept
 pub mod Verbs
 pub mod Holders
 pub mod LastDays
-pub mod ComponentCounts
+pub mod Users
 pub mod Undone

@@ -1,7 +1,7 @@
 //! The book as it is kept.
-ghost use Rattle.std.specs.Prelude.{◌≡◌, ◌<◌, ◌↔◌, length, map, slice_get, Some, IsNone, IfOk, OnOk, OnErr, IfSome, IsTrue, false};
+ghost use Rattle.std.specs.Prelude.{◌≡◌, ◌<◌, ◌↔◌, None, length, map, slice_get, Some, IsNone, IfOk, OnOk, OnErr, IfSome, IsTrue, false};
 ghost use Rattle.std.specs.Option.{option_map};
-ghost use Rattle.scr_sheet.specs.BalanceSheet.{opening, is_named, held_of, held_total, liability_flows_total, volumes_total, defaults_total, components_total};
+ghost use Rattle.scr_sheet.specs.BalanceSheet.{opening, is_named, held_of};
 ghost use Rattle.scr_sheet.specs.Records.{applied};
 ghost use Rattle.scr_sheet.specs.Faults.{fault_of, Answers};
 ghost use Rattle.scr_sheet.specs.Forms.{Formed};
@@ -9,29 +9,21 @@ ghost use Rattle.scr_sheet.specs.Validity.{Valid};
 ghost use Rattle.scr_book.specs.Places.{names_in, shares_names};
 
 use crate::checks::check;
-use crate::sums::{Sums, place_of};
+use crate::ledger::Ledger;
+use crate::users::Users;
 use crate::{
-    BalanceSheet, Bank, Curve, Edit, Fault, Fund, Group, Liability, Name, Numbers, Projection,
-    Rein, Security, Table,
+    BalanceSheet, Bank, Curve, Edit, Fault, Fund, Group, Liability, Name, Numbers, Rein, Security,
+    Table,
 };
-use scr_graph::FundGraph;
-use scr_profile::Set;
-use scr_tally::{DayTally, NameTally};
 use std::alloc::{AllocError as NoMemory, Global};
 use std::marker::Model;
 
 /// An insurer's balance sheet. Contracts see it as the lists of its rows and its numbers, which are valid at all times.
 #[derive(Drop)]
 pub struct Book {
-    pub(crate) sheet: BalanceSheet,
-    pub(crate) sums: Sums,
-    /// The last days of all lists of payments.
-    pub(crate) days: DayTally,
-    /// How often each name is a component of a fund.
-    pub(crate) holders: NameTally,
-    pub(crate) graph: FundGraph,
-    /// The graph is another's, and has to be made anew before it is used.
-    pub(crate) is_graph_due: bool,
+    pub(crate) ledger: Ledger,
+    /// How often each name is used.
+    pub(crate) users: Users,
 }
 
 impl Model for Book {
@@ -39,11 +31,11 @@ impl Model for Book {
 
     ghost Value = { BalanceSheet };
 
-    ghost use Rattle.scr_book.specs.Kept.{IsKept};
+    ghost use Rattle.scr_book.specs.Users.{AreUsersOf};
 
-    ghost view = { λ book. book.sheet };
+    ghost view = { λ book. book.ledger };
 
-    ghost invariant = { IsKept };
+    ghost invariant = { λ book. AreUsersOf book.ledger book.users };
 }
 
 impl Book {
@@ -51,22 +43,9 @@ impl Book {
     pub fn new(alloc: Global) -> Result<Book, NoMemory>
         ensures { IfOk result (λ book. book ≡ opening) }
     {
-        let graph = FundGraph::new(alloc)?;
-        let days = DayTally::new(alloc)?;
         Ok(Book {
-            sheet: BalanceSheet::opening(alloc)?,
-            sums: Sums {
-                held: 0,
-                liability_flows: [0; 10],
-                nl: 0,
-                nslt: 0,
-                defaults: 0,
-                components: 0,
-            },
-            days,
-            holders: NameTally::new(alloc),
-            graph,
-            is_graph_due: false,
+            ledger: Ledger::new(alloc)?,
+            users: Users::uncounted(alloc),
         })
     }
 
@@ -86,12 +65,29 @@ impl Book {
         }
     }
 
+    // Applies a record that has no fault. Where memory is refused the book is as before, and its tally is lost.
+    pub(crate) fn put(&mut self, alloc: Global, edit: &Edit) -> Result<(), NoMemory>
+        requires formed { Formed edit.now }
+        requires no_fault { fault_of edit.now self.old ≡ None }
+        ensures ok { OnOk result (self.new ≡ applied edit.now self.old) }
+        ensures err { OnErr result (self.new ≡ self.old) }
+    {
+        self.users.exchange(alloc, self.ledger.sheet(), edit);
+        match self.ledger.put(alloc, edit) {
+            Ok(()) => Ok(()),
+            Err(NoMemory) => {
+                self.users.lose();
+                Err(NoMemory)
+            }
+        }
+    }
+
     /// The number of groups.
     pub fn groups(&self) -> u32
         ensures count { result ≡ length self.now.groups }
         ensures valid { Valid self.now }
     {
-        self.sheet.groups.len() as u32
+        self.sheet().groups.len() as u32
     }
 
     /// The group at place `k`, in the order in which the names first came.
@@ -99,7 +95,7 @@ impl Book {
         requires { k < length self.now.groups }
         ensures { slice_get self.now.groups k ≡ Some result.now }
     {
-        self.sheet.groups.at(k as usize)
+        self.sheet().groups.at(k as usize)
     }
 
     /// The number of securities.
@@ -107,7 +103,7 @@ impl Book {
         ensures count { result ≡ length self.now.securities }
         ensures valid { Valid self.now }
     {
-        self.sheet.securities.len() as u32
+        self.sheet().securities.len() as u32
     }
 
     /// The security at place `k`, in the order in which the names first came.
@@ -115,7 +111,7 @@ impl Book {
         requires { k < length self.now.securities }
         ensures { option_map (λ p. p.security) (slice_get self.now.securities k) ≡ Some result.now }
     {
-        &self.sheet.securities.at(k as usize).security
+        &self.sheet().securities.at(k as usize).security
     }
 
     /// The number of funds.
@@ -123,7 +119,7 @@ impl Book {
         ensures count { result ≡ length self.now.funds }
         ensures valid { Valid self.now }
     {
-        self.sheet.funds.len() as u32
+        self.sheet().funds.len() as u32
     }
 
     /// The fund at place `k`, in the order in which the names first came.
@@ -131,7 +127,7 @@ impl Book {
         requires { k < length self.now.funds }
         ensures { option_map (λ s. s.fund) (slice_get self.now.funds k) ≡ Some result.now }
     {
-        &self.sheet.funds.at(k as usize).fund
+        &self.sheet().funds.at(k as usize).fund
     }
 
     /// The number of liabilities.
@@ -139,7 +135,7 @@ impl Book {
         ensures count { result ≡ length self.now.liabilities }
         ensures valid { Valid self.now }
     {
-        self.sheet.liabilities.len() as u32
+        self.sheet().liabilities.len() as u32
     }
 
     /// The liability at place `k`, in the order in which the names first came.
@@ -147,7 +143,7 @@ impl Book {
         requires { k < length self.now.liabilities }
         ensures { slice_get self.now.liabilities k ≡ Some result.now }
     {
-        self.sheet.liabilities.at(k as usize)
+        self.sheet().liabilities.at(k as usize)
     }
 
     /// The number of banks.
@@ -155,7 +151,7 @@ impl Book {
         ensures count { result ≡ length self.now.banks }
         ensures valid { Valid self.now }
     {
-        self.sheet.banks.len() as u32
+        self.sheet().banks.len() as u32
     }
 
     /// The bank at place `k`, in the order in which the names first came.
@@ -163,7 +159,7 @@ impl Book {
         requires { k < length self.now.banks }
         ensures { slice_get self.now.banks k ≡ Some result.now }
     {
-        self.sheet.banks.at(k as usize)
+        self.sheet().banks.at(k as usize)
     }
 
     /// The number of reinsurance arrangements.
@@ -171,7 +167,7 @@ impl Book {
         ensures count { result ≡ length self.now.reinsurers }
         ensures valid { Valid self.now }
     {
-        self.sheet.reinsurers.len() as u32
+        self.sheet().reinsurers.len() as u32
     }
 
     /// The reinsurance arrangement at place `k`, in the order in which the names first came.
@@ -179,7 +175,7 @@ impl Book {
         requires { k < length self.now.reinsurers }
         ensures { slice_get self.now.reinsurers k ≡ Some result.now }
     {
-        self.sheet.reinsurers.at(k as usize)
+        self.sheet().reinsurers.at(k as usize)
     }
 
     /// The number of currencies.
@@ -187,7 +183,7 @@ impl Book {
         ensures count { result ≡ length self.now.curves }
         ensures valid { Valid self.now }
     {
-        self.sheet.curves.len() as u32
+        self.sheet().curves.len() as u32
     }
 
     /// The curve at place `k`, in the order in which the currencies first came.
@@ -195,7 +191,7 @@ impl Book {
         requires { k < length self.now.curves }
         ensures { slice_get self.now.curves k ≡ Some result.now }
     {
-        self.sheet.curves.at(k as usize)
+        self.sheet().curves.at(k as usize)
     }
 
     /// The table and the place of the name, among the six tables that share one set of names; a currency is not
@@ -205,22 +201,23 @@ impl Book {
         ensures shared { IfSome result (λ at. IsTrue (shares_names at.0)) }
         ensures absent { IsNone result ↔ (is_named name.now self.now ≡ false) }
     {
-        if let Some(k) = self.sheet.groups.place(name) {
+        let sheet = self.sheet();
+        if let Some(k) = sheet.groups.place(name) {
             return Some((Table::Group, k as u32));
         }
-        if let Some(k) = self.sheet.securities.place(name) {
+        if let Some(k) = sheet.securities.place(name) {
             return Some((Table::Security, k as u32));
         }
-        if let Some(k) = self.sheet.liabilities.place(name) {
+        if let Some(k) = sheet.liabilities.place(name) {
             return Some((Table::Liability, k as u32));
         }
-        if let Some(k) = self.sheet.banks.place(name) {
+        if let Some(k) = sheet.banks.place(name) {
             return Some((Table::Bank, k as u32));
         }
-        if let Some(k) = self.sheet.reinsurers.place(name) {
+        if let Some(k) = sheet.reinsurers.place(name) {
             return Some((Table::Rein, k as u32));
         }
-        let k = self.sheet.funds.place(name)?;
+        let k = sheet.funds.place(name)?;
         Some((Table::Fund, k as u32))
     }
 
@@ -228,7 +225,7 @@ impl Book {
     pub fn held(&self, name: &Name) -> u64
         ensures { result ≡ held_of self.now name.now }
     {
-        self.sheet.security_hold(name) + self.sheet.fund_hold(name)
+        self.ledger.held(name)
     }
 
     /// The amounts that stand in no row, the reference date and the reporting currency.
@@ -236,7 +233,7 @@ impl Book {
         ensures numbers { result.now ≡ self.now.numbers }
         ensures valid { Valid self.now }
     {
-        &self.sheet.numbers
+        &self.sheet().numbers
     }
 
     /// The tables and the numbers, to look up and to walk.
@@ -244,52 +241,9 @@ impl Book {
         ensures sheet { result.now ≡ self.now }
         ensures valid { Valid self.now }
     {
-        &self.sheet
+        self.ledger.sheet()
     }
 
     /// Lets the book go.
     pub fn close(self) {}
-
-    // All cents held directly.
-    pub(crate) fn held_total(&self) -> u64
-        ensures total { result ≡ held_total self.now }
-        ensures valid { Valid self.now }
-    {
-        self.sums.held
-    }
-
-    // The absolute flows of all liabilities under a projection, in cents.
-    pub(crate) fn liability_flows_total(&self, projection: Projection) -> u64
-        ensures total { result ≡ liability_flows_total projection self.now }
-        ensures valid { Valid self.now }
-    {
-        self.sums.liability_flows[place_of(projection)]
-    }
-
-    // The premium and reserve volumes of a set, in cents.
-    pub(crate) fn volumes_total(&self, set: Set) -> u64
-        ensures total { result ≡ volumes_total set self.now }
-        ensures valid { Valid self.now }
-    {
-        match set {
-            Set::Nl => self.sums.nl,
-            Set::Nslt => self.sums.nslt,
-        }
-    }
-
-    // The components of all funds, counted.
-    pub(crate) fn components_total(&self) -> u64
-        ensures total { result ≡ components_total self.now }
-        ensures valid { Valid self.now }
-    {
-        self.sums.components
-    }
-
-    // The exposures to banks and reinsurers, in cents.
-    pub(crate) fn defaults_total(&self) -> u64
-        ensures total { result ≡ defaults_total self.now }
-        ensures valid { Valid self.now }
-    {
-        self.sums.defaults
-    }
 }

@@ -1,8 +1,9 @@
 //! Whether a record may be applied.
-ghost use Rattle.std.specs.Prelude.{◌≡◌, None, true};
+ghost use Rattle.std.specs.Prelude.{◌≡◌, None, true, false};
 ghost use Rattle.scr_sheet.specs.Faults.{unknown_name, wrong_kind, in_use, cycle, fault_of, Answers};
-ghost use Rattle.scr_sheet.specs.Users.{user_of, holder_of};
+ghost use Rattle.scr_sheet.specs.Users.{user_of, absorption_of};
 ghost use Rattle.scr_sheet.specs.Forms.{Formed};
+ghost use Rattle.scr_names.specs.Names.{same_name};
 ghost use Rattle.scr_book.specs.Holders.{IsGraphOf};
 
 use crate::due::graph_of;
@@ -32,7 +33,7 @@ pub fn check(alloc: Global, book: &Book, edit: &Edit) -> Result<(), Fault>
     if let Err(fault) = check_cycle(alloc, book, edit) {
         return Err(fault);
     }
-    check_ranges(book, edit)
+    check_ranges(&book.ledger, edit)
 }
 
 // ---- nothing uses what would be dropped
@@ -52,20 +53,20 @@ fn is_idle(book: &Book, table: Table, name: &Name) -> bool
     ensures { result ≡ true → user_of table name.now book.now ≡ None }
 {
     match table {
-        Table::Security | Table::Fund => is_holding_idle(book, name),
+        Table::Group => book.users.names.is_unused(name),
+        Table::Security | Table::Fund => book.users.names.is_unused(name) && book.held(name) == 0,
+        Table::Curve => book.users.currencies.is_unused(name) && is_curve_idle(book, name),
         Table::Liability | Table::Bank | Table::Rein => true,
-        Table::Group | Table::Curve => false,
     }
 }
 
-// Nothing is held of the security or fund, and no fund has it as a component.
-fn is_holding_idle(book: &Book, name: &Name) -> bool
-    ensures { result ≡ true → holder_of name.now book.now ≡ None }
+// The currency is not the reporting one, and has no absorption.
+fn is_curve_idle(book: &Book, currency: &Name) -> bool
+    ensures reporting { result ≡ true → same_name currency.now book.now.numbers.currency ≡ false }
+    ensures absorbing { result ≡ true → absorption_of currency.now book.now ≡ None }
 {
-    if book.holders.is_unused(name) {
-        return book.held(name) == 0;
-    }
-    false
+    let (up, down) = book.ledger.absorptions(currency);
+    *currency != book.numbers().currency && up == 0 && down == 0
 }
 
 // ---- no fund holds itself
@@ -86,8 +87,8 @@ fn no_cycle(alloc: Global, book: &Book, name: &Name, components: &Components) ->
     requires kind { wrong_kind (Edit.Fund name.now components.now) book.now ≡ None }
     ensures { Answers (cycle (Edit.Fund name.now components.now) book.now) result }
 {
-    if !book.is_graph_due {
-        return no_cycle_in(alloc, &book.graph, book.sheet(), name, components);
+    if !book.ledger.is_graph_due {
+        return no_cycle_in(alloc, &book.ledger.graph, book.sheet(), name, components);
     }
     match graph_of(alloc, book.sheet()) {
         Ok(graph) => no_cycle_in(alloc, &graph, book.sheet(), name, components),

@@ -3,15 +3,16 @@
 
 mod book;
 mod checks;
-mod components;
 mod days;
 mod due;
+mod ledger;
 mod parts;
 mod puts;
 mod ranges;
 mod sharing;
 mod sums;
 mod undo;
+mod users;
 
 pub use book::Book;
 pub use checks::check;

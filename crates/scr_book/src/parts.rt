@@ -1,4 +1,4 @@
-//! What the row of a name is of a sum or a count that the book keeps.
+//! What the row of a name is of a sum or a count that the ledger keeps.
 ghost use Rattle.std.specs.Prelude.{◌≡◌, ℤ, [], ◌+◌, ◌≤◌, length};
 ghost use Rattle.std.specs.Option.{option_map_or};
 ghost use Rattle.scr_names.specs.Tables.{row_of};
@@ -8,10 +8,11 @@ ghost use Rattle.scr_sheet.specs.Records.{kept_flows};
 ghost use Rattle.scr_book.specs.LastDays.{lists_ending};
 ghost use Rattle.scr_sheet.specs.BalanceSheet.{stake_name, liability_name, bank_name, rein_name, liability_flows_total, defaults_total, components_total};
 
-use crate::{Book, Name, Projection};
+use crate::ledger::Ledger;
+use crate::{Name, Projection};
 use scr_dates::Day;
 
-impl Book {
+impl Ledger {
     // The last day of the payments of the security of this name, none where it pays nothing or is not there.
     pub(crate) fn last_promised(&self, name: &Name) -> Option<Day>
         ensures value { result ≡ last_day (kept_flows name.now self.now.securities) }

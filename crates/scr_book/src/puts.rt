@@ -1,4 +1,4 @@
-//! What a record without a fault makes of the book. All memory is taken before the first change, and each sum moves by
+//! What a record without a fault makes of the ledger. All memory is taken before the first change, and each sum moves by
 //! what goes out and what comes in.
 ghost use Rattle.std.specs.Prelude.{◌≡◌, ◌+◌, None, true, OnOk, OnErr};
 ghost use Rattle.std.specs.Option.{option_map_or};
@@ -10,20 +10,19 @@ ghost use Rattle.scr_sheet.specs.Records.{applied};
 ghost use Rattle.scr_names.specs.Tables.{row_of};
 ghost use Rattle.scr_book.specs.Verbs.{is_of_numbers, takes_no_memory};
 
-use crate::components::{exchange_components, renew, take_components};
 use crate::days::take_projected;
 use crate::due::refresh;
+use crate::ledger::Ledger;
 use crate::{
-    AbsorbKey, Bank, Book, Class, Components, Curve, Edit, Flows, Fund, Group, GroupKind,
-    Liability, LiabilityFlows, LiabilityKind, Name, Position, Projection, Rates, Rein, Security,
-    Stake, Table,
+    AbsorbKey, Bank, Class, Components, Curve, Edit, Flows, Fund, Group, GroupKind, Liability,
+    LiabilityFlows, LiabilityKind, Name, Position, Projection, Rates, Rein, Security, Stake, Table,
 };
 use scr_profile::Set;
 use scr_sheet::{PROJECTIONS, natural};
 use std::alloc::{AllocError as NoMemory, Global};
 
-impl Book {
-    // Applies a record that has no fault. Where memory is refused the book is as before.
+impl Ledger {
+    // Applies a record that has no fault. Where memory is refused the ledger is as before.
     pub(crate) fn put(&mut self, alloc: Global, edit: &Edit) -> Result<(), NoMemory>
         requires formed { Formed edit.now }
         requires no_fault { fault_of edit.now self.old ≡ None }
@@ -201,20 +200,12 @@ impl Book {
         refresh(&mut self.graph, self.is_graph_due, alloc, &self.sheet)?;
         self.graph.enter(*name)?;
         self.graph.put(alloc, name, components.as_slice())?;
-        renew(&mut self.holders, alloc, &self.sheet.funds);
-        exchange_components(
-            &mut self.holders,
-            &self.sheet.funds,
-            name,
-            components.as_slice(),
-        );
         let fund = Fund {
             name: *name,
             components,
         };
         let Ok(()) = self.sheet.funds.put(Stake { fund, held }) else {
             self.graph.clear(name);
-            self.holders.lose();
             return Err(NoMemory);
         };
         self.sums.components = self.sums.components - old + new;
@@ -398,7 +389,6 @@ impl Book {
     {
         let old = self.component_count(name);
         self.graph.clear(name);
-        take_components(&mut self.holders, &self.sheet.funds, name);
         self.sheet.funds.remove(name);
         self.sums.components -= old;
     }
@@ -437,7 +427,7 @@ impl Book {
     }
 
     // The absorptions of a currency, 0 where it has no curve yet.
-    fn absorptions(&self, currency: &Name) -> (u64, u64)
+    pub(crate) fn absorptions(&self, currency: &Name) -> (u64, u64)
         ensures up { result.0
             ≡ option_map_or (λ c. c.absorb_up) (row_of curve_name currency.now self.now.curves) 0 }
         ensures down { result.1

@@ -1,4 +1,4 @@
-//! The sums that a book keeps beside its rows.
+//! The sums that a ledger keeps beside its rows.
 ghost use Rattle.std.specs.Prelude.{◌≡◌, ◌<◌, ◌≤◌, ◌+◌, ◌-◌, ◌^◌};
 ghost use Rattle.scr_sheet.specs.CashFlows.{total, flows_under};
 ghost use Rattle.scr_book.specs.Sums.{place_of, flows_sum, with_flows_sum, without_liability, volumes_sum, with_volumes_sum};
@@ -6,7 +6,7 @@ ghost use Rattle.scr_book.specs.Sums.{place_of, flows_sum, with_flows_sum, witho
 use crate::{LiabilityFlows, Projection};
 use scr_profile::Set;
 
-/// All sums of a book, in cents.
+/// All sums of a ledger, in cents.
 #[derive(Clone, Copy)]
 pub(crate) struct Sums {
     /// All that is held directly.

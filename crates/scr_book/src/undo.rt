@@ -7,6 +7,7 @@ ghost use Rattle.scr_book.specs.Undone.{back, Fits};
 
 use crate::checks::check;
 use crate::days::recount;
+use crate::ledger::Ledger;
 use crate::sums::Sums;
 use crate::{Book, Edit, Fault};
 use scr_sheet::Earlier;
@@ -47,11 +48,22 @@ impl Book {
         ensures back { IfOk result (λ undo. back undo self.new ≡ self.old) }
         ensures fits { IfOk result (λ undo. Fits undo self.new) }
     {
-        let undo = self.before(alloc, edit)?;
+        let undo = self.ledger.before(alloc, edit)?;
         self.put(alloc, edit)?;
         Ok(undo)
     }
 
+    /// The book as it was before the record, without memory. The last days of payments are counted anew.
+    pub fn put_back(&mut self, undo: Undo)
+        requires { Fits undo self.old }
+        ensures { self.new ≡ back undo self.old }
+    {
+        self.ledger.put_back(undo);
+        self.users.lose();
+    }
+}
+
+impl Ledger {
     // What the record is about to change.
     fn before(&self, alloc: Global, edit: &Edit) -> Result<Undo, NoMemory>
         ensures back { IfOk result (λ undo. back undo (applied edit.now self.now) ≡ self.now) }
@@ -64,8 +76,7 @@ impl Book {
         })
     }
 
-    /// The book as it was before the record, without memory. The last days of payments are counted anew.
-    pub fn put_back(&mut self, undo: Undo)
+    fn put_back(&mut self, undo: Undo)
         requires { Fits undo self.old }
         ensures { self.new ≡ back undo self.old }
     {
@@ -73,7 +84,6 @@ impl Book {
         self.sheet.put_back(earlier);
         self.sums = sums;
         self.is_graph_due = true;
-        self.holders.lose();
         recount(&mut self.days, &self.sheet);
     }
 }

@@ -3,7 +3,7 @@ use Rattle.std.proofs.Common.{◌≡◌, ℕ, ◌<◌, ◌≤◌, Bool, true, fa
 use Rattle.std.specs.Prelude.{slice_index}
 use Rattle.std.specs.List.{list_all, range_with_len}
 use Rattle.std.proofs.Math.ListN.{get_or-eq_default}
-use Rattle.std.proofs.lemmas.Bool.{cond_both, cases_lt, leb-true}
+use Rattle.std.proofs.lemmas.Bool.{cases_lt, leb-true}
 use Rattle.std.proofs.lemmas.Int.{ints}
 use Rattle.scr_num.specs.Fraction.{percent}
 use Rattle.scr_num.specs.Enclosure.{Measures}
@@ -77,18 +77,3 @@ charge-size Name step = any_charge (step_of step)
 charge-size Covered step = any_charge (step_of step)
 charge-size Property step = omega arith
 charge-size State step = omega arith
-
-any_limit : (step : ℕ) → slice_index CT step ≤ 150
-any_limit step =
-    elim (cases_lt step 7) [
-      | inl lt ↦ leb-true _ _ (all-range (λ k. nat_le (slice_index CT k) 150) 0 7 step refl (omega arith) (omega arith))
-      | inr ge ↦ rw (get_or-eq_default CT 0 ge) (omega arith)
-    ]
-
-pub threshold-size : (kind : GroupKind) (step : Option ℕ) → threshold_units kind step ≤ 150
-threshold-size Name step = any_limit (step_of step)
-threshold-size Covered step =
-    cond_both (nat_lt (step_of step) 2) 150 (slice_index CT (step_of step)) (λ n. n ≤ 150) (λ e. omega arith)
-    (λ e. any_limit (step_of step))
-threshold-size Property step = omega arith
-threshold-size State step = any_limit (step_of step)

@@ -14,8 +14,6 @@ ghost use Rattle.scr_conc.specs.Concentration.{requirement_exact};
 ghost use Rattle.scr_conc.specs.ConcentrationEnds.{requirement_units, square_units, concentration_ends};
 
 pub mod laws;
-#[cfg(test)]
-mod tests;
 
 use scr_num::{Span, exact, root_of, scale};
 use scr_profile::{CT, G, GroupKind};

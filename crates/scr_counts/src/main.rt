@@ -2,11 +2,9 @@
 //! prints the first line of each piece of the report with the number of evaluations since the piece before.
 #![tactic(auto)]
 
-ghost use Rattle.std.specs.Prelude.{◌≡◌, ◌≤◌, ◌<◌, ◌+◌, ◌==◌, IfSome, length, position};
-ghost use Rattle.scr_counts.specs.FirstLine as piece;
-
 use scr_io::{Gate, HostShelf, HostSink};
 use scr_run::run;
+use scr_told::{Told, first_line};
 use std::env;
 use std::io::{self, Write};
 use std::process::ExitCode;
@@ -21,24 +19,6 @@ struct Counter {
 impl Gate for Counter {
     fn pass(&self, _node: u32) {
         self.passes.fetch_add(1, Ordering::Relaxed);
-    }
-}
-
-/// How much of what passed is told.
-#[derive(Drop)]
-struct Told {
-    passes: u64,
-}
-
-impl Told {
-    /// What passed since so much was told, where all that passed is told from now on.
-    fn since(&mut self, passes: u64) -> u64
-        ensures since { self.old.passes ≤ passes → result + self.old.passes ≡ passes }
-        ensures told { self.new.passes ≡ passes }
-    {
-        let since = passes.saturating_sub(self.passes);
-        self.passes = passes;
-        since
     }
 }
 
@@ -61,24 +41,6 @@ impl<W: Write> Write for Tally<'_, W> {
     fn flush(&mut self) -> io::Result<()> {
         self.out.flush()
     }
-}
-
-/// The bytes of a piece before its first newline.
-fn first_line(bytes: &[u8]) -> &[u8]
-    ensures { result.now ≡ piece.first_line bytes.now }
-{
-    match newline_at(bytes) {
-        Some(end) => &bytes[..end],
-        None => bytes,
-    }
-}
-
-/// The place of the first newline.
-fn newline_at(bytes: &[u8]) -> Option<usize>
-    ensures place { result ≡ position (λ b. b == 10) bytes.now }
-    ensures within { IfSome result (λ end. end < length bytes.now) }
-{
-    bytes.iter().position(|b| *b == b'\n')
 }
 
 fn main(rt: HostRuntime) -> ExitCode {

@@ -1,12 +1,11 @@
 -- How a line is split into fields: csv's way is a cut at the commas where there is no double quote.
-use Rattle.std.proofs.Common.{◌≡◌, ℕ, ◌+◌, ◌≤◌, ◌==◌, Bool, true, false, cond, List, [], ◌∷◌, ◌++◌, length}
-use Rattle.std.proofs.Common.{Option, Some, None, refl, ap, ◌∙◌, append_assoc, arith, length-append, inl, inr}
-use Rattle.std.specs.Prelude.{nat_le, option_map}
+use Rattle.std.proofs.Common.{◌≡◌, ℕ, ◌+◌, ◌≤◌, ◌==◌, Bool, true, false, cond, List, [], ◌∷◌, ◌++◌, length, Option, Some, None, refl, ap, ◌∙◌, append_assoc, arith, length-append, inl, inr}
+use Rattle.std.specs.Prelude.{nat_le}
 use Rattle.std.specs.List.{list_all, list_any, onto_first}
 use Rattle.std.proofs.lemmas.Bool.{cases_Bool, and_parts, or_parts}
 use Rattle.std.proofs.lemmas.List.{append-nil}
 use Rattle.csv.specs.Machine.{Read, next_record, step, is_end, ends_at_end, fields_after, field_after}
-use Rattle.csv.specs.Reading.{default_config, strip_bom}
+use Rattle.csv.specs.Reading.{default_config}
 use Rattle.csv.specs.declared.parser.State.{State}
 use Rattle.csv.specs.declared.parser.State.TheVariants as state
 use Rattle.csv.specs.declared.parser.Action.{Action}
@@ -16,27 +15,6 @@ use Rattle.scr_csv.specs.Sources.{pieces}
 
 printed_other : (b n : ℕ) → is_printed b ≡ true → nat_le 0x20 n ≡ false → (b == n) ≡ false
 printed_other b n h small = grind (arith, h, small)
-
-printed_low : (b : ℕ) → is_printed b ≡ true → (b == 0xEF) ≡ false
-printed_low b h = grind (arith, h)
-
--- a line of bytes from a blank to `~` begins with no byte order mark
-pub no_mark : (text : List ℕ) → list_all is_printed text ≡ true → strip_bom text ≡ text
-unfolding strip_bom
-no_mark [] h = refl
-no_mark (a ∷ []) h = refl
-no_mark (a ∷ b ∷ []) h = refl
-no_mark (a ∷ b ∷ c ∷ rest) h = rw (printed_low a (and_parts _ _ h).0) refl
-
-pub fields_of_read : (o : Option Read) (fields : List (List ℕ)) → Some fields ≡ option_map (λ read. read.0) o
-    → fields_read o ≡ fields
-fields_of_read None fields h = absurd (cc)
-fields_of_read (Some read) fields h = cc
-
-pub fields_of_none : (o : Option Read) → ◌≡◌ {A = Option (List (List ℕ))} None (option_map (λ read. read.0) o)
-    → fields_read o ≡ []
-fields_of_none None h = refl
-fields_of_none (Some read) h = absurd (cc)
 
 -- ---- a cut at the commas
 

@@ -1,29 +1,19 @@
 -- Lists in a line, member by member.
-use Rattle.std.proofs.Common.{◌≡◌, ◌≢◌, ℕ, ℤ, ◌+◌, ◌<◌, List, [], ◌∷◌, ◌++◌, length, Option, Result, Ok, Err, refl, ap}
-use Rattle.std.proofs.Common.{sym, append_assoc, arith}
+use Rattle.std.proofs.Common.{◌≡◌, ◌≢◌, ℕ, ℤ, ◌+◌, ◌<◌, List, [], ◌∷◌, ◌++◌, length, Option, Result, Ok, Err, refl, ap, sym, append_assoc, arith}
 use Rattle.std.specs.List.{AllByRecursion}
-use Rattle.std.proofs.lemmas.List.{append-nil}
 use Rattle.scr_csv.specs.declared.fault.LineFault.{LineFault}
 use Rattle.scr_csv.specs.declared.fault.LineFault.TheVariants.{Syntax, NoMemory}
 use Rattle.scr_spelling.specs.Numbers.{number_value}
-use Rattle.scr_csv.specs.Reading.{Rest, field, next, read_to, made, listed, value_in, numbers_from, pairs_from, Answers}
+use Rattle.scr_csv.specs.Reading.{Rest, field, next, read_to, made, listed, value_in, pairs_from, Answers}
 
 -- the members so far, and those that follow them
 abbrev pub behind : {A : Type 0} → List A → Result (List A) LineFault → Result (List A) LineFault
 behind members more = made (λ rest. members ++ rest) more
 
-pub behind_none : {A : Type 0} (due : Result (List A) LineFault) → behind [] due ≡ due
-behind_none (Ok members) = refl
-behind_none (Err fault) = refl
-
 pub behind_next : {A : Type 0} (members : List A) (a : A) (more : Result (List A) LineFault)
     → behind members (made (λ rest. a ∷ rest) more) ≡ behind (members ++ (a ∷ [])) more
 behind_next members a (Ok rest) = ap Ok (sym (append_assoc members (a ∷ []) rest))
 behind_next members a (Err fault) = refl
-
--- no more follow
-pub behind_end : {A : Type 0} (members : List A) → behind members (Ok []) ≡ Ok members
-behind_end members = ap Ok (append-nil members)
 
 -- the answer that is due is an answer
 pub due_answers : {A : Type 0} (due answer : Result A LineFault) → due ≡ answer → Answers due answer
@@ -64,23 +54,6 @@ next-shorter form number (first ∷ fields) a after h =
 listed_ok : {A : Type 0} (a : A) (more : Result (List A) LineFault) → listed (Ok a) more ≡ made (λ rest. a ∷ rest) more
 listed_ok a (Ok rest) = refl
 listed_ok a (Err fault) = refl
-
-pub numbers-next : (number : ℕ) (fields : List (List ℕ)) (z : ℤ) (after : Rest)
-    → next number_value (record { number = number; fields = fields }) ≡ Ok (z, after)
-    → numbers_from number fields ≡ made (λ rest. z ∷ rest) (numbers_from after.number after.fields)
-unfolding next field
-numbers-next number [] z after h = absurd (cc)
-numbers-next number (first ∷ fields) z after h =
-    let read = read_ok (value_in number_value number first) z
-    (record { number = number + 1; fields = fields }) after h in
-    rw (read.value, ← read.same) (listed_ok z (numbers_from (number + 1) fields))
-
-pub numbers-fault : (number : ℕ) (fields : List (List ℕ)) (fault : LineFault)
-    → next number_value (record { number = number; fields = fields }) ≡ Err fault → (fields ≢ [])
-    → numbers_from number fields ≡ Err fault
-unfolding next field
-numbers-fault number [] fault h some = absurd (some refl)
-numbers-fault number (first ∷ fields) fault h some = rw (read_err (value_in number_value number first) _ fault h) refl
 
 plus_two : (n : ℕ) → (n + 1) + 1 ≡ n + 2
 plus_two n = omega arith

@@ -1,6 +1,5 @@
 -- A line is refused for the first field with which no record can begin, and for no other.
-use Rattle.std.proofs.Common.{◌≡◌, ◌↔◌, ◌⊎◌, inl, inr, ℕ, suc, ℤ, pos, ◌+◌, ◌<◌, ◌++◌, true, List, length, take, drop}
-use Rattle.std.proofs.Common.{None, Result, Ok, Err, refl, sym, ap, subst, ◌∙◌, append_assoc, codes, arith, Some}
+use Rattle.std.proofs.Common.{◌≡◌, ◌↔◌, ◌⊎◌, inl, inr, ℕ, suc, ℤ, pos, ◌+◌, ◌<◌, ◌++◌, true, List, length, take, drop, None, Result, Ok, Err, refl, sym, ap, subst, ◌∙◌, append_assoc, codes, arith, Some}
 use Rattle.std.specs.List.{list_all}
 use Rattle.std.proofs.lemmas.Bool.{cases_lt, cases_order}
 use Rattle.std.proofs.lemmas.List.{take-append-drop, take-take}
@@ -17,17 +16,14 @@ use Rattle.scr_sheet.specs.declared.keys.Projection.TheVariants as projections
 use Rattle.scr_sheet.specs.declared.keys.Table.TheVariants as tables
 use Rattle.scr_sheet.specs.declared.rows.Class.TheVariants as classes
 use Rattle.scr_sheet.specs.declared.rows.LiabilityKind.TheVariants as liabilities
-use Rattle.scr_spelling.specs.FieldForms.{name_of, currency_of, group_of, step_of, small_number, segment_of, region_of}
-use Rattle.scr_spelling.specs.FieldForms.{absorb_key_of}
+use Rattle.scr_spelling.specs.FieldForms.{name_of, currency_of, group_of, step_of, small_number, segment_of, region_of, absorb_key_of}
 use Rattle.scr_spelling.specs.Numbers.{number_value}
 use Rattle.scr_spelling.specs.Words.{value_of}
 use Rattle.scr_spelling.proofs.AbsorbKeys.{currency_found, key_read}
-use Rattle.scr_spelling.proofs.Spelled.{Spelled, spelled_table, spelled_group_kind, spelled_class}
-use Rattle.scr_spelling.proofs.Spelled.{spelled_liability_kind, spelled_projection, spelled_set, spelled_cat_key}
+use Rattle.scr_spelling.proofs.Spelled.{Spelled, spelled_table, spelled_group_kind, spelled_class, spelled_liability_kind, spelled_projection, spelled_set, spelled_cat_key}
 use Rattle.scr_spelling.proofs.WrittenForms.{name_read, group_read, step_read}
-use Rattle.scr_csv.specs.declared.fault.LineFault.{LineFault}
+use Rattle.scr_csv.specs.declared.{fault.LineFault.LineFault, verb.Verb.Verb}
 use Rattle.scr_csv.specs.declared.fault.LineFault.TheVariants.{Syntax}
-use Rattle.scr_csv.specs.declared.verb.Verb.{Verb}
 use Rattle.scr_csv.specs.declared.verb.Verb.TheVariants as verbs
 use Rattle.scr_csv.specs.LineFields.{line_fields, is_printed}
 use Rattle.scr_csv.specs.Reading.{Rest, ◌>>=◌, next}

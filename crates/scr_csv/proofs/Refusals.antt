@@ -1,11 +1,9 @@
 -- A reader tells the first field with which nothing that it reads can begin.
-use Rattle.std.proofs.Common.{◌≡◌, ℕ, suc, ℤ, pos, ◌+◌, ◌<◌, ◌≤◌, List, [], ◌∷◌, ◌++◌, length, take, Option, Some}
-use Rattle.std.proofs.Common.{None, Result, Ok, Err, refl, sym, ap, ◌∙◌, codes, arith}
+use Rattle.std.proofs.Common.{◌≡◌, ℕ, suc, ℤ, pos, ◌+◌, ◌<◌, ◌≤◌, List, [], ◌∷◌, ◌++◌, length, take, Option, Some, None, Result, Ok, Err, refl, sym, ap, ◌∙◌, codes, arith}
 use Rattle.scr_csv.specs.declared.fault.LineFault.{LineFault}
 use Rattle.scr_csv.specs.declared.fault.LineFault.TheVariants.{Syntax}
 use Rattle.scr_spelling.specs.Numbers.{number_value}
-use Rattle.scr_csv.specs.Reading.{Rest, ◌>>=◌, field, next, only, value_in, made, listed}
-use Rattle.scr_csv.specs.Reading.{both, numbers_from, pairs_from}
+use Rattle.scr_csv.specs.Reading.{Rest, ◌>>=◌, field, next, only, value_in, made, listed, both, numbers_from, pairs_from}
 
 -- the fields from number n on
 abbrev pub from : ℕ → List (List ℕ) → Rest

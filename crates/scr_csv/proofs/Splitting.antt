@@ -1,15 +1,13 @@
 -- The split of a line, byte by byte, goes as csv does.
-use Rattle.std.proofs.Common.{◌≡◌, ℕ, ◌++◌, ◌<◌, true, List, [], ◌∷◌, length, Option, Some, refl, sym, subst, ap, ◌∙◌}
-use Rattle.std.proofs.Common.{arith}
+use Rattle.std.proofs.Common.{◌≡◌, ℕ, ◌++◌, ◌<◌, true, List, [], ◌∷◌, length, Option, Some, refl, sym, subst, ap, ◌∙◌, arith}
 use Rattle.std.specs.Prelude.{if◌then◌else◌}
 use Rattle.std.specs.List.{list_all}
 use Rattle.csv.specs.Machine.{Read, next_record, step, is_end, fields_after, field_after}
 use Rattle.csv.specs.Reading.{default_config}
 use Rattle.csv.specs.declared.parser.State.{State}
 use Rattle.csv.specs.declared.parser.Action as of_csv
-use Rattle.scr_csv.specs.declared.split.Place.{Place}
+use Rattle.scr_csv.specs.declared.{split.Place.Place, split.Action.Action}
 use Rattle.scr_csv.specs.declared.split.Place.TheVariants as places
-use Rattle.scr_csv.specs.declared.split.Action.{Action}
 use Rattle.scr_csv.specs.declared.split.Action.TheVariants as actions
 use Rattle.scr_csv.specs.LineFields.{fields_read, line_fields, is_printed}
 use Rattle.scr_csv.specs.Splits.{state_of, action_of, reads}
@@ -49,9 +47,7 @@ pub reads-end : (place : Place) (fields : List (List ℕ)) (field : List ℕ)
     → fields_read (reads place fields field []) ≡ fields ++ (field ∷ [])
 unfolding reads next_record
 reads-end places.Start fields field = refl
-reads-end places.Plain fields field = refl
-reads-end places.Quoted fields field = refl
-reads-end places.Closed fields field = refl
+reads-end place fields field = refl
 
 -- a line that is not empty begins with a field
 pub reads-start : (c : ℕ) (rest : List ℕ) → list_all is_printed (c ∷ rest) ≡ true

@@ -1,6 +1,5 @@
 -- A record's line is read as the record.
-use Rattle.std.proofs.Common.{◌≡◌, ℕ, ℤ, pos, ◌+◌, ◌<◌, ◌==◌, ◌&&◌, Bool, true, false, not, List, []}
-use Rattle.std.proofs.Common.{◌∷◌, ◌++◌, map, Some, Ok, length, refl, ap, ◌∙◌, arith}
+use Rattle.std.proofs.Common.{◌≡◌, ℕ, ℤ, pos, ◌+◌, ◌<◌, ◌==◌, ◌&&◌, Bool, true, false, not, List, [], ◌∷◌, ◌++◌, map, Some, Ok, length, refl, ap, ◌∙◌, arith}
 use Rattle.std.specs.Prelude.{flat_map}
 use Rattle.std.specs.List.{list_all, list_any, AllByRecursion, onto_first}
 use Rattle.std.proofs.lemmas.List.{append-nil}
@@ -17,18 +16,15 @@ use Rattle.scr_spelling.specs.Words.{value_of}
 use Rattle.scr_spelling.proofs.AbsorbKeys.{currency_found, key_read}
 use Rattle.scr_spelling.proofs.FormLemmas.{list_all-weaker}
 use Rattle.scr_spelling.proofs.PlainTexts.{Plain, is_plain, name_plain, currency_plain, absorb_key_plain}
-use Rattle.scr_spelling.proofs.Spelled.{spelled_table, spelled_group_kind, spelled_class, spelled_liability_kind}
-use Rattle.scr_spelling.proofs.Spelled.{spelled_projection, spelled_set, spelled_cat_key}
+use Rattle.scr_spelling.proofs.Spelled.{spelled_table, spelled_group_kind, spelled_class, spelled_liability_kind, spelled_projection, spelled_set, spelled_cat_key}
 use Rattle.scr_spelling.proofs.WrittenDays.{day_read, day_plain}
-use Rattle.scr_spelling.proofs.WrittenForms.{name_read, group_read, group_plain, step_read, step_plain, segment_fits}
-use Rattle.scr_spelling.proofs.WrittenForms.{segment_read, region_read}
+use Rattle.scr_spelling.proofs.WrittenForms.{name_read, group_read, group_plain, step_read, step_plain, segment_fits, segment_read, region_read}
 use Rattle.scr_spelling.proofs.WrittenNumbers.{number_read, number_plain}
 use Rattle.scr_csv.specs.declared.verb.Verb.{Verb}
 use Rattle.scr_csv.specs.LineFields.{is_printed, is_quote}
 use Rattle.scr_csv.specs.Reading.{next, field, only, numbers_from, pairs_from}
 use Rattle.scr_csv.specs.Records.{any_record, record_of, edit_of_line}
-use Rattle.scr_csv.specs.RecordTexts.{flow_fields, component_fields, next_field, record_text, edit_verb, edit_fields}
-use Rattle.scr_csv.specs.RecordTexts.{edit_text}
+use Rattle.scr_csv.specs.RecordTexts.{flow_fields, component_fields, next_field, record_text, edit_verb, edit_fields, edit_text}
 use Rattle.scr_csv.specs.Sources.{pieces}
 use Rattle.scr_csv.specs.Verbs.{verb_word, all_verbs}
 use Rattle.scr_csv.proofs.LineSplit.{line_fields-not_empty}
@@ -159,69 +155,39 @@ components_plain (c ∷ components) h = (name_plain c.0 h.0.0, (number_plain c.1
 
 -- ---- each record
 
+infixr 5 ◌&◌
+-- one fact and then the others
+◌&◌ : {A B : Type 0} → A → B → A × B
+a & b = (a, b)
+
 fields_plain : (edit : Edit) → Formed edit → AllPlain (edit_fields edit)
 fields_plain (edits.Asof date currency) h = (day_plain date h.0, (currency_plain currency h.1, tt))
 fields_plain (edits.Curve currency rates) h = (currency_plain currency h.0, numbers_plain rates h.1)
 fields_plain (edits.Group name kind step) h = (name_plain name h.0, ((spelled_group_kind kind).plain, (step_plain step h.1, tt)))
-fields_plain (edits.Security name class group currency duration) h = (
-  name_plain name h.0,
-  ((spelled_class class).plain, (group_plain group h.1, (currency_plain currency h.2, (number_plain duration h.3, tt)))),
-)
+fields_plain (edits.Security name class group currency duration) h =
+    name_plain name h.0 & (spelled_class class).plain & group_plain group h.1 & currency_plain currency h.2
+    & number_plain duration h.3 & tt
 fields_plain (edits.Flows security flows) h = (name_plain security h.0, flows_plain flows h.1)
 fields_plain (edits.Fund name components) h = (name_plain name h.0, components_plain components h.1)
 fields_plain (edits.Hold name cents) h = (name_plain name h.0, (number_plain cents h.1, tt))
-fields_plain (edits.Liability name kind currency) h = (
-  name_plain name h.0,
-  ((spelled_liability_kind kind).plain, (currency_plain currency h.1, tt)),
-)
-fields_plain (edits.LiabilityFlows liability projection flows) h = (
-  name_plain liability h.0,
-  ((spelled_projection projection).plain, flows_plain flows h.1),
-)
+fields_plain (edits.Liability name kind currency) h =
+    name_plain name h.0 & (spelled_liability_kind kind).plain & currency_plain currency h.1 & tt
+fields_plain (edits.LiabilityFlows liability projection flows) h =
+    name_plain liability h.0 & (spelled_projection projection).plain & flows_plain flows h.1
 fields_plain (edits.Absorb key cents) h = (absorb_key_plain key h.0, (number_plain cents h.1, tt))
-fields_plain (edits.Segment set number region premium reserve) h = (
-  (spelled_set set).plain,
-  (
-    number_plain (pos number) (segment_fits set number h.1),
-    (
-      number_plain (pos region) (omega (arith, h.3)),
-      (number_plain premium h.4, (number_plain reserve h.5, tt)),
-    ),
-  ),
-)
+fields_plain (edits.Segment set number region premium reserve) h =
+    (spelled_set set).plain & number_plain (pos number) (segment_fits set number h.1)
+    & number_plain (pos region) (omega (arith, h.3)) & number_plain premium h.4 & number_plain reserve h.5 & tt
 fields_plain (edits.Cat key cents) h = ((spelled_cat_key key).plain, (number_plain cents h, tt))
 fields_plain (edits.Lapse set cents) h = ((spelled_set set).plain, (number_plain cents h, tt))
-fields_plain (edits.Rein name group recoverables mitigation collateral) h = (
-  name_plain name h.0,
-  (
-    name_plain group h.1,
-    (number_plain recoverables h.2, (number_plain mitigation h.3, (number_plain collateral h.4, tt))),
-  ),
-)
-fields_plain (edits.Bank name group cents) h = (
-  name_plain name h.0,
-  (name_plain group h.1, (number_plain cents h.2, tt)),
-)
+fields_plain (edits.Rein name group recoverables mitigation collateral) h =
+    name_plain name h.0 & name_plain group h.1 & number_plain recoverables h.2 & number_plain mitigation h.3
+    & number_plain collateral h.4 & tt
+fields_plain (edits.Bank name group cents) h = name_plain name h.0 & name_plain group h.1 & number_plain cents h.2 & tt
 fields_plain (edits.Due overdue other) h = (number_plain overdue h.0, (number_plain other h.1, tt))
-fields_plain (edits.Op tpl tpul tpn el eul pel peul en pen expul) h = (
-  number_plain tpl h.0,
-  (
-    number_plain tpul h.1,
-    (
-      number_plain tpn h.2,
-      (
-        number_plain el h.3,
-        (
-          number_plain eul h.4,
-          (
-            number_plain pel h.5,
-            (number_plain peul h.6, (number_plain en h.7, (number_plain pen h.8, (number_plain expul h.9, tt)))),
-          ),
-        ),
-      ),
-    ),
-  ),
-)
+fields_plain (edits.Op tpl tpul tpn el eul pel peul en pen expul) h =
+    numbers_plain (tpl ∷ tpul ∷ tpn ∷ el ∷ eul ∷ pel ∷ peul ∷ en ∷ pen ∷ expul ∷ [])
+    (h.0, (h.1, (h.2, (h.3, (h.4, (h.5, (h.6, (h.7, (h.8, (h.9, tt))))))))))
 fields_plain (edits.Sym millionths) h = (number_plain millionths h, tt)
 fields_plain (edits.Tax millionths most) h = (number_plain millionths h.0, (number_plain most h.1, tt))
 fields_plain (edits.Fdb cents) h = (number_plain cents h, tt)

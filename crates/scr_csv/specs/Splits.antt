@@ -6,9 +6,8 @@ use Rattle.csv.specs.declared.parser.State.{State}
 use Rattle.csv.specs.declared.parser.State.TheVariants as state
 use Rattle.csv.specs.declared.parser.Action.TheVariants as action
 use Rattle.csv.specs.declared.parser.Action as of_csv
-use Rattle.scr_csv.specs.declared.split.Place.{Place}
+use Rattle.scr_csv.specs.declared.{split.Place.Place, split.Action.Action}
 use Rattle.scr_csv.specs.declared.split.Place.TheVariants as places
-use Rattle.scr_csv.specs.declared.split.Action.{Action}
 use Rattle.scr_csv.specs.declared.split.Action.TheVariants as actions
 
 abbrev pub state_of : Place → State

@@ -1,7 +1,5 @@
 -- The anniversaries of a date, and the least number of years to a payment.
-use Rattle.std.proofs.Common.{◌≡◌, ℕ, zero, suc, ◌+◌, ◌<◌, ◌≤◌, ◌⊎◌, inl, inr, nat_lt, Bool, true, false, not, ◌&&◌, ◌||◌, ◌==◌, cond, min}
-use Rattle.std.proofs.Common.{sym, arith, ℤ, pos, neg_ℤ, ◌+ℤ◌, ◌-ℤ◌, ◌<ℤ◌, ◌≤ℤ◌, int_le, unsigned_abs}
-use Rattle.std.proofs.Common.{add-one}
+use Rattle.std.proofs.Common.{◌≡◌, ℕ, zero, suc, ◌+◌, ◌<◌, ◌≤◌, ◌⊎◌, inl, inr, nat_lt, Bool, true, false, not, ◌&&◌, ◌||◌, ◌==◌, cond, min, sym, arith, ℤ, pos, neg_ℤ, ◌+ℤ◌, ◌-ℤ◌, ◌<ℤ◌, ◌≤ℤ◌, int_le, unsigned_abs, add-one}
 use Rattle.std.proofs.lemmas.Bool.{cases_lt}
 use Rattle.std.proofs.lemmas.Bool.Decides.{nat_tests}
 use Rattle.std.proofs.lemmas.Int.{ints, by_lt_z}
@@ -70,7 +68,7 @@ least_from-is test (suc more) n k low high below here =
       | inr ge ↦ let same : n ≡ k = omega arith in rw same (rw here)
     ]
 
-int_le-yes : (a b : ℤ) → a ≤ℤ b → int_le a b ≡ true
+pub int_le-yes : (a b : ℤ) → a ≤ℤ b → int_le a b ≡ true
 int_le-yes a b h = grind (arith, ints)
 
 int_le-no : (a b : ℤ) → b <ℤ a → int_le a b ≡ false

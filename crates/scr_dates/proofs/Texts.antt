@@ -1,13 +1,11 @@
 -- A text that is taken names a day of the years 1900 to 2200.
-use Rattle.std.proofs.Common.{◌≡◌, ℕ, ◌≤◌, Bool, true, false, List, Some, None, IfSome, cond, refl, arith, rules, ℤ}
-use Rattle.std.proofs.Common.{pos}
+use Rattle.std.proofs.Common.{◌≡◌, ℕ, ◌≤◌, Bool, true, false, List, Some, None, IfSome, cond, refl, arith, rules, ℤ, pos}
 use Rattle.std.proofs.lemmas.Bool.Decides.{nat_tests}
 use Rattle.jiff_core.specs.Calendar.{days_in_month, days_from_civil}
 use Rattle.jiff_core.proofs.SignedLemmas.{signed_arith}
 use Rattle.scr_dates.specs.declared.day.Day.{Day}
 use Rattle.scr_dates.specs.Civil.{IsDay}
-use Rattle.scr_dates.specs.Text.{is_date, day_of_date, has_date_form, day_of_text, written_year, written_month}
-use Rattle.scr_dates.specs.Text.{written_day}
+use Rattle.scr_dates.specs.Text.{is_date, day_of_date, has_date_form, day_of_text, written_year, written_month, written_day}
 use Rattle.scr_dates.proofs.Dates.{day_in_range}
 
 -- what the test of a date says

@@ -3,8 +3,7 @@ use Rattle.std.specs.Prelude.{ℕ, ℤ, List, [], ◌∷◌, Option, Some, None,
 use Rattle.std.specs.List.{AllByRecursion}
 use Rattle.scr_dates.specs.Civil.{IsDay}
 use Rattle.scr_dates.specs.Years.{maturity_of}
-use Rattle.scr_dates.specs.declared.day.Day.{Day}
-use Rattle.scr_dates.specs.declared.term.Maturity.{Maturity}
+use Rattle.scr_dates.specs.declared.{day.Day.Day, term.Maturity.Maturity}
 use Rattle.scr_dates.specs.declared.term.Maturity.TheVariants as maturities
 
 -- the absolute amounts, summed

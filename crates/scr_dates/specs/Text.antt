@@ -1,6 +1,5 @@
 -- The text of a date, `YYYY-MM-DD` (this project's own).
-use Rattle.std.specs.Prelude.{ℕ, ◌+◌, ◌-◌, ◌*◌, nat_le, Bool, ◌&&◌, ◌==◌, if◌then◌else◌, List, length, slice_index}
-use Rattle.std.specs.Prelude.{Option, Some, None, pos}
+use Rattle.std.specs.Prelude.{ℕ, ◌+◌, ◌-◌, ◌*◌, nat_le, Bool, ◌&&◌, ◌==◌, if◌then◌else◌, List, length, slice_index, Option, Some, None, pos}
 use Rattle.std.specs.Char.{is_ascii_digit}
 use Rattle.jiff_core.specs.Calendar.{days_in_month}
 use Rattle.scr_dates.specs.declared.day.Day.{Day}

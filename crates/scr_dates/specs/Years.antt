@@ -1,6 +1,5 @@
 -- How many years it is to a payment (this project's own).
-use Rattle.std.specs.Prelude.{ℕ, zero, suc, ◌+◌, ◌<◌, ◌≤◌, nat_le, nat_lt, Bool, not, ◌&&◌, ◌||◌, ◌==◌, int_le, if◌then◌else◌, ℤ, pos}
-use Rattle.std.specs.Prelude.{◌+ℤ◌, ◌-ℤ◌, ◌<ℤ◌, ◌≤ℤ◌, unsigned_abs}
+use Rattle.std.specs.Prelude.{ℕ, zero, suc, ◌+◌, ◌<◌, ◌≤◌, nat_le, nat_lt, Bool, not, ◌&&◌, ◌||◌, ◌==◌, int_le, if◌then◌else◌, ℤ, pos, ◌+ℤ◌, ◌-ℤ◌, ◌<ℤ◌, ◌≤ℤ◌, unsigned_abs}
 use Rattle.jiff_core.specs.Calendar.{is_leap_year}
 use Rattle.scr_dates.specs.declared.term.Maturity.{Maturity}
 use Rattle.scr_dates.specs.declared.term.Maturity.TheVariants.{Past, Years, TooFar}

@@ -1,16 +1,13 @@
 -- The coefficients of the variance as quotients of whole numbers, and the table of probabilities, place by place.
 use Rattle.std.proofs.Common.{◌≡◌, ℕ, ◌*◌, ◌^◌, ◌<◌, ◌≤◌, Bool, true, ◌&&◌, nat_le, nat_lt, int_eq, ℤ, pos, ◌*ℤ◌, refl, arith}
-use Rattle.std.specs.Prelude.{slice_index}
 use Rattle.std.specs.List.{list_all, range_with_len}
 use Rattle.std.proofs.lemmas.Bool.{and_parts, leb-true, ltb-true}
 use Rattle.std.proofs.lemmas.Int.{ints}
-use Rattle.scr_num.specs.Fraction.{Fraction, is_less}
-use Rattle.scr_num.specs.Enclosure.{Measures}
-use Rattle.scr_profile.specs.declared.tables.TheConstants.{PD}
+use Rattle.scr_num.specs.Fraction.{Fraction}
 use Rattle.scr_profile.proofs.Ranges.{all-range}
-use Rattle.scr_default.specs.Probabilities.{probability_of_step, probability_of_class}
+use Rattle.scr_default.specs.Probabilities.{probability_of_class}
 use Rattle.scr_default.specs.Variance.{between_coefficient, within_coefficient}
-use Rattle.scr_default.specs.VarianceEnds.{probability, between_num, between_den, within_num, within_den}
+use Rattle.scr_default.specs.VarianceEnds.{between_num, between_den, within_num, within_den}
 
 -- num / den is the coefficient, is at most a fortieth, and leaves room in 128 bits
 pub record IsQuotient (c : Fraction) (num den : ℕ) : Type 0 where
@@ -69,31 +66,3 @@ all_within = refl
 pub within-quotient : (j : ℕ) → j < 6 → IsQuotient (within_coefficient (probability_of_class j)) (within_num j)
     (within_den j)
 within-quotient j a = is_quotient-holds _ _ _ (all-range within_passes 0 6 j all_within (omega arith) (omega arith))
-
--- ---- the table of probabilities
-abbrev is_printed : ℕ → Bool
-is_printed step =
-    let p = probability_of_step step in
-    int_eq (pos (slice_index PD step) *ℤ pos p.den) (p.num *ℤ pos 100000)
-
-pub table : (step : ℕ) → step < 7 → Measures 100000 (pos (slice_index PD step)) (probability_of_step step)
-table step lt = record {
-  positive = omega arith;
-  equal = int_eq-true _ _ (all-range is_printed 0 7 step refl (omega arith) (omega arith));
-}
-
--- no probability is above 4200 hundred-thousandths
-pub probability-size : (class : ℕ) → class < 6 → probability class ≤ 4200
-probability-size class lt =
-    leb-true _ _ (all-range (λ k. nat_le (probability k) 4200) 0 6 class refl (omega arith) (omega arith))
-
--- ---- the classes
-abbrev is_apart : ℕ → ℕ → Bool
-is_apart j k = is_less (probability_of_class j) (probability_of_class k)
-
-pub apart : (j k : ℕ) → j < k → k < 6 → is_apart j k ≡ true
-apart j k a b = all-range (λ i. is_apart i k) 0 k j (row k b) (omega arith) (omega arith)
-  where
-    row : (k : ℕ) → k < 6 → list_all (λ i. is_apart i k) (range_with_len 0 k) ≡ true
-    row k lt =
-        all-range (λ k. list_all (λ i. is_apart i k) (range_with_len 0 k)) 0 6 k refl (omega arith) (omega arith)

@@ -1,5 +1,5 @@
 -- One term of the variance: a number times a quotient of whole numbers.
-use Rattle.std.proofs.Common.{◌≡◌, ℕ, ◌+◌, ◌*◌, ◌/◌, ◌%◌, ◌^◌, ◌<◌, ◌≤◌, min, ℤ, pos, negsuc, ◌+ℤ◌, ◌*ℤ◌, ap, sym, ◌∙◌, arith, lit<, mul-pos, mul-le-mul_right}
+use Rattle.std.proofs.Common.{◌≡◌, ℕ, ◌+◌, ◌*◌, ◌/◌, ◌%◌, ◌^◌, ◌<◌, ◌≤◌, min, ℤ, pos, negsuc, ◌+ℤ◌, ◌*ℤ◌, ap, sym, ◌∙◌, arith, lit<, mul-pos}
 use Rattle.std.specs.Int.{div_ceil}
 use Rattle.std.proofs.Math.Nat.{add-mul-div_right, add-mul-mod_self_right}
 use Rattle.std.proofs.lemmas.Nat.{div-add-mod'}
@@ -68,10 +68,3 @@ pub amount-term : (x num den : ℕ) → 0 < den → 40 * num ≤ den → x ≤ 1
 amount-term x num den positive small few =
     amount-scale (10 ^ 32) (25 * 10 ^ 29) num den (exact_ends (pos x)) positive (omega arith)
     (amount-exact (10 ^ 32) x few)
-
--- the exact part leaves room
-pub whole_fits : (x num den : ℕ) → 0 < den → 40 * num ≤ den → x ≤ 10 ^ 32 → num * (x / den) < 2 ^ 127
-whole_fits x num den positive small few =
-    let a : den * (x / den) ≤ x = omega (arith, div-add-mod' x den) in
-    let b : 40 * num * (x / den) ≤ den * (x / den) = mul-le-mul_right (x / den) small in
-    omega arith

@@ -16,8 +16,6 @@ mod losses;
 mod numbers;
 mod quotients;
 mod terms;
-#[cfg(test)]
-mod tests;
 
 pub use banded::{Banded, type1};
 pub use classes::class_of_step;

@@ -1,16 +1,12 @@
 -- Reading the items of a list one after another.
-use Rattle.std.proofs.Common.{◌≡◌, ◌≢◌, ℕ, suc, ◌+◌, ◌<◌, ◌≤◌, ◌==◌, List, [], ◌∷◌, ◌++◌, length, take, drop, set}
-use Rattle.std.proofs.Common.{get_or, Option, Some, None, option_map, cond, All, refl, sym, ap, ◌∙◌, append_assoc}
-use Rattle.std.proofs.Common.{add-one, eq-eqb, append-nil, inl, inr, ℤ, pos, negsuc}
+use Rattle.std.proofs.Common.{◌≡◌, ◌≢◌, ℕ, suc, ◌≤◌, ◌==◌, List, [], ◌∷◌, ◌++◌, length, take, drop, Option, Some, None, option_map, cond, All, refl, sym, ap, ◌∙◌, inl, inr, ℤ, pos, negsuc}
 use Rattle.std.proofs.lemmas.Bool.{cases_lt, le-leb, lt-leb}
 use Rattle.std.specs.Prelude.{option_and_then}
-use Rattle.std.proofs.Math.Seq.{take-suc-set, take-length, drop-length}
 use Rattle.std.proofs.lemmas.Bool.Decides.{eqb_tells}
 use Rattle.std.proofs.lemmas.List.Elements.{All-cons, All-nil}
 use Rattle.toml.specs.declared.value.Value.{Value}
 use Rattle.toml.specs.Data.{Data, Items, no_items, item, as_integer, as_array}
 use Rattle.toml.specs.View.{view, items_view}
-use Rattle.toml.proofs.Views.{items_view-drop}
 use Rattle.scr_factors.specs.Forms.{up_to, whole_number, each, list_of}
 
 -- what is found of an item and of those after it
@@ -86,45 +82,6 @@ list_of-all P form count d found gives h = go (as_array d) refl
 pub record ReadTo {A : Type 0} (form : Data → Option A) (vs : List Value) (found : List A) (i : ℕ) : Type 0 where
   pub so_far : each form (items_view vs) ≡ option_map (λ rest. take i found ++ rest)
       (each form (items_view (drop i vs)))
-
-map_same : {A : Type 0} (o : Option (List A)) → o ≡ option_map (λ rest. [] ++ rest) o
-map_same None = refl
-map_same (Some xs) = refl
-
-pub read_to-start : {A : Type 0} (form : Data → Option A) (vs : List Value) (found : List A) → ReadTo form vs found 0
-read_to-start form vs found = record { so_far = map_same (each form (items_view vs)) }
-
-map_next : {A : Type 0} (xs : List A) (a : A) (o : Option (List A))
-    → option_map (λ rest. xs ++ rest) (option_map (λ rest. a ∷ rest) o) ≡ option_map (λ rest. (xs ++ a ∷ []) ++ rest) o
-map_next xs a None = refl
-map_next xs a (Some rest) = rw append_assoc
-
-pub read_to-next : {A : Type 0} (form : Data → Option A) (vs : List Value) (found : List A) (i : ℕ) (v : Value) (a : A)
-    → i < length vs → i < length found → form (view (get_or vs i v)) ≡ Some a → ReadTo form vs found i
-    → ReadTo form vs (set found i a) (i + 1)
-read_to-next form vs found i v a lt room is h =
-    let here = items_view-drop vs i v lt in
-    let stored : take (i + 1) (set found i a) ≡ take i found ++ a ∷ [] = rw add-one (take-suc-set found i a room) in
-    record {
-      so_far = h.so_far ∙ rw (here, is, stored) (map_next (take i found) a (each form (items_view (drop (i + 1) vs))));
-    }
-
-pub read_to-none : {A : Type 0} (form : Data → Option A) (count : ℕ) (d : Data) (vs : List Value) (found : List A)
-    (i : ℕ) (v : Value) → as_array d ≡ Some (items_view vs) → i < length vs → form (view (get_or vs i v)) ≡ None
-    → ReadTo form vs found i → list_of count form d ≡ None
-read_to-none form count d vs found i v is lt none h =
-    let here = items_view-drop vs i v lt in
-    let fails : each form (items_view vs) ≡ None = h.so_far ∙ rw (here, none) refl in
-    list_of-items form count d (items_view vs) is ∙ rw fails refl
-
-pub read_to-end : {A : Type 0} (form : Data → Option A) (count : ℕ) (d : Data) (vs : List Value) (found : List A)
-    → as_array d ≡ Some (items_view vs) → length vs ≡ count → length found ≡ count → ReadTo form vs found count
-    → list_of count form d ≡ Some found
-read_to-end form count d vs found is all same h =
-    let rest : drop count vs ≡ [] = rw (← all) (drop-length vs) in
-    let whole : take count found ≡ found = rw (← same) (take-length found) in
-    let read : each form (items_view vs) ≡ Some found = h.so_far ∙ rw (rest, whole, append-nil found) refl in
-    list_of-items form count d (items_view vs) is ∙ rw (read, eq-eqb (length found) count same) refl
 
 -- a whole number that has the form is within the limit
 pub whole_number-bound : (limit : ℕ) (d : Data) (n : ℕ) → whole_number limit d ≡ Some n → n ≤ limit

@@ -1,17 +1,12 @@
 -- Writing a list into the front of a longer one.
-use Rattle.std.proofs.Common.{◌≡◌, ℕ, suc, ◌+◌, ◌-◌, ◌<◌, List, [], ◌∷◌, ◌++◌, length, take, set, get_or, map}
-use Rattle.std.proofs.Common.{replicate, refl, sym, ◌∙◌, arith, append_assoc}
-use Rattle.std.proofs.Math.Seq.{take-length, set-append_seam}
+use Rattle.std.proofs.Common.{◌≡◌, ℕ, suc, ◌+◌, ◌-◌, ◌<◌, List, [], ◌∷◌, ◌++◌, length, take, set, get_or, map, replicate, sym, ◌∙◌, arith, append_assoc}
+use Rattle.std.proofs.Math.Seq.{set-append_seam}
 use Rattle.std.proofs.lemmas.List.{length-take-le, length-map, map-append, take_more}
 
 -- the first i places hold what f gives, and the others are still filled
 pub record PaddedTo {A B : Type 0} (f : A → B) (fill : B) (count : ℕ) (xs : List A) (out : List B)
     (i : ℕ) : Type 0 where
   pub so_far : out ≡ map f (take i xs) ++ replicate (count - i) fill
-
-pub padded_to-start : {A B : Type 0} (f : A → B) (fill : B) (count : ℕ) (xs : List A)
-    → PaddedTo f fill count xs (replicate count fill) 0
-padded_to-start f fill count xs = let all : count - 0 ≡ count = omega arith in record { so_far = rw all refl }
 
 pub padded_to-next : {A B : Type 0} (f : A → B) (fill : B) (count : ℕ) (xs : List A) (out : List B) (i : ℕ) (x : A)
     → i < length xs → i < count → PaddedTo f fill count xs out i
@@ -27,7 +22,3 @@ padded_to-next f fill count xs out i x lt room h =
       so_far = rw (h.so_far, left, more) (rw front at seam
           ∙ sym (append_assoc (map f (take i xs)) (y ∷ []) (replicate (count - (i + 1)) fill)));
     }
-
-pub padded_to-end : {A B : Type 0} (f : A → B) (fill : B) (count : ℕ) (xs : List A) (out : List B)
-    → PaddedTo f fill count xs out (length xs) → out ≡ map f xs ++ replicate (count - length xs) fill
-padded_to-end f fill count xs out h = rw take-length at h.so_far

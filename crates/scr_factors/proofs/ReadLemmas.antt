@@ -1,20 +1,16 @@
 -- What is read has its form.
-use Rattle.std.proofs.Common.{◌≡◌, ℕ, suc, ◌<◌, ◌≤◌, Bool, true, false, List, [], ◌∷◌, ◌++◌, map, replicate, length}
-use Rattle.std.proofs.Common.{get_or, Option, Some, None, Result, Ok, Err, All, cond, refl, sym, ap, ◌∙◌, arith, rules}
-use Rattle.std.proofs.Common.{nat_eq, pos}
+use Rattle.std.proofs.Common.{◌≡◌, ℕ, suc, ◌<◌, ◌≤◌, Bool, true, false, List, [], ◌∷◌, ◌++◌, map, replicate, length, get_or, Option, Some, None, Result, Ok, Err, All, cond, refl, sym, ap, ◌∙◌, arith, rules, nat_eq, pos}
 use Rattle.std.specs.Prelude.{option_and_then, ok_or}
 use Rattle.std.proofs.lemmas.Bool.{eqb-true}
 use Rattle.std.proofs.lemmas.List.{get_or_append_left, get_or-map, length-map}
 use Rattle.std.proofs.lemmas.Int.{ints}
 use Rattle.std.proofs.lemmas.List.Elements.{All-cons, All-nil}
 use Rattle.toml.specs.Data.{Data, Members}
-use Rattle.scr_factors.specs.declared.key.Key.{Key}
+use Rattle.scr_factors.specs.declared.{key.Key.Key, fault.FactorFault.FactorFault}
 use Rattle.scr_factors.specs.declared.key.Key.TheVariants.{NlCorr}
 use Rattle.scr_factors.specs.declared.fault.FactorFault.TheVariants.{BadValue}
-use Rattle.scr_factors.specs.declared.fault.FactorFault.{FactorFault}
 use Rattle.scr_factors.specs.Keys.{value_at}
-use Rattle.scr_factors.specs.Forms.{list_of, whole_number, coefficient, has_unit_diagonal, correlation_rows}
-use Rattle.scr_factors.specs.Forms.{first_asymmetry}
+use Rattle.scr_factors.specs.Forms.{list_of, whole_number, coefficient, has_unit_diagonal, correlation_rows, first_asymmetry}
 use Rattle.scr_profile.specs.Matrix.{entry, IsCorrelation}
 use Rattle.scr_factors.specs.Reading.{◌>>=◌, formed, taken, numbers, rows, matrix_of, padded}
 use Rattle.scr_factors.specs.Values.{IsRow}

@@ -1,6 +1,5 @@
 -- The pairs of segments, row by row.
-use Rattle.std.proofs.Common.{◌≡◌, ℕ, zero, suc, ◌+◌, ◌-◌, ◌<◌, ◌≤◌, Bool, true, false, List, [], ◌∷◌, ◌++◌, map}
-use Rattle.std.proofs.Common.{Option, Some, None, option_map, cond, inl, inr, refl, sym, ap, ◌∙◌, arith}
+use Rattle.std.proofs.Common.{◌≡◌, ℕ, zero, suc, ◌+◌, ◌-◌, ◌<◌, ◌≤◌, Bool, true, false, List, [], ◌∷◌, ◌++◌, map, Option, Some, None, option_map, cond, inl, inr, refl, sym, ap, ◌∙◌, arith}
 use Rattle.std.proofs.lemmas.Bool.{cases_lt, cases_order}
 use Rattle.std.proofs.lemmas.Bool.Decides.{eqb_tells}
 use Rattle.std.specs.List.{find, flat_map, range_with_len}
@@ -57,9 +56,6 @@ searched_to-found rows i j lt h e = searched_to-row rows i lt h ∙ rw e refl
 pub searched_to-next : (rows : List (List ℕ)) (i : ℕ) → i < 12 → SearchedTo rows i → in_row rows i ≡ None
     → SearchedTo rows (i + 1)
 searched_to-next rows i lt h e = record { rest = searched_to-row rows i lt h ∙ rw e refl }
-
-pub searched_to-end : (rows : List (List ℕ)) → SearchedTo rows 12 → first_asymmetry rows ≡ None
-searched_to-end rows h = h.rest
 
 both_none : {A : Type 0} (o r : Option A) → option_or o r ≡ None → (o ≡ None) × (r ≡ None)
 both_none None r h = (refl, h)

@@ -10,8 +10,7 @@ use Rattle.scr_num.specs.Fraction.{Fraction, over, whole, zero_fraction, plus, p
 use Rattle.scr_num.specs.Figure.{Frac, AtMost}
 use Rattle.scr_num.specs.Enclosure.{Encloses}
 use Rattle.scr_num.proofs.Fractions.{≼_refl, ≼_trans, plus_mono, over-plus_le, over-plus_ge, times_split}
-use Rattle.scr_dates.specs.declared.day.Day.{Day}
-use Rattle.scr_dates.specs.declared.term.Maturity.{Maturity}
+use Rattle.scr_dates.specs.declared.{day.Day.Day, term.Maturity.Maturity}
 use Rattle.scr_dates.specs.declared.term.Maturity.TheVariants.{Past, Years, TooFar}
 use Rattle.scr_dates.specs.Years.{maturity_of, years_to, least_from}
 use Rattle.scr_num.specs.Sums.{Equals, weighted_sum}

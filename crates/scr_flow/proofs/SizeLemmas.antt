@@ -9,8 +9,7 @@ use Rattle.std.proofs.lemmas.List.FromFn.{length-map-range_with_len}
 use Rattle.std.proofs.lemmas.List.Sums.{sum_by-cons}
 use Rattle.scr_num.specs.Rounding.{Ends, exact_ends, add_ends, sub_ends, floor_div, ceil_div}
 use Rattle.scr_num.proofs.Quotients.{ceil_div-times, ceil_div-next}
-use Rattle.scr_dates.specs.declared.day.Day.{Day}
-use Rattle.scr_dates.specs.declared.term.Maturity.{Maturity}
+use Rattle.scr_dates.specs.declared.{day.Day.Day, term.Maturity.Maturity}
 use Rattle.scr_dates.specs.declared.term.Maturity.TheVariants.{Past, Years, TooFar}
 use Rattle.scr_dates.specs.Years.{maturity_of}
 use Rattle.scr_curve.specs.DiscountEnds.{IsDiscount}

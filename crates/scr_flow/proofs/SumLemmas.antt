@@ -10,7 +10,7 @@ use Rattle.scr_num.specs.Rounding.{Ends, exact_ends, add_ends}
 use Rattle.scr_num.specs.Enclosure.{Encloses}
 use Rattle.scr_num.proofs.Fractions.{≼_refl, ≼_trans, multiple_mono, negative_multiple_mono}
 use Rattle.scr_num.proofs.Enclosing.{Encloses-exact, Encloses-add, Encloses-plus}
-use Rattle.scr_num.proofs.AddedEnds.{add_ends-assoc, zero-add_ends, add_ends-zero}
+use Rattle.scr_num.proofs.AddedEnds.{add_ends-assoc, add_ends-zero}
 use Rattle.scr_num.proofs.Quotients.{times_le}
 use borrow.Author.Differences.{up, down}
 use Rattle.scr_num.specs.Sums.{weighted_sum}
@@ -128,14 +128,6 @@ order_turned : (n : ℕ) (a b : ℤ) → a ≤ℤ b → (negsuc n *ℤ b) ≤ℤ
 order_turned n a b h =
     let scaled : (up a + down b) * suc n ≤ (up b + down a) * suc n = mul-le-mul_right (suc n) (omega (arith, ints)) in omega (arith, ints, scaled)
 
-pub flow_ends-negative : (flow : ℤ) (e : Ends) → flow <ℤ pos 0 → flow_ends flow e ≡ record { low = flow *ℤ e.high; high = flow *ℤ e.low }
-flow_ends-negative (pos n) e h = absurd (omega (arith, ints))
-flow_ends-negative (negsuc n) e h = refl
-
-pub flow_ends-other : (flow : ℤ) (e : Ends) → pos 0 ≤ℤ flow → flow_ends flow e ≡ record { low = flow *ℤ e.low; high = flow *ℤ e.high }
-flow_ends-other (pos n) e h = refl
-flow_ends-other (negsuc n) e h = absurd (omega (arith, ints))
-
 pub negative_order : (flow low high : ℤ) → flow <ℤ pos 0 → low ≤ℤ high → (flow *ℤ high) ≤ℤ (flow *ℤ low)
 negative_order (pos n) low high h k = absurd (omega (arith, ints))
 negative_order (negsuc n) low high h k = order_turned n low high k
@@ -155,9 +147,6 @@ pub record IsSumBefore (i : ℕ) (flows : List ℤ) (es : List Ends) (sum : Ends
   pub so_far : add_ends sum (weighted_ends (drop i flows) (drop i es)) ≡ weighted_ends flows es
   pub low : unsigned_abs sum.low + most * sum_by unsigned_abs (drop i flows) ≤ most * sum_by unsigned_abs flows
   pub high : unsigned_abs sum.high + most * sum_by unsigned_abs (drop i flows) ≤ most * sum_by unsigned_abs flows
-
-pub sum_begun : (flows : List ℤ) (es : List Ends) → IsSumBefore 0 flows es (exact_ends (pos 0))
-sum_begun flows es = record { places = λ some. absurd (omega (arith, some)); so_far = zero-add_ends (weighted_ends flows es); low = omega arith; high = omega arith }
 
 size_more : (f rest all : ℕ) (b x y : ℤ) → b ≡ x +ℤ y → unsigned_abs y ≤ most * f → unsigned_abs x + most * (f + rest) ≤ all → unsigned_abs b + most * rest ≤ all
 size_more f rest all b x y e small h = omega (arith, ints, e, small, h)

@@ -1,22 +1,15 @@
 -- No total is above all that is held: what leads to a name has its value from what is held of it, and passes on to the
 -- name no more than that.
-use Rattle.std.proofs.Common.{◌≡◌, ◌⊎◌, ℕ, ◌+◌, ◌≤◌, Bool, true, false, IsTrue, List, [], ◌∷◌, Option, Some, None}
-use Rattle.std.proofs.Common.{map, length, sum, sum_by, is_some, if◌then◌else◌, All, Contains, refl, sym, ap}
-use Rattle.std.proofs.Common.{subst, ◌∙◌, inl, inr, arith}
+use Rattle.std.proofs.Common.{◌≡◌, ◌⊎◌, ℕ, ◌+◌, ◌≤◌, Bool, true, false, IsTrue, List, [], ◌∷◌, Option, Some, None, map, length, sum, sum_by, is_some, if◌then◌else◌, All, Contains, refl, sym, ap, subst, ◌∙◌, inl, inr, arith}
 use Rattle.std.specs.List.{IsDistinct}
 use Rattle.std.proofs.lemmas.Bool.{true≢false, cond_both}
-use Rattle.std.proofs.lemmas.List.{length-map}
-use Rattle.std.proofs.lemmas.List.Elements.{All-contains}
-use Rattle.std.proofs.lemmas.List.FromFn.{length-map-range_with_len}
 use Rattle.scr_funds.specs.Chains.{LeadsTo, IsAcyclic}
 use Rattle.scr_funds.specs.LookThrough.{Shared, parts_of, part_in, names_in, total}
-use Rattle.scr_funds.specs.Parts.{part_of}
 use Rattle.scr_funds.specs.Paths.{path_within}
 use Rattle.scr_funds.proofs.Climbs.{same_or_other}
 use Rattle.scr_funds.proofs.EarliestPaths.{path_within-told, path_within-none}
-use Rattle.scr_funds.proofs.LookThroughLaws.{falling_to-none, falling_to-all, names_in-own, parts-so_far}
-use Rattle.scr_funds.proofs.LookThroughLaws.{total_is}
-use Rattle.scr_funds.proofs.Members.{IsMember, IsMember-from_Contains, Contains-from_IsMember, IsMember-map}
+use Rattle.scr_funds.proofs.LookThroughLaws.{falling_to-none, falling_to-all, names_in-own, parts-so_far, total_is, component-listed, fund-listed, one_or_other, parts-counted}
+use Rattle.scr_funds.proofs.Members.{IsMember, IsMember-from_Contains, Contains-from_IsMember}
 use Rattle.scr_funds.proofs.Shares.{first_parts-within}
 use Rattle.scr_funds.proofs.SplitSums.{sum_by-member, sum_by-some_le}
 use Rattle.scr_funds.proofs.SumsBy.{sum_by-same, sum_by-none, sum_by-within, sum_by-add, sum_by-swap, sum_by-map}
@@ -40,10 +33,6 @@ chosen-and-one chosen f names x m not_chosen =
     sum_by-member (λ y. if chosen y then 0 else f y) names x m in
     let own : (if chosen x then 0 else f x) ≡ f x = ap (λ b. if b then 0 else f x) not_chosen in
     omega (arith, split, one, own)
-  where
-    one_or_other : (b : Bool) (n : ℕ) → n ≡ (if b then n else 0) + (if b then 0 else n)
-    one_or_other true n = omega arith
-    one_or_other false n = omega arith
 
 module _ {A : Type 0} (same : A → A → Bool) (is_same : (x y : A) → IsTrue (same x y) → x ≡ y)
     (same_self : (x : A) → IsTrue (same x x))
@@ -58,34 +47,14 @@ module _ {A : Type 0} (same : A → A → Bool) (is_same : (x y : A) → IsTrue 
   abbrev part : Shared A → A → ℕ
   part fund y = part_in same (worth fund.0) fund.1 y
 
-  fund_listed : (y : A) → IsMember y (map (λ f. f.0) funds) → IsMember y names
-  fund_listed y m =
-      let fund = IsMember-map (λ f. f.0) funds y m in
-      subst (λ z. IsMember z names) fund.2
-      (IsMember-from_Contains names fund.0.0
-      (All-contains (λ f. Contains names f.0) funds fund.0 listed (Contains-from_IsMember funds fund.0 fund.1)))
-
   -- a fund passes on no more than it has
   passed-within : (fund : Shared A) → IsMember fund funds → sum_by (part fund) names ≤ worth fund.0
   passed-within fund m =
       subst (λ n. n ≤ worth fund.0)
       (sym (falling_to-all same is_same same_self names once (map (λ c. c.0) fund.1)
-      (parts_of (worth fund.0) (map (λ c. c.1) fund.1)) counts within))
+      (parts_of (worth fund.0) (map (λ c. c.1) fund.1)) (parts-counted (worth fund.0) fund.1)
+      (component-listed funds names spread fund m)))
       (parts-within (worth fund.0) (map (λ c. c.1) fund.1))
-    where
-      counts : length (parts_of (worth fund.0) (map (λ c. c.1) fund.1))
-          ≡ length (map {A = A × ℕ} {B = A} (λ c. c.0) fund.1)
-      counts = length-map-range_with_len (part_of (worth fund.0) (map (λ c. c.1) fund.1)) 0
-          (length (map {A = A × ℕ} {B = ℕ} (λ c. c.1) fund.1))
-          ∙ length-map {A = A × ℕ} {B = ℕ} fund.1 (λ c. c.1) ∙ sym (length-map {A = A × ℕ} {B = A} fund.1 (λ c. c.0))
-
-      within : (y : A) → IsMember y (map (λ c. c.0) fund.1) → IsMember y names
-      within y k =
-          let c = IsMember-map (λ c. c.0) fund.1 y k in
-          subst (λ z. IsMember z names) c.2
-          (IsMember-from_Contains names c.0.0 (All-contains (λ d. Contains names d.0) fund.1 c.0
-          (All-contains (λ f. All (λ d. Contains names d.0) f.1) funds fund spread
-          (Contains-from_IsMember funds fund m)) (Contains-from_IsMember fund.1 c.0 c.1)))
 
   -- `chosen` has whatever holds x or one of its own, and not x itself
   module _ (x : A) (there : IsMember x names) (chosen : A → Bool) (not_chosen : chosen x ≡ false)
@@ -143,7 +112,7 @@ module _ {A : Type 0} (same : A → A → Bool) (is_same : (x y : A) → IsTrue 
         ≤ sum_by (λ y. if chosen y then worth y else 0) names =
         subst (λ n. n ≤ sum_by (λ y. if chosen y then worth y else 0) names)
         (sum_by-map (λ y. if chosen y then worth y else 0) (λ fund. fund.0) funds)
-        (sum_by-some_le same is_same same_self names (map (λ fund. fund.0) funds) once apart fund_listed
+        (sum_by-some_le same is_same same_self names (map (λ fund. fund.0) funds) once apart (fund-listed funds names listed)
         (λ y. if chosen y then worth y else 0)) in
         let least : held x + sum_by (λ y. if chosen y then held y else 0) names ≤ sum_by held names =
         chosen-and-one chosen held names x there not_chosen in

@@ -1,11 +1,10 @@
 -- Climbing from component to holder: where nothing leads to itself, a climb meets nothing twice, so it is no longer
 -- than the list of all that it can meet.
-use Rattle.std.proofs.Common.{◌≡◌, ◌⊎◌, ℕ, zero, suc, ◌<◌, ◌≤◌, Bool, true, false, IsTrue, List, [], ◌∷◌, length}
-use Rattle.std.proofs.Common.{Contains, refl, sym, ap, subst, ◌∙◌, inl, inr, arith}
+use Rattle.std.proofs.Common.{◌≡◌, ℕ, zero, suc, ◌<◌, ◌≤◌, Bool, true, false, IsTrue, List, [], ◌∷◌, length, Contains, refl, sym, ap, subst, ◌∙◌, inl, inr, arith}
 use Rattle.std.specs.Cmp.{IsEquivalence}
 use Rattle.std.specs.List.{AllByRecursion, IsDistinct}
 use Rattle.std.specs.Set.{is_member}
-use Rattle.std.proofs.lemmas.Bool.{true≢false, or_cases, or_left, or_right}
+use Rattle.std.proofs.lemmas.Bool.{true≢false}
 use Rattle.std.proofs.lemmas.Map.Made.{length-le_from_is_member}
 use Rattle.scr_funds.specs.Chains.{IsChain, LeadsTo, IsAcyclic}
 use Rattle.scr_funds.proofs.Members.{IsMember, each_weaker}
@@ -36,20 +35,11 @@ module _ {A : Type 0} (same : A → A → Bool) (is_same : (x y : A) → IsTrue 
 
   pub is_member-from_IsMember : (xs : List A) (x : A) → IsMember x xs → is_member same xs x ≡ true
   is_member-from_IsMember [] x m = absurd m
-  is_member-from_IsMember (y ∷ ys) x (inl e) =
-      or_left (same x y) (is_member same ys x) (ap (same x) (sym e) ∙ same_self x)
-  is_member-from_IsMember (y ∷ ys) x (inr m) =
-      or_right (same x y) (is_member same ys x) (is_member-from_IsMember ys x m)
+  is_member-from_IsMember (y ∷ ys) x m = let rest = is_member-from_IsMember ys x in grind (arith, m, rest, same_self x)
 
   pub IsMember-from_is_member : (xs : List A) (x : A) → is_member same xs x ≡ true → IsMember x xs
   IsMember-from_is_member [] x t = absurd (true≢false (sym t))
-  IsMember-from_is_member (y ∷ ys) x t = by (or_cases (same x y) (is_member same ys x) t)
-      (λ k. IsMember-from_is_member ys x k)
-    where
-      by : (same x y ≡ true) ⊎ (is_member same ys x ≡ true) → (is_member same ys x ≡ true → IsMember x ys)
-          → IsMember x (y ∷ ys)
-      by (inl k) later = inl (is_same x y k)
-      by (inr k) later = inr (later k)
+  IsMember-from_is_member (y ∷ ys) x t = let rest = IsMember-from_is_member ys x in grind (arith, t, rest, is_same x y)
 
   -- a list without repeats has no more than a list that has all of its own
   pub length-le_from_members : (xs ys : List A) → IsDistinct same xs → ((x : A) → IsMember x xs → IsMember x ys)

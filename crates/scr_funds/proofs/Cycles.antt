@@ -1,6 +1,5 @@
 -- What becomes of chains where the components of one holder change.
-use Rattle.std.proofs.Common.{◌≡◌, ◌≢◌, ◌⊎◌, List, [], ◌∷◌, ◌++◌, length, Contains, sym, ap, subst, ◌∙◌, inl, inr}
-use Rattle.std.proofs.Common.{arith}
+use Rattle.std.proofs.Common.{◌≡◌, ◌≢◌, ◌⊎◌, List, [], ◌∷◌, ◌++◌, length, Contains, sym, ap, subst, ◌∙◌, inl, inr, arith}
 use Rattle.scr_funds.specs.Chains.{IsMetBefore, IsChain, LeadsTo, IsAcyclic, ComesEarlier, IsFirstShortest}
 use Rattle.scr_funds.proofs.Members.{met_before-trans, not_before_itself}
 

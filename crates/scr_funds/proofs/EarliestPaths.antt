@@ -1,7 +1,5 @@
 -- The path that is computed is the first shortest chain, and where none is found there is no chain.
-use Rattle.std.proofs.Common.{◌≡◌, ◌≢◌, ◌⊎◌, ℕ, zero, suc, ◌+◌, ◌<◌, ◌≤◌, Bool, true, false, ◌||◌, IsTrue}
-use Rattle.std.proofs.Common.{if◌then◌else◌, List, [], ◌∷◌, ◌++◌, length, Contains, Option, Some, None, slice_get, refl}
-use Rattle.std.proofs.Common.{sym, ap, subst, ◌∙◌, inl, inr, arith}
+use Rattle.std.proofs.Common.{◌≡◌, ◌≢◌, ◌⊎◌, ℕ, zero, suc, ◌+◌, ◌<◌, ◌≤◌, Bool, true, false, ◌||◌, IsTrue, if◌then◌else◌, List, [], ◌∷◌, ◌++◌, length, Contains, Option, Some, None, slice_get, refl, sym, ap, subst, ◌∙◌, inl, inr, arith}
 use Rattle.std.specs.List.{list_any}
 use Rattle.std.specs.Option.{option_or, option_map}
 use Rattle.std.proofs.lemmas.Bool.{cases_Bool, cases_lt, true≢false}
@@ -15,14 +13,9 @@ use Rattle.scr_funds.proofs.Members.{IsMember, IsMember-from_Contains, Contains-
 module _ {A : Type 0} (way : A → Option (List A)) where
   first_way-none : (xs : List A) → first_way way xs ≡ None → (x : A) → IsMember x xs → way x ≡ None
   first_way-none [] h x m = absurd m
-  first_way-none (y ∷ ys) h x m = by (way y) refl h m (first_way-none ys)
-    where
-      by : (o : Option (List A)) → way y ≡ o → option_or (option_map (λ on. y ∷ on) o) (first_way way ys) ≡ None
-          → (x ≡ y) ⊎ IsMember x ys
-          → (first_way way ys ≡ None → (z : A) → IsMember z ys → way z ≡ None) → way x ≡ None
-      by None e none (inl same) later = ap way same ∙ e
-      by None e none (inr k) later = later none x k
-      by (Some on) e none k later = absurd (let clash : Some (y ∷ on) ≡ None = none in cc)
+  first_way-none (y ∷ ys) h x m =
+      let rest : first_way way ys ≡ None → IsMember x ys → way x ≡ None = λ e. first_way-none ys e x in
+      grind (arith, h, m, rest)
 
   -- the way goes on from the first of the list that has one
   record GoesOn (xs found : List A) : Type 0 where
@@ -114,35 +107,18 @@ module _ {A : Type 0} (same : A → A → Bool) (is_same : (x y : A) → IsTrue 
 
   member_or_not : (x : A) (ys : List A) → IsMember x ys ⊎ (¬ IsMember x ys)
   member_or_not x [] = inr (λ m. m)
-  member_or_not x (y ∷ ys) = by (equal x y) (member_or_not x ys)
-    where
-      by : (x ≡ y) ⊎ (x ≢ y) → IsMember x ys ⊎ (¬ IsMember x ys) → IsMember x (y ∷ ys) ⊎ (¬ IsMember x (y ∷ ys))
-      by (inl e) rest = inl (inl e)
-      by (inr n) (inl m) = inl (inr m)
-      by (inr n) (inr none) = inr neither
-        where
-          neither : IsMember x (y ∷ ys) → ⊥
-          neither (inl e) = n e
-          neither (inr m) = none m
+  member_or_not x (y ∷ ys) =
+      let one = equal x y in
+      let rest = member_or_not x ys in
+      grind (arith, one, rest)
 
   IsMember-any : (xs : List A) (b : A) → list_any (λ c. same c b) xs ≡ true → IsMember b xs
   IsMember-any [] b h = absurd (true≢false (sym h))
-  IsMember-any (x ∷ xs) b h = by (same x b) refl h (IsMember-any xs b)
-    where
-      by : (t : Bool) → same x b ≡ t → (t || list_any (λ c. same c b) xs) ≡ true
-          → (list_any (λ c. same c b) xs ≡ true → IsMember b xs) → IsMember b (x ∷ xs)
-      by true e h later = inl (sym (is_same x b e))
-      by false e h later = inr (later h)
+  IsMember-any (x ∷ xs) b h = let rest = IsMember-any xs b in grind (arith, h, rest, is_same x b)
 
   any-IsMember : (xs : List A) (b : A) → IsMember b xs → list_any (λ c. same c b) xs ≡ true
   any-IsMember [] b h = absurd h
-  any-IsMember (x ∷ xs) b (inl e) = ap (λ t. t || list_any (λ c. same c b) xs)
-      (subst (λ z. same z b ≡ true) e (same_self b))
-  any-IsMember (x ∷ xs) b (inr m) = by (same x b) (any-IsMember xs b m)
-    where
-      by : (t : Bool) → list_any (λ c. same c b) xs ≡ true → (t || list_any (λ c. same c b) xs) ≡ true
-      by true e = refl
-      by false e = e
+  any-IsMember (x ∷ xs) b m = let rest = any-IsMember xs b in grind (arith, m, rest, same_self b)
 
   module _ (components : A → List A) where
     -- ---- the earliest chain that has so many between its ends

@@ -1,61 +1,29 @@
 -- What the search notes down, entry by entry: which funds it has reached, and through what each is led to.
-use Rattle.std.proofs.Common.{◌≡◌, ◌⊎◌, ℕ, ◌+◌, ◌<◌, ◌≤◌, suc, zero, Bool, true, false, nat_eq, List, [], ◌∷◌, ◌++◌}
-use Rattle.std.proofs.Common.{map, length, Contains, Some, None, is_some, cond, if◌then◌else◌, slice_get, refl, sym, ap}
-use Rattle.std.proofs.Common.{subst, ◌∙◌, inl, inr, arith}
+use Rattle.std.proofs.Common.{◌≡◌, ℕ, ◌+◌, ◌<◌, ◌≤◌, suc, zero, Bool, true, false, nat_eq, List, [], ◌∷◌, ◌++◌, map, length, Contains, Some, None, is_some, if◌then◌else◌, slice_get, refl, sym, ap, subst, ◌∙◌, arith}
 use Rattle.std.specs.Map.{lookup, keys_of}
 use Rattle.std.proofs.lemmas.Bool.{true≢false}
-use Rattle.std.proofs.lemmas.Bool.Decides.{eqb_tells}
 use Rattle.std.proofs.lemmas.List.{append_assoc, append-nil, map-append, length-append, length-map}
 use Rattle.indexmap.specs.IndexMap.{insert_entry}
 use Rattle.scr_funds.specs.Search.{IsTraced}
 use Rattle.scr_funds.proofs.Members.{IsMember}
 use Rattle.scr_funds.specs.Chains.{LeadsTo, IsFirstShortest}
 use Rattle.scr_funds.proofs.Trails.{onto, tip}
-use Rattle.scr_funds.proofs.Explored.{Explored, explored_none, explored_again, explored_new, explored_next}
-use Rattle.scr_funds.proofs.Explored.{first_shortest, leads_nowhere}
+use Rattle.scr_funds.proofs.Explored.{Explored, explored_none, explored_again, explored_new, explored_next, first_shortest, leads_nowhere}
 
 -- ---- a look-up
 
--- the first entry does not count where its key is another one
-past_other : (c : ℕ) (e : ℕ × ℕ) (es : List (ℕ × ℕ)) (b : Bool) → nat_eq c e.0 ≡ false
-    → is_some (lookup (nat_eq c) (e ∷ es)) ≡ b → is_some (lookup (nat_eq c) es) ≡ b
-past_other c e es b other h = sym (ap (λ t. is_some (cond t (Some e.1) (lookup (nat_eq c) es))) other) ∙ h
-
-found_first : (c : ℕ) (e : ℕ × ℕ) (es : List (ℕ × ℕ)) → nat_eq c e.0 ≡ true
-    → is_some (lookup (nat_eq c) (e ∷ es)) ≡ false → ⊥
-found_first c e es same h = true≢false (sym (ap (λ t. is_some (cond t (Some e.1) (lookup (nat_eq c) es))) same) ∙ h)
-
 pub reached_before : (c : ℕ) (es : List (ℕ × ℕ)) → is_some (lookup (nat_eq c) es) ≡ true → IsMember c (keys_of es)
 reached_before c [] h = absurd (true≢false (sym h))
-reached_before c (e ∷ es) h = by (eqb_tells c e.0) (λ other. reached_before c es (past_other c e es true other h))
-  where
-    by : ((nat_eq c e.0 ≡ true) × (c ≡ e.0)) ⊎ ((nat_eq c e.0 ≡ false) × (c ≡ e.0 → ⊥))
-        → (nat_eq c e.0 ≡ false → IsMember c (keys_of es)) → IsMember c (keys_of (e ∷ es))
-    by (inl t) later = inl t.1
-    by (inr f) later = inr (later f.0)
+reached_before c (e ∷ es) h = let rest = reached_before c es in grind (arith, h, rest)
 
 pub not_reached : (c : ℕ) (es : List (ℕ × ℕ)) → is_some (lookup (nat_eq c) es) ≡ false → IsMember c (keys_of es) → ⊥
 not_reached c [] h m = absurd m
-not_reached c (e ∷ es) h m = by (eqb_tells c e.0) m (λ other. not_reached c es (past_other c e es false other h))
-  where
-    by : ((nat_eq c e.0 ≡ true) × (c ≡ e.0)) ⊎ ((nat_eq c e.0 ≡ false) × (c ≡ e.0 → ⊥)) → IsMember c (keys_of (e ∷ es))
-        → (nat_eq c e.0 ≡ false → IsMember c (keys_of es) → ⊥) → ⊥
-    by (inl t) k later = found_first c e es t.0 h
-    by (inr f) (inl k) later = f.1 k
-    by (inr f) (inr k) later = later f.0 k
+not_reached c (e ∷ es) h m = let rest = not_reached c es in grind (arith, h, m, rest)
 
 pub insert_entry-last : (c place : ℕ) (es : List (ℕ × ℕ)) → is_some (lookup (nat_eq c) es) ≡ false
     → insert_entry nat_eq es c place ≡ es ++ (c, place) ∷ []
 insert_entry-last c place [] h = refl
-insert_entry-last c place (e ∷ es) h = by (eqb_tells c e.0)
-    (λ other. insert_entry-last c place es (past_other c e es false other h))
-  where
-    by : ((nat_eq c e.0 ≡ true) × (c ≡ e.0)) ⊎ ((nat_eq c e.0 ≡ false) × (c ≡ e.0 → ⊥))
-        → (nat_eq c e.0 ≡ false → insert_entry nat_eq es c place ≡ es ++ (c, place) ∷ [])
-        → insert_entry nat_eq (e ∷ es) c place ≡ (e ∷ es) ++ (c, place) ∷ []
-    by (inl t) later = absurd (found_first c e es t.0 h)
-    by (inr f) later = ap (λ b. cond b ((e.0, place) ∷ es) (e ∷ insert_entry nat_eq es c place)) f.0
-        ∙ ap (λ t. e ∷ t) (later f.0)
+insert_entry-last c place (e ∷ es) h = let rest = insert_entry-last c place es in grind (arith, h, rest)
 
 -- ---- traces
 

@@ -1,16 +1,11 @@
 -- What a search in order of distance has found out: the ways to what it reached are shortest ones and the first of
 -- these.
-use Rattle.std.proofs.Common.{◌≡◌, ◌⊎◌, ℕ, ◌+◌, ◌≤◌, suc, List, [], ◌∷◌, ◌++◌, map, length, Contains, refl, sym, ap}
-use Rattle.std.proofs.Common.{subst, ◌∙◌, inl, inr, arith}
+use Rattle.std.proofs.Common.{◌≡◌, ◌⊎◌, ℕ, ◌+◌, ◌≤◌, suc, List, [], ◌∷◌, ◌++◌, map, length, Contains, refl, sym, ap, subst, ◌∙◌, inl, inr, arith}
 use Rattle.std.specs.List.{AllByRecursion}
 use Rattle.std.proofs.lemmas.List.{append_assoc, append-nil, map-append}
 use Rattle.scr_funds.specs.Chains.{IsMetBefore, LeadsTo, ComesEarlier, IsFirstShortest}
-use Rattle.scr_funds.proofs.Members.{IsMember, IsMember-from_Contains, Contains-from_IsMember, IsMember-left}
-use Rattle.scr_funds.proofs.Members.{IsMember-right, IsMember-cases, IsMember-map, at_member, each_push, each_weaker}
-use Rattle.scr_funds.proofs.Members.{met_in_front}
-use Rattle.scr_funds.proofs.Trails.{onto, onto-append, length-onto, tip, IsTrail, IsSooner, IsNotLater, sooner-trans}
-use Rattle.scr_funds.proofs.Trails.{not_later-trans, sooner-cons, not_later-cons, sooner_than_longer, chain_from_trail}
-use Rattle.scr_funds.proofs.Trails.{trail_from_chain, comes_earlier}
+use Rattle.scr_funds.proofs.Members.{IsMember, IsMember-from_Contains, Contains-from_IsMember, IsMember-left, IsMember-right, IsMember-cases, IsMember-map, at_member, each_push, each_weaker, met_in_front}
+use Rattle.scr_funds.proofs.Trails.{onto, onto-append, length-onto, tip, IsTrail, IsSooner, IsNotLater, sooner-trans, not_later-trans, sooner-cons, not_later-cons, sooner_than_longer, chain_from_trail, trail_from_chain, comes_earlier}
 
 module _ (components : ℕ → List ℕ) (from to : ℕ) where
   -- no trail to the same end is sooner

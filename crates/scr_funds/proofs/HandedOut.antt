@@ -1,26 +1,19 @@
 -- Funds hand out what they have, each after all that hold it: then what each has is its total.
-use Rattle.std.proofs.Common.{◌≡◌, ◌⊎◌, ℕ, zero, suc, ◌+◌, ◌<◌, ◌≤◌, List, [], ◌∷◌, map, length, get_or, take, sum}
-use Rattle.std.proofs.Common.{sum_by, cond, nat_eq, if◌then◌else◌, All, Contains, refl, sym, ap, subst, ◌∙◌, inl, inr}
-use Rattle.std.proofs.Common.{arith, zero-add}
+use Rattle.std.proofs.Common.{◌≡◌, ◌⊎◌, ℕ, zero, suc, ◌+◌, ◌<◌, ◌≤◌, List, [], ◌∷◌, map, length, get_or, take, sum, sum_by, cond, nat_eq, if◌then◌else◌, All, Contains, refl, sym, ap, subst, ◌∙◌, inl, inr, arith, zero-add}
 use Rattle.std.specs.List.{IsDistinct, range_with_len}
-use Rattle.std.proofs.lemmas.Bool.{cases_lt, cond_both, eq-eqb}
-use Rattle.std.proofs.lemmas.List.{length-map, take_all, take_more, take-take, length-take, length-take-le}
+use Rattle.std.proofs.lemmas.Bool.{cases_lt, cond_both}
+use Rattle.std.proofs.lemmas.List.{take_all, take_more, take-take, length-take, length-take-le}
 use Rattle.std.proofs.lemmas.List.Elements.{All-contains, All-from_get_or, All-head, Contains-get_or}
-use Rattle.std.proofs.lemmas.List.FromFn.{fill_by_all, length-map-range_with_len, length-range_with_len}
+use Rattle.std.proofs.lemmas.List.FromFn.{fill_by_all, length-range_with_len}
 use Rattle.std.proofs.lemmas.List.Sums.{sum_by-cons, sum_by_more}
 use Rattle.scr_funds.specs.ByNumber.{IsRow, held_at, numbered}
 use Rattle.scr_funds.specs.Chains.{IsAcyclic}
 use Rattle.scr_funds.specs.HandedOn.{AreReady, times}
 use Rattle.scr_funds.specs.LookThrough.{Weighted, falling_to, names_in, part_in, parts_of, total}
-use Rattle.scr_funds.specs.Parts.{part_of}
 use Rattle.scr_funds.proofs.Climbs.{same_or_other, climbs-end}
-use Rattle.scr_funds.proofs.LookThroughLaws.{falling_to-none, falling_to-all, member_or_not, names_in-own, passed-whole}
-use Rattle.scr_funds.proofs.LookThroughLaws.{total_is}
-use Rattle.scr_funds.proofs.Members.{IsMember, IsMember-from_Contains, Contains-from_IsMember, IsMember-cases}
-use Rattle.scr_funds.proofs.Members.{IsMember-map}
-use Rattle.scr_funds.proofs.Ranges.{nat_is_same, nat_same_self, range_has, below_range, range-distinct, distinct-cons}
-use Rattle.scr_funds.proofs.Ranges.{member-take, distinct-take, not_in_front, sum_by-places, sum_by-numbered}
-use Rattle.scr_funds.proofs.Ranges.{numbered_once, member-numbered}
+use Rattle.scr_funds.proofs.LookThroughLaws.{falling_to-none, falling_to-all, member_or_not, names_in-own, passed-whole, total_is, parts-counted}
+use Rattle.scr_funds.proofs.Members.{IsMember, IsMember-from_Contains, Contains-from_IsMember, IsMember-cases, IsMember-map}
+use Rattle.scr_funds.proofs.Ranges.{nat_is_same, nat_same_self, range_has, below_range, range-distinct, distinct-cons, member-take, distinct-take, not_in_front, sum_by-places, sum_by-numbered, numbered_once, member-numbered}
 use Rattle.scr_funds.proofs.SplitSums.{sum_by-some_le, sum_by-all_there, none_left_out, one_left_out}
 use Rattle.scr_funds.proofs.SumsBy.{sum_by-same, sum_by-within, sum_by-add, sum_by-swap}
 
@@ -31,17 +24,11 @@ times-cons x c cs = sum_by-cons (λ d. cond (nat_eq x d.0) 1 0) c cs
 
 pub times-none : (x : ℕ) (row : Weighted ℕ) → (IsMember x (map (λ c. c.0) row) → ⊥) → times x row ≡ 0
 times-none x [] apart = refl
-times-none x (c ∷ cs) apart = same_or_other nat_eq nat_is_same nat_same_self x c.0
-    (λ t e. absurd (apart (inl e)))
-    (λ f n. times-cons x c cs ∙ ap (λ b. (if b then 1 else 0) + times x cs) f ∙ zero-add (times x cs)
-    ∙ times-none x cs (λ m. apart (inr m)))
+times-none x (c ∷ cs) apart = let rest = times-none x cs in grind (arith, apart, rest, times-cons x c cs)
 
 pub times-some : (x : ℕ) (row : Weighted ℕ) → IsMember x (map (λ c. c.0) row) → 0 < times x row
 times-some x [] m = absurd m
-times-some x (c ∷ cs) (inl e) =
-    let one : times x (c ∷ cs) ≡ 1 + times x cs =
-    times-cons x c cs ∙ ap (λ b. (if b then 1 else 0) + times x cs) (eq-eqb x c.0 e) in omega (arith, one)
-times-some x (c ∷ cs) (inr m) = let later : 0 < times x cs = times-some x cs m in omega (arith, times-cons x c cs)
+times-some x (c ∷ cs) m = let rest = times-some x cs in grind (arith, m, rest, times-cons x c cs)
 
 pub member-times : (x : ℕ) (row : Weighted ℕ) → 0 < times x row → IsMember x (map (λ c. c.0) row)
 member-times x row l = member_or_not nat_eq nat_is_same nat_same_self x (map (λ c. c.0) row) (λ m. m)
@@ -143,7 +130,8 @@ module _ (held : List ℕ) (rows : List (Weighted ℕ)) (fewer : length rows ≤
         let whole : sum_by (λ x. part_in nat_eq (worth held rows k) (get_or rows k []) x)
         (range_with_len 0 (length held)) ≡ passed_on =
         falling_to-all nat_eq nat_is_same nat_same_self (range_with_len 0 (length held)) (range-distinct (length held))
-        (map (λ c. c.0) (get_or rows k [])) (parts_of (worth held rows k) (map (λ c. c.1) (get_or rows k []))) lengths
+        (map (λ c. c.0) (get_or rows k [])) (parts_of (worth held rows k) (map (λ c. c.1) (get_or rows k [])))
+        (parts-counted (worth held rows k) (get_or rows k []))
         (λ x m. range_has (length held) x (row_below k x l m))
         ∙ passed-whole (worth held rows k) (get_or rows k []) weighted in
         omega (arith, whole, within)
@@ -154,13 +142,6 @@ module _ (held : List ℕ) (rows : List (Weighted ℕ)) (fewer : length rows ≤
         within : passed_on ≤ worth held rows k
         within = cond_both (nat_eq (length (map (λ c. c.0) (get_or rows k []))) 0) 0 (worth held rows k)
             (λ n. n ≤ worth held rows k) (λ e. omega arith) (λ e. omega arith)
-
-        lengths : length (parts_of (worth held rows k) (map (λ c. c.1) (get_or rows k [])))
-            ≡ length (map {A = ℕ × ℕ} {B = ℕ} (λ c. c.0) (get_or rows k []))
-        lengths = length-map-range_with_len (part_of (worth held rows k) (map (λ c. c.1) (get_or rows k []))) 0
-            (length (map {A = ℕ × ℕ} {B = ℕ} (λ c. c.1) (get_or rows k [])))
-            ∙ length-map {A = ℕ × ℕ} {B = ℕ} (get_or rows k []) (λ c. c.1)
-            ∙ sym (length-map {A = ℕ × ℕ} {B = ℕ} (get_or rows k []) (λ c. c.0))
 
         weighted : 0 < length (get_or rows k []) → 0 < sum (map (λ c. c.1) (get_or rows k []))
         weighted some = weights-some (get_or rows k []) (rows_sound k [] l).positive some

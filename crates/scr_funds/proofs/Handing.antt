@@ -1,6 +1,5 @@
 -- One fund hands out what it has: what each step wants, and how far it leads.
-use Rattle.std.proofs.Common.{◌≡◌, ℕ, zero, suc, ◌+◌, ◌*◌, ◌^◌, ◌<◌, ◌≤◌, List, [], ◌∷◌, Vec, map, length, get_or, take}
-use Rattle.std.proofs.Common.{sum, sum_by, nat_eq, if◌then◌else◌, All, refl, sym, ap, subst, ◌∙◌, arith}
+use Rattle.std.proofs.Common.{◌≡◌, ℕ, zero, suc, ◌+◌, ◌*◌, ◌^◌, ◌<◌, ◌≤◌, List, [], ◌∷◌, Vec, map, length, get_or, take, sum, sum_by, nat_eq, if◌then◌else◌, All, refl, sym, ap, subst, ◌∙◌, arith}
 use Rattle.std.specs.Global.{Global}
 use Rattle.std.specs.List.{range_with_len}
 use Rattle.std.proofs.lemmas.Bool.{cond_both}
@@ -12,8 +11,7 @@ use Rattle.scr_funds.specs.Chains.{IsAcyclic}
 use Rattle.scr_funds.specs.HandedOn.{AreReady, times}
 use Rattle.scr_funds.specs.LookThrough.{Weighted, falling_to, names_in, parts_of}
 use Rattle.scr_funds.specs.Parts.{part_of}
-use Rattle.scr_funds.proofs.HandedOut.{Passed, worth, weights-some, ready_one, small, done_settled, fund_below}
-use Rattle.scr_funds.proofs.HandedOut.{fund_counted, passed_next, ended-values, ended-within, passed_none}
+use Rattle.scr_funds.proofs.HandedOut.{Passed, worth, weights-some, ready_one, small, done_settled, fund_below, fund_counted, passed_next, ended-values, ended-within, passed_none}
 use Rattle.scr_funds.proofs.LookThroughLaws.{member_or_not, passed-whole}
 use Rattle.scr_funds.proofs.Ranges.{nat_is_same, nat_same_self}
 use Rattle.scr_funds.proofs.RowSteps.{row-at, row_sound}

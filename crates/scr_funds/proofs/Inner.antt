@@ -1,9 +1,6 @@
 -- The search goes on by what has components alone: nothing else lies on a chain, so the first shortest chain is the
 -- same.
-use Rattle.std.proofs.Common.{◌≡◌, ◌⊎◌, ℕ, zero, suc, ◌+◌, ◌<◌, ◌≤◌, Bool, true, false, nat_eq, not, ◌||◌, List, []}
-use Rattle.std.proofs.Common.{◌∷◌, filter, length, Contains, Some, None, is_some, cond, if◌then◌else◌, slice_get}
-use Rattle.std.proofs.Common.{refl, sym, ap, subst, ◌∙◌, inl, inr, arith}
-use Rattle.std.specs.Map.{lookup}
+use Rattle.std.proofs.Common.{◌≡◌, ◌⊎◌, ℕ, zero, suc, ◌+◌, ◌<◌, ◌≤◌, Bool, true, false, nat_eq, not, ◌||◌, List, [], ◌∷◌, filter, length, Contains, Some, None, cond, slice_get, refl, sym, ap, subst, ◌∙◌, inl, inr, arith}
 use Rattle.std.proofs.lemmas.Bool.{true≢false, eq-eqb, eqb-true, ne_eqb}
 use Rattle.indexmap.specs.IndexMap.{insert_entry}
 use Rattle.scr_funds.specs.Chains.{IsMetBefore, IsChain, LeadsTo, ComesEarlier, IsFirstShortest}
@@ -31,22 +28,11 @@ module _ {A : Type 0} (p : A → Bool) where
   -- what passes and is in the list is in the rest
   member-passing : (xs : List A) (c : A) → IsMember c xs → p c ≡ true → IsMember c (filter p xs)
   member-passing [] c m pass = absurd m
-  member-passing (x ∷ xs) c (inl e) pass =
-      subst (IsMember c) (sym (filter-pass x xs (ap p (sym e) ∙ pass))) (inl e)
-  member-passing (x ∷ xs) c (inr m) pass = passes_or_not x
-      (λ e. subst (IsMember c) (sym (filter-pass x xs e)) (inr (member-passing xs c m pass)))
-      (λ e. subst (IsMember c) (sym (filter-fail x xs e)) (member-passing xs c m pass))
+  member-passing (x ∷ xs) c m pass = let rest = member-passing xs c in grind (arith, m, pass, rest)
 
   member-filtered : (xs : List A) (c : A) → IsMember c (filter p xs) → IsMember c xs × (p c ≡ true)
   member-filtered [] c m = absurd m
-  member-filtered (x ∷ xs) c m = passes_or_not x
-      (λ e. here e (subst (IsMember c) (filter-pass x xs e) m) (member-filtered xs c))
-      (λ e. let later = member-filtered xs c (subst (IsMember c) (filter-fail x xs e) m) in (inr later.0, later.1))
-    where
-      here : p x ≡ true → IsMember c (x ∷ filter p xs) → (IsMember c (filter p xs) → IsMember c xs × (p c ≡ true))
-          → IsMember c (x ∷ xs) × (p c ≡ true)
-      here e (inl k) rest = (inl k, ap p k ∙ e)
-      here e (inr k) rest = let later = rest k in (inr later.0, later.1)
+  member-filtered (x ∷ xs) c m = let rest = member-filtered xs c in grind (arith, m, rest)
 
   -- of two of which the other passes, the one that is met first among those that pass is met first in the list
   met_before-filtered : (xs : List A) (c d : A) → p d ≡ true → IsMetBefore (filter p xs) c d → IsMetBefore xs c d
@@ -170,35 +156,10 @@ module _ (components : ℕ → List ℕ) (to : ℕ) where
   entered-is : (place : ℕ) (cs : List ℕ) (es : List (ℕ × ℕ))
       → entered components place cs es ≡ all_entered place (filter goes_on cs) es
   entered-is place [] es = refl
-  entered-is place (c ∷ cs) es = passes_or_not goes_on c
-      (λ e. ap (entered components place cs)
-      (ap (λ b. if is_some (lookup (nat_eq c) es) || b then es else insert_entry nat_eq es c place)
-      (flip (nat_eq (length (components c)) 0) e)
-      ∙ ap (λ b. if b then es else insert_entry nat_eq es c place) (or_false (is_some (lookup (nat_eq c) es))))
-      ∙ entered-is place cs (if is_some (lookup (nat_eq c) es) then es else insert_entry nat_eq es c place)
-      ∙ ap (λ xs. all_entered place xs es) (sym (filter-pass goes_on c cs e)))
-      (λ e. ap (entered components place cs)
-      (ap (λ b. if is_some (lookup (nat_eq c) es) || b then es else insert_entry nat_eq es c place)
-      (flip_not (nat_eq (length (components c)) 0) e)
-      ∙ ap (λ b. if b then es else insert_entry nat_eq es c place) (or_true (is_some (lookup (nat_eq c) es))))
-      ∙ entered-is place cs es
-      ∙ ap (λ xs. all_entered place xs es) (sym (filter-fail goes_on c cs e)))
-    where
-      flip : (b : Bool) → not b ≡ true → b ≡ false
-      flip true e = sym e
-      flip false e = refl
-
-      flip_not : (b : Bool) → not b ≡ false → b ≡ true
-      flip_not true e = refl
-      flip_not false e = sym e
-
-      or_false : (b : Bool) → (b || false) ≡ b
-      or_false true = refl
-      or_false false = refl
-
-      or_true : (b : Bool) → (b || true) ≡ true
-      or_true true = refl
-      or_true false = refl
+  entered-is place (c ∷ cs) es =
+      let kept = entered-is place cs es in
+      let put = entered-is place cs (insert_entry nat_eq es c place) in
+      grind (arith, kept, put)
 
   module _ (from : ℕ) where
     -- the entries before the place are done
@@ -230,11 +191,7 @@ module _ (components : ℕ → List ℕ) (to : ℕ) where
             (λ e. absurd
             (apart (subst (Contains (components fund)) (eqb-true c to e)
             (Contains-from_IsMember (components fund) c m))))
-            (λ e. ap (λ b. goes_on c || b) e ∙ or_false (goes_on c))
-          where
-            or_false : (b : Bool) → (b || false) ≡ b
-            or_false true = refl
-            or_false false = refl
+            (λ e. grind (arith, e))
 
     pub searched_all : (es : List (ℕ × ℕ)) (place : ℕ) → Searched es place → length es ≤ place
         → LeadsTo components from to → ⊥

@@ -1,7 +1,5 @@
 -- What is held of each name, directly and through funds: the one answer to its equation, and no cent is lost.
-use Rattle.std.proofs.Common.{◌≡◌, ℕ, zero, suc, ◌+◌, ◌<◌, ◌≤◌, Bool, true, false, IsTrue, List, [], ◌∷◌, map, length}
-use Rattle.std.proofs.Common.{sum, sum_by, filter, nat_eq, if◌then◌else◌, All, Contains, refl, sym, ap, subst, ◌∙◌, inl}
-use Rattle.std.proofs.Common.{inr, arith, add-one, zero-add}
+use Rattle.std.proofs.Common.{◌≡◌, ℕ, zero, suc, ◌+◌, ◌<◌, ◌≤◌, Bool, true, false, IsTrue, List, [], ◌∷◌, map, length, sum, sum_by, filter, nat_eq, if◌then◌else◌, All, Contains, refl, sym, ap, subst, ◌∙◌, inl, inr, arith, add-one, zero-add}
 use Rattle.std.specs.List.{AllByRecursion, IsDistinct, range_with_len}
 use Rattle.std.specs.Set.{is_member}
 use Rattle.std.proofs.lemmas.Bool.{true≢false, ne_eqb}
@@ -10,13 +8,10 @@ use Rattle.std.proofs.lemmas.List.Elements.{All-contains}
 use Rattle.std.proofs.lemmas.List.FromFn.{sum_by-map-range_with_len_more, length-map-range_with_len}
 use Rattle.std.proofs.lemmas.List.Sums.{sum_by-cons, sum-map}
 use Rattle.scr_funds.specs.Chains.{IsAcyclic}
-use Rattle.scr_funds.specs.LookThrough.{Weighted, Shared, parts_of, falling_to, part_in, names_in, is_last}
-use Rattle.scr_funds.specs.LookThrough.{total_through, total}
+use Rattle.scr_funds.specs.LookThrough.{Weighted, Shared, parts_of, falling_to, part_in, names_in, is_last, total_through, total}
 use Rattle.scr_funds.specs.Parts.{first_parts, part_of}
-use Rattle.scr_funds.proofs.Climbs.{acyclic-by_rank, same_or_other, same-equivalence, is_member-from_IsMember}
-use Rattle.scr_funds.proofs.Climbs.{IsMember-from_is_member, IsClimb, climb_on, climb-short}
-use Rattle.scr_funds.proofs.Members.{IsMember, IsMember-from_Contains, Contains-from_IsMember, IsMember-mapped}
-use Rattle.scr_funds.proofs.Members.{IsMember-map, at_member}
+use Rattle.scr_funds.proofs.Climbs.{acyclic-by_rank, same_or_other, same-equivalence, is_member-from_IsMember, IsMember-from_is_member, IsClimb, climb_on, climb-short}
+use Rattle.scr_funds.proofs.Members.{IsMember, IsMember-from_Contains, Contains-from_IsMember, IsMember-mapped, IsMember-map, at_member}
 use Rattle.scr_funds.proofs.Shares.{first_parts-none, first_parts-step, first_parts-all}
 use Rattle.scr_funds.proofs.SumsBy.{sum_by-same, sum_by-none, sum_by-add, sum_by-swap, sum_by-filter}
 
@@ -45,6 +40,38 @@ passed-whole {A} value (c ∷ cs) weighted =
     ∙ ap (λ b. if b then 0 else value)
     (sym (ne_eqb (length (map {A = A × ℕ} {B = A} (λ c. c.0) (c ∷ cs))) 0 (omega arith)))
 
+-- as many parts as components
+pub parts-counted : {A : Type 0} (value : ℕ) (components : Weighted A)
+    → length (parts_of value (map (λ c. c.1) components)) ≡ length (map {A = A × ℕ} {B = A} (λ c. c.0) components)
+parts-counted {A} value components =
+    length-map-range_with_len (part_of value (map (λ c. c.1) components)) 0
+    (length (map {A = A × ℕ} {B = ℕ} (λ c. c.1) components))
+    ∙ length-map {A = A × ℕ} {B = ℕ} components (λ c. c.1) ∙ sym (length-map {A = A × ℕ} {B = A} components (λ c. c.0))
+
+-- where each fund is listed, and each component of each, so is what has the name of one
+pub fund-listed : {A : Type 0} (funds : List (Shared A)) (names : List A) → All (λ fund. Contains names fund.0) funds
+    → (x : A) → IsMember x (map (λ f. f.0) funds) → IsMember x names
+fund-listed funds names listed x m =
+    let fund = IsMember-map (λ f. f.0) funds x m in
+    subst (λ y. IsMember y names) fund.2
+    (IsMember-from_Contains names fund.0.0
+    (All-contains (λ f. Contains names f.0) funds fund.0 listed (Contains-from_IsMember funds fund.0 fund.1)))
+
+pub component-listed : {A : Type 0} (funds : List (Shared A)) (names : List A)
+    → All (λ fund. All (λ c. Contains names c.0) fund.1) funds → (fund : Shared A) → IsMember fund funds
+    → (x : A) → IsMember x (map (λ c. c.0) fund.1) → IsMember x names
+component-listed funds names spread fund m x k =
+    let c = IsMember-map (λ c. c.0) fund.1 x k in
+    subst (λ y. IsMember y names) c.2
+    (IsMember-from_Contains names c.0.0 (All-contains (λ d. Contains names d.0) fund.1 c.0
+    (All-contains (λ f. All (λ d. Contains names d.0) f.1) funds fund spread
+    (Contains-from_IsMember funds fund m)) (Contains-from_IsMember fund.1 c.0 c.1)))
+
+-- a number is the one part or the other
+pub one_or_other : (b : Bool) (n : ℕ) → n ≡ (if b then n else 0) + (if b then 0 else n)
+one_or_other true n = omega arith
+one_or_other false n = omega arith
+
 module _ {A : Type 0} (same : A → A → Bool) (is_same : (x y : A) → IsTrue (same x y) → x ≡ y)
     (same_self : (x : A) → IsTrue (same x x)) where
   -- ---- what falls to a name
@@ -53,10 +80,7 @@ module _ {A : Type 0} (same : A → A → Bool) (is_same : (x y : A) → IsTrue 
       → falling_to same x names parts ≡ 0
   falling_to-none x [] parts h = refl
   falling_to-none x (name ∷ names) [] h = refl
-  falling_to-none x (name ∷ names) (part ∷ parts) h = same_or_other same is_same same_self x name
-      (λ t e. absurd (h (inl e)))
-      (λ f n. ap (λ b. (if b then part else 0) + falling_to same x names parts) f
-      ∙ zero-add (falling_to same x names parts) ∙ falling_to-none x names parts (λ m. h (inr m)))
+  falling_to-none x (name ∷ names) (part ∷ parts) h = let rest = falling_to-none x names parts in grind (arith, h, rest, is_same x name)
 
   -- one of a list without repeats
   one_of : (name : A) (part : ℕ) (names : List A) → IsDistinct same names → IsMember name names
@@ -115,25 +139,14 @@ module _ {A : Type 0} (same : A → A → Bool) (is_same : (x y : A) → IsTrue 
       (map (λ fund. if nat_eq (length (map (λ c. c.0) fund.1)) 0 then 0 else g fund.0) funds)
   unfolding IsDistinct
   open_value g [] apart x = refl
-  open_value g (fund ∷ funds) apart x = same_or_other same is_same same_self x fund.0
-      (λ t e. ap
-      (λ b. (if nat_eq (length (if b then map (λ c. c.0) fund.1 else names_in same funds x)) 0 then 0 else g x)) t
-      ∙ ap (λ y. if nat_eq (length (map (λ c. c.0) fund.1)) 0 then 0 else g y) e
-      ∙ (omega (
-        arith,
-        falling_to-none x (map (λ f. f.0) funds) rest
-            (λ m. true≢false (sym (ap (λ y. same y x) (sym e) ∙ same_self x)
-            ∙ at_member (λ z. same fund.0 z ≡ false) (map (λ f. f.0) funds) x apart.0 m)),
-      ))
-      ∙ ap (λ b. (if b then own else 0) + falling_to same x (map (λ f. f.0) funds) rest) (sym t))
-      (λ f n. ap
-      (λ b. (if nat_eq (length (if b then map (λ c. c.0) fund.1 else names_in same funds x)) 0 then 0 else g x)) f
-      ∙ open_value g funds apart.1 x ∙ sym (zero-add (falling_to same x (map (λ f. f.0) funds) rest))
-      ∙ ap (λ b. (if b then own else 0) + falling_to same x (map (λ f. f.0) funds) rest) (sym f))
+  open_value g (fund ∷ funds) apart x =
+      let later = open_value g funds apart.1 x in
+      let none : x ≡ fund.0 → falling_to same x (map (λ f. f.0) funds) rest ≡ 0 =
+      λ e. falling_to-none x (map (λ f. f.0) funds) rest
+      (λ m. true≢false (sym (ap (λ y. same y x) (sym e) ∙ same_self x)
+      ∙ at_member (λ z. same fund.0 z ≡ false) (map (λ f. f.0) funds) x apart.0 m)) in
+      grind (arith, later, none, is_same x fund.0)
     where
-      own : ℕ
-      own = if nat_eq (length (map (λ c. c.0) fund.1)) 0 then 0 else g fund.0
-
       rest : List ℕ
       rest = map (λ f. if nat_eq (length (map (λ c. c.0) f.1)) 0 then 0 else g f.0) funds
 
@@ -251,7 +264,8 @@ module _ {A : Type 0} (same : A → A → Bool) (is_same : (x y : A) → IsTrue 
           sum_by-same (λ x. if is_last same funds x then 0 else worth x)
           (λ x. falling_to same x (map (λ f. f.0) funds) (map passing funds)) names
           (λ x m. open_value worth funds apart x)
-          ∙ falling_to-all names once (map (λ f. f.0) funds) (map passing funds) same_length fund_listed
+          ∙ falling_to-all names once (map (λ f. f.0) funds) (map passing funds) same_length
+          (fund-listed funds names listed)
           ∙ sum-map passing funds in
           let came : sum_by worth names ≡ sum_by held names + sum_by passing funds =
           sum_by-same worth (λ x. held x + sum_by (λ fund. part_in same (worth fund.0) fund.1 x) funds) names
@@ -268,44 +282,18 @@ module _ {A : Type 0} (same : A → A → Bool) (is_same : (x y : A) → IsTrue 
           passing : Shared A → ℕ
           passing fund = if nat_eq (length (map (λ c. c.0) fund.1)) 0 then 0 else worth fund.0
 
-          one_or_other : (b : Bool) (n : ℕ) → n ≡ (if b then n else 0) + (if b then 0 else n)
-          one_or_other true n = omega arith
-          one_or_other false n = omega arith
-
           same_length : length (map passing funds) ≡ length (map {A = Shared A} {B = A} (λ f. f.0) funds)
           same_length = length-map {A = Shared A} {B = ℕ} funds passing
               ∙ sym (length-map {A = Shared A} {B = A} funds (λ f. f.0))
 
-          fund_listed : (x : A) → IsMember x (map (λ f. f.0) funds) → IsMember x names
-          fund_listed x m =
-              let fund = IsMember-map (λ f. f.0) funds x m in
-              subst (λ y. IsMember y names) fund.2
-              (IsMember-from_Contains names fund.0.0
-              (All-contains (λ f. Contains names f.0) funds fund.0 listed (Contains-from_IsMember funds fund.0 fund.1)))
-
           each : (fund : Shared A) → IsMember fund funds
               → sum_by (λ x. part_in same (worth fund.0) fund.1 x) names ≡ passing fund
           each fund m =
-              falling_to-all names once (map (λ c. c.0) fund.1) (parts_of (worth fund.0) (map (λ c. c.1) fund.1)) counts
-              within
+              falling_to-all names once (map (λ c. c.0) fund.1) (parts_of (worth fund.0) (map (λ c. c.1) fund.1))
+              (parts-counted (worth fund.0) fund.1) (component-listed funds names spread fund m)
               ∙ passed-whole (worth fund.0) fund.1
               (All-contains (λ f. 0 < length f.1 → 0 < sum (map (λ c. c.1) f.1)) funds fund weighted
               (Contains-from_IsMember funds fund m))
-            where
-              counts : length (parts_of (worth fund.0) (map (λ c. c.1) fund.1))
-                  ≡ length (map {A = A × ℕ} {B = A} (λ c. c.0) fund.1)
-              counts = length-map-range_with_len (part_of (worth fund.0) (map (λ c. c.1) fund.1)) 0
-                  (length (map {A = A × ℕ} {B = ℕ} (λ c. c.1) fund.1))
-                  ∙ length-map {A = A × ℕ} {B = ℕ} fund.1 (λ c. c.1)
-                  ∙ sym (length-map {A = A × ℕ} {B = A} fund.1 (λ c. c.0))
-
-              within : (x : A) → IsMember x (map (λ c. c.0) fund.1) → IsMember x names
-              within x k =
-                  let c = IsMember-map (λ c. c.0) fund.1 x k in
-                  subst (λ y. IsMember y names) c.2
-                  (IsMember-from_Contains names c.0.0 (All-contains (λ d. Contains names d.0) fund.1 c.0
-                  (All-contains (λ f. All (λ d. Contains names d.0) f.1) funds fund spread
-                  (Contains-from_IsMember funds fund m)) (Contains-from_IsMember fund.1 c.0 c.1)))
 
   -- ---- ranks
 

@@ -1,19 +1,14 @@
 -- Marks of what was ever a component.
-use Rattle.std.proofs.Common.{◌≡◌, ◌⊎◌, ℕ, ◌<◌, ◌≤◌, ◌++◌, All, Bool, true, false, List, [], ◌∷◌, length}
-use Rattle.std.proofs.Common.{get_or, set, Contains, refl, sym, ap, subst, ◌∙◌, inl, inr, arith}
-use Rattle.std.proofs.lemmas.Bool.{cases_lt, cases_eq, true≢false}
+use Rattle.std.proofs.Common.{◌≡◌, ◌⊎◌, ℕ, ◌<◌, ◌≤◌, All, Bool, true, false, List, [], ◌∷◌, length, get_or, set, Contains, refl, sym, ap, subst, ◌∙◌, inl, inr, arith}
+use Rattle.std.proofs.lemmas.Bool.{cases_lt, cases_eq}
 use Rattle.std.proofs.lemmas.List.Elements.{All-contains}
-use Rattle.std.proofs.lemmas.List.{get_or-set_same, get_or-set_other, get_or_append_left, get_or_past, length-set}
-use Rattle.std.proofs.lemmas.List.{set_past}
+use Rattle.std.proofs.lemmas.List.{get_or-set_same, get_or-set_other, length-set, set_past}
 use Rattle.scr_funds.specs.Chains.{IsAcyclic, IsChain, LeadsTo}
-use Rattle.scr_funds.specs.Components.{AreBelow, Components, components_of, components_with, number_above, size_of}
-use Rattle.scr_funds.specs.Components.{with_components, with_edges}
+use Rattle.scr_funds.specs.Components.{AreBelow, Components, components_of, components_with, number_above, size_of, with_components, with_edges}
 use Rattle.scr_funds.specs.Inside.{IsMarkedOrder}
 use Rattle.scr_funds.specs.Marks.{IsMarked, KeepsMarks, with_marks}
 use Rattle.scr_funds.proofs.Members.{IsMember, IsMember-from_Contains, Contains-from_IsMember, All-from_members}
-use Rattle.scr_funds.proofs.Rows.{with-own, with-other, above_members, components_of-with_edges, size_of-with_edges}
-use Rattle.scr_funds.proofs.Rows.{order_added, order_none, order_put_back, order_removed, edges_put_back}
-use Rattle.scr_funds.proofs.Rows.{removed_or_same}
+use Rattle.scr_funds.proofs.Rows.{with-own, with-other, above_members, components_of-with_edges, size_of-with_edges, order_added, order_none, order_put_back, order_removed, edges_put_back, removed_or_same}
 
 pub length-with_marks : (numbers : List ℕ) (marks : List Bool) → length (with_marks numbers marks) ≡ length marks
 length-with_marks [] marks = refl
@@ -41,13 +36,6 @@ marked-own (n ∷ ns) marks below x (inl e) =
 marked-own (n ∷ ns) marks below x (inr m) =
     marked-own ns (set marks n true)
     (λ y k. subst (λ size. y < size) (sym (length-set marks n true)) (below y (inr k))) x m
-
-pub keeps-longer : (marks more : List Bool) → KeepsMarks marks (marks ++ more)
-keeps-longer marks more x h = by (cases_lt x (length marks))
-  where
-    by : (x < length marks) ⊎ (length marks ≤ x) → IsMarked (marks ++ more) x
-    by (inl l) = get_or_append_left marks more false x l ∙ h
-    by (inr l) = absurd (true≢false (sym h ∙ get_or_past marks x false l))
 
 -- ---- no way back
 

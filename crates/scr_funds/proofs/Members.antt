@@ -1,10 +1,7 @@
 -- Membership in a list, by recursion, and what holds of each member.
-use Rattle.std.proofs.Common.{◌≡◌, ◌⊎◌, ℕ, ◌<◌, ◌≤◌, suc, zero, true, false, nat_eq, ◌||◌, List, [], ◌∷◌, ◌++◌, map}
-use Rattle.std.proofs.Common.{length, get_or, All, Contains, Some, slice_get, refl, sym, ap, subst, ◌∙◌, inl, inr}
-use Rattle.std.proofs.Common.{arith}
+use Rattle.std.proofs.Common.{◌≡◌, ◌⊎◌, ℕ, ◌<◌, ◌≤◌, suc, zero, true, false, nat_eq, ◌||◌, List, [], ◌∷◌, ◌++◌, map, length, get_or, All, Contains, Some, slice_get, refl, sym, ap, subst, inl, inr, arith}
 use Rattle.std.specs.List.{AllByRecursion, list_any}
 use Rattle.std.proofs.lemmas.Bool.{cases_lt, true≢false}
-use Rattle.std.proofs.lemmas.Bool.Decides.{eqb_tells}
 use Rattle.std.proofs.lemmas.List.Elements.{Contains-get_or}
 use Rattle.scr_funds.specs.Chains.{IsMetBefore}
 
@@ -42,11 +39,7 @@ module _ {A : Type 0} where
   pub IsMember-cases : (xs ys : List A) (x : A) → IsMember x (xs ++ ys) → IsMember x xs ⊎ IsMember x ys
   IsMember-cases [] ys x h = inr h
   IsMember-cases (z ∷ zs) ys x (inl e) = inl (inl e)
-  IsMember-cases (z ∷ zs) ys x (inr h) = by (IsMember-cases zs ys x h)
-    where
-      by : IsMember x zs ⊎ IsMember x ys → IsMember x (z ∷ zs) ⊎ IsMember x ys
-      by (inl k) = inl (inr k)
-      by (inr k) = inr k
+  IsMember-cases (z ∷ zs) ys x (inr h) = let rest = IsMember-cases zs ys x h in grind (arith, rest)
 
   -- what holds of each holds of a member
   pub at_member : (P : A → Type 0) (xs : List A) (x : A) → AllByRecursion P xs → IsMember x xs → P x
@@ -113,31 +106,13 @@ not_before_itself xs c h = h.2 h.0 (omega arith) h.1
 
 -- ---- the test for a number
 
-any-here : (x y : ℕ) (ys : List ℕ) → nat_eq y x ≡ true → list_any (λ z. nat_eq z x) (y ∷ ys) ≡ true
-any-here x y ys e = ap (λ b. b || list_any (λ z. nat_eq z x) ys) e
-
-any-later : (x y : ℕ) (ys : List ℕ) → nat_eq y x ≡ false
-    → list_any (λ z. nat_eq z x) (y ∷ ys) ≡ list_any (λ z. nat_eq z x) ys
-any-later x y ys e = ap (λ b. b || list_any (λ z. nat_eq z x) ys) e
-
 IsMember-any : (xs : List ℕ) (x : ℕ) → list_any (λ y. nat_eq y x) xs ≡ true → IsMember x xs
 IsMember-any [] x h = absurd (true≢false (sym h))
-IsMember-any (y ∷ ys) x h = by (eqb_tells y x) (λ e. IsMember-any ys x (sym (any-later x y ys e) ∙ h))
-  where
-    by : ((nat_eq y x ≡ true) × (y ≡ x)) ⊎ ((nat_eq y x ≡ false) × (y ≡ x → ⊥)) → (nat_eq y x ≡ false → IsMember x ys)
-        → IsMember x (y ∷ ys)
-    by (inl t) later = inl (sym t.1)
-    by (inr f) later = inr (later f.0)
+IsMember-any (y ∷ ys) x h = let rest = IsMember-any ys x in grind (arith, h, rest)
 
 not_member-any : (xs : List ℕ) (x : ℕ) → list_any (λ y. nat_eq y x) xs ≡ false → IsMember x xs → ⊥
 not_member-any [] x h m = absurd m
-not_member-any (y ∷ ys) x h m = by (eqb_tells y x) m (λ e. not_member-any ys x (sym (any-later x y ys e) ∙ h))
-  where
-    by : ((nat_eq y x ≡ true) × (y ≡ x)) ⊎ ((nat_eq y x ≡ false) × (y ≡ x → ⊥)) → IsMember x (y ∷ ys)
-        → (nat_eq y x ≡ false → IsMember x ys → ⊥) → ⊥
-    by (inl t) k later = true≢false (sym (any-here x y ys t.0) ∙ h)
-    by (inr f) (inl k) later = f.1 (sym k)
-    by (inr f) (inr k) later = later f.0 k
+not_member-any (y ∷ ys) x h m = let rest = not_member-any ys x in grind (arith, h, m, rest)
 
 pub Contains-any : (xs : List ℕ) (x : ℕ) → list_any (λ y. nat_eq y x) xs ≡ true → Contains xs x
 Contains-any xs x h = Contains-from_IsMember xs x (IsMember-any xs x h)

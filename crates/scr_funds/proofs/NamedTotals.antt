@@ -1,6 +1,5 @@
 -- Totals are the same whether holders go by names or by numbers.
-use Rattle.std.proofs.Common.{◌≡◌, ℕ, zero, suc, ◌+◌, ◌<◌, Bool, true, false, IsTrue, List, [], ◌∷◌, map, length}
-use Rattle.std.proofs.Common.{sum_by, nat_eq, if◌then◌else◌, All, Contains, refl, sym, ap, subst, ◌∙◌, arith}
+use Rattle.std.proofs.Common.{◌≡◌, ℕ, zero, suc, ◌+◌, ◌<◌, Bool, IsTrue, List, [], ◌∷◌, map, length, sum_by, nat_eq, if◌then◌else◌, All, Contains, refl, sym, ap, subst, ◌∙◌, arith}
 use Rattle.std.proofs.lemmas.List.{length-map}
 use Rattle.std.proofs.lemmas.List.Elements.{All-contains, All-head, All-tail}
 use Rattle.std.proofs.lemmas.Bool.{eq-eqb, eqb-true}
@@ -95,15 +94,9 @@ module _ {A : Type 0} (same : A → A → Bool) (is_same : (x y : A) → IsTrue 
       → names_in same (named name funds) (name a) ≡ map name (names_in nat_eq funds a)
   names_in-named [] below a l = refl
   names_in-named (fund ∷ funds) below a l =
-      ap (λ b. if b then map (λ d. d.0) (renamed name fund.1) else names_in same (named name funds) (name a))
-      (same_as_number a fund.0 l (All-head (λ f. f.0 < size) fund funds below))
-      ∙ by (nat_eq a fund.0) (names_in-named funds (All-tail (λ f. f.0 < size) fund funds below) a l)
-    where
-      by : (b : Bool) → names_in same (named name funds) (name a) ≡ map name (names_in nat_eq funds a)
-          → (if b then map (λ d. d.0) (renamed name fund.1) else names_in same (named name funds) (name a))
-          ≡ map name (if b then map (λ d. d.0) fund.1 else names_in nat_eq funds a)
-      by true later = names-named fund.1
-      by false later = later
+      let one = same_as_number a fund.0 l (All-head (λ f. f.0 < size) fund funds below) in
+      let rest = names_in-named funds (All-tail (λ f. f.0 < size) fund funds below) a l in
+      grind (arith, one, rest, names-named fund.1)
 
   step : (funds : List (Shared ℕ)) → All (λ fund. fund.0 < size) funds → (a c : ℕ)
       → Contains (names_in nat_eq funds a) c → Contains (names_in same (named name funds) (name a)) (name c)

@@ -1,7 +1,6 @@
 -- Chains under other names: where each holder of one kind stands for one of another, with the components that stand for
 -- its own, chains are the same.
-use Rattle.std.proofs.Common.{◌≡◌, ◌⊎◌, ℕ, ◌≤◌, suc, zero, List, [], ◌∷◌, map, length, Contains, Some, None, slice_get}
-use Rattle.std.proofs.Common.{refl, sym, ap, subst, ◌∙◌, inl, inr, arith}
+use Rattle.std.proofs.Common.{◌≡◌, ◌⊎◌, ℕ, ◌≤◌, suc, zero, List, [], ◌∷◌, map, length, Contains, Some, None, slice_get, refl, sym, ap, subst, ◌∙◌, inl, inr, arith}
 use Rattle.std.proofs.lemmas.List.{map-append, length-map}
 use Rattle.scr_funds.specs.Chains.{IsMetBefore, IsChain, LeadsTo, ComesEarlier, IsFirstShortest}
 use Rattle.scr_funds.proofs.Members.{IsMember, IsMember-from_Contains, Contains-from_IsMember, IsMember-map}

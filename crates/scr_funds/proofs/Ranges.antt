@@ -1,8 +1,7 @@
 -- Numbers from one on, lists without repeats of numbers, and the rows of funds by number.
-use Rattle.std.proofs.Common.{◌≡◌, ◌⊎◌, ℕ, zero, suc, ◌+◌, ◌<◌, ◌≤◌, false, IsTrue, List, [], ◌∷◌, ◌++◌, map, length}
-use Rattle.std.proofs.Common.{get_or, take, sum_by, nat_eq, refl, sym, ap, subst, ◌∙◌, inl, inr, arith, zero-add}
+use Rattle.std.proofs.Common.{◌≡◌, ℕ, zero, suc, ◌+◌, ◌<◌, ◌≤◌, false, IsTrue, List, [], ◌∷◌, ◌++◌, map, length, get_or, take, sum_by, nat_eq, refl, sym, ap, subst, ◌∙◌, inl, inr, arith, zero-add}
 use Rattle.std.specs.List.{IsDistinct, range_with_len, enumerate_from}
-use Rattle.std.proofs.lemmas.Bool.{cases_eq, eqb-true, eq-eqb, ne_eqb, true≢false}
+use Rattle.std.proofs.lemmas.Bool.{eqb-true, eq-eqb, ne_eqb, true≢false}
 use Rattle.std.proofs.lemmas.List.FromFn.{fill_by_all, length-enumerate_from, get_or-enumerate_from}
 use Rattle.scr_funds.specs.ByNumber.{numbered}
 use Rattle.scr_funds.specs.LookThrough.{Weighted, Shared}
@@ -19,18 +18,11 @@ nat_same_self x = eq-eqb x x refl
 
 pub in_range : (a n k : ℕ) → IsMember k (range_with_len a n) → (a ≤ k) × (k < a + n)
 in_range a zero k m = absurd m
-in_range a (suc n) k (inl e) = (omega arith, omega arith)
-in_range a (suc n) k (inr m) = let later : (a + 1 ≤ k) × (k < a + 1 + n) = in_range (a + 1) n k m in
-    (omega arith, omega arith)
+in_range a (suc n) k m = let rest = in_range (a + 1) n k in grind (arith, m, rest)
 
 range_has-from : (a n k : ℕ) → a ≤ k → k < a + n → IsMember k (range_with_len a n)
 range_has-from a zero k l m = absurd (omega arith)
-range_has-from a (suc n) k l m = by (cases_eq k a) (λ i j. range_has-from (a + 1) n k i j)
-  where
-    by : (k ≡ a) ⊎ (k ≡ a → ⊥) → (a + 1 ≤ k → k < a + 1 + n → IsMember k (range_with_len (a + 1) n))
-        → IsMember k (range_with_len a (suc n))
-    by (inl e) later = inl e
-    by (inr d) later = inr (later (omega arith) (omega arith))
+range_has-from a (suc n) k l m = let rest = range_has-from (a + 1) n k in grind (arith, l, m, rest)
 
 pub range_has : (n k : ℕ) → k < n → IsMember k (range_with_len 0 n)
 range_has n k l = range_has-from 0 n k (omega arith) (omega arith)

@@ -1,13 +1,9 @@
 -- One more component of a row: what has its part, what waits for it no longer, and what is ready then.
-use Rattle.std.proofs.Common.{All, ◌*◌, sum_by, ◌≡◌, ◌⊎◌, ℕ, zero, suc, ◌+◌, ◌-◌, ◌<◌, ◌≤◌, Bool, true, false, List, []}
-use Rattle.std.proofs.Common.{◌∷◌, ◌++◌, Vec, map, length, get_or, set, take, drop, drop_of_length-le, sum, nat_eq}
-use Rattle.std.proofs.Common.{if◌then◌else◌, Contains, refl, sym, ap, subst, ◌∙◌, inl, inr, arith, add-one}
-use Rattle.std.proofs.Common.{get_or-set_same, get_or-set_other}
-use Rattle.std.proofs.lemmas.Bool.{cases_eq, eq-eqb, ne_eqb}
+use Rattle.std.proofs.Common.{All, ◌*◌, sum_by, ◌≡◌, ◌⊎◌, ℕ, zero, suc, ◌+◌, ◌-◌, ◌<◌, ◌≤◌, List, [], ◌∷◌, ◌++◌, Vec, map, length, get_or, set, take, drop, drop_of_length-le, sum, nat_eq, if◌then◌else◌, Contains, refl, sym, ap, subst, ◌∙◌, inl, inr, arith, add-one, get_or-set_same, get_or-set_other}
+use Rattle.std.proofs.lemmas.Bool.{cases_eq, eq-eqb}
 use Rattle.std.specs.Global.{Global}
 use Rattle.std.proofs.lemmas.List.{append-nil, length-map, length-take-le, take_all}
-use Rattle.std.proofs.lemmas.List.Elements.{All-take, All-weaker, Contains-append_left, Contains-push}
-use Rattle.std.proofs.lemmas.List.Elements.{Contains-push_cases}
+use Rattle.std.proofs.lemmas.List.Elements.{All-take, All-weaker, Contains-append_left, Contains-push, Contains-push_cases}
 use Rattle.std.proofs.lemmas.List.Sums.{count_by-le-length, sum_by-cons, sum_by-le, sum_by_more, sum_by_more_le}
 use Rattle.scr_funds.specs.ByNumber.{IsRow, weighted_rows}
 use Rattle.scr_funds.specs.HandedOn.{AreReady, times}
@@ -20,14 +16,7 @@ use Rattle.scr_funds.proofs.Ranges.{distinct_none, distinct-push}
 pub falling_to-within : (x : ℕ) (names parts : List ℕ) → falling_to nat_eq x names parts ≤ sum parts
 falling_to-within x [] parts = omega arith
 falling_to-within x (name ∷ names) [] = omega arith
-falling_to-within x (name ∷ names) (part ∷ parts) =
-    let later : falling_to nat_eq x names parts ≤ sum parts = falling_to-within x names parts in
-    let here : (if nat_eq x name then part else 0) ≤ part = at_most (nat_eq x name) in
-    omega (arith, later, here, sum_by-cons (λ p. p) part parts)
-  where
-    at_most : (b : Bool) → (if b then part else 0) ≤ part
-    at_most true = omega arith
-    at_most false = omega arith
+falling_to-within x (name ∷ names) (part ∷ parts) = let rest = falling_to-within x names parts in grind (arith, rest, sum_by-cons (λ p. p) part parts)
 
 falling_to-suc : (x : ℕ) (row : Weighted ℕ) (parts : List ℕ) (i : ℕ) → i < length row → i < length parts
     → falling_to nat_eq x (map (λ c. c.0) (take (suc i) row)) (take (suc i) parts)
@@ -51,18 +40,10 @@ falling_to-more x row parts i l m =
 pub added_at : (values : List ℕ) (place more x : ℕ) → place < length values
     → get_or (set values place (get_or values place 0 + more)) x 0
     ≡ get_or values x 0 + (if nat_eq x place then more else 0)
-added_at values place more x l = by (cases_eq x place)
-  where
-    by : (x ≡ place) ⊎ (x ≡ place → ⊥) → get_or (set values place (get_or values place 0 + more)) x 0
-        ≡ get_or values x 0 + (if nat_eq x place then more else 0)
-    by (inl e) =
-        ap (λ y. get_or (set values place (get_or values place 0 + more)) y 0) e
-        ∙ get_or-set_same values place (get_or values place 0 + more) 0 l
-        ∙ ap (λ y. get_or values y 0 + more) (sym e)
-        ∙ ap (λ b. get_or values x 0 + (if b then more else 0)) (sym (eq-eqb x place e))
-    by (inr n) =
-        get_or-set_other values place x (get_or values place 0 + more) 0 n ∙ (omega arith)
-        ∙ ap (λ b. get_or values x 0 + (if b then more else 0)) (sym (ne_eqb x place n))
+added_at values place more x l =
+    let own = get_or-set_same values place (get_or values place 0 + more) 0 l in
+    let other = get_or-set_other values place x (get_or values place 0 + more) 0 in
+    grind (arith, own, other)
 
 pub part_added : (old values : List ℕ) (row : Weighted ℕ) (parts : List ℕ) (i x : ℕ) → i < length row → i < length parts
     → (get_or row i (0, 0)).0 < length values
@@ -96,19 +77,10 @@ waits old waiting row i l counted was =
 pub taken_at : (waiting : List ℕ) (place x : ℕ) → place < length waiting → 0 < get_or waiting place 0
     → get_or (set waiting place (get_or waiting place 0 - 1)) x 0 + (if nat_eq x place then 1 else 0)
     ≡ get_or waiting x 0
-taken_at waiting place x l some = by (cases_eq x place)
-  where
-    by : (x ≡ place) ⊎ (x ≡ place → ⊥) → get_or (set waiting place (get_or waiting place 0 - 1)) x
-        0 + (if nat_eq x place then 1 else 0) ≡ get_or waiting x 0
-    by (inl e) =
-        let here = ap (λ y. get_or (set waiting place (get_or waiting place 0 - 1)) y 0) e
-        ∙ get_or-set_same waiting place (get_or waiting place 0 - 1) 0 l in
-        let one : ◌≡◌ {A = ℕ} (if nat_eq x place then 1 else 0) 1 = ap (λ b. if b then 1 else 0) (eq-eqb x place e) in
-        omega (arith, here, one, ap (λ y. get_or waiting y 0) e)
-    by (inr n) =
-        let here = get_or-set_other waiting place x (get_or waiting place 0 - 1) 0 n in
-        let none : ◌≡◌ {A = ℕ} (if nat_eq x place then 1 else 0) 0 = ap (λ b. if b then 1 else 0) (ne_eqb x place n) in
-        omega (arith, here, none)
+taken_at waiting place x l some =
+    let own = get_or-set_same waiting place (get_or waiting place 0 - 1) 0 l in
+    let other = get_or-set_other waiting place x (get_or waiting place 0 - 1) 0 in
+    grind (arith, some, own, other)
 
 pub waits_less : (old waiting : List ℕ) (row : Weighted ℕ) (i x : ℕ) → i < length row
     → (get_or row i (0, 0)).0 < length waiting → 0 < get_or waiting (get_or row i (0, 0)).0 0

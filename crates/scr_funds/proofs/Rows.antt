@@ -1,16 +1,10 @@
 -- The components of all funds, as rows that are put in and taken off.
-use Rattle.std.proofs.Common.{◌≡◌, ◌≢◌, ◌⊎◌, ◌↔◌, ℕ, ◌+◌, ◌-◌, ◌<◌, ◌≤◌, max, true, false, nat_eq, if◌then◌else◌, List}
-use Rattle.std.proofs.Common.{[], ◌∷◌, ◌++◌, length, replicate, fold, Contains, refl, sym, ap, subst, ◌∙◌, inl, inr}
-use Rattle.std.proofs.Common.{arith}
+use Rattle.std.proofs.Common.{◌≡◌, ◌≢◌, ◌⊎◌, ◌↔◌, ℕ, ◌+◌, ◌-◌, ◌<◌, ◌≤◌, max, nat_eq, if◌then◌else◌, List, [], ◌∷◌, ◌++◌, length, replicate, fold, Contains, refl, sym, ap, subst, ◌∙◌, inl, inr, arith}
 use Rattle.std.proofs.lemmas.Bool.{cases_lt, cases_eq, eq-eqb}
-use Rattle.std.proofs.lemmas.Bool.Decides.{eqb_tells}
-use Rattle.std.proofs.lemmas.List.{get_or-set_same, get_or-set_other, get_or_append_left, get_or-append_right}
-use Rattle.std.proofs.lemmas.List.{get_or_past, length-append, length-replicate, length-set, set-set, set-get_or}
-use Rattle.std.proofs.lemmas.List.{get_or-replicate, set_past}
+use Rattle.std.proofs.lemmas.List.{get_or-set_same, get_or-set_other, get_or_append_left, get_or-append_right, get_or_past, length-append, length-replicate, length-set, set-set, set-get_or, get_or-replicate, set_past}
 use Rattle.scr_funds.specs.Chains.{IsChain, LeadsTo, IsAcyclic}
 use Rattle.std.proofs.lemmas.List.Elements.{All-nil, All-weaker}
-use Rattle.scr_funds.specs.Components.{AreBelow, IsOrder, Components, components_of, components_with, with_components}
-use Rattle.scr_funds.specs.Components.{with_edges, grown, number_above, size_of}
+use Rattle.scr_funds.specs.Components.{AreBelow, IsOrder, Components, components_of, components_with, with_components, with_edges, grown, number_above, size_of}
 use Rattle.scr_funds.proofs.Members.{IsMember, IsMember-from_Contains, All-from_members}
 use Rattle.scr_funds.proofs.Cycles.{acyclic_weaker, acyclic_still, chain_weaker, leads_before}
 
@@ -61,34 +55,21 @@ module _ (from : ℕ) (members : List ℕ) (all : Components) where
   with-own = ap (λ b. if b then members else components_of all from) (eq-eqb from from refl)
 
   pub with-other : (fund : ℕ) → fund ≢ from → components_with from members all fund ≡ components_of all fund
-  with-other fund other = by (eqb_tells fund from)
-    where
-      by : ((nat_eq fund from ≡ true) × (fund ≡ from)) ⊎ ((nat_eq fund from ≡ false) × (fund ≡ from → ⊥))
-          → components_with from members all fund ≡ components_of all fund
-      by (inl t) = absurd (other t.1)
-      by (inr f) = ap (λ b. if b then members else components_of all fund) f.0
+  with-other fund other = grind (arith, other)
 
   pub components_of-with_components : from < size_of all → (fund : ℕ)
       → components_of (with_components from members all) fund ≡ components_with from members all fund
-  components_of-with_components l fund = by (cases_eq fund from)
-    where
-      by : (fund ≡ from) ⊎ (fund ≡ from → ⊥) → components_of (with_components from members all) fund
-          ≡ components_with from members all fund
-      by (inl e) =
-          ap (components_of (with_components from members all)) e ∙ get_or-set_same all from members [] l ∙ sym with-own
-          ∙ ap (components_with from members all) (sym e)
-      by (inr n) = get_or-set_other all from fund members [] n ∙ sym (with-other fund n)
+  components_of-with_components l fund =
+      let own = get_or-set_same all from members [] l in
+      let other = get_or-set_other all from fund members [] in
+      grind (arith, own, other)
 
   -- a fund's own components put in once more
   pub with-same : members ≡ components_of all from → components_with from members all ≡ components_of all
   with-same e = λ i fund. at fund i
     where
       at : (fund : ℕ) → components_with from members all fund ≡ components_of all fund
-      at fund = by (cases_eq fund from)
-        where
-          by : (fund ≡ from) ⊎ (fund ≡ from → ⊥) → components_with from members all fund ≡ components_of all fund
-          by (inl k) = ap (components_with from members all) k ∙ with-own ∙ e ∙ ap (components_of all) (sym k)
-          by (inr n) = with-other fund n
+      at fund = grind (arith, e)
 
   -- a fund without components would lead to itself exactly where one that it gets is the fund or leads back to it
   pub leads_back : components_of all from ≡ [] → LeadsTo (components_with from members all) from from
@@ -145,9 +126,6 @@ above_members fund (x ∷ xs) m (inl e) = let later : max fund x ≤ fold max (m
 above_members fund (x ∷ xs) m (inr h) = above_members (max fund x) xs m h
 
 module _ (from : ℕ) (members : List ℕ) (all : Components) where
-  wide : Components
-  wide = grown (number_above from members) all
-
   pub size_of-with_edges : size_of (with_edges from members all) ≡ max (number_above from members) (size_of all)
   size_of-with_edges = length-set (grown (number_above from members) all) from members
       ∙ size_of-grown (number_above from members) all

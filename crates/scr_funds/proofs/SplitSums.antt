@@ -1,13 +1,12 @@
 -- A sum over a list without repeats, split into a part of the list and what is left out.
-use Rattle.std.proofs.Common.{◌≡◌, ℕ, zero, suc, ◌+◌, ◌<◌, ◌≤◌, Bool, true, false, IsTrue, List, [], ◌∷◌, map, sum_by}
-use Rattle.std.proofs.Common.{if◌then◌else◌, ◌||◌, refl, sym, ap, ◌∙◌, inl, inr, arith, zero-add}
+use Rattle.std.proofs.Common.{◌≡◌, ℕ, zero, suc, ◌+◌, ◌<◌, ◌≤◌, Bool, false, IsTrue, List, [], ◌∷◌, map, sum_by, if◌then◌else◌, ◌||◌, refl, sym, ap, ◌∙◌, inl, inr, arith}
 use Rattle.std.specs.List.{IsDistinct}
 use Rattle.std.specs.Set.{is_member}
 use Rattle.std.proofs.lemmas.Bool.{true≢false, cond_both, false_from_ne_true}
 use Rattle.std.proofs.lemmas.List.{length-map}
 use Rattle.std.proofs.lemmas.List.Sums.{sum_by-cons, sum-map}
 use Rattle.scr_funds.specs.LookThrough.{falling_to}
-use Rattle.scr_funds.proofs.Climbs.{same_or_other, is_member-from_IsMember, IsMember-from_is_member}
+use Rattle.scr_funds.proofs.Climbs.{is_member-from_IsMember, IsMember-from_is_member}
 use Rattle.scr_funds.proofs.LookThroughLaws.{falling_to-none, falling_to-all, member_or_not}
 use Rattle.scr_funds.proofs.Members.{IsMember, at_member}
 use Rattle.scr_funds.proofs.SumsBy.{sum_by-same, sum_by-none, sum_by-add}
@@ -16,9 +15,7 @@ module _ {X : Type 0} where
   -- one term is within the sum
   pub sum_by-member : (f : X → ℕ) (xs : List X) (x : X) → IsMember x xs → f x ≤ sum_by f xs
   sum_by-member f [] x m = absurd m
-  sum_by-member f (y ∷ ys) x (inl e) = let here : f x ≡ f y = ap f e in omega (arith, sum_by-cons f y ys)
-  sum_by-member f (y ∷ ys) x (inr m) = let later : f x ≤ sum_by f ys = sum_by-member f ys x m in
-      omega (arith, sum_by-cons f y ys)
+  sum_by-member f (y ∷ ys) x m = let rest = sum_by-member f ys x in grind (arith, m, rest, sum_by-cons f y ys)
 
   -- where a sum is above 0, so is one of its terms
   pub sum_by-some : (f : X → ℕ) (xs : List X) → 0 < sum_by f xs → (x : X) × IsMember x xs × (0 < f x)
@@ -37,16 +34,11 @@ module _ {A : Type 0} (same : A → A → Bool) (is_same : (x y : A) → IsTrue 
       → falling_to same x some (map h some) ≡ (if is_member same some x then h x else 0)
   unfolding IsDistinct
   falling_to-own h [] apart x = refl
-  falling_to-own h (y ∷ ys) apart x = same_or_other same is_same same_self x y
-      (λ t e. ap (λ b. (if b then h y else 0) + falling_to same x ys (map h ys)) t
-      ∙ ap (λ n. h y + n) (falling_to-none same is_same same_self x ys (map h ys)
-      (λ m. true≢false (sym (same_self y) ∙ ap (same y) (sym e) ∙ at_member (λ z. same y z ≡ false) ys x apart.0 m)))
-      ∙ (omega (arith, ap h e))
-      ∙ ap (λ b. if (b || is_member same ys x) then h x else 0) (sym t))
-      (λ f n. ap (λ b. (if b then h y else 0) + falling_to same x ys (map h ys)) f
-      ∙ zero-add (falling_to same x ys (map h ys))
-      ∙ falling_to-own h ys apart.1 x
-      ∙ ap (λ b. if (b || is_member same ys x) then h x else 0) (sym f))
+  falling_to-own h (y ∷ ys) apart x =
+      let later = falling_to-own h ys apart.1 x in
+      let none : x ≡ y → falling_to same x ys (map h ys) ≡ 0 = λ e. falling_to-none same is_same same_self x ys (map h ys)
+      (λ m. true≢false (sym (same_self y) ∙ ap (same y) (sym e) ∙ at_member (λ z. same y z ≡ false) ys x apart.0 m)) in
+      grind (arith, later, none, is_same x y)
 
   module _ (all some : List A) (all_apart : IsDistinct same all) (some_apart : IsDistinct same some)
       (within : (x : A) → IsMember x some → IsMember x all) (h : A → ℕ) where
@@ -57,22 +49,11 @@ module _ {A : Type 0} (same : A → A → Bool) (is_same : (x y : A) → IsTrue 
     split : sum_by h all ≡ sum_by h some + sum_by left_out all
     split =
         sum_by-same h (λ x. falling_to same x some (map h some) + left_out x) all
-        (λ x m. each (is_member same some x) x refl)
+        (λ x m. let own = falling_to-own h some some_apart x in grind (arith, own))
         ∙ sum_by-add (λ x. falling_to same x some (map h some)) left_out all
         ∙ ap (λ n. n + sum_by left_out all)
         (falling_to-all same is_same same_self all all_apart some (map h some)
         (length-map {A = A} {B = ℕ} some h) within ∙ sum-map h some)
-      where
-        each : (b : Bool) (x : A) → is_member same some x ≡ b
-            → h x ≡ falling_to same x some (map h some) + (if is_member same some x then 0 else h x)
-        each true x e = let own : falling_to same x some (map h some) ≡ h x = falling_to-own h some some_apart x
-            ∙ ap (λ b. if b then h x else 0) e in
-            let none : (if is_member same some x then 0 else h x) ≡ 0 = ap (λ b. if b then 0 else h x) e in
-            omega (arith, own, none)
-        each false x e = let own : falling_to same x some (map h some) ≡ 0 = falling_to-own h some some_apart x
-            ∙ ap (λ b. if b then h x else 0) e in
-            let none : (if is_member same some x then 0 else h x) ≡ h x = ap (λ b. if b then 0 else h x) e in
-            omega (arith, own, none)
 
     pub sum_by-some_le : sum_by h some ≤ sum_by h all
     sum_by-some_le = omega (arith, split)

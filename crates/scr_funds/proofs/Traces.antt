@@ -1,6 +1,5 @@
 -- A trace is followed back, entry by entry.
-use Rattle.std.proofs.Common.{◌≡◌, ℕ, ◌<◌, suc, zero, List, [], ◌∷◌, ◌++◌, length, reverse, Some, None, slice_get, refl}
-use Rattle.std.proofs.Common.{sym, ap, subst, ◌∙◌, arith}
+use Rattle.std.proofs.Common.{◌≡◌, ℕ, ◌<◌, suc, zero, List, [], ◌∷◌, ◌++◌, length, reverse, Some, None, slice_get, refl, sym, ap, subst, ◌∙◌, arith}
 use Rattle.std.proofs.lemmas.List.{append_assoc, reverse-append}
 use Rattle.scr_funds.specs.Search.{IsTraced}
 use Rattle.scr_funds.proofs.Trails.{onto}

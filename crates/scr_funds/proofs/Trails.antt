@@ -1,6 +1,5 @@
 -- Trails: ways on from one fund, as lists with their last step first, so that one more step is put in front.
-use Rattle.std.proofs.Common.{◌≡◌, ◌⊎◌, ◌+◌, ◌<◌, suc, List, [], ◌∷◌, ◌++◌, length, Contains, refl, sym, ap, subst, ◌∙◌}
-use Rattle.std.proofs.Common.{inl, inr, arith}
+use Rattle.std.proofs.Common.{◌≡◌, ◌⊎◌, ◌+◌, ◌<◌, suc, List, [], ◌∷◌, ◌++◌, length, Contains, refl, sym, ap, subst, ◌∙◌, inl, inr, arith}
 use Rattle.scr_funds.specs.Chains.{IsMetBefore, IsChain, ComesEarlier}
 use Rattle.scr_funds.proofs.Members.{met_before-trans}
 

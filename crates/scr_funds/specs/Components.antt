@@ -1,7 +1,6 @@
 -- The components of all funds (how they are listed is this project's own): for each fund, named by its place in this
 -- list, the list of its components in the order of its record. A fund past the end of the list has none.
-use Rattle.std.specs.Prelude.{ℕ, ◌+◌, ◌-◌, ◌<◌, max, All, List, [], ◌++◌, if◌then◌else◌, nat_eq, length, fold}
-use Rattle.std.specs.Prelude.{replicate, slice_index_or, slice_set}
+use Rattle.std.specs.Prelude.{ℕ, ◌+◌, ◌-◌, ◌<◌, max, All, List, [], ◌++◌, if◌then◌else◌, nat_eq, length, fold, replicate, slice_index_or, slice_set}
 use Rattle.scr_funds.specs.Chains.{IsAcyclic}
 
 abbrev pub Components : Type 0

@@ -1,14 +1,11 @@
 -- The graph under its names and under its numbers.
-use Rattle.std.proofs.Common.{◌≡◌, ◌≢◌, ◌⊎◌, ℕ, ℤ, ◌<◌, ◌≤◌, Bool, true, false, cond, ◌||◌, IsTrue, List, [], ◌∷◌, ◌++◌}
-use Rattle.std.proofs.Common.{map, max, fold, length, get_or, Contains, Some, None, refl, sym, ap, subst, ◌∙◌, inl, inr}
-use Rattle.std.proofs.Common.{arith}
+use Rattle.std.proofs.Common.{◌≡◌, ◌≢◌, ◌⊎◌, ℕ, ℤ, ◌<◌, ◌≤◌, true, false, cond, ◌||◌, IsTrue, List, [], ◌∷◌, ◌++◌, map, max, fold, length, get_or, Contains, Some, None, refl, sym, ap, subst, ◌∙◌, inl, inr, arith}
 use Rattle.std.specs.List.{list_any, IsDistinct}
 use Rattle.std.proofs.lemmas.Bool.{cases_Bool, cases_eq, cases_lt, true≢false}
 use Rattle.std.proofs.lemmas.List.{get_or_append_left, get_or_past, get_or_default, get_or-set_other, length-map}
 use Rattle.std.specs.Cmp.Lexicographic.{bytes_decides}
 use Rattle.scr_funds.specs.Chains.{IsChain, LeadsTo, IsAcyclic, IsFirstShortest}
-use Rattle.scr_funds.specs.Components.{Components, IsOrder, components_of, components_with, with_components, with_edges}
-use Rattle.scr_funds.specs.Components.{number_above, size_of}
+use Rattle.scr_funds.specs.Components.{Components, IsOrder, components_of, components_with, with_components, with_edges, number_above, size_of}
 use Rattle.scr_funds.specs.Paths.{path_within}
 use Rattle.scr_funds.proofs.Members.{IsMember, IsMember-from_Contains, IsMember-map}
 use Rattle.scr_funds.proofs.Rows.{with-own, with-other, none_left, size_of-with_edges}
@@ -16,12 +13,10 @@ use Rattle.scr_funds.proofs.Naming.{leads_to_named, leads_to_of_named}
 use Rattle.scr_funds.proofs.NamedPaths.{no_cycle_named, cycle_named}
 use Rattle.scr_names.specs.Names.{same_name}
 use Rattle.scr_names.proofs.TableRows.{same_name-itself, same_name-is, same_or_other}
-use Rattle.scr_graph.specs.Graph.{Graph, number_in, entered_in, components_under, components_after, AreEntered}
-use Rattle.scr_graph.specs.Graph.{AreEnteredOr}
+use Rattle.scr_graph.specs.Graph.{Graph, number_in, entered_in, components_under, components_after, AreEntered, AreEnteredOr}
 use Rattle.scr_graph.specs.GraphInside.{node_name, graph_of, IsNumbered}
 use Rattle.scr_graph.specs.declared.graph.FundGraph.TheInside.{Inside}
-use Rattle.scr_graph.proofs.Numbering.{at_all, map_same, map_undone, name-number, number-entered, number-new}
-use Rattle.scr_graph.proofs.Numbering.{number-name, number-kept, number-past}
+use Rattle.scr_graph.proofs.Numbering.{at_all, map_same, map_undone, name-number, number-entered, number-new, number-name, number-kept, number-past}
 
 -- what is known of the graph that is kept
 pub record Sound (graph : Graph) : Type 0 where
@@ -66,13 +61,7 @@ carried P n m xs ys old new first second third h =
 -- what was entered was entered or is the fund
 pub entered_or-from_entered : (fund : List ℕ) (components : List (List ℕ × ℤ)) (graph : Graph)
     → AreEntered components graph → AreEnteredOr fund components graph
-entered_or-from_entered fund components graph entered = λ k d l.
-    ap (λ t. same_name (get_or components k d).0 fund || t) (entered k d l)
-    ∙ either (same_name (get_or components k d).0 fund)
-  where
-    either : (s : Bool) → (s || true) ≡ true
-    either true = refl
-    either false = refl
+entered_or-from_entered fund components graph entered = λ k d l. let was = entered k d l in grind (arith, was)
 
 -- other components in the place of the fund's own differ only as the graphs do
 pub after-same : (fund : List ℕ) (components : List (List ℕ × ℤ)) (old new : Graph)

@@ -1,11 +1,10 @@
 -- The numbers of names: which number a name has, and which name a number has.
-use Rattle.std.proofs.Common.{◌≡◌, ℕ, zero, suc, ◌<◌, ◌≤◌, Bool, true, false, cond, ◌||◌, List, [], ◌∷◌, ◌++◌, map}
-use Rattle.std.proofs.Common.{length, get_or, All, refl, sym, ap, subst, ◌∙◌, inl, inr, arith}
+use Rattle.std.proofs.Common.{◌≡◌, ℕ, zero, suc, ◌<◌, ◌≤◌, true, false, cond, ◌||◌, List, [], ◌∷◌, ◌++◌, map, length, get_or, All, refl, sym, ap, subst, ◌∙◌, inl, inr, arith}
 use Rattle.std.specs.List.{list_any, AllByRecursion, IsDistinct}
 use Rattle.std.proofs.lemmas.Bool.{true≢false}
 use Rattle.scr_funds.proofs.Members.{IsMember, Contains-from_IsMember}
 use Rattle.scr_names.specs.Names.{same_name}
-use Rattle.scr_names.proofs.TableRows.{same_name-itself, same_name-flip, same_name-is, same_or_other}
+use Rattle.scr_names.proofs.TableRows.{same_name-itself, same_name-flip, same_name-is}
 use Rattle.scr_graph.specs.Graph.{number_in}
 
 -- what holds of each holds of a member
@@ -45,39 +44,22 @@ pub number-later : (first : List ℕ) (names : List (List ℕ)) (name : List ℕ
     → number_in (first ∷ names) name ≡ suc (number_in names name)
 number-later first names name e = ap (λ t. cond t 0 (suc (number_in names name))) e
 
-any-later : (first : List ℕ) (names : List (List ℕ)) (name : List ℕ) → same_name name first ≡ false
-    → list_any (same_name name) (first ∷ names) ≡ list_any (same_name name) names
-any-later first names name e = ap (λ t. t || list_any (same_name name) names) e
-
-any-here : (first : List ℕ) (names : List (List ℕ)) (name : List ℕ) → same_name name first ≡ true
-    → list_any (same_name name) (first ∷ names) ≡ true
-any-here first names name e = ap (λ t. t || list_any (same_name name) names) e
-
 -- ---- from a name to its number and back
 
 -- the number of a name has that name, or else none
 pub name-number : (names : List (List ℕ)) (name : List ℕ) → get_or names (number_in names name) name ≡ name
 name-number [] name = refl
-name-number (first ∷ names) name =
-    same_or_other name first (λ e. ap (λ k. get_or (first ∷ names) k name) (number-here first names name e)
-    ∙ sym (same_name-is name first e))
-    (λ e. ap (λ k. get_or (first ∷ names) k name) (number-later first names name e) ∙ name-number names name)
+name-number (first ∷ names) name = let rest = name-number names name in grind (arith, rest, same_name-is name first)
 
 pub number-entered : (names : List (List ℕ)) (name : List ℕ) → list_any (same_name name) names ≡ true
     → number_in names name < length names
 number-entered [] name has = absurd (true≢false (sym has))
-number-entered (first ∷ names) name has =
-    same_or_other name first (λ e. let k = number-here first names name e in omega arith)
-    (λ e. let k = number-later first names name e in
-    let rest = number-entered names name (sym (any-later first names name e) ∙ has) in
-    omega arith)
+number-entered (first ∷ names) name has = let rest = number-entered names name in grind (arith, has, rest)
 
 pub number-new : (names : List (List ℕ)) (name : List ℕ) → list_any (same_name name) names ≡ false
     → number_in names name ≡ length names
 number-new [] name has = refl
-number-new (first ∷ names) name has =
-    same_or_other name first (λ e. absurd (true≢false (sym (any-here first names name e) ∙ has)))
-    (λ e. number-later first names name e ∙ ap suc (number-new names name (sym (any-later first names name e) ∙ has)))
+number-new (first ∷ names) name has = let rest = number-new names name in grind (arith, has, rest)
 
 -- where no two names are one, the number of the name at a place is the place
 pub number-name : (names : List (List ℕ)) → IsDistinct same_name names → (k : ℕ) (d : List ℕ) → k < length names
@@ -95,37 +77,19 @@ number-name (first ∷ names) distinct (suc k) d l =
 pub any-last : (names : List (List ℕ)) (new name : List ℕ)
     → list_any (same_name name) (names ++ new ∷ []) ≡ (same_name name new || list_any (same_name name) names)
 any-last [] new name = refl
-any-last (first ∷ names) new name = ap (λ t. same_name name first || t) (any-last names new name)
-    ∙ flip (same_name name first) (same_name name new)
-  where
-    flip : (s t : Bool) → (s || (t || list_any (same_name name) names)) ≡ (t || (s || list_any (same_name name) names))
-    flip true true = refl
-    flip true false = refl
-    flip false true = refl
-    flip false false = refl
+any-last (first ∷ names) new name = let rest = any-last names new name in grind (arith, rest)
 
 pub number-kept : (names more : List (List ℕ)) (name : List ℕ) → list_any (same_name name) names ≡ true
     → number_in (names ++ more) name ≡ number_in names name
 number-kept [] more name has = absurd (true≢false (sym has))
-number-kept (first ∷ names) more name has =
-    same_or_other name first (λ e. number-here first (names ++ more) name e ∙ sym (number-here first names name e))
-    (λ e. number-later first (names ++ more) name e
-    ∙ ap suc (number-kept names more name (sym (any-later first names name e) ∙ has))
-    ∙ sym (number-later first names name e))
+number-kept (first ∷ names) more name has = let rest = number-kept names more name in grind (arith, has, rest)
 
 pub number-past : (names more : List (List ℕ)) (name : List ℕ) → list_any (same_name name) names ≡ false
     → length names ≤ number_in (names ++ more) name
 number-past [] more name has = omega arith
-number-past (first ∷ names) more name has =
-    same_or_other name first (λ e. absurd (true≢false (sym (any-here first names name e) ∙ has)))
-    (λ e. let k = number-later first (names ++ more) name e in
-    let rest = number-past names more name (sym (any-later first names name e) ∙ has) in
-    omega arith)
+number-past (first ∷ names) more name has = let rest = number-past names more name in grind (arith, has, rest)
 
 -- a name that is entered once more is that of one that is there
 pub any-again : (names : List (List ℕ)) (old name : List ℕ) → list_any (same_name old) names ≡ true
     → list_any (same_name name) names ≡ (same_name name old || list_any (same_name name) names)
-any-again names old name has = same_or_other name old
-    (λ e. ap (λ n. list_any (same_name n) names) (same_name-is name old e) ∙ has
-    ∙ sym (ap (λ t. t || list_any (same_name name) names) e))
-    (λ e. sym (ap (λ t. t || list_any (same_name name) names) e))
+any-again names old name has = grind (arith, has, same_name-is name old)

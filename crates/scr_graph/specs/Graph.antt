@@ -1,7 +1,6 @@
 -- Which funds hold which, by name (Article 84 of Delegated Regulation (EU) 2015/35). A name that is entered has a
 -- number, its place among those that were entered, and keeps it for good.
-use Rattle.std.specs.Prelude.{ℕ, zero, suc, ℤ, ◌||◌, Bool, List, [], ◌∷◌, All, IsTrue, if◌then◌else◌, map}
-use Rattle.std.specs.Prelude.{slice_index_or}
+use Rattle.std.specs.Prelude.{ℕ, zero, suc, ℤ, ◌||◌, Bool, List, [], ◌∷◌, All, IsTrue, if◌then◌else◌, map, slice_index_or}
 use Rattle.std.specs.List.{list_any}
 use Rattle.scr_funds.specs.Components.{Components, components_of}
 use Rattle.scr_names.specs.Names.{same_name}

@@ -4,8 +4,7 @@ use Rattle.std.specs.List.{IsDistinct}
 use Rattle.scr_funds.specs.Components.{IsOrder, size_of}
 use Rattle.scr_names.specs.Names.{same_name}
 use Rattle.scr_graph.specs.Graph.{Graph}
-use Rattle.scr_graph.specs.declared.graph.Node.{Node}
-use Rattle.scr_graph.specs.declared.graph.FundGraph.TheInside.{Inside}
+use Rattle.scr_graph.specs.declared.{graph.Node.Node, graph.FundGraph.TheInside.Inside}
 
 abbrev pub node_name : Node → List ℕ
 node_name node = node.name

@@ -9,8 +9,6 @@ mod host;
 pub mod laws;
 mod memory;
 mod reading;
-#[cfg(test)]
-mod tests;
 mod writing;
 
 pub use gate::{Gate, OpenGate};

@@ -1,19 +1,13 @@
 -- What a place that joins the end of a list changes, and one that leaves it.
-use Rattle.std.proofs.Common.{◌≡◌, ℕ, ◌+◌, ◌<◌, ◌≤◌, true, false, cond, List, [], ◌∷◌, ◌++◌, length, get_or, set}
-use Rattle.std.proofs.Common.{eqb, refl, ap, sym, ◌∙◌, ⊎_elim, subst, arith, eqb-true, eq-eqb, ne_eqb}
+use Rattle.std.proofs.Common.{◌≡◌, ℕ, ◌+◌, ◌<◌, ◌≤◌, true, false, cond, List, [], ◌∷◌, ◌++◌, length, get_or, set, eqb, refl, ap, sym, ◌∙◌, ⊎_elim, subst, arith, eqb-true, eq-eqb, ne_eqb}
 use Rattle.std.proofs.lemmas.Bool.{cases_Bool, both_ways, false_from_ne_true}
 use Rattle.scr_links.specs.Places.{has, AreApart, without}
-use Rattle.scr_links.specs.Chains.{Chained, none, unlinked, empty, link_at, ends_at, list_of, next_in, previous_in}
-use Rattle.scr_links.specs.Chains.{IsChain, AreChains}
-use Rattle.scr_links.specs.Chains.{SetsNext, SetsPrevious}
-use Rattle.scr_links.specs.declared.chains.Link.{Link}
-use Rattle.scr_links.specs.declared.chains.Ends.{Ends}
-use Rattle.scr_links.proofs.Lists.{has-first, has-self, has-later, has-cases, differ, push-cases, AreApart-push}
-use Rattle.scr_links.proofs.Lists.{has-without, has-without_self, length-without, AreApart-without}
+use Rattle.scr_links.specs.Chains.{Chained, none, unlinked, empty, link_at, ends_at, list_of, next_in, previous_in, IsChain, AreChains, SetsNext, SetsPrevious}
+use Rattle.scr_links.specs.declared.{chains.Link.Link, chains.Ends.Ends}
+use Rattle.scr_links.proofs.Lists.{has-first, has-self, has-later, has-cases, differ, push-cases, AreApart-push, has-without, has-without_self, length-without, AreApart-without}
 use Rattle.scr_links.proofs.Rings.{joined_ring, left_ring, before_end, before_inside, after_inside}
 use Rattle.std.proofs.lemmas.List.{get_or_default, get_or-set_same, get_or-set_other}
-use Rattle.scr_links.proofs.Linked.{Kept, kept, listed_below, previous_in-none, previous_in-place, next_in-place}
-use Rattle.scr_links.proofs.Linked.{none_outside, chain_apart, Changes}
+use Rattle.scr_links.proofs.Linked.{Kept, kept, listed_below, previous_in-none, previous_in-place, next_in-place, none_outside, chain_apart, Changes}
 
 differ_back : (one other : ℕ) (places : List ℕ) → has one places ≡ true → has other places ≡ false
     → eqb other one ≡ false
@@ -327,9 +321,6 @@ module _ (value before : Chained) (list place : ℕ) (same : before ≡ value) (
         subst P (sym link_is) (ring_place list_there _
         (next_in_ring before.links (ends_at before.ends list) chains.few (list_of before list)
         (chains.each list) place inside_before)) f
-
-    pub place_linked : place < length before.links
-    place_linked = (chains.each list).within place inside_before
 
     pub removed : (one two : List Link) (second last : Ends)
         → SetsNext link.previous link.next before.links first one second

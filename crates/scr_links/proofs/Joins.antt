@@ -1,7 +1,5 @@
 -- Edges by their places: what joins them and what cuts them leave in the lists.
-use Rattle.std.proofs.Common.{◌≡◌, ℕ, ◌==◌, ◌<◌, ◌||◌, Bool, true, false, not, cond, List, [], ◌∷◌, ◌++◌, length, map}
-use Rattle.std.proofs.Common.{filter, set}
-use Rattle.std.proofs.Common.{eqb, refl, ap, sym, ◌∙◌, ⊎_elim, eqb-true, eq-eqb, ne_eqb}
+use Rattle.std.proofs.Common.{◌≡◌, ℕ, ◌==◌, ◌<◌, ◌||◌, Bool, true, false, not, cond, List, [], ◌∷◌, ◌++◌, length, map, filter, set, eqb, refl, ap, sym, ◌∙◌, ⊎_elim, eqb-true, eq-eqb, ne_eqb}
 use Rattle.std.proofs.lemmas.Bool.{cases_Bool, both_ways, false_from_ne_true}
 use Rattle.std.proofs.lemmas.List.{get_or-set_same, get_or-set_other}
 use Rattle.std.specs.List.{list_any}
@@ -11,8 +9,7 @@ use Rattle.scr_links.specs.Chains.{Chained, list_of}
 use Rattle.scr_links.specs.Ends.{pair_at}
 use Rattle.scr_links.specs.Kept.{edge_at, with_source, with_dependant}
 use Rattle.scr_links.specs.declared.links.Pair.{Pair}
-use Rattle.scr_links.proofs.Lists.{filter-picks, filter-drops, has-filter, filter-has, filter-push, filter-agree}
-use Rattle.scr_links.proofs.Lists.{filter-without, filter-unpicked, append-nil, without-absent}
+use Rattle.scr_links.proofs.Lists.{filter-picks, filter-drops, has-filter, filter-has, filter-push, filter-agree, filter-without, filter-unpicked, append-nil, without-absent}
 
 -- ---- the edges at a list of places
 

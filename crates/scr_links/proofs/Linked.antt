@@ -1,24 +1,16 @@
 -- Lists of places that are linked both ways: their places, one after the other, and a change to one of the lists.
-use Rattle.std.proofs.Common.{◌≡◌, ℕ, zero, suc, ◌<◌, ◌≤◌, true, false, cond, List, [], ◌∷◌, length, set}
-use Rattle.std.proofs.Common.{eqb, refl, ap, sym, ◌∙◌, ⊎_elim, subst, arith, eqb-true, eq-eqb, ne_eqb}
+use Rattle.std.proofs.Common.{◌≡◌, ℕ, zero, suc, ◌<◌, ◌≤◌, true, false, cond, List, [], ◌∷◌, length, set, eqb, refl, ap, sym, ◌∙◌, ⊎_elim, subst, arith, eqb-true, eq-eqb, ne_eqb}
 use Rattle.std.proofs.lemmas.Bool.{cases_Bool, cases_lt, both_ways, cond-true, cond-false}
 use Rattle.std.proofs.lemmas.List.{get_or_past, get_or-set_same, get_or-set_other, length-set}
 use Rattle.scr_links.specs.Places.{has, AreApart}
-use Rattle.scr_links.specs.Chains.{Chained, none, empty, link_at, ends_at, places_from, list_of, next_in, previous_in}
-use Rattle.scr_links.specs.Chains.{Path, IsChain, Leads, AreChains}
-use Rattle.scr_links.specs.Chains.{unlinked, SetsNext, SetsPrevious}
-use Rattle.scr_links.specs.declared.chains.Link.{Link}
-use Rattle.scr_links.specs.declared.chains.Ends.{Ends}
+use Rattle.scr_links.specs.Chains.{Chained, none, empty, link_at, ends_at, places_from, list_of, next_in, previous_in, Path, IsChain, Leads, AreChains, unlinked, SetsNext, SetsPrevious}
+use Rattle.scr_links.specs.declared.{chains.Link.Link, chains.Ends.Ends}
 use Rattle.scr_links.proofs.Lists.{has-none, has-self, has-later, has-cases, length-below}
 use Rattle.scr_links.proofs.Rings.{same_ring}
 
 -- ---- next and previous
 
 module _ (links : List Link) (ends : Ends) where
-  pub next_in-none : next_in links ends none ≡ ends.first
-  unfolding next_in
-  next_in-none = refl
-
   pub previous_in-none : previous_in links ends none ≡ ends.last
   unfolding previous_in
   previous_in-none = refl

@@ -1,7 +1,5 @@
 -- Lists of places: which places are in them, and what a test picks of them.
-use Rattle.std.proofs.Common.{◌≡◌, ℕ, ◌+◌, ◌<◌, ◌≤◌, ◌||◌, ◌⊎◌, Bool, true, false, not, cond, List, [], ◌∷◌, ◌++◌}
-use Rattle.std.proofs.Common.{length, map, filter, eqb, refl, ap, sym, ◌∙◌, ⊎_elim, inl, inr, subst, arith, rules}
-use Rattle.std.proofs.Common.{eqb-true, eq-eqb, ne_eqb}
+use Rattle.std.proofs.Common.{◌≡◌, ℕ, ◌+◌, ◌<◌, ◌≤◌, ◌||◌, ◌⊎◌, Bool, true, false, not, cond, List, [], ◌∷◌, ◌++◌, length, map, filter, eqb, refl, ap, sym, ◌∙◌, ⊎_elim, inl, inr, subst, arith, rules, eqb-true, eq-eqb, ne_eqb}
 use Rattle.std.specs.List.{list_any, IsDistinct, AllByRecursion}
 use Rattle.std.proofs.lemmas.Bool.{cases_Bool, or_parts, or_cases, false_from_ne_true, both_ways}
 use Rattle.std.proofs.lemmas.Map.Steps.{length-le_from_distinct_below}
@@ -52,11 +50,6 @@ pub has-push : (place : ℕ) (places : List ℕ) (last : ℕ)
 unfolding has
 has-push place [] last = grind rules
 has-push place (p ∷ places) last = grind (rules, has-push place places last)
-
-pub has-push_self : (places : List ℕ) (last : ℕ) → has last (places ++ last ∷ []) ≡ true
-has-push_self places last =
-    let e : eqb last last ≡ true = eq-eqb last last refl in
-    rw (has-push last places last, e) (grind rules)
 
 pub push-cases : (place : ℕ) (places : List ℕ) (last : ℕ) → has place (places ++ last ∷ []) ≡ true
     → (last ≡ place) ⊎ (has place places ≡ true)

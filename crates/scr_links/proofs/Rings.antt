@@ -1,11 +1,9 @@
 -- Rings of places, each next to the one before: what joins a ring at its end, and what leaves it.
-use Rattle.std.proofs.Common.{◌≡◌, ℕ, ◌⊎◌, true, false, List, [], ◌∷◌, ◌++◌}
-use Rattle.std.proofs.Common.{eqb, sym, ◌∙◌, ⊎_elim, inl, inr, subst, eqb-true, eq-eqb, ne_eqb}
+use Rattle.std.proofs.Common.{◌≡◌, ℕ, ◌⊎◌, true, false, List, [], ◌∷◌, ◌++◌, eqb, sym, ◌∙◌, ⊎_elim, inl, inr, subst, eqb-true, eq-eqb, ne_eqb}
 use Rattle.std.proofs.lemmas.Bool.{cases_Bool, both_ways}
 use Rattle.scr_links.specs.Places.{has, AreApart, without}
 use Rattle.scr_links.specs.Chains.{Path}
-use Rattle.scr_links.proofs.Lists.{has-none, has-self, has-later, has-cases, not_first, not_later, differ}
-use Rattle.scr_links.proofs.Lists.{without-it, without-other, without-absent, among_others}
+use Rattle.scr_links.proofs.Lists.{has-none, has-self, has-later, has-cases, not_first, not_later, differ, without-it, without-other, without-absent, among_others}
 
 module _ (next previous : ℕ → ℕ) where
   -- what goes before the end of a ring is in it

@@ -1,7 +1,5 @@
 -- What always holds of the edges, after each of what changes them.
-use Rattle.std.proofs.Common.{◌≡◌, ℕ, zero, suc, All, ◌==◌, ◌+◌, ◌-◌, ◌<◌, ◌≤◌, ◌⊎◌, true, false, List, [], ◌∷◌, ◌++◌}
-use Rattle.std.proofs.Common.{length, map, set}
-use Rattle.std.proofs.Common.{eqb, refl, ap, sym, length-append, ◌∙◌, ⊎_elim, subst, arith, eqb-true}
+use Rattle.std.proofs.Common.{◌≡◌, ℕ, zero, suc, All, ◌==◌, ◌+◌, ◌-◌, ◌<◌, ◌≤◌, ◌⊎◌, true, false, List, [], ◌∷◌, ◌++◌, length, map, set, eqb, refl, ap, sym, length-append, ◌∙◌, ⊎_elim, subst, arith, eqb-true}
 use Rattle.std.proofs.lemmas.Bool.{cases_Bool, both_ways}
 use Rattle.std.proofs.lemmas.List.{length-set}
 use Rattle.scr_links.specs.Edges.{Edge, Linked, edge, linked, is_edge, edges_without, sources_of, dependants_of, ids_of}
@@ -11,15 +9,10 @@ use Rattle.scr_links.specs.Chains.{Chained, none, list_of, Leads, Appended, Remo
 use Rattle.scr_links.specs.Ends.{pair_at}
 use Rattle.scr_links.specs.Growth.{HasGrown, HasRoom, Freed}
 use Rattle.scr_links.specs.Kept.{AreKept, edge_at, with_source, with_dependant, linked_of, standing, free}
-use Rattle.scr_links.specs.declared.links.Pair.{Pair}
-use Rattle.scr_links.specs.declared.links.Tables.{Tables}
-use Rattle.scr_links.specs.declared.links.Links.TheInside.{Inside}
-use Rattle.scr_links.proofs.Lists.{has-none, has-self, has-later, has-filter, IsDistinct-from_apart, has-without}
-use Rattle.scr_links.proofs.Lists.{AreApart-push, AreApart-without, push-cases, map-agree, filter-agree}
+use Rattle.scr_links.specs.declared.{links.Pair.Pair, links.Tables.Tables, links.Links.TheInside.Inside}
+use Rattle.scr_links.proofs.Lists.{has-none, has-self, has-later, has-filter, IsDistinct-from_apart, has-without, AreApart-push, AreApart-without, push-cases, map-agree, filter-agree}
 use Rattle.scr_links.proofs.Linked.{leads_into}
-use Rattle.scr_links.proofs.Joins.{sources-at, dependants-at, ids-at, is_edge-at, edges_without-at, map-push}
-use Rattle.scr_links.proofs.Joins.{listed_nowhere, listed_there, listed_joined, listed_cut, pair_elsewhere}
-use Rattle.scr_links.proofs.Joins.{pair_there}
+use Rattle.scr_links.proofs.Joins.{sources-at, dependants-at, ids-at, is_edge-at, edges_without-at, map-push, listed_nowhere, listed_there, listed_joined, listed_cut, pair_elsewhere, pair_there}
 
 -- ---- an edge joins at a free place
 
@@ -440,11 +433,6 @@ module _ (now : Inside) (order : (number : ℕ) → list_of now.tables.order num
     source_lists = omega (arith, no_size);
     dependant_lists = omega (arith, no_size);
   }
-
-  pub empty_view : linked_of now ≡ linked [] 0 0
-  empty_view =
-      ap (λ (these : List ℕ). linked (map (edge_at now.tables.pairs.items) these) now.spare now.size) (order 0)
-      ∙ ap (λ (n : ℕ). linked [] n now.size) no_spare ∙ ap (λ (n : ℕ). linked [] 0 n) no_size
 
 -- ---- one place more is free
 

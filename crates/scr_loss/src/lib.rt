@@ -13,6 +13,3 @@ pub use adjustments::{adj_dt, adj_tp, scr};
 pub use basic::{bscr, diversification};
 pub use charges::Operational;
 pub use operational_risk::{cap, op, operational, prem, prov};
-
-#[cfg(test)]
-mod tests;

@@ -1,34 +1,22 @@
-//! Tests of the crates that stand low: values from outside, and that calls that take memory
-//! succeed where memory is to be had.
+//! Tests of what no stored run of the program shows: calls that it does not make, ends of spans that no printed cent
+//! tells apart, and texts that it does not print.
 #![tactic(auto)]
 
-#[cfg(test)]
-mod agg;
 #[cfg(test)]
 mod curve;
 #[cfg(test)]
 mod dates;
 #[cfg(test)]
-mod factors;
-#[cfg(test)]
 mod flow;
 #[cfg(test)]
 mod funds;
 #[cfg(test)]
-mod graph;
+mod io;
 #[cfg(test)]
-mod market;
+mod modules;
 #[cfg(test)]
 mod names;
 #[cfg(test)]
-mod num;
-#[cfg(test)]
-mod rate;
-#[cfg(test)]
-mod records;
-#[cfg(test)]
-mod sheets;
+mod spans;
 #[cfg(test)]
 mod threads;
-#[cfg(test)]
-mod words;

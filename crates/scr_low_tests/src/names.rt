@@ -1,7 +1,6 @@
-//! Names have their form and their order, and a table keeps the order of its rows and the sum of
-//! what they add.
+//! A table keeps the sum of what its rows add.
 
-use scr_names::{Measured, Name, Names, Row, Rows, Summed};
+use scr_names::{Measured, Name, Row, Summed};
 use std::alloc::AllocError as NoMemory;
 use std::process::Abort;
 use std::test::Fail;
@@ -29,42 +28,6 @@ impl Measured for Amount {
     }
 }
 
-fn name(rt: &impl Abort, text: &str) -> Name {
-    Name::parse(text.as_bytes()).expect(rt, "a name")
-}
-
-#[test]
-fn names_have_their_form(rt: HostRuntime) {
-    let longest = "a2345678901234567890123456789_.-";
-    for text in ["S", "7", "S1_.-", longest] {
-        assert_eq!(rt; name(&rt, text).as_bytes(), text.as_bytes(), "{text}");
-    }
-    let too_long = "a23456789012345678901234567890123";
-    for text in ["", "-a", ".a", "_a", "a b", "a,b", "ä", too_long] {
-        assert!(rt; Name::parse(text.as_bytes()).is_none(), "{text}");
-    }
-}
-
-#[test]
-fn names_have_their_order(rt: HostRuntime) {
-    assert!(rt; name(&rt, "A") < name(&rt, "A1") && name(&rt, "A1") < name(&rt, "B"));
-}
-
-#[test]
-fn a_table_keeps_the_order_of_its_rows(rt: HostRuntime) -> Result<(), Fail> {
-    let (a, b, c) = (name(&rt, "A"), name(&rt, "B"), name(&rt, "C"));
-    let mut rows = Rows::new(rt.alloc());
-    for name in [c, a, b, a] {
-        rows.put(Amount { name, cents: 0 })?;
-    }
-    assert_eq!(rt; rows.len(), 3);
-    assert_eq!(rt; rows.place(&b), Some(2));
-    rows.remove(&c);
-    assert_eq!(rt; rows.place(&b), Some(1));
-    assert!(rt; !rows.contains(&c));
-    Ok(())
-}
-
 /// Puts a row in, by which the sum must not become too large.
 fn put(
     rt: &impl Abort,
@@ -79,7 +42,8 @@ fn put(
 
 #[test]
 fn a_table_keeps_the_sum_of_its_rows(rt: HostRuntime) -> Result<(), Fail> {
-    let (a, b) = (name(&rt, "A"), name(&rt, "B"));
+    let a = Name::parse(b"A").ok_or("a name")?;
+    let b = Name::parse(b"B").ok_or("a name")?;
     let mut table = Summed::new(rt.alloc());
     put(&rt, &mut table, a, 5)?;
     put(&rt, &mut table, b, 7)?;
@@ -89,16 +53,5 @@ fn a_table_keeps_the_sum_of_its_rows(rt: HostRuntime) -> Result<(), Fail> {
     assert_eq!(rt; table.total(), 7);
     table.remove(&a);
     assert_eq!(rt; (table.total(), table.measured(&a)), (1, 0));
-    Ok(())
-}
-
-#[test]
-fn a_series_gives_its_values_back(rt: HostRuntime) -> Result<(), Fail> {
-    let alloc = rt.alloc();
-    let (a, b) = (name(&rt, "A"), name(&rt, "B"));
-    let names = Names::new(vec![in alloc; b, a]?);
-    assert_eq!(rt; names.as_slice(), [b, a].as_slice());
-    assert!(rt; names.copy(alloc)? == names);
-    assert_eq!(rt; names.into_vec().as_slice(), [b, a].as_slice());
     Ok(())
 }

@@ -5,7 +5,6 @@ use scr_curve::{Discounts, Tilt};
 use scr_dates::Day;
 use scr_factors::Factors;
 use scr_funds::{FundOrder, Kept, OrderFault, Places};
-use scr_graph::FundGraph;
 use scr_market::Equity;
 use scr_names::{Name, Names, Series};
 use scr_num::Span;
@@ -29,7 +28,6 @@ fn answers_are_shared_by_threads(_rt: HostRuntime) {
     shared::<Kept>();
     shared::<OrderFault>();
     shared::<Places>();
-    shared::<FundGraph>();
     shared::<Equity>();
     shared::<Interest>();
 }

@@ -1,14 +1,12 @@
 -- The map behind a table: each row stands in it under its own name.
-use Rattle.std.proofs.Common.{◌≡◌, ℕ, true, false, cond, List, [], ◌∷◌, Option, Some, None, IfSome, is_some, slice_get}
-use Rattle.std.proofs.Common.{map, refl, sym, ap, ◌∙◌}
+use Rattle.std.proofs.Common.{◌≡◌, ℕ, true, false, cond, List, [], ◌∷◌, Option, Some, None, IfSome, is_some, slice_get, map, refl, sym, ap, ◌∙◌, arith}
 use Rattle.std.specs.Option.{option_map}
 use Rattle.std.specs.Map.{lookup, set_value, remove_entry, keys_of, values_of}
 use Rattle.indexmap.specs.IndexMap.{insert_entry}
 use Rattle.scr_names.specs.Names.{same_name}
 use Rattle.scr_names.specs.Tables.{row_of, with_row, without}
 use Rattle.scr_names.specs.ByName.{by_name}
-use Rattle.scr_names.proofs.TableRows.{same_name-is, same_or_other, row_of-later, name_of-row_of, with_row-here}
-use Rattle.scr_names.proofs.TableRows.{with_row-later, without-here, without-later}
+use Rattle.scr_names.proofs.TableRows.{same_name-is, name_of-row_of}
 
 module _ {Row : Type 0} (name_of : Row → List ℕ) where
   pub values-by_name : (rows : List Row) → values_of (by_name name_of rows) ≡ rows
@@ -25,45 +23,18 @@ module _ {Row : Type 0} (name_of : Row → List ℕ) where
   pub insert_entry-by_name : (new : Row) (rows : List Row)
       → insert_entry same_name (by_name name_of rows) (name_of new) new ≡ by_name name_of (with_row name_of new rows)
   insert_entry-by_name new [] = refl
-  insert_entry-by_name new (row ∷ rows) =
-      let rest : List (List ℕ × Row) = by_name name_of rows in
-      let put : List (List ℕ × Row) = insert_entry same_name rest (name_of new) new in
-      same_or_other (name_of new) (name_of row)
-      (λ e. ap (λ t. cond t ((name_of row, new) ∷ rest) ((name_of row, row) ∷ put)) e
-      ∙ ap (λ n. (n, new) ∷ rest) (sym (same_name-is (name_of new) (name_of row) e))
-      ∙ sym (ap (by_name name_of) (with_row-here name_of new row rows e)))
-      (λ e. ap (λ t. cond t ((name_of row, new) ∷ rest) ((name_of row, row) ∷ put)) e
-      ∙ ap (λ es. (name_of row, row) ∷ es) (insert_entry-by_name new rows)
-      ∙ sym (ap (by_name name_of) (with_row-later name_of new row rows e)))
+  insert_entry-by_name new (row ∷ rows) = let rest = insert_entry-by_name new rows in grind (arith, rest, same_name-is (name_of new) (name_of row))
 
   pub remove_entry-by_name : (name : List ℕ) (rows : List Row)
       → remove_entry (same_name name) (by_name name_of rows) ≡ by_name name_of (without name_of name rows)
   remove_entry-by_name name [] = refl
-  remove_entry-by_name name (row ∷ rows) =
-      let rest : List (List ℕ × Row) = by_name name_of rows in
-      let left : List (List ℕ × Row) = remove_entry (same_name name) rest in
-      same_or_other name (name_of row)
-      (λ e. ap (λ t. cond t rest ((name_of row, row) ∷ left)) e
-      ∙ sym (ap (by_name name_of) (without-here name_of name row rows e)))
-      (λ e. ap (λ t. cond t rest ((name_of row, row) ∷ left)) e
-      ∙ ap (λ es. (name_of row, row) ∷ es) (remove_entry-by_name name rows)
-      ∙ sym (ap (by_name name_of) (without-later name_of name row rows e)))
+  remove_entry-by_name name (row ∷ rows) = let rest = remove_entry-by_name name rows in grind (arith, rest)
 
   -- a row written in the place of one of its name
   pub set_value-by_name : (new : Row) (rows : List Row) (old : Row) → row_of name_of (name_of new) rows ≡ Some old
       → set_value (same_name (name_of new)) (by_name name_of rows) new ≡ by_name name_of (with_row name_of new rows)
   set_value-by_name new [] old is = absurd (cc)
-  set_value-by_name new (row ∷ rows) old is =
-      let rest : List (List ℕ × Row) = by_name name_of rows in
-      let set : List (List ℕ × Row) = set_value (same_name (name_of new)) rest new in
-      same_or_other (name_of new) (name_of row)
-      (λ e. ap (λ t. cond t ((name_of row, new) ∷ rest) ((name_of row, row) ∷ set)) e
-      ∙ ap (λ n. (n, new) ∷ rest) (sym (same_name-is (name_of new) (name_of row) e))
-      ∙ sym (ap (by_name name_of) (with_row-here name_of new row rows e)))
-      (λ e. ap (λ t. cond t ((name_of row, new) ∷ rest) ((name_of row, row) ∷ set)) e
-      ∙ ap (λ es. (name_of row, row) ∷ es)
-      (set_value-by_name new rows old (sym (row_of-later name_of (name_of new) row rows e) ∙ is))
-      ∙ sym (ap (by_name name_of) (with_row-later name_of new row rows e)))
+  set_value-by_name new (row ∷ rows) old is = let rest = set_value-by_name new rows old in grind (arith, is, rest, same_name-is (name_of new) (name_of row))
 
   pub keys-by_name : (rows : List Row) → keys_of (by_name name_of rows) ≡ map name_of rows
   keys-by_name [] = refl

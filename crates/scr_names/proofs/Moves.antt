@@ -2,14 +2,14 @@
 use Rattle.std.proofs.Common.{◌≡◌, ℕ, zero, suc, false, cond, List, [], ◌∷◌, ◌++◌, Some, length, map, slice_get, insert, remove, refl, sym, ap, subst, ◌∙◌, arith, append_assoc}
 use Rattle.std.specs.List.{IsDistinct, position_or_len}
 use Rattle.std.specs.Option.{option_map_or}
-use Rattle.std.proofs.lemmas.List.{append-nil}
+use Rattle.std.proofs.lemmas.List.{append-nil, map-append}
 use Rattle.indexmap.specs.IndexMap.{insert_entry, insert_all, move_index}
 use Rattle.std.specs.Map.{keys_of, values_of}
 use Rattle.scr_names.specs.Names.{same_name}
 use Rattle.scr_names.specs.Tables.{has_row, with_row}
 use Rattle.scr_names.specs.ByName.{by_name}
 use Rattle.scr_names.proofs.TableRows.{IsFresh, fresh_from_has_row, same_name-flip}
-use Rattle.scr_names.proofs.Entries.{insert_entry-by_name, kept_from_rows}
+use Rattle.scr_names.proofs.Entries.{insert_entry-by_name, keys-by_name, kept_from_rows}
 
 -- a name of a list is apart from the names before it
 apart-before : (names rest : List (List ℕ)) (name : List ℕ) → IsDistinct same_name (names ++ name ∷ rest) → IsFresh name names
@@ -39,10 +39,6 @@ last-moved xs x k = ap (λ o. option_map_or (λ y. insert (remove (xs ++ x ∷ [
     left (y ∷ ys) = ap (λ zs. y ∷ zs) (left ys)
 
 module _ {Row : Type 0} (name_of : Row → List ℕ) where
-  map-append : (xs ys : List Row) → map name_of (xs ++ ys) ≡ map name_of xs ++ map name_of ys
-  map-append [] ys = refl
-  map-append (x ∷ xs) ys = ap (λ ns. name_of x ∷ ns) (map-append xs ys)
-
   -- a row of a new name goes last
   with_row-fresh : (new : Row) (rows : List Row) → IsFresh (name_of new) (map name_of rows) → with_row name_of new rows ≡ rows ++ new ∷ []
   with_row-fresh new [] fresh = refl
@@ -53,7 +49,7 @@ module _ {Row : Type 0} (name_of : Row → List ℕ) where
   pub moved-after : (there rows : List Row) → IsDistinct same_name (map name_of (there ++ rows)) → insert_all same_name (by_name name_of there) (by_name name_of rows) ≡ by_name name_of (there ++ rows)
   moved-after there [] apart = ap (by_name name_of) (sym (append-nil there))
   moved-after there (row ∷ rows) apart =
-      let fresh = apart-before (map name_of there) (map name_of rows) (name_of row) (subst (IsDistinct same_name) (map-append there (row ∷ rows)) apart) in
+      let fresh = apart-before (map name_of there) (map name_of rows) (name_of row) (subst (IsDistinct same_name) (map-append name_of there (row ∷ rows)) apart) in
       let put : with_row name_of row there ≡ there ++ row ∷ [] = with_row-fresh row there fresh in
       let all : (there ++ row ∷ []) ++ rows ≡ there ++ row ∷ rows = append_assoc there (row ∷ []) rows in
       ap (λ es. insert_all same_name es (by_name name_of rows)) (insert_entry-by_name name_of row there ∙ ap (by_name name_of) put)
@@ -66,10 +62,6 @@ module _ {Row : Type 0} (name_of : Row → List ℕ) where
   insert-by_name (first ∷ rows) zero row = refl
   insert-by_name (first ∷ rows) (suc k) row = ap (λ es. (name_of first, first) ∷ es) (insert-by_name rows k row)
 
-  keys : (rows : List Row) → keys_of (by_name name_of rows) ≡ map name_of rows
-  keys [] = refl
-  keys (row ∷ rows) = ap (λ ns. name_of row ∷ ns) (keys rows)
-
   -- a row of a new name inserted last and moved to its place
   pub put_at-by_name : (rows : List Row) (k : ℕ) (row : Row) → has_row name_of (name_of row) rows ≡ false
       → move_index (insert_entry same_name (by_name name_of rows) (name_of row) row) (position_or_len (same_name (name_of row)) (keys_of (by_name name_of rows))) k ≡ by_name name_of (insert rows k row)
@@ -77,7 +69,7 @@ module _ {Row : Type 0} (name_of : Row → List ℕ) where
       let fresh = fresh_from_has_row name_of (name_of row) rows new in
       let entries : List (List ℕ × Row) = by_name name_of rows in
       let last : insert_entry same_name entries (name_of row) row ≡ entries ++ (name_of row, row) ∷ [] = insert_entry-by_name name_of row rows ∙ ap (by_name name_of) (with_row-fresh row rows fresh) ∙ appended rows in
-      let place : position_or_len (same_name (name_of row)) (keys_of entries) ≡ length entries = ap (position_or_len (same_name (name_of row))) (keys rows) ∙ place-fresh (name_of row) (map name_of rows) fresh ∙ long rows in
+      let place : position_or_len (same_name (name_of row)) (keys_of entries) ≡ length entries = ap (position_or_len (same_name (name_of row))) (keys-by_name name_of rows) ∙ place-fresh (name_of row) (map name_of rows) fresh ∙ long rows in
       (λ i. move_index (last i) (place i) k) ∙ last-moved entries (name_of row, row) k ∙ insert-by_name rows k row
     where
       appended : (rs : List Row) → by_name name_of (rs ++ row ∷ []) ≡ by_name name_of rs ++ (name_of row, row) ∷ []
@@ -93,7 +85,7 @@ module _ {Row : Type 0} (name_of : Row → List ℕ) where
       → after ≡ insert_all same_name room entries → after ≡ by_name name_of now
   moved-kept entries room after now view kept apart empty is =
       let keyed : entries ≡ by_name name_of now = kept ∙ ap (by_name name_of) view in
-      let distinct : IsDistinct same_name (map name_of now) = subst (IsDistinct same_name) (ap keys_of keyed ∙ keys now) apart in
+      let distinct : IsDistinct same_name (map name_of now) = subst (IsDistinct same_name) (ap keys_of keyed ∙ keys-by_name name_of now) apart in
       is ∙ (λ i. insert_all same_name (empty i) (keyed i)) ∙ moved-after [] now distinct
 
   -- a row put in at a place of a map that keeps a table

@@ -6,47 +6,27 @@ use Rattle.scr_names.specs.Names.{same_name}
 use Rattle.scr_names.specs.Tables.{row_of, has_row, with_row, without}
 use Rattle.scr_names.specs.Pasts.{HasPlace, LeadsBack}
 use Rattle.scr_names.specs.declared.past.Past.TheVariants as pasts
-use Rattle.scr_names.proofs.TableRows.{IsFresh, same_name-is, same_name-itself, same_name-flip, same_or_other, row_of-here, row_of-later, with_row-here, with_row-later, without-here, without-later, name_of-row_of, row_of-with_row_own, row_of-without_own}
+use Rattle.scr_names.proofs.TableRows.{IsFresh, same_name-is, same_name-itself, same_name-flip, row_of-here, without-here, without-later, name_of-row_of, row_of-with_row_own, row_of-without_own}
 
 module _ {Row : Type 0} (name_of : Row → List ℕ) where
   -- a name that no row has
   without-none : (name : List ℕ) (rows : List Row) → row_of name_of name rows ≡ None → without name_of name rows ≡ rows
   without-none name [] none = refl
-  without-none name (row ∷ rows) none =
-      same_or_other name (name_of row)
-      (λ e. let found : Some row ≡ None = sym (row_of-here name_of name row rows e) ∙ none in absurd (cc))
-      (λ e. without-later name_of name row rows e ∙ ap (λ rs. row ∷ rs) (without-none name rows (sym (row_of-later name_of name row rows e) ∙ none)))
+  without-none name (row ∷ rows) none = let rest = without-none name rows in grind (arith, none, rest)
 
   -- a row that was made taken out again
   without-made : (new : Row) (rows : List Row) → row_of name_of (name_of new) rows ≡ None → without name_of (name_of new) (with_row name_of new rows) ≡ rows
   without-made new [] none = without-here name_of (name_of new) new [] (same_name-itself (name_of new))
-  without-made new (row ∷ rows) none =
-      same_or_other (name_of new) (name_of row)
-      (λ e. let found : Some row ≡ None = sym (row_of-here name_of (name_of new) row rows e) ∙ none in absurd (cc))
-      (λ e. ap (without name_of (name_of new)) (with_row-later name_of new row rows e) ∙ without-later name_of (name_of new) row (with_row name_of new rows) e
-      ∙ ap (λ rs. row ∷ rs) (without-made new rows (sym (row_of-later name_of (name_of new) row rows e) ∙ none)))
+  without-made new (row ∷ rows) none = let rest = without-made new rows in grind (arith, none, rest)
 
   -- a row put in its own place again
   with_row-again : (old new : Row) (rows : List Row) → row_of name_of (name_of old) rows ≡ Some old → name_of new ≡ name_of old → with_row name_of old (with_row name_of new rows) ≡ rows
   with_row-again old new [] found named = absurd (cc)
-  with_row-again old new (row ∷ rows) found named =
-      same_or_other (name_of old) (name_of row)
-      (λ e. let here : Some row ≡ Some old = sym (row_of-here name_of (name_of old) row rows e) ∙ found in
-      let same : row ≡ old = cc in
-      ap (with_row name_of old) (with_row-here name_of new row rows (ap (λ n. same_name n (name_of row)) named ∙ e))
-      ∙ with_row-here name_of old new rows (ap (same_name (name_of old)) named ∙ same_name-itself (name_of old)) ∙ ap (λ r. r ∷ rows) (sym same))
-      (λ e. ap (with_row name_of old) (with_row-later name_of new row rows (ap (λ n. same_name n (name_of row)) named ∙ e))
-      ∙ with_row-later name_of old row (with_row name_of new rows) e
-      ∙ ap (λ rs. row ∷ rs) (with_row-again old new rows (sym (row_of-later name_of (name_of old) row rows e) ∙ found) named))
+  with_row-again old new (row ∷ rows) found named = let rest = with_row-again old new rows in grind (arith, found, named, rest, same_name-itself (name_of old))
 
   with_row-itself : (old : Row) (rows : List Row) → row_of name_of (name_of old) rows ≡ Some old → with_row name_of old rows ≡ rows
   with_row-itself old [] found = absurd (cc)
-  with_row-itself old (row ∷ rows) found =
-      same_or_other (name_of old) (name_of row)
-      (λ e. let here : Some row ≡ Some old = sym (row_of-here name_of (name_of old) row rows e) ∙ found in
-      let same : row ≡ old = cc in
-      with_row-here name_of old row rows e ∙ ap (λ r. r ∷ rows) (sym same))
-      (λ e. with_row-later name_of old row rows e ∙ ap (λ rs. row ∷ rs) (with_row-itself old rows (sym (row_of-later name_of (name_of old) row rows e) ∙ found)))
+  with_row-itself old (row ∷ rows) found = let rest = with_row-itself old rows in grind (arith, found, rest)
 
   -- a row put in at the place from which it was taken
   insert-without : (rows : List Row) (k : ℕ) (row : Row) → IsDistinct same_name (map name_of rows) → slice_get rows k ≡ Some row → insert (without name_of (name_of row) rows) k row ≡ rows
@@ -68,10 +48,7 @@ module _ {Row : Type 0} (name_of : Row → List ℕ) where
   -- a row more than without it
   length-without : (rows : List Row) (name : List ℕ) → has_row name_of name rows ≡ true → suc (length (without name_of name rows)) ≡ length rows
   length-without [] name has = absurd (cc)
-  length-without (row ∷ rows) name has =
-      same_or_other name (name_of row) (λ e. ap (λ rs. suc (length rs)) (without-here name_of name row rows e))
-      (λ e. ap (λ rs. suc (length rs)) (without-later name_of name row rows e)
-      ∙ ap suc (length-without rows name (ap is_some (sym (row_of-later name_of name row rows e)) ∙ has)))
+  length-without (row ∷ rows) name has = let rest = length-without rows name in grind (arith, has, rest)
 
   pub below : (rows : List Row) (k : ℕ) (row : Row) → slice_get rows k ≡ Some row → k < length rows
   below [] k row got = absurd (cc)
@@ -84,9 +61,7 @@ module _ {Row : Type 0} (name_of : Row → List ℕ) where
   found-at (first ∷ rows) zero row got =
       let same : first ≡ row = cc in
       ap is_some (row_of-here name_of (name_of row) first rows (ap (λ r. same_name (name_of row) (name_of r)) same ∙ same_name-itself (name_of row)))
-  found-at (first ∷ rows) (suc k) row got =
-      same_or_other (name_of row) (name_of first) (λ e. ap is_some (row_of-here name_of (name_of row) first rows e))
-      (λ e. ap is_some (row_of-later name_of (name_of row) first rows e) ∙ found-at rows k row got)
+  found-at (first ∷ rows) (suc k) row got = let rest = found-at rows k row got in grind (arith, rest)
 
   -- ---- what is kept before a change
 

@@ -1,6 +1,5 @@
 -- The rows of a table: what a look-up finds, and what a row that is put in or taken out leaves.
-use Rattle.std.proofs.Common.{◌≡◌, ℕ, ◌+◌, Bool, true, false, cond, List, [], ◌∷◌, ◌++◌, suc, length, map, sum_by}
-use Rattle.std.proofs.Common.{Option, Some, None, is_some, refl, sym, ap, subst, ◌∙◌, arith, append_assoc}
+use Rattle.std.proofs.Common.{◌≡◌, ℕ, ◌+◌, Bool, true, false, cond, List, [], ◌∷◌, ◌++◌, length, map, sum_by, Option, Some, None, is_some, refl, sym, ap, subst, ◌∙◌, arith, append_assoc}
 use Rattle.std.specs.List.{AllByRecursion, IsDistinct}
 use Rattle.std.specs.Option.{option_map_or}
 use Rattle.std.proofs.lemmas.List.Sums.{sum_by-cons}
@@ -170,56 +169,24 @@ module _ {Row : Type 0} (name_of : Row → List ℕ) where
   pub has_row-with_row : (name : List ℕ) (new : Row) (rows : List Row) → has_row name_of name rows ≡ true
       → has_row name_of name (with_row name_of new rows) ≡ true
   has_row-with_row name new [] has = absurd (cc)
-  has_row-with_row name new (row ∷ rows) has =
-      same_or_other (name_of new) (name_of row)
-      (λ e. let one : name_of row ≡ name_of new = sym (same_name-is (name_of new) (name_of row) e) in
-      ap (λ rs. has_row name_of name rs) (with_row-here new row rows e)
-      ∙ same_or_other name (name_of row)
-      (λ s. ap is_some (row_of-here name new rows (ap (same_name name) (sym one) ∙ s)))
-      (λ s. ap is_some (row_of-later name new rows (ap (same_name name) (sym one) ∙ s)
-      ∙ sym (row_of-later name row rows s)) ∙ has))
-      (λ e. ap (λ rs. has_row name_of name rs) (with_row-later new row rows e)
-      ∙ same_or_other name (name_of row) (λ s. ap is_some (row_of-here name row (with_row name_of new rows) s))
-      (λ s. ap is_some (row_of-later name row (with_row name_of new rows) s)
-      ∙ has_row-with_row name new rows (ap is_some (sym (row_of-later name row rows s)) ∙ has)))
+  has_row-with_row name new (row ∷ rows) has = let rest = has_row-with_row name new rows in grind (arith, has, rest, same_name-is (name_of new) (name_of row))
 
   pub has_row-without : (name other : List ℕ) (rows : List Row) → same_name other name ≡ false
       → has_row name_of name rows ≡ true → has_row name_of name (without name_of other rows) ≡ true
   has_row-without name other [] apart has = absurd (cc)
-  has_row-without name other (row ∷ rows) apart has =
-      same_or_other other (name_of row)
-      (λ e. let one : other ≡ name_of row = same_name-is other (name_of row) e in
-      let differs : same_name name (name_of row) ≡ false = same_name-flip name (name_of row)
-      ∙ ap (λ n. same_name n name) (sym one) ∙ apart in
-      ap (λ rs. has_row name_of name rs) (without-here other row rows e)
-      ∙ ap is_some (sym (row_of-later name row rows differs)) ∙ has)
-      (λ e. ap (λ rs. has_row name_of name rs) (without-later other row rows e)
-      ∙ same_or_other name (name_of row) (λ s. ap is_some (row_of-here name row (without name_of other rows) s))
-      (λ s. ap is_some (row_of-later name row (without name_of other rows) s)
-      ∙ has_row-without name other rows apart (ap is_some (sym (row_of-later name row rows s)) ∙ has)))
+  has_row-without name other (row ∷ rows) apart has = let rest = has_row-without name other rows apart in grind (arith, apart, has, rest, same_name-is other (name_of row), same_name-flip name (name_of row))
 
   -- ---- the names of the rows
 
   names-with_row : (new : Row) (rows : List Row) → has_row name_of (name_of new) rows ≡ true
       → map name_of (with_row name_of new rows) ≡ map name_of rows
   names-with_row new [] has = absurd (cc)
-  names-with_row new (row ∷ rows) has =
-      same_or_other (name_of new) (name_of row)
-      (λ e. ap (map name_of) (with_row-here new row rows e)
-      ∙ ap (λ n. n ∷ map name_of rows) (same_name-is (name_of new) (name_of row) e))
-      (λ e. ap (map name_of) (with_row-later new row rows e)
-      ∙ ap (λ ns. name_of row ∷ ns)
-      (names-with_row new rows (ap is_some (sym (row_of-later (name_of new) row rows e)) ∙ has)))
+  names-with_row new (row ∷ rows) has = let rest = names-with_row new rows in grind (arith, has, rest, same_name-is (name_of new) (name_of row))
 
   names-with_row-new : (new : Row) (rows : List Row) → has_row name_of (name_of new) rows ≡ false
       → map name_of (with_row name_of new rows) ≡ map name_of rows ++ name_of new ∷ []
   names-with_row-new new [] has = refl
-  names-with_row-new new (row ∷ rows) has =
-      same_or_other (name_of new) (name_of row)
-      (λ e. let found : true ≡ false = sym (ap is_some (row_of-here (name_of new) row rows e)) ∙ has in absurd (cc))
-      (λ e. ap (map name_of) (with_row-later new row rows e)
-      ∙ ap (λ ns. name_of row ∷ ns)
-      (names-with_row-new new rows (ap is_some (sym (row_of-later (name_of new) row rows e)) ∙ has)))
+  names-with_row-new new (row ∷ rows) has = let rest = names-with_row-new new rows in grind (arith, has, rest)
 
   -- a name without a row is none of the rows' names
   pub fresh_from_has_row : (name : List ℕ) (rows : List Row) → has_row name_of name rows ≡ false
@@ -281,12 +248,9 @@ module _ {Row : Type 0} (name_of : Row → List ℕ) where
 
   pub has_row-changed : (other : List ℕ) (change : Row → Row) (name : List ℕ) (rows : List Row)
       → has_row name_of other rows ≡ true → has_row name_of other (changed name_of change name rows) ≡ true
-  has_row-changed other change name rows has = by (row_of name_of name rows)
-    where
-      by : (found : Option Row) → has_row name_of other
-          (option_map_or (λ row. with_row name_of (change row) rows) found rows) ≡ true
-      by None = has
-      by (Some row) = has_row-with_row other (change row) rows has
+  has_row-changed other change name rows has =
+      let kept : (row : Row) → has_row name_of other (with_row name_of (change row) rows) ≡ true = λ row. has_row-with_row other (change row) rows has in
+      grind (arith, has, kept)
 
   -- ---- sums
 
@@ -295,39 +259,12 @@ module _ {Row : Type 0} (name_of : Row → List ℕ) where
       → sum_by f (with_row name_of new rows) + option_map_or f (row_of name_of (name_of new) rows) 0
       ≡ sum_by f rows + f new
   sum-with_row f new [] = omega arith
-  sum-with_row f new (row ∷ rows) =
-      let all : sum_by f (row ∷ rows) ≡ f row + sum_by f rows = sum_by-cons f row rows in
-      same_or_other (name_of new) (name_of row)
-      (λ e. let sum : sum_by f (with_row name_of new (row ∷ rows)) ≡ f new + sum_by f rows =
-      ap (sum_by f) (with_row-here new row rows e) ∙ sum_by-cons f new rows in
-      let old : option_map_or f (row_of name_of (name_of new) (row ∷ rows)) 0 ≡ f row =
-      ap (λ o. option_map_or f o 0) (row_of-here (name_of new) row rows e) in
-      omega arith)
-      (λ e. let sum : sum_by f (with_row name_of new (row ∷ rows)) ≡ f row + sum_by f (with_row name_of new rows) =
-      ap (sum_by f) (with_row-later new row rows e) ∙ sum_by-cons f row (with_row name_of new rows) in
-      let old : option_map_or f (row_of name_of (name_of new) (row ∷ rows)) 0
-      ≡ option_map_or f (row_of name_of (name_of new) rows) 0 =
-      ap (λ o. option_map_or f o 0) (row_of-later (name_of new) row rows e) in
-      let rest = sum-with_row f new rows in
-      omega arith)
+  sum-with_row f new (row ∷ rows) = let rest = sum-with_row f new rows in grind (arith, rest, sum_by-cons)
 
   pub sum-without : (f : Row → ℕ) (name : List ℕ) (rows : List Row)
       → sum_by f (without name_of name rows) + option_map_or f (row_of name_of name rows) 0 ≡ sum_by f rows
   sum-without f name [] = omega arith
-  sum-without f name (row ∷ rows) =
-      let all : sum_by f (row ∷ rows) ≡ f row + sum_by f rows = sum_by-cons f row rows in
-      same_or_other name (name_of row)
-      (λ e. let sum : sum_by f (without name_of name (row ∷ rows)) ≡ sum_by f rows =
-      ap (sum_by f) (without-here name row rows e) in
-      let old : option_map_or f (row_of name_of name (row ∷ rows)) 0 ≡ f row =
-      ap (λ o. option_map_or f o 0) (row_of-here name row rows e) in
-      omega arith)
-      (λ e. let sum : sum_by f (without name_of name (row ∷ rows)) ≡ f row + sum_by f (without name_of name rows) =
-      ap (sum_by f) (without-later name row rows e) ∙ sum_by-cons f row (without name_of name rows) in
-      let old : option_map_or f (row_of name_of name (row ∷ rows)) 0 ≡ option_map_or f (row_of name_of name rows) 0 =
-      ap (λ o. option_map_or f o 0) (row_of-later name row rows e) in
-      let rest = sum-without f name rows in
-      omega arith)
+  sum-without f name (row ∷ rows) = let rest = sum-without f name rows in grind (arith, rest, sum_by-cons)
 
   -- a row changed so that its part of the sum stays
   pub sum-changed : (f : Row → ℕ) (change : Row → Row) (name : List ℕ) (rows : List Row)
@@ -352,60 +289,24 @@ module _ {Row : Type 0} (name_of : Row → List ℕ) where
   pub length-with_row : (new : Row) (rows : List Row)
       → length (with_row name_of new rows) ≡ length rows + added (row_of name_of (name_of new) rows)
   length-with_row new [] = refl
-  length-with_row new (row ∷ rows) =
-      same_or_other (name_of new) (name_of row)
-      (λ e. let long : length (with_row name_of new (row ∷ rows)) ≡ suc (length rows) =
-      ap length (with_row-here new row rows e) in
-      let has : added (row_of name_of (name_of new) (row ∷ rows)) ≡ 0 =
-      ap added (row_of-here (name_of new) row rows e) in
-      omega arith)
-      (λ e. let long : length (with_row name_of new (row ∷ rows)) ≡ suc (length (with_row name_of new rows)) =
-      ap length (with_row-later new row rows e) in
-      let has : added (row_of name_of (name_of new) (row ∷ rows)) ≡ added (row_of name_of (name_of new) rows) =
-      ap added (row_of-later (name_of new) row rows e) in
-      let rest = length-with_row new rows in
-      omega arith)
+  length-with_row new (row ∷ rows) = let rest = length-with_row new rows in grind (arith, rest)
 
   -- ---- what a look-up finds afterwards
 
   pub row_of-with_row_own : (new : Row) (rows : List Row)
       → row_of name_of (name_of new) (with_row name_of new rows) ≡ Some new
   row_of-with_row_own new [] = row_of-here (name_of new) new [] (same_name-itself (name_of new))
-  row_of-with_row_own new (row ∷ rows) =
-      same_or_other (name_of new) (name_of row)
-      (λ e. ap (row_of name_of (name_of new)) (with_row-here new row rows e)
-      ∙ row_of-here (name_of new) new rows (same_name-itself (name_of new)))
-      (λ e. ap (row_of name_of (name_of new)) (with_row-later new row rows e)
-      ∙ row_of-later (name_of new) row (with_row name_of new rows) e ∙ row_of-with_row_own new rows)
+  row_of-with_row_own new (row ∷ rows) = let rest = row_of-with_row_own new rows in grind (arith, rest, same_name-itself (name_of new))
 
   pub row_of-with_row_other : (name : List ℕ) (new : Row) (rows : List Row) → same_name name (name_of new) ≡ false
       → row_of name_of name (with_row name_of new rows) ≡ row_of name_of name rows
   row_of-with_row_other name new [] apart = row_of-later name new [] apart
-  row_of-with_row_other name new (row ∷ rows) apart =
-      same_or_other (name_of new) (name_of row)
-      (λ e. let differs : same_name name (name_of row) ≡ false =
-      ap (same_name name) (sym (same_name-is (name_of new) (name_of row) e)) ∙ apart in
-      ap (row_of name_of name) (with_row-here new row rows e) ∙ row_of-later name new rows apart
-      ∙ sym (row_of-later name row rows differs))
-      (λ e. ap (row_of name_of name) (with_row-later new row rows e)
-      ∙ same_or_other name (name_of row) (λ s. row_of-here name row (with_row name_of new rows) s
-      ∙ sym (row_of-here name row rows s))
-      (λ s. row_of-later name row (with_row name_of new rows) s ∙ row_of-with_row_other name new rows apart
-      ∙ sym (row_of-later name row rows s)))
+  row_of-with_row_other name new (row ∷ rows) apart = let rest = row_of-with_row_other name new rows apart in grind (arith, apart, rest, same_name-is (name_of new) (name_of row))
 
   pub row_of-without_other : (name other : List ℕ) (rows : List Row) → same_name other name ≡ false
       → row_of name_of name (without name_of other rows) ≡ row_of name_of name rows
   row_of-without_other name other [] apart = refl
-  row_of-without_other name other (row ∷ rows) apart =
-      same_or_other other (name_of row)
-      (λ e. let differs : same_name name (name_of row) ≡ false = same_name-flip name (name_of row)
-      ∙ ap (λ n. same_name n name) (sym (same_name-is other (name_of row) e)) ∙ apart in
-      ap (row_of name_of name) (without-here other row rows e) ∙ sym (row_of-later name row rows differs))
-      (λ e. ap (row_of name_of name) (without-later other row rows e)
-      ∙ same_or_other name (name_of row) (λ s. row_of-here name row (without name_of other rows) s
-      ∙ sym (row_of-here name row rows s))
-      (λ s. row_of-later name row (without name_of other rows) s ∙ row_of-without_other name other rows apart
-      ∙ sym (row_of-later name row rows s)))
+  row_of-without_other name other (row ∷ rows) apart = let rest = row_of-without_other name other rows apart in grind (arith, apart, rest, same_name-is other (name_of row), same_name-flip name (name_of row))
 
   -- a name that is none of the rows' has no row
   pub row_of-fresh : (name : List ℕ) (rows : List Row) → IsFresh name (map name_of rows)

@@ -1,6 +1,5 @@
 -- Sums over a table: what the row of a name adds, and the sum after a row is put in, taken out or changed.
-use Rattle.std.proofs.Common.{◌≡◌, ℕ, ◌+◌, ◌-◌, ◌<◌, ◌≤◌, List, Option, Some, None, MatchOption, sum_by, refl, sym, ap}
-use Rattle.std.proofs.Common.{◌∙◌, arith}
+use Rattle.std.proofs.Common.{◌≡◌, ℕ, ◌+◌, ◌-◌, ◌<◌, ◌≤◌, List, Option, Some, None, MatchOption, sum_by, refl, sym, ap, ◌∙◌, arith}
 use Rattle.std.specs.Option.{option_map_or}
 use Rattle.scr_names.specs.Tables.{row_of, with_row, without, measured}
 use Rattle.scr_names.proofs.TableRows.{same_name-is, name_of-row_of, row_of-with_row_own, sum-with_row, sum-without}

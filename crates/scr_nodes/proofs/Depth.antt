@@ -9,8 +9,7 @@ use Rattle.scr_funds.proofs.Members.{IsMember, IsMember-mapped, Contains-from_Is
 use Rattle.scr_names.specs.Names.{same_name}
 use Rattle.scr_names.proofs.TableRows.{same_name-is, same_name-itself}
 use Rattle.scr_sheet.specs.BalanceSheet.{stake_name, stake_of, components_of}
-use Rattle.scr_sheet.specs.declared.sheet.BalanceSheet.{BalanceSheet}
-use Rattle.scr_sheet.specs.declared.rows.Stake.{Stake}
+use Rattle.scr_sheet.specs.declared.{sheet.BalanceSheet.BalanceSheet, rows.Stake.Stake}
 use Rattle.scr_sheet.specs.Validity.{Valid}
 use Rattle.scr_nodes.specs.declared.node.Node.{Node}
 use Rattle.scr_nodes.specs.declared.node.Node.TheVariants as nodes

@@ -3,24 +3,16 @@ use Rattle.std.proofs.Common.{◌≡◌, ℕ, ◌<◌, nat_lt, Bool, true, List,
 use Rattle.std.specs.List.{list_all}
 use Rattle.scr_names.proofs.TableRows.{All-append}
 use Rattle.scr_profile.specs.declared.set.Set.TheVariants as sets
-use Rattle.scr_sheet.specs.declared.keys.Projection.{Projection}
+use Rattle.scr_sheet.specs.declared.{keys.Projection.Projection, sheet.BalanceSheet.BalanceSheet, rows.Class.Class, rows.Curve.Curve, rows.Liability.Liability, rows.Position.Position}
 use Rattle.scr_sheet.specs.declared.keys.Projection.TheVariants as projections
-use Rattle.scr_sheet.specs.declared.sheet.BalanceSheet.{BalanceSheet}
-use Rattle.scr_sheet.specs.declared.rows.Class.{Class}
 use Rattle.scr_sheet.specs.declared.rows.Class.TheVariants as classes
-use Rattle.scr_sheet.specs.declared.rows.Curve.{Curve}
-use Rattle.scr_sheet.specs.declared.rows.Liability.{Liability}
-use Rattle.scr_sheet.specs.declared.rows.Position.{Position}
 use Rattle.scr_nodes.specs.declared.node.Adjustment.TheVariants as adjustments
 use Rattle.scr_nodes.specs.declared.node.Alternatives.TheVariants as alternatives
-use Rattle.scr_nodes.specs.declared.node.Biometric.{Biometric}
+use Rattle.scr_nodes.specs.declared.{node.Biometric.Biometric, node.Direction.Direction, node.Measure.Measure, node.Node.Node}
 use Rattle.scr_nodes.specs.declared.node.Biometric.TheVariants as biometrics
-use Rattle.scr_nodes.specs.declared.node.Direction.{Direction}
 use Rattle.scr_nodes.specs.declared.node.Direction.TheVariants.{Up, Down}
 use Rattle.scr_nodes.specs.declared.node.Equities.TheVariants as equities
-use Rattle.scr_nodes.specs.declared.node.Measure.{Measure}
 use Rattle.scr_nodes.specs.declared.node.Measure.TheVariants.{Gross, Net}
-use Rattle.scr_nodes.specs.declared.node.Node.{Node}
 use Rattle.scr_nodes.specs.declared.node.Node.TheVariants as nodes
 use Rattle.scr_nodes.specs.declared.node.Operational.TheVariants as operations
 use Rattle.scr_nodes.specs.declared.node.Risk.TheVariants as risks
@@ -87,15 +79,7 @@ module _ (sheet : BalanceSheet) where
     where
       loss : (p : Projection) (l : Liability) → part_of (liability_loss p l) < 18
       loss projections.Base l = omega arith
-      loss projections.Mortality l = omega arith
-      loss projections.Longevity l = omega arith
-      loss projections.Disability l = omega arith
-      loss projections.Expense l = omega arith
-      loss projections.Revision l = omega arith
-      loss projections.LapseUp l = omega arith
-      loss projections.LapseDown l = omega arith
-      loss projections.LapseMass l = omega arith
-      loss projections.Catastrophe l = omega arith
+      loss p l = omega arith
 
   below-class : (class : ℕ) → AllBelow 32 (losses_of_class class sheet)
   below-class class = below-chosen 32 (is_of_default_class class) group_loss sheet.groups (λ g. omega arith)
@@ -111,12 +95,7 @@ module _ (sheet : BalanceSheet) where
   pub sources-earlier : (node : Node) → 0 < part_of node → AllBelow (part_of node) (sources_of sheet node)
   sources-earlier (nodes.FundTotal name) h = absurd (omega arith)
   sources-earlier (nodes.SecurityTotal name) h = below-chosen 1 (holds name) fund_total sheet.funds (λ s. omega arith)
-  sources-earlier (nodes.UnitLoss name direction) h = tt
   sources-earlier (nodes.SecurityRate name Up) h = tested (nodes.SecurityRate name Up) refl
-  sources-earlier (nodes.SecurityRate name Down) h = tested (nodes.SecurityRate name Down) refl
-  sources-earlier (nodes.LiabilityRate name direction) h = tt
-  sources-earlier (nodes.LiabilityPresent name) h = tt
-  sources-earlier (nodes.LiabilityLoss name projection) h = tt
   sources-earlier (nodes.CurrencyLoss currency direction) h =
       below-weaker 8 (part_of (nodes.CurrencyLoss currency direction)) (omega arith) (rates_in currency direction sheet)
       (below-rates currency direction)
@@ -129,60 +108,28 @@ module _ (sheet : BalanceSheet) where
       (worths_in currency sheet)
       (below-worths currency)
   sources-earlier (nodes.CurrencyScenario currency direction Net) h = (omega arith, tt)
-  sources-earlier (nodes.CurrencyChoice currency) h = tested (nodes.CurrencyChoice currency) refl
   sources-earlier (nodes.CurrencyPicked currency Gross) h = tested (nodes.CurrencyPicked currency Gross) refl
-  sources-earlier (nodes.CurrencyPicked currency Net) h = tested (nodes.CurrencyPicked currency Net) refl
   sources-earlier (nodes.Choice alternatives.Interest) h = tested (nodes.Choice alternatives.Interest) refl
-  sources-earlier (nodes.Choice alternatives.LifeLapse) h = tested (nodes.Choice alternatives.LifeLapse) refl
-  sources-earlier (nodes.Choice alternatives.HealthLapse) h = tested (nodes.Choice alternatives.HealthLapse) refl
   sources-earlier (nodes.Picked alternatives.Interest Gross) h = tested (nodes.Picked alternatives.Interest Gross) refl
-  sources-earlier (nodes.Picked alternatives.Interest Net) h = tested (nodes.Picked alternatives.Interest Net) refl
-  sources-earlier (nodes.Picked alternatives.LifeLapse Gross) h =
-      tested (nodes.Picked alternatives.LifeLapse Gross) refl
-  sources-earlier (nodes.Picked alternatives.LifeLapse Net) h = tested (nodes.Picked alternatives.LifeLapse Net) refl
-  sources-earlier (nodes.Picked alternatives.HealthLapse Gross) h =
-      tested (nodes.Picked alternatives.HealthLapse Gross) refl
-  sources-earlier (nodes.Picked alternatives.HealthLapse Net) h =
-      tested (nodes.Picked alternatives.HealthLapse Net) refl
   sources-earlier (nodes.Currency measure) h =
       below-weaker 27 (part_of (nodes.Currency measure)) (omega arith) (foreign_picked measure sheet)
       (below-picked measure)
   sources-earlier (nodes.ClassSum class) h =
       below-weaker 2 (part_of (nodes.ClassSum class)) (omega arith) (held_of_class class sheet) (below-held class)
   sources-earlier (nodes.EquityPart equities.Type1) h = tested (nodes.EquityPart equities.Type1) refl
-  sources-earlier (nodes.EquityPart equities.Type2) h = tested (nodes.EquityPart equities.Type2) refl
-  sources-earlier (nodes.EquityPart equities.Infrastructure) h = tested (nodes.EquityPart equities.Infrastructure) refl
-  sources-earlier (nodes.EquityPart equities.InfrastructureCorporate) h =
-      tested (nodes.EquityPart equities.InfrastructureCorporate) refl
-  sources-earlier nodes.EquityRoot h = tested nodes.EquityRoot refl
-  sources-earlier nodes.Property h = tested nodes.Property refl
-  sources-earlier (nodes.SecuritySpread name) h = (omega arith, tt)
   sources-earlier nodes.Spread h =
       below-chosen 55 (has_class classes.Bond) security_spread sheet.securities (λ p. omega arith)
   sources-earlier (nodes.GroupTotal name) h =
       below-chosen 28 (is_of_group name) security_total sheet.securities (λ p. omega arith)
   sources-earlier nodes.Assets h = below-chosen 29 has_group security_total sheet.securities (λ p. omega arith)
-  sources-earlier (nodes.ConcentrationSquare name) h = (omega arith, (omega arith, tt))
   sources-earlier nodes.Concentration h = below-mapped 56 concentration_square sheet.groups (λ g. omega arith)
   sources-earlier (nodes.NetPart risks.Equity) h = tested (nodes.NetPart risks.Equity) refl
-  sources-earlier (nodes.NetPart risks.Property) h = tested (nodes.NetPart risks.Property) refl
-  sources-earlier (nodes.NetPart risks.Spread) h = tested (nodes.NetPart risks.Spread) refl
-  sources-earlier (nodes.NetPart risks.Concentration) h = tested (nodes.NetPart risks.Concentration) refl
-  sources-earlier (nodes.NetPart risks.Default) h = tested (nodes.NetPart risks.Default) refl
-  sources-earlier (nodes.NetPart risks.HealthCatastrophe) h = tested (nodes.NetPart risks.HealthCatastrophe) refl
   sources-earlier (nodes.Market Gross) h = tested (nodes.Market Gross) refl
-  sources-earlier (nodes.Market Net) h = tested (nodes.Market Net) refl
-  sources-earlier (nodes.GroupLoss name) h = tt
   sources-earlier (nodes.ClassLoss class) h =
       below-weaker 32 (part_of (nodes.ClassLoss class)) (omega arith) (losses_of_class class sheet) (below-class class)
   sources-earlier (nodes.ClassSquare class) h =
       below-weaker 32 (part_of (nodes.ClassSquare class)) (omega arith) (losses_of_class class sheet)
       (below-class class)
-  sources-earlier nodes.Variance h = tested nodes.Variance refl
-  sources-earlier nodes.DefaultBand h = tested nodes.DefaultBand refl
-  sources-earlier nodes.DefaultType1 h = tested nodes.DefaultType1 refl
-  sources-earlier nodes.DefaultType2 h = tt
-  sources-earlier nodes.Default h = tested nodes.Default refl
   sources-earlier (nodes.BioScenario biometrics.Life projection Gross) h =
       below-weaker 18 (part_of (nodes.BioScenario biometrics.Life projection Gross)) (omega arith)
       (losses_under biometrics.Life projection sheet) (below-losses biometrics.Life projection)
@@ -191,33 +138,17 @@ module _ (sheet : BalanceSheet) where
       (losses_under biometrics.Health projection sheet) (below-losses biometrics.Health projection)
   sources-earlier (nodes.BioScenario biometric projection Net) h = (omega arith, tt)
   sources-earlier (nodes.Life Gross) h = tested (nodes.Life Gross) refl
-  sources-earlier (nodes.Life Net) h = tested (nodes.Life Net) refl
   sources-earlier (nodes.Slt Gross) h = tested (nodes.Slt Gross) refl
-  sources-earlier (nodes.Slt Net) h = tested (nodes.Slt Net) refl
-  sources-earlier (nodes.Segment set number) h = tt
   sources-earlier (nodes.PremiumReserve sets.Nl) h = tested (nodes.PremiumReserve sets.Nl) refl
-  sources-earlier (nodes.PremiumReserve sets.Nslt) h = tested (nodes.PremiumReserve sets.Nslt) refl
-  sources-earlier (nodes.CatCharge key) h = tt
-  sources-earlier (nodes.Lapse set) h = tt
-  sources-earlier nodes.Intangible h = tt
-  sources-earlier nodes.Natural h = tested nodes.Natural refl
-  sources-earlier nodes.ManMade h = tested nodes.ManMade refl
-  sources-earlier nodes.NonlifeCatastrophe h = tested nodes.NonlifeCatastrophe refl
-  sources-earlier nodes.HealthCatastrophe h = tested nodes.HealthCatastrophe refl
   sources-earlier (nodes.Nslt Gross) h = tested (nodes.Nslt Gross) refl
-  sources-earlier (nodes.Nslt Net) h = tested (nodes.Nslt Net) refl
   sources-earlier (nodes.Health Gross) h = tested (nodes.Health Gross) refl
-  sources-earlier (nodes.Health Net) h = tested (nodes.Health Net) refl
   sources-earlier (nodes.Nonlife Gross) h = tested (nodes.Nonlife Gross) refl
-  sources-earlier (nodes.Nonlife Net) h = tested (nodes.Nonlife Net) refl
   sources-earlier (nodes.Bscr Gross) h = tested (nodes.Bscr Gross) refl
-  sources-earlier (nodes.Bscr Net) h = tested (nodes.Bscr Net) refl
-  sources-earlier nodes.Diversification h = tested nodes.Diversification refl
   sources-earlier (nodes.OpPart operations.Premiums) h = tested (nodes.OpPart operations.Premiums) refl
-  sources-earlier (nodes.OpPart operations.Provisions) h = tested (nodes.OpPart operations.Provisions) refl
-  sources-earlier (nodes.OpPart operations.Cap) h = tested (nodes.OpPart operations.Cap) refl
-  sources-earlier (nodes.OpPart operations.Charge) h = tested (nodes.OpPart operations.Charge) refl
   sources-earlier (nodes.Adjust adjustments.TechnicalProvisions) h =
       tested (nodes.Adjust adjustments.TechnicalProvisions) refl
-  sources-earlier (nodes.Adjust adjustments.DeferredTaxes) h = tested (nodes.Adjust adjustments.DeferredTaxes) refl
-  sources-earlier nodes.Scr h = tested nodes.Scr refl
+  sources-earlier (nodes.Picked alternatives.LifeLapse Gross) h =
+      tested (nodes.Picked alternatives.LifeLapse Gross) refl
+  sources-earlier (nodes.Picked alternatives.HealthLapse Gross) h =
+      tested (nodes.Picked alternatives.HealthLapse Gross) refl
+  sources-earlier node h = tested node refl

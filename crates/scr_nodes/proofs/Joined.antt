@@ -1,16 +1,8 @@
 -- A place in two lists, one after the other.
-use Rattle.std.proofs.Common.{◌≡◌, ℕ, zero, suc, ◌+◌, List, [], ◌∷◌, ◌++◌, length, Some, slice_get, ap, ◌∙◌, arith, length-append}
-use Rattle.scr_nodes.specs.declared.node.Node.{Node}
-use Rattle.scr_nodes.specs.declared.nth.Nth.{Nth}
+use Rattle.std.proofs.Common.{◌≡◌, ℕ, suc, ◌+◌, List, [], ◌∷◌, ◌++◌, length, slice_get, ap, ◌∙◌, arith, length-append}
+use Rattle.scr_nodes.specs.declared.{node.Node.Node, nth.Nth.Nth}
 use Rattle.scr_nodes.specs.declared.nth.Nth.TheVariants as nths
 use Rattle.scr_nodes.specs.Nth.{IsNth}
-
--- what stands in the first list
-in_first : (xs ys : List Node) (place : ℕ) (node : Node) → slice_get xs place ≡ Some node
-    → slice_get (xs ++ ys) place ≡ Some node
-in_first [] ys place node is = absurd (cc)
-in_first (x ∷ xs) ys zero node is = is
-in_first (x ∷ xs) ys (suc place) node is = in_first xs ys place node is
 
 in_second : (xs ys : List Node) (left : ℕ) → slice_get (xs ++ ys) (length xs + left) ≡ slice_get ys left
 in_second [] ys left = ap (slice_get ys) (omega arith)

@@ -8,34 +8,21 @@ use Rattle.scr_names.proofs.TableRows.{All-append}
 use Rattle.scr_profile.specs.declared.set.Set.{Set}
 use Rattle.scr_profile.specs.declared.set.Set.TheVariants as sets
 use Rattle.scr_sheet.specs.BalanceSheet.{group_name, position_name, liability_name, stake_name, curve_name, position_of, stake_of}
-use Rattle.scr_sheet.specs.declared.keys.Projection.{Projection}
+use Rattle.scr_sheet.specs.declared.{keys.Projection.Projection, sheet.BalanceSheet.BalanceSheet, rows.Class.Class, rows.Liability.Liability, rows.Position.Position, rows.Stake.Stake}
 use Rattle.scr_sheet.specs.declared.keys.Projection.TheVariants as projections
-use Rattle.scr_sheet.specs.declared.sheet.BalanceSheet.{BalanceSheet}
-use Rattle.scr_sheet.specs.declared.rows.Class.{Class}
 use Rattle.scr_sheet.specs.declared.rows.Class.TheVariants as classes
-use Rattle.scr_sheet.specs.declared.rows.Liability.{Liability}
-use Rattle.scr_sheet.specs.declared.rows.Position.{Position}
-use Rattle.scr_sheet.specs.declared.rows.Stake.{Stake}
 use Rattle.scr_sheet.specs.Validity.{Valid}
-use Rattle.scr_nodes.specs.declared.node.Adjustment.{Adjustment}
+use Rattle.scr_nodes.specs.declared.{node.Adjustment.Adjustment, node.Alternatives.Alternatives, node.Biometric.Biometric, node.Direction.Direction, node.Equities.Equities, node.Measure.Measure, node.Node.Node, node.Operational.Operational, node.Risk.Risk}
 use Rattle.scr_nodes.specs.declared.node.Adjustment.TheVariants as adjustments
-use Rattle.scr_nodes.specs.declared.node.Alternatives.{Alternatives}
 use Rattle.scr_nodes.specs.declared.node.Alternatives.TheVariants as alternatives
-use Rattle.scr_nodes.specs.declared.node.Biometric.{Biometric}
 use Rattle.scr_nodes.specs.declared.node.Biometric.TheVariants as biometrics
-use Rattle.scr_nodes.specs.declared.node.Direction.{Direction}
-use Rattle.scr_nodes.specs.declared.node.Equities.{Equities}
 use Rattle.scr_nodes.specs.declared.node.Equities.TheVariants as equities
-use Rattle.scr_nodes.specs.declared.node.Measure.{Measure}
 use Rattle.scr_nodes.specs.declared.node.Measure.TheVariants.{Gross, Net}
-use Rattle.scr_nodes.specs.declared.node.Node.{Node}
 use Rattle.scr_nodes.specs.declared.node.Node.TheVariants as nodes
-use Rattle.scr_nodes.specs.declared.node.Operational.{Operational}
 use Rattle.scr_nodes.specs.declared.node.Operational.TheVariants as operations
-use Rattle.scr_nodes.specs.declared.node.Risk.{Risk}
 use Rattle.scr_nodes.specs.declared.node.Risk.TheVariants as risks
 use Rattle.scr_nodes.specs.Rows.{holds, is_closed, is_paying, is_paying_in, is_owed_in, has_class, liability_of, group_of, is_held_in, is_foreign, is_of_group, has_group, is_of_default_class, has_flows, is_stress, is_of_kind, is_stressed, has_stress}
-use Rattle.scr_nodes.specs.Sources.{sources_of, fund_total, security_total, security_rate, liability_rate, liability_present, liability_loss, currency_loss, currency_picked, security_spread, concentration_square, group_loss, rates_in, worths_in, funds_of_class, held_of_class, foreign_picked, losses_of_class, losses_under, interest_scenarios, lapse_scenarios, scenarios, classes_of, equity_parts, gross_of, market_parts, life_parts, slt_parts, health_parts, segments_of, natural_perils, man_made_perils, nonlife_catastrophes, health_perils, modules, operational_sources, adjustment_sources, requirement_parts}
+use Rattle.scr_nodes.specs.Sources.{sources_of, fund_total, security_total, security_rate, liability_rate, liability_present, liability_loss, currency_loss, currency_picked, security_spread, concentration_square, group_loss, rates_in, worths_in, funds_of_class, held_of_class, foreign_picked, losses_of_class, losses_under, interest_scenarios, lapse_scenarios, scenarios, classes_of, gross_of, market_parts, health_parts, segments_of, modules, operational_sources, adjustment_sources}
 use Rattle.scr_nodes.specs.Live.{is_live}
 use Rattle.scr_nodes.proofs.Chosen.{each-chosen, each-mapped}
 use Rattle.scr_nodes.proofs.OwnRows.{own-funds, own-securities, own-liabilities, own-curves, own-groups}
@@ -60,15 +47,7 @@ passes-own test found row own e = ap (λ f. option_map_or test f false) own ∙ 
 stress-is : (biometric : Biometric) (projection : Projection) → has_stress biometric projection ≡ true
     → is_stress projection ≡ true
 stress-is biometric projections.Base h = absurd (cc)
-stress-is biometric projections.Mortality h = refl
-stress-is biometric projections.Longevity h = refl
-stress-is biometric projections.Disability h = refl
-stress-is biometric projections.Expense h = refl
-stress-is biometric projections.Revision h = refl
-stress-is biometric projections.LapseUp h = refl
-stress-is biometric projections.LapseDown h = refl
-stress-is biometric projections.LapseMass h = refl
-stress-is biometric projections.Catastrophe h = refl
+stress-is biometric projection h = refl
 
 module _ (sheet : BalanceSheet) (valid : Valid sheet) where
   -- words that are figures of every balance sheet
@@ -162,23 +141,15 @@ module _ (sheet : BalanceSheet) (valid : Valid sheet) where
 
   live-classes : (e : Equities) → AllByRecursion (IsLive sheet) (classes_of e)
   live-classes equities.Type1 = tested (classes_of equities.Type1) refl
-  live-classes equities.Type2 = tested (classes_of equities.Type2) refl
-  live-classes equities.Infrastructure = tested (classes_of equities.Infrastructure) refl
-  live-classes equities.InfrastructureCorporate = tested (classes_of equities.InfrastructureCorporate) refl
+  live-classes e = tested (classes_of e) refl
 
   live-gross : (risk : Risk) → IsLive sheet (gross_of risk)
   live-gross risks.Equity = refl
-  live-gross risks.Property = refl
-  live-gross risks.Spread = refl
-  live-gross risks.Concentration = refl
-  live-gross risks.Default = refl
-  live-gross risks.HealthCatastrophe = refl
+  live-gross risk = refl
 
   live-operational : (part : Operational) → AllByRecursion (IsLive sheet) (operational_sources part)
   live-operational operations.Premiums = tested (operational_sources operations.Premiums) refl
-  live-operational operations.Provisions = tested (operational_sources operations.Provisions) refl
-  live-operational operations.Cap = tested (operational_sources operations.Cap) refl
-  live-operational operations.Charge = tested (operational_sources operations.Charge) refl
+  live-operational part = tested (operational_sources part) refl
 
   live-adjustment : (adjustment : Adjustment) → AllByRecursion (IsLive sheet) (adjustment_sources adjustment)
   live-adjustment adjustments.TechnicalProvisions = tested (adjustment_sources adjustments.TechnicalProvisions) refl
@@ -191,16 +162,11 @@ module _ (sheet : BalanceSheet) (valid : Valid sheet) where
   pub sources-live : (node : Node) → is_live sheet node ≡ true → AllByRecursion (IsLive sheet) (sources_of sheet node)
   sources-live (nodes.FundTotal name) h = live-funds (holds name)
   sources-live (nodes.SecurityTotal name) h = live-funds (holds name)
-  sources-live (nodes.UnitLoss name direction) h = tt
   sources-live (nodes.SecurityRate name direction) h = (there is_paying (position_of name sheet.securities) h, (h, tt))
-  sources-live (nodes.LiabilityRate name direction) h = tt
-  sources-live (nodes.LiabilityPresent name) h = tt
-  sources-live (nodes.LiabilityLoss name projection) h = tt
   sources-live (nodes.CurrencyLoss currency direction) h = live-rates currency direction
   sources-live (nodes.InterestScenario direction Gross) h =
       each-mapped (λ c. row_of curve_name (curve_name c) sheet.curves ≡ Some c) (IsLive sheet) (λ c. true)
       (currency_loss direction) sheet.curves (own-curves sheet valid) (λ c own. ap is_some own)
-  sources-live (nodes.InterestScenario direction Net) h = (refl, tt)
   sources-live (nodes.CurrencyScenario currency direction Gross) h = live-worths currency
   sources-live (nodes.CurrencyScenario currency direction Net) h = (h, tt)
   sources-live (nodes.CurrencyChoice currency) h = (h, (h, (h, (h, tt))))
@@ -211,8 +177,6 @@ module _ (sheet : BalanceSheet) (valid : Valid sheet) where
       All-append (IsLive sheet) (scenarios which) (nodes.Choice which ∷ []) (live-scenarios which) (refl, tt)
   sources-live (nodes.ClassSum class) h = live-held class
   sources-live (nodes.EquityPart e) h = live-classes e
-  sources-live nodes.EquityRoot h = tested equity_parts refl
-  sources-live nodes.Property h = (refl, tt)
   sources-live (nodes.SecuritySpread name) h =
       (there (has_class classes.Bond) (position_of name sheet.securities) h, tt)
   sources-live nodes.Spread h = live-bonds
@@ -222,36 +186,14 @@ module _ (sheet : BalanceSheet) (valid : Valid sheet) where
   sources-live nodes.Concentration h = live-squares
   sources-live (nodes.NetPart risk) h = (live-gross risk, tt)
   sources-live (nodes.Market Gross) h = tested (market_parts Gross) refl
-  sources-live (nodes.Market Net) h = tested (market_parts Net) refl
-  sources-live (nodes.GroupLoss name) h = tt
   sources-live (nodes.ClassLoss class) h = live-losses_of_class class
   sources-live (nodes.ClassSquare class) h = live-losses_of_class class
-  sources-live nodes.Variance h = tested (sources_of sheet nodes.Variance) refl
-  sources-live nodes.DefaultBand h = tested (sources_of sheet nodes.DefaultBand) refl
-  sources-live nodes.DefaultType1 h = tested (sources_of sheet nodes.DefaultType1) refl
-  sources-live nodes.DefaultType2 h = tt
-  sources-live nodes.Default h = (refl, (refl, tt))
   sources-live (nodes.BioScenario biometric projection Gross) h =
       live-losses biometric projection (stress-is biometric projection h)
   sources-live (nodes.BioScenario biometric projection Net) h = (h, tt)
-  sources-live (nodes.Life measure) h = tested (life_parts measure) refl
-  sources-live (nodes.Slt measure) h = tested (slt_parts measure) refl
-  sources-live (nodes.Segment set number) h = tt
   sources-live (nodes.PremiumReserve set) h = live-segments set
-  sources-live (nodes.CatCharge key) h = tt
-  sources-live (nodes.Lapse set) h = tt
-  sources-live nodes.Natural h = tested natural_perils refl
-  sources-live nodes.ManMade h = tested man_made_perils refl
-  sources-live nodes.NonlifeCatastrophe h = tested nonlife_catastrophes refl
-  sources-live nodes.HealthCatastrophe h = tested health_perils refl
-  sources-live (nodes.Nslt measure) h = (refl, tt)
   sources-live (nodes.Health Gross) h = tested (health_parts Gross) refl
-  sources-live (nodes.Health Net) h = tested (health_parts Net) refl
-  sources-live (nodes.Nonlife measure) h = (refl, (refl, tt))
-  sources-live nodes.Intangible h = tt
   sources-live (nodes.Bscr Gross) h = tested (modules Gross) refl
-  sources-live (nodes.Bscr Net) h = tested (modules Net) refl
-  sources-live nodes.Diversification h = tested (modules Gross) refl
   sources-live (nodes.OpPart part) h = live-operational part
   sources-live (nodes.Adjust adjustment) h = live-adjustment adjustment
-  sources-live nodes.Scr h = tested requirement_parts refl
+  sources-live node h = tested (sources_of sheet node) refl

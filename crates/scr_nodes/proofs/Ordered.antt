@@ -12,24 +12,18 @@ use Rattle.scr_profile.specs.declared.set.Set.TheVariants as sets
 use Rattle.scr_profile.specs.Segments.{segments}
 use Rattle.scr_sheet.specs.BalanceSheet.{group_name, position_name, liability_name, stake_name, curve_name, position_of, stake_of}
 use Rattle.scr_sheet.specs.declared.keys.CatKey.TheVariants as cats
-use Rattle.scr_sheet.specs.declared.keys.Projection.{Projection}
+use Rattle.scr_sheet.specs.declared.{keys.Projection.Projection, sheet.BalanceSheet.BalanceSheet, rows.Curve.Curve, rows.Group.Group, rows.Liability.Liability, rows.Position.Position}
 use Rattle.scr_sheet.specs.declared.keys.Projection.TheVariants as projections
-use Rattle.scr_sheet.specs.declared.sheet.BalanceSheet.{BalanceSheet}
 use Rattle.scr_sheet.specs.declared.rows.Class.TheVariants as classes
-use Rattle.scr_sheet.specs.declared.rows.Curve.{Curve}
-use Rattle.scr_sheet.specs.declared.rows.Group.{Group}
-use Rattle.scr_sheet.specs.declared.rows.Liability.{Liability}
-use Rattle.scr_sheet.specs.declared.rows.Position.{Position}
 use Rattle.scr_sheet.specs.Validity.{Valid}
 use Rattle.scr_sheet.proofs.Holds.{distinct-securities}
 use Rattle.scr_nodes.specs.declared.node.Adjustment.TheVariants as adjustments
 use Rattle.scr_nodes.specs.declared.node.Alternatives.TheVariants as alternatives
 use Rattle.scr_nodes.specs.declared.node.Biometric.TheVariants as biometrics
-use Rattle.scr_nodes.specs.declared.node.Direction.{Direction}
+use Rattle.scr_nodes.specs.declared.{node.Direction.Direction, node.Node.Node}
 use Rattle.scr_nodes.specs.declared.node.Direction.TheVariants.{Up, Down}
 use Rattle.scr_nodes.specs.declared.node.Equities.TheVariants as equities
 use Rattle.scr_nodes.specs.declared.node.Measure.TheVariants.{Gross, Net}
-use Rattle.scr_nodes.specs.declared.node.Node.{Node}
 use Rattle.scr_nodes.specs.declared.node.Node.TheVariants as nodes
 use Rattle.scr_nodes.specs.declared.node.Operational.TheVariants as operations
 use Rattle.scr_nodes.specs.declared.node.Risk.TheVariants as risks
@@ -45,6 +39,11 @@ use Rattle.scr_nodes.proofs.Apart.{AreApart, apart-chosen, apart-mapped, apart-f
 use Rattle.scr_nodes.proofs.Earlier.{sources-earlier}
 use Rattle.scr_nodes.proofs.Told.{told-choice, told-currency, told-group, told-group_loss, told-liability, told-loss, told-picked, told-present, told-rate, told-scenario, told-security, told-spread, told-square, told-unit}
 use Rattle.scr_nodes.proofs.Parts.{part_of, AllAt, IsArranged, arranged-part, arranged-numbered, both, each-tested, fund-or-above, sorted-before}
+
+infixr 5 ◌&◌
+-- one fact and then the others
+◌&◌ : {A B : Type 0} → A → B → A × B
+a & b = (a, b)
 
 -- ---- lists of lists
 
@@ -171,6 +170,15 @@ module _ (sheet : BalanceSheet) where
       (IsMember-right (flat (families sheet)) constant_nodes node
       (member-at constant_nodes (part_of node - 32) node at)))
 
+  -- one for each of so many numbers
+  constant-at : (node : ℕ → Node) (first count number : ℕ)
+      → AllByRecursion (λ n. slice_get constant_nodes (part_of (node n) - 32) ≡ Some (node n)) (numbers first count)
+      → first ≤ number → number < first + count → IsListed (node number)
+  constant-at node first count number are least most =
+      constant (node number)
+      (at_member (λ n. slice_get constant_nodes (part_of (node n) - 32) ≡ Some (node n)) (numbers first count) number are
+      (member-number first count number least most))
+
   of-loss : (place : ℕ) (projection : Projection) (name : List ℕ)
       → family_at (families sheet) place ≡ losses_of projection sheet
       → option_map_or (has_flows projection) (liability_of name sheet.liabilities) false ≡ true
@@ -267,276 +275,76 @@ module _ (sheet : BalanceSheet) where
       in-family 29 (nodes.GroupLoss name)
       (in-table group_name group_loss nodes.GroupLoss (λ r. refl) name sheet.groups h)
   live-listed (nodes.ClassSum classes.Type1Equity) h = constant (nodes.ClassSum classes.Type1Equity) refl
-  live-listed (nodes.ClassSum classes.Type1Strategic) h = constant (nodes.ClassSum classes.Type1Strategic) refl
-  live-listed (nodes.ClassSum classes.Type2Equity) h = constant (nodes.ClassSum classes.Type2Equity) refl
-  live-listed (nodes.ClassSum classes.Type2Strategic) h = constant (nodes.ClassSum classes.Type2Strategic) refl
-  live-listed (nodes.ClassSum classes.Infrastructure) h = constant (nodes.ClassSum classes.Infrastructure) refl
-  live-listed (nodes.ClassSum classes.InfrastructureCorporate) h =
-      constant (nodes.ClassSum classes.InfrastructureCorporate) refl
-  live-listed (nodes.ClassSum classes.Property) h = constant (nodes.ClassSum classes.Property) refl
-  live-listed (nodes.ClassSum classes.Bond) h = constant (nodes.ClassSum classes.Bond) refl
-  live-listed (nodes.ClassSum classes.Government) h = constant (nodes.ClassSum classes.Government) refl
-  live-listed (nodes.ClassSum classes.Other) h = constant (nodes.ClassSum classes.Other) refl
   live-listed (nodes.EquityPart equities.Type1) h = constant (nodes.EquityPart equities.Type1) refl
-  live-listed (nodes.EquityPart equities.Type2) h = constant (nodes.EquityPart equities.Type2) refl
-  live-listed (nodes.EquityPart equities.Infrastructure) h = constant (nodes.EquityPart equities.Infrastructure) refl
-  live-listed (nodes.EquityPart equities.InfrastructureCorporate) h =
-      constant (nodes.EquityPart equities.InfrastructureCorporate) refl
   live-listed (nodes.InterestScenario Up Gross) h = constant (nodes.InterestScenario Up Gross) refl
-  live-listed (nodes.InterestScenario Up Net) h = constant (nodes.InterestScenario Up Net) refl
-  live-listed (nodes.InterestScenario Down Gross) h = constant (nodes.InterestScenario Down Gross) refl
-  live-listed (nodes.InterestScenario Down Net) h = constant (nodes.InterestScenario Down Net) refl
   live-listed (nodes.Choice alternatives.Interest) h = constant (nodes.Choice alternatives.Interest) refl
   live-listed (nodes.Picked alternatives.Interest Gross) h = constant (nodes.Picked alternatives.Interest Gross) refl
-  live-listed (nodes.Picked alternatives.Interest Net) h = constant (nodes.Picked alternatives.Interest Net) refl
-  live-listed (nodes.Choice alternatives.LifeLapse) h = constant (nodes.Choice alternatives.LifeLapse) refl
-  live-listed (nodes.Picked alternatives.LifeLapse Gross) h = constant (nodes.Picked alternatives.LifeLapse Gross) refl
-  live-listed (nodes.Picked alternatives.LifeLapse Net) h = constant (nodes.Picked alternatives.LifeLapse Net) refl
-  live-listed (nodes.Choice alternatives.HealthLapse) h = constant (nodes.Choice alternatives.HealthLapse) refl
-  live-listed (nodes.Picked alternatives.HealthLapse Gross) h =
-      constant (nodes.Picked alternatives.HealthLapse Gross) refl
-  live-listed (nodes.Picked alternatives.HealthLapse Net) h = constant (nodes.Picked alternatives.HealthLapse Net) refl
-  live-listed nodes.EquityRoot h = constant nodes.EquityRoot refl
-  live-listed nodes.Property h = constant nodes.Property refl
-  live-listed nodes.Spread h = constant nodes.Spread refl
-  live-listed nodes.Concentration h = constant nodes.Concentration refl
   live-listed (nodes.NetPart risks.Equity) h = constant (nodes.NetPart risks.Equity) refl
-  live-listed (nodes.NetPart risks.Property) h = constant (nodes.NetPart risks.Property) refl
-  live-listed (nodes.NetPart risks.Spread) h = constant (nodes.NetPart risks.Spread) refl
-  live-listed (nodes.NetPart risks.Concentration) h = constant (nodes.NetPart risks.Concentration) refl
-  live-listed (nodes.NetPart risks.Default) h = constant (nodes.NetPart risks.Default) refl
-  live-listed (nodes.NetPart risks.HealthCatastrophe) h = constant (nodes.NetPart risks.HealthCatastrophe) refl
   live-listed (nodes.Currency Gross) h = constant (nodes.Currency Gross) refl
-  live-listed (nodes.Currency Net) h = constant (nodes.Currency Net) refl
   live-listed (nodes.Market Gross) h = constant (nodes.Market Gross) refl
-  live-listed (nodes.Market Net) h = constant (nodes.Market Net) refl
-  live-listed (nodes.ClassLoss class) h =
-      at_member (λ c. IsListed (nodes.ClassLoss c)) (numbers 0 6) class (
-        constant (nodes.ClassLoss 0) refl,
-        (
-          constant (nodes.ClassLoss 1) refl,
-          (
-            constant (nodes.ClassLoss 2) refl,
-            (
-              constant (nodes.ClassLoss 3) refl,
-              (
-                constant (nodes.ClassLoss 4) refl,
-                (
-                  constant
-                      (nodes.ClassLoss 5) refl,
-                  tt,
-                ),
-              ),
-            ),
-          ),
-        ),
-      )
-      (member-number 0 6 class (omega arith) (ltb-true class 6 h))
-  live-listed (nodes.ClassSquare class) h =
-      at_member (λ c. IsListed (nodes.ClassSquare c)) (numbers 0 6) class (
-        constant (nodes.ClassSquare 0) refl,
-        (
-          constant (nodes.ClassSquare 1) refl,
-          (
-            constant (nodes.ClassSquare 2) refl,
-            (
-              constant (nodes.ClassSquare 3) refl,
-              (
-                constant (nodes.ClassSquare 4) refl,
-                (
-                  constant
-                      (nodes.ClassSquare 5) refl,
-                  tt,
-                ),
-              ),
-            ),
-          ),
-        ),
-      )
-      (member-number 0 6 class (omega arith) (ltb-true class 6 h))
-  live-listed nodes.Variance h = constant nodes.Variance refl
-  live-listed nodes.DefaultBand h = constant nodes.DefaultBand refl
-  live-listed nodes.DefaultType1 h = constant nodes.DefaultType1 refl
-  live-listed nodes.DefaultType2 h = constant nodes.DefaultType2 refl
-  live-listed nodes.Default h = constant nodes.Default refl
+  live-listed (nodes.ClassLoss class) h = constant-at nodes.ClassLoss 0 6 class (refl, (refl, (refl, (refl, (refl, (refl, tt)))))) (omega arith) (ltb-true class 6 h)
+  live-listed (nodes.ClassSquare class) h = constant-at nodes.ClassSquare 0 6 class (refl, (refl, (refl, (refl, (refl, (refl, tt)))))) (omega arith) (ltb-true class 6 h)
   live-listed (nodes.BioScenario biometric projections.Base measure) h = absurd (cc)
   live-listed (nodes.BioScenario biometrics.Health projections.Catastrophe measure) h = absurd (cc)
   live-listed (nodes.BioScenario biometrics.Life projections.Mortality Gross) h =
       constant (nodes.BioScenario biometrics.Life projections.Mortality Gross) refl
-  live-listed (nodes.BioScenario biometrics.Life projections.Mortality Net) h =
-      constant (nodes.BioScenario biometrics.Life projections.Mortality Net) refl
-  live-listed (nodes.BioScenario biometrics.Life projections.Longevity Gross) h =
-      constant (nodes.BioScenario biometrics.Life projections.Longevity Gross) refl
-  live-listed (nodes.BioScenario biometrics.Life projections.Longevity Net) h =
-      constant (nodes.BioScenario biometrics.Life projections.Longevity Net) refl
-  live-listed (nodes.BioScenario biometrics.Life projections.Disability Gross) h =
-      constant (nodes.BioScenario biometrics.Life projections.Disability Gross) refl
-  live-listed (nodes.BioScenario biometrics.Life projections.Disability Net) h =
-      constant (nodes.BioScenario biometrics.Life projections.Disability Net) refl
-  live-listed (nodes.BioScenario biometrics.Life projections.Expense Gross) h =
-      constant (nodes.BioScenario biometrics.Life projections.Expense Gross) refl
-  live-listed (nodes.BioScenario biometrics.Life projections.Expense Net) h =
-      constant (nodes.BioScenario biometrics.Life projections.Expense Net) refl
-  live-listed (nodes.BioScenario biometrics.Life projections.Revision Gross) h =
-      constant (nodes.BioScenario biometrics.Life projections.Revision Gross) refl
-  live-listed (nodes.BioScenario biometrics.Life projections.Revision Net) h =
-      constant (nodes.BioScenario biometrics.Life projections.Revision Net) refl
-  live-listed (nodes.BioScenario biometrics.Life projections.LapseUp Gross) h =
-      constant (nodes.BioScenario biometrics.Life projections.LapseUp Gross) refl
-  live-listed (nodes.BioScenario biometrics.Life projections.LapseUp Net) h =
-      constant (nodes.BioScenario biometrics.Life projections.LapseUp Net) refl
-  live-listed (nodes.BioScenario biometrics.Life projections.LapseDown Gross) h =
-      constant (nodes.BioScenario biometrics.Life projections.LapseDown Gross) refl
-  live-listed (nodes.BioScenario biometrics.Life projections.LapseDown Net) h =
-      constant (nodes.BioScenario biometrics.Life projections.LapseDown Net) refl
-  live-listed (nodes.BioScenario biometrics.Life projections.LapseMass Gross) h =
-      constant (nodes.BioScenario biometrics.Life projections.LapseMass Gross) refl
-  live-listed (nodes.BioScenario biometrics.Life projections.LapseMass Net) h =
-      constant (nodes.BioScenario biometrics.Life projections.LapseMass Net) refl
-  live-listed (nodes.BioScenario biometrics.Life projections.Catastrophe Gross) h =
-      constant (nodes.BioScenario biometrics.Life projections.Catastrophe Gross) refl
-  live-listed (nodes.BioScenario biometrics.Life projections.Catastrophe Net) h =
-      constant (nodes.BioScenario biometrics.Life projections.Catastrophe Net) refl
-  live-listed (nodes.BioScenario biometrics.Health projections.Mortality Gross) h =
-      constant (nodes.BioScenario biometrics.Health projections.Mortality Gross) refl
-  live-listed (nodes.BioScenario biometrics.Health projections.Mortality Net) h =
-      constant (nodes.BioScenario biometrics.Health projections.Mortality Net) refl
-  live-listed (nodes.BioScenario biometrics.Health projections.Longevity Gross) h =
-      constant (nodes.BioScenario biometrics.Health projections.Longevity Gross) refl
-  live-listed (nodes.BioScenario biometrics.Health projections.Longevity Net) h =
-      constant (nodes.BioScenario biometrics.Health projections.Longevity Net) refl
-  live-listed (nodes.BioScenario biometrics.Health projections.Disability Gross) h =
-      constant (nodes.BioScenario biometrics.Health projections.Disability Gross) refl
-  live-listed (nodes.BioScenario biometrics.Health projections.Disability Net) h =
-      constant (nodes.BioScenario biometrics.Health projections.Disability Net) refl
-  live-listed (nodes.BioScenario biometrics.Health projections.Expense Gross) h =
-      constant (nodes.BioScenario biometrics.Health projections.Expense Gross) refl
-  live-listed (nodes.BioScenario biometrics.Health projections.Expense Net) h =
-      constant (nodes.BioScenario biometrics.Health projections.Expense Net) refl
-  live-listed (nodes.BioScenario biometrics.Health projections.Revision Gross) h =
-      constant (nodes.BioScenario biometrics.Health projections.Revision Gross) refl
-  live-listed (nodes.BioScenario biometrics.Health projections.Revision Net) h =
-      constant (nodes.BioScenario biometrics.Health projections.Revision Net) refl
-  live-listed (nodes.BioScenario biometrics.Health projections.LapseUp Gross) h =
-      constant (nodes.BioScenario biometrics.Health projections.LapseUp Gross) refl
-  live-listed (nodes.BioScenario biometrics.Health projections.LapseUp Net) h =
-      constant (nodes.BioScenario biometrics.Health projections.LapseUp Net) refl
-  live-listed (nodes.BioScenario biometrics.Health projections.LapseDown Gross) h =
-      constant (nodes.BioScenario biometrics.Health projections.LapseDown Gross) refl
-  live-listed (nodes.BioScenario biometrics.Health projections.LapseDown Net) h =
-      constant (nodes.BioScenario biometrics.Health projections.LapseDown Net) refl
-  live-listed (nodes.BioScenario biometrics.Health projections.LapseMass Gross) h =
-      constant (nodes.BioScenario biometrics.Health projections.LapseMass Gross) refl
-  live-listed (nodes.BioScenario biometrics.Health projections.LapseMass Net) h =
-      constant (nodes.BioScenario biometrics.Health projections.LapseMass Net) refl
   live-listed (nodes.Life Gross) h = constant (nodes.Life Gross) refl
-  live-listed (nodes.Life Net) h = constant (nodes.Life Net) refl
   live-listed (nodes.Slt Gross) h = constant (nodes.Slt Gross) refl
-  live-listed (nodes.Slt Net) h = constant (nodes.Slt Net) refl
   live-listed (nodes.Segment sets.Nl number) h =
       let two = both (nat_le 1 number) (nat_le number (segments sets.Nl)) h in
-      let least : 1 ≤ number = leb-true 1 number two.0 in
       let most : number ≤ 12 = leb-true number 12 two.1 in
-      at_member (λ n. IsListed (nodes.Segment sets.Nl n)) (numbers 1 12) number (
-        constant (nodes.Segment sets.Nl 1) refl,
-        (
-          constant (nodes.Segment sets.Nl 2) refl,
-          (
-            constant
-                (nodes.Segment sets.Nl 3) refl,
-            (
-              constant (nodes.Segment sets.Nl 4) refl,
-              (
-                constant
-                    (nodes.Segment sets.Nl 5) refl,
-                (
-                  constant (nodes.Segment sets.Nl 6) refl,
-                  (
-                    constant
-                        (nodes.Segment sets.Nl 7) refl,
-                    (
-                      constant (nodes.Segment sets.Nl 8) refl,
-                      (
-                        constant
-                            (nodes.Segment sets.Nl 9) refl,
-                        (
-                          constant (nodes.Segment sets.Nl 10) refl,
-                          (
-                            constant
-                                (nodes.Segment sets.Nl 11) refl,
-                            (constant (nodes.Segment sets.Nl 12) refl, tt),
-                          ),
-                        ),
-                      ),
-                    ),
-                  ),
-                ),
-              ),
-            ),
-          ),
-        ),
-      )
-      (member-number 1 12 number least (omega arith))
+      constant-at (nodes.Segment sets.Nl) 1 12 number (refl, (refl, (refl, (refl, (refl, (refl, (refl, (refl, (refl, (refl, (refl, (refl, tt)))))))))))) (leb-true 1 number two.0) (omega arith)
   live-listed (nodes.Segment sets.Nslt number) h =
       let two = both (nat_le 1 number) (nat_le number (segments sets.Nslt)) h in
-      let least : 1 ≤ number = leb-true 1 number two.0 in
       let most : number ≤ 4 = leb-true number 4 two.1 in
-      at_member (λ n. IsListed (nodes.Segment sets.Nslt n)) (numbers 1 4) number (
-        constant (nodes.Segment sets.Nslt 1) refl,
-        (
-          constant (nodes.Segment sets.Nslt 2) refl,
-          (
-            constant
-                (nodes.Segment sets.Nslt 3) refl,
-            (constant (nodes.Segment sets.Nslt 4) refl, tt),
-          ),
-        ),
-      )
-      (member-number 1 4 number least (omega arith))
+      constant-at (nodes.Segment sets.Nslt) 1 4 number (refl, (refl, (refl, (refl, tt)))) (leb-true 1 number two.0) (omega arith)
   live-listed (nodes.CatCharge cats.Windstorm) h = constant (nodes.CatCharge cats.Windstorm) refl
-  live-listed (nodes.CatCharge cats.Earthquake) h = constant (nodes.CatCharge cats.Earthquake) refl
-  live-listed (nodes.CatCharge cats.Flood) h = constant (nodes.CatCharge cats.Flood) refl
-  live-listed (nodes.CatCharge cats.Hail) h = constant (nodes.CatCharge cats.Hail) refl
-  live-listed (nodes.CatCharge cats.Subsidence) h = constant (nodes.CatCharge cats.Subsidence) refl
-  live-listed (nodes.CatCharge cats.NonProportionalProperty) h =
-      constant (nodes.CatCharge cats.NonProportionalProperty) refl
-  live-listed (nodes.CatCharge cats.Motor) h = constant (nodes.CatCharge cats.Motor) refl
-  live-listed (nodes.CatCharge cats.Marine) h = constant (nodes.CatCharge cats.Marine) refl
-  live-listed (nodes.CatCharge cats.Aviation) h = constant (nodes.CatCharge cats.Aviation) refl
-  live-listed (nodes.CatCharge cats.Fire) h = constant (nodes.CatCharge cats.Fire) refl
-  live-listed (nodes.CatCharge cats.Liability) h = constant (nodes.CatCharge cats.Liability) refl
-  live-listed (nodes.CatCharge cats.Credit) h = constant (nodes.CatCharge cats.Credit) refl
-  live-listed (nodes.CatCharge cats.Other) h = constant (nodes.CatCharge cats.Other) refl
-  live-listed (nodes.CatCharge cats.MassAccident) h = constant (nodes.CatCharge cats.MassAccident) refl
-  live-listed (nodes.CatCharge cats.AccidentConcentration) h =
-      constant (nodes.CatCharge cats.AccidentConcentration) refl
-  live-listed (nodes.CatCharge cats.Pandemic) h = constant (nodes.CatCharge cats.Pandemic) refl
   live-listed (nodes.Lapse sets.Nl) h = constant (nodes.Lapse sets.Nl) refl
-  live-listed (nodes.Lapse sets.Nslt) h = constant (nodes.Lapse sets.Nslt) refl
   live-listed (nodes.PremiumReserve sets.Nl) h = constant (nodes.PremiumReserve sets.Nl) refl
-  live-listed (nodes.PremiumReserve sets.Nslt) h = constant (nodes.PremiumReserve sets.Nslt) refl
-  live-listed nodes.Intangible h = constant nodes.Intangible refl
-  live-listed nodes.Natural h = constant nodes.Natural refl
-  live-listed nodes.ManMade h = constant nodes.ManMade refl
-  live-listed nodes.NonlifeCatastrophe h = constant nodes.NonlifeCatastrophe refl
-  live-listed nodes.HealthCatastrophe h = constant nodes.HealthCatastrophe refl
   live-listed (nodes.Nslt Gross) h = constant (nodes.Nslt Gross) refl
-  live-listed (nodes.Nslt Net) h = constant (nodes.Nslt Net) refl
   live-listed (nodes.Health Gross) h = constant (nodes.Health Gross) refl
-  live-listed (nodes.Health Net) h = constant (nodes.Health Net) refl
   live-listed (nodes.Nonlife Gross) h = constant (nodes.Nonlife Gross) refl
-  live-listed (nodes.Nonlife Net) h = constant (nodes.Nonlife Net) refl
   live-listed (nodes.Bscr Gross) h = constant (nodes.Bscr Gross) refl
-  live-listed (nodes.Bscr Net) h = constant (nodes.Bscr Net) refl
-  live-listed nodes.Diversification h = constant nodes.Diversification refl
   live-listed (nodes.OpPart operations.Premiums) h = constant (nodes.OpPart operations.Premiums) refl
-  live-listed (nodes.OpPart operations.Provisions) h = constant (nodes.OpPart operations.Provisions) refl
-  live-listed (nodes.OpPart operations.Cap) h = constant (nodes.OpPart operations.Cap) refl
-  live-listed (nodes.OpPart operations.Charge) h = constant (nodes.OpPart operations.Charge) refl
   live-listed (nodes.Adjust adjustments.TechnicalProvisions) h =
       constant (nodes.Adjust adjustments.TechnicalProvisions) refl
-  live-listed (nodes.Adjust adjustments.DeferredTaxes) h = constant (nodes.Adjust adjustments.DeferredTaxes) refl
-  live-listed nodes.Scr h = constant nodes.Scr refl
+  live-listed (nodes.InterestScenario Down Gross) h = constant (nodes.InterestScenario Down Gross) refl
+  live-listed (nodes.Picked alternatives.LifeLapse Gross) h = constant (nodes.Picked alternatives.LifeLapse Gross) refl
+  live-listed (nodes.Picked alternatives.HealthLapse Gross) h =
+      constant (nodes.Picked alternatives.HealthLapse Gross) refl
+  live-listed (nodes.BioScenario biometrics.Life projections.Longevity Gross) h =
+      constant (nodes.BioScenario biometrics.Life projections.Longevity Gross) refl
+  live-listed (nodes.BioScenario biometrics.Life projections.Disability Gross) h =
+      constant (nodes.BioScenario biometrics.Life projections.Disability Gross) refl
+  live-listed (nodes.BioScenario biometrics.Life projections.Expense Gross) h =
+      constant (nodes.BioScenario biometrics.Life projections.Expense Gross) refl
+  live-listed (nodes.BioScenario biometrics.Life projections.Revision Gross) h =
+      constant (nodes.BioScenario biometrics.Life projections.Revision Gross) refl
+  live-listed (nodes.BioScenario biometrics.Life projections.LapseUp Gross) h =
+      constant (nodes.BioScenario biometrics.Life projections.LapseUp Gross) refl
+  live-listed (nodes.BioScenario biometrics.Life projections.LapseDown Gross) h =
+      constant (nodes.BioScenario biometrics.Life projections.LapseDown Gross) refl
+  live-listed (nodes.BioScenario biometrics.Life projections.LapseMass Gross) h =
+      constant (nodes.BioScenario biometrics.Life projections.LapseMass Gross) refl
+  live-listed (nodes.BioScenario biometrics.Life projections.Catastrophe Gross) h =
+      constant (nodes.BioScenario biometrics.Life projections.Catastrophe Gross) refl
+  live-listed (nodes.BioScenario biometrics.Health projections.Mortality Gross) h =
+      constant (nodes.BioScenario biometrics.Health projections.Mortality Gross) refl
+  live-listed (nodes.BioScenario biometrics.Health projections.Longevity Gross) h =
+      constant (nodes.BioScenario biometrics.Health projections.Longevity Gross) refl
+  live-listed (nodes.BioScenario biometrics.Health projections.Disability Gross) h =
+      constant (nodes.BioScenario biometrics.Health projections.Disability Gross) refl
+  live-listed (nodes.BioScenario biometrics.Health projections.Expense Gross) h =
+      constant (nodes.BioScenario biometrics.Health projections.Expense Gross) refl
+  live-listed (nodes.BioScenario biometrics.Health projections.Revision Gross) h =
+      constant (nodes.BioScenario biometrics.Health projections.Revision Gross) refl
+  live-listed (nodes.BioScenario biometrics.Health projections.LapseUp Gross) h =
+      constant (nodes.BioScenario biometrics.Health projections.LapseUp Gross) refl
+  live-listed (nodes.BioScenario biometrics.Health projections.LapseDown Gross) h =
+      constant (nodes.BioScenario biometrics.Health projections.LapseDown Gross) refl
+  live-listed (nodes.BioScenario biometrics.Health projections.LapseMass Gross) h =
+      constant (nodes.BioScenario biometrics.Health projections.LapseMass Gross) refl
+  live-listed node h = constant node refl
 
 -- ---- the whole list
 
@@ -594,96 +402,50 @@ module _ (sheet : BalanceSheet) (valid : Valid sheet) where
       table-family group_name part node sheet.groups own told (distinct-groups sheet valid)
 
   payments-are : AreFamilies 2 (payment_families sheet)
-  payments-are = (
-    of-paying 2 (unit_loss Up) (λ p. refl) (told-unit Up),
-    (
-      of-paying 3 (unit_loss Down) (λ p. refl) (told-unit Down),
-      (
-        of-paying 4 (security_rate Up) (λ p. refl) (told-rate Up),
-        (
-          of-paying 5 (security_rate Down) (λ p. refl) (told-rate Down),
-          (
-            of-liabilities 6 (liability_rate Up) (λ l. refl) (told-liability Up),
-            (
-              of-liabilities 7 (liability_rate Down) (λ l. refl) (told-liability Down),
-              (of-liabilities 8 liability_present (λ l. refl) told-present, tt),
-            ),
-          ),
-        ),
-      ),
-    ),
-  )
+  payments-are =
+      of-paying 2 (unit_loss Up) (λ p. refl) (told-unit Up)
+      & of-paying 3 (unit_loss Down) (λ p. refl) (told-unit Down)
+      & of-paying 4 (security_rate Up) (λ p. refl) (told-rate Up)
+      & of-paying 5 (security_rate Down) (λ p. refl) (told-rate Down)
+      & of-liabilities 6 (liability_rate Up) (λ l. refl) (told-liability Up)
+      & of-liabilities 7 (liability_rate Down) (λ l. refl) (told-liability Down)
+      & of-liabilities 8 liability_present (λ l. refl) told-present
+      & tt
 
   stresses-are : AreFamilies 9 (stress_families sheet)
-  stresses-are = (
-    of-losses 9 projections.Mortality (λ l. refl),
-    (
-      of-losses 10 projections.Longevity (λ l. refl),
-      (
-        of-losses 11 projections.Disability (λ l. refl),
-        (
-          of-losses 12 projections.Expense (λ l. refl),
-          (
-            of-losses 13 projections.Revision (λ l. refl),
-            (
-              of-losses 14 projections.LapseUp (λ l. refl),
-              (
-                of-losses 15 projections.LapseDown (λ l. refl),
-                (
-                  of-losses 16 projections.LapseMass (λ l. refl),
-                  (of-losses 17 projections.Catastrophe (λ l. refl), tt),
-                ),
-              ),
-            ),
-          ),
-        ),
-      ),
-    ),
-  )
+  stresses-are =
+      of-losses 9 projections.Mortality (λ l. refl)
+      & of-losses 10 projections.Longevity (λ l. refl)
+      & of-losses 11 projections.Disability (λ l. refl)
+      & of-losses 12 projections.Expense (λ l. refl)
+      & of-losses 13 projections.Revision (λ l. refl)
+      & of-losses 14 projections.LapseUp (λ l. refl)
+      & of-losses 15 projections.LapseDown (λ l. refl)
+      & of-losses 16 projections.LapseMass (λ l. refl)
+      & of-losses 17 projections.Catastrophe (λ l. refl)
+      & tt
 
   currencies-are : AreFamilies 18 (currency_families sheet)
-  currencies-are = (
-    table-family curve_name 18 (currency_loss Up) sheet.curves (λ c. refl) (told-currency Up) valid.currencies_once,
-    (
-      table-family curve_name 19 (currency_loss Down) sheet.curves (λ c. refl)
-          (told-currency Down) valid.currencies_once,
-      (
-        of-foreigns 20 (currency_scenario Up Gross) (λ c. refl) (told-scenario Up Gross),
-        (
-          of-foreigns 21 (currency_scenario Up Net) (λ c. refl) (told-scenario Up Net),
-          (
-            of-foreigns 22 (currency_scenario Down Gross) (λ c. refl) (told-scenario Down Gross),
-            (
-              of-foreigns 23 (currency_scenario Down Net) (λ c. refl) (told-scenario Down Net),
-              (
-                of-foreigns 24 currency_choice (λ c. refl) told-choice,
-                (
-                  of-foreigns 25 (currency_picked Gross) (λ c. refl) (told-picked Gross),
-                  (of-foreigns 26 (currency_picked Net) (λ c. refl) (told-picked Net), tt),
-                ),
-              ),
-            ),
-          ),
-        ),
-      ),
-    ),
-  )
+  currencies-are =
+      table-family curve_name 18 (currency_loss Up) sheet.curves (λ c. refl) (told-currency Up) valid.currencies_once
+      & table-family curve_name 19 (currency_loss Down) sheet.curves (λ c. refl) (told-currency Down) valid.currencies_once
+      & of-foreigns 20 (currency_scenario Up Gross) (λ c. refl) (told-scenario Up Gross)
+      & of-foreigns 21 (currency_scenario Up Net) (λ c. refl) (told-scenario Up Net)
+      & of-foreigns 22 (currency_scenario Down Gross) (λ c. refl) (told-scenario Down Gross)
+      & of-foreigns 23 (currency_scenario Down Net) (λ c. refl) (told-scenario Down Net)
+      & of-foreigns 24 currency_choice (λ c. refl) told-choice
+      & of-foreigns 25 (currency_picked Gross) (λ c. refl) (told-picked Gross)
+      & of-foreigns 26 (currency_picked Net) (λ c. refl) (told-picked Net)
+      & tt
 
   groups-are : AreFamilies 27 (group_families sheet)
-  groups-are = (
-    chosen-family position_name 27 (has_class classes.Bond) security_spread sheet.securities (λ p. refl) told-spread
-        (distinct-securities sheet valid.named_once),
-    (
-      of-groups 28 group_total (λ g. refl) told-group,
-      (
-        ((refl, tt), ((λ m. m), tt)),
-        (
-          of-groups 30 concentration_square (λ g. refl) told-square,
-          (of-groups 31 group_loss (λ g. refl) told-group_loss, tt),
-        ),
-      ),
-    ),
-  )
+  groups-are =
+      chosen-family position_name 27 (has_class classes.Bond) security_spread sheet.securities (λ p. refl) told-spread (distinct-securities sheet valid.named_once)
+      & of-groups 28 group_total (λ g. refl) told-group
+      & ((refl, tt), ((λ m. m), tt))
+      & of-groups 30 concentration_square (λ g. refl) told-square
+      & of-groups 31 group_loss (λ g. refl) told-group_loss
+      & tt
 
   families-are : AreFamilies 2 (families sheet)
   families-are =
@@ -758,91 +520,50 @@ module _ (sheet : BalanceSheet) (valid : Valid sheet) where
   AllLive list = AllByRecursion (AllByRecursion (IsLive sheet)) list
 
   live-payments : AllLive (payment_families sheet)
-  live-payments = (
-    live-paying (unit_loss Up) paid,
-    (
-      live-paying (unit_loss Down) paid,
-      (
-        live-paying (security_rate Up) paid,
-        (
-          live-paying (security_rate Down) paid,
-          (
-            live-liabilities (liability_rate Up) (λ l. refl),
-            (live-liabilities (liability_rate Down) (λ l. refl), (live-liabilities liability_present (λ l. refl), tt)),
-          ),
-        ),
-      ),
-    ),
-  )
+  live-payments =
+      live-paying (unit_loss Up) paid
+      & live-paying (unit_loss Down) paid
+      & live-paying (security_rate Up) paid
+      & live-paying (security_rate Down) paid
+      & live-liabilities (liability_rate Up) (λ l. refl)
+      & live-liabilities (liability_rate Down) (λ l. refl)
+      & live-liabilities liability_present (λ l. refl)
+      & tt
 
   live-stresses : AllLive (stress_families sheet)
-  live-stresses = (
-    live-losses projections.Mortality refl,
-    (
-      live-losses projections.Longevity refl,
-      (
-        live-losses projections.Disability refl,
-        (
-          live-losses projections.Expense refl,
-          (
-            live-losses projections.Revision refl,
-            (
-              live-losses projections.LapseUp refl,
-              (
-                live-losses projections.LapseDown refl,
-                (
-                  live-losses projections.LapseMass refl,
-                  (live-losses projections.Catastrophe refl, tt),
-                ),
-              ),
-            ),
-          ),
-        ),
-      ),
-    ),
-  )
+  live-stresses =
+      live-losses projections.Mortality refl
+      & live-losses projections.Longevity refl
+      & live-losses projections.Disability refl
+      & live-losses projections.Expense refl
+      & live-losses projections.Revision refl
+      & live-losses projections.LapseUp refl
+      & live-losses projections.LapseDown refl
+      & live-losses projections.LapseMass refl
+      & live-losses projections.Catastrophe refl
+      & tt
 
   live-currency_families : AllLive (currency_families sheet)
-  live-currency_families = (
-    live-currencies Up,
-    (
-      live-currencies Down,
-      (
-        live-foreigns (currency_scenario Up Gross) (λ c. refl),
-        (
-          live-foreigns (currency_scenario Up Net) (λ c. refl),
-          (
-            live-foreigns (currency_scenario Down Gross) (λ c. refl),
-            (
-              live-foreigns (currency_scenario Down Net) (λ c. refl),
-              (
-                live-foreigns currency_choice (λ c. refl),
-                (
-                  live-foreigns (currency_picked Gross) (λ c. refl),
-                  (live-foreigns (currency_picked Net) (λ c. refl), tt),
-                ),
-              ),
-            ),
-          ),
-        ),
-      ),
-    ),
-  )
+  live-currency_families =
+      live-currencies Up
+      & live-currencies Down
+      & live-foreigns (currency_scenario Up Gross) (λ c. refl)
+      & live-foreigns (currency_scenario Up Net) (λ c. refl)
+      & live-foreigns (currency_scenario Down Gross) (λ c. refl)
+      & live-foreigns (currency_scenario Down Net) (λ c. refl)
+      & live-foreigns currency_choice (λ c. refl)
+      & live-foreigns (currency_picked Gross) (λ c. refl)
+      & live-foreigns (currency_picked Net) (λ c. refl)
+      & tt
 
   live-group_families : AllLive (group_families sheet)
-  live-group_families = (
-    live-bonds,
-    (
-      live-groups group_total (λ g. refl),
-      (
-        (refl, tt),
-        (
-          live-groups concentration_square (λ g. refl),
-          (live-groups group_loss (λ g. refl), tt),
-        ),
-      ),
-    ),
-  )
+  live-group_families =
+      live-bonds
+      & live-groups group_total (λ g. refl)
+      & (refl, tt)
+      & live-groups concentration_square (λ g. refl)
+      & live-groups group_loss (λ g. refl)
+      & tt
 
   live-families : AllLive (families sheet)
   live-families =

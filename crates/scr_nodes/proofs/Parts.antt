@@ -2,33 +2,22 @@
 use Rattle.std.proofs.Common.{◌≡◌, ◌⊎◌, inl, inr, ℕ, zero, suc, ◌+◌, ◌*◌, ◌<◌, ◌≤◌, ◌==◌, min, nat_lt, Bool, true, false, not, ◌&&◌, List, [], ◌∷◌, ◌++◌, map, Some, slice_get, refl, sym, ap, subst, ◌∙◌, arith}
 use Rattle.std.specs.List.{AllByRecursion, list_all}
 use Rattle.std.proofs.lemmas.Bool.{eqb-true, eq-eqb, ltb-true}
-use Rattle.std.proofs.Math.Nat.{min-le_right}
 use Rattle.scr_funds.proofs.Members.{IsMember, IsMember-cases, at_member, each_weaker}
 use Rattle.scr_profile.specs.declared.set.Set.{Set}
 use Rattle.scr_profile.specs.declared.set.Set.TheVariants as sets
-use Rattle.scr_sheet.specs.declared.keys.CatKey.{CatKey}
+use Rattle.scr_sheet.specs.declared.{keys.CatKey.CatKey, keys.Projection.Projection, rows.Class.Class}
 use Rattle.scr_sheet.specs.declared.keys.CatKey.TheVariants as cats
-use Rattle.scr_sheet.specs.declared.keys.Projection.{Projection}
 use Rattle.scr_sheet.specs.declared.keys.Projection.TheVariants as projections
-use Rattle.scr_sheet.specs.declared.rows.Class.{Class}
 use Rattle.scr_sheet.specs.declared.rows.Class.TheVariants as classes
-use Rattle.scr_nodes.specs.declared.node.Adjustment.{Adjustment}
+use Rattle.scr_nodes.specs.declared.{node.Adjustment.Adjustment, node.Alternatives.Alternatives, node.Biometric.Biometric, node.Direction.Direction, node.Equities.Equities, node.Measure.Measure, node.Node.Node, node.Operational.Operational, node.Risk.Risk}
 use Rattle.scr_nodes.specs.declared.node.Adjustment.TheVariants as adjustments
-use Rattle.scr_nodes.specs.declared.node.Alternatives.{Alternatives}
 use Rattle.scr_nodes.specs.declared.node.Alternatives.TheVariants as alternatives
-use Rattle.scr_nodes.specs.declared.node.Biometric.{Biometric}
 use Rattle.scr_nodes.specs.declared.node.Biometric.TheVariants as biometrics
-use Rattle.scr_nodes.specs.declared.node.Direction.{Direction}
 use Rattle.scr_nodes.specs.declared.node.Direction.TheVariants.{Up, Down}
-use Rattle.scr_nodes.specs.declared.node.Equities.{Equities}
 use Rattle.scr_nodes.specs.declared.node.Equities.TheVariants as equities
-use Rattle.scr_nodes.specs.declared.node.Measure.{Measure}
 use Rattle.scr_nodes.specs.declared.node.Measure.TheVariants.{Gross, Net}
-use Rattle.scr_nodes.specs.declared.node.Node.{Node}
 use Rattle.scr_nodes.specs.declared.node.Node.TheVariants as nodes
-use Rattle.scr_nodes.specs.declared.node.Operational.{Operational}
 use Rattle.scr_nodes.specs.declared.node.Operational.TheVariants as operations
-use Rattle.scr_nodes.specs.declared.node.Risk.{Risk}
 use Rattle.scr_nodes.specs.declared.node.Risk.TheVariants as risks
 use Rattle.scr_nodes.proofs.Apart.{AreApart, member-at}
 
@@ -210,41 +199,19 @@ measure-place-most Net = omega arith
 
 equities-place-most : (x : Equities) → equities_place x ≤ 3
 equities-place-most equities.Type1 = omega arith
-equities-place-most equities.Type2 = omega arith
-equities-place-most equities.Infrastructure = omega arith
-equities-place-most equities.InfrastructureCorporate = omega arith
+equities-place-most x = omega arith
 
 risk-place-most : (x : Risk) → risk_place x ≤ 168
 risk-place-most risks.Equity = omega arith
-risk-place-most risks.Property = omega arith
-risk-place-most risks.Spread = omega arith
-risk-place-most risks.Concentration = omega arith
-risk-place-most risks.Default = omega arith
-risk-place-most risks.HealthCatastrophe = omega arith
+risk-place-most x = omega arith
 
 loss-place-most : (x : Projection) → loss_place x ≤ 8
 loss-place-most projections.Base = omega arith
-loss-place-most projections.Mortality = omega arith
-loss-place-most projections.Longevity = omega arith
-loss-place-most projections.Disability = omega arith
-loss-place-most projections.Expense = omega arith
-loss-place-most projections.Revision = omega arith
-loss-place-most projections.LapseUp = omega arith
-loss-place-most projections.LapseDown = omega arith
-loss-place-most projections.LapseMass = omega arith
-loss-place-most projections.Catastrophe = omega arith
+loss-place-most x = omega arith
 
 scenario-place-most : (x : Projection) → scenario_place x ≤ 19
 scenario-place-most projections.Base = omega arith
-scenario-place-most projections.Mortality = omega arith
-scenario-place-most projections.Longevity = omega arith
-scenario-place-most projections.Disability = omega arith
-scenario-place-most projections.Expense = omega arith
-scenario-place-most projections.Revision = omega arith
-scenario-place-most projections.LapseUp = omega arith
-scenario-place-most projections.LapseDown = omega arith
-scenario-place-most projections.LapseMass = omega arith
-scenario-place-most projections.Catastrophe = omega arith
+scenario-place-most x = omega arith
 
 scenarios-from-most : (x : Biometric) → scenarios_from x ≤ 106
 scenarios-from-most biometrics.Life = omega arith
@@ -257,21 +224,7 @@ choice-place-most alternatives.HealthLapse = omega arith
 
 charge-place-most : (x : CatKey) → charge_place x ≤ 15
 charge-place-most cats.Windstorm = omega arith
-charge-place-most cats.Earthquake = omega arith
-charge-place-most cats.Flood = omega arith
-charge-place-most cats.Hail = omega arith
-charge-place-most cats.Subsidence = omega arith
-charge-place-most cats.NonProportionalProperty = omega arith
-charge-place-most cats.Motor = omega arith
-charge-place-most cats.Marine = omega arith
-charge-place-most cats.Aviation = omega arith
-charge-place-most cats.Fire = omega arith
-charge-place-most cats.Liability = omega arith
-charge-place-most cats.Credit = omega arith
-charge-place-most cats.Other = omega arith
-charge-place-most cats.MassAccident = omega arith
-charge-place-most cats.AccidentConcentration = omega arith
-charge-place-most cats.Pandemic = omega arith
+charge-place-most x = omega arith
 
 set-place-most : (x : Set) → set_place x ≤ 1
 set-place-most sets.Nl = omega arith
@@ -283,9 +236,7 @@ segments-from-most sets.Nslt = omega arith
 
 operational-place-most : (x : Operational) → operational_place x ≤ 3
 operational-place-most operations.Premiums = omega arith
-operational-place-most operations.Provisions = omega arith
-operational-place-most operations.Cap = omega arith
-operational-place-most operations.Charge = omega arith
+operational-place-most x = omega arith
 
 adjustment-place-most : (x : Adjustment) → adjustment_place x ≤ 1
 adjustment-place-most adjustments.TechnicalProvisions = omega arith
@@ -293,139 +244,29 @@ adjustment-place-most adjustments.DeferredTaxes = omega arith
 
 class-place-most : (x : Class) → class_place x ≤ 9
 class-place-most classes.Type1Equity = omega arith
-class-place-most classes.Type1Strategic = omega arith
-class-place-most classes.Type2Equity = omega arith
-class-place-most classes.Type2Strategic = omega arith
-class-place-most classes.Infrastructure = omega arith
-class-place-most classes.InfrastructureCorporate = omega arith
-class-place-most classes.Property = omega arith
-class-place-most classes.Bond = omega arith
-class-place-most classes.Government = omega arith
-class-place-most classes.Other = omega arith
+class-place-most x = omega arith
 
 -- the last part
 pub last-part : (node : Node) → part_of node ≤ 184
 last-part (nodes.FundTotal name) = omega arith
-last-part (nodes.SecurityTotal name) = omega arith
-last-part (nodes.UnitLoss name direction) =
-    let h0 = direction-place-most direction in
-    omega (arith, h0)
-last-part (nodes.SecurityRate name direction) =
-    let h0 = direction-place-most direction in
-    omega (arith, h0)
-last-part (nodes.LiabilityRate name direction) =
-    let h0 = direction-place-most direction in
-    omega (arith, h0)
-last-part (nodes.LiabilityPresent name) = omega arith
-last-part (nodes.LiabilityLoss name projection) =
-    let h0 = loss-place-most projection in
-    omega (arith, h0)
-last-part (nodes.CurrencyLoss currency direction) =
-    let h0 = direction-place-most direction in
-    omega (arith, h0)
-last-part (nodes.CurrencyScenario currency direction measure) =
-    let h0 = direction-place-most direction in
-    let h1 = measure-place-most measure in
-    omega (arith, h0, h1)
-last-part (nodes.CurrencyChoice currency) = omega arith
-last-part (nodes.CurrencyPicked currency measure) =
-    let h0 = measure-place-most measure in
-    omega (arith, h0)
-last-part (nodes.SecuritySpread name) = omega arith
-last-part (nodes.GroupTotal name) = omega arith
-last-part nodes.Assets = omega arith
-last-part (nodes.ConcentrationSquare name) = omega arith
-last-part (nodes.GroupLoss name) = omega arith
-last-part (nodes.ClassSum class) =
-    let h0 = class-place-most class in
-    omega (arith, h0)
-last-part (nodes.EquityPart equities) =
-    let h0 = equities-place-most equities in
-    omega (arith, h0)
-last-part (nodes.InterestScenario direction measure) =
-    let h0 = direction-place-most direction in
-    let h1 = measure-place-most measure in
-    omega (arith, h0, h1)
-last-part (nodes.Choice which) =
-    let h0 = choice-place-most which in
-    omega (arith, h0)
-last-part (nodes.Picked which measure) =
-    let h0 = choice-place-most which in
-    let h1 = measure-place-most measure in
-    omega (arith, h0, h1)
-last-part nodes.EquityRoot = omega arith
-last-part nodes.Property = omega arith
-last-part nodes.Spread = omega arith
-last-part nodes.Concentration = omega arith
-last-part (nodes.NetPart risk) =
-    let h0 = risk-place-most risk in
-    omega (arith, h0)
-last-part (nodes.Currency measure) =
-    let h0 = measure-place-most measure in
-    omega (arith, h0)
-last-part (nodes.Market measure) =
-    let h0 = measure-place-most measure in
-    omega (arith, h0)
-last-part (nodes.ClassLoss class) =
-    let h0 : min class 5 ≤ 5 = min-le_right class 5 in
-    omega (arith, h0)
-last-part (nodes.ClassSquare class) =
-    let h0 : min class 5 ≤ 5 = min-le_right class 5 in
-    omega (arith, h0)
-last-part nodes.Variance = omega arith
-last-part nodes.DefaultBand = omega arith
-last-part nodes.DefaultType1 = omega arith
-last-part nodes.DefaultType2 = omega arith
-last-part nodes.Default = omega arith
-last-part (nodes.BioScenario biometric projection measure) =
-    let h0 = scenarios-from-most biometric in
-    let h1 = scenario-place-most projection in
-    let h2 = measure-place-most measure in
-    omega (arith, h0, h1, h2)
-last-part (nodes.Life measure) =
-    let h0 = measure-place-most measure in
-    omega (arith, h0)
-last-part (nodes.Slt measure) =
-    let h0 = measure-place-most measure in
-    omega (arith, h0)
-last-part (nodes.Segment set number) =
-    let h0 = segments-from-most set in
-    let h1 : min number 12 ≤ 12 = min-le_right number 12 in
-    omega (arith, h0, h1)
-last-part (nodes.CatCharge key) =
-    let h0 = charge-place-most key in
-    omega (arith, h0)
-last-part (nodes.Lapse set) =
-    let h0 = set-place-most set in
-    omega (arith, h0)
-last-part nodes.Intangible = omega arith
-last-part (nodes.PremiumReserve set) =
-    let h0 = set-place-most set in
-    omega (arith, h0)
-last-part nodes.Natural = omega arith
-last-part nodes.ManMade = omega arith
-last-part nodes.NonlifeCatastrophe = omega arith
-last-part nodes.HealthCatastrophe = omega arith
-last-part (nodes.Nslt measure) =
-    let h0 = measure-place-most measure in
-    omega (arith, h0)
-last-part (nodes.Health measure) =
-    let h0 = measure-place-most measure in
-    omega (arith, h0)
-last-part (nodes.Nonlife measure) =
-    let h0 = measure-place-most measure in
-    omega (arith, h0)
-last-part (nodes.Bscr measure) =
-    let h0 = measure-place-most measure in
-    omega (arith, h0)
-last-part nodes.Diversification = omega arith
-last-part (nodes.OpPart part) =
-    let h0 = operational-place-most part in
-    omega (arith, h0)
-last-part (nodes.Adjust adjustment) =
-    let h0 = adjustment-place-most adjustment in
-    omega (arith, h0)
-last-part nodes.Scr = omega arith
+last-part node =
+    omega (
+      arith,
+      direction-place-most,
+      measure-place-most,
+      equities-place-most,
+      risk-place-most,
+      loss-place-most,
+      scenario-place-most,
+      scenarios-from-most,
+      choice-place-most,
+      charge-place-most,
+      set-place-most,
+      segments-from-most,
+      operational-place-most,
+      adjustment-place-most,
+      class-place-most,
+    )
 
 -- all of one part, and all of this part or a later one
 abbrev pub AllAt : ℕ → List Node → Type 0
@@ -559,66 +400,8 @@ below-weaker least most h list below =
 -- a fund, or of a part above the first
 pub fund-or-above : (node : Node) → ((name : List ℕ) × (node ≡ nodes.FundTotal name)) ⊎ (0 < part_of node)
 fund-or-above (nodes.FundTotal name) = inl (name, refl)
-fund-or-above (nodes.SecurityTotal name) = inr (omega arith)
-fund-or-above (nodes.UnitLoss name direction) = inr (omega arith)
-fund-or-above (nodes.SecurityRate name direction) = inr (omega arith)
-fund-or-above (nodes.LiabilityRate name direction) = inr (omega arith)
-fund-or-above (nodes.LiabilityPresent name) = inr (omega arith)
-fund-or-above (nodes.LiabilityLoss name projection) = inr (omega arith)
-fund-or-above (nodes.CurrencyLoss currency direction) = inr (omega arith)
-fund-or-above (nodes.CurrencyScenario currency direction measure) = inr (omega arith)
-fund-or-above (nodes.CurrencyChoice currency) = inr (omega arith)
-fund-or-above (nodes.CurrencyPicked currency measure) = inr (omega arith)
-fund-or-above (nodes.SecuritySpread name) = inr (omega arith)
-fund-or-above (nodes.GroupTotal name) = inr (omega arith)
-fund-or-above nodes.Assets = inr (omega arith)
-fund-or-above (nodes.ConcentrationSquare name) = inr (omega arith)
-fund-or-above (nodes.GroupLoss name) = inr (omega arith)
-fund-or-above (nodes.ClassSum class) = inr (omega arith)
-fund-or-above (nodes.EquityPart equities) = inr (omega arith)
-fund-or-above (nodes.InterestScenario direction measure) = inr (omega arith)
 fund-or-above (nodes.Choice alternatives.Interest) = inr (omega arith)
-fund-or-above (nodes.Choice alternatives.LifeLapse) = inr (omega arith)
-fund-or-above (nodes.Choice alternatives.HealthLapse) = inr (omega arith)
-fund-or-above (nodes.Picked which measure) = inr (omega arith)
-fund-or-above nodes.EquityRoot = inr (omega arith)
-fund-or-above nodes.Property = inr (omega arith)
-fund-or-above nodes.Spread = inr (omega arith)
-fund-or-above nodes.Concentration = inr (omega arith)
 fund-or-above (nodes.NetPart risks.Equity) = inr (omega arith)
-fund-or-above (nodes.NetPart risks.Property) = inr (omega arith)
-fund-or-above (nodes.NetPart risks.Spread) = inr (omega arith)
-fund-or-above (nodes.NetPart risks.Concentration) = inr (omega arith)
-fund-or-above (nodes.NetPart risks.Default) = inr (omega arith)
-fund-or-above (nodes.NetPart risks.HealthCatastrophe) = inr (omega arith)
-fund-or-above (nodes.Currency measure) = inr (omega arith)
-fund-or-above (nodes.Market measure) = inr (omega arith)
-fund-or-above (nodes.ClassLoss class) = inr (omega arith)
-fund-or-above (nodes.ClassSquare class) = inr (omega arith)
-fund-or-above nodes.Variance = inr (omega arith)
-fund-or-above nodes.DefaultBand = inr (omega arith)
-fund-or-above nodes.DefaultType1 = inr (omega arith)
-fund-or-above nodes.DefaultType2 = inr (omega arith)
-fund-or-above nodes.Default = inr (omega arith)
 fund-or-above (nodes.BioScenario biometrics.Life projection measure) = inr (omega arith)
-fund-or-above (nodes.BioScenario biometrics.Health projection measure) = inr (omega arith)
-fund-or-above (nodes.Life measure) = inr (omega arith)
-fund-or-above (nodes.Slt measure) = inr (omega arith)
 fund-or-above (nodes.Segment sets.Nl number) = inr (omega arith)
-fund-or-above (nodes.Segment sets.Nslt number) = inr (omega arith)
-fund-or-above (nodes.CatCharge key) = inr (omega arith)
-fund-or-above (nodes.Lapse set) = inr (omega arith)
-fund-or-above nodes.Intangible = inr (omega arith)
-fund-or-above (nodes.PremiumReserve set) = inr (omega arith)
-fund-or-above nodes.Natural = inr (omega arith)
-fund-or-above nodes.ManMade = inr (omega arith)
-fund-or-above nodes.NonlifeCatastrophe = inr (omega arith)
-fund-or-above nodes.HealthCatastrophe = inr (omega arith)
-fund-or-above (nodes.Nslt measure) = inr (omega arith)
-fund-or-above (nodes.Health measure) = inr (omega arith)
-fund-or-above (nodes.Nonlife measure) = inr (omega arith)
-fund-or-above (nodes.Bscr measure) = inr (omega arith)
-fund-or-above nodes.Diversification = inr (omega arith)
-fund-or-above (nodes.OpPart part) = inr (omega arith)
-fund-or-above (nodes.Adjust adjustment) = inr (omega arith)
-fund-or-above nodes.Scr = inr (omega arith)
+fund-or-above node = inr (omega arith)

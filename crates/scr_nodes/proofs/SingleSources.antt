@@ -3,25 +3,20 @@ use Rattle.std.proofs.Common.{◌≡◌, ◌⊎◌, inl, inr, ℕ, Bool, true, L
 use Rattle.scr_funds.proofs.Members.{IsMember}
 use Rattle.scr_profile.specs.declared.set.Set.TheVariants as sets
 use Rattle.scr_sheet.specs.BalanceSheet.{group_name, position_name, liability_name, stake_name, curve_name}
-use Rattle.scr_sheet.specs.declared.sheet.BalanceSheet.{BalanceSheet}
-use Rattle.scr_sheet.specs.declared.rows.Class.{Class}
+use Rattle.scr_sheet.specs.declared.{sheet.BalanceSheet.BalanceSheet, rows.Class.Class, rows.Liability.Liability, rows.Position.Position, rows.Stake.Stake}
 use Rattle.scr_sheet.specs.declared.rows.Class.TheVariants as classes
-use Rattle.scr_sheet.specs.declared.rows.Liability.{Liability}
-use Rattle.scr_sheet.specs.declared.rows.Position.{Position}
-use Rattle.scr_sheet.specs.declared.rows.Stake.{Stake}
 use Rattle.scr_sheet.specs.Validity.{Valid}
 use Rattle.scr_sheet.proofs.Holds.{distinct-securities, distinct-funds}
 use Rattle.scr_nodes.specs.declared.node.Adjustment.TheVariants as adjustments
 use Rattle.scr_nodes.specs.declared.node.Alternatives.TheVariants as alternatives
-use Rattle.scr_nodes.specs.declared.node.Direction.{Direction}
+use Rattle.scr_nodes.specs.declared.{node.Direction.Direction, node.Node.Node}
 use Rattle.scr_nodes.specs.declared.node.Equities.TheVariants as equities
-use Rattle.scr_nodes.specs.declared.node.Measure.TheVariants.{Gross, Net}
-use Rattle.scr_nodes.specs.declared.node.Node.{Node}
+use Rattle.scr_nodes.specs.declared.node.Measure.TheVariants.{Gross}
 use Rattle.scr_nodes.specs.declared.node.Node.TheVariants as nodes
 use Rattle.scr_nodes.specs.declared.node.Operational.TheVariants as operations
 use Rattle.scr_nodes.specs.LiveNodes.{HasNoRepeats}
 use Rattle.scr_nodes.specs.Rows.{holds, is_closed, is_paying_in, is_owed_in, has_class, is_held_in, is_foreign, is_of_group, has_group, is_of_default_class, is_stressed}
-use Rattle.scr_nodes.specs.Sources.{sources_of, fund_total, security_total, security_rate, liability_rate, liability_present, liability_loss, currency_loss, currency_picked, security_spread, concentration_square, group_loss, rates_in, worths_in, funds_of_class, held_of_class, losses_of_class, gross_of}
+use Rattle.scr_nodes.specs.Sources.{sources_of, fund_total, security_total, security_rate, liability_rate, liability_present, liability_loss, currency_loss, currency_picked, security_spread, concentration_square, group_loss, rates_in, worths_in, funds_of_class, held_of_class, losses_of_class}
 use Rattle.scr_nodes.proofs.OwnRows.{distinct-groups, distinct-liabilities}
 use Rattle.scr_nodes.proofs.Apart.{AreApart, apart-append, apart-chosen, apart-mapped, chosen-member, one-place}
 use Rattle.scr_nodes.proofs.Parts.{part_of, differ, apart-by_parts}
@@ -109,93 +104,42 @@ module _ (sheet : BalanceSheet) (valid : Valid sheet) where
   apart-sources : (node : Node) → AreApart (sources_of sheet node)
   apart-sources (nodes.FundTotal name) = apart-funds (holds name)
   apart-sources (nodes.SecurityTotal name) = apart-funds (holds name)
-  apart-sources (nodes.UnitLoss name direction) = tt
   apart-sources (nodes.SecurityRate name direction) = two _ _ (λ e. absurd (cc))
-  apart-sources (nodes.LiabilityRate name direction) = tt
-  apart-sources (nodes.LiabilityPresent name) = tt
-  apart-sources (nodes.LiabilityLoss name projection) = tt
   apart-sources (nodes.CurrencyLoss currency direction) = apart-rates currency direction
   apart-sources (nodes.InterestScenario direction Gross) =
       apart-mapped (currency_loss direction) (λ c. true) curve_name (told-currency direction) sheet.curves
       valid.currencies_once
-  apart-sources (nodes.InterestScenario direction Net) = one (nodes.InterestScenario direction Gross)
   apart-sources (nodes.CurrencyScenario currency direction Gross) = apart-worths currency
-  apart-sources (nodes.CurrencyScenario currency direction Net) = one (nodes.CurrencyScenario currency direction Gross)
-  apart-sources (nodes.CurrencyChoice currency) = apart-words (nodes.CurrencyChoice currency) refl
-  apart-sources (nodes.CurrencyPicked currency measure) = apart-words (nodes.CurrencyPicked currency measure) refl
   apart-sources (nodes.Currency measure) =
       apart-chosen (currency_picked measure) (is_foreign sheet) curve_name (told-picked measure) sheet.curves
       valid.currencies_once
   apart-sources (nodes.Choice alternatives.Interest) = apart-words (nodes.Choice alternatives.Interest) refl
   apart-sources (nodes.Picked alternatives.Interest measure) =
       apart-words (nodes.Picked alternatives.Interest measure) refl
-  apart-sources (nodes.Choice alternatives.LifeLapse) = apart-words (nodes.Choice alternatives.LifeLapse) refl
-  apart-sources (nodes.Picked alternatives.LifeLapse measure) =
-      apart-words (nodes.Picked alternatives.LifeLapse measure) refl
-  apart-sources (nodes.Choice alternatives.HealthLapse) = apart-words (nodes.Choice alternatives.HealthLapse) refl
-  apart-sources (nodes.Picked alternatives.HealthLapse measure) =
-      apart-words (nodes.Picked alternatives.HealthLapse measure) refl
   apart-sources (nodes.ClassSum class) = apart-held class
   apart-sources (nodes.EquityPart equities.Type1) = apart-words (nodes.EquityPart equities.Type1) refl
-  apart-sources (nodes.EquityPart equities.Type2) = apart-words (nodes.EquityPart equities.Type2) refl
-  apart-sources (nodes.EquityPart equities.Infrastructure) = apart-words (nodes.EquityPart equities.Infrastructure) refl
-  apart-sources (nodes.EquityPart equities.InfrastructureCorporate) =
-      apart-words (nodes.EquityPart equities.InfrastructureCorporate) refl
-  apart-sources nodes.EquityRoot = apart-words nodes.EquityRoot refl
-  apart-sources nodes.Property = apart-words nodes.Property refl
-  apart-sources (nodes.SecuritySpread name) = one (nodes.SecurityTotal name)
   apart-sources nodes.Spread =
       apart-chosen security_spread (has_class classes.Bond) position_name told-spread sheet.securities
       (distinct-securities sheet valid.named_once)
   apart-sources (nodes.GroupTotal name) = apart-securities (is_of_group name)
   apart-sources nodes.Assets = apart-securities has_group
-  apart-sources (nodes.ConcentrationSquare name) = apart-words (nodes.ConcentrationSquare name) refl
   apart-sources nodes.Concentration =
       apart-mapped concentration_square (λ g. true) group_name told-square sheet.groups (distinct-groups sheet valid)
-  apart-sources (nodes.NetPart risk) = one (gross_of risk)
   apart-sources (nodes.Market Gross) = apart-words (nodes.Market Gross) refl
-  apart-sources (nodes.Market Net) = apart-words (nodes.Market Net) refl
-  apart-sources (nodes.GroupLoss name) = tt
   apart-sources (nodes.ClassLoss class) = apart-losses_of_class class
   apart-sources (nodes.ClassSquare class) = apart-losses_of_class class
-  apart-sources nodes.Variance = apart-words nodes.Variance refl
-  apart-sources nodes.DefaultBand = apart-words nodes.DefaultBand refl
-  apart-sources nodes.DefaultType1 = apart-words nodes.DefaultType1 refl
-  apart-sources nodes.DefaultType2 = tt
-  apart-sources nodes.Default = apart-words nodes.Default refl
   apart-sources (nodes.BioScenario biometric projection Gross) =
       apart-chosen (liability_loss projection) (is_stressed biometric projection) liability_name (told-loss projection)
       sheet.liabilities (distinct-liabilities sheet valid)
-  apart-sources (nodes.BioScenario biometric projection Net) = one (nodes.BioScenario biometric projection Gross)
   apart-sources (nodes.Life Gross) = apart-words (nodes.Life Gross) refl
-  apart-sources (nodes.Life Net) = apart-words (nodes.Life Net) refl
   apart-sources (nodes.Slt Gross) = apart-words (nodes.Slt Gross) refl
-  apart-sources (nodes.Slt Net) = apart-words (nodes.Slt Net) refl
-  apart-sources (nodes.Segment set number) = tt
   apart-sources (nodes.PremiumReserve sets.Nl) = apart-words (nodes.PremiumReserve sets.Nl) refl
-  apart-sources (nodes.PremiumReserve sets.Nslt) = apart-words (nodes.PremiumReserve sets.Nslt) refl
-  apart-sources (nodes.CatCharge key) = tt
-  apart-sources (nodes.Lapse set) = tt
-  apart-sources nodes.Natural = apart-words nodes.Natural refl
-  apart-sources nodes.ManMade = apart-words nodes.ManMade refl
-  apart-sources nodes.NonlifeCatastrophe = apart-words nodes.NonlifeCatastrophe refl
-  apart-sources nodes.HealthCatastrophe = apart-words nodes.HealthCatastrophe refl
-  apart-sources (nodes.Nslt measure) = one (nodes.PremiumReserve sets.Nslt)
   apart-sources (nodes.Health Gross) = apart-words (nodes.Health Gross) refl
-  apart-sources (nodes.Health Net) = apart-words (nodes.Health Net) refl
-  apart-sources (nodes.Nonlife measure) = apart-words (nodes.Nonlife measure) refl
-  apart-sources nodes.Intangible = tt
   apart-sources (nodes.Bscr Gross) = apart-words (nodes.Bscr Gross) refl
-  apart-sources (nodes.Bscr Net) = apart-words (nodes.Bscr Net) refl
-  apart-sources nodes.Diversification = apart-words nodes.Diversification refl
   apart-sources (nodes.OpPart operations.Premiums) = apart-words (nodes.OpPart operations.Premiums) refl
-  apart-sources (nodes.OpPart operations.Provisions) = apart-words (nodes.OpPart operations.Provisions) refl
-  apart-sources (nodes.OpPart operations.Cap) = apart-words (nodes.OpPart operations.Cap) refl
-  apart-sources (nodes.OpPart operations.Charge) = apart-words (nodes.OpPart operations.Charge) refl
   apart-sources (nodes.Adjust adjustments.TechnicalProvisions) =
       apart-words (nodes.Adjust adjustments.TechnicalProvisions) refl
-  apart-sources (nodes.Adjust adjustments.DeferredTaxes) = apart-words (nodes.Adjust adjustments.DeferredTaxes) refl
-  apart-sources nodes.Scr = apart-words nodes.Scr refl
+  apart-sources node = apart-words node refl
 
   pub sources-once : (node : Node) → HasNoRepeats (sources_of sheet node)
   sources-once node = λ j k x first second. one-place (sources_of sheet node) (apart-sources node) j k x first second

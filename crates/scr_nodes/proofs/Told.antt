@@ -1,14 +1,8 @@
 -- Each figure of a row tells the row's name.
 use Rattle.std.proofs.Common.{◌≡◌}
 use Rattle.scr_sheet.specs.BalanceSheet.{group_name, position_name, liability_name, stake_name, curve_name}
-use Rattle.scr_sheet.specs.declared.keys.Projection.{Projection}
-use Rattle.scr_sheet.specs.declared.rows.Curve.{Curve}
-use Rattle.scr_sheet.specs.declared.rows.Group.{Group}
-use Rattle.scr_sheet.specs.declared.rows.Liability.{Liability}
-use Rattle.scr_sheet.specs.declared.rows.Position.{Position}
-use Rattle.scr_sheet.specs.declared.rows.Stake.{Stake}
-use Rattle.scr_nodes.specs.declared.node.Direction.{Direction}
-use Rattle.scr_nodes.specs.declared.node.Measure.{Measure}
+use Rattle.scr_sheet.specs.declared.{keys.Projection.Projection, rows.Curve.Curve, rows.Group.Group, rows.Liability.Liability, rows.Position.Position, rows.Stake.Stake}
+use Rattle.scr_nodes.specs.declared.{node.Direction.Direction, node.Measure.Measure}
 use Rattle.scr_nodes.specs.Sources.{fund_total, security_total, unit_loss, security_rate, liability_rate, liability_present, liability_loss, currency_loss, currency_scenario, currency_choice, currency_picked, security_spread, group_total, concentration_square, group_loss}
 
 pub told-fund : (a b : Stake) → fund_total a ≡ fund_total b → stake_name a ≡ stake_name b

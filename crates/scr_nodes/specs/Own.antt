@@ -73,9 +73,8 @@ pub data Own : Type 0 where
   Fall : Equities → ℤ → Own
   -- the root over type 1 equities and all others (Article 168(4))
   EquityRoot : Own
-  -- what payments are worth, and by how much payments under a stress are worth more, a gain counting as nil (Articles
-  -- 137
-  -- to 143 and 152 to 159)
+  -- what payments are worth, and by how much payments under a stress are worth more, a gain counting as nil
+  -- (Articles 137 to 143 and 152 to 159)
   Worth : Valued → Own
   Excess : Valued → List (Day × ℤ) → Own
   -- so many grains for each cent of a figure (Article 174), and for each of so many cents
@@ -122,8 +121,7 @@ pub data Own : Type 0 where
   -- by how much the sum of the modules exceeds their root
   Diversified : Own
   -- operational risk by earned premiums and by technical provisions, of which nothing else is read; its cap; and by
-  -- these
-  -- three and the expenses of unit-linked business (Article 204)
+  -- these three and the expenses of unit-linked business (Article 204)
   Premiums : OpInput → Own
   Provisions : OpInput → Own
   Cap : Own

@@ -202,7 +202,7 @@ segment_own factors set number numbers =
     let sigma = sigma_of factors set number in
     Segment (volumes_in_regions set number numbers) sigma.0 sigma.1
 
--- of the segments of a set; those of health stand in the Regulation (Annex XV)
+-- of the segments of a set: those of non-life are handed in (Annex IV), and those of health are the Regulation's (Annex XV)
 abbrev pub segment_correlations : FactorValues → Set → Matrix
 segment_correlations factors sets.Nl = factors.correlations
 segment_correlations factors sets.Nslt = NSLT

@@ -11,6 +11,3 @@ mod volumes;
 pub use catastrophes::{NlCat, cat, cat_all, manmade, nat};
 pub use module::{nonlife, premium_reserve};
 pub use segments::{diversification, segment};
-
-#[cfg(test)]
-mod tests;

@@ -1,6 +1,5 @@
 -- The ends of an amount, and what the operators make of them.
-use Rattle.std.proofs.Common.{ℕ, suc, ◌+◌, ◌*◌, ◌<◌, ◌≤◌, ℤ, pos, negsuc, ◌+ℤ◌, ◌*ℤ◌, ◌≤ℤ◌, ◌<ℤ◌, List, [], ◌∷◌, length}
-use Rattle.std.proofs.Common.{sum_by, arith, mul-le-mul_right, lt_of_mul-lt-mul_right}
+use Rattle.std.proofs.Common.{ℕ, suc, ◌+◌, ◌*◌, ◌<◌, ◌≤◌, ℤ, pos, negsuc, ◌+ℤ◌, ◌*ℤ◌, ◌≤ℤ◌, ◌<ℤ◌, List, [], ◌∷◌, length, sum_by, arith, mul-le-mul_right, lt_of_mul-lt-mul_right}
 use Rattle.std.specs.List.{AllByRecursion}
 use Rattle.std.proofs.lemmas.Int.{ints, clamps}
 use Rattle.std.proofs.lemmas.List.Sums.{sum_by-cons}

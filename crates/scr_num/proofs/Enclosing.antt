@@ -1,10 +1,8 @@
 -- Each operator's ends enclose the figure made of the figures that its arguments' ends enclose.
-use Rattle.std.proofs.Common.{◌⊎◌, ◌≡◌, ℕ, zero, suc, ◌+◌, ◌*◌, ◌<◌, ◌≤◌, inl, inr, ℤ, pos, negsuc, ◌+ℤ◌, ◌-ℤ◌, ◌*ℤ◌}
-use Rattle.std.proofs.Common.{◌≤ℤ◌, arith, ap, mul-pos, mul-le-mul_right, le_of_mul-le-mul_right}
-use Rattle.std.proofs.lemmas.Int.{ints}
+use Rattle.std.proofs.Common.{◌⊎◌, ◌≡◌, ℕ, zero, suc, ◌+◌, ◌*◌, ◌<◌, ◌≤◌, inl, inr, ℤ, pos, negsuc, ◌+ℤ◌, ◌-ℤ◌, ◌*ℤ◌, ◌≤ℤ◌, arith, ap, mul-pos, mul-le-mul_right, le_of_mul-le-mul_right}
+use Rattle.std.proofs.lemmas.Int.{ints, clamps}
 use Rattle.std.specs.Int.Signed.{≤ℤ_refl}
 use Rattle.std.specs.Int.{int_max, int_min}
-use Rattle.std.proofs.lemmas.Int.{clamps}
 use borrow.Author.Differences.{up, down, at_most_in}
 use Rattle.scr_num.specs.Fraction.{Fraction, Share, ◌≼◌, over, zero_fraction, plus, minus}
 use Rattle.scr_num.specs.Figure.{Figure, Frac, Sum, Diff, Times, Max, Min, RootOf, AtMost, AtLeast}
@@ -13,8 +11,7 @@ use Rattle.scr_num.specs.Rounding.{Ends, ends, scale_ends, floor_div, ceil_div, 
 use Rattle.scr_num.specs.Enclosure.{Encloses, Measures, Converts}
 use Rattle.scr_num.proofs.Roots.{floor_root-zero, floor_root-square, ceil_root-square}
 use Rattle.scr_num.proofs.Quotients.{floor_div-times, ceil_div-times}
-use Rattle.scr_num.proofs.Fractions.{≼_trans, plus_mono, minus_mono, over_mono, over-plus_le, over-plus_ge}
-use Rattle.scr_num.proofs.Fractions.{over-minus_le, over-minus_ge, times_split}
+use Rattle.scr_num.proofs.Fractions.{≼_trans, plus_mono, minus_mono, over_mono, over-plus_le, over-plus_ge, over-minus_le, over-minus_ge, times_split}
 use Rattle.scr_num.proofs.Witnesses.{lower-le-upper, AtMost-down, AtLeast-up}
 
 -- ---- one number

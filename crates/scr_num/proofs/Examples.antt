@@ -4,8 +4,7 @@ use Rattle.std.specs.Int.Signed.{le_z_yes}
 use Rattle.scr_num.specs.Fraction.{over, whole}
 use Rattle.scr_num.specs.Table.{Table, row_sum, sum_over}
 use Rattle.scr_num.specs.Figure.{Frac, RootOf, AtMost, AtLeast}
-use Rattle.scr_num.specs.Rounding.{Ends, exact_ends, floor_div, ceil_div, floor_root_from, floor_root, ceil_root_from}
-use Rattle.scr_num.specs.Rounding.{ceil_root, low_form, high_form, quad_ends}
+use Rattle.scr_num.specs.Rounding.{Ends, exact_ends, floor_div, ceil_div, floor_root_from, floor_root, ceil_root_from, ceil_root, low_form, high_form, quad_ends}
 use Rattle.scr_num.proofs.Roots.{floor_root-unique, ceil_root-unique}
 
 -- halves of 7 and of -7, and 10 and -10 in thirds

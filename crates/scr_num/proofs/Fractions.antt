@@ -1,11 +1,9 @@
 -- The order of fractions, and what the operations do to it.
-use Rattle.std.proofs.Common.{◌+ℤ◌, ◌-ℤ◌, ◌≡◌, ℕ, suc, ◌+◌, ◌*◌, ◌<◌, ◌≤◌, ℤ, pos, negsuc, ◌*ℤ◌, ◌≤ℤ◌, arith, ap}
-use Rattle.std.proofs.Common.{mul-le-mul, mul-le-mul_right, le_of_mul-le-mul_right, refl}
+use Rattle.std.proofs.Common.{◌+ℤ◌, ◌-ℤ◌, ◌≡◌, ℕ, suc, ◌+◌, ◌*◌, ◌<◌, ◌≤◌, ℤ, pos, negsuc, ◌*ℤ◌, ◌≤ℤ◌, arith, ap, mul-le-mul, mul-le-mul_right, le_of_mul-le-mul_right, refl}
 use Rattle.std.proofs.lemmas.Int.{ints}
 use Rattle.std.specs.Int.Signed.{≤ℤ_refl}
 use borrow.Author.Differences.{up, down, at_most_in}
-use Rattle.scr_num.specs.Fraction.{Fraction, Share, ◌≼◌, over, whole, zero_fraction, plus, minus, product, square}
-use Rattle.scr_num.specs.Fraction.{times}
+use Rattle.scr_num.specs.Fraction.{Fraction, Share, ◌≼◌, over, whole, zero_fraction, plus, minus, product, square, times}
 use Rattle.scr_num.proofs.Roots.{root_below}
 use Rattle.scr_num.proofs.Quotients.{times_le}
 

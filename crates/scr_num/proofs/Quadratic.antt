@@ -1,14 +1,11 @@
 -- The ends of a root over a table of correlations enclose the root of the figures that the parts enclose.
-use Rattle.std.proofs.Common.{◌≡◌, ℕ, ◌*◌, ◌<◌, ◌≤◌, inl, inr, ℤ, pos, negsuc, ◌+ℤ◌, ◌*ℤ◌, ◌≤ℤ◌, List, [], ◌∷◌, map}
-use Rattle.std.proofs.Common.{length, arith, refl, mul-pos, mul-le-mul_right, sym}
+use Rattle.std.proofs.Common.{◌≡◌, ℕ, ◌*◌, ◌<◌, ◌≤◌, inl, inr, ℤ, pos, negsuc, ◌+ℤ◌, ◌*ℤ◌, ◌≤ℤ◌, List, [], ◌∷◌, map, length, arith, refl, mul-pos, mul-le-mul_right, sym}
 use Rattle.std.proofs.lemmas.Int.{ints}
 use Rattle.std.proofs.lemmas.List.{length-map}
 use Rattle.scr_num.specs.Fraction.{Fraction, ◌≼◌, over, whole, zero_fraction, plus, product}
 use Rattle.scr_num.specs.Table.{Table, IsSquare}
-use Rattle.scr_num.specs.Figure.{Figures, Root, none, more, Bounds, lower_term, upper_term, lower_form, upper_form}
-use Rattle.scr_num.specs.Figure.{scaled_square, AtMost, AtLeast, AreBounds}
-use Rattle.scr_num.specs.Rounding.{Ends, floor_div, ceil_div, floor_root, ceil_root, or_zero, low_term, high_term}
-use Rattle.scr_num.specs.Rounding.{low_form, high_form, quad_ends}
+use Rattle.scr_num.specs.Figure.{Figures, Root, none, more, Bounds, lower_term, upper_term, lower_form, upper_form, scaled_square, AtMost, AtLeast, AreBounds}
+use Rattle.scr_num.specs.Rounding.{Ends, floor_div, ceil_div, floor_root, ceil_root, or_zero, low_term, high_term, low_form, high_form, quad_ends}
 use Rattle.scr_num.specs.Enclosure.{Encloses, EncloseAll}
 use Rattle.scr_num.proofs.Roots.{floor_root-zero, floor_root-square, ceil_root-square}
 use Rattle.scr_num.proofs.Quotients.{floor_div-times, ceil_div-times, times_le}

@@ -1,7 +1,5 @@
 -- The floor and the ceiling of a quotient of a whole number by a natural one.
-use Rattle.std.proofs.Common.{◌≡◌, ℕ, zero, suc, ◌+◌, ◌*◌, ◌/◌, ◌%◌, ◌<◌, ◌≤◌, ℤ, pos, negsuc, ◌+ℤ◌, ◌*ℤ◌, neg_ℤ, ◌≤ℤ◌}
-use Rattle.std.proofs.Common.{◌<ℤ◌, unsigned_abs, arith, ap, sym, ◌∙◌, le_of_mul-le-mul_right, mul-le-mul_right}
-use Rattle.std.proofs.Common.{div-le_self, inl, inr}
+use Rattle.std.proofs.Common.{◌≡◌, ℕ, zero, suc, ◌+◌, ◌*◌, ◌/◌, ◌%◌, ◌<◌, ◌≤◌, ℤ, pos, negsuc, ◌+ℤ◌, ◌*ℤ◌, neg_ℤ, ◌≤ℤ◌, ◌<ℤ◌, unsigned_abs, arith, ap, sym, ◌∙◌, le_of_mul-le-mul_right, mul-le-mul_right, div-le_self, inl, inr}
 use Rattle.std.proofs.lemmas.Int.{ints}
 use Rattle.std.specs.Int.{div_ceil}
 use Rattle.std.proofs.lemmas.Nat.{div-mul-add, mod-mul-add}
@@ -108,12 +106,3 @@ floor_div-size v n d h = size (floor_div (v *ℤ pos n) d) v n d (floor_div-time
     size (pos q) (negsuc v) n d a b = omega (arith, ints)
     size (negsuc q) (pos v) n d a b = omega (arith, ints)
     size (negsuc q) (negsuc v) n d a b = omega (arith, ints)
-
-size_turned : (z : ℤ) → unsigned_abs (neg_ℤ z) ≡ unsigned_abs z
-size_turned z = omega (arith, ints)
-
-pub ceil_div-size : (v : ℤ) (n d : ℕ) → 0 < d → unsigned_abs (ceil_div (v *ℤ pos n) d) * d < unsigned_abs v * n + d
-ceil_div-size v n d h =
-    let turned : floor_div (neg_ℤ (v *ℤ pos n)) d ≡ floor_div (neg_ℤ v *ℤ pos n) d =
-    ap (λ (z : ℤ). floor_div z d) (sym (neg-*ℤ-pos v n)) in
-    rw (turned, size_turned (floor_div (neg_ℤ v *ℤ pos n) d)) (rw (size_turned v) at (floor_div-size (neg_ℤ v) n d h))

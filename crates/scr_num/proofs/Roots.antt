@@ -1,6 +1,5 @@
 -- The two roots of a natural number: what each is, and that nothing else is.
-use Rattle.std.proofs.Common.{refl, ◌≡◌, ℕ, zero, suc, ◌+◌, ◌*◌, ◌<◌, ◌≤◌, nat_le, inl, inr, arith, leb-true, leb-false}
-use Rattle.std.proofs.Common.{mul-le-mul, le_refl}
+use Rattle.std.proofs.Common.{refl, ◌≡◌, ℕ, zero, suc, ◌+◌, ◌*◌, ◌<◌, ◌≤◌, nat_le, inl, inr, arith, leb-true, leb-false, mul-le-mul, le_refl}
 use Rattle.std.proofs.lemmas.Bool.{cond_both, cases_lt}
 use Rattle.scr_num.specs.Rounding.{floor_root_from, floor_root, ceil_root_from, ceil_root}
 

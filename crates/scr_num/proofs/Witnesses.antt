@@ -3,11 +3,8 @@ use Rattle.std.proofs.Common.{ℕ, ◌<◌, ◌⊎◌, inl, inr, ℤ, pos, negsu
 use Rattle.std.proofs.lemmas.Int.{ints}
 use Rattle.scr_num.specs.Fraction.{Fraction, ◌≼◌, over, zero_fraction, plus, minus, product, square, times}
 use Rattle.scr_num.specs.Table.{Table}
-use Rattle.scr_num.specs.Figure.{Figure, Figures, Frac, Sum, Diff, Max, Min, Times, RootOf, Root, none, more, Bounds}
-use Rattle.scr_num.specs.Figure.{lower_term, upper_term, lower_form, upper_form, scaled_square, AtMost, AtLeast}
-use Rattle.scr_num.specs.Figure.{AreBounds}
-use Rattle.scr_num.proofs.Fractions.{≼_refl, ≼_trans, plus_mono, minus_mono, times_mono, product_mono, square_reflects}
-use Rattle.scr_num.proofs.Fractions.{multiple_mono, negative_multiple_mono, multiple_cancel}
+use Rattle.scr_num.specs.Figure.{Figure, Figures, Frac, Sum, Diff, Max, Min, Times, RootOf, Root, none, more, Bounds, lower_term, upper_term, lower_form, upper_form, scaled_square, AtMost, AtLeast, AreBounds}
+use Rattle.scr_num.proofs.Fractions.{≼_refl, ≼_trans, plus_mono, minus_mono, times_mono, product_mono, square_reflects, multiple_mono, negative_multiple_mono, multiple_cancel}
 use Rattle.scr_num.proofs.Forms.{Related, sum_over-related}
 
 -- two pairs of bounds of one part, neither of which lies wholly above the other

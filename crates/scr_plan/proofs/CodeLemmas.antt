@@ -4,14 +4,12 @@ use Rattle.std.specs.Prelude.{All}
 use Rattle.std.specs.List.{IsDistinct, list_any, range_with_len}
 use Rattle.std.specs.Option.{option_map, option_map_or}
 use Rattle.std.proofs.lemmas.Int.{ints}
-use Rattle.std.proofs.lemmas.List.{drop_more, drop_all, get_or-map, length-map, map-append, take_more_set}
+use Rattle.std.proofs.lemmas.List.{drop_more, get_or-map, length-map, map-append, take_more_set}
 use Rattle.std.proofs.lemmas.List.Elements.{All-from_recursion}
 use Rattle.std.proofs.lemmas.List.Sums.{sum_by-cons}
 use Rattle.std.proofs.lemmas.Option.{get_or_from_slice_get, slice_get_within, slice_get-map}
-use Rattle.scr_num.specs.Amounts.{IsAmount}
 use Rattle.scr_num.specs.Rounding.{Ends, ends, exact_ends}
 use Rattle.scr_num.specs.declared.span.Span.{Span}
-use Rattle.scr_num.proofs.AmountBounds.{amount-exact}
 use Rattle.scr_dates.specs.declared.day.Day.{Day}
 use Rattle.scr_curve.specs.DiscountEnds.{IsDiscount}
 use Rattle.scr_curve.specs.Parts.{rates_in_parts}
@@ -19,7 +17,7 @@ use Rattle.scr_curve.specs.declared.tilt.Tilt.TheVariants as tilts
 use Rattle.scr_flow.specs.Due.{dues}
 use Rattle.scr_flow.specs.LossEnds.{loss_ends}
 use Rattle.scr_curve.specs.declared.table.Discounts.{Discounts}
-use Rattle.scr_agg.specs.Unbeaten.{Alternative, alternative, alternatives}
+use Rattle.scr_agg.specs.Unbeaten.{Alternative, alternative}
 use Rattle.scr_agg.specs.declared.scenario.Scenario.{Scenario}
 use Rattle.scr_names.specs.Names.{same_name}
 use Rattle.scr_names.specs.Tables.{row_of}
@@ -28,15 +26,13 @@ use Rattle.scr_sheet.specs.Records.{natural}
 use Rattle.scr_sheet.specs.Forms.{IsName}
 use Rattle.scr_sheet.specs.Validity.{Valid, IsBetween, IsStake}
 use Rattle.scr_sheet.specs.BalanceSheet.{curve_name}
-use Rattle.scr_sheet.specs.declared.rows.Curve.{Curve}
-use Rattle.scr_sheet.specs.declared.sheet.BalanceSheet.{BalanceSheet}
-use Rattle.scr_sheet.specs.declared.rows.Stake.{Stake}
-use Rattle.scr_profile.specs.declared.limits.TheConstants.{MAX_HELD, MIN_WEIGHT, MAX_WEIGHT, MAX_FUND_COMPONENTS}
+use Rattle.scr_sheet.specs.declared.{rows.Curve.Curve, sheet.BalanceSheet.BalanceSheet, rows.Stake.Stake}
+use Rattle.scr_profile.specs.declared.limits.TheConstants.{MIN_WEIGHT, MAX_WEIGHT, MAX_FUND_COMPONENTS}
 use Rattle.scr_nodes.specs.Own.{Share}
 use Rattle.scr_nodes.specs.Rows.{is_component, holds, share_in, weights_before, weights_through}
 use Rattle.scr_plan.specs.Discounts.{CurrencyDiscounts}
 use Rattle.scr_plan.specs.Kept.{AreDiscountsAt, AreDiscountsOf, row_in, tables, rows_of}
-use Rattle.scr_plan.specs.Rules.{figure_at, amount_of, paid_ends, part_of, parts_held, alternative_from, alternatives_from}
+use Rattle.scr_plan.specs.Rules.{figure_at, amount_of, paid_ends, part_of, parts_held, alternative_from}
 use Rattle.scr_plan.specs.Paid.{paid_in}
 use Rattle.scr_nodes.specs.declared.node.Direction.{Direction}
 use Rattle.scr_nodes.specs.declared.node.Direction.TheVariants as directions
@@ -73,17 +69,11 @@ sum-split cs i item within is = ap weights_sum (sum-at cs i item within is) ∙ 
 pub record AreSummed (cs : List (List ℕ × ℤ)) (i all : ℕ) : Type 0 where
   pub so_far : all + weights_sum (drop i cs) ≡ weights_sum cs
 
-pub summed-begun : (cs : List (List ℕ × ℤ)) → AreSummed cs 0 0
-summed-begun cs = record { so_far = omega arith }
-
 pub summed-more : (cs : List (List ℕ × ℤ)) (i all weight : ℕ) (item : List ℕ × ℤ) → i < length cs → item ≡ get_or cs i item → weight ≡ natural item.1 → AreSummed cs i all → AreSummed cs (i + 1) (all + weight)
 summed-more cs i all weight item within is size so_far = record { so_far = omega (arith, so_far.so_far, sum-split cs i item within is, size) }
 
 pub summed-small : (cs : List (List ℕ × ℤ)) (i all weight : ℕ) (item : List ℕ × ℤ) → AreWeights cs → i < length cs → item ≡ get_or cs i item → weight ≡ natural item.1 → AreSummed cs i all → all + weight ≤ 10 ^ 12
 summed-small cs i all weight item h within is size so_far = omega (arith, so_far.so_far, sum-split cs i item within is, size, weights-few cs h)
-
-pub summed-ended : (cs : List (List ℕ × ℤ)) (i all : ℕ) → length cs ≤ i → AreSummed cs i all → all ≡ weights_sum cs
-summed-ended cs i all le so_far = let none : weights_sum (drop i cs) ≡ 0 = ap weights_sum (drop_all i cs le) in omega (arith, so_far.so_far, none)
 
 -- no component before place i has the name, and what they weigh stands before it
 pub record IsNotBefore (name : List ℕ) (cs : List (List ℕ × ℤ)) (i before : ℕ) : Type 0 where
@@ -91,9 +81,6 @@ pub record IsNotBefore (name : List ℕ) (cs : List (List ℕ × ℤ)) (i before
   pub held : list_any (is_component name) cs ≡ list_any (is_component name) (drop i cs)
   pub in_front : weights_before name cs ≡ before + weights_before name (drop i cs)
   pub through : weights_through name cs ≡ before + weights_through name (drop i cs)
-
-pub not-before-begun : (name : List ℕ) (cs : List (List ℕ × ℤ)) → IsNotBefore name cs 0 0
-not-before-begun name cs = record { summed = summed-begun cs; held = refl; in_front = omega arith; through = omega arith }
 
 module _ (name : List ℕ) (cs : List (List ℕ × ℤ)) (i before weight : ℕ) (item : List ℕ × ℤ) (within : i < length cs) (is : item ≡ get_or cs i item) (size : weight ≡ natural item.1)
     (so_far : IsNotBefore name cs i before) where
@@ -123,9 +110,6 @@ module _ (name : List ℕ) (cs : List (List ℕ × ℤ)) (i before weight : ℕ)
         through = omega (arith, with_it, so_far.through, size);
       }
 
-pub not-there : (name : List ℕ) (cs : List (List ℕ × ℤ)) (i before : ℕ) → length cs ≤ i → IsNotBefore name cs i before → list_any (is_component name) cs ≡ false
-not-there name cs i before le so_far = so_far.held ∙ ap (list_any (is_component name)) (drop_all i cs le)
-
 -- ---- the parts of all funds that hold a name
 module _ (name : List ℕ) where
   abbrev shares : List Stake → List Share
@@ -135,9 +119,6 @@ module _ (name : List ℕ) where
   pub record AreAdded (cents : ℕ) (funds : List Stake) (figures : List Ends) (k next sum : ℕ) : Type 0 where
     pub so_far : sum + parts_held (shares (drop k funds)) (drop next figures) ≡ cents + parts_held (shares funds) figures
     pub places : next ≤ k
-
-  pub added-begun : (cents : ℕ) (funds : List Stake) (figures : List Ends) → AreAdded cents funds figures 0 0 cents
-  added-begun cents funds figures = record { so_far = refl; places = omega arith }
 
   none-left : (rest : List Share) → parts_held rest [] ≡ 0
   none-left [] = refl
@@ -201,22 +182,6 @@ module _ (name : List ℕ) where
       places = omega (arith, so_far.places);
     }
 
-  pub added-ended : (cents : ℕ) (funds : List Stake) (figures : List Ends) (k next sum : ℕ) → length funds ≤ k → AreAdded cents funds figures k next sum
-      → sum ≡ cents + parts_held (shares funds) figures
-  added-ended cents funds figures k next sum le so_far =
-      let none : parts_held (shares (drop k funds)) (drop next figures) ≡ 0 = ap (λ stakes. parts_held (shares stakes) (drop next figures)) (drop_all k funds le) in
-      omega (arith, so_far.so_far, none)
-
--- a figure among amounts, or past them, is one
-pub figure-amount : (figures : List Ends) (k : ℕ) → All (IsAmount MAX_HELD) figures → IsAmount MAX_HELD (figure_at figures k)
-figure-amount [] k all = past k
-  where
-    past : (k : ℕ) → IsAmount MAX_HELD (figure_at [] k)
-    past zero = amount-exact MAX_HELD 0 (omega arith)
-    past (suc k) = amount-exact MAX_HELD 0 (omega arith)
-figure-amount (e ∷ figures) zero all = all 0 e (omega arith)
-figure-amount (e ∷ figures) (suc k) all = figure-amount figures k (λ j d within. all (suc j) d (omega (arith, within)))
-
 -- ---- alternatives, one by one
 pub record AreListed (figures : List Ends) (k : ℕ) (list : List Scenario) : Type 0 where
   pub places : length list ≡ 8
@@ -247,12 +212,6 @@ listed-more figures k list after s few is set_is count h =
   where
     first : k ≡ 0 + k
     first = omega arith
-
-pub listed-whole : (spans : List Span) (count k : ℕ) (list : List Scenario) → count ≡ length spans / 2 → count ≡ k → AreListed (map ends spans) k list
-    → alternatives (take count list) ≡ alternatives_from (map ends spans)
-listed-whole spans count k list is same h =
-    ap (λ n. map alternative (take n list)) same ∙ h.so_far
-    ∙ ap (λ n. map (alternative_from (map ends spans)) (range_with_len 0 n)) (sym same ∙ is ∙ ap (λ n. n / 2) (sym (length-map spans ends)))
 
 -- ---- rows of discounts
 pub tables-are : (row : List Discounts) (a b c : Discounts) → length row ≡ 3

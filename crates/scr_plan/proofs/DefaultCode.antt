@@ -2,7 +2,6 @@
 use Rattle.std.proofs.Common.{◌≡◌, ℕ, ◌+◌, ◌*◌, ◌^◌, ◌<◌, ◌≤◌, Bool, true, false, List, [], ◌∷◌, Some, length, map, get_or, slice_get, drop, sum_by, filter, unsigned_abs, ℤ, pos, negsuc, if◌then◌else◌, refl, ap, ap₂, sym, subst, ◌∙◌, arith}
 use Rattle.std.specs.Prelude.{All}
 use Rattle.std.proofs.lemmas.List.{drop_more, drop_all, get_or-map, length-map}
-use Rattle.std.proofs.lemmas.List.Elements.{All-from_recursion}
 use Rattle.std.proofs.lemmas.List.Sums.{sum_by-cons}
 use Rattle.std.proofs.lemmas.Nat.{mul-le}
 use Rattle.std.proofs.lemmas.Option.{get_or_from_slice_get, slice_get_within}
@@ -10,10 +9,7 @@ use Rattle.scr_num.specs.Amounts.{IsAmount}
 use Rattle.scr_num.specs.Rounding.{Ends, ends, or_zero}
 use Rattle.scr_num.specs.declared.span.Span.{Span}
 use Rattle.scr_default.specs.declared.TheConstants.{MAX_LOSS}
-use Rattle.scr_sheet.specs.Validity.{Valid, IsBank, IsRein}
-use Rattle.scr_sheet.specs.declared.rows.Bank.{Bank}
-use Rattle.scr_sheet.specs.declared.rows.Rein.{Rein}
-use Rattle.scr_sheet.specs.declared.sheet.BalanceSheet.{BalanceSheet}
+use Rattle.scr_sheet.specs.declared.{rows.Bank.Bank, sheet.BalanceSheet.BalanceSheet}
 use Rattle.scr_nodes.specs.OwnOf.{reinsured}
 use Rattle.scr_nodes.specs.Rows.{is_bank_of, is_reinsurer_of}
 use Rattle.scr_default.specs.LossesEnds.{lgd_bank_grains}
@@ -28,9 +24,6 @@ pub record IsTallied {Row : Type 0} (test : Row → Bool) (amount : Row → ℕ)
   pub so_far : sum + total_where test amount (drop k rows) ≡ total_where test amount rows
 
 module _ {Row : Type 0} (test : Row → Bool) (amount : Row → ℕ) (rows : List Row) where
-  pub tallied-begun : IsTallied test amount rows 0 0
-  tallied-begun = record { so_far = omega arith }
-
   module _ (k sum : ℕ) (row : Row) (is : slice_get rows k ≡ Some row) (h : IsTallied test amount rows k sum) where
     split : total_where test amount (drop k rows) ≡ (if test row then amount row else 0) + total_where test amount (drop (k + 1) rows)
     split =
@@ -43,25 +36,10 @@ module _ {Row : Type 0} (test : Row → Bool) (amount : Row → ℕ) (rows : Lis
     pub tallied-past : test row ≡ false → IsTallied test amount rows (k + 1) sum
     tallied-past failed = let value : (if test row then amount row else 0) ≡ 0 = rw failed refl in record { so_far = omega (arith, value, split, h.so_far) }
 
-    pub tallied-small : test row ≡ true → sum + amount row ≤ total_where test amount rows
-    tallied-small passed = let value : (if test row then amount row else 0) ≡ amount row = rw passed refl in omega (arith, value, split, h.so_far)
-
-  pub tallied-all : (k sum : ℕ) → length rows ≤ k → IsTallied test amount rows k sum → sum ≡ total_where test amount rows
-  tallied-all k sum le h = let none : total_where test amount (drop k rows) ≡ 0 = ap (total_where test amount) (drop_all k rows le) in omega (arith, none, h.so_far)
-
-pub bank-formed : (sheet : BalanceSheet) → Valid sheet → (k : ℕ) (b : Bank) → slice_get sheet.banks k ≡ Some b → IsBank b
-bank-formed sheet valid k b is = subst IsBank (get_or_from_slice_get sheet.banks k b b is) (All-from_recursion IsBank sheet.banks valid.banks k b (slice_get_within sheet.banks k b is))
-
-pub reinsurer-formed : (sheet : BalanceSheet) → Valid sheet → (k : ℕ) (r : Rein) → slice_get sheet.reinsurers k ≡ Some r → IsRein r
-reinsurer-formed sheet valid k r is = subst IsRein (get_or_from_slice_get sheet.reinsurers k r r is) (All-from_recursion IsRein sheet.reinsurers valid.reinsurers k r (slice_get_within sheet.reinsurers k r is))
-
 -- ---- squares
 -- the squares before place k, and those from it on, make the whole
 pub record IsSquared (figures : List Ends) (k sum : ℕ) : Type 0 where
   pub so_far : sum + squares_total (drop k figures) ≡ squares_total figures
-
-pub squared-begun : (figures : List Ends) → IsSquared figures 0 0
-squared-begun figures = record { so_far = omega arith }
 
 figure-at : (spans : List Span) (k : ℕ) (span : Span) → k < length spans → span ≡ get_or spans k span → get_or (map ends spans) k (ends span) ≡ ends span
 figure-at spans k span within is = get_or-map ends spans k span (ends span) within ∙ ap ends (sym is)

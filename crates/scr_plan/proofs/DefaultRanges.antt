@@ -11,9 +11,7 @@ use Rattle.scr_default.specs.declared.TheConstants.{MAX_LOSS}
 use Rattle.scr_factors.specs.Values.{FactorValues}
 use Rattle.scr_profile.specs.declared.limits.TheConstants.{MAX_AMOUNT}
 use Rattle.scr_sheet.specs.Validity.{Valid, IsBank, IsRein}
-use Rattle.scr_sheet.specs.declared.rows.Bank.{Bank}
-use Rattle.scr_sheet.specs.declared.rows.Group.{Group}
-use Rattle.scr_sheet.specs.declared.sheet.BalanceSheet.{BalanceSheet}
+use Rattle.scr_sheet.specs.declared.{rows.Bank.Bank, rows.Group.Group, sheet.BalanceSheet.BalanceSheet}
 use Rattle.scr_sheet.proofs.Amounts.{absorbed-within}
 use Rattle.scr_nodes.specs.declared.node.Node.{Node}
 use Rattle.scr_nodes.specs.declared.node.Node.TheVariants as nodes

@@ -19,9 +19,7 @@ use Rattle.scr_profile.specs.declared.limits.TheConstants.{MAX_AMOUNT}
 use Rattle.scr_sheet.specs.Absorptions.{absorbed}
 use Rattle.scr_sheet.specs.Validity.{Valid}
 use Rattle.scr_sheet.specs.Validity as validity
-use Rattle.scr_sheet.specs.declared.rows.Bank.{Bank}
-use Rattle.scr_sheet.specs.declared.rows.Group.{Group}
-use Rattle.scr_sheet.specs.declared.sheet.BalanceSheet.{BalanceSheet}
+use Rattle.scr_sheet.specs.declared.{rows.Bank.Bank, rows.Group.Group, sheet.BalanceSheet.BalanceSheet}
 use Rattle.scr_nodes.specs.declared.node.Node.{Node}
 use Rattle.scr_nodes.specs.declared.node.Node.TheVariants as nodes
 use Rattle.scr_nodes.specs.declared.node.Risk.TheVariants as risks

@@ -8,10 +8,7 @@ use Rattle.scr_default.specs.declared.TheConstants.{MAX_LOSS}
 use Rattle.scr_funds.proofs.SumsBy.{sum_by-add, sum_by-map, sum_by-filter}
 use Rattle.scr_sheet.specs.BalanceSheet.{group_name}
 use Rattle.scr_sheet.specs.Validity.{Valid}
-use Rattle.scr_sheet.specs.declared.rows.Bank.{Bank}
-use Rattle.scr_sheet.specs.declared.rows.Group.{Group}
-use Rattle.scr_sheet.specs.declared.rows.Rein.{Rein}
-use Rattle.scr_sheet.specs.declared.sheet.BalanceSheet.{BalanceSheet}
+use Rattle.scr_sheet.specs.declared.{rows.Bank.Bank, rows.Group.Group, rows.Rein.Rein, sheet.BalanceSheet.BalanceSheet}
 use Rattle.scr_nodes.specs.declared.node.Node.{Node}
 use Rattle.scr_nodes.specs.Rows.{is_bank_of, is_reinsurer_of, is_of_default_class, class_of_step}
 use Rattle.scr_nodes.proofs.OwnRows.{distinct-groups}

@@ -39,20 +39,14 @@ use Rattle.scr_sheet.specs.BalanceSheet.{position_name, liability_name, group_na
 use Rattle.scr_sheet.specs.CashFlows.{is_empty}
 use Rattle.scr_sheet.specs.Totals.{total_of}
 use Rattle.scr_sheet.specs.declared.rows.Class.TheVariants as classes
-use Rattle.scr_sheet.specs.declared.rows.Curve.{Curve}
-use Rattle.scr_sheet.specs.declared.rows.Liability.{Liability}
-use Rattle.scr_sheet.specs.declared.rows.Position.{Position}
-use Rattle.scr_sheet.specs.declared.sheet.BalanceSheet.{BalanceSheet}
+use Rattle.scr_sheet.specs.declared.{rows.Curve.Curve, rows.Liability.Liability, rows.Position.Position, sheet.BalanceSheet.BalanceSheet}
 use Rattle.scr_sheet.specs.Validity.{Valid}
 use Rattle.scr_sheet.proofs.HeldNames.{row-there}
 use Rattle.scr_nodes.specs.declared.node.Alternatives.TheVariants as alternatives
-use Rattle.scr_nodes.specs.declared.node.Direction.{Direction}
+use Rattle.scr_nodes.specs.declared.{node.Direction.Direction, node.Equities.Equities, node.Measure.Measure, node.Node.Node}
 use Rattle.scr_nodes.specs.declared.node.Direction.TheVariants as directions
-use Rattle.scr_nodes.specs.declared.node.Equities.{Equities}
 use Rattle.scr_nodes.specs.declared.node.Equities.TheVariants as equities
-use Rattle.scr_nodes.specs.declared.node.Measure.{Measure}
 use Rattle.scr_nodes.specs.declared.node.Measure.TheVariants as measures
-use Rattle.scr_nodes.specs.declared.node.Node.{Node}
 use Rattle.scr_nodes.specs.declared.node.Node.TheVariants as nodes
 use Rattle.scr_nodes.specs.declared.node.Risk.TheVariants as risks
 use Rattle.scr_nodes.specs.Live.{is_live}
@@ -66,7 +60,7 @@ use Rattle.scr_plan.specs.LifeExact.{life_exact, slt_exact}
 use Rattle.scr_plan.specs.MarketExact.{liability_worth, bond_exact, group_square_exact}
 use Rattle.scr_plan.specs.Holdings.{security_cents, class_total}
 use Rattle.scr_plan.specs.InterestExact as interest
-use Rattle.scr_plan.specs.InterestExact.{security_unit_loss, security_loss, liability_loss, sum_in, losses, scenario_of, decisive_outcome, up_absorption, down_absorption}
+use Rattle.scr_plan.specs.InterestExact.{security_unit_loss, security_loss, liability_loss, losses, scenario_of, decisive_outcome, up_absorption, down_absorption}
 use Rattle.scr_plan.specs.Rules.{amount_of}
 use Rattle.scr_plan.specs.Worked.{worked}
 use Rattle.scr_plan.proofs.Equations.{worked-equation}
@@ -404,35 +398,22 @@ module _ (factors : FactorValues) (known : IsInForm factors) (sheet : BalanceShe
       told one _ _ f (ap (λ found. Some (Frac (option_map_or (liability_loss sheet direction) found zero_fraction))) (sym l.1) ∙ is) (cost-encloses factors sheet valid direction name l.0 l.1)
   node-encloses (nodes.CurrencyLoss currency direction) live f is = told one _ _ f is (lost-encloses factors sheet valid direction currency)
   node-encloses (nodes.InterestScenario direction measures.Gross) live f is = market-node-encloses factors sheet valid (nodes.InterestScenario direction measures.Gross) refl f is
-  node-encloses (nodes.InterestScenario direction measures.Net) live f is = market-node-encloses factors sheet valid (nodes.InterestScenario direction measures.Net) refl f is
   node-encloses (nodes.Choice which) live f is = absurd (let clash : None ≡ Some f = is in cc)
-  node-encloses (nodes.Picked alternatives.Interest measure) live f is = market-node-encloses factors sheet valid (nodes.Picked alternatives.Interest measure) refl f is
   node-encloses (nodes.ClassSum class) live f is = told 1 _ _ f is (cents-enclose factors sheet valid _ _ (class-worked factors sheet valid class))
-  node-encloses (nodes.EquityPart kind) live f is = market-node-encloses factors sheet valid (nodes.EquityPart kind) refl f is
-  node-encloses nodes.EquityRoot live f is = market-node-encloses factors sheet valid nodes.EquityRoot refl f is
-  node-encloses (nodes.NetPart risks.Equity) live f is = market-node-encloses factors sheet valid (nodes.NetPart risks.Equity) refl f is
-  node-encloses (nodes.NetPart risks.Property) live f is = market-node-encloses factors sheet valid (nodes.NetPart risks.Property) refl f is
-  node-encloses (nodes.NetPart risks.Spread) live f is = market-node-encloses factors sheet valid (nodes.NetPart risks.Spread) refl f is
-  node-encloses (nodes.NetPart risks.Concentration) live f is = market-node-encloses factors sheet valid (nodes.NetPart risks.Concentration) refl f is
   node-encloses (nodes.LiabilityPresent name) live f is =
       let l = row-there liability_name name sheet.liabilities live in
       told one _ _ f (ap (λ found. Some (Frac (option_map_or (liability_worth sheet) found zero_fraction))) (sym l.1) ∙ is) (present-encloses factors sheet valid name l.0 l.1)
   node-encloses (nodes.CurrencyScenario currency direction measure) live f is = told 1000 _ _ f is (change-encloses factors sheet valid direction measure currency)
   node-encloses (nodes.CurrencyChoice currency) live f is = absurd (let clash : None ≡ Some f = is in cc)
   node-encloses (nodes.CurrencyPicked currency measure) live f is = told 1000 _ _ f is (change-picked-encloses factors sheet valid measure currency)
-  node-encloses (nodes.Currency measure) live f is = market-node-encloses factors sheet valid (nodes.Currency measure) refl f is
-  node-encloses nodes.Property live f is = market-node-encloses factors sheet valid nodes.Property refl f is
   node-encloses (nodes.SecuritySpread name) live f is =
       let p = bond-there (position_of name sheet.securities) live in
       told 1_000_000_000 _ _ f (ap (λ found. Some (Frac (option_map_or (bond_exact factors sheet) found zero_fraction))) (sym p.1) ∙ is) (bond-enclosed factors sheet valid name p.0 p.1)
-  node-encloses nodes.Spread live f is = market-node-encloses factors sheet valid nodes.Spread refl f is
   node-encloses (nodes.GroupTotal name) live f is = told 1 _ _ f is (cents-enclose factors sheet valid _ _ (group-worked factors sheet valid name))
   node-encloses nodes.Assets live f is = told 1 _ _ f is (cents-enclose factors sheet valid _ _ (assets-worked factors sheet valid))
   node-encloses (nodes.ConcentrationSquare name) live f is =
       let g = row-there group_name name sheet.groups live in
       told 10_000_000_000 _ _ f (ap (λ found. Some (Frac (option_map_or (group_square_exact sheet) found zero_fraction))) (sym g.1) ∙ is) (square-enclosed factors sheet valid name g.0 g.1)
-  node-encloses nodes.Concentration live f is = market-node-encloses factors sheet valid nodes.Concentration refl f is
-  node-encloses (nodes.Market measure) live f is = market-node-encloses factors sheet valid (nodes.Market measure) refl f is
   node-encloses (nodes.LiabilityLoss name projection) live f is = life.liability-encloses factors sheet valid name projection live f is
   node-encloses (nodes.BioScenario biometric projection measure) live f is = life.scenario-encloses factors sheet valid biometric projection measure f is
   node-encloses (nodes.Picked alternatives.LifeLapse measure) live f is = life.life_picked-encloses factors sheet valid measure f is
@@ -472,3 +453,4 @@ module _ (factors : FactorValues) (known : IsInForm factors) (sheet : BalanceShe
       told 1000 _ _ f is (loss.scr-holds factors known sheet valid _ _ _ _ (others-within factors sheet valid) (other_modules factors sheet) others-enclosed)
   node-encloses nodes.Diversification live f is =
       told 1000 _ _ f is (loss.diversification-holds factors known sheet valid _ _ _ _ (others-within factors sheet valid) (other_modules factors sheet) others-enclosed)
+  node-encloses node live f is = market-node-encloses factors sheet valid node refl f is

@@ -11,10 +11,7 @@ use Rattle.scr_names.specs.Tables.{has_row}
 use Rattle.scr_names.proofs.TableRows.{IsFresh, fresh_from_has_row, same_name-flip, same_name-itself}
 use Rattle.scr_sheet.specs.BalanceSheet.{group_name}
 use Rattle.scr_sheet.specs.Validity.{Valid}
-use Rattle.scr_sheet.specs.declared.rows.Bank.{Bank}
-use Rattle.scr_sheet.specs.declared.rows.Group.{Group}
-use Rattle.scr_sheet.specs.declared.rows.Rein.{Rein}
-use Rattle.scr_sheet.specs.declared.sheet.BalanceSheet.{BalanceSheet}
+use Rattle.scr_sheet.specs.declared.{rows.Bank.Bank, rows.Group.Group, rows.Rein.Rein, sheet.BalanceSheet.BalanceSheet}
 use Rattle.scr_nodes.specs.Rows.{is_bank_of, is_reinsurer_of}
 use Rattle.scr_nodes.proofs.OwnRows.{distinct-groups}
 use Rattle.scr_plan.specs.DefaultExact.{total_where, bank_grains, reinsurer_grains, group_grains}

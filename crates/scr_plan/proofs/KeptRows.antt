@@ -17,16 +17,10 @@ use Rattle.scr_profile.specs.declared.group_kind.GroupKind.TheVariants as kinds
 use Rattle.scr_names.specs.Tables.{row_of}
 use Rattle.scr_sheet.specs.BalanceSheet.{curve_name, position_of}
 use Rattle.scr_sheet.specs.CashFlows.{flows_under}
-use Rattle.scr_sheet.specs.declared.keys.Projection.{Projection}
-use Rattle.scr_sheet.specs.declared.rows.Curve.{Curve}
-use Rattle.scr_sheet.specs.declared.rows.Group.{Group}
-use Rattle.scr_sheet.specs.declared.rows.Liability.{Liability}
-use Rattle.scr_sheet.specs.declared.rows.Position.{Position}
-use Rattle.scr_sheet.specs.declared.sheet.BalanceSheet.{BalanceSheet}
+use Rattle.scr_sheet.specs.declared.{keys.Projection.Projection, rows.Curve.Curve, rows.Group.Group, rows.Liability.Liability, rows.Position.Position, sheet.BalanceSheet.BalanceSheet}
 use Rattle.scr_sheet.specs.Validity.{Valid, IsCurve}
-use Rattle.scr_nodes.specs.declared.node.Direction.{Direction}
+use Rattle.scr_nodes.specs.declared.{node.Direction.Direction, node.Node.Node}
 use Rattle.scr_nodes.specs.declared.node.Measure.TheVariants as measures
-use Rattle.scr_nodes.specs.declared.node.Node.{Node}
 use Rattle.scr_nodes.specs.declared.node.Node.TheVariants as nodes
 use Rattle.scr_nodes.specs.OwnOf.{own_of, paid_by_security, paid_by_liability, nothing_paid, valued, bond_stressed, group_square}
 use Rattle.scr_nodes.specs.Own.{Valued}
@@ -123,65 +117,15 @@ stressed-row sheet projection (Some l) fits = currency-row sheet l.currency fits
 -- of each figure whose rule fits
 pub own-row : (factors : FactorValues) (sheet : BalanceSheet) (node : Node) (figures : List Ends) → Fits (own_of factors sheet node) figures
     → discounts_in sheet (all_discounts sheet) node ≡ own_discounts (own_of factors sheet node)
-own-row factors sheet (nodes.FundTotal name) figures fits = refl
-own-row factors sheet (nodes.SecurityTotal name) figures fits = refl
 own-row factors sheet (nodes.UnitLoss name direction) figures fits = security-row sheet direction (position_of name sheet.securities) fits
-own-row factors sheet (nodes.SecurityRate name direction) figures fits = refl
 own-row factors sheet (nodes.LiabilityRate name direction) figures fits = liability-row sheet direction (liability_of name sheet.liabilities) fits
-own-row factors sheet (nodes.CurrencyLoss currency direction) figures fits = refl
 own-row factors sheet (nodes.InterestScenario direction measures.Gross) figures fits = refl
-own-row factors sheet (nodes.InterestScenario direction measures.Net) figures fits = refl
-own-row factors sheet (nodes.Choice which) figures fits = refl
-own-row factors sheet (nodes.Picked which measure) figures fits = refl
-own-row factors sheet (nodes.ClassSum class) figures fits = refl
-own-row factors sheet (nodes.EquityPart kind) figures fits = refl
-own-row factors sheet nodes.EquityRoot figures fits = refl
-own-row factors sheet (nodes.NetPart risk) figures fits = refl
 own-row factors sheet (nodes.LiabilityPresent name) figures fits = worth-row sheet (liability_of name sheet.liabilities) fits
 own-row factors sheet (nodes.CurrencyScenario currency direction measures.Gross) figures fits = refl
-own-row factors sheet (nodes.CurrencyScenario currency direction measures.Net) figures fits = refl
 own-row factors sheet (nodes.SecuritySpread name) figures fits = bond-row factors sheet (position_of name sheet.securities)
 own-row factors sheet (nodes.ConcentrationSquare name) figures fits = group-row (group_of name sheet.groups)
 own-row factors sheet (nodes.LiabilityLoss name projection) figures fits = stressed-row sheet projection (liability_of name sheet.liabilities) fits
 own-row factors sheet (nodes.BioScenario biometric projection measures.Gross) figures fits = refl
-own-row factors sheet (nodes.BioScenario biometric projection measures.Net) figures fits = refl
-own-row factors sheet (nodes.Life measure) figures fits = refl
-own-row factors sheet (nodes.Slt measure) figures fits = refl
-own-row factors sheet (nodes.GroupLoss name) figures fits = refl
-own-row factors sheet (nodes.ClassLoss class) figures fits = refl
-own-row factors sheet (nodes.ClassSquare class) figures fits = refl
-own-row factors sheet nodes.Variance figures fits = refl
-own-row factors sheet nodes.DefaultBand figures fits = refl
-own-row factors sheet nodes.DefaultType1 figures fits = refl
-own-row factors sheet nodes.DefaultType2 figures fits = refl
-own-row factors sheet nodes.Default figures fits = refl
-own-row factors sheet (nodes.CurrencyChoice currency) figures fits = refl
-own-row factors sheet (nodes.CurrencyPicked currency measure) figures fits = refl
-own-row factors sheet (nodes.Currency measure) figures fits = refl
-own-row factors sheet nodes.Property figures fits = refl
-own-row factors sheet nodes.Spread figures fits = refl
-own-row factors sheet (nodes.GroupTotal name) figures fits = refl
-own-row factors sheet nodes.Assets figures fits = refl
-own-row factors sheet nodes.Concentration figures fits = refl
-own-row factors sheet (nodes.Market measure) figures fits = refl
-own-row factors sheet (nodes.Segment set number) figures fits = refl
-own-row factors sheet (nodes.PremiumReserve set) figures fits = refl
-own-row factors sheet (nodes.CatCharge key) figures fits = refl
-own-row factors sheet (nodes.Lapse set) figures fits = refl
-own-row factors sheet nodes.Natural figures fits = refl
-own-row factors sheet nodes.ManMade figures fits = refl
-own-row factors sheet nodes.NonlifeCatastrophe figures fits = refl
-own-row factors sheet nodes.HealthCatastrophe figures fits = refl
-own-row factors sheet (nodes.Nslt measure) figures fits = refl
-own-row factors sheet (nodes.Health measure) figures fits = refl
-own-row factors sheet (nodes.Nonlife measure) figures fits = refl
-own-row factors sheet nodes.Intangible figures fits = refl
-own-row factors sheet (nodes.Bscr measure) figures fits = refl
 own-row factors sheet (nodes.OpPart operations.Premiums) figures fits = refl
-own-row factors sheet (nodes.OpPart operations.Provisions) figures fits = refl
-own-row factors sheet (nodes.OpPart operations.Cap) figures fits = refl
-own-row factors sheet (nodes.OpPart operations.Charge) figures fits = refl
 own-row factors sheet (nodes.Adjust adjustments.TechnicalProvisions) figures fits = refl
-own-row factors sheet (nodes.Adjust adjustments.DeferredTaxes) figures fits = refl
-own-row factors sheet nodes.Scr figures fits = refl
-own-row factors sheet nodes.Diversification figures fits = refl
+own-row factors sheet node figures fits = refl

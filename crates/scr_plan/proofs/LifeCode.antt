@@ -11,8 +11,7 @@ use Rattle.scr_flow.specs.Due.{due_in, dues}
 use Rattle.scr_flow.specs.LossEnds.{present_ends}
 use Rattle.scr_flow.proofs.SizeLemmas.{dues-within}
 use Rattle.scr_sheet.specs.BalanceSheet.{curve_name}
-use Rattle.scr_sheet.specs.declared.rows.Curve.{Curve}
-use Rattle.scr_sheet.specs.declared.sheet.BalanceSheet.{BalanceSheet}
+use Rattle.scr_sheet.specs.declared.{rows.Curve.Curve, sheet.BalanceSheet.BalanceSheet}
 use Rattle.scr_nodes.specs.Own.{Valued}
 use Rattle.scr_plan.specs.Discounts.{CurrencyDiscounts}
 use Rattle.scr_plan.specs.Kept.{row_in}

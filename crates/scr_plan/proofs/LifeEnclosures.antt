@@ -19,15 +19,12 @@ use Rattle.scr_factors.specs.Values.{FactorValues}
 use Rattle.scr_names.proofs.TableRows.{All-map}
 use Rattle.scr_sheet.specs.BalanceSheet.{liability_name}
 use Rattle.scr_sheet.specs.Validity.{Valid}
-use Rattle.scr_sheet.specs.declared.keys.Projection.{Projection}
+use Rattle.scr_sheet.specs.declared.{keys.Projection.Projection, sheet.BalanceSheet.BalanceSheet}
 use Rattle.scr_sheet.specs.declared.keys.Projection.TheVariants as projections
-use Rattle.scr_sheet.specs.declared.sheet.BalanceSheet.{BalanceSheet}
 use Rattle.scr_nodes.specs.declared.node.Alternatives.TheVariants as alternatives
-use Rattle.scr_nodes.specs.declared.node.Biometric.{Biometric}
+use Rattle.scr_nodes.specs.declared.{node.Biometric.Biometric, node.Measure.Measure, node.Node.Node}
 use Rattle.scr_nodes.specs.declared.node.Biometric.TheVariants as biometrics
-use Rattle.scr_nodes.specs.declared.node.Measure.{Measure}
 use Rattle.scr_nodes.specs.declared.node.Measure.TheVariants as measures
-use Rattle.scr_nodes.specs.declared.node.Node.{Node}
 use Rattle.scr_nodes.specs.declared.node.Node.TheVariants as nodes
 use Rattle.scr_nodes.specs.Live.{is_live}
 use Rattle.scr_nodes.specs.OwnOf.{stress_absorbed}
@@ -136,8 +133,6 @@ module _ (factors : FactorValues) (sheet : BalanceSheet) (valid : Valid sheet) w
   health_choice-has-decisive = lapse-bit biometrics.Health (figure (nodes.Choice alternatives.HealthLapse)) (ap amount_of (worked-equation factors sheet valid (nodes.Choice alternatives.HealthLapse)))
 
   -- ---- the roots
-  abbrev Part : Ends → Figure → Type 0
-  Part e f = (pos 0 ≤ℤ e.low) × Encloses 1000 e.low e.high f
 
   stress-low : (biometric : Biometric) (projection : Projection) (measure : Measure) → pos 0 ≤ℤ (figure (nodes.BioScenario biometric projection measure)).low
   stress-low biometric projection measure = (stress-amount factors sheet valid biometric projection measure).not_negative

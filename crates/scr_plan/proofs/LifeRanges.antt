@@ -6,18 +6,13 @@ use Rattle.scr_num.specs.Rounding.{Ends}
 use Rattle.scr_factors.specs.Values.{FactorValues}
 use Rattle.scr_sheet.specs.CashFlows.{flows_under}
 use Rattle.scr_sheet.specs.Validity.{Valid}
-use Rattle.scr_sheet.specs.declared.keys.AbsorbKey.{AbsorbKey}
-use Rattle.scr_sheet.specs.declared.keys.Projection.{Projection}
-use Rattle.scr_sheet.specs.declared.rows.Liability.{Liability}
-use Rattle.scr_sheet.specs.declared.sheet.BalanceSheet.{BalanceSheet}
+use Rattle.scr_sheet.specs.declared.{keys.AbsorbKey.AbsorbKey, keys.Projection.Projection, rows.Liability.Liability, sheet.BalanceSheet.BalanceSheet}
 use Rattle.scr_sheet.specs.Absorptions.{absorbed}
 use Rattle.scr_sheet.proofs.Amounts.{absorbed-within}
 use Rattle.scr_profile.specs.declared.limits.TheConstants.{MAX_AMOUNT}
 use Rattle.scr_nodes.specs.declared.node.Alternatives.TheVariants as alternatives
-use Rattle.scr_nodes.specs.declared.node.Biometric.{Biometric}
-use Rattle.scr_nodes.specs.declared.node.Measure.{Measure}
+use Rattle.scr_nodes.specs.declared.{node.Biometric.Biometric, node.Measure.Measure, node.Node.Node}
 use Rattle.scr_nodes.specs.declared.node.Measure.TheVariants as measures
-use Rattle.scr_nodes.specs.declared.node.Node.{Node}
 use Rattle.scr_nodes.specs.declared.node.Node.TheVariants as nodes
 use Rattle.scr_nodes.specs.Live.{is_live}
 use Rattle.scr_nodes.specs.Own.{Valued}

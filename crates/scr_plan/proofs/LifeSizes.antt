@@ -1,5 +1,5 @@
 -- How large the worked figures of biometric stresses are for a valid balance sheet, and what those of one liability enclose.
-use Rattle.std.proofs.Common.{◌≡◌, ℕ, ◌+◌, ◌*◌, ◌^◌, ◌≤◌, Bool, true, false, List, [], ◌∷◌, length, get_or, map, sum_by, if◌then◌else◌, unsigned_abs, ℤ, pos, negsuc, ◌-ℤ◌, ◌≤ℤ◌, refl, ap, sym, subst, ◌∙◌, Some, arith, lit<}
+use Rattle.std.proofs.Common.{◌≡◌, ℕ, ◌+◌, ◌*◌, ◌^◌, ◌≤◌, Bool, true, false, List, [], ◌∷◌, length, get_or, map, sum_by, if◌then◌else◌, unsigned_abs, ℤ, pos, negsuc, ◌-ℤ◌, ◌≤ℤ◌, ap, sym, subst, ◌∙◌, Some, arith, lit<}
 use Rattle.std.specs.Int.{int_max}
 use Rattle.std.specs.List.{AllByRecursion}
 use Rattle.std.specs.Option.{option_map_or}
@@ -34,7 +34,7 @@ use Rattle.scr_agg.specs.Absorbed.{net_ends}
 use Rattle.scr_agg.specs.Unbeaten.{Alternative}
 use Rattle.scr_agg.proofs.ChosenAmounts.{Encloses-counted, amount-net, amount-chosen_gross, amount-chosen_net}
 use Rattle.scr_bio.specs.BiometricEnds.{life_ends, slt_ends}
-use Rattle.scr_bio.proofs.BiometricBounds.{loss-size, life-size, slt-size}
+use Rattle.scr_bio.proofs.BiometricBounds.{loss-size}
 use Rattle.scr_rate.specs.InterestEnds.{gross_ends}
 use Rattle.scr_factors.specs.Values.{FactorValues}
 use Rattle.scr_funds.proofs.Members.{each-from_members}
@@ -43,19 +43,15 @@ use Rattle.scr_names.proofs.TableRows.{All-map, All-row_of}
 use Rattle.scr_sheet.specs.BalanceSheet.{liability_name}
 use Rattle.scr_sheet.specs.CashFlows.{flows_under, greatest_years, total, all_projections}
 use Rattle.scr_sheet.specs.Validity.{Valid}
-use Rattle.scr_sheet.specs.declared.keys.Projection.{Projection}
+use Rattle.scr_sheet.specs.declared.{keys.Projection.Projection, rows.Liability.Liability, sheet.BalanceSheet.BalanceSheet}
 use Rattle.scr_sheet.specs.declared.keys.Projection.TheVariants as projections
-use Rattle.scr_sheet.specs.declared.rows.Liability.{Liability}
-use Rattle.scr_sheet.specs.declared.sheet.BalanceSheet.{BalanceSheet}
 use Rattle.scr_sheet.proofs.Greatest.{each-le}
 use Rattle.scr_sheet.proofs.Projections.{each_projection}
 use Rattle.scr_nodes.specs.declared.node.Alternatives.TheVariants as alternatives
-use Rattle.scr_nodes.specs.declared.node.Biometric.{Biometric}
+use Rattle.scr_nodes.specs.declared.{node.Biometric.Biometric, node.Measure.Measure, node.Node.Node}
 use Rattle.scr_nodes.specs.declared.node.Biometric.TheVariants as biometrics
 use Rattle.scr_nodes.specs.declared.node.Direction.TheVariants as directions
-use Rattle.scr_nodes.specs.declared.node.Measure.{Measure}
 use Rattle.scr_nodes.specs.declared.node.Measure.TheVariants as measures
-use Rattle.scr_nodes.specs.declared.node.Node.{Node}
 use Rattle.scr_nodes.specs.declared.node.Node.TheVariants as nodes
 use Rattle.scr_nodes.specs.Own.{Valued}
 use Rattle.scr_nodes.specs.OwnOf.{valued, stress_absorbed}
@@ -314,21 +310,8 @@ module _ (factors : FactorValues) (sheet : BalanceSheet) (valid : Valid sheet) w
     (stress-amount biometrics.Health projections.Longevity measure, (stress-amount biometrics.Health projections.Disability measure, (stress-amount biometrics.Health projections.Expense measure, (stress-amount biometrics.Health projections.Revision measure, (health_lapse-amount measure, tt))))),
   )
 
-  abbrev six : List ℕ
-  six = most_of_scenario ∷ most_of_scenario ∷ most_of_scenario ∷ most_of_scenario ∷ most_of_scenario ∷ most_of_scenario ∷ []
-
   pub life-worked : (measure : Measure) → figure (nodes.Life measure) ≡ life_ends (map figure (life_parts measure))
   life-worked measure = worked-equation factors sheet valid (nodes.Life measure)
 
-  pub life-amount : (measure : Measure) → IsAmount 1_918_000_000_000_000_000 (figure (nodes.Life measure))
-  life-amount measure =
-      let all = life-amounts measure in
-      subst (IsAmount 1_918_000_000_000_000_000) (sym (life-worked measure)) (life-size (most_of_scenario ∷ six) (map figure (life_parts measure)) refl all)
-
   pub slt-worked : (measure : Measure) → figure (nodes.Slt measure) ≡ slt_ends (map figure (slt_parts measure))
   slt-worked measure = worked-equation factors sheet valid (nodes.Slt measure)
-
-  pub slt-amount : (measure : Measure) → IsAmount 1_644_000_000_000_000_000 (figure (nodes.Slt measure))
-  slt-amount measure =
-      let all = slt-amounts measure in
-      subst (IsAmount 1_644_000_000_000_000_000) (sym (slt-worked measure)) (slt-size six (map figure (slt_parts measure)) refl all)

@@ -10,16 +10,12 @@ use Rattle.scr_num.proofs.AmountBounds.{amount-wider}
 use Rattle.scr_agg.specs.Absorbed.{net_ends}
 use Rattle.scr_bio.specs.BiometricEnds.{units_of_a_grain, loss_ends, life_ends, slt_ends}
 use Rattle.scr_bio.proofs.BiometricBounds.{loss-size, life-size, slt-size}
-use Rattle.scr_sheet.specs.declared.keys.Projection.{Projection}
+use Rattle.scr_sheet.specs.declared.{keys.Projection.Projection, sheet.BalanceSheet.BalanceSheet}
 use Rattle.scr_sheet.specs.declared.keys.Projection.TheVariants as projections
-use Rattle.scr_sheet.specs.declared.sheet.BalanceSheet.{BalanceSheet}
-use Rattle.scr_nodes.specs.declared.node.Alternatives.{Alternatives}
+use Rattle.scr_nodes.specs.declared.{node.Alternatives.Alternatives, node.Biometric.Biometric, node.Measure.Measure, node.Node.Node}
 use Rattle.scr_nodes.specs.declared.node.Alternatives.TheVariants as alternatives
-use Rattle.scr_nodes.specs.declared.node.Biometric.{Biometric}
 use Rattle.scr_nodes.specs.declared.node.Biometric.TheVariants as biometrics
-use Rattle.scr_nodes.specs.declared.node.Measure.{Measure}
 use Rattle.scr_nodes.specs.declared.node.Measure.TheVariants as measures
-use Rattle.scr_nodes.specs.declared.node.Node.{Node}
 use Rattle.scr_nodes.specs.declared.node.Node.TheVariants as nodes
 use Rattle.scr_nodes.specs.OwnOf.{stress_absorbed}
 use Rattle.scr_nodes.specs.Sources.{losses_under, life_parts, slt_parts}

@@ -5,17 +5,16 @@ use Rattle.std.specs.Prelude.{slice_index_or}
 use Rattle.std.specs.Int.{int_max}
 use Rattle.std.proofs.lemmas.Int.{ints, clamps}
 use Rattle.scr_num.specs.Amounts.{IsAmount, AreAmounts}
-use Rattle.scr_num.specs.Rounding.{Ends, exact_ends, add_ends, sub_ends, floor_div, ceil_div}
+use Rattle.scr_num.specs.Rounding.{Ends, exact_ends, add_ends, floor_div, ceil_div}
 use Rattle.scr_num.specs.Sizes.{IsWithin}
-use Rattle.scr_num.specs.Sums.{sum_ends}
-use Rattle.scr_num.proofs.AmountBounds.{amount-wider, amount-high, amount-total}
+use Rattle.scr_num.proofs.AmountBounds.{amount-wider, amount-high}
 use Rattle.scr_num.proofs.CentAmounts.{enclosing-in_order}
 use Rattle.scr_loss.specs.AbsorptionEnds.{IsNegativeAmount, adj_tp_ends, adj_dt_ends, scr_ends}
-use Rattle.scr_loss.specs.BscrEnds.{modules_ends, bscr_ends, diversification_ends}
+use Rattle.scr_loss.specs.BscrEnds.{bscr_ends, diversification_ends}
 use Rattle.scr_loss.specs.Operational.{IsWithinLimits}
 use Rattle.scr_loss.specs.OperationalEnds.{fifths_beyond, counted_ends, or_nil_ends, prem_ends, prov_ends, cap_ends, op_ends}
 use Rattle.scr_loss.proofs.AdjustmentBounds.{adj_tp-size, adj_dt-size}
-use Rattle.scr_loss.proofs.BscrBounds.{modules-size, bscr-size}
+use Rattle.scr_loss.proofs.BscrBounds.{bscr-size}
 use Rattle.scr_loss.proofs.OperationalBounds.{prem-encloses, prov-size, cap-size, op-size}
 use Rattle.scr_profile.specs.declared.limits.TheConstants.{MAX_AMOUNT}
 use Rattle.scr_profile.specs.declared.operational.OpInput.{OpInput}
@@ -24,9 +23,8 @@ use Rattle.scr_sheet.specs.Validity.{Valid, IsBetween}
 use Rattle.scr_sheet.specs.Validity as validity
 use Rattle.scr_sheet.specs.declared.sheet.BalanceSheet.{BalanceSheet}
 use Rattle.scr_nodes.specs.declared.node.Adjustment.TheVariants as adjustments
-use Rattle.scr_nodes.specs.declared.node.Measure.{Measure}
+use Rattle.scr_nodes.specs.declared.{node.Measure.Measure, node.Node.Node}
 use Rattle.scr_nodes.specs.declared.node.Measure.TheVariants as measures
-use Rattle.scr_nodes.specs.declared.node.Node.{Node}
 use Rattle.scr_nodes.specs.declared.node.Node.TheVariants as nodes
 use Rattle.scr_nodes.specs.declared.node.Operational.TheVariants as operations
 use Rattle.scr_nodes.specs.declared.node.Risk.TheVariants as risks
@@ -84,27 +82,6 @@ sums-in-order a b c d e f p q r = omega (arith, ints)
 
 sums-high : (b d f : ℤ) (m n k : ℕ) → b ≤ℤ pos m → d ≤ℤ pos 0 → f ≤ℤ pos n → m + n ≤ k → ((b +ℤ d) +ℤ f) ≤ℤ pos k
 sums-high b d f m n k p q r le = omega (arith, ints)
-
-within-sum : (m n : ℕ) (a b : ℤ) → unsigned_abs a ≤ m → unsigned_abs b ≤ n → unsigned_abs (a +ℤ b) ≤ m + n
-within-sum m n a b h k = omega (arith, ints)
-
-pub added-within : (m n : ℕ) (a b : Ends) → IsWithin m a → IsWithin n b → IsWithin (m + n) (add_ends a b)
-added-within m n a b h k = record { low = within-sum m n a.low b.low h.low k.low; high = within-sum m n a.high b.high h.high k.high }
-
-pub difference-within : (m : ℕ) (a b : Ends) → IsAmount m a → IsAmount m b → IsWithin m (sub_ends a b)
-difference-within m a b h k = record {
-  low = apart a.low b.high (amount-low m a h) (amount-high m b k) h.not_negative (omega (arith, ints, k.not_negative, k.ordered));
-  high = apart a.high b.low (amount-high m a h) (amount-low m b k) (omega (arith, ints, h.not_negative, h.ordered)) k.not_negative;
-}
-  where
-    amount-low : (most : ℕ) (e : Ends) → IsAmount most e → e.low ≤ℤ pos most
-    amount-low most e h =
-        let above = amount-high most e h in
-        let rising = h.ordered in
-        omega (arith, ints)
-
-    apart : (x y : ℤ) → x ≤ℤ pos m → y ≤ℤ pos m → pos 0 ≤ℤ x → pos 0 ≤ℤ y → unsigned_abs (x -ℤ y) ≤ m
-    apart x y p q r t = omega (arith, ints)
 
 pub wider-within : (m n : ℕ) (e : Ends) → m ≤ n → IsWithin m e → IsWithin n e
 wider-within m n e le h = record { low = omega (arith, le, h.low); high = omega (arith, le, h.high) }
@@ -236,14 +213,6 @@ module _ (factors : FactorValues) (known : IsInForm factors) (sheet : BalanceShe
         (omega (arith, modules-together, valid.numbers.intangible))
         (bscr-size module_grains (map figure (modules measure)) sheet.numbers.intangible refl (modules-amounts measure)))
 
-    pub diversification-within : IsWithin MAX_REQUIREMENT (figure nodes.Diversification)
-    diversification-within =
-        let all = map figure (modules measures.Gross) in
-        let size = difference-within (sum_by (λ most. most) module_grains) (sum_ends all) (modules_ends all)
-        (amount-total module_grains all (modules-amounts measures.Gross)) (modules-size module_grains all refl (modules-amounts measures.Gross)) in
-        subst (IsWithin MAX_REQUIREMENT) (sym diversification-worked)
-        (wider-within (sum_by (λ most. most) module_grains) MAX_REQUIREMENT _ (omega (arith, modules-together)) size)
-
     -- ---- operational risk
     pub cap-amount : IsAmount 1_500_000_000_000_000_000 (figure (nodes.OpPart operations.Cap))
     cap-amount =
@@ -285,10 +254,3 @@ module _ (factors : FactorValues) (known : IsInForm factors) (sheet : BalanceShe
 
     pub taxed-within : IsWithin MAX_REQUIREMENT (figure (nodes.Adjust adjustments.DeferredTaxes))
     taxed-within = negative-within _ MAX_REQUIREMENT _ (omega (arith, valid.numbers.cap)) taxed-size
-
-    pub scr-within : IsWithin (4 * MAX_REQUIREMENT) (figure nodes.Scr)
-    scr-within =
-        subst (IsWithin (4 * MAX_REQUIREMENT)) (sym scr-worked)
-        (added-within (3 * MAX_REQUIREMENT) MAX_REQUIREMENT _ _
-        (added-within (2 * MAX_REQUIREMENT) MAX_REQUIREMENT _ _
-        (added-within MAX_REQUIREMENT MAX_REQUIREMENT _ _ (bscr-within measures.Gross) absorbing-within) taxed-within) charge-within)

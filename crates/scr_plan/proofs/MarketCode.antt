@@ -1,25 +1,22 @@
 -- What the code of market risk keeps along its loops.
-use Rattle.std.proofs.Common.{◌≡◌, ℕ, zero, suc, ◌+◌, ◌-◌, ◌<◌, ◌≤◌, Bool, true, false, cond, List, [], ◌∷◌, length, get_or, slice_get, drop, take, map, filter, sum_by, ℤ, pos, ◌+ℤ◌, unsigned_abs, Option, Some, None, refl, ap, sym, ◌∙◌, arith}
+use Rattle.std.proofs.Common.{◌≡◌, ℕ, zero, suc, ◌+◌, ◌-◌, ◌<◌, ◌≤◌, Bool, true, false, cond, List, [], ◌∷◌, length, get_or, slice_get, drop, take, map, filter, sum_by, ℤ, ◌+ℤ◌, unsigned_abs, Option, Some, None, refl, ap, sym, ◌∙◌, arith}
 use Rattle.std.specs.Option.{option_map}
 use Rattle.std.proofs.lemmas.Int.{ints}
-use Rattle.std.proofs.lemmas.List.{drop_more, drop_all, take_all, take-map, drop-map}
+use Rattle.std.proofs.lemmas.List.{drop_more, take_all, take-map, drop-map}
 use Rattle.std.proofs.lemmas.List.Filters.{length-filter_more}
 use Rattle.std.proofs.lemmas.List.Sums.{sum_by-cons}
 use Rattle.std.proofs.lemmas.Option.{get_or_from_slice_get, slice_get_within}
-use Rattle.scr_num.specs.Rounding.{Ends, ends, exact_ends, add_ends}
-use Rattle.scr_num.specs.Sizes.{AreTogether}
+use Rattle.scr_num.specs.Rounding.{Ends, ends, add_ends}
 use Rattle.scr_num.specs.Sums.{sum_ends}
 use Rattle.scr_num.specs.declared.span.Span.{Span}
-use Rattle.scr_num.proofs.AddedEnds.{add_ends-assoc, zero-add_ends, add_ends-zero}
+use Rattle.scr_num.proofs.AddedEnds.{add_ends-assoc}
 use Rattle.scr_conc.specs.declared.TheConstants.{MAX_SQUARES}
 use Rattle.scr_flow.specs.Due.{dues}
 use Rattle.scr_flow.specs.LossEnds.{present_ends}
 use Rattle.scr_dates.specs.declared.day.Day.{Day}
 use Rattle.scr_nodes.specs.Rows.{is_held_in}
 use Rattle.scr_sheet.specs.BalanceSheet.{curve_name}
-use Rattle.scr_sheet.specs.declared.rows.Curve.{Curve}
-use Rattle.scr_sheet.specs.declared.rows.Position.{Position}
-use Rattle.scr_sheet.specs.declared.sheet.BalanceSheet.{BalanceSheet}
+use Rattle.scr_sheet.specs.declared.{rows.Curve.Curve, rows.Position.Position, sheet.BalanceSheet.BalanceSheet}
 use Rattle.scr_plan.specs.Discounts.{CurrencyDiscounts}
 use Rattle.scr_plan.specs.Kept.{row_in}
 use Rattle.scr_plan.specs.MarketRules.{worth_ends}
@@ -32,16 +29,6 @@ pub record AreSquaresSummed (spans : List Span) (sum : Span) (i : ℕ) : Type 0 
   pub total : add_ends (ends sum) (sum_ends (map ends (drop i spans))) ≡ sum_ends (map ends spans)
   pub low : unsigned_abs sum.low + sum_by (λ (e : Ends). unsigned_abs e.low) (map ends (drop i spans)) ≤ MAX_SQUARES
   pub high : unsigned_abs sum.high + sum_by (λ (e : Ends). unsigned_abs e.high) (map ends (drop i spans)) ≤ MAX_SQUARES
-
-pub squares-begun : (spans : List Span) (sum : Span) → ends sum ≡ exact_ends (pos 0) → AreTogether MAX_SQUARES (map ends spans) → AreSquaresSummed spans sum 0
-squares-begun spans sum e h =
-    let low : sum.low ≡ pos 0 = ap (λ (x : Ends). x.low) e in
-    let high : sum.high ≡ pos 0 = ap (λ (x : Ends). x.high) e in
-    record {
-      total = ap (λ (x : Ends). add_ends x (sum_ends (map ends spans))) e ∙ zero-add_ends (sum_ends (map ends spans));
-      low = rw low (omega (arith, h.lows));
-      high = rw high (omega (arith, h.highs));
-    }
 
 abs_plus : (a b : ℤ) → unsigned_abs (a +ℤ b) ≤ unsigned_abs a + unsigned_abs b
 abs_plus a b = omega (arith, ints)
@@ -56,12 +43,6 @@ module _ (spans : List Span) (sum span : Span) (i : ℕ) (within : i < length sp
   highs : sum_by (λ (e : Ends). unsigned_abs e.high) (map ends (drop i spans)) ≡ unsigned_abs span.high + sum_by (λ (e : Ends). unsigned_abs e.high) (map ends (drop (i + 1) spans))
   highs = ap (λ (l : List Span). sum_by (λ (e : Ends). unsigned_abs e.high) (map ends l)) split ∙ sum_by-cons (λ (e : Ends). unsigned_abs e.high) (ends span) (map ends (drop (i + 1) spans))
 
-  pub squares-low : unsigned_abs span.low ≤ MAX_SQUARES
-  squares-low = omega (arith, lows, h.low)
-
-  pub squares-high : unsigned_abs span.high ≤ MAX_SQUARES
-  squares-high = omega (arith, highs, h.high)
-
   pub squares-more : (next : Span) → ends next ≡ add_ends (ends sum) (ends span) → AreSquaresSummed spans next (i + 1)
   squares-more next e =
       let low : next.low ≡ sum.low +ℤ span.low = ap (λ (x : Ends). x.low) e in
@@ -73,10 +54,6 @@ module _ (spans : List Span) (sum span : Span) (i : ℕ) (within : i < length sp
         low = rw low (omega (arith, abs_plus sum.low span.low, lows, h.low));
         high = rw high (omega (arith, abs_plus sum.high span.high, highs, h.high));
       }
-
-pub squares-ended : (spans : List Span) (sum : Span) (i : ℕ) → length spans ≤ i → AreSquaresSummed spans sum i → ends sum ≡ sum_ends (map ends spans)
-squares-ended spans sum i le h =
-    sym (ap (λ (l : List Span). add_ends (ends sum) (sum_ends (map ends l))) (drop_all i spans le) ∙ add_ends-zero (ends sum)) ∙ h.total
 
 -- ---- the securities in a currency, counted
 abbrev added : Bool → ℕ

@@ -49,19 +49,12 @@ use Rattle.scr_sheet.specs.Totals.{total_of}
 use Rattle.scr_sheet.specs.Validity.{Valid}
 use Rattle.scr_sheet.specs.declared.keys.Projection.TheVariants.{Base}
 use Rattle.scr_sheet.specs.declared.rows.Class.TheVariants as classes
-use Rattle.scr_sheet.specs.declared.rows.Curve.{Curve}
-use Rattle.scr_sheet.specs.declared.rows.Group.{Group}
-use Rattle.scr_sheet.specs.declared.rows.Liability.{Liability}
-use Rattle.scr_sheet.specs.declared.rows.Position.{Position}
-use Rattle.scr_sheet.specs.declared.sheet.BalanceSheet.{BalanceSheet}
+use Rattle.scr_sheet.specs.declared.{rows.Curve.Curve, rows.Group.Group, rows.Liability.Liability, rows.Position.Position, sheet.BalanceSheet.BalanceSheet}
 use Rattle.scr_nodes.specs.declared.node.Alternatives.TheVariants as alternatives
-use Rattle.scr_nodes.specs.declared.node.Direction.{Direction}
+use Rattle.scr_nodes.specs.declared.{node.Direction.Direction, node.Measure.Measure, node.Node.Node, node.Risk.Risk}
 use Rattle.scr_nodes.specs.declared.node.Direction.TheVariants as directions
-use Rattle.scr_nodes.specs.declared.node.Measure.{Measure}
 use Rattle.scr_nodes.specs.declared.node.Measure.TheVariants as measures
-use Rattle.scr_nodes.specs.declared.node.Node.{Node}
 use Rattle.scr_nodes.specs.declared.node.Node.TheVariants as nodes
-use Rattle.scr_nodes.specs.declared.node.Risk.{Risk}
 use Rattle.scr_nodes.specs.declared.node.Risk.TheVariants as risks
 use Rattle.scr_nodes.specs.OwnOf.{interest_key, risk_key, valued, currency_absorbed, held_in, paid_by_security, paid_by_liability, bond_stressed, group_square}
 use Rattle.scr_nodes.specs.Own.Own.{Stressed, Square}

@@ -8,17 +8,12 @@ use Rattle.scr_curve.specs.declared.table.TheConstants.{MAX_DISCOUNT}
 use Rattle.scr_factors.specs.Values.{FactorValues}
 use Rattle.scr_sheet.specs.CashFlows.{flows_under, total}
 use Rattle.scr_sheet.specs.Validity.{Valid}
-use Rattle.scr_sheet.specs.declared.keys.Projection.{Projection}
+use Rattle.scr_sheet.specs.declared.{keys.Projection.Projection, rows.Liability.Liability, rows.LiabilityKind.LiabilityKind, sheet.BalanceSheet.BalanceSheet}
 use Rattle.scr_sheet.specs.declared.keys.Projection.TheVariants as projections
-use Rattle.scr_sheet.specs.declared.rows.Liability.{Liability}
-use Rattle.scr_sheet.specs.declared.rows.LiabilityKind.{LiabilityKind}
 use Rattle.scr_sheet.specs.declared.rows.LiabilityKind.TheVariants as kinds
-use Rattle.scr_sheet.specs.declared.sheet.BalanceSheet.{BalanceSheet}
-use Rattle.scr_nodes.specs.declared.node.Biometric.{Biometric}
+use Rattle.scr_nodes.specs.declared.{node.Biometric.Biometric, node.Measure.Measure, node.Node.Node}
 use Rattle.scr_nodes.specs.declared.node.Biometric.TheVariants as biometrics
-use Rattle.scr_nodes.specs.declared.node.Measure.{Measure}
 use Rattle.scr_nodes.specs.declared.node.Measure.TheVariants as measures
-use Rattle.scr_nodes.specs.declared.node.Node.{Node}
 use Rattle.scr_nodes.specs.declared.node.Node.TheVariants as nodes
 use Rattle.scr_nodes.specs.declared.node.Risk.TheVariants as risks
 use Rattle.scr_nodes.specs.Rows.{has_flows, is_of_kind, is_stressed}

@@ -32,11 +32,8 @@ use Rattle.scr_sheet.specs.BalanceSheet.{position_name, liability_name, curve_na
 use Rattle.scr_sheet.specs.CashFlows.{total, years_of, greatest_years}
 use Rattle.scr_sheet.specs.Forms.{AreOnDays}
 use Rattle.scr_sheet.specs.Validity.{Valid, IsSecurity, IsLiability, IsCurve, IsBetween, HasCurrency}
-use Rattle.scr_sheet.specs.declared.sheet.BalanceSheet.{BalanceSheet}
+use Rattle.scr_sheet.specs.declared.{sheet.BalanceSheet.BalanceSheet, rows.Curve.Curve, rows.Position.Position, rows.Liability.Liability}
 use Rattle.scr_sheet.specs.declared.keys.Projection.TheVariants.{Base}
-use Rattle.scr_sheet.specs.declared.rows.Curve.{Curve}
-use Rattle.scr_sheet.specs.declared.rows.Position.{Position}
-use Rattle.scr_sheet.specs.declared.rows.Liability.{Liability}
 use Rattle.scr_sheet.proofs.Greatest.{each-le}
 use Rattle.scr_sheet.proofs.HeldNames.{row-there}
 use Rattle.scr_profile.specs.declared.limits.TheConstants.{MIN_RATE, MAX_RATE}

@@ -4,8 +4,7 @@ use Rattle.scr_funds.proofs.SumsBy.{sum_by-same}
 use Rattle.scr_profile.specs.declared.limits.TheConstants.{MAX_HELD}
 use Rattle.scr_sheet.specs.Totals.{is_closed as is_closed_fund, closed_total as closed_funds_total}
 use Rattle.scr_sheet.specs.BalanceSheet.{held_total}
-use Rattle.scr_sheet.specs.declared.sheet.BalanceSheet.{BalanceSheet}
-use Rattle.scr_sheet.specs.declared.rows.Stake.{Stake}
+use Rattle.scr_sheet.specs.declared.{sheet.BalanceSheet.BalanceSheet, rows.Stake.Stake}
 use Rattle.scr_sheet.specs.Validity.{Valid}
 use Rattle.scr_sheet.proofs.SeenThrough.{with_components, all-seen as sheet-seen}
 use Rattle.scr_nodes.specs.Rows.{is_closed}

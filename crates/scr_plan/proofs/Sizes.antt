@@ -25,22 +25,16 @@ use Rattle.scr_sheet.specs.BalanceSheet.{position_name, liability_name, stake_na
 use Rattle.scr_sheet.specs.CashFlows.{total}
 use Rattle.scr_sheet.specs.Totals.{total_of}
 use Rattle.scr_sheet.specs.declared.keys.Projection.TheVariants.{Base}
-use Rattle.scr_sheet.specs.declared.rows.Class.{Class}
+use Rattle.scr_sheet.specs.declared.{rows.Class.Class, rows.Curve.Curve, rows.Liability.Liability, rows.Position.Position, sheet.BalanceSheet.BalanceSheet}
 use Rattle.scr_sheet.specs.declared.rows.Class.TheVariants as classes
-use Rattle.scr_sheet.specs.declared.rows.Curve.{Curve}
-use Rattle.scr_sheet.specs.declared.rows.Liability.{Liability}
-use Rattle.scr_sheet.specs.declared.rows.Position.{Position}
-use Rattle.scr_sheet.specs.declared.sheet.BalanceSheet.{BalanceSheet}
 use Rattle.scr_sheet.specs.Validity.{Valid}
 use Rattle.scr_profile.specs.declared.limits.TheConstants.{MAX_HELD}
 use Rattle.scr_market.specs.declared.equity_parts.TheConstants.{MAX_EQUITY_PART}
 use Rattle.scr_market.specs.EquityEnds.{type1_ends, type2_ends, infra_ends, infracorp_ends, equity_root_ends}
 use Rattle.scr_market.proofs.EquityBounds.{type1-size, type2-size, infra-size, infracorp-size, root-size}
-use Rattle.scr_nodes.specs.declared.node.Direction.{Direction}
-use Rattle.scr_nodes.specs.declared.node.Equities.{Equities}
+use Rattle.scr_nodes.specs.declared.{node.Direction.Direction, node.Equities.Equities, node.Node.Node}
 use Rattle.scr_nodes.specs.declared.node.Equities.TheVariants as equities
 use Rattle.scr_nodes.specs.declared.node.Measure.TheVariants as measures
-use Rattle.scr_nodes.specs.declared.node.Node.{Node}
 use Rattle.scr_nodes.specs.declared.node.Node.TheVariants as nodes
 use Rattle.scr_nodes.specs.OwnOf.{paid_by_security, paid_by_liability, nothing_paid}
 use Rattle.scr_nodes.specs.Rows.{is_closed, is_paying, is_paying_in, is_owed_in, has_class, liability_of}
@@ -56,10 +50,6 @@ use Rattle.scr_plan.proofs.Gathered.{together-none, together-wider, together-app
 use Rattle.scr_plan.proofs.Payments.{security-known, liability-known, security-fits, liability-fits, paid-within}
 use Rattle.scr_plan.proofs.SeenThrough.{seen-small}
 use Rattle.scr_plan.proofs.Totals.{fund-worked, security-worked}
-
-both-true : (a b : Bool) → (a && b) ≡ true → (a ≡ true) × (b ≡ true)
-both-true true b h = (refl, h)
-both-true false b h = absurd (cc)
 
 sum_by-times : {X : Type 0} (n : ℕ) (f : X → ℕ) (xs : List X) → sum_by (λ x. n * f x) xs ≡ n * sum_by f xs
 sum_by-times n f [] = omega arith

@@ -55,17 +55,6 @@ module _ (factors : FactorValues) (sheet : BalanceSheet) (valid : Valid sheet) w
   unfolding IsTotal
   closed (nodes.FundTotal name) h = holders-are name
   closed (nodes.SecurityTotal name) h = holders-are name
-  closed (nodes.UnitLoss name direction) h = absurd h
-  closed (nodes.SecurityRate name direction) h = absurd h
-  closed (nodes.LiabilityRate name direction) h = absurd h
-  closed (nodes.CurrencyLoss name direction) h = absurd h
-  closed (nodes.InterestScenario direction measure) h = absurd h
-  closed (nodes.Choice which) h = absurd h
-  closed (nodes.Picked which measure) h = absurd h
-  closed (nodes.ClassSum class) h = absurd h
-  closed (nodes.EquityPart kind) h = absurd h
-  closed nodes.EquityRoot h = absurd h
-  closed (nodes.NetPart risk) h = absurd h
   closed node h = absurd h
 
   -- the parts of all holders, where the figure of each is its total
@@ -85,17 +74,6 @@ module _ (factors : FactorValues) (sheet : BalanceSheet) (valid : Valid sheet) w
       ap (λ n. exact_ends (pos n)) (sym (ap (λ n. n + parts_held (map (share_in name) (filter (holds name) sheet.funds)) (map found (holder_totals name sheet))) (sym (held-of-fund sheet valid.named_once name h)) ∙ holders-parts name found found-funds))
   equation (nodes.SecurityTotal name) h =
       ap (λ n. exact_ends (pos n)) (sym (ap (λ n. n + parts_held (map (share_in name) (filter (holds name) sheet.funds)) (map found (holder_totals name sheet))) (sym (held-of-security sheet valid.named_once name h)) ∙ holders-parts name found found-funds))
-  equation (nodes.UnitLoss name direction) h = absurd h
-  equation (nodes.SecurityRate name direction) h = absurd h
-  equation (nodes.LiabilityRate name direction) h = absurd h
-  equation (nodes.CurrencyLoss name direction) h = absurd h
-  equation (nodes.InterestScenario direction measure) h = absurd h
-  equation (nodes.Choice which) h = absurd h
-  equation (nodes.Picked which measure) h = absurd h
-  equation (nodes.ClassSum class) h = absurd h
-  equation (nodes.EquityPart kind) h = absurd h
-  equation nodes.EquityRoot h = absurd h
-  equation (nodes.NetPart risk) h = absurd h
   equation node h = absurd h
 
   pub fund-worked : (name : List ℕ) → has_row stake_name name sheet.funds ≡ true → figure (nodes.FundTotal name) ≡ cents_of name

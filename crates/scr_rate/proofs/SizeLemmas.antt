@@ -1,5 +1,5 @@
 -- How large the requirements are, from the definitions alone.
-use Rattle.std.proofs.Common.{◌≡◌, ℕ, zero, suc, ◌+◌, ◌*◌, ◌^◌, ◌<◌, ◌≤◌, List, [], ◌∷◌, length, sum_by, ℤ, pos, negsuc, ◌+ℤ◌, ◌-ℤ◌, ◌*ℤ◌, ◌≤ℤ◌, neg_ℤ, unsigned_abs, arith, lit<, refl, ap, ◌∙◌}
+use Rattle.std.proofs.Common.{◌≡◌, ℕ, zero, suc, ◌+◌, ◌*◌, ◌^◌, ◌<◌, ◌≤◌, List, [], ◌∷◌, length, sum_by, ℤ, pos, negsuc, ◌+ℤ◌, ◌-ℤ◌, ◌*ℤ◌, ◌≤ℤ◌, neg_ℤ, unsigned_abs, arith, lit<}
 use Rattle.std.specs.Prelude.{All}
 use Rattle.std.specs.Int.{int_max}
 use Rattle.std.specs.List.{AllByRecursion}
@@ -93,28 +93,6 @@ pub lows-of : (spans : List Span) → All (λ (span : Span). pos 0 ≤ℤ span.l
 lows-of [] all = tt
 lows-of (s ∷ spans) all = (all 0 s (omega arith), lows-of spans (λ k d within. all (suc k) d (omega (arith, within))))
 
-sum_by-map : (f : Ends → ℕ) (spans : List Span) → sum_by f (all_ends spans) ≡ sum_by (λ (s : Span). f (ends s)) spans
-sum_by-map f [] = refl
-sum_by-map f (s ∷ spans) =
-    sum_by-cons f (ends s) (all_ends spans) ∙ ap (λ (n : ℕ). f (ends s) + n) (sum_by-map f spans) ∙ back
-  where
-    back : f (ends s) + sum_by (λ (t : Span). f (ends t)) spans ≡ sum_by (λ (t : Span). f (ends t)) (s ∷ spans)
-    back = omega (arith, sum_by-cons (λ (t : Span). f (ends t)) s spans)
-
-pub together-spans : (most : ℕ) (spans : List Span) → sum_by (λ (s : Span). unsigned_abs s.low) spans ≤ most → sum_by (λ (s : Span). unsigned_abs s.high) spans ≤ most
-    → AreTogether most (all_ends spans)
-together-spans most spans h k = record {
-  lows = omega (arith, h, sum_by-map (λ (e : Ends). unsigned_abs e.low) spans);
-  highs = omega (arith, k, sum_by-map (λ (e : Ends). unsigned_abs e.high) spans);
-}
-
-pub spans-together : (most : ℕ) (spans : List Span) → AreTogether most (all_ends spans)
-    → (sum_by (λ (s : Span). unsigned_abs s.low) spans ≤ most) × (sum_by (λ (s : Span). unsigned_abs s.high) spans ≤ most)
-spans-together most spans h = (
-  omega (arith, h.lows, sum_by-map (λ (e : Ends). unsigned_abs e.low) spans),
-  omega (arith, h.highs, sum_by-map (λ (e : Ends). unsigned_abs e.high) spans),
-)
-
 -- ---- what is chosen between two
 module _ (a b : Alternative) where
   abbrev list : List Alternative
@@ -145,9 +123,6 @@ held most e h = record { low = omega (arith, ints, h.low); high = omega (arith, 
 
 held-up : (most : ℕ) (e : Ends) → pos 0 ≤ℤ e.low → IsWithin most e → Holds (record { low = pos 0; high = pos most }) e
 held-up most e low h = record { low = low; high = omega (arith, ints, h.high) }
-
-pub held-low : (most : ℕ) (e : Ends) → pos 0 ≤ℤ e.low → e.high ≤ℤ pos most → Holds (record { low = pos 0; high = pos most }) e
-held-low most e low high = record { low = low; high = high }
 
 ordered-within : (most : ℕ) (e : Ends) → e.low ≤ℤ e.high → Holds (record { low = neg_ℤ (pos most); high = pos most }) e → IsWithin most e
 ordered-within most e order h = record { low = omega (arith, ints, order, h.low, h.high); high = omega (arith, ints, order, h.low, h.high) }

@@ -1,11 +1,11 @@
 -- The sum of the losses, as the code goes.
-use Rattle.std.proofs.Common.{◌≡◌, ℕ, ◌+◌, ◌^◌, ◌<◌, ◌≤◌, ℤ, pos, ◌+ℤ◌, List, ◌∷◌, length, get_or, drop, sum_by, unsigned_abs, sym, ap, ◌∙◌, arith}
+use Rattle.std.proofs.Common.{◌≡◌, ℕ, ◌+◌, ◌^◌, ◌<◌, ◌≤◌, ℤ, ◌+ℤ◌, List, ◌∷◌, length, get_or, drop, sum_by, unsigned_abs, sym, ap, ◌∙◌, arith}
 use Rattle.std.proofs.lemmas.Int.{ints}
-use Rattle.std.proofs.lemmas.List.{drop_more, drop_all}
+use Rattle.std.proofs.lemmas.List.{drop_more}
 use Rattle.std.proofs.lemmas.List.Sums.{sum_by-cons}
 use Rattle.scr_num.specs.declared.span.Span.{Span}
-use Rattle.scr_num.specs.Rounding.{Ends, ends, add_ends, exact_ends}
-use Rattle.scr_num.proofs.AddedEnds.{add_ends-assoc, zero-add_ends, add_ends-zero}
+use Rattle.scr_num.specs.Rounding.{Ends, ends, add_ends}
+use Rattle.scr_num.proofs.AddedEnds.{add_ends-assoc}
 use Rattle.scr_agg.specs.Correlated.{all_ends}
 use Rattle.scr_num.specs.Sums.{sum_ends}
 
@@ -14,17 +14,6 @@ pub record SummedTo (losses : List Span) (sum : Span) (i : ℕ) : Type 0 where
   pub total : add_ends (ends sum) (sum_ends (all_ends (drop i losses))) ≡ sum_ends (all_ends losses)
   pub low : unsigned_abs sum.low + sum_by (λ (loss : Span). unsigned_abs loss.low) (drop i losses) ≤ 10 ^ 33
   pub high : unsigned_abs sum.high + sum_by (λ (loss : Span). unsigned_abs loss.high) (drop i losses) ≤ 10 ^ 33
-
-pub summed-start : (losses : List Span) (sum : Span) → ends sum ≡ exact_ends (pos 0) → sum_by (λ (loss : Span). unsigned_abs loss.low) losses ≤ 10 ^ 33 → sum_by (λ (loss : Span). unsigned_abs loss.high) losses ≤ 10 ^ 33
-    → SummedTo losses sum 0
-summed-start losses sum e h k =
-    let low : sum.low ≡ pos 0 = ap (λ (x : Ends). x.low) e in
-    let high : sum.high ≡ pos 0 = ap (λ (x : Ends). x.high) e in
-    record {
-      total = ap (λ (x : Ends). add_ends x (sum_ends (all_ends losses))) e ∙ zero-add_ends (sum_ends (all_ends losses));
-      low = rw low (omega (arith, h));
-      high = rw high (omega (arith, k));
-    }
 
 abs_plus : (a b : ℤ) → unsigned_abs (a +ℤ b) ≤ unsigned_abs a + unsigned_abs b
 abs_plus a b = omega (arith, ints)
@@ -45,7 +34,3 @@ summed-next losses sum loss next i lt at e h =
       low = rw low (omega (arith, abs_plus sum.low loss.low, lows, h.low));
       high = rw high (omega (arith, abs_plus sum.high loss.high, highs, h.high));
     }
-
-pub summed-end : (losses : List Span) (sum : Span) (i : ℕ) → length losses ≤ i → SummedTo losses sum i → ends sum ≡ sum_ends (all_ends losses)
-summed-end losses sum i most h =
-    sym (ap (λ l. add_ends (ends sum) (sum_ends (all_ends l))) (drop_all i losses most) ∙ add_ends-zero (ends sum)) ∙ h.total

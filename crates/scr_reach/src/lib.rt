@@ -14,7 +14,7 @@ mod slots;
 mod starts;
 
 pub use first_links::link_all;
-pub use linking::{linked_sources, places_of};
+pub use linking::{linked_sources, places_near, places_of};
 pub use live::is_live;
 pub use places::Places;
 pub use relinking::relink;

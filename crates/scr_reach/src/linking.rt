@@ -13,14 +13,40 @@ pub fn places_of(alloc: Global, places: &Places, nodes: &[Node]) -> Result<Vec<u
     requires { AllByRecursion (IsPlaced places.now) nodes.now }
     ensures { IfOk result (λ numbers. AreAt places.now numbers.items nodes.now) }
 {
+    places_near(alloc, places, &[], nodes)
+}
+
+/// The same, which costs least where each figure stands soon after the place of the one before it, or after the place that
+/// `near` has where the figure comes.
+pub fn places_near(
+    alloc: Global,
+    places: &Places,
+    near: &[u32],
+    nodes: &[Node],
+) -> Result<Vec<u32>, NoMemory>
+    requires { AllByRecursion (IsPlaced places.now) nodes.now }
+    ensures { IfOk result (λ numbers. AreAt places.now numbers.items nodes.now) }
+{
     let mut numbers = Vec::with_capacity(alloc, nodes.len())?;
-    for node in nodes {
-        match places.find(node) {
-            Some(place) => numbers.push(place)?,
+    let mut last = 0;
+    for (k, node) in nodes.iter().enumerate() {
+        match places.find_after((mark_at(near, k), last), node) {
+            Some(place) => {
+                last = place;
+                numbers.push(place)?;
+            }
             None => unreachable!(),
         }
     }
     Ok(numbers)
+}
+
+/// The place that stands there, or the first of all.
+fn mark_at(near: &[u32], k: usize) -> u32 {
+    match near.get(k) {
+        Some(place) => *place,
+        None => 0,
+    }
 }
 
 /// The places of the sources of the figure at a place, as they are linked. Only want of memory is

@@ -2,6 +2,7 @@
 ghost use Rattle.std.specs.Prelude.{◌≡◌, ◌<◌, ◌++◌, ◌⊎◌, [], ◌∷◌, Some, Contains, length, slice_get, IfSome, IfOk, IsNone, OnOk, OnErr};
 ghost use Rattle.scr_nodes.specs.LiveNodes.{HasNoRepeats};
 ghost use Rattle.scr_nodes.specs.declared.node.Node.{Node};
+ghost use Rattle.scr_reach.specs.Keys as spec;
 
 use crate::key::{Key, key_of};
 use crate::slots::Slots;
@@ -65,30 +66,48 @@ impl Places {
         }
     }
 
+    /// The same, where the figure may stand soon after one of these places: it is looked for there first, which costs less.
+    pub(crate) fn find_after(&self, marks: (u32, u32), node: &Node) -> Option<u32>
+        ensures there { IfSome result (λ place. slice_get self.now place ≡ Some node.now) }
+        ensures absent { IsNone result → Contains self.now node.now → ⊥ }
+    {
+        let key = key_of(node);
+        if let Some(place) = self.next_of(marks.0, &key) {
+            return Some(place);
+        }
+        if let Some(place) = self.next_of(marks.1, &key) {
+            return Some(place);
+        }
+        self.find(node)
+    }
+
+    /// The first of the two places after this one at which the figure of a key stands.
+    fn next_of(&self, mark: u32, key: &Key) -> Option<u32>
+        ensures { IfSome result (λ place. (node : Node) → key.now ≡ spec.key_of node
+            → slice_get self.now place ≡ Some node) }
+    {
+        let first = mark.saturating_add(1);
+        if self.slots.is_at(first as usize, key) {
+            return Some(first);
+        }
+        let second = mark.saturating_add(2);
+        if self.slots.is_at(second as usize, key) {
+            return Some(second);
+        }
+        None
+    }
+
     /// The place of a figure, which is given the next one where it has none.
     pub fn enter(&mut self, node: &Node) -> Result<u32, NoMemory>
         ensures there { IfOk result (λ place. slice_get self.new place ≡ Some node.now) }
         ensures others { OnOk result ((self.new ≡ self.old) ⊎ (self.new ≡ self.old ++ node.now ∷ [])) }
         ensures err { OnErr result (self.new ≡ self.old) }
     {
-        if let Some(place) = self.find(node) {
-            return Ok(place);
+        // As many figures as places can be numbered.
+        if self.slots.len() >= u32::MAX as usize {
+            return self.find(node).ok_or(NoMemory);
         }
-        self.add(node)
-    }
-
-    /// Gives a figure that has no place the next one. As many figures as places can be numbered.
-    fn add(&mut self, node: &Node) -> Result<u32, NoMemory>
-        requires { Contains self.old node.now → ⊥ }
-        ensures there { IfOk result (λ place. slice_get self.new place ≡ Some node.now) }
-        ensures others { OnOk result (self.new ≡ self.old ++ node.now ∷ []) }
-        ensures err { OnErr result (self.new ≡ self.old) }
-    {
-        let place = self.slots.len();
-        if place >= u32::MAX as usize {
-            return Err(NoMemory);
-        }
-        self.slots.add(key_of(node), *node)?;
+        let place = self.slots.put(key_of(node), *node)?;
         Ok(place as u32)
     }
 }

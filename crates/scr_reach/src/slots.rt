@@ -1,7 +1,9 @@
 //! A map in which each key keeps its place.
-ghost use Rattle.std.specs.Prelude.{◌≡◌, ◌<◌, ◌++◌, [], ◌∷◌, None, Some, length, slice_get, is_some, IfSome, IfOk, OnOk, OnErr};
+ghost use Rattle.std.specs.Prelude.{◌≡◌, ◌<◌, [], Some, false, length, slice_get, is_some, IfSome, IfOk, OnOk, OnErr};
 ghost use Rattle.std.specs.List.{IsDistinct};
+ghost use Rattle.std.specs.Option.{option_map_or};
 ghost use Rattle.std.specs.Map.{keys_of, lookup, values_of};
+ghost use Rattle.indexmap.specs.IndexMap.{insert_entry};
 
 use indexmap::IndexMap;
 use std::alloc::{AllocError as NoMemory, Global};
@@ -48,6 +50,16 @@ impl<K: Eq + Hash + Copy + Drop, V: Copy + Drop> Slots<K, V> {
         self.table.get_index_of(key)
     }
 
+    /// The value at a place stands under this key.
+    pub(crate) fn is_at(&self, place: usize, key: &K) -> bool
+        ensures { result ≡ option_map_or (λ (entry : K × V). K.eq entry.0 key.now) (slice_get self.now place) false }
+    {
+        match self.table.get_index(place) {
+            Some((own, _)) => *own == *key,
+            None => false,
+        }
+    }
+
     /// The value at a place.
     pub(crate) fn at(&self, place: usize) -> &V
         requires { place < length self.now }
@@ -56,13 +68,13 @@ impl<K: Eq + Hash + Copy + Drop, V: Copy + Drop> Slots<K, V> {
         &self.table[place]
     }
 
-    /// Puts a value last, under a key that has none.
-    pub(crate) fn add(&mut self, key: K, value: V) -> Result<(), NoMemory>
-        requires { lookup (K.eq key) self.old ≡ None }
-        ensures ok { OnOk result (self.new ≡ self.old ++ (key, value) ∷ []) }
+    /// The place of a key, under which the value stands from then on. A key that had none goes last.
+    pub(crate) fn put(&mut self, key: K, value: V) -> Result<usize, NoMemory>
+        ensures ok { OnOk result (self.new ≡ insert_entry K.eq self.old key value) }
+        ensures there { IfOk result (λ place. slice_get (values_of self.new) place ≡ Some value) }
         ensures err { OnErr result (self.new ≡ self.old) }
     {
-        self.table.insert(key, value)?;
-        Ok(())
+        let (place, _) = self.table.insert_full(key, value)?;
+        Ok(place)
     }
 }

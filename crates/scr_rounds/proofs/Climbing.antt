@@ -1,7 +1,5 @@
 -- How far what is reached along edges is found.
-use Rattle.std.proofs.Common.{◌≡◌, ◌⊎◌, ℕ, ◌+◌, ◌<◌, ◌≤◌, suc, zero, Bool, true, false, List, [], ◌∷◌, ◌++◌, nat_eq}
-use Rattle.std.proofs.Common.{Contains, filter, if◌then◌else◌, length, map, slice_get, Some, refl, sym, ap, subst, ◌∙◌}
-use Rattle.std.proofs.Common.{inl, inr, arith}
+use Rattle.std.proofs.Common.{◌≡◌, ◌⊎◌, ℕ, ◌+◌, ◌<◌, ◌≤◌, suc, zero, Bool, true, false, List, [], ◌∷◌, ◌++◌, nat_eq, Contains, filter, if◌then◌else◌, length, map, slice_get, Some, refl, sym, ap, subst, ◌∙◌, inl, inr, arith}
 use Rattle.std.specs.List.{IsDistinct, list_any}
 use Rattle.std.proofs.lemmas.Bool.{cases_lt}
 use Rattle.std.proofs.lemmas.Bool.Decides.{eqb_tells}
@@ -11,9 +9,7 @@ use Rattle.indexmap.specs.IndexSet.{insert_all, insert_key}
 use Rattle.scr_links.specs.Edges.{Edge, Linked, dependants_of}
 use Rattle.scr_rounds.specs.Reached.{AreReached, IsReached}
 use Rattle.scr_rounds.specs.Reached.IsReached.{begins, follows}
-use Rattle.scr_rounds.proofs.Members.{IsMember, IsMember-from_Contains, Contains-from_IsMember, IsMember-left}
-use Rattle.scr_rounds.proofs.Members.{IsMember-right, IsMember-map, IsMember-mapped, IsMember-from_place, place_of}
-use Rattle.scr_rounds.proofs.Members.{inserted_cases, member-from_any}
+use Rattle.scr_rounds.proofs.Members.{IsMember, IsMember-from_Contains, Contains-from_IsMember, IsMember-left, IsMember-right, IsMember-map, IsMember-mapped, IsMember-from_place, place_of, inserted_cases, member-from_any}
 
 -- ---- what is entered
 

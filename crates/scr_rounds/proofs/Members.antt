@@ -1,7 +1,5 @@
 -- Membership in a list, by recursion.
-use Rattle.std.proofs.Common.{◌≡◌, ◌⊎◌, ℕ, ◌<◌, suc, zero, Bool, true, false, nat_eq, ◌||◌, List, [], ◌∷◌, ◌++◌}
-use Rattle.std.proofs.Common.{◌+◌, drop, if◌then◌else◌, map, length, get_or, Contains, Some, slice_get, refl, sym, ap}
-use Rattle.std.proofs.Common.{subst, ◌∙◌, inl, inr, arith}
+use Rattle.std.proofs.Common.{◌≡◌, ◌⊎◌, ℕ, ◌<◌, suc, zero, Bool, true, false, nat_eq, ◌||◌, List, [], ◌∷◌, ◌++◌, ◌+◌, drop, if◌then◌else◌, map, length, get_or, Contains, Some, slice_get, refl, sym, ap, subst, ◌∙◌, inl, inr, arith}
 use Rattle.std.specs.List.{AllByRecursion, IsDistinct, list_any}
 use Rattle.std.proofs.lemmas.Bool.{true≢false}
 use Rattle.std.proofs.lemmas.List.{append_assoc}
@@ -104,9 +102,6 @@ member-from_any x (y ∷ ys) h = by (eqb_tells x y) (λ e. member-from_any x ys 
         → IsMember x (y ∷ ys)
     by (inl t) later = inl t.1
     by (inr f) later = inr (later f.0)
-
-pub no_member : (x : ℕ) (xs : List ℕ) → list_any (nat_eq x) xs ≡ false → IsMember x xs → ⊥
-no_member x xs h m = true≢false (sym (any-from_member x xs m) ∙ h)
 
 pub any-from_none : (x : ℕ) (xs : List ℕ) → (IsMember x xs → ⊥) → list_any (nat_eq x) xs ≡ false
 any-from_none x xs none = by (list_any (nat_eq x) xs) refl

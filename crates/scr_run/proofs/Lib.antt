@@ -1,6 +1,7 @@
 pub mod FileSteps
 pub mod Pieces
 pub mod Pushes
+pub mod Recording
 pub mod ReplySteps
 pub mod Told
 pub mod Formed

@@ -33,3 +33,9 @@ abbrev pub Read : Result BalanceSheet (ℕ × Fault) → Result BalanceSheet Boo
 Read due (Ok book) = due ≡ Ok book
 Read due (Err (book_faults.Record line fault)) = due ≡ Err (line, fault)
 Read due (Err book_faults.NoMemory) = Unit {0}
+
+-- The book changes to what is due, or the line and the fault are told.
+abbrev pub Filled : {A : Type 0} → Result BalanceSheet (ℕ × Fault) → Result A BookFault → BalanceSheet → Type 0
+Filled due (Ok a) new = due ≡ Ok new
+Filled due (Err (book_faults.Record line fault)) new = due ≡ Err (line, fault)
+Filled due (Err book_faults.NoMemory) new = Unit {0}

@@ -5,8 +5,8 @@ ghost use Rattle.scr_sheet.specs.Faults.{fault_of};
 ghost use Rattle.scr_sheet.specs.Forms.{Formed};
 ghost use Rattle.scr_sheet.specs.Records.{applied};
 ghost use Rattle.scr_tree.specs.Standing.{Refuses, with_sheet};
-ghost use Rattle.scr_run.specs.BookFile.{recorded, sheet_of};
-ghost use Rattle.scr_run.specs.BookAnswers.{Recorded, Replied, Read};
+ghost use Rattle.scr_run.specs.BookFile.{recorded, sheet_from, sheet_of};
+ghost use Rattle.scr_run.specs.BookAnswers.{Filled, Recorded, Replied, Read};
 ghost use Rattle.scr_csv.specs.Lines.{records};
 ghost use Rattle.scr_csv.specs.LineOrder.{lines_left};
 
@@ -38,15 +38,32 @@ pub fn read_book(alloc: Global, bytes: &[u8]) -> Result<Book, BookFault>
     ensures answer { Read (sheet_of bytes.now) result }
     ensures never_memory { (line : ℕ) → IsErrOf result (BookFault.Record line faults.NoMemory) → ⊥ }
 {
-    let mut book = Book::new(alloc).map_err(|_| BookFault::NoMemory)?;
+    let Ok(mut book) = Book::new(alloc) else {
+        return Err(BookFault::NoMemory);
+    };
+    match fill(alloc, &mut book, bytes) {
+        Ok(()) => Ok(book),
+        Err(fault) => {
+            book.close();
+            Err(fault)
+        }
+    }
+}
+
+/// Applies the records of the file to the book, one after another, up to the first that is refused.
+fn fill(alloc: Global, book: &mut Book, bytes: &[u8]) -> Result<(), BookFault>
+    requires { length bytes.now ≤ 67108864 }
+    ensures answer { Filled (sheet_from (records bytes.now) book.old) result book.new }
+    ensures never_memory { (line : ℕ) → IsErrOf result (BookFault.Record line faults.NoMemory) → ⊥ }
+{
     for line in lines(bytes) {
-        match record(alloc, &mut book, line.text) {
+        match record(alloc, book, line.text) {
             Ok(()) => {}
             Err(Fault::NoMemory) => return Err(BookFault::NoMemory),
             Err(fault) => return Err(BookFault::Record(line.number, fault)),
         }
     }
-    Ok(book)
+    Ok(())
 }
 
 /// Applies the record of a line to the book, which is as before where the record is refused.

@@ -6,14 +6,14 @@ use scr_book::Fault;
 use scr_factors::FactorFault;
 
 /// Which of the files of records is too long.
-#[derive(Clone, Copy, Debug, PartialEq, Eq)]
+#[derive(Clone, Copy)]
 pub enum Which {
     Book,
     Edits,
 }
 
 /// How a run ended.
-#[derive(Debug, PartialEq, Eq, Drop)]
+#[derive(Drop)]
 pub enum Status {
     /// All was read and written, and every edit was accepted.
     Done,

@@ -4,7 +4,7 @@ use Rattle.std.specs.List.{AllByRecursion}
 use Rattle.std.specs.Option.{option_map_or}
 use Rattle.std.specs.Prelude.{slice_index_or}
 use Rattle.scr_sheet.specs.Absorptions.{absorbed}
-use Rattle.scr_sheet.specs.declared.keys.AbsorbKey.{AbsorbKey}
+use Rattle.scr_sheet.specs.declared.{keys.AbsorbKey.AbsorbKey, numbers.Numbers.Numbers, numbers.Regions.Regions}
 use Rattle.scr_dates.specs.declared.day.Day.{Day}
 use Rattle.scr_dates.specs.Civil.{IsDay}
 use Rattle.scr_sheet.specs.Forms.{IsCurrency}
@@ -12,8 +12,6 @@ use Rattle.scr_sheet.specs.Records.{absorb_place, placed, with_volumes, with_seg
 use Rattle.scr_sheet.specs.Validity.{AreNumbers, AreVolumes, IsAmount, IsBetween}
 use Rattle.scr_profile.specs.declared.set.Set.{Set}
 use Rattle.scr_profile.specs.declared.set.Set.TheVariants as sets
-use Rattle.scr_sheet.specs.declared.numbers.Numbers.{Numbers}
-use Rattle.scr_sheet.specs.declared.numbers.Regions.{Regions}
 use Rattle.scr_profile.specs.declared.limits.TheConstants.{MAX_AMOUNT, MAX_SYM, MAX_TAX}
 
 pub All-set : {X : Type 0} (P : X → Type 0) (xs : List X) (k : ℕ) (x : X) → P x → AllByRecursion P xs → AllByRecursion P (set xs k x)

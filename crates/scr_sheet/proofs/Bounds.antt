@@ -1,5 +1,5 @@
 -- What it says of a record's numbers that none is outside its limits.
-use Rattle.std.proofs.Common.{◌≡◌, ℕ, ℤ, pos, negsuc, ◌≤◌, ◌≤ℤ◌, Bool, true, false, List, [], ◌∷◌, Option, Some, None, if◌then◌else◌, nat_le, int_lt, refl, ap, arith}
+use Rattle.std.proofs.Common.{◌≡◌, ℕ, ℤ, pos, negsuc, ◌≤◌, ◌≤ℤ◌, List, [], ◌∷◌, Option, Some, None, if◌then◌else◌, refl, ap, arith}
 use Rattle.std.proofs.lemmas.Bool.{leb-true, le-leb}
 use Rattle.std.proofs.lemmas.Int.{ints}
 use Rattle.std.specs.List.{AllByRecursion}
@@ -7,9 +7,8 @@ use Rattle.std.specs.Option.{option_or}
 use Rattle.scr_sheet.specs.Records.{natural}
 use Rattle.scr_sheet.specs.Faults.{outside, above, first_fault}
 use Rattle.scr_sheet.specs.Validity.{IsBetween}
-use Rattle.scr_sheet.specs.declared.fault.Fault.{Fault}
+use Rattle.scr_sheet.specs.declared.{fault.Fault.Fault, fault.Quantity.Quantity}
 use Rattle.scr_sheet.specs.declared.fault.Fault.TheVariants as faults
-use Rattle.scr_sheet.specs.declared.fault.Quantity.{Quantity}
 
 -- where neither of two has a fault
 pub neither : {A : Type 0} (a b : Option A) → option_or a b ≡ None → (a ≡ None) × (b ≡ None)
@@ -22,25 +21,13 @@ option_or-none (Some x) = refl
 
 module _ (quantity : Quantity) (value limit : ℕ) where
   pub within_from_above : above quantity value limit ≡ None → value ≤ limit
-  within_from_above h = by (nat_le value limit) refl h
-    where
-      by : (t : Bool) → nat_le value limit ≡ t → (if t then None else Some (faults.Range quantity (pos value) (pos limit))) ≡ None → value ≤ limit
-      by true e none = leb-true value limit e
-      by false e none = absurd (cc)
+  within_from_above h = grind (arith, h, leb-true value limit)
 
   pub above-within : value ≤ limit → above quantity value limit ≡ None
   above-within h = ap (λ t. if t then None else Some (faults.Range quantity (pos value) (pos limit))) (le-leb value limit h)
 
-not_below : (a b : ℤ) → int_lt a b ≡ false → b ≤ℤ a
-not_below a b h = grind (arith, ints)
-
 pub between_from_outside : (quantity : Quantity) (low high value : ℤ) → outside quantity low high value ≡ None → IsBetween low high value
-between_from_outside quantity low high value h = by (int_lt value low) (int_lt high value) refl refl h
-  where
-    by : (s t : Bool) → int_lt value low ≡ s → int_lt high value ≡ t → (if s then Some (faults.Range quantity value low) else (if t then Some (faults.Range quantity value high) else None)) ≡ None → IsBetween low high value
-    by true t e f none = absurd (cc)
-    by false true e f none = absurd (cc)
-    by false false e f none = (not_below value low e, not_below high value f)
+between_from_outside quantity low high value h = grind (arith, ints, h)
 
 pub all_from_first_fault : {A : Type 0} (fault : A → Option Fault) (xs : List A) → first_fault fault xs ≡ None → AllByRecursion (λ x. fault x ≡ None) xs
 all_from_first_fault fault [] none = tt

@@ -5,31 +5,26 @@ use Rattle.scr_funds.specs.Chains.{IsAcyclic}
 use Rattle.scr_names.specs.Names.{same_name}
 use Rattle.scr_names.specs.Tables.{has_row, with_row, without}
 use Rattle.scr_sheet.specs.BalanceSheet.{group_name, position_name, liability_name, bank_name, rein_name, curve_name, stake_name, names_of, components_of, is_named}
-use Rattle.scr_sheet.specs.declared.sheet.BalanceSheet.{BalanceSheet}
+use Rattle.scr_sheet.specs.declared.{sheet.BalanceSheet.BalanceSheet, rows.Group.Group, rows.Position.Position, rows.Stake.Stake, rows.Liability.Liability, rows.Bank.Bank, rows.Rein.Rein, rows.Curve.Curve, numbers.Numbers.Numbers}
 use Rattle.scr_sheet.specs.Validity.{Valid, AreWithin, AreNumbers, IsGroup, IsSecurity, IsStake, IsLiability, IsBank, IsRein, IsCurve, HasGroup, HasGroupOrNone, HasCurrency, IsHeld}
-use Rattle.scr_sheet.specs.declared.rows.Group.{Group}
-use Rattle.scr_sheet.specs.declared.rows.Position.{Position}
-use Rattle.scr_sheet.specs.declared.rows.Stake.{Stake}
-use Rattle.scr_sheet.specs.declared.rows.Liability.{Liability}
-use Rattle.scr_sheet.specs.declared.rows.Bank.{Bank}
-use Rattle.scr_sheet.specs.declared.rows.Rein.{Rein}
-use Rattle.scr_sheet.specs.declared.rows.Curve.{Curve}
-use Rattle.scr_sheet.specs.declared.numbers.Numbers.{Numbers}
 use Rattle.scr_names.proofs.TableRows.{IsFresh, All-append, fresh_from_has_row, distinct-with_row, distinct-without}
 use Rattle.scr_sheet.proofs.Projections.{or_false}
 
 module _ (sheet : BalanceSheet) (valid : Valid sheet) where
-  pub valid-groups : (groups : List Group) → let after : BalanceSheet = record sheet { groups = groups } in AllByRecursion IsGroup groups → IsDistinct same_name (names_of after)
-      → AllByRecursion (λ p. HasGroupOrNone groups p.security.group) sheet.securities → AllByRecursion (λ b. HasGroup groups b.group) sheet.banks → AllByRecursion (λ r. HasGroup groups r.group) sheet.reinsurers
-      → AreWithin after → Valid after
-  valid-groups groups all named securities banks reinsurers within =
+  -- the groups, and the liabilities, banks and reinsurers
+  valid-beside : (groups : List Group) (liabilities : List Liability) (banks : List Bank) (reinsurers : List Rein)
+      → let after : BalanceSheet = record sheet { groups = groups; liabilities = liabilities; banks = banks; reinsurers = reinsurers } in
+      AllByRecursion IsGroup groups → AllByRecursion IsLiability liabilities → AllByRecursion IsBank banks → AllByRecursion IsRein reinsurers → IsDistinct same_name (names_of after)
+      → AllByRecursion (λ p. HasGroupOrNone groups p.security.group) sheet.securities → AllByRecursion (λ l. HasCurrency sheet.curves l.currency) liabilities
+      → AllByRecursion (λ b. HasGroup groups b.group) banks → AllByRecursion (λ r. HasGroup groups r.group) reinsurers → AreWithin after → Valid after
+  valid-beside groups liabilities banks reinsurers all_groups all_liabilities all_banks all_reinsurers named securities currencies in_banks in_reinsurers within =
       record {
-        groups = all;
+        groups = all_groups;
         securities = valid.securities;
         funds = valid.funds;
-        liabilities = valid.liabilities;
-        banks = valid.banks;
-        reinsurers = valid.reinsurers;
+        liabilities = all_liabilities;
+        banks = all_banks;
+        reinsurers = all_reinsurers;
         curves = valid.curves;
         numbers = valid.numbers;
         named_once = named;
@@ -38,14 +33,35 @@ module _ (sheet : BalanceSheet) (valid : Valid sheet) where
         within = within;
         known = record {
           security_groups = securities;
-          bank_groups = banks;
-          rein_groups = reinsurers;
+          bank_groups = in_banks;
+          rein_groups = in_reinsurers;
           security_currencies = valid.known.security_currencies;
-          liability_currencies = valid.known.liability_currencies;
+          liability_currencies = currencies;
           components = valid.known.components;
           reporting = valid.known.reporting;
         };
       }
+
+  pub valid-groups : (groups : List Group) → let after : BalanceSheet = record sheet { groups = groups } in AllByRecursion IsGroup groups → IsDistinct same_name (names_of after)
+      → AllByRecursion (λ p. HasGroupOrNone groups p.security.group) sheet.securities → AllByRecursion (λ b. HasGroup groups b.group) sheet.banks → AllByRecursion (λ r. HasGroup groups r.group) sheet.reinsurers
+      → AreWithin after → Valid after
+  valid-groups groups all named securities banks reinsurers within =
+      valid-beside groups sheet.liabilities sheet.banks sheet.reinsurers all valid.liabilities valid.banks valid.reinsurers named securities valid.known.liability_currencies banks reinsurers within
+
+  pub valid-liabilities : (liabilities : List Liability) → let after : BalanceSheet = record sheet { liabilities = liabilities } in AllByRecursion IsLiability liabilities → IsDistinct same_name (names_of after)
+      → AllByRecursion (λ l. HasCurrency sheet.curves l.currency) liabilities → AreWithin after → Valid after
+  valid-liabilities liabilities all named currencies within =
+      valid-beside sheet.groups liabilities sheet.banks sheet.reinsurers valid.groups all valid.banks valid.reinsurers named valid.known.security_groups currencies valid.known.bank_groups valid.known.rein_groups within
+
+  pub valid-banks : (banks : List Bank) → let after : BalanceSheet = record sheet { banks = banks } in AllByRecursion IsBank banks → IsDistinct same_name (names_of after)
+      → AllByRecursion (λ b. HasGroup sheet.groups b.group) banks → AreWithin after → Valid after
+  valid-banks banks all named groups within =
+      valid-beside sheet.groups sheet.liabilities banks sheet.reinsurers valid.groups valid.liabilities all valid.reinsurers named valid.known.security_groups valid.known.liability_currencies groups valid.known.rein_groups within
+
+  pub valid-reinsurers : (reinsurers : List Rein) → let after : BalanceSheet = record sheet { reinsurers = reinsurers } in AllByRecursion IsRein reinsurers → IsDistinct same_name (names_of after)
+      → AllByRecursion (λ r. HasGroup sheet.groups r.group) reinsurers → AreWithin after → Valid after
+  valid-reinsurers reinsurers all named groups within =
+      valid-beside sheet.groups sheet.liabilities sheet.banks reinsurers valid.groups valid.liabilities valid.banks all named valid.known.security_groups valid.known.liability_currencies valid.known.bank_groups groups within
 
   -- the securities and the funds, and what is held of both
   pub valid-holdings : (securities : List Position) (funds : List Stake) → let after : BalanceSheet = record sheet { securities = securities; funds = funds } in AllByRecursion IsSecurity securities → AllByRecursion IsStake funds
@@ -86,87 +102,6 @@ module _ (sheet : BalanceSheet) (valid : Valid sheet) where
       → AllByRecursion (λ s. AllByRecursion (λ c. IsHeld after c.0) s.fund.components) funds → IsAcyclic (components_of funds) → AreWithin after → Valid after
   valid-funds funds each named components acyclic within =
       valid-holdings sheet.securities funds valid.securities each named valid.known.security_groups valid.known.security_currencies components acyclic within
-
-  pub valid-liabilities : (liabilities : List Liability) → let after : BalanceSheet = record sheet { liabilities = liabilities } in AllByRecursion IsLiability liabilities → IsDistinct same_name (names_of after)
-      → AllByRecursion (λ l. HasCurrency sheet.curves l.currency) liabilities → AreWithin after → Valid after
-  valid-liabilities liabilities all named currencies within =
-      record {
-        groups = valid.groups;
-        securities = valid.securities;
-        funds = valid.funds;
-        liabilities = all;
-        banks = valid.banks;
-        reinsurers = valid.reinsurers;
-        curves = valid.curves;
-        numbers = valid.numbers;
-        named_once = named;
-        currencies_once = valid.currencies_once;
-        acyclic = valid.acyclic;
-        within = within;
-        known = record {
-          security_groups = valid.known.security_groups;
-          bank_groups = valid.known.bank_groups;
-          rein_groups = valid.known.rein_groups;
-          security_currencies = valid.known.security_currencies;
-          liability_currencies = currencies;
-          components = valid.known.components;
-          reporting = valid.known.reporting;
-        };
-      }
-
-  pub valid-banks : (banks : List Bank) → let after : BalanceSheet = record sheet { banks = banks } in AllByRecursion IsBank banks → IsDistinct same_name (names_of after)
-      → AllByRecursion (λ b. HasGroup sheet.groups b.group) banks → AreWithin after → Valid after
-  valid-banks banks all named groups within =
-      record {
-        groups = valid.groups;
-        securities = valid.securities;
-        funds = valid.funds;
-        liabilities = valid.liabilities;
-        banks = all;
-        reinsurers = valid.reinsurers;
-        curves = valid.curves;
-        numbers = valid.numbers;
-        named_once = named;
-        currencies_once = valid.currencies_once;
-        acyclic = valid.acyclic;
-        within = within;
-        known = record {
-          security_groups = valid.known.security_groups;
-          bank_groups = groups;
-          rein_groups = valid.known.rein_groups;
-          security_currencies = valid.known.security_currencies;
-          liability_currencies = valid.known.liability_currencies;
-          components = valid.known.components;
-          reporting = valid.known.reporting;
-        };
-      }
-
-  pub valid-reinsurers : (reinsurers : List Rein) → let after : BalanceSheet = record sheet { reinsurers = reinsurers } in AllByRecursion IsRein reinsurers → IsDistinct same_name (names_of after)
-      → AllByRecursion (λ r. HasGroup sheet.groups r.group) reinsurers → AreWithin after → Valid after
-  valid-reinsurers reinsurers all named groups within =
-      record {
-        groups = valid.groups;
-        securities = valid.securities;
-        funds = valid.funds;
-        liabilities = valid.liabilities;
-        banks = valid.banks;
-        reinsurers = all;
-        curves = valid.curves;
-        numbers = valid.numbers;
-        named_once = named;
-        currencies_once = valid.currencies_once;
-        acyclic = valid.acyclic;
-        within = within;
-        known = record {
-          security_groups = valid.known.security_groups;
-          bank_groups = valid.known.bank_groups;
-          rein_groups = groups;
-          security_currencies = valid.known.security_currencies;
-          liability_currencies = valid.known.liability_currencies;
-          components = valid.known.components;
-          reporting = valid.known.reporting;
-        };
-      }
 
   pub valid-curves : (curves : List Curve) (numbers : Numbers) → let after : BalanceSheet = record sheet { curves = curves; numbers = numbers } in AllByRecursion IsCurve curves → AreNumbers numbers
       → IsDistinct same_name (map curve_name curves) → AllByRecursion (λ p. HasCurrency curves p.security.currency) sheet.securities → AllByRecursion (λ l. HasCurrency curves l.currency) sheet.liabilities

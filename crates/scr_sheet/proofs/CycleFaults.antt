@@ -10,15 +10,11 @@ use Rattle.scr_names.proofs.TableRows.{same_name-is, same_name-itself}
 use Rattle.scr_sheet.specs.BalanceSheet.{stake_name, components_of, held_total, defaults_total, components_total, sheet_years}
 use Rattle.scr_sheet.specs.Faults.{above, outside, outside_weight, first_fault, fault_of, list_fault, unknown_name, wrong_kind, cycle, out_of_range}
 use Rattle.scr_sheet.specs.Records.{applied, with_fund}
-use Rattle.scr_sheet.specs.declared.edit.Edit.{Edit}
+use Rattle.scr_sheet.specs.declared.{edit.Edit.Edit, fault.Fault.Fault, fault.Quantity.Quantity, rows.Stake.Stake, sheet.BalanceSheet.BalanceSheet}
 use Rattle.scr_sheet.specs.declared.edit.Edit.TheVariants as edits
-use Rattle.scr_sheet.specs.declared.fault.Fault.{Fault}
 use Rattle.scr_sheet.specs.declared.fault.Fault.TheVariants as faults
-use Rattle.scr_sheet.specs.declared.fault.Quantity.{Quantity}
 use Rattle.scr_sheet.specs.declared.fault.Quantity.TheVariants as quantities
 use Rattle.scr_profile.specs.declared.limits.TheConstants.{MIN_WEIGHT, MAX_WEIGHT, MAX_HELD, MAX_AMOUNT, MAX_YEARS, MAX_CURRENCIES, MAX_SECURITIES, MAX_FUNDS, MAX_COMPONENTS, MAX_LIABILITIES, MAX_GROUPS, MAX_EXPOSURES}
-use Rattle.scr_sheet.specs.declared.rows.Stake.{Stake}
-use Rattle.scr_sheet.specs.declared.sheet.BalanceSheet.{BalanceSheet}
 use Rattle.scr_sheet.proofs.FundChains.{holder-named}
 
 -- ---- a quantity outside its limits is no cycle

@@ -1,5 +1,5 @@
 -- What stood in a sheet leads back to it from what a record leaves.
-use Rattle.std.proofs.Common.{◌≡◌, ℕ, ℤ, ◌&&◌, true, false, Bool, List, Option, Some, None, refl, sym, ap, ◌∙◌}
+use Rattle.std.proofs.Common.{◌≡◌, ℕ, ℤ, true, List, Option, Some, None, refl, sym, ap, ◌∙◌, arith}
 use Rattle.std.specs.Option.{option_map_or}
 use Rattle.scr_names.specs.Pasts.{restored, HasPlace, LeadsBack as RowsLeadBack}
 use Rattle.scr_names.specs.Tables.{row_of, has_row, with_row, changed}
@@ -13,11 +13,7 @@ use Rattle.scr_sheet.specs.Validity.{Valid}
 use Rattle.scr_sheet.specs.declared.earlier.Earlier.TheVariants as earlier
 use Rattle.scr_sheet.specs.declared.edit.Edit.TheVariants as edits
 use Rattle.scr_sheet.specs.declared.keys.AbsorbKey.TheVariants as absorb
-use Rattle.scr_sheet.specs.declared.rows.Curve.{Curve}
-use Rattle.scr_sheet.specs.declared.rows.Liability.{Liability}
-use Rattle.scr_sheet.specs.declared.rows.Position.{Position}
-use Rattle.scr_sheet.specs.declared.rows.Stake.{Stake}
-use Rattle.scr_sheet.specs.declared.sheet.BalanceSheet.{BalanceSheet}
+use Rattle.scr_sheet.specs.declared.{rows.Curve.Curve, rows.Liability.Liability, rows.Position.Position, rows.Stake.Stake, sheet.BalanceSheet.BalanceSheet}
 use Rattle.scr_sheet.proofs.Sums.{in_one_table}
 
 -- where no row has the name, a change of it leaves the rows
@@ -69,11 +65,9 @@ module _ (sheet : BalanceSheet) where
 
   -- a fund of the name leaves none among the securities
   pub no_security : Valid sheet → (name : List ℕ) → has_row stake_name name sheet.funds ≡ true → row_of position_name name sheet.securities ≡ None
-  no_security valid name has = missing (row_of position_name name sheet.securities) (alone (has_row position_name name sheet.securities) (in_one_table sheet valid name))
-    where
-      alone : (b : Bool) → (b && has_row stake_name name sheet.funds) ≡ false → b ≡ false
-      alone true e = let both : true ≡ false = sym has ∙ e in absurd (cc)
-      alone false e = refl
+  no_security valid name has =
+      let once = in_one_table sheet valid name in
+      missing (row_of position_name name sheet.securities) (grind (arith, has, once))
 
   pub back-absorb_up : (currency : List ℕ) (cents : ℤ) (past : Past Curve) → RowsLeadBack curve_name currency past sheet.curves → LeadsBack (earlier.Curves past) (edits.Absorb (absorb.CurrencyUp currency) cents) sheet
   back-absorb_up currency cents past back =

@@ -5,26 +5,20 @@ use Rattle.std.specs.Option.{option_map_or}
 use Rattle.std.proofs.lemmas.List.{length-map}
 use Rattle.scr_funds.specs.Chains.{IsChain, LeadsTo, IsAcyclic}
 use Rattle.scr_funds.specs.Paths.{path_within}
-use Rattle.scr_funds.proofs.Members.{IsMember, IsMember-from_Contains, Contains-from_IsMember}
+use Rattle.scr_funds.proofs.Members.{IsMember-from_Contains, Contains-from_IsMember}
 use Rattle.scr_funds.proofs.Cycles.{acyclic_weaker, acyclic_still}
 use Rattle.scr_funds.proofs.EarliestPaths.{path_within-none}
 use Rattle.scr_names.specs.Names.{same_name}
-use Rattle.scr_names.specs.Tables.{row_of, has_row, without, changed}
+use Rattle.scr_names.specs.Tables.{row_of, without, changed}
 use Rattle.scr_sheet.specs.BalanceSheet.{stake_name, components_of}
 use Rattle.scr_sheet.specs.Records.{with_fund}
 use Rattle.scr_sheet.specs.declared.rows.Stake.{Stake}
-use Rattle.scr_names.proofs.TableRows.{same_or_other, same_name-itself, same_name-is, row_of-later, row_of-with_row_other, row_of-without_own, row_of-without_other, found-changed}
+use Rattle.scr_sheet.proofs.HeldNames.{member-row}
+use Rattle.scr_names.proofs.TableRows.{same_or_other, same_name-itself, same_name-is, row_of-with_row_other, row_of-without_own, row_of-without_other, found-changed}
 
 -- the names of a fund's components
 abbrev names_in : Stake → List (List ℕ)
 names_in stake = map (λ c. c.0) stake.fund.components
-
--- where a name has a row, it is one of the rows' names
-member-has_row : (name : List ℕ) (funds : List Stake) → has_row stake_name name funds ≡ true → IsMember name (map stake_name funds)
-member-has_row name [] has = absurd (cc)
-member-has_row name (s ∷ funds) has =
-    same_or_other name (stake_name s) (λ e. inl (same_name-is name (stake_name s) e))
-    (λ e. inr (member-has_row name funds (ap is_some (sym (row_of-later stake_name name s funds e)) ∙ has)))
 
 -- whoever has components is a fund
 pub holder-named : (funds : List Stake) (x : List ℕ) → ¬ (components_of funds x ≡ []) → Contains (map stake_name funds) x
@@ -32,7 +26,7 @@ holder-named funds x has = by (row_of stake_name x funds) refl
   where
     by : (found : Option Stake) → row_of stake_name x funds ≡ found → Contains (map stake_name funds) x
     by None e = absurd (has (ap (λ o. option_map_or names_in o []) e))
-    by (Some s) e = Contains-from_IsMember (map stake_name funds) x (member-has_row x funds (ap is_some e))
+    by (Some s) e = Contains-from_IsMember (map stake_name funds) x (member-row stake_name x funds (ap is_some e))
 
 -- where no path is computed from a fund to itself, it does not lead to itself
 pub leads_not : (funds : List Stake) (name : List ℕ) → path_within same_name (components_of funds) (length funds) name name ≡ None → ¬ LeadsTo (components_of funds) name name

@@ -6,9 +6,8 @@ use Rattle.scr_dates.specs.declared.day.Day.{Day}
 use Rattle.scr_names.specs.Tables.{row_of, with_row, without, changed}
 use Rattle.scr_sheet.specs.CashFlows.{greatest_years, flows_under, with_flows, all_projections}
 use Rattle.scr_sheet.specs.BalanceSheet.{greatest, liability_years}
-use Rattle.scr_sheet.specs.declared.keys.Projection.{Projection}
-use Rattle.scr_sheet.specs.declared.rows.Liability.{Liability}
-use Rattle.scr_names.proofs.TableRows.{All-map, All-with_row, All-without, All-row_of, All-changed, same_or_other, with_row-here, with_row-later}
+use Rattle.scr_sheet.specs.declared.{keys.Projection.Projection, rows.Liability.Liability}
+use Rattle.scr_names.proofs.TableRows.{All-map, All-with_row, All-without, All-row_of, All-changed}
 use Rattle.scr_sheet.proofs.Projections.{each_projection, every_projection, one_or_other, under-with}
 
 module _ {Row : Type 0} (f : Row → ℕ) where
@@ -34,10 +33,7 @@ module _ {Row : Type 0} (f : Row → ℕ) where
 
     pub le-greatest-with_row : (new : Row) (rows : List Row) → f new ≤ greatest f (with_row name_of new rows)
     le-greatest-with_row new [] = omega arith
-    le-greatest-with_row new (row ∷ rows) =
-        same_or_other (name_of new) (name_of row) (λ e. subst (λ (rs : List Row). f new ≤ greatest f rs) (sym (with_row-here name_of new row rows e)) (omega arith))
-        (λ e. let rest = le-greatest-with_row new rows in
-        subst (λ (rs : List Row). f new ≤ greatest f rs) (sym (with_row-later name_of new row rows e)) (omega arith))
+    le-greatest-with_row new (row ∷ rows) = let rest = le-greatest-with_row new rows in grind (arith, rest)
 
     pub row_of-le-greatest : (name : List ℕ) (rows : List Row) (row : Row) → row_of name_of name rows ≡ Some row → f row ≤ greatest f rows
     row_of-le-greatest name rows row is = All-row_of name_of (λ r. f r ≤ greatest f rows) name rows row is (le-greatest rows)

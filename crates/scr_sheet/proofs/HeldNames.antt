@@ -1,18 +1,16 @@
 -- The names of the funds and the securities of a balance sheet: no two of them are one, each stands in its own table, and
 -- what is held of them all is all that is held directly.
-use Rattle.std.proofs.Common.{◌≡◌, ◌⊎◌, ℕ, ◌+◌, true, false, List, [], ◌∷◌, ◌++◌, map, Some, None, is_some, Option, sum_by, refl, sym, ap, ◌∙◌, inl, inr, arith}
+use Rattle.std.proofs.Common.{◌≡◌, ℕ, true, false, List, [], ◌∷◌, ◌++◌, map, Some, None, is_some, Option, sum_by, refl, ap, ◌∙◌, arith}
 use Rattle.std.specs.List.{AllByRecursion, IsDistinct}
 use Rattle.std.specs.Option.{option_map_or}
-use Rattle.std.proofs.lemmas.Bool.{or_cases}
 use Rattle.std.proofs.lemmas.List.Sums.{sum_by-append}
 use Rattle.scr_funds.proofs.Members.{IsMember, IsMember-left, IsMember-right}
 use Rattle.scr_funds.proofs.SumsBy.{sum_by-map}
 use Rattle.scr_names.specs.Names.{same_name}
 use Rattle.scr_names.specs.Tables.{row_of, has_row}
-use Rattle.scr_names.proofs.TableRows.{IsFresh, All-append, All-map, All-row_of, same_name-flip, same_name-is, same_or_other, row_of-later, name_of-row_of, fresh_from_has_row}
+use Rattle.scr_names.proofs.TableRows.{IsFresh, All-append, All-map, All-row_of, same_name-flip, same_name-is, name_of-row_of, fresh_from_has_row}
 use Rattle.scr_sheet.specs.BalanceSheet.{names_of, position_name, stake_name, position_of, stake_of, held_of, held_total}
-use Rattle.scr_sheet.specs.declared.sheet.BalanceSheet.{BalanceSheet}
-use Rattle.scr_sheet.specs.declared.rows.Position.{Position}
+use Rattle.scr_sheet.specs.declared.{sheet.BalanceSheet.BalanceSheet, rows.Position.Position}
 use Rattle.scr_sheet.specs.Validity.{Valid, IsHeld}
 use Rattle.scr_sheet.proofs.Holds.{distinct-securities, distinct-funds, no_fund, no_security, sum-held_of}
 
@@ -31,9 +29,7 @@ distinct-append (x ∷ xs) ys left right fresh = (
 -- where a name has a row, it is one of the rows' names
 pub member-row : {Row : Type 0} (name_of : Row → List ℕ) (name : List ℕ) (rows : List Row) → has_row name_of name rows ≡ true → IsMember name (map name_of rows)
 member-row name_of name [] has = absurd (cc)
-member-row name_of name (row ∷ rows) has =
-    same_or_other name (name_of row) (λ t. inl (same_name-is name (name_of row) t))
-    (λ f. inr (member-row name_of name rows (ap is_some (sym (row_of-later name_of name row rows f)) ∙ has)))
+member-row name_of name (row ∷ rows) has = let rest = member-row name_of name rows in grind (arith, has, rest, same_name-is name (name_of row))
 
 -- the row that a name has
 pub row-there : {Row : Type 0} (name_of : Row → List ℕ) (name : List ℕ) (rows : List Row) → has_row name_of name rows ≡ true → (row : Row) × (row_of name_of name rows ≡ Some row)
@@ -59,11 +55,10 @@ module _ (sheet : BalanceSheet) where
   fund-member name has = IsMember-left (map stake_name sheet.funds) (map position_name sheet.securities) name (member-row stake_name name sheet.funds has)
 
   pub held-member : (name : List ℕ) → IsHeld sheet name → IsMember name (held_names sheet)
-  held-member name held = by (or_cases (has_row position_name name sheet.securities) (has_row stake_name name sheet.funds) held)
-    where
-      by : (has_row position_name name sheet.securities ≡ true) ⊎ (has_row stake_name name sheet.funds ≡ true) → IsMember name (held_names sheet)
-      by (inl e) = security-member name e
-      by (inr e) = fund-member name e
+  held-member name held =
+      let security = security-member name in
+      let fund = fund-member name in
+      grind (arith, held, security, fund)
 
 module _ (sheet : BalanceSheet) (apart : IsDistinct same_name (names_of sheet)) where
   pub names-once : IsDistinct same_name (held_names sheet)
@@ -85,17 +80,11 @@ module _ (sheet : BalanceSheet) (apart : IsDistinct same_name (names_of sheet)) 
 
   pub held-of-security : (name : List ℕ) → has_row position_name name sheet.securities ≡ true
       → held_of sheet name ≡ option_map_or (λ p. p.held) (position_of name sheet.securities) 0
-  held-of-security name has = ap (λ found. option_map_or (λ p. p.held) (position_of name sheet.securities) 0 + option_map_or (λ s. s.held) found 0) (no-stake name has) ∙ plus-none
-    where
-      plus-none : option_map_or (λ p. p.held) (position_of name sheet.securities) 0 + 0 ≡ option_map_or (λ p. p.held) (position_of name sheet.securities) 0
-      plus-none = omega arith
+  held-of-security name has = let none = no-stake name has in grind (arith, none)
 
   pub held-of-fund : (name : List ℕ) → has_row stake_name name sheet.funds ≡ true
       → held_of sheet name ≡ option_map_or (λ s. s.held) (stake_of name sheet.funds) 0
-  held-of-fund name has = ap (λ found. option_map_or (λ p. p.held) found 0 + option_map_or (λ s. s.held) (stake_of name sheet.funds) 0) (no-position name has) ∙ none-plus
-    where
-      none-plus : 0 + option_map_or (λ s. s.held) (stake_of name sheet.funds) 0 ≡ option_map_or (λ s. s.held) (stake_of name sheet.funds) 0
-      none-plus = omega arith
+  held-of-fund name has = let none = no-position name has in grind (arith, none)
 
 -- all that is held directly
 pub held-sum : (sheet : BalanceSheet) → Valid sheet → sum_by (held_of sheet) (held_names sheet) ≡ held_total sheet

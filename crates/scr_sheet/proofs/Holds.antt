@@ -6,10 +6,8 @@ use Rattle.std.proofs.lemmas.List.Sums.{sum_by-cons}
 use Rattle.scr_names.specs.Names.{same_name}
 use Rattle.scr_names.specs.Tables.{row_of}
 use Rattle.scr_sheet.specs.BalanceSheet.{group_name, position_name, liability_name, bank_name, rein_name, stake_name, names_of, position_of, stake_of, held_of, held_total}
-use Rattle.scr_sheet.specs.declared.sheet.BalanceSheet.{BalanceSheet}
+use Rattle.scr_sheet.specs.declared.{sheet.BalanceSheet.BalanceSheet, rows.Position.Position, rows.Stake.Stake}
 use Rattle.scr_sheet.specs.Validity.{Valid}
-use Rattle.scr_sheet.specs.declared.rows.Position.{Position}
-use Rattle.scr_sheet.specs.declared.rows.Stake.{Stake}
 use Rattle.scr_names.proofs.TableRows.{IsFresh, All-both, All-row_of, name_of-row_of, same_name-is, same_name-itself, same_name-flip, row_of-here, row_of-later, row_of-fresh}
 
 All-left : {X : Type 0} (P : X → Type 0) (xs ys : List X) → AllByRecursion P (xs ++ ys) → AllByRecursion P xs
@@ -26,7 +24,7 @@ unfolding IsDistinct
 distinct-right [] ys apart = apart
 distinct-right (x ∷ xs) ys apart = distinct-right xs ys apart.1
 
-All-right : {X : Type 0} (P : X → Type 0) (xs ys : List X) → AllByRecursion P (xs ++ ys) → AllByRecursion P ys
+pub All-right : {X : Type 0} (P : X → Type 0) (xs ys : List X) → AllByRecursion P (xs ++ ys) → AllByRecursion P ys
 All-right P [] ys all = all
 All-right P (x ∷ xs) ys all = All-right P xs ys all.1
 

@@ -1,5 +1,5 @@
 -- The components of a fund that a check has met.
-use Rattle.std.proofs.Common.{◌≡◌, ℕ, ℤ, ◌+◌, ◌-◌, ◌<◌, ◌≤◌, ◌||◌, Bool, true, false, cond, List, [], ◌∷◌, suc, length, drop, get_or, Option, Some, is_some, refl, sym, ap, ◌∙◌, arith}
+use Rattle.std.proofs.Common.{◌≡◌, ℕ, ℤ, ◌+◌, ◌-◌, ◌<◌, ◌≤◌, ◌||◌, true, false, cond, List, [], ◌∷◌, suc, length, drop, get_or, Some, is_some, refl, sym, ap, ◌∙◌, arith}
 use Rattle.std.proofs.lemmas.List.{drop_more}
 use Rattle.std.specs.List.{list_any}
 use Rattle.std.specs.Map.{lookup}
@@ -8,7 +8,6 @@ use Rattle.scr_names.specs.Names.{same_name}
 use Rattle.scr_sheet.specs.Faults.{components_fault}
 use Rattle.scr_sheet.specs.declared.fault.Fault.TheVariants as faults
 use Rattle.scr_profile.specs.declared.limits.TheConstants.{MAX_FUND_COMPONENTS}
-use Rattle.scr_names.proofs.TableRows.{same_or_other}
 
 -- the keys of a map, the last one first, before these names
 abbrev pub met_before : List (List ℕ × Unit {0}) → List (List ℕ) → List (List ℕ)
@@ -19,36 +18,18 @@ met_before (e ∷ es) names = met_before es (e.0 ∷ names)
 abbrev pub met_names : List (List ℕ × Unit {0}) → List (List ℕ)
 met_names entries = met_before entries []
 
-either_way : (here later before : Bool) → (later || (here || before)) ≡ (cond here true later || before)
-either_way true true before = refl
-either_way true false before = refl
-either_way false later before = refl
-
-some_here : (here : Bool) (found : Option (Unit {0})) → is_some (cond here (Some tt) found) ≡ cond here true (is_some found)
-some_here true found = refl
-some_here false found = refl
-
 -- a name was met where it is a key, or one of the names before
 any-met : (name : List ℕ) (es : List (List ℕ × Unit {0})) (names : List (List ℕ)) → list_any (same_name name) (met_before es names) ≡ (is_some (lookup (same_name name) es) || list_any (same_name name) names)
 any-met name [] names = refl
-any-met name (e ∷ es) names =
-    any-met name es (e.0 ∷ names) ∙ either_way (same_name name e.0) (is_some (lookup (same_name name) es)) (list_any (same_name name) names)
-    ∙ ap (λ t. t || list_any (same_name name) names) (sym (some_here (same_name name e.0) (lookup (same_name name) es)))
+any-met name (e ∷ es) names = let rest = any-met name es (e.0 ∷ names) in grind (arith, rest)
 
 -- a new key is the name met last
 met-insert : (name : List ℕ) (es : List (List ℕ × Unit {0})) (names : List (List ℕ)) → is_some (lookup (same_name name) es) ≡ false → met_before (insert_entry same_name es name tt) names ≡ name ∷ met_before es names
 met-insert name [] names absent = refl
-met-insert name (e ∷ es) names absent =
-    same_or_other name e.0 (λ same. let never : true ≡ false = sym (ap (λ t. is_some (cond t (Some e.1) (lookup (same_name name) es))) same) ∙ absent in absurd (cc))
-    (λ other. ap (λ t. met_before (cond t ((e.0, tt) ∷ es) (e ∷ insert_entry same_name es name tt)) names) other
-    ∙ met-insert name es (e.0 ∷ names) (sym (ap (λ t. is_some (cond t (Some e.1) (lookup (same_name name) es))) other) ∙ absent))
-
-no_or : (t : Bool) → (t || false) ≡ t
-no_or true = refl
-no_or false = refl
+met-insert name (e ∷ es) names absent = let rest = met-insert name es (e.0 ∷ names) in grind (arith, absent, rest)
 
 any-met_names : (name : List ℕ) (es : List (List ℕ × Unit {0})) → list_any (same_name name) (met_names es) ≡ is_some (lookup (same_name name) es)
-any-met_names name es = any-met name es [] ∙ no_or (is_some (lookup (same_name name) es))
+any-met_names name es = let all = any-met name es [] in grind (arith, all)
 
 module _ (field left : ℕ) (es : List (List ℕ × Unit {0})) (c : List ℕ × ℤ) (cs : List (List ℕ × ℤ)) where
   -- a component that was met is told

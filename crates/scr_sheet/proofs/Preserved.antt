@@ -1,6 +1,6 @@
 -- A record that has its form and no fault leads from a valid sheet to a valid one.
 use Rattle.std.proofs.Common.{◌≡◌, ℕ, zero, suc, replicate, ℤ, pos, neg_ℤ, ◌+◌, ◌≤◌, ◌≤ℤ◌, Bool, true, false, not, ◌&&◌, ◌||◌, inl, inr, IsTrue, List, [], ◌∷◌, ◌++◌, length, map, sum_by, Option, Some, None, is_some, ◌⊎◌, if◌then◌else◌, refl, sym, ap, subst, ◌∙◌, arith}
-use Rattle.std.proofs.lemmas.Bool.{ltb-false}
+use Rattle.std.proofs.lemmas.Bool.{ltb-false, or_right}
 use Rattle.std.proofs.lemmas.Int.{ints}
 use Rattle.std.specs.List.{AllByRecursion, IsDistinct, list_any}
 use Rattle.std.specs.Option.{option_map, option_map_or}
@@ -9,43 +9,28 @@ use Rattle.scr_names.specs.Names.{same_name}
 use Rattle.scr_names.specs.Tables.{row_of, has_row, with_row, without, changed}
 use Rattle.scr_sheet.specs.CashFlows.{total, flows_under, with_flows, no_flows, has_projection, suits}
 use Rattle.scr_sheet.specs.BalanceSheet.{opening, no_volumes, group_name, position_name, liability_name, bank_name, rein_name, curve_name, stake_name, names_of, is_in, is_named, held_total, components_total, liability_flows_total, volumes_total, defaults_total, sheet_years}
-use Rattle.scr_sheet.specs.declared.sheet.BalanceSheet.{BalanceSheet}
+use Rattle.scr_sheet.specs.declared.{sheet.BalanceSheet.BalanceSheet, edit.Edit.Edit, fault.Fault.Fault, fault.User.User, keys.AbsorbKey.AbsorbKey, keys.Projection.Projection, keys.Table.Table, rows.Group.Group, rows.Position.Position, rows.Stake.Stake, rows.Liability.Liability, rows.LiabilityKind.LiabilityKind, rows.Bank.Bank, rows.Rein.Rein, rows.Curve.Curve}
 use Rattle.scr_sheet.specs.Records.{applied, with_fund, natural, kept_flows, kept_hold, absorb_place, cat_place, health_cat_place, with_absorb, lapse_place}
 use Rattle.scr_sheet.specs.Users.{holder_of}
 use Rattle.scr_sheet.specs.Forms.{Formed, IsName, AreFlows, AreOnDays}
 use Rattle.scr_sheet.specs.Faults.{fault_of, list_fault, too_long, components_fault, unknown_name, unknown_row, unknown_group, unknown_component, wrong_kind, misplaced, misplaced_group, misplaced_holding, misplaced_component, in_use, cycle, fields_outside, first_fault, outside, outside_rates, outside_weight, outside_promise, above, liability_flows_outside, volumes_outside}
 use Rattle.scr_sheet.specs.Validity.{Valid, AreWithin, AreVolumes, IsAmount, IsBetween, IsGroup, IsSecurity, IsStake, IsPromise, IsProjected, IsLiability, IsBank, IsRein, IsCurve, HasGroup, HasGroupOrNone, HasCurrency, IsHeld}
-use Rattle.scr_sheet.specs.declared.edit.Edit.{Edit}
 use Rattle.scr_sheet.specs.declared.edit.Edit.TheVariants as edits
-use Rattle.scr_sheet.specs.declared.fault.Fault.{Fault}
 use Rattle.scr_sheet.specs.declared.fault.Fault.TheVariants as faults
 use Rattle.scr_sheet.specs.declared.fault.Quantity.TheVariants as quantities
-use Rattle.scr_sheet.specs.declared.fault.User.{User}
-use Rattle.scr_sheet.specs.declared.keys.AbsorbKey.{AbsorbKey}
 use Rattle.scr_sheet.specs.declared.keys.AbsorbKey.TheVariants as absorb
-use Rattle.scr_sheet.specs.declared.keys.Projection.{Projection}
 use Rattle.scr_profile.specs.declared.set.Set.{Set}
 use Rattle.scr_profile.specs.declared.set.Set.TheVariants as sets
-use Rattle.scr_sheet.specs.declared.keys.Table.{Table}
 use Rattle.scr_sheet.specs.declared.keys.Table.TheVariants as tables
-use Rattle.scr_sheet.specs.declared.rows.Group.{Group}
-use Rattle.scr_sheet.specs.declared.rows.Position.{Position}
-use Rattle.scr_sheet.specs.declared.rows.Stake.{Stake}
-use Rattle.scr_sheet.specs.declared.rows.Liability.{Liability}
-use Rattle.scr_sheet.specs.declared.rows.LiabilityKind.{LiabilityKind}
-use Rattle.scr_sheet.specs.declared.rows.Bank.{Bank}
-use Rattle.scr_sheet.specs.declared.rows.Rein.{Rein}
-use Rattle.scr_sheet.specs.declared.rows.Curve.{Curve}
 use Rattle.scr_profile.specs.declared.limits.TheConstants.{MIN_RATE, MAX_RATE, MAX_RATES, MAX_DURATION, MAX_FLOWS, MAX_PROMISED, MAX_AMOUNT, MAX_SYM, MAX_TAX, MAX_HELD, MAX_LIABILITY_FLOWS, MAX_YEARS, MAX_CURRENCIES, MAX_SECURITIES, MAX_FUNDS, MAX_COMPONENTS, MAX_FUND_COMPONENTS, MIN_WEIGHT, MAX_WEIGHT, MAX_LIABILITIES, MAX_GROUPS, MAX_EXPOSURES}
 use Rattle.scr_names.proofs.TableRows.{IsFresh, same_name-is, same_name-flip, row_of-with_row_own, All-map, All-both, All-with_row, All-without, All-row_of, All-changed, has_row-with_row, has_row-without, has_row-changed, names-changed, sum-with_row, sum-without, sum-changed}
 use Rattle.scr_sheet.proofs.Bounds.{neither, within_from_above, between_from_outside, all_from_first_fault, natural-le, natural-is}
-use Rattle.scr_sheet.proofs.Projections.{one_or_other, each-with_flows, suits-with_flows, suits-no_flows, under-no_flows}
+use Rattle.scr_sheet.proofs.Projections.{one_or_other, each-with_flows, suits-with_flows, suits-no_flows, under-no_flows, or_false}
 use Rattle.scr_sheet.proofs.Amounts.{All-set, All-placed, volumes-with_segment, with_asof, with_absorb as numbers-with_absorb, with_both_volumes, with_cats, with_lapse, with_due, with_op, with_sym, with_tax, with_fdb, with_intangible}
 use Rattle.scr_sheet.proofs.Changes.{IsNew, new_from_is_named, valid-groups, valid-holdings, valid-securities, valid-funds, valid-liabilities, valid-banks, valid-reinsurers, valid-curves, valid-numbers, named-with_group, named-with_position, named-with_liability, named-with_bank, named-with_rein, named-with_fund, named-without_group, named-without_position, named-without_liability, named-without_bank, named-without_rein, named-without_fund, currencies-with_curve, currencies-without}
 use Rattle.scr_sheet.proofs.Unused.{HasNoMember, no_member, IsIdle, idle, no_holder}
 use Rattle.scr_sheet.proofs.FundChains.{acyclic-none, acyclic-with_fund, acyclic-without, acyclic-changed}
 use Rattle.scr_sheet.proofs.Holds.{distinct-funds}
-use Rattle.scr_sheet.proofs.Projections.{or_false}
 
 -- ---- what it says that a record has no fault
 
@@ -112,12 +97,10 @@ passes edit sheet none =
 
 -- a fault comes unless the test passes, or exactly where it does
 pub passed : (t : Bool) (fault : Fault) → (if t then None else Some fault) ≡ None → t ≡ true
-passed true fault h = refl
-passed false fault h = absurd (cc)
+passed t fault h = grind (arith, h)
 
 pub failed : (t : Bool) (fault : Fault) → (if t then Some fault else None) ≡ None → t ≡ false
-failed true fault h = absurd (cc)
-failed false fault h = refl
+failed t fault h = grind (arith, h)
 
 failed_first : (t : Bool) (fault : Fault) (rest : Option Fault) → (if t then Some fault else rest) ≡ None → (t ≡ false) × (rest ≡ None)
 failed_first true fault rest h = absurd (cc)
@@ -133,20 +116,15 @@ no_chain (Some path) h = absurd (cc)
 
 -- a name that stands in no other table, and not in this one, is new
 placed_well : (table : Table) (name : List ℕ) (sheet : BalanceSheet) → misplaced table name sheet ≡ None → is_in table name sheet ≡ false → is_named name sheet ≡ false
-placed_well table name sheet none out = by (is_named name sheet) (is_in table name sheet) (failed _ _ none) out
-  where
-    by : (named here : Bool) → (named && not here) ≡ false → here ≡ false → named ≡ false
-    by false here h out = refl
-    by true false h out = absurd (cc)
-    by true true h out = absurd (cc)
+placed_well table name sheet none out =
+    let well : (is_named name sheet && not (is_in table name sheet)) ≡ false = failed _ _ none in
+    grind (arith, well, out)
 
 new_name : (table : Table) (name : List ℕ) (sheet : BalanceSheet) → misplaced table name sheet ≡ None → is_in table name sheet ≡ false → IsNew name sheet
 new_name table name sheet none out = new_from_is_named name sheet (placed_well table name sheet none out)
 
 only_here : (named here : Bool) → named ≡ true → (named && not here) ≡ false → here ≡ true
-only_here named true e h = refl
-only_here true false e h = absurd (cc)
-only_here false false e h = absurd (cc)
+only_here named here e h = grind (arith, e, h)
 
 -- a name that exists, and in no other table, stands in this one
 pub right_table : (table : Table) (name : List ℕ) (sheet : BalanceSheet) → unknown_row name sheet ≡ None → misplaced table name sheet ≡ None → is_in table name sheet ≡ true
@@ -199,33 +177,12 @@ liability_flows_after (edits.Remove tables.Liability name) sheet valid none proj
     let sum = sum-without liability_name f name sheet.liabilities in
     let most = valid.within.liability_flows projection in
     omega arith
-liability_flows_after (edits.Remove tables.Group name) sheet valid none projection = valid.within.liability_flows projection
-liability_flows_after (edits.Remove tables.Security name) sheet valid none projection = valid.within.liability_flows projection
-liability_flows_after (edits.Remove tables.Fund name) sheet valid none projection = valid.within.liability_flows projection
-liability_flows_after (edits.Remove tables.Bank name) sheet valid none projection = valid.within.liability_flows projection
-liability_flows_after (edits.Remove tables.Rein name) sheet valid none projection = valid.within.liability_flows projection
-liability_flows_after (edits.Remove tables.Curve name) sheet valid none projection = valid.within.liability_flows projection
 liability_flows_after edit sheet valid none projection = valid.within.liability_flows projection
 
 volumes_after : (edit : Edit) (sheet : BalanceSheet) → Valid sheet → volumes_outside edit (applied edit sheet) ≡ None → (set : Set) → volumes_total set (applied edit sheet) ≤ MAX_AMOUNT
 volumes_after (edits.Segment sets.Nl number region premium reserve) sheet valid none sets.Nl = within_from_above quantities.Volumes _ _ none
-volumes_after (edits.Segment sets.Nl number region premium reserve) sheet valid none sets.Nslt = valid.within.volumes sets.Nslt
-volumes_after (edits.Segment sets.Nslt number region premium reserve) sheet valid none sets.Nl = valid.within.volumes sets.Nl
 volumes_after (edits.Segment sets.Nslt number region premium reserve) sheet valid none sets.Nslt = within_from_above quantities.Volumes _ _ none
-volumes_after (edits.Remove tables.Group name) sheet valid none sets.Nl = valid.within.volumes sets.Nl
-volumes_after (edits.Remove tables.Security name) sheet valid none sets.Nl = valid.within.volumes sets.Nl
-volumes_after (edits.Remove tables.Fund name) sheet valid none sets.Nl = valid.within.volumes sets.Nl
-volumes_after (edits.Remove tables.Liability name) sheet valid none sets.Nl = valid.within.volumes sets.Nl
-volumes_after (edits.Remove tables.Bank name) sheet valid none sets.Nl = valid.within.volumes sets.Nl
-volumes_after (edits.Remove tables.Rein name) sheet valid none sets.Nl = valid.within.volumes sets.Nl
-volumes_after (edits.Remove tables.Curve name) sheet valid none sets.Nl = valid.within.volumes sets.Nl
-volumes_after (edits.Remove tables.Group name) sheet valid none sets.Nslt = valid.within.volumes sets.Nslt
-volumes_after (edits.Remove tables.Security name) sheet valid none sets.Nslt = valid.within.volumes sets.Nslt
-volumes_after (edits.Remove tables.Fund name) sheet valid none sets.Nslt = valid.within.volumes sets.Nslt
-volumes_after (edits.Remove tables.Liability name) sheet valid none sets.Nslt = valid.within.volumes sets.Nslt
-volumes_after (edits.Remove tables.Bank name) sheet valid none sets.Nslt = valid.within.volumes sets.Nslt
-volumes_after (edits.Remove tables.Rein name) sheet valid none sets.Nslt = valid.within.volumes sets.Nslt
-volumes_after (edits.Remove tables.Curve name) sheet valid none sets.Nslt = valid.within.volumes sets.Nslt
+volumes_after (edits.Remove tables.Group name) sheet valid none set = valid.within.volumes set
 volumes_after edit sheet valid none sets.Nl = valid.within.volumes sets.Nl
 volumes_after edit sheet valid none sets.Nslt = valid.within.volumes sets.Nslt
 
@@ -311,13 +268,7 @@ kept_components sheet valid after kept = All-map _ _ sheet.funds (λ s all. All-
 
 -- one of two still holds
 or_kept : (a b c d : Bool) → (a ≡ true → c ≡ true) → (b ≡ true → d ≡ true) → (a || b) ≡ true → (c || d) ≡ true
-or_kept true b c d left right h = ap (λ t. t || d) (left refl)
-or_kept false b true d left right h = refl
-or_kept false b false d left right h = right h
-
-or_right : (a b : Bool) → b ≡ true → (a || b) ≡ true
-or_right true b h = refl
-or_right false b h = h
+or_kept a b c d left right h = grind (arith, left, right, h)
 
 -- ---- securities
 

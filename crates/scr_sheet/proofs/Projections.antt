@@ -1,25 +1,17 @@
 -- The flows of a liability under each projection.
-use Rattle.std.proofs.Common.{◌≡◌, ℤ, ◌⊎◌, inl, inr, Bool, true, false, ◌||◌, ◌&&◌, List, [], ◌∷◌, refl, sym, ap, subst, ◌∙◌}
+use Rattle.std.proofs.Common.{◌≡◌, ℤ, ◌⊎◌, inl, inr, Bool, true, ◌||◌, ◌&&◌, List, [], ◌∷◌, refl, sym, ap, subst, ◌∙◌}
+use Rattle.std.proofs.lemmas.Bool.{and_parts}
+pub use Rattle.std.proofs.lemmas.Bool.{or_parts as or_false}
 use Rattle.std.specs.List.{AllByRecursion, list_all}
 use Rattle.scr_dates.specs.declared.day.Day.{Day}
 use Rattle.scr_sheet.specs.CashFlows.{flows_under, with_flows, no_flows, all_projections, has_projection, is_empty, suits}
-use Rattle.scr_sheet.specs.declared.keys.Projection.{Projection}
+use Rattle.scr_sheet.specs.declared.{keys.Projection.Projection, rows.LiabilityKind.LiabilityKind, rows.LiabilityFlows.LiabilityFlows}
 use Rattle.scr_sheet.specs.declared.keys.Projection.TheVariants as projections
-use Rattle.scr_sheet.specs.declared.rows.LiabilityKind.{LiabilityKind}
 use Rattle.scr_sheet.specs.declared.rows.LiabilityKind.TheVariants as kinds
-use Rattle.scr_sheet.specs.declared.rows.LiabilityFlows.{LiabilityFlows}
-
-and_true : (a b : Bool) → (a && b) ≡ true → (a ≡ true) × (b ≡ true)
-and_true true b h = (refl, h)
-and_true false b h = absurd (cc)
-
-pub or_false : (a b : Bool) → (a || b) ≡ false → (a ≡ false) × (b ≡ false)
-or_false true b h = absurd (cc)
-or_false false b h = (refl, h)
 
 all_from_list_all : {X : Type 0} (test : X → Bool) (xs : List X) → list_all test xs ≡ true → AllByRecursion (λ x. test x ≡ true) xs
 all_from_list_all test [] h = tt
-all_from_list_all test (x ∷ xs) h = let both = and_true (test x) (list_all test xs) h in (both.0, all_from_list_all test xs both.1)
+all_from_list_all test (x ∷ xs) h = let both = and_parts (test x) (list_all test xs) h in (both.0, all_from_list_all test xs both.1)
 
 list_all_from_all : {X : Type 0} (test : X → Bool) (xs : List X) → AllByRecursion (λ x. test x ≡ true) xs → list_all test xs ≡ true
 list_all_from_all test [] all = refl
@@ -39,58 +31,26 @@ each_projection P all projections.LapseMass = all.1.1.1.1.1.1.1.1.0
 each_projection P all projections.Catastrophe = all.1.1.1.1.1.1.1.1.1.0
 
 pub every_projection : (P : Projection → Type 0) → ((projection : Projection) → P projection) → AllByRecursion P all_projections
-every_projection P each = (
-  each projections.Base,
-  (
-    each projections.Mortality,
-    (
-      each projections.Longevity,
-      (
-        each projections.Disability,
-        (
-          each projections.Expense,
-          (each projections.Revision, (each projections.LapseUp, (each projections.LapseDown, (each projections.LapseMass, (each projections.Catastrophe, tt))))),
-        ),
-      ),
-    ),
-  ),
-)
+every_projection P each = (each _, (each _, (each _, (each _, (each _, (each _, (each _, (each _, (each _, (each _, tt))))))))))
 
 -- flows written under one projection leave the others
 pub one_or_other : (p q : Projection) → (p ≡ q) ⊎ ((new : List (Day × ℤ)) (flows : LiabilityFlows) → flows_under q (with_flows p new flows) ≡ flows_under q flows)
 one_or_other projections.Base projections.Base = inl refl
-one_or_other projections.Base q = inr (λ new flows. refl)
 one_or_other projections.Mortality projections.Mortality = inl refl
-one_or_other projections.Mortality q = inr (λ new flows. refl)
 one_or_other projections.Longevity projections.Longevity = inl refl
-one_or_other projections.Longevity q = inr (λ new flows. refl)
 one_or_other projections.Disability projections.Disability = inl refl
-one_or_other projections.Disability q = inr (λ new flows. refl)
 one_or_other projections.Expense projections.Expense = inl refl
-one_or_other projections.Expense q = inr (λ new flows. refl)
 one_or_other projections.Revision projections.Revision = inl refl
-one_or_other projections.Revision q = inr (λ new flows. refl)
 one_or_other projections.LapseUp projections.LapseUp = inl refl
-one_or_other projections.LapseUp q = inr (λ new flows. refl)
 one_or_other projections.LapseDown projections.LapseDown = inl refl
-one_or_other projections.LapseDown q = inr (λ new flows. refl)
 one_or_other projections.LapseMass projections.LapseMass = inl refl
-one_or_other projections.LapseMass q = inr (λ new flows. refl)
 one_or_other projections.Catastrophe projections.Catastrophe = inl refl
-one_or_other projections.Catastrophe q = inr (λ new flows. refl)
+one_or_other p q = inr (λ new flows. refl)
 
 -- and that one has them
 pub under-with : (new : List (Day × ℤ)) (flows : LiabilityFlows) (p : Projection) → flows_under p (with_flows p new flows) ≡ new
 under-with new flows projections.Base = refl
-under-with new flows projections.Mortality = refl
-under-with new flows projections.Longevity = refl
-under-with new flows projections.Disability = refl
-under-with new flows projections.Expense = refl
-under-with new flows projections.Revision = refl
-under-with new flows projections.LapseUp = refl
-under-with new flows projections.LapseDown = refl
-under-with new flows projections.LapseMass = refl
-under-with new flows projections.Catastrophe = refl
+under-with new flows p = refl
 
 -- what is true of the new flows and of the old ones is true under each projection then
 pub each-with_flows : (P : List (Day × ℤ) → Type 0) (new : List (Day × ℤ)) (flows : LiabilityFlows) (p : Projection) → P new → ((q : Projection) → P (flows_under q flows)) → (q : Projection) → P (flows_under q (with_flows p new flows))
@@ -121,8 +81,7 @@ suits-with_flows kind new flows p has suit =
 
 pub suits-no_flows : (kind : LiabilityKind) → suits kind no_flows ≡ true
 suits-no_flows kinds.Life = refl
-suits-no_flows kinds.Health = refl
-suits-no_flows kinds.Other = refl
+suits-no_flows kind = refl
 
 pub under-no_flows : (projection : Projection) → flows_under projection no_flows ≡ []
 under-no_flows = each_projection (λ p. flows_under p no_flows ≡ []) (every_none)

@@ -1,44 +1,28 @@
 -- Which quantities of the whole book a record can take outside their limits. From a valid sheet, all others stay
 -- within them.
-use Rattle.std.proofs.Common.{◌≡◌, ℕ, ℤ, ◌+◌, ◌-◌, ◌≤◌, ◌<◌, Bool, true, false, ◌||◌, List, [], ◌∷◌, length, map, Option, Some, None, is_some, if◌then◌else◌, nat_le, set, refl, sym, ap, subst, ◌∙◌, arith}
+use Rattle.std.proofs.Common.{◌≡◌, ℕ, ℤ, ◌+◌, ◌-◌, ◌≤◌, Bool, true, false, ◌||◌, List, [], ◌∷◌, length, map, Option, Some, None, is_some, if◌then◌else◌, set, refl, sym, ap, subst, ◌∙◌, arith}
 use Rattle.std.specs.Prelude.{max}
 use Rattle.std.specs.Option.{option_or, option_map_or}
-use Rattle.std.proofs.lemmas.Bool.{leb-true, leb-false}
 use Rattle.std.proofs.lemmas.List.{length-map}
 use Rattle.scr_dates.specs.declared.day.Day.{Day}
-use Rattle.scr_profile.specs.declared.set.Set.{Set}
+use Rattle.scr_profile.specs.declared.{set.Set.Set, group_kind.GroupKind.GroupKind}
 use Rattle.scr_names.specs.Tables.{row_of, with_row, without, changed}
 use Rattle.scr_sheet.specs.CashFlows.{total, greatest_years, with_flows, no_flows}
 use Rattle.scr_sheet.specs.BalanceSheet.{group_name, position_name, stake_name, liability_name, bank_name, rein_name, curve_name, held_of, held_total, liability_flows_total, volumes_total, defaults_total, components_total, greatest, security_years, liability_years, sheet_years, is_in}
-use Rattle.scr_sheet.specs.declared.sheet.BalanceSheet.{BalanceSheet}
+use Rattle.scr_sheet.specs.declared.{sheet.BalanceSheet.BalanceSheet, edit.Edit.Edit, fault.Fault.Fault, fault.Quantity.Quantity, keys.AbsorbKey.AbsorbKey, keys.Projection.Projection, keys.Table.Table, rows.Bank.Bank, rows.Class.Class, rows.Curve.Curve, rows.Group.Group, rows.Liability.Liability, rows.LiabilityKind.LiabilityKind, rows.Position.Position, rows.Rein.Rein, rows.Stake.Stake}
 use Rattle.scr_sheet.specs.Records.{applied, natural, kept_flows, kept_hold, with_absorb}
 use Rattle.scr_sheet.specs.Faults.{above, sheet_outside}
 use Rattle.scr_sheet.specs.Validity.{Valid}
-use Rattle.scr_sheet.specs.declared.edit.Edit.{Edit}
 use Rattle.scr_sheet.specs.declared.edit.Edit.TheVariants as edits
-use Rattle.scr_sheet.specs.declared.fault.Fault.{Fault}
-use Rattle.scr_sheet.specs.declared.fault.Quantity.{Quantity}
 use Rattle.scr_sheet.specs.declared.fault.Quantity.TheVariants as quantities
-use Rattle.scr_sheet.specs.declared.keys.AbsorbKey.{AbsorbKey}
 use Rattle.scr_sheet.specs.declared.keys.AbsorbKey.TheVariants as absorb
-use Rattle.scr_sheet.specs.declared.keys.Projection.{Projection}
-use Rattle.scr_sheet.specs.declared.keys.Table.{Table}
 use Rattle.scr_sheet.specs.declared.keys.Table.TheVariants as tables
-use Rattle.scr_sheet.specs.declared.rows.Bank.{Bank}
-use Rattle.scr_sheet.specs.declared.rows.Class.{Class}
-use Rattle.scr_sheet.specs.declared.rows.Curve.{Curve}
-use Rattle.scr_sheet.specs.declared.rows.Group.{Group}
-use Rattle.scr_profile.specs.declared.group_kind.GroupKind.{GroupKind}
-use Rattle.scr_sheet.specs.declared.rows.Liability.{Liability}
-use Rattle.scr_sheet.specs.declared.rows.LiabilityKind.{LiabilityKind}
-use Rattle.scr_sheet.specs.declared.rows.Position.{Position}
-use Rattle.scr_sheet.specs.declared.rows.Rein.{Rein}
-use Rattle.scr_sheet.specs.declared.rows.Stake.{Stake}
 use Rattle.scr_profile.specs.declared.limits.TheConstants.{MAX_AMOUNT, MAX_HELD, MAX_LIABILITY_FLOWS, MAX_YEARS, MAX_CURRENCIES, MAX_SECURITIES, MAX_FUNDS, MAX_COMPONENTS, MAX_LIABILITIES, MAX_GROUPS, MAX_EXPOSURES}
-use Rattle.scr_names.proofs.TableRows.{added, passes_or_fails, names-changed, sum-without, length-with_row, without-here, without-later, same_or_other}
+use Rattle.scr_names.proofs.TableRows.{added, names-changed, sum-without, length-with_row}
 use Rattle.scr_sheet.proofs.Bounds.{above-within, option_or-none}
 use Rattle.scr_sheet.proofs.Greatest.{greatest-with_row-le, row_of-le-greatest, greatest-without-le, greatest-changed-le, le-greatest-changed, liability_years-with_flows-le, le-liability_years-with_flows}
 use Rattle.scr_sheet.proofs.Sums.{in_one_table, held-hold, held-part, held-same, stake_components, components-fund, components-drop, components-part, components-hold, liability_total, liability_flows-own, liability_flows-part, volumes-segment, volumes-part, rein_total, defaults-bank, defaults-rein, defaults-part_bank, defaults-part_rein}
+use Rattle.scr_sheet.specs.Verbs.{changes_numbers_alone}
 use Rattle.scr_sheet.specs.Volumes.{volumes_in}
 
 -- ---- the tests of the whole book, one after another, where all but one or two pass
@@ -114,11 +98,7 @@ module _ {Row : Type 0} (name_of : Row → List ℕ) where
 
   length-without-le : (name : List ℕ) (rows : List Row) → length (without name_of name rows) ≤ length rows
   length-without-le name [] = omega arith
-  length-without-le name (row ∷ rows) =
-      same_or_other name (name_of row) (λ e. let long : length (without name_of name (row ∷ rows)) ≡ length rows = ap length (without-here name_of name row rows e) in omega arith)
-      (λ e. let long : length (without name_of name (row ∷ rows)) ≡ length (row ∷ without name_of name rows) = ap length (without-later name_of name row rows e) in
-      let rest = length-without-le name rows in
-      omega arith)
+  length-without-le name (row ∷ rows) = let rest = length-without-le name rows in grind (arith, rest)
 
 -- a row of a name comes as one more where none was found
 pub added-is : {Row : Type 0} (found : Option Row) (n : ℕ) → (if is_some found then n else n + 1) ≡ n + added found
@@ -129,28 +109,15 @@ added-is (Some row) n = omega arith
 
 -- of two numbers, of which one is the other or within the limit
 above-part : (quantity : Quantity) (value part limit : ℕ) → part ≤ value → value ≤ max limit part → above quantity value limit ≡ above quantity part limit
-above-part quantity value part limit low high =
-    passes_or_fails (nat_le part limit)
-    (λ e. let small : part ≤ limit = leb-true part limit e in
-    let all : value ≤ limit = omega arith in
-    above-within quantity value limit all ∙ sym (above-within quantity part limit small))
-    (λ e. let large : limit < part = leb-false part limit e in
-    let same : value ≡ part = omega arith in
-    ap (λ n. above quantity n limit) same)
+above-part quantity value part limit low high = grind (arith, low, high)
 
 -- the records that take no quantity of the whole book outside its limits: absorptions, charges, single numbers, drops
 abbrev pub is_quiet : Edit → Bool
 is_quiet (edits.Absorb key cents) = true
-is_quiet (edits.Cat key cents) = true
-is_quiet (edits.Lapse set cents) = true
-is_quiet (edits.Due overdue other) = true
-is_quiet (edits.Op tpl tpul tpn el eul pel peul en pen expul) = true
-is_quiet (edits.Sym millionths) = true
-is_quiet (edits.Tax millionths most) = true
-is_quiet (edits.Fdb cents) = true
-is_quiet (edits.Intangible cents) = true
 is_quiet (edits.Remove table name) = true
-is_quiet edit = false
+is_quiet (edits.Asof date currency) = false
+is_quiet (edits.Segment set number region premium reserve) = false
+is_quiet edit = changes_numbers_alone edit
 
 -- ---- record by record
 

@@ -1,5 +1,5 @@
 -- What is held of the securities and the closed funds of a valid sheet, directly and through funds, is all that is held.
-use Rattle.std.proofs.Common.{◌≡◌, ℕ, suc, ◌+◌, ◌^◌, ◌<◌, ◌≤◌, ℤ, pos, negsuc, Bool, true, false, List, [], ◌∷◌, map, length, filter, sum, sum_by, nat_eq, None, Some, if◌then◌else◌, Contains, refl, sym, ap, subst, ◌∙◌, arith}
+use Rattle.std.proofs.Common.{◌≡◌, ℕ, suc, ◌+◌, ◌^◌, ◌<◌, ◌≤◌, ℤ, pos, negsuc, Bool, true, List, [], ◌∷◌, map, length, filter, sum, sum_by, nat_eq, None, if◌then◌else◌, Contains, refl, sym, ap, subst, ◌∙◌, arith}
 use Rattle.std.specs.List.{All, AllByRecursion, IsDistinct}
 use Rattle.std.specs.Option.{option_map_or}
 use Rattle.std.proofs.lemmas.Bool.{ne_eqb}
@@ -14,17 +14,15 @@ use Rattle.scr_funds.proofs.LookThroughLaws.{total_is, totals_whole, names_in-ow
 use Rattle.scr_funds.proofs.Members.{IsMember, IsMember-left, IsMember-mapped, Contains-from_IsMember, at_member, each-from_members}
 use Rattle.scr_funds.proofs.SumsBy.{sum_by-same, sum_by-map, sum_by-filter}
 use Rattle.scr_names.specs.Names.{same_name}
-use Rattle.scr_names.specs.Tables.{row_of, has_row}
+use Rattle.scr_names.specs.Tables.{has_row}
 use Rattle.scr_names.proofs.TableRows.{All-map, same_name-is, same_name-itself}
 use Rattle.scr_sheet.specs.Records.{natural}
 use Rattle.scr_sheet.specs.Forms.{IsName}
 use Rattle.scr_sheet.specs.Totals.{shared, shared_funds, total_of, parts_of_funds, is_closed, closed_total, securities_total}
 use Rattle.scr_sheet.specs.BalanceSheet.{stake_name, position_name, stake_of, held_of, held_total, components_of}
-use Rattle.scr_sheet.specs.declared.sheet.BalanceSheet.{BalanceSheet}
+use Rattle.scr_sheet.specs.declared.{sheet.BalanceSheet.BalanceSheet, rows.Position.Position, rows.Stake.Stake}
 use Rattle.scr_sheet.specs.Validity.{Valid, IsHeld, IsStake, IsBetween}
 use Rattle.scr_profile.specs.declared.limits.TheConstants.{MAX_HELD, MIN_WEIGHT, MAX_WEIGHT}
-use Rattle.scr_sheet.specs.declared.rows.Position.{Position}
-use Rattle.scr_sheet.specs.declared.rows.Stake.{Stake}
 use Rattle.scr_sheet.proofs.Holds.{distinct-funds, no_fund}
 use Rattle.scr_sheet.proofs.HeldNames.{held_names, security-member, fund-member, held-member, names-once, held-sum}
 
@@ -51,13 +49,7 @@ components-names (c ∷ cs) = ap (λ names. c.0 ∷ names) (components-names cs)
 -- what a name has as components among the funds is what the sheet says
 pub names-in-is : (stakes : List Stake) (x : List ℕ) → names_in same_name (map shared stakes) x ≡ components_of stakes x
 names-in-is [] x = refl
-names-in-is (s ∷ stakes) x = by (same_name x s.fund.name) (names-in-is stakes x)
-  where
-    by : (b : Bool) → names_in same_name (map shared stakes) x ≡ components_of stakes x
-        → (if b then map (λ c. c.0) (map weighted s.fund.components) else names_in same_name (map shared stakes) x)
-        ≡ option_map_or (λ (t : Stake). map component_name t.fund.components) (if b then Some s else row_of stake_name x stakes) []
-    by true later = components-names s.fund.components
-    by false later = later
+names-in-is (s ∷ stakes) x = let rest = names-in-is stakes x in grind (arith, rest, components-names s.fund.components)
 
 pub acyclic-names : (sheet : BalanceSheet) → Valid sheet → IsAcyclic (names_in same_name (shared_funds sheet))
 acyclic-names sheet valid =

@@ -2,14 +2,15 @@
 use Rattle.std.proofs.Common.{◌≡◌, ℕ, ℤ, zero, suc, ◌+◌, ◌-◌, ◌≤◌, ◌==◌, ◌&&◌, ◌||◌, ◌++◌, Bool, true, false, List, [], ◌∷◌, ◌⊎◌, inl, inr, Option, Some, None, is_some, if◌then◌else◌, length, map, slice_get, set, get_or, sum_by, refl, sym, ap, subst, ◌∙◌, arith}
 use Rattle.std.proofs.lemmas.Bool.{eqb-true}
 use Rattle.std.proofs.lemmas.List.Sums.{sum_by-cons}
-use Rattle.std.specs.List.{AllByRecursion, IsDistinct}
+use Rattle.std.proofs.lemmas.Option.{get_or_from_slice_get}
+use Rattle.std.specs.List.{IsDistinct}
 use Rattle.std.specs.Option.{option_or, option_map, option_map_or}
 use Rattle.scr_dates.specs.declared.day.Day.{Day}
 use Rattle.scr_names.specs.Names.{same_name}
 use Rattle.scr_names.specs.Tables.{row_of, has_row, with_row, changed}
 use Rattle.scr_sheet.specs.CashFlows.{total, flows_under, with_flows, no_flows}
 use Rattle.scr_sheet.specs.BalanceSheet.{group_name, position_name, stake_name, liability_name, bank_name, rein_name, volumes_of, is_in, held_of, held_total, liability_flows_total, volumes_total, defaults_total, components_total}
-use Rattle.scr_sheet.specs.declared.sheet.BalanceSheet.{BalanceSheet}
+use Rattle.scr_sheet.specs.declared.{sheet.BalanceSheet.BalanceSheet, edit.Edit.Edit, keys.Projection.Projection, keys.Table.Table, numbers.Numbers.Numbers, numbers.Regions.Regions, rows.Bank.Bank, rows.Class.Class, rows.Liability.Liability, rows.LiabilityKind.LiabilityKind, rows.Position.Position, rows.Rein.Rein, rows.Stake.Stake}
 use Rattle.scr_sheet.specs.Records.{applied, dropped, natural, kept_flows, kept_hold, with_volumes}
 use Rattle.scr_sheet.specs.Users.{holder_of, first_row, names_of_holders}
 use Rattle.scr_sheet.specs.Faults.{in_use}
@@ -17,23 +18,12 @@ use Rattle.scr_sheet.specs.Validity.{Valid}
 use Rattle.scr_sheet.specs.Volumes.{volumes_in}
 use Rattle.scr_profile.specs.declared.set.Set.{Set}
 use Rattle.scr_profile.specs.declared.set.Set.TheVariants as sets
-use Rattle.scr_sheet.specs.declared.edit.Edit.{Edit}
 use Rattle.scr_sheet.specs.declared.edit.Edit.TheVariants as edits
 use Rattle.scr_sheet.specs.declared.fault.Fault.TheVariants as faults
 use Rattle.scr_sheet.specs.declared.fault.User.TheVariants as users
-use Rattle.scr_sheet.specs.declared.keys.Projection.{Projection}
-use Rattle.scr_sheet.specs.declared.keys.Table.{Table}
 use Rattle.scr_sheet.specs.declared.keys.Table.TheVariants as tables
-use Rattle.scr_sheet.specs.declared.numbers.Numbers.{Numbers}
-use Rattle.scr_sheet.specs.declared.numbers.Regions.{Regions}
-use Rattle.scr_sheet.specs.declared.rows.Bank.{Bank}
-use Rattle.scr_sheet.specs.declared.rows.Class.{Class}
-use Rattle.scr_sheet.specs.declared.rows.Liability.{Liability}
-use Rattle.scr_sheet.specs.declared.rows.LiabilityKind.{LiabilityKind}
-use Rattle.scr_sheet.specs.declared.rows.Position.{Position}
-use Rattle.scr_sheet.specs.declared.rows.Rein.{Rein}
-use Rattle.scr_sheet.specs.declared.rows.Stake.{Stake}
 use Rattle.scr_names.proofs.TableRows.{IsFresh, passes_or_fails, same_or_other, same_name-is, name_of-row_of, row_of-later, sum-with_row, sum-without, sum-changed}
+use Rattle.scr_sheet.proofs.Holds.{All-right, distinct-right}
 use Rattle.scr_sheet.proofs.Projections.{one_or_other, under-with, under-no_flows}
 
 -- ---- sums over rows and lists
@@ -61,18 +51,10 @@ module _ {Row : Type 0} (name_of : Row → List ℕ) where
 
   -- where there is no row of the name, none is changed
   pub changed-none : (change : Row → Row) (name : List ℕ) (rows : List Row) → has_row name_of name rows ≡ false → changed name_of change name rows ≡ rows
-  changed-none change name rows has = by (row_of name_of name rows) has
-    where
-      by : (found : Option Row) → is_some found ≡ false → option_map_or (λ row. with_row name_of (change row) rows) found rows ≡ rows
-      by None none = refl
-      by (Some row) none = absurd (cc)
+  changed-none change name rows has = grind (arith, has)
 
   pub part-none : (f : Row → ℕ) (name : List ℕ) (rows : List Row) → has_row name_of name rows ≡ false → option_map_or f (row_of name_of name rows) 0 ≡ 0
-  part-none f name rows has = by (row_of name_of name rows) has
-    where
-      by : (found : Option Row) → is_some found ≡ false → option_map_or f found 0 ≡ 0
-      by None none = refl
-      by (Some row) none = absurd (cc)
+  part-none f name rows has = grind (arith, has)
 
   -- what stands for the row of a name, if there is one, goes out of the sum, and a number comes in
   pub sum-put : (f : Row → ℕ) (change : Row → Row) (n : ℕ) (name : List ℕ) (rows : List Row) → ((other : Row) → name_of (change other) ≡ name_of other) → ((other : Row) → f (change other) ≡ n) → has_row name_of name rows ≡ true
@@ -90,34 +72,13 @@ module _ {Row : Type 0} (name_of : Row → List ℕ) where
 -- a member written in its place
 pub sum-set : {X : Type 0} (f : X → ℕ) (xs : List X) (k : ℕ) (old new : X) → slice_get xs k ≡ Some old → sum_by f (set xs k new) + f old ≡ sum_by f xs + f new
 sum-set f [] k old new is = absurd (cc)
-sum-set f (x ∷ xs) zero old new is =
-    let same : x ≡ old = cc in
-    let part : f x ≡ f old = ap f same in
-    let before : sum_by f (x ∷ xs) ≡ f x + sum_by f xs = sum_by-cons f x xs in
-    let after : sum_by f (new ∷ xs) ≡ f new + sum_by f xs = sum_by-cons f new xs in
-    omega arith
-sum-set f (x ∷ xs) (suc k) old new is =
-    let before : sum_by f (x ∷ xs) ≡ f x + sum_by f xs = sum_by-cons f x xs in
-    let after : sum_by f (x ∷ set xs k new) ≡ f x + sum_by f (set xs k new) = sum_by-cons f x (set xs k new) in
-    let rest = sum-set f xs k old new is in
-    omega arith
+sum-set f (x ∷ xs) zero old new is = grind (arith, is, sum_by-cons)
+sum-set f (x ∷ xs) (suc k) old new is = let rest = sum-set f xs k old new is in grind (arith, rest, sum_by-cons)
 
 member-le : {X : Type 0} (f : X → ℕ) (xs : List X) (k : ℕ) (x : X) → slice_get xs k ≡ Some x → f x ≤ sum_by f xs
 member-le f [] k x is = absurd (cc)
-member-le f (y ∷ ys) zero x is =
-    let same : y ≡ x = cc in
-    let part : f y ≡ f x = ap f same in
-    let all : sum_by f (y ∷ ys) ≡ f y + sum_by f ys = sum_by-cons f y ys in
-    omega arith
-member-le f (y ∷ ys) (suc k) x is =
-    let all : sum_by f (y ∷ ys) ≡ f y + sum_by f ys = sum_by-cons f y ys in
-    let rest = member-le f ys k x is in
-    omega arith
-
-get_or-is : {X : Type 0} (xs : List X) (k : ℕ) (x d : X) → slice_get xs k ≡ Some x → get_or xs k d ≡ x
-get_or-is [] k x d is = absurd (cc)
-get_or-is (y ∷ ys) zero x d is = cc
-get_or-is (y ∷ ys) (suc k) x d is = get_or-is ys k x d is
+member-le f (y ∷ ys) zero x is = grind (arith, is, sum_by-cons)
+member-le f (y ∷ ys) (suc k) x is = let rest = member-le f ys k x is in grind (arith, rest, sum_by-cons)
 
 get_or-missing : {X : Type 0} (xs : List X) (k : ℕ) (d : X) → slice_get xs k ≡ None → get_or xs k d ≡ d
 get_or-missing [] k d is = refl
@@ -125,15 +86,6 @@ get_or-missing (y ∷ ys) zero d is = absurd (cc)
 get_or-missing (y ∷ ys) (suc k) d is = get_or-missing ys k d is
 
 -- ---- a name stands in one table
-
-All-right : {X : Type 0} (P : X → Type 0) (xs ys : List X) → AllByRecursion P (xs ++ ys) → AllByRecursion P ys
-All-right P [] ys all = all
-All-right P (x ∷ xs) ys all = All-right P xs ys all.1
-
-apart-right : (xs ys : List (List ℕ)) → IsDistinct same_name (xs ++ ys) → IsDistinct same_name ys
-unfolding IsDistinct
-apart-right [] ys apart = apart
-apart-right (x ∷ xs) ys apart = apart-right xs ys apart.1
 
 module _ {Row : Type 0} (name_of : Row → List ℕ) where
   -- the name of a row is none of the names after those of its table
@@ -153,7 +105,7 @@ module _ {Row : Type 0} (name_of : Row → List ℕ) where
 pub in_one_table : (sheet : BalanceSheet) → Valid sheet → (name : List ℕ) → (is_in tables.Security name sheet && is_in tables.Fund name sheet) ≡ false
 in_one_table sheet valid name =
     passes_or_fails (is_in tables.Security name sheet)
-    (λ e. let apart = apart-right (map group_name sheet.groups) _ valid.named_once in
+    (λ e. let apart = distinct-right (map group_name sheet.groups) _ valid.named_once in
     let after = fresh-after position_name name sheet.securities _ apart e in
     let banks = All-right _ (map liability_name sheet.liabilities) _ after in
     let reinsurers = All-right _ (map bank_name sheet.banks) _ banks in
@@ -254,11 +206,6 @@ held-same (edits.Flows security flows) sheet other free = held-flows security fl
 held-same (edits.Fund name components) sheet other free = held-fund name components sheet
 held-same (edits.Remove tables.Security name) sheet other free = held-drop name sheet free
 held-same (edits.Remove tables.Fund name) sheet other free = held-drop_fund name sheet free
-held-same (edits.Remove tables.Group name) sheet other free = refl
-held-same (edits.Remove tables.Liability name) sheet other free = refl
-held-same (edits.Remove tables.Bank name) sheet other free = refl
-held-same (edits.Remove tables.Rein name) sheet other free = refl
-held-same (edits.Remove tables.Curve name) sheet other free = refl
 held-same edit sheet other free = refl
 
 -- ---- the components of all funds
@@ -266,7 +213,6 @@ held-same edit sheet other free = refl
 abbrev pub moves_components : Edit → Bool
 moves_components (edits.Fund name components) = true
 moves_components (edits.Remove tables.Fund name) = true
-moves_components (edits.Remove table name) = false
 moves_components edit = false
 
 -- how many a fund has
@@ -296,12 +242,6 @@ pub components-same : (edit : Edit) (sheet : BalanceSheet) → moves_components 
 components-same (edits.Fund name components) sheet other = absurd (cc)
 components-same (edits.Hold name cents) sheet other = components-hold name cents sheet
 components-same (edits.Remove tables.Fund name) sheet other = absurd (cc)
-components-same (edits.Remove tables.Group name) sheet other = refl
-components-same (edits.Remove tables.Security name) sheet other = refl
-components-same (edits.Remove tables.Liability name) sheet other = refl
-components-same (edits.Remove tables.Bank name) sheet other = refl
-components-same (edits.Remove tables.Rein name) sheet other = refl
-components-same (edits.Remove tables.Curve name) sheet other = refl
 components-same edit sheet other = refl
 
 -- ---- the absolute flows of all liabilities under a projection
@@ -309,7 +249,6 @@ components-same edit sheet other = refl
 abbrev pub moves_liability_flows : Edit → Bool
 moves_liability_flows (edits.LiabilityFlows liability projection flows) = true
 moves_liability_flows (edits.Remove tables.Liability name) = true
-moves_liability_flows (edits.Remove table name) = false
 moves_liability_flows edit = false
 
 -- what a liability pays and receives under a projection
@@ -356,12 +295,6 @@ pub liability_flows-same : (projection : Projection) (edit : Edit) (sheet : Bala
 liability_flows-same projection (edits.LiabilityFlows liability p flows) sheet other = absurd (cc)
 liability_flows-same projection (edits.Liability name kind currency) sheet other = liability_flows-liability projection name kind currency sheet
 liability_flows-same projection (edits.Remove tables.Liability name) sheet other = absurd (cc)
-liability_flows-same projection (edits.Remove tables.Group name) sheet other = refl
-liability_flows-same projection (edits.Remove tables.Security name) sheet other = refl
-liability_flows-same projection (edits.Remove tables.Fund name) sheet other = refl
-liability_flows-same projection (edits.Remove tables.Bank name) sheet other = refl
-liability_flows-same projection (edits.Remove tables.Rein name) sheet other = refl
-liability_flows-same projection (edits.Remove tables.Curve name) sheet other = refl
 liability_flows-same projection edit sheet other = refl
 
 -- ---- the volumes of a set
@@ -390,7 +323,7 @@ module _ (number region : ℕ) (old : ℕ × ℕ) (segments : List Regions) (is 
           let empty : slice_get nothing.volumes (region - 1) ≡ Some old = ap (λ (s : Regions). slice_get s.volumes (region - 1)) (sym missing) ∙ is in
           absurd (cc)
       by (Some segment) e =
-          let here : get_or segments (number - 1) nothing ≡ segment = get_or-is segments (number - 1) segment nothing e in
+          let here : get_or segments (number - 1) nothing ≡ segment = get_or_from_slice_get segments (number - 1) segment nothing e in
           (segment, e, here, ap (λ (s : Regions). slice_get s.volumes (region - 1)) (sym here) ∙ is)
 
   volumes-written : (new : ℕ × ℕ) → sum_by volume_total (with_volumes number region new segments) + volume old ≡ sum_by volume_total segments + volume new
@@ -427,12 +360,7 @@ volumes-same set (edits.Remove table name) sheet other = ap (λ (n : Numbers). s
   where
     numbers-dropped : (table : Table) (name : List ℕ) (sheet : BalanceSheet) → (dropped table name sheet).numbers ≡ sheet.numbers
     numbers-dropped tables.Group name sheet = refl
-    numbers-dropped tables.Security name sheet = refl
-    numbers-dropped tables.Fund name sheet = refl
-    numbers-dropped tables.Liability name sheet = refl
-    numbers-dropped tables.Bank name sheet = refl
-    numbers-dropped tables.Rein name sheet = refl
-    numbers-dropped tables.Curve name sheet = refl
+    numbers-dropped table name sheet = refl
 volumes-same sets.Nl edit sheet other = refl
 volumes-same sets.Nslt edit sheet other = refl
 
@@ -443,7 +371,6 @@ moves_defaults (edits.Bank name group cents) = true
 moves_defaults (edits.Rein name group recoverables mitigation collateral) = true
 moves_defaults (edits.Remove tables.Bank name) = true
 moves_defaults (edits.Remove tables.Rein name) = true
-moves_defaults (edits.Remove table name) = false
 moves_defaults edit = false
 
 -- what a reinsurer comes to
@@ -485,9 +412,4 @@ defaults-same (edits.Bank name group cents) sheet other = absurd (cc)
 defaults-same (edits.Rein name group recoverables mitigation collateral) sheet other = absurd (cc)
 defaults-same (edits.Remove tables.Bank name) sheet other = absurd (cc)
 defaults-same (edits.Remove tables.Rein name) sheet other = absurd (cc)
-defaults-same (edits.Remove tables.Group name) sheet other = refl
-defaults-same (edits.Remove tables.Security name) sheet other = refl
-defaults-same (edits.Remove tables.Fund name) sheet other = refl
-defaults-same (edits.Remove tables.Liability name) sheet other = refl
-defaults-same (edits.Remove tables.Curve name) sheet other = refl
 defaults-same edit sheet other = refl

@@ -1,9 +1,6 @@
 -- What it says of a sheet that a row has no user.
-use Rattle.std.proofs.Common.{◌≡◌, ℕ, Bool, true, false, List, [], ◌∷◌, ◌++◌, Option, Some, None, is_some, if◌then◌else◌, cond, map, refl, sym, ap, ◌∙◌}
-use Rattle.std.specs.Ordering.{nat_cmp, is_lt}
-use Rattle.std.specs.Cmp.Lexicographic.{slice_cmp}
+use Rattle.std.proofs.Common.{◌≡◌, ℕ, Bool, true, false, List, [], ◌∷◌, ◌++◌, Some, None, is_some, if◌then◌else◌, cond, map, refl, sym, ap, ◌∙◌, arith}
 use Rattle.std.specs.List.{fold, filter, list_any, AllByRecursion}
-use Rattle.std.specs.Option.{option_map}
 use Rattle.scr_names.specs.Names.{same_name, earlier}
 use Rattle.scr_sheet.specs.BalanceSheet.{position_name, liability_name, bank_name, rein_name, stake_name}
 use Rattle.scr_sheet.specs.declared.sheet.BalanceSheet.{BalanceSheet}
@@ -17,18 +14,13 @@ use Rattle.scr_sheet.proofs.Projections.{or_false}
 some_stays : (first : List ℕ) (names : List (List ℕ)) → is_some (fold earlier (Some first) names) ≡ true
 some_stays first [] = refl
 some_stays first (name ∷ names) =
-    let sooner : Bool = is_lt (slice_cmp nat_cmp name first) in
-    passes_or_fails sooner
-    (λ e. ap (λ (t : Bool). is_some (fold earlier (if t then Some name else Some first) names)) e ∙ some_stays name names)
-    (λ e. ap (λ (t : Bool). is_some (fold earlier (if t then Some name else Some first) names)) e ∙ some_stays first names)
+    let sooner = some_stays name names in
+    let later = some_stays first names in
+    grind (arith, sooner, later)
 
 none_from_first_row : (names : List (List ℕ)) → first_row names ≡ None → names ≡ []
 none_from_first_row [] h = refl
-none_from_first_row (name ∷ names) h = by (fold earlier (Some name) names) (some_stays name names) h
-  where
-    by : (o : Option (List ℕ)) → is_some o ≡ true → option_map (λ n. users.Row n) o ≡ None → name ∷ names ≡ []
-    by None some none = absurd (cc)
-    by (Some m) some none = absurd (cc)
+none_from_first_row (name ∷ names) h = let some = some_stays name names in grind (arith, h, some)
 
 append_none : {X : Type 0} (xs ys : List X) → xs ++ ys ≡ [] → (xs ≡ []) × (ys ≡ [])
 append_none [] ys h = (refl, h)

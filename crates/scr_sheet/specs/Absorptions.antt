@@ -2,8 +2,7 @@
 use Rattle.std.specs.Prelude.{ℕ, slice_index_or}
 use Rattle.std.specs.Option.{option_map_or}
 use Rattle.scr_sheet.specs.Records.{absorb_place}
-use Rattle.scr_sheet.specs.declared.keys.AbsorbKey.{AbsorbKey}
-use Rattle.scr_sheet.specs.declared.numbers.Numbers.{Numbers}
+use Rattle.scr_sheet.specs.declared.{keys.AbsorbKey.AbsorbKey, numbers.Numbers.Numbers}
 
 -- what is absorbed of a scenario, in cents; 0 for those of a currency, whose absorptions stand with its curve
 abbrev pub absorbed : AbsorbKey → Numbers → ℕ

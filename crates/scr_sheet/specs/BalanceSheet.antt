@@ -6,19 +6,8 @@ use Rattle.scr_names.specs.Tables.{row_of, has_row}
 use Rattle.scr_sheet.specs.CashFlows.{total, flows_under, greatest_years, all_projections}
 use Rattle.scr_profile.specs.declared.set.Set.{Set}
 use Rattle.scr_profile.specs.declared.set.Set.TheVariants as sets
-use Rattle.scr_sheet.specs.declared.keys.Table.{Table}
+use Rattle.scr_sheet.specs.declared.{keys.Table.Table, keys.Projection.Projection, rows.Group.Group, rows.Position.Position, rows.Stake.Stake, rows.Liability.Liability, rows.Bank.Bank, rows.Rein.Rein, rows.Curve.Curve, numbers.Numbers.Numbers, numbers.Regions.Regions, sheet.BalanceSheet.BalanceSheet}
 use Rattle.scr_sheet.specs.declared.keys.Table.TheVariants as tables
-use Rattle.scr_sheet.specs.declared.keys.Projection.{Projection}
-use Rattle.scr_sheet.specs.declared.rows.Group.{Group}
-use Rattle.scr_sheet.specs.declared.rows.Position.{Position}
-use Rattle.scr_sheet.specs.declared.rows.Stake.{Stake}
-use Rattle.scr_sheet.specs.declared.rows.Liability.{Liability}
-use Rattle.scr_sheet.specs.declared.rows.Bank.{Bank}
-use Rattle.scr_sheet.specs.declared.rows.Rein.{Rein}
-use Rattle.scr_sheet.specs.declared.rows.Curve.{Curve}
-use Rattle.scr_sheet.specs.declared.numbers.Numbers.{Numbers}
-use Rattle.scr_sheet.specs.declared.numbers.Regions.{Regions}
-use Rattle.scr_sheet.specs.declared.sheet.BalanceSheet.{BalanceSheet}
 
 -- ---- the sheet before the first record
 

@@ -3,11 +3,9 @@ pub use Rattle.scr_dates.specs.Payments.{total, last_day, years_of, greatest_yea
 use Rattle.std.specs.Prelude.{ℤ, Bool, ◌||◌, true, false, List, [], ◌∷◌}
 use Rattle.std.specs.List.{list_all}
 use Rattle.scr_dates.specs.declared.day.Day.{Day}
-use Rattle.scr_sheet.specs.declared.keys.Projection.{Projection}
+use Rattle.scr_sheet.specs.declared.{keys.Projection.Projection, rows.LiabilityKind.LiabilityKind, rows.LiabilityFlows.LiabilityFlows}
 use Rattle.scr_sheet.specs.declared.keys.Projection.TheVariants as projections
-use Rattle.scr_sheet.specs.declared.rows.LiabilityKind.{LiabilityKind}
 use Rattle.scr_sheet.specs.declared.rows.LiabilityKind.TheVariants as kinds
-use Rattle.scr_sheet.specs.declared.rows.LiabilityFlows.{LiabilityFlows}
 
 -- a liability's flows under a projection
 abbrev pub flows_under : Projection → LiabilityFlows → List (Day × ℤ)

@@ -2,10 +2,8 @@
 use Rattle.std.specs.Prelude.{◌≡◌}
 use Rattle.scr_names.specs.Pasts.{restored, HasPlace}
 use Rattle.scr_sheet.specs.BalanceSheet.{group_name, position_name, liability_name, bank_name, rein_name, curve_name, stake_name}
-use Rattle.scr_sheet.specs.declared.sheet.BalanceSheet.{BalanceSheet}
+use Rattle.scr_sheet.specs.declared.{sheet.BalanceSheet.BalanceSheet, edit.Edit.Edit, earlier.Earlier.Earlier}
 use Rattle.scr_sheet.specs.Records.{applied}
-use Rattle.scr_sheet.specs.declared.edit.Edit.{Edit}
-use Rattle.scr_sheet.specs.declared.earlier.Earlier.{Earlier}
 use Rattle.scr_sheet.specs.declared.earlier.Earlier.TheVariants as earlier
 
 -- the sheet with what stood in one of its tables, or with the single numbers as they were

@@ -8,20 +8,14 @@ use Rattle.scr_names.specs.Names.{same_name}
 use Rattle.scr_names.specs.Tables.{row_of}
 use Rattle.scr_sheet.specs.CashFlows.{total, has_projection, suits}
 use Rattle.scr_sheet.specs.BalanceSheet.{liability_name, is_in, is_named, held_total, liability_flows_total, volumes_total, defaults_total, components_total, components_of, sheet_years}
-use Rattle.scr_sheet.specs.declared.sheet.BalanceSheet.{BalanceSheet}
+use Rattle.scr_sheet.specs.declared.{sheet.BalanceSheet.BalanceSheet, edit.Edit.Edit, fault.Fault.Fault, fault.Quantity.Quantity, keys.AbsorbKey.AbsorbKey, keys.Projection.Projection, keys.Table.Table}
 use Rattle.scr_sheet.specs.Records.{applied, with_fund}
 use Rattle.scr_sheet.specs.Users.{user_of}
-use Rattle.scr_sheet.specs.declared.edit.Edit.{Edit}
 use Rattle.scr_sheet.specs.declared.edit.Edit.TheVariants as edits
-use Rattle.scr_sheet.specs.declared.fault.Fault.{Fault}
 use Rattle.scr_sheet.specs.declared.fault.Fault.TheVariants as faults
-use Rattle.scr_sheet.specs.declared.fault.Quantity.{Quantity}
 use Rattle.scr_sheet.specs.declared.fault.Quantity.TheVariants as quantities
 use Rattle.scr_sheet.specs.declared.fault.User.TheVariants as users
-use Rattle.scr_sheet.specs.declared.keys.AbsorbKey.{AbsorbKey}
 use Rattle.scr_sheet.specs.declared.keys.AbsorbKey.TheVariants as absorb
-use Rattle.scr_sheet.specs.declared.keys.Projection.{Projection}
-use Rattle.scr_sheet.specs.declared.keys.Table.{Table}
 use Rattle.scr_sheet.specs.declared.keys.Table.TheVariants as tables
 use Rattle.scr_profile.specs.declared.limits.TheConstants.{MIN_RATE, MAX_RATE, MAX_RATES, MAX_DURATION, MAX_FLOWS, MAX_PROMISED, MAX_AMOUNT, MAX_SYM, MAX_TAX, MAX_HELD, MAX_LIABILITY_FLOWS, MAX_YEARS, MAX_CURRENCIES, MAX_SECURITIES, MAX_FUNDS, MAX_COMPONENTS, MAX_FUND_COMPONENTS, MIN_WEIGHT, MAX_WEIGHT, MAX_LIABILITIES, MAX_GROUPS, MAX_EXPOSURES}
 

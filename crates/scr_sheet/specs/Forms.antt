@@ -5,10 +5,9 @@ use Rattle.scr_dates.specs.declared.day.Day.{Day}
 use Rattle.scr_dates.specs.Civil.{IsDay}
 pub use Rattle.scr_dates.specs.Payments.{AreOnDays}
 use Rattle.scr_names.specs.Names.{is_name, is_currency}
-use Rattle.scr_sheet.specs.declared.edit.Edit.{Edit}
+use Rattle.scr_sheet.specs.declared.{edit.Edit.Edit, keys.AbsorbKey.AbsorbKey}
 use Rattle.scr_sheet.specs.declared.edit.Edit.TheVariants as edits
 use Rattle.scr_profile.specs.Segments.{segments}
-use Rattle.scr_sheet.specs.declared.keys.AbsorbKey.{AbsorbKey}
 use Rattle.scr_sheet.specs.declared.keys.AbsorbKey.TheVariants as absorb
 
 -- a number of at most 18 digits

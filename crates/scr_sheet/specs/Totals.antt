@@ -4,9 +4,8 @@ use Rattle.std.specs.Prelude.{ℕ, Bool, true, false, List, [], ◌∷◌, map, 
 use Rattle.scr_funds.specs.LookThrough.{Shared, part_in, total}
 use Rattle.scr_names.specs.Names.{same_name}
 use Rattle.scr_sheet.specs.BalanceSheet.{held_of}
-use Rattle.scr_sheet.specs.declared.sheet.BalanceSheet.{BalanceSheet}
+use Rattle.scr_sheet.specs.declared.{sheet.BalanceSheet.BalanceSheet, rows.Stake.Stake}
 use Rattle.scr_sheet.specs.Records.{natural}
-use Rattle.scr_sheet.specs.declared.rows.Stake.{Stake}
 
 -- a fund's name, and its components with their weights
 abbrev pub shared : Stake → Shared (List ℕ)

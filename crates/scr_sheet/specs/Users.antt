@@ -5,14 +5,10 @@ use Rattle.std.specs.Option.{option_or, option_map, option_map_or}
 use Rattle.scr_names.specs.Names.{same_name, first_in_order}
 use Rattle.scr_names.specs.Tables.{row_of}
 use Rattle.scr_sheet.specs.BalanceSheet.{position_name, liability_name, bank_name, rein_name, curve_name, stake_name, held_of}
-use Rattle.scr_sheet.specs.declared.sheet.BalanceSheet.{BalanceSheet}
-use Rattle.scr_sheet.specs.declared.fault.User.{User}
+use Rattle.scr_sheet.specs.declared.{sheet.BalanceSheet.BalanceSheet, fault.User.User, keys.Table.Table, rows.Position.Position, rows.Stake.Stake}
 use Rattle.scr_sheet.specs.declared.fault.User.TheVariants as users
 use Rattle.scr_sheet.specs.declared.keys.AbsorbKey.TheVariants as absorb
-use Rattle.scr_sheet.specs.declared.keys.Table.{Table}
 use Rattle.scr_sheet.specs.declared.keys.Table.TheVariants as tables
-use Rattle.scr_sheet.specs.declared.rows.Position.{Position}
-use Rattle.scr_sheet.specs.declared.rows.Stake.{Stake}
 
 -- a security is of this group
 abbrev pub is_of_group : List ℕ → Position → Bool

@@ -9,18 +9,8 @@ use Rattle.scr_names.specs.Tables.{has_row}
 use Rattle.scr_sheet.specs.Forms.{IsName, IsCurrency, IsNameOrNone, IsStepOrNone, AreOnDays}
 use Rattle.scr_sheet.specs.CashFlows.{total, flows_under, suits}
 use Rattle.scr_sheet.specs.BalanceSheet.{group_name, position_name, stake_name, curve_name, names_of, components_of, components_total, held_total, liability_flows_total, volumes_total, defaults_total, sheet_years}
-use Rattle.scr_sheet.specs.declared.sheet.BalanceSheet.{BalanceSheet}
+use Rattle.scr_sheet.specs.declared.{sheet.BalanceSheet.BalanceSheet, keys.Projection.Projection, rows.Group.Group, rows.Position.Position, rows.Stake.Stake, rows.Liability.Liability, rows.Bank.Bank, rows.Rein.Rein, rows.Curve.Curve, numbers.Numbers.Numbers, numbers.Regions.Regions}
 use Rattle.scr_profile.specs.declared.set.Set.{Set}
-use Rattle.scr_sheet.specs.declared.keys.Projection.{Projection}
-use Rattle.scr_sheet.specs.declared.rows.Group.{Group}
-use Rattle.scr_sheet.specs.declared.rows.Position.{Position}
-use Rattle.scr_sheet.specs.declared.rows.Stake.{Stake}
-use Rattle.scr_sheet.specs.declared.rows.Liability.{Liability}
-use Rattle.scr_sheet.specs.declared.rows.Bank.{Bank}
-use Rattle.scr_sheet.specs.declared.rows.Rein.{Rein}
-use Rattle.scr_sheet.specs.declared.rows.Curve.{Curve}
-use Rattle.scr_sheet.specs.declared.numbers.Numbers.{Numbers}
-use Rattle.scr_sheet.specs.declared.numbers.Regions.{Regions}
 use Rattle.scr_profile.specs.declared.limits.TheConstants.{MIN_RATE, MAX_RATE, MAX_RATES, MAX_DURATION, MAX_FLOWS, MAX_PROMISED, MAX_AMOUNT, MAX_SYM, MAX_TAX, MAX_HELD, MAX_LIABILITY_FLOWS, MAX_YEARS, MAX_CURRENCIES, MAX_SECURITIES, MAX_FUNDS, MAX_COMPONENTS, MAX_FUND_COMPONENTS, MIN_WEIGHT, MAX_WEIGHT, MAX_LIABILITIES, MAX_GROUPS, MAX_EXPOSURES}
 
 -- ---- rows, each with its form and within its own limits

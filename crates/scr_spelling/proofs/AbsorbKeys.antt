@@ -1,6 +1,5 @@
 -- Each absorption key is read back from its text.
-use Rattle.std.proofs.Common.{◌≡◌, ℕ, ◌==◌, IsTrue, List, [], ◌∷◌, length, Some, None}
-use Rattle.std.proofs.Common.{codes, refl, ap, ◌∙◌, arith, rules}
+use Rattle.std.proofs.Common.{◌≡◌, ℕ, ◌==◌, IsTrue, List, [], ◌∷◌, length, Some, None, codes, refl, ap, ◌∙◌, arith, rules}
 use Rattle.std.specs.Prelude.{option_and_then}
 use Rattle.std.specs.List.{list_all}
 use Rattle.std.specs.Char.{is_ascii_uppercase}

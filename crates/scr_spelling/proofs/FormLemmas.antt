@@ -1,6 +1,5 @@
 -- Currencies have the form of names, what is found in a closed list is of that list, and slices to the end.
-use Rattle.std.proofs.Common.{◌≡◌, ℕ, ◌-◌, ◌==◌, Bool, true, false, cond, List, [], ◌∷◌, length, take, drop, refl}
-use Rattle.std.proofs.Common.{Some, IfSome, length-drop, arith}
+use Rattle.std.proofs.Common.{◌≡◌, ℕ, ◌-◌, ◌==◌, Bool, true, false, cond, List, [], ◌∷◌, length, take, drop, refl, Some, IfSome, length-drop, arith}
 use Rattle.std.specs.Prelude.{nat_le, find}
 use Rattle.std.specs.List.{list_all, AllByRecursion}
 use Rattle.std.specs.Char.{is_ascii_uppercase, is_ascii_alphanumeric}

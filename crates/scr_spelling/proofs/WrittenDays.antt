@@ -1,7 +1,5 @@
 -- A day is read back from its text.
-use Rattle.std.proofs.Common.{◌≡◌, ℕ, ℤ, pos, ◌+◌, ◌*◌, ◌-◌, ◌/◌, ◌%◌, ◌<◌, ◌≤◌}
-use Rattle.std.proofs.Common.{◌-ℤ◌, true, unsigned_abs, List, [], ◌∷◌, Some, refl, sym}
-use Rattle.std.proofs.Common.{ap, subst, ◌∙◌, arith}
+use Rattle.std.proofs.Common.{◌≡◌, ℕ, ℤ, pos, ◌+◌, ◌*◌, ◌-◌, ◌/◌, ◌%◌, ◌<◌, ◌≤◌, ◌-ℤ◌, true, unsigned_abs, List, [], ◌∷◌, Some, refl, sym, ap, subst, ◌∙◌, arith}
 use Rattle.std.specs.Prelude.{nat_le}
 use Rattle.std.specs.Char.{is_ascii_digit}
 use Rattle.jiff_core.specs.declared.civil.date.Date.{Date}
@@ -11,8 +9,7 @@ use Rattle.jiff_core.proofs.SignedLemmas.{signed_arith}
 use Rattle.jiff_core.proofs.CalendarLemmas.{days_in_month_bounds}
 use Rattle.scr_dates.specs.declared.day.Day.{Day}
 use Rattle.scr_dates.specs.Civil.{date_of, day_number, first_date, IsDay}
-use Rattle.scr_dates.specs.Text.{is_date, day_of_date, has_date_form, day_of_text, written_year, written_month}
-use Rattle.scr_dates.specs.Text.{written_day}
+use Rattle.scr_dates.specs.Text.{is_date, day_of_date, has_date_form, day_of_text, written_year, written_month, written_day}
 use Rattle.scr_dates.proofs.Dates.{date_after_is, unsigned_abs-same, first_number}
 use Rattle.scr_spelling.specs.Texts.{tens, ones, date_text, civil_text, day_text, is_taken}
 use Rattle.scr_spelling.proofs.Days.{date_found}

@@ -1,6 +1,5 @@
 -- A field of each form is read back from its text.
-use Rattle.std.proofs.Common.{◌≡◌, ℕ, pos, ◌<◌, ◌≤◌, ◌^◌, ◌&&◌, true, false, List, [], ◌∷◌, Option, Some, None, refl}
-use Rattle.std.proofs.Common.{codes, arith}
+use Rattle.std.proofs.Common.{◌≡◌, ℕ, pos, ◌<◌, ◌≤◌, ◌^◌, ◌&&◌, true, false, List, [], ◌∷◌, Option, Some, None, refl, codes, arith}
 use Rattle.std.specs.Prelude.{nat_le, nat_eq}
 use Rattle.std.specs.Char.{is_ascii_alphanumeric}
 use Rattle.std.specs.List.{list_all}

@@ -1,7 +1,5 @@
 -- A number is read back from its text.
-use Rattle.std.proofs.Common.{◌≡◌, ℕ, suc, ℤ, pos, negsuc, neg_ℤ, ◌+◌, ◌*◌, ◌-◌, ◌^◌, ◌<◌, ◌≤◌, ◌==◌, true}
-use Rattle.std.proofs.Common.{false, List, [], ◌∷◌, length, Some, refl, ap}
-use Rattle.std.proofs.Common.{codes, arith, rules, lit<}
+use Rattle.std.proofs.Common.{◌≡◌, ℕ, suc, ℤ, pos, negsuc, neg_ℤ, ◌+◌, ◌*◌, ◌-◌, ◌^◌, ◌<◌, ◌≤◌, ◌==◌, true, false, List, [], ◌∷◌, length, Some, refl, ap, codes, arith, rules, lit<}
 use Rattle.std.specs.Prelude.{fold, nat_le, nat_eq, option_map}
 use Rattle.std.specs.Fmt.{decimal}
 use Rattle.std.specs.Char.{is_ascii_digit}

@@ -1,6 +1,5 @@
 -- The form of each field of a record, and what a field of that form stands for (this project's own).
-use Rattle.std.specs.Prelude.{ℕ, ℤ, pos, negsuc, ◌&&◌, List, take, drop, Option, Some, None, if◌then◌else◌, codes}
-use Rattle.std.specs.Prelude.{nat_le, option_and_then, option_map}
+use Rattle.std.specs.Prelude.{ℕ, ℤ, pos, negsuc, ◌&&◌, List, take, drop, Option, Some, None, if◌then◌else◌, codes, nat_le, option_and_then, option_map}
 use Rattle.std.specs.Option.{option_or}
 use Rattle.scr_profile.specs.declared.set.Set.{Set}
 use Rattle.scr_names.specs.Names.{is_name, is_currency}

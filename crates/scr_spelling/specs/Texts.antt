@@ -1,6 +1,5 @@
 -- How numbers, days and what may be lacking are written (this project's own).
-use Rattle.std.specs.Prelude.{ℕ, ℤ, pos, neg_ℤ, ◌+◌, ◌/◌, ◌%◌, ◌||◌, Bool, not, int_lt, unsigned_abs, List, []}
-use Rattle.std.specs.Prelude.{◌∷◌, Option, Some, None, codes, if◌then◌else◌}
+use Rattle.std.specs.Prelude.{ℕ, ℤ, pos, neg_ℤ, ◌+◌, ◌/◌, ◌%◌, ◌||◌, Bool, not, int_lt, unsigned_abs, List, [], ◌∷◌, Option, Some, None, codes, if◌then◌else◌}
 use Rattle.std.specs.Fmt.{signed_decimal}
 use Rattle.scr_dates.specs.declared.day.Day.{Day}
 use Rattle.scr_dates.specs.Civil.{CivilDate, date_of}

@@ -2,21 +2,15 @@
 -- word.
 use Rattle.std.specs.Prelude.{ℕ, ◌∷◌, List, [], Option, codes, find, nat_eq, Bool}
 use Rattle.std.specs.Cmp.Lexicographic.{pointwise}
-use Rattle.scr_sheet.specs.declared.keys.Table.{Table}
+use Rattle.scr_sheet.specs.declared.{keys.Table.Table, rows.Class.Class, rows.LiabilityKind.LiabilityKind, keys.Projection.Projection, keys.CatKey.CatKey, keys.AbsorbKey.AbsorbKey}
 use Rattle.scr_sheet.specs.declared.keys.Table.TheVariants as tables
-use Rattle.scr_profile.specs.declared.group_kind.GroupKind.{GroupKind}
+use Rattle.scr_profile.specs.declared.{group_kind.GroupKind.GroupKind, set.Set.Set}
 use Rattle.scr_profile.specs.declared.group_kind.GroupKind.TheVariants as groups
-use Rattle.scr_sheet.specs.declared.rows.Class.{Class}
 use Rattle.scr_sheet.specs.declared.rows.Class.TheVariants as classes
-use Rattle.scr_sheet.specs.declared.rows.LiabilityKind.{LiabilityKind}
 use Rattle.scr_sheet.specs.declared.rows.LiabilityKind.TheVariants as liabilities
-use Rattle.scr_sheet.specs.declared.keys.Projection.{Projection}
 use Rattle.scr_sheet.specs.declared.keys.Projection.TheVariants as projections
-use Rattle.scr_profile.specs.declared.set.Set.{Set}
 use Rattle.scr_profile.specs.declared.set.Set.TheVariants as sets
-use Rattle.scr_sheet.specs.declared.keys.CatKey.{CatKey}
 use Rattle.scr_sheet.specs.declared.keys.CatKey.TheVariants as cats
-use Rattle.scr_sheet.specs.declared.keys.AbsorbKey.{AbsorbKey}
 use Rattle.scr_sheet.specs.declared.keys.AbsorbKey.TheVariants as absorb
 
 abbrev pub is_text : List ℕ → List ℕ → Bool

@@ -1,7 +1,7 @@
 -- Counts by block and place, read by day.
-use Rattle.std.proofs.Common.{◌≡◌, ℕ, zero, suc, ◌+◌, ◌*◌, ◌/◌, ◌%◌, ◌<◌, ◌≤◌, Bool, true, false, ◌&&◌, eqb, ltb, ◌<ℤ◌, List, [], ◌∷◌, Some, None, if◌then◌else◌, int_le, ℤ, length, map, replicate, set, get_or, refl, sym, ap, subst, ◌∙◌, arith}
+use Rattle.std.proofs.Common.{◌≡◌, ℕ, zero, suc, ◌+◌, ◌*◌, ◌/◌, ◌%◌, ◌<◌, ◌≤◌, Bool, true, false, ◌&&◌, ltb, ◌<ℤ◌, List, [], ◌∷◌, Some, None, if◌then◌else◌, int_le, ℤ, length, map, replicate, set, get_or, refl, sym, ap, subst, ◌∙◌, arith}
 use Rattle.std.proofs.lemmas.Int.{ints}
-use Rattle.std.proofs.lemmas.List.{get_or-set_same, get_or-set_other, get_or_past, get_or_default, length-replicate, length-set}
+use Rattle.std.proofs.lemmas.List.{get_or-set_same, get_or-set_other, get_or_past, get_or_default, length-replicate}
 use Rattle.std.specs.List.{AllByRecursion}
 use Rattle.scr_dates.specs.Civil.{IsDay}
 use Rattle.scr_dates.specs.declared.day.Day.{Day}
@@ -27,10 +27,6 @@ count-made zero places block place = refl
 count-made (suc n) places zero place = count-zeros places place
 count-made (suc n) places (suc block) place = count-made n places block place
 
-pub places-made : (n places : ℕ) → AllByRecursion (λ (block : List ℕ). length block ≡ places) (replicate n (replicate places 0))
-places-made zero places = tt
-places-made (suc n) places = (length-replicate places 0, places-made n places)
-
 pub places-cleared : (places : ℕ) (blocks : List (List ℕ)) → AllByRecursion (λ (block : List ℕ). length block ≡ places) blocks → AllByRecursion (λ (block : List ℕ). length block ≡ places) (map zeros blocks)
 places-cleared places [] all = tt
 places-cleared places (b ∷ blocks) all = (length-replicate (length b) 0 ∙ all.0, places-cleared places blocks all.1)
@@ -45,29 +41,17 @@ places_of places (b ∷ blocks) (suc block) all within = places_of places blocks
 abbrev pub with_count : List (List ℕ) → ℕ → ℕ → ℕ → List (List ℕ)
 with_count blocks block place n = set blocks block (set (get_or blocks block []) place n)
 
-pub places-set : (places : ℕ) (blocks : List (List ℕ)) (block place n : ℕ) → AllByRecursion (λ (b : List ℕ). length b ≡ places) blocks → AllByRecursion (λ (b : List ℕ). length b ≡ places) (with_count blocks block place n)
-places-set places [] block place n all = tt
-places-set places (b ∷ blocks) zero place n all = (length-set b place n ∙ all.0, all.1)
-places-set places (b ∷ blocks) (suc block) place n all = (all.0, places-set places blocks block place n all.1)
-
-pub blocks-set : (blocks : List (List ℕ)) (block place n : ℕ) → AreBlocks blocks → AreBlocks (with_count blocks block place n)
-blocks-set blocks block place n are = record { number = length-set blocks block (set (get_or blocks block []) place n) ∙ are.number; places = places-set 438 blocks block place n are.places }
-
 module _ (blocks : List (List ℕ)) (block place n : ℕ) (in_blocks : block < length blocks) (in_places : place < length (get_or blocks block [])) where
   -- the count that was written, and every other
   pub count-own : count_in (with_count blocks block place n) block place ≡ n
   count-own = ap (λ (b : List ℕ). count_at b place) (get_or-set_same blocks block (set (get_or blocks block []) place n) [] in_blocks) ∙ get_or-set_same (get_or blocks block []) place n 0 in_places
 
   pub count-other : (b p : ℕ) → ((b ≡ block) → (p ≡ place) → ⊥) → count_in (with_count blocks block place n) b p ≡ count_in blocks b p
-  count-other b p apart = by (eqb b block) refl
-    where
-      by : (t : Bool) → eqb b block ≡ t → count_in (with_count blocks block place n) b p ≡ count_in blocks b p
-      by true e =
-          let same : b ≡ block = grind (arith, e) in
-          subst (λ (k : ℕ). count_in (with_count blocks block place n) k p ≡ count_in blocks k p) (sym same)
-          (ap (λ (c : List ℕ). count_at c p) (get_or-set_same blocks block (set (get_or blocks block []) place n) [] in_blocks)
-          ∙ get_or-set_other (get_or blocks block []) place p n 0 (λ h. apart same h))
-      by false e = ap (λ (c : List ℕ). count_at c p) (get_or-set_other blocks block b (set (get_or blocks block []) place n) [] (λ h. let t : false ≡ true = grind (arith, e, h) in absurd (cc)))
+  count-other b p apart =
+      let own = get_or-set_same blocks block (set (get_or blocks block []) place n) [] in_blocks in
+      let other = get_or-set_other blocks block b (set (get_or blocks block []) place n) [] in
+      let inner = get_or-set_other (get_or blocks block []) place p n 0 in
+      grind (arith, apart, own, other, inner)
 
 -- ---- days
 
@@ -77,9 +61,6 @@ days-apart a b in_a in_b e = grind (arith, ints, in_a, in_b, e)
 
 on_itself : (a b : ℤ) → a ≡ b → (int_le a b && int_le b a) ≡ true
 on_itself a b e = grind (arith, ints, e)
-
-on_other : (a b : ℤ) → (a ≡ b → ⊥) → (int_le a b && int_le b a) ≡ false
-on_other a b apart = grind (arith, ints, apart)
 
 pub day-blocks : (day : ℤ) → IsDay day → days_to day / 438 < 251
 day-blocks day is = let few : days_to day < 109_938 = grind (arith, ints, is) in omega (arith, few)
@@ -115,27 +96,11 @@ module _ (blocks : List (List ℕ)) (are : AreBlocks blocks) (last : Day) (is : 
 
   -- the count of a day that was counted once more
   pub written-more : n ≡ count_of last.number blocks + 1 → (day : ℤ) → IsDay day → count_of day (with_day blocks last.number n) ≡ count_of day blocks + ends_on day (Some last)
-  written-more more day in_day = by (int_le day last.number && int_le last.number day) refl
-    where
-      by : (t : Bool) → (int_le day last.number && int_le last.number day) ≡ t → count_of day (with_day blocks last.number n) ≡ count_of day blocks + (if t then 1 else 0)
-      by true e =
-          let same : day ≡ last.number = grind (arith, ints, e) in
-          subst (λ (d : ℤ). count_of d (with_day blocks last.number n) ≡ count_of d blocks + 1) (sym same) (written-own ∙ more)
-      by false e =
-          let other = written-other day in_day (λ h. let t : false ≡ true = sym e ∙ on_itself day last.number h in absurd (cc)) in
-          omega (arith, other)
+  written-more more day in_day = let other = written-other day in_day in grind (arith, ints, more, written-own, other)
 
   -- and of one from which a count was taken away
   pub written-less : n + 1 ≡ count_of last.number blocks → (day : ℤ) → IsDay day → count_of day (with_day blocks last.number n) + ends_on day (Some last) ≡ count_of day blocks
-  written-less less day in_day = by (int_le day last.number && int_le last.number day) refl
-    where
-      by : (t : Bool) → (int_le day last.number && int_le last.number day) ≡ t → count_of day (with_day blocks last.number n) + (if t then 1 else 0) ≡ count_of day blocks
-      by true e =
-          let same : day ≡ last.number = grind (arith, ints, e) in
-          subst (λ (d : ℤ). count_of d (with_day blocks last.number n) + 1 ≡ count_of d blocks) (sym same) (let own = written-own in omega (arith, own, less))
-      by false e =
-          let other = written-other day in_day (λ h. let t : false ≡ true = sym e ∙ on_itself day last.number h in absurd (cc)) in
-          omega (arith, other)
+  written-less less day in_day = let other = written-other day in_day in grind (arith, ints, less, written-own, other)
 
 -- a list ends once on its last day
 pub ends-own : (last : Day) → ends_on last.number (Some last) ≡ 1

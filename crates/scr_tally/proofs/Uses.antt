@@ -8,16 +8,6 @@ use Rattle.scr_names.proofs.TableRows.{same_or_other, same_name-is, row_of-with_
 use Rattle.scr_tally.specs.declared.names.Used.{Used}
 use Rattle.scr_tally.specs.Users.{Tallied, used_name, users_under, uses, uses_each, nothing, Moves, IsWritten}
 
-pub moves-none : (tally : Tallied) → Moves nothing nothing tally tally
-moves-none tally = record { kept = λ k. k; moved = λ k name. refl }
-
-pub moves-lost : (went came : List ℕ → ℕ) (before now : Tallied) → now.is_lost ≡ true → Moves went came before now
-moves-lost went came before now lost =
-    record {
-      kept = λ k. let both : true ≡ false = sym lost ∙ k in absurd (cc);
-      moved = λ k name. let both : true ≡ false = sym lost ∙ k in absurd (cc);
-    }
-
 -- one move after another
 pub moves-both : (a b c d : List ℕ → ℕ) (first between last : Tallied) → Moves a b first between → Moves c d between last → Moves (λ n. a n + c n) (λ n. b n + d n) first last
 moves-both a b c d first between last one two =

@@ -1,5 +1,5 @@
 -- How many rows use each name (this project's own).
-use Rattle.std.specs.Prelude.{◌≡◌, ℕ, ℤ, ◌+◌, Bool, false, List, if◌then◌else◌, sum_by}
+use Rattle.std.specs.Prelude.{◌≡◌, ℕ, ℤ, ◌+◌, Bool, false, List, Option, if◌then◌else◌, sum_by}
 use Rattle.std.specs.Option.{option_map_or}
 use Rattle.scr_names.specs.Names.{same_name}
 use Rattle.scr_names.specs.Tables.{row_of}
@@ -21,6 +21,10 @@ users_under name tally = option_map_or (λ u. u.users) (row_of used_name name ta
 abbrev pub uses : List ℕ → List ℕ → ℕ
 uses used name = if same_name name used then 1 else 0
 
+-- one that may use a name
+abbrev pub uses_one : Option (List ℕ) → List ℕ → ℕ
+uses_one used name = option_map_or (λ own. uses own name) used 0
+
 -- and one that uses each of these
 abbrev pub uses_each : List (List ℕ × ℤ) → List ℕ → ℕ
 uses_each used name = sum_by (λ c. uses c.0 name) used
@@ -41,6 +45,10 @@ pub record Moves (went came : List ℕ → ℕ) (before now : Tallied) : Type 0 
 pub record IsWritten (name : List ℕ) (users : ℕ) (before now : Tallied) : Type 0 where
   pub kept : now.is_lost ≡ false → before.is_lost ≡ false
   pub written : now.is_lost ≡ false → (other : List ℕ) → users_under other now ≡ (if same_name other name then users else users_under other before)
+
+-- where the tally is not lost, each name is counted as often as this says
+pub record Counts (users : List ℕ → ℕ) (tally : Tallied) : Type 0 where
+  pub counted : tally.is_lost ≡ false → (name : List ℕ) → users_under name tally ≡ users name
 
 -- nobody uses the name
 pub record IsUnused (name : List ℕ) (tally : Tallied) : Type 0 where

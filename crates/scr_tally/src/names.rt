@@ -1,6 +1,6 @@
 //! How many rows use each name.
 ghost use Rattle.std.specs.Prelude.{◌≡◌, ◌↔◌, ℕ, true};
-ghost use Rattle.scr_tally.specs.Users.{users_under, uses, uses_each, nothing, IsFresh, Moves, IsWritten, IsUnused};
+ghost use Rattle.scr_tally.specs.Users.{users_under, uses, uses_one, uses_each, nothing, IsFresh, Moves, IsWritten, IsUnused};
 
 use scr_names::{Name, Row, Rows};
 use std::alloc::{AllocError as NoMemory, Global};
@@ -24,7 +24,8 @@ impl Row for Used {
 }
 
 /// How many rows use each name. A name that came stays. Where memory is refused the tally is lost: nothing is known of it until
-/// the rows are counted anew. Contracts see whether it is lost, and each name with its number of users.
+/// the rows are counted anew, and until then nothing is counted. Contracts see whether it is lost, and each name with its number
+/// of users.
 #[derive(Drop)]
 pub struct NameTally {
     used: Rows<Used>,
@@ -55,7 +56,7 @@ impl NameTally {
         ensures { Moves nothing (uses_each names.now) self.old self.new }
     {
         for (name, _) in names {
-            self.add(*name);
+            self.add(Some(*name));
         }
     }
 
@@ -64,7 +65,39 @@ impl NameTally {
         ensures { Moves (uses_each names.now) nothing self.old self.new }
     {
         for (name, _) in names {
-            self.take(*name);
+            self.take(Some(*name));
+        }
+    }
+
+    /// Counts a row that uses this name, if it uses one.
+    pub fn add(&mut self, name: Option<Name>)
+        ensures { Moves nothing (uses_one name) self.old self.new }
+    {
+        let Some(name) = name else {
+            return;
+        };
+        if self.is_lost {
+            return;
+        }
+        match self.users(&name).checked_add(1) {
+            Some(users) => self.write(name, users),
+            None => self.is_lost = true,
+        }
+    }
+
+    /// Takes away a row that uses this name, if it uses one.
+    pub fn take(&mut self, name: Option<Name>)
+        ensures { Moves (uses_one name) nothing self.old self.new }
+    {
+        let Some(name) = name else {
+            return;
+        };
+        if self.is_lost {
+            return;
+        }
+        match self.users(&name).checked_sub(1) {
+            Some(users) => self.write(name, users),
+            None => self.is_lost = true,
         }
     }
 
@@ -87,30 +120,6 @@ impl NameTally {
         ensures { self.new.is_lost ≡ true }
     {
         self.is_lost = true;
-    }
-
-    // Counts a row that uses this name.
-    fn add(&mut self, name: Name)
-        ensures { Moves nothing (uses name) self.old self.new }
-    {
-        let count = self.users(&name);
-        if count == u32::MAX {
-            self.is_lost = true;
-            return;
-        }
-        self.write(name, count + 1);
-    }
-
-    // Takes away a row that uses this name.
-    fn take(&mut self, name: Name)
-        ensures { Moves (uses name) nothing self.old self.new }
-    {
-        let count = self.users(&name);
-        if count == 0 {
-            self.is_lost = true;
-            return;
-        }
-        self.write(name, count - 1);
     }
 
     // How many rows use this name.

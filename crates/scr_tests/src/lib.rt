@@ -1,11 +1,8 @@
-//! Tests that cross crates: of runs whose reads, writes or memory fail, which no stored run of the
-//! program can show.
+//! Tests that cross crates: of runs whose reads or writes fail in their midst, which no stored run of the program can show.
 #![tactic(auto)]
 
 #[cfg(test)]
 mod outside;
-#[cfg(test)]
-mod passes;
 #[cfg(test)]
 mod runs;
 #[cfg(test)]

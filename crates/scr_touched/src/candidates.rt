@@ -22,6 +22,7 @@ use scr_changes::{Change, change_of};
 use scr_nodes::Node;
 use scr_sheet::{BalanceSheet, Edit, fields_outside};
 use std::alloc::{AllocError as NoMemory, Global};
+use std::mem::drop;
 
 /// The figures whose own data or list of sources the record changes, or which it makes or removes;
 /// one may stand there twice. Of a record that would be refused nothing is told. Only want of
@@ -52,7 +53,9 @@ fn touched_in(alloc: Global, sheet: &BalanceSheet, edit: &Edit) -> Result<Vec<No
     ensures { IfOk result (λ list. AreTouched sheet.now edit.now list.items) }
 {
     let change = change_of(alloc, sheet, edit)?;
-    touched_by(alloc, sheet, &change)
+    let list = touched_by(alloc, sheet, &change);
+    drop(change);
+    list
 }
 
 /// The candidates that what is exchanged touches.
@@ -62,9 +65,25 @@ fn touched_by(alloc: Global, sheet: &BalanceSheet, change: &Change) -> Result<Ve
 {
     let all = candidates(alloc, sheet, change)?;
     let shares = shares_of(alloc, sheet, change)?;
+    let list = chosen(alloc, sheet, change, &shares, &all);
+    drop(shares);
+    list
+}
+
+/// Those of the figures that what is exchanged touches.
+fn chosen(
+    alloc: Global,
+    sheet: &BalanceSheet,
+    change: &Change,
+    shares: &Shares,
+    all: &[Node],
+) -> Result<Vec<Node>, NoMemory>
+    requires { AreSharesOf sheet.now change.now shares.now }
+    ensures { IfOk result (λ list. list.items ≡ filter (touches sheet.now change.now) all.now) }
+{
     let mut list = Vec::new(alloc);
-    for node in &all {
-        if touches(sheet, change, &shares, node) {
+    for node in all {
+        if touches(sheet, change, shares, node) {
             list.push(*node)?;
         }
     }

@@ -16,6 +16,7 @@ use scr_nodes::Node;
 use scr_nodes::rows::is_closed;
 use scr_sheet::{BalanceSheet, Class, Name, Stake};
 use std::alloc::{AllocError as NoMemory, Global};
+use std::mem::drop;
 
 /// The shares in the fund before and after it is exchanged, in the time of its components.
 pub(crate) fn shares(
@@ -27,8 +28,13 @@ pub(crate) fn shares(
         (option_copied new.entry)) }
 {
     let old = weighed(alloc, old)?;
-    let new = weighed(alloc, new)?;
-    Ok(Shares { old, new })
+    match weighed(alloc, new) {
+        Ok(new) => Ok(Shares { old, new }),
+        Err(NoMemory) => {
+            drop(old);
+            Err(NoMemory)
+        }
+    }
 }
 
 /// Whether a figure is touched where the fund of this name becomes another, or comes or goes.

@@ -2,7 +2,7 @@
 use Rattle.std.proofs.Common.{◌≡◌, ◌⊎◌, inl, inr, ℕ, zero, suc, ◌+◌, ◌<◌, ◌≤◌, ◌++◌, true, false, nat_eq, List, [], ◌∷◌, map, take, length, Some, None, slice_get, Contains, Result, Ok, Err, IfOk, refl, sym, ap, ap₂, subst, ◌∙◌, append_assoc, arith}
 use Rattle.std.specs.List.{AllByRecursion, IsDistinct}
 use Rattle.std.specs.Option.{option_map}
-use Rattle.std.proofs.lemmas.Bool.{cases_Bool, eqb-true, eq-eqb, ne_eqb}
+use Rattle.std.proofs.lemmas.Bool.{ne_eqb}
 use Rattle.std.proofs.lemmas.List.{length-append, map-append}
 use Rattle.std.proofs.lemmas.Option.{slice_get_within}
 use Rattle.scr_funds.proofs.Members.{IsMember, IsMember-cases, IsMember-left, IsMember-right, IsMember-from_Contains, Contains-from_IsMember, at_member, each-from_members, each_push}
@@ -86,47 +86,6 @@ pub map-next : {Row : Type 0} (f : Row → Node) (start : List Node) (rows : Lis
 map-next f start rows k row is =
     append_assoc start (map f (take k rows)) (f row ∷ [])
     ∙ ap (λ xs. start ++ xs) (sym (map-append f (take k rows) (row ∷ [])) ∙ ap (map f) (sym (take-next rows k row is)))
-
--- ---- a total that is entered and written
-
-number-cases : (a b : ℕ) → (a ≡ b) ⊎ (a ≡ b → ⊥)
-number-cases a b = elim (cases_Bool (nat_eq a b)) [
-  | inl e ↦ inl (eqb-true a b e)
-  | inr e ↦ inr (λ same. let clash : true ≡ false = sym (eq-eqb a b same) ∙ e in absurd (cc))
-]
-
-pub total-put : (node : Node) (cents : ℕ) (old_places : List Node) (old : List Figure) (places : List Node)
-    (entered figures : List Figure) (p : ℕ)
-    → Grows old_places places → length places ≤ length entered → HasNoRepeats places → slice_get places p ≡ Some node
-    → ((place : ℕ) → place < length old_places → slice_get entered place ≡ slice_get old place)
-    → ((place : ℕ) (other : Node) → slice_get places place ≡ Some other
-    → (slice_get old_places place ≡ Some other) ⊎ (other ≡ node))
-    → length figures ≡ length entered → option_map worth_of (slice_get figures p) ≡ Some (total_worth cents)
-    → ((other : ℕ) → (other ≡ p → ⊥) → slice_get figures other ≡ slice_get entered other)
-    → IsTotalPut node cents old_places old places figures
-total-put node cents old_places old places entered figures p grown room once there kept only long written others =
-    record {
-      room = subst (λ n. length places ≤ n) (sym long) room;
-      grown = grown;
-      placed = get-contains places p node there;
-      each = λ place other at. by place other at (only place other at) (number-cases place p);
-    }
-  where
-    by : (place : ℕ) (other : Node) → slice_get places place ≡ Some other
-        → (slice_get old_places place ≡ Some other) ⊎ (other ≡ node)
-        → (place ≡ p) ⊎ (place ≡ p → ⊥)
-        → ((other ≡ node) × (option_map worth_of (slice_get figures place) ≡ Some (total_worth cents)))
-        ⊎ ((slice_get old_places place ≡ Some other) × (slice_get figures place ≡ slice_get old place))
-    by place other at was (inl e) =
-        inl (
-          (let both : Some other ≡ Some node = sym at ∙ (ap (slice_get places) e
-              ∙ there) in cc),
-          subst (λ q. option_map worth_of (slice_get figures q) ≡ Some (total_worth cents))
-              (sym e) written,
-        )
-    by place other at (inl o) (inr apart) =
-        inr (o, others place apart ∙ kept place (slice_get_within old_places place other o))
-    by place other at (inr e) (inr apart) = absurd (apart (once place p other at (there ∙ ap Some (sym e))))
 
 -- ---- the others
 

@@ -1,5 +1,5 @@
 -- Figures that are known at the places of a node's sources, gathered in their order.
-use Rattle.std.proofs.Common.{◌≡◌, Contains, ℕ, suc, zero, ◌+◌, ◌||◌, true, List, [], ◌∷◌, map, take, slice_get, Option, Some, None, is_some, inl, inr, Result, Ok, Err, OnOk, IfOk, ◌++◌, ◌<◌, ◌≤◌, false, nat_eq, set, drop, length, arith, refl, sym, ap, ap₂, ◌∙◌, add-one}
+use Rattle.std.proofs.Common.{◌≡◌, ℕ, suc, zero, ◌+◌, ◌||◌, true, List, [], ◌∷◌, map, take, slice_get, Option, Some, None, is_some, Result, Ok, Err, IfOk, ◌++◌, ◌<◌, ◌≤◌, false, nat_eq, set, drop, length, arith, refl, sym, ap, ap₂, ◌∙◌, add-one}
 use Rattle.std.specs.List.{AllByRecursion, AllZip, list_any}
 use Rattle.std.proofs.lemmas.Bool.{eq-eqb, ne_eqb}
 use Rattle.std.specs.Option.{option_map}
@@ -94,10 +94,6 @@ opens-is factors sheet (nodes.Choice which) = refl
 opens-is factors sheet (nodes.CurrencyChoice currency) = refl
 opens-is factors sheet nodes.DefaultBand = refl
 opens-is factors sheet node = refl
-
-pub on-ok : {A E P Q : Type 0} (r : Result A E) → (P → Q) → OnOk r P → OnOk r Q
-on-ok (Ok a) step h = step h
-on-ok (Err e) step h = h
 
 pub if-ok : {A E : Type 0} (P Q : A → Type 0) (r : Result A E) → ((a : A) → P a → Q a) → IfOk r P → IfOk r Q
 if-ok P Q (Ok a) step h = step a h

@@ -1,5 +1,5 @@
 //! What an edit reaches, and the figures of that.
-ghost use Rattle.std.specs.Prelude.{◌≡◌, ◌⊎◌, ◌≤◌, ◌<◌, ℕ, Some, true, All, filter, length, slice_get, IfOk};
+ghost use Rattle.std.specs.Prelude.{◌≡◌, ◌⊎◌, ◌≤◌, ◌<◌, ℕ, Some, true, All, filter, length, slice_get, IfOk, OnOk};
 ghost use Rattle.scr_sheet.specs.Validity.{Valid};
 ghost use Rattle.scr_nodes.specs.declared.node.Node.{Node};
 ghost use Rattle.scr_reach.specs.Dues.{AreDueAfter, AreEdited, AreStarts, HasSources, is_live_at};
@@ -51,10 +51,23 @@ pub(crate) fn enter(
     ensures only { (place : ℕ) (other : Node) → slice_get places.new place ≡ Some other
         → (slice_get places.old place ≡ Some other) ⊎ (other ≡ node.now) }
 {
-    if figures.len() <= places.len() {
-        figures.push(NO_FIGURE)?;
-    }
+    make_room(figures, places.len())?;
     places.enter(node)
+}
+
+/// Room for what one figure more than so many comes to.
+fn make_room(figures: &mut Vec<Figure>, count: usize) -> Result<(), NoMemory>
+    requires { count ≤ length figures.old.items }
+    ensures room { OnOk result (count < length figures.new.items) }
+    ensures least { count ≤ length figures.new.items }
+    ensures kept { (place : ℕ) → place < count
+        → slice_get figures.new.items place ≡ slice_get figures.old.items place }
+{
+    if count < figures.len() {
+        return Ok(());
+    }
+    figures.push(NO_FIGURE)?;
+    Ok(())
 }
 
 /// The figures that are reached from the starts, each with the places of its sources. Only want of

@@ -27,6 +27,7 @@ use scr_steps::Steps;
 use scr_touched::touched;
 use std::alloc::{AllocError as NoMemory, Global};
 use std::marker::Model;
+use std::mem::drop;
 use std::sync::ledger::Ledger;
 use std::thread::Threads;
 
@@ -135,6 +136,7 @@ impl Engine {
         self.places.len();
         match change {
             Ok(change) => {
+                drop(undo);
                 change.make(&mut self.curves, &mut self.figures, &mut self.links);
                 Ok(())
             }

@@ -78,17 +78,14 @@ pub(crate) fn reckon_all<R: Threads + Sync, G: Gate + Sync>(
 /// rates, its present value and nine losses.
 fn expected(book: &Book) -> usize {
     let sheet = book.sheet();
-    let mut count: usize = 200;
-    for (rows, each) in [
-        (sheet.funds.len(), 1),
-        (sheet.securities.len(), 6),
-        (sheet.liabilities.len(), 12),
-        (sheet.groups.len(), 3),
-        (sheet.curves.len(), 12),
-    ] {
-        count = count.saturating_add(rows.saturating_mul(each));
-    }
-    count
+    sheet
+        .funds
+        .len()
+        .saturating_add(sheet.securities.len().saturating_mul(6))
+        .saturating_add(sheet.liabilities.len().saturating_mul(12))
+        .saturating_add(sheet.groups.len().saturating_mul(3))
+        .saturating_add(sheet.curves.len().saturating_mul(12))
+        .saturating_add(200)
 }
 
 /// Reckons all that is due and writes it over the figures, with the losses of all groups found at

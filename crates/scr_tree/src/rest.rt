@@ -18,7 +18,7 @@ use crate::edits::enter;
 use crate::figures::Figure;
 use scr_live::{Members, group_members, rest_nodes, sources_with};
 use scr_nodes::Node;
-use scr_reach::{Places, places_of};
+use scr_reach::{Places, places_near};
 use scr_rounds::Due;
 use scr_sheet::BalanceSheet;
 use std::alloc::{AllocError as NoMemory, Global};
@@ -89,10 +89,19 @@ fn dues_at(
     let mut dues = Vec::with_capacity(alloc, nodes.len())?;
     for k in 0..nodes.len() {
         let sources = sources_with(alloc, sheet, members, &nodes[k])?;
+        let placed = places_near(alloc, places, last_sources(&dues), &sources)?;
         dues.push(Due {
             number: numbers[k],
-            sources: places_of(alloc, places, &sources)?,
+            sources: placed,
         })?;
     }
     Ok(dues)
+}
+
+/// The sources of the last due, which are most often near those of the next.
+fn last_sources(dues: &[Due]) -> &[u32] {
+    match dues.last() {
+        Some(due) => due.sources.as_slice(),
+        None => &[],
+    }
 }

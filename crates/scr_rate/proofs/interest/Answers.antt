@@ -1,14 +1,12 @@
-use Rattle.std.proofs.Common.{ap}
+use Rattle.std.proofs.Common.{ap, lit<}
 use Rattle.scr_num.proofs.Enclosing.{Encloses-same}
 use Rattle.scr_agg.specs.Choice.{chosen}
 use Rattle.scr_agg.specs.Correlated.{all_ends}
-use Rattle.scr_agg.specs.Unbeaten.{Alternative}
+use Rattle.scr_agg.specs.Unbeaten.{Alternative, alternative}
 use Rattle.scr_agg.proofs.Chosen.{chosen-is}
 use Rattle.scr_rate.specs.Interest.{gross_exact, scenario_outcome, interest_outcomes}
 use Rattle.scr_rate.proofs.Costs.{gross_encloses, scenario_encloses, outcomes_enclosed}
 use Rattle.scr_rate.proofs.SizeLemmas.{picked-cost, picked-low}
-use Rattle.scr_agg.specs.Unbeaten.{alternative}
-use Rattle.std.proofs.Common.{lit<}
 use Rattle.scr_num.specs.Figure.{Frac}
 use Rattle.scr_rate.proofs.interest.Goals as goal
 

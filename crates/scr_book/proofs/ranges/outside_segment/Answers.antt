@@ -13,14 +13,14 @@ use Rattle.scr_book.proofs.ranges.outside_segment.Goals as goal
 
 pub outside_volumes-requires : goal.outside_volumes-requires
 outside_volumes-requires c =
-    let book = c.args.book.now in
+    let book = c.args.ledger.now in
     let op = c.in-Segment in
     let is : volumes_in op.set op.number op.region book.numbers ≡ Some c.volumes-old.result = cc in
     volumes-part op.set op.number op.region book c.volumes-old.result is
 
 pub returns-in-Segment : goal.returns-in-Segment
 returns-in-Segment c =
-    let book = c.args.book.now in
+    let book = c.args.ledger.now in
     let op = c.in-Segment in
     let old : ℕ × ℕ = c.volumes-old.result in
     let is : volumes_in op.set op.number op.region book.numbers ≡ Some old = cc in
@@ -31,5 +31,5 @@ returns-in-Segment c =
     c.outside_volumes.ensures
     ∙ ap (λ (n : ℕ). above quantities.Volumes (volumes_total op.set book - (old.0 + old.1) + (n + c.natural-in-Segment.result)) MAX_AMOUNT) premium
     ∙ ap (λ (n : ℕ). above quantities.Volumes (volumes_total op.set book - (old.0 + old.1) + (natural op.premium + n)) MAX_AMOUNT) reserve
-    ∙ sym (outside-segment book c.numbers.ensures.valid op.set op.number op.region op.premium op.reserve old is)
+    ∙ sym (outside-segment book c.sheet.ensures.valid op.set op.number op.region op.premium op.reserve old is)
     ∙ sym (ap (λ (e : Edit). sheet_outside e (applied e book)) op.is)

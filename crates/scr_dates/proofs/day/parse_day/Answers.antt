@@ -1,14 +1,8 @@
-use Rattle.std.proofs.Common.{◌≡◌, ℕ, ◌+◌, ◌*◌, Bool, true, false, List, length, slice_index, Some, None, cond, sym}
-use Rattle.std.proofs.Common.{◌∙◌, refl, arith, eq-eqb}
-use Rattle.scr_dates.specs.Text.{day_of_text, day_of_date, has_two_digits, two_digits, written_year, written_month}
-use Rattle.scr_dates.specs.Text.{written_day}
+use Rattle.std.proofs.Common.{◌≡◌, ℕ, ◌+◌, ◌*◌, true, List, length, slice_index, sym, ◌∙◌, arith, eq-eqb}
+use Rattle.std.proofs.lemmas.Option.{cond_some}
+use Rattle.scr_dates.specs.Text.{day_of_text, day_of_date, has_two_digits, two_digits, written_year, written_month, written_day}
 use Rattle.scr_dates.proofs.Texts.{day_of_text-range}
 use Rattle.scr_dates.proofs.day.parse_day.Goals as goal
-
--- what an optional value says of its condition
-some_if : {A : Type 0} (b : Bool) (v x : A) → cond b (Some v) None ≡ Some x → (b ≡ true) × (v ≡ x)
-some_if true v x e = (refl, cc)
-some_if false v x e = cc
 
 formed : (text : List ℕ) → length text ≡ 10 → slice_index text 4 ≡ 45 → slice_index text 7 ≡ 45
     → has_two_digits text 0 ≡ true → has_two_digits text 2 ≡ true → has_two_digits text 5 ≡ true
@@ -29,13 +23,13 @@ pub returns-clause-value : goal.returns-clause-value
 returns-clause-value c =
     let text = c.args.text.now in
     let century : (has_two_digits text 0 ≡ true) × (two_digits text 0 ≡ c.in_ok-century.century) =
-    some_if _ _ _ (sym c.two_digits.ensures.value ∙ c.in_ok-century.was) in
+    cond_some _ _ _ (sym c.two_digits.ensures.value ∙ c.in_ok-century.was) in
     let year : (has_two_digits text 2 ≡ true) × (two_digits text 2 ≡ c.in_ok-year.year) =
-    some_if _ _ _ (sym c.two_digits-2.ensures.value ∙ c.in_ok-year.was) in
+    cond_some _ _ _ (sym c.two_digits-2.ensures.value ∙ c.in_ok-year.was) in
     let month : (has_two_digits text 5 ≡ true) × (two_digits text 5 ≡ c.in_ok-month.month) =
-    some_if _ _ _ (sym c.two_digits-3.ensures.value ∙ c.in_ok-month.was) in
+    cond_some _ _ _ (sym c.two_digits-3.ensures.value ∙ c.in_ok-month.was) in
     let day : (has_two_digits text 8 ≡ true) × (two_digits text 8 ≡ c.in_ok-day.day) =
-    some_if _ _ _ (sym c.two_digits-4.ensures.value ∙ c.in_ok-day.was) in
+    cond_some _ _ _ (sym c.two_digits-4.ensures.value ∙ c.in_ok-day.was) in
     let same : c.from.result * 100 + c.from-2.result ≡ written_year text = omega (arith, century.1, year.1) in
     let is = formed text (omega arith) (omega arith) (omega arith) century.0 year.0 month.0 day.0 in
     c.day_of_date.ensures ∙ rw (same, ← month.1, ← day.1) (sym is)

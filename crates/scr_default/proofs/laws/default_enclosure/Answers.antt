@@ -1,5 +1,4 @@
-use Rattle.scr_default.proofs.Roots.{type2-encloses, type2-size}
-use Rattle.scr_default.proofs.Roots.{default-encloses, default-size}
+use Rattle.scr_default.proofs.Roots.{type2-encloses, type2-size, default-encloses, default-size}
 use Rattle.scr_default.proofs.laws.default_enclosure.Goals as goal
 
 pub returns : goal.returns

@@ -1,5 +1,4 @@
-use Rattle.std.proofs.Common.{◌+◌, ◌-◌, ◌*◌, ap₂}
-use Rattle.std.proofs.Common.{ℕ}
+use Rattle.std.proofs.Common.{◌+◌, ◌-◌, ◌*◌, ap₂, ℕ}
 use Rattle.scr_default.specs.VarianceEnds.{between_num, between_den}
 use Rattle.scr_default.proofs.quotients.between.Goals as goal
 

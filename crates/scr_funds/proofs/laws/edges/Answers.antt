@@ -1,6 +1,5 @@
 use Rattle.std.proofs.lemmas.List.{length-set}
-use Rattle.scr_funds.proofs.Rows.{components_of-with_edges, components_of-with_components, size_of-with_edges}
-use Rattle.scr_funds.proofs.Rows.{put_back-removed, order_none, order_removed}
+use Rattle.scr_funds.proofs.Rows.{components_of-with_edges, components_of-with_components, size_of-with_edges, put_back-removed, order_none, order_removed}
 use Rattle.scr_funds.proofs.laws.edges.Goals as goal
 
 pub returns-clause-none : goal.returns-clause-none

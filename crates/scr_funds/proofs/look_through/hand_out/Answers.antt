@@ -1,6 +1,5 @@
 use Rattle.std.proofs.Common.{◌<◌, ◌≤◌, All, length, get_or, sum, subst, sym, ◌∙◌, arith}
-use Rattle.scr_funds.proofs.Handing.{first_turn, one_ready, fund_is, fund_small, row_is, row_counted, as_many}
-use Rattle.scr_funds.proofs.Handing.{parts_fit, turn_next, end-values, end-within}
+use Rattle.scr_funds.proofs.Handing.{first_turn, one_ready, fund_is, fund_small, row_is, row_counted, as_many, parts_fit, turn_next, end-values, end-within}
 use Rattle.scr_funds.proofs.look_through.hand_out.Goals as goal
 
 pub loop-place-init : goal.loop-place-init

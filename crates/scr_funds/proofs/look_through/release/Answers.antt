@@ -1,12 +1,9 @@
-use Rattle.std.proofs.Common.{◌≡◌, ℕ, ◌-◌, ◌<◌, ◌≤◌, List, ◌∷◌, [], get_or, set, length, take, subst, sym, ap, ◌∙◌, inl}
-use Rattle.std.proofs.Common.{inr, arith}
+use Rattle.std.proofs.Common.{◌≡◌, ℕ, ◌-◌, ◌<◌, ◌≤◌, List, ◌∷◌, [], get_or, set, length, take, subst, sym, ap, ◌∙◌, inl, inr, arith}
 use Rattle.std.proofs.lemmas.List.{length-take, take-append-le}
 use Rattle.scr_funds.specs.HandedOn.{AreReady}
 use Rattle.scr_funds.proofs.RowSteps.{waits, waits_less, ready_more, ready_same}
 use Rattle.scr_funds.proofs.look_through.release.Goals as goal
-use Rattle.scr_funds.proofs.look_through.release.Goals.{then-count-eq0+then-component-funds+in_ok-push, else-count-eq0}
-use Rattle.scr_funds.proofs.look_through.release.Goals.{else-count-eq0-via-then-count-eq0+else-component-funds}
-use Rattle.scr_funds.proofs.look_through.release.Goals.{else-count-eq0-via-else-count-eq0}
+use Rattle.scr_funds.proofs.look_through.release.Goals.{then-count-eq0+then-component-funds+in_ok-push, else-count-eq0, else-count-eq0-via-then-count-eq0+else-component-funds, else-count-eq0-via-else-count-eq0}
 
 pub overflow_sub-count : goal.overflow_sub-count
 overflow_sub-count c =

@@ -1,5 +1,4 @@
-use Rattle.scr_num.proofs.AmountBounds.{amount-wider, amount-exact, amount-add, amount-sum, amount-scale, amount-hull}
-use Rattle.scr_num.proofs.AmountBounds.{amount-cut, amount-total, amount-max}
+use Rattle.scr_num.proofs.AmountBounds.{amount-wider, amount-exact, amount-add, amount-sum, amount-scale, amount-hull, amount-cut, amount-total, amount-max}
 use Rattle.scr_num.proofs.SumLemmas.{sum_ends-within}
 use Rattle.scr_num.proofs.laws.amounts.Goals as goal
 

@@ -1,7 +1,6 @@
 use Rattle.std.proofs.Common.{ap, sym, ◌∙◌}
 use Rattle.scr_num.specs.Rounding.{or_zero}
-use Rattle.scr_profile.specs.declared.matrix.Matrix.{Matrix}
-use Rattle.scr_profile.specs.declared.set.Set.{Set}
+use Rattle.scr_profile.specs.declared.{matrix.Matrix.Matrix, set.Set.Set}
 use Rattle.scr_nodes.specs.OwnOf.{segment_correlations}
 use Rattle.scr_plan.proofs.NonlifeCode.{lows-of, small-of}
 use Rattle.scr_plan.proofs.nonlife_rules.premium_reserve.Goals as goal

@@ -1,18 +1,8 @@
-use Rattle.std.proofs.Common.{sym, ap, ◌∙◌}
+use Rattle.std.proofs.Common.{◌≡◌, filter, subst, ◌∙◌, IfOk}
 use Rattle.scr_touched.specs.Candidates.{touches}
-use Rattle.scr_touched.proofs.Loops.{kept-one, passed-one}
 use Rattle.scr_touched.proofs.candidates.touched_by.Goals as goal
-use Rattle.scr_touched.proofs.candidates.touched_by.Goals.{then-touches+in_ok-push, else-touches}
 
-pub loop-node-preserved : goal.loop-node-preserved
-loop-node-preserved c =
-    elim c.if-touches.branch [
-      | then-touches+in_ok-push w ↦ kept-one (touches c.args.sheet.now c.args.change.now)
-          c.deref-node-items.result.now _ c.loop-node.node-index c.node-item.result c.loop-node-test.true c.node-item.is
-          c.loop-node.list.items c.if-touches.list.items c.loop-node.invariant (sym w.if-touches.ensures)
-          (ap (λ list. list.items) w.list-is ∙ w.in_ok-push.ensures.items)
-      | else-touches w ↦ passed-one (touches c.args.sheet.now c.args.change.now)
-          c.deref-node-items.result.now _ c.loop-node.node-index c.node-item.result c.loop-node-test.true c.node-item.is
-          c.loop-node.list.items c.if-touches.list.items c.loop-node.invariant (sym w.if-touches.ensures)
-          (ap (λ list. list.items) w.list-is)
-    ]
+pub returns : goal.returns
+returns c =
+    subst (λ all. IfOk c.chosen-list.result (λ list. list.items ≡ filter (touches c.args.sheet.now c.args.change.now) all))
+    (c.deref.ensures.value ∙ c.in_ok-all.ensures) c.chosen-list.ensures

@@ -14,8 +14,8 @@ loop-k-preserved c =
     let long = at-long places numbers nodes c.requires.at in
     let here : slice_get nodes k ≡ Some c.index-nodes-k.result =
     slice_get-get_or nodes k c.index-nodes-k.result c.loop-k-test.true ∙ ap Some (sym c.index-nodes-k.is) in
-    let sources = subst (AreAt places c.in_ok-places_of.field-0.items) (c.deref.ensures.value
-    ∙ c.in_ok-sources.ensures) c.in_ok-places_of.ensures in
+    let sources = subst (AreAt places c.in_ok-placed.placed.items) (c.deref-in-loop-k.ensures.value
+    ∙ c.in_ok-sources.ensures) c.in_ok-placed.ensures in
     let next = dues-next sheet places numbers nodes c.requires.at c.requires.live k c.index-nodes-k.result here
     c.loop-k.dues.items
     c.loop-k.invariant.numbers c.loop-k.invariant.each _ (slice_get-get_or numbers k 0 (omega

@@ -1,8 +1,8 @@
-use Rattle.std.proofs.Common.{◌≡◌, ◌⊎◌, ◌+◌, ◌++◌, [], ◌∷◌, take, Some, Contains, slice_get, sym, ap, subst, ◌∙◌, arith}
+use Rattle.std.proofs.Common.{◌≡◌, ◌⊎◌, ◌+◌, ◌++◌, [], ◌∷◌, take, Some, Contains, slice_get, refl, sym, ap, subst, ◌∙◌, arith}
 use Rattle.std.proofs.lemmas.List.{take_all}
 use Rattle.std.proofs.lemmas.Option.{slice_get-get_or}
 use Rattle.scr_reach.specs.Linked.{AreAt}
-use Rattle.scr_reach.proofs.Starting.{grows-both}
+use Rattle.scr_reach.proofs.Starting.{grows-both, grows-none}
 use Rattle.scr_tree.proofs.FirstTotals.{at-next, only-entered, within-grown}
 use Rattle.scr_tree.proofs.Known.{take-next}
 use Rattle.scr_tree.proofs.rest.enter_each.Goals as goal
@@ -36,3 +36,45 @@ returns-clause-only c = λ place node at.
     subst (λ ns. (slice_get c.args.places.now place ≡ Some node) ⊎ Contains ns node)
     (take_all c.loop-node.node-index c.args.nodes.now (omega (arith, c.loop-node-test.false)))
     (c.loop-node.invariant.only place node at)
+
+pub returns-in_err-numbers-clause-grown : goal.returns-in_err-numbers-clause-grown
+returns-in_err-numbers-clause-grown c = grows-none c.args.places.now
+
+pub returns-in_err-numbers-clause-room : goal.returns-in_err-numbers-clause-room
+returns-in_err-numbers-clause-room c = c.requires
+
+pub returns-in_err-numbers-clause-kept : goal.returns-in_err-numbers-clause-kept
+returns-in_err-numbers-clause-kept c = λ place l. refl
+
+pub returns-in_err-enter-clause-grown : goal.returns-in_err-enter-clause-grown
+returns-in_err-enter-clause-grown c =
+    grows-both c.args.places.now c.loop-node.places c.enter.new.places c.loop-node.invariant.grown c.enter.ensures.grown
+
+pub returns-in_err-enter-clause-room : goal.returns-in_err-enter-clause-room
+returns-in_err-enter-clause-room c = c.enter.ensures.room
+
+pub returns-in_err-enter-clause-kept : goal.returns-in_err-enter-clause-kept
+returns-in_err-enter-clause-kept c = λ place l.
+    c.enter.ensures.kept place (within-grown c.args.places.now c.loop-node.places c.loop-node.invariant.grown place l)
+    ∙ c.loop-node.invariant.kept place l
+
+pub returns-in_err-push-clause-grown : goal.returns-in_err-push-clause-grown
+returns-in_err-push-clause-grown c =
+    grows-both c.args.places.now c.loop-node.places c.enter.new.places c.loop-node.invariant.grown c.enter.ensures.grown
+
+pub returns-in_err-push-clause-room : goal.returns-in_err-push-clause-room
+returns-in_err-push-clause-room c = c.enter.ensures.room
+
+pub returns-in_err-push-clause-kept : goal.returns-in_err-push-clause-kept
+returns-in_err-push-clause-kept c = λ place l.
+    c.enter.ensures.kept place (within-grown c.args.places.now c.loop-node.places c.loop-node.invariant.grown place l)
+    ∙ c.loop-node.invariant.kept place l
+
+pub returns-clause-grown : goal.returns-clause-grown
+returns-clause-grown c = c.loop-node.invariant.grown
+
+pub returns-clause-room : goal.returns-clause-room
+returns-clause-room c = c.loop-node.invariant.room
+
+pub returns-clause-kept : goal.returns-clause-kept
+returns-clause-kept c = c.loop-node.invariant.kept

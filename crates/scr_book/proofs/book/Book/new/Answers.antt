@@ -1,6 +1,4 @@
-use Rattle.std.proofs.Common.{refl}
-use Rattle.scr_book.proofs.OpeningSheet.{kept-opening}
 use Rattle.scr_book.proofs.book.Book.new.Goals as goal
 
 pub invariant_of-result : goal.invariant_of-result
-invariant_of-result c = kept-opening _ c.in_ok-opening.ensures refl c.in_ok-days.ensures c.new-3.ensures c.in_ok-graph.ensures.components
+invariant_of-result c = c.uncounted.ensures _

@@ -6,8 +6,7 @@ use Rattle.std.proofs.lemmas.Grind.{common_steps}
 use Rattle.scr_spelling.specs.FieldForms.{name_of}
 use Rattle.scr_spelling.specs.Numbers.{number_value}
 use Rattle.scr_csv.specs.Reading.{pairs_from}
-use Rattle.scr_csv.proofs.ListSteps.{behind, behind_next, due_answers, all_push, next-shorter, pairs-next}
-use Rattle.scr_csv.proofs.ListSteps.{pairs-value_fault, pairs-number_fault}
+use Rattle.scr_csv.proofs.ListSteps.{behind, behind_next, due_answers, all_push, next-shorter, pairs-next, pairs-value_fault, pairs-number_fault}
 use Rattle.scr_csv.proofs.fields.Fields.components.Goals as goal
 
 pub returns-in_err-name-clause-answer : goal.returns-in_err-name-clause-answer

@@ -7,8 +7,7 @@ use Rattle.scr_dates.specs.declared.day.Day.{Day}
 use Rattle.scr_dates.specs.Text.{day_of_text}
 use Rattle.scr_spelling.specs.Numbers.{number_value}
 use Rattle.scr_csv.specs.Reading.{pairs_from}
-use Rattle.scr_csv.proofs.ListSteps.{behind, behind_next, due_answers, all_push, next-shorter, pairs-next}
-use Rattle.scr_csv.proofs.ListSteps.{pairs-value_fault, pairs-number_fault}
+use Rattle.scr_csv.proofs.ListSteps.{behind, behind_next, due_answers, all_push, next-shorter, pairs-next, pairs-value_fault, pairs-number_fault}
 use Rattle.scr_csv.proofs.fields.Fields.flows.Goals as goal
 
 pub returns-in_err-date-clause-answer : goal.returns-in_err-date-clause-answer

@@ -1,5 +1,4 @@
-use Rattle.std.proofs.Common.{Vec, ℕ, ◌≡◌, ◌<◌, ◌≤◌, ◌+◌, max, All, set, length, fold, sym, ap, subst, ◌∙◌}
-use Rattle.std.proofs.Common.{arith}
+use Rattle.std.proofs.Common.{Vec, ℕ, ◌≡◌, ◌<◌, ◌≤◌, ◌+◌, max, All, set, length, fold, sym, ap, subst, ◌∙◌, arith}
 use Rattle.std.specs.Global.{Global}
 use Rattle.std.proofs.lemmas.List.{map-set, length-map}
 use Rattle.scr_funds.specs.Components.{Components, grown, number_above, with_edges}

@@ -5,8 +5,7 @@ use Rattle.scr_funds.specs.Components.{components_of, components_with, with_edge
 use Rattle.scr_funds.proofs.Rows.{with_edges-is}
 use Rattle.scr_graph.specs.Graph.{Graph, number_in, components_under}
 use Rattle.scr_graph.specs.GraphInside.{node_name}
-use Rattle.scr_graph.proofs.Graphs.{Sound, sound-from_inside, acyclic-under, carried, entered_or-from_entered}
-use Rattle.scr_graph.proofs.Graphs.{apart_numbered, under-put, size_put}
+use Rattle.scr_graph.proofs.Graphs.{Sound, sound-from_inside, acyclic-under, carried, entered_or-from_entered, apart_numbered, under-put, size_put}
 use Rattle.scr_graph.proofs.graph.FundGraph.put.Goals as goal
 
 pub replace-requires : goal.replace-requires

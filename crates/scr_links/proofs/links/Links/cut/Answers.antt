@@ -2,8 +2,7 @@
 use Rattle.std.proofs.Common.{◌+◌, refl, ◌∙◌, arith}
 use Rattle.std.proofs.lemmas.List.{get_or_default}
 use Rattle.scr_links.specs.declared.links.Links.TheInside.{Inside}
-use Rattle.scr_links.proofs.States.{stands_at, cut_low, cut_in_pairs, cut_source_list, cut_dependant_list, cut_kept}
-use Rattle.scr_links.proofs.States.{cut_view}
+use Rattle.scr_links.proofs.States.{stands_at, cut_low, cut_in_pairs, cut_source_list, cut_dependant_list, cut_kept, cut_view}
 use Rattle.scr_links.proofs.links.Links.cut.Goals as goal
 
 pub index-requires : goal.index-requires

@@ -2,10 +2,8 @@
 use Rattle.std.proofs.Common.{ℕ, ◌<◌, ◌-◌, ◌++◌, ◌∷◌, [], ap, sym, refl, ◌∙◌, arith}
 use Rattle.std.specs.Vec.{with_item}
 use Rattle.scr_links.specs.Edges.{Linked, edge, linked, is_edge}
-use Rattle.scr_links.specs.declared.links.Links.TheInside.{Inside}
-use Rattle.scr_links.specs.declared.links.Pair.{Pair}
-use Rattle.scr_links.proofs.States.{first_free, join_low, join_in_pairs, no_source_list, no_dependant_list}
-use Rattle.scr_links.proofs.States.{not_an_edge, join_kept, join_view}
+use Rattle.scr_links.specs.declared.{links.Links.TheInside.Inside, links.Pair.Pair}
+use Rattle.scr_links.proofs.States.{first_free, join_low, join_in_pairs, no_source_list, no_dependant_list, not_an_edge, join_kept, join_view}
 use Rattle.scr_links.proofs.links.Links.join.Goals as goal
 
 pub remove-requires : goal.remove-requires

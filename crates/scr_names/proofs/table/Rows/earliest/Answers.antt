@@ -1,4 +1,4 @@
-use Rattle.std.proofs.Common.{◌≡◌, Bool, List, ◌∷◌, cond, refl, sym, ap, ◌∙◌, map, filter, fold, rules}
+use Rattle.std.proofs.Common.{◌≡◌, List, ◌∷◌, cond, refl, sym, ap, ◌∙◌, map, filter, fold, rules}
 use Rattle.std.proofs.lemmas.Fn.{says_at}
 use Rattle.scr_names.specs.Names.{earlier}
 use Rattle.scr_names.proofs.Counted.{earlier-next}

@@ -1,6 +1,10 @@
-use Rattle.std.proofs.Common.{ℕ, ◌+◌, ap}
+use Rattle.std.proofs.Common.{ℕ, List, Option, sym, subst, arith}
+use Rattle.scr_tally.specs.Users.{uses_one, nothing, Moves}
 use Rattle.scr_tally.proofs.Uses.{written-more}
 use Rattle.scr_tally.proofs.names.NameTally.add.Goals as goal
 
-pub returns : goal.returns
-returns c = written-more c.args.name (c.users-count.result + 1) c.args.self.now c.write.new.self c.write.ensures (ap (λ (n : ℕ). n + 1) c.users-count.ensures)
+pub returns-in-Some-checked_add : goal.returns-in-Some-checked_add
+returns-in-Some-checked_add c =
+    let more = c.in-Some-checked_add.ensures.1 in
+    subst (λ (name : Option (List ℕ)). Moves nothing (uses_one name) c.args.self.now c.write.new.self) (sym c.in-Some.is)
+    (written-more c.in-Some.name c.in-Some-checked_add.users c.args.self.now c.write.new.self c.write.ensures (omega (arith, more, c.users.ensures)))

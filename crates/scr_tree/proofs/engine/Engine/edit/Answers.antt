@@ -1,4 +1,4 @@
-use Rattle.std.proofs.Common.{◌≡◌, ◌↔◌, ◌||◌, ℕ, ◌+◌, ◌<◌, ◌≤◌, true, All, List, [], Some, None, Ok, Err, Contains, length, get_or, slice_get, sym, ap, subst, ◌∙◌, arith}
+use Rattle.std.proofs.Common.{◌≡◌, ◌↔◌, ◌||◌, ℕ, ◌+◌, ◌<◌, ◌≤◌, true, All, List, [], Option, Some, None, Result, Ok, Err, Contains, length, get_or, slice_get, refl, sym, ap, subst, ◌∙◌, arith}
 use Rattle.std.specs.List.{AllByRecursion}
 use Rattle.std.proofs.lemmas.Option.{slice_get_within}
 use Rattle.scr_funds.proofs.Members.{All-from_members, at_member}
@@ -17,12 +17,29 @@ use Rattle.scr_reach.specs.Linked.{AreLinked}
 use Rattle.scr_reach.proofs.Linkable.{linkable}
 use Rattle.scr_reach.proofs.Relinked.{links-anew}
 use Rattle.scr_tree.specs.Figures.{AreSettled}
-use Rattle.scr_tree.specs.Standing.{Standing, TakesSteps, IsReachedBy}
+use Rattle.scr_tree.specs.Standing.{Standing, Refuses, TakesSteps, IsReachedBy, refusal_of}
+use Rattle.scr_tree.specs.declared.refusal.Refusal.{Refusal}
+use Rattle.scr_tree.specs.declared.refusal.Refusal.TheVariants as refusals
+use Rattle.scr_sheet.specs.Faults.{Answers, fault_of}
+use Rattle.scr_book.specs.declared.undo.Undo.{Undo}
+use Rattle.scr_sheet.specs.declared.fault.Fault.{Fault}
+use Rattle.scr_sheet.specs.declared.fault.Fault.TheVariants as faults
 use Rattle.scr_tree.proofs.Grown.{linked-kept, settled-kept}
 use Rattle.scr_tree.proofs.Settled.{count-like, reach-like}
 use Rattle.scr_tree.proofs.Written.{settled-written}
 use Rattle.scr_tree.proofs.engine.Engine.edit.Given as given
 use Rattle.scr_tree.proofs.engine.Engine.edit.Goals as goal
+
+-- the refusal for a fault that is due
+refuses : (due : Option Fault) (fault : Fault) (refusal : Refusal) → refusal ≡ refusal_of fault
+    → Answers {A = Undo} due (Err fault) → Refuses due (Err refusal)
+refuses due faults.NoMemory refusal is told = subst (λ r. Refuses due (Err r)) (sym is) tt
+refuses due (faults.Syntax k) refusal is told = subst (λ r. Refuses due (Err r)) (sym is) told
+refuses due (faults.UnknownName name) refusal is told = subst (λ r. Refuses due (Err r)) (sym is) told
+refuses due (faults.WrongKind name) refusal is told = subst (λ r. Refuses due (Err r)) (sym is) told
+refuses due (faults.InUse name user) refusal is told = subst (λ r. Refuses due (Err r)) (sym is) told
+refuses due (faults.Cycle path) refusal is told = subst (λ r. Refuses due (Err r)) (sym is) told
+refuses due (faults.Range quantity value limit) refusal is told = subst (λ r. Refuses due (Err r)) (sym is) told
 
 pub change_of-change-requires-after_bounds : goal.change_of-change-requires-after_bounds
 unfolding AreTouched
@@ -118,3 +135,60 @@ invariant_of-self-in-Err-change g c =
       links = subst (λ book. AreLinked book new c.change_of-change.new.links.edges) (sym back)
           (subst (AreLinked before new) (sym c.in-Err-change.ensures.links) linked);
     }
+
+pub returns-in-Err-clause-answer : goal.returns-in-Err-clause-answer
+returns-in-Err-clause-answer g c = tt
+
+pub returns-in-Err-clause-ok : goal.returns-in-Err-clause-ok
+returns-in-Err-clause-ok g c = tt
+
+pub returns-in-Err-clause-steps : goal.returns-in-Err-clause-steps
+returns-in-Err-clause-steps g c = record { accepted = tt; refused = λ fault e. absurd (cc) }
+
+pub invariant_of-self : goal.invariant_of-self
+invariant_of-self g c =
+    let same : c.apply_kept.new.self ≡ c.self.inside.book = c.in-Err-apply_kept.ensures.err in
+    record {
+      valid = subst Valid (sym same) c.self.invariant.valid;
+      curves = subst (λ book. rows_of c.self.inside.curves ≡ all_discounts book) (sym same) c.self.invariant.curves;
+      room = c.self.invariant.room;
+      figures = subst (λ book. AreSettled c.self.inside.factors book c.self.inside.places c.self.inside.figures.items []) (sym same)
+          c.self.invariant.figures;
+      links = subst (λ book. AreLinked book c.self.inside.places c.self.inside.links.edges) (sym same) c.self.invariant.links;
+    }
+
+pub returns-in-Err-apply_kept-clause-answer : goal.returns-in-Err-apply_kept-clause-answer
+returns-in-Err-apply_kept-clause-answer g c =
+    subst (λ (s : Standing). Refuses (fault_of c.args.edit.now s.sheet) (Err c.refused_for.result)) c.self.view_is
+    (refuses (fault_of c.args.edit.now c.self.inside.book) c.in-Err-apply_kept.fault c.refused_for.result c.refused_for.ensures
+    c.in-Err-apply_kept.ensures.answer)
+
+pub returns-in-Err-apply_kept-clause-ok : goal.returns-in-Err-apply_kept-clause-ok
+returns-in-Err-apply_kept-clause-ok g c = tt
+
+pub returns-in-Err-apply_kept-clause-steps : goal.returns-in-Err-apply_kept-clause-steps
+returns-in-Err-apply_kept-clause-steps g c = record { accepted = tt; refused = λ fault e. refl }
+
+pub returns-in-Ok-change-clause-answer : goal.returns-in-Ok-change-clause-answer
+returns-in-Ok-change-clause-answer g c =
+    subst (λ (s : Standing). fault_of c.args.edit.now s.sheet ≡ None) c.self.view_is c.in-Ok-apply_kept.ensures.answer
+
+pub returns-in-Ok-change-clause-err : goal.returns-in-Ok-change-clause-err
+returns-in-Ok-change-clause-err g c = tt
+
+pub returns-clause-answer : goal.returns-clause-answer
+returns-clause-answer g c =
+    subst (λ (r : Refusal). Refuses (fault_of c.args.edit.now c.args.self.now.sheet) (Err r)) (sym c.take_back.ensures.refusal) tt
+
+pub returns-clause-ok : goal.returns-clause-ok
+returns-clause-ok g c = tt
+
+pub returns-clause-steps : goal.returns-clause-steps
+returns-clause-steps g c = record {
+  accepted = tt;
+  refused = λ fault e. absurd (by c.take_back.result fault c.take_back.ensures.refusal (Err c.take_back.result) refl e);
+}
+  where
+    by : (refusal : Refusal) (fault : Fault) → refusal ≡ refusals.NoMemory → (answer : Result (Unit {0}) Refusal)
+        → answer ≡ Err refusal → answer ≡ Err (refusals.Fault fault) → ⊥
+    by refusal fault is answer one other = cc
