@@ -7,6 +7,8 @@ ghost use Rattle.scr_curve.specs.Parts.{IsRateInParts, IsCurveInMillionths, AreR
 ghost use Rattle.scr_curve.specs.DiscountEnds.{discount_ends, table_ends, IsDiscount, EncloseDiscounts};
 ghost use Rattle.scr_curve.specs.declared.tilt.Tilt.{Tilt};
 
+use crate::Discounts;
+
 /// The rates of a curve in seven-billionths are exactly those of the rule, one for each of 100 years, and each may be
 /// discounted by.
 pub fn rates_of_a_curve()
@@ -22,3 +24,11 @@ pub fn discounts_of_rates()
     ensures encloses { (curve : List ℤ) (rate : ℕ → Fraction) → All IsRateInParts curve → AreRates curve rate
         → EncloseDiscounts rate (table_ends curve) }
 {}
+
+/// Compiles only where threads may share a `T` and hand it on.
+fn shared<T: Send + Sync>() {}
+
+/// Threads may share the discounts of a curve, and hand them on.
+pub fn sharing() {
+    shared::<Discounts>();
+}

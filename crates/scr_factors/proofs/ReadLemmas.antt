@@ -1,5 +1,5 @@
 -- What is read has its form.
-use Rattle.std.proofs.Common.{◌≡◌, ℕ, suc, ◌<◌, ◌≤◌, Bool, true, false, List, [], ◌∷◌, ◌++◌, map, replicate, length, get_or, Option, Some, None, Result, Ok, Err, All, cond, refl, sym, ap, ◌∙◌, arith, rules, nat_eq, pos}
+use Rattle.std.proofs.Common.{◌≡◌, ℕ, suc, ◌<◌, ◌≤◌, Bool, true, false, List, [], ◌∷◌, ◌++◌, map, replicate, length, get_or, Option, Some, None, Result, Ok, Err, All, cond, refl, sym, ap, ◌∙◌, arith, rules, nat_eq, pos, ◌≤ℤ◌}
 use Rattle.std.specs.Prelude.{option_and_then, ok_or}
 use Rattle.std.proofs.lemmas.Bool.{eqb-true}
 use Rattle.std.proofs.lemmas.List.{get_or_append_left, get_or-map, length-map}
@@ -103,6 +103,10 @@ entry-matrix_of found i j h a b =
     get_or_append_left (map pos (get_or found i [])) (replicate 4 (pos 0)) (pos 0) j (rw length-map within)
     ∙ get_or-map pos (get_or found i []) j 0 (pos 0) within in
     rw row cell
+
+pub matrix_of-not_negative : (found : List (List ℕ)) → AreCorrelations found → (i j : ℕ) → i < 12 → j < 12
+    → pos 0 ≤ℤ entry (matrix_of found) i j
+matrix_of-not_negative found h i j a b = rw (entry-matrix_of found i j h a b) (omega (arith, ints))
 
 -- and is a matrix of correlation coefficients where they are symmetric
 pub matrix_of-correlation : (found : List (List ℕ)) → AreCorrelations found → first_asymmetry found ≡ None

@@ -1,11 +1,12 @@
 -- The numbers of a factor file (its form is this project's own): the factors of spread risk (Delegated Regulation (EU)
 -- 2015/35, Article 176), and of premium and reserve risk the standard deviations (Articles 117 and 148, Annexes II and
 -- XIV) and the correlations between the non-life segments (Annex IV).
-use Rattle.std.specs.Prelude.{◌≡◌, ℕ, ◌+◌, ◌-◌, ◌*◌, ◌≤◌, List, [], All, length, slice_index, slice_index_or, pos}
+use Rattle.std.specs.Prelude.{◌≡◌, ℕ, ◌+◌, ◌-◌, ◌*◌, ◌<◌, ◌≤◌, List, [], All, length, slice_index, slice_index_or, pos}
+use Rattle.std.specs.Prelude.{◌≤ℤ◌}
 use Rattle.scr_profile.specs.declared.matrix.Matrix.{Matrix}
 use Rattle.scr_profile.specs.declared.set.Set.{Set}
 use Rattle.scr_profile.specs.declared.set.Set.TheVariants.{Nl, Nslt}
-use Rattle.scr_profile.specs.Matrix.{IsCorrelation}
+use Rattle.scr_profile.specs.Matrix.{entry, IsCorrelation}
 
 -- the rows of spread factors by credit quality step, and last the row without a step, each with five
 -- pairs of a and b; the standard deviations by segment; the correlations of the non-life segments
@@ -30,6 +31,9 @@ pub record IsInForm (values : FactorValues) : Type 0 where
   pub nl_segments : values.correlations.n ≡ 12
   pub hundredths : values.correlations.den ≡ pos 100
   pub correlations : IsCorrelation values.correlations
+  -- two segments may be unrelated, and none offsets another
+  pub not_negative : (i j : ℕ) → i < values.correlations.n → j < values.correlations.n
+      → pos 0 ≤ℤ entry values.correlations i j
   pub nslt_premium : IsRow 4 values.nslt_premium
   pub nslt_reserve : IsRow 4 values.nslt_reserve
 

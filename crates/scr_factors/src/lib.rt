@@ -4,6 +4,7 @@
 mod fault;
 mod forms;
 mod key;
+pub mod laws;
 mod read;
 mod segments;
 mod values;

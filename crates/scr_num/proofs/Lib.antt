@@ -13,3 +13,4 @@ pub mod AmountBounds
 pub mod SumLemmas
 pub mod Weights
 pub mod Totals
+pub mod Spreads

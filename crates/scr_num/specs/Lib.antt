@@ -8,3 +8,4 @@ pub mod Sums
 pub mod Ratio
 pub mod Cents
 pub mod Sizes
+pub mod Narrow

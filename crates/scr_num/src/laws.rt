@@ -7,9 +7,10 @@ ghost use Rattle.std.specs.List.{AllByRecursion, flat_map};
 ghost use Rattle.scr_num.specs.Fraction.{Fraction, Share, ◌≼◌, zero_fraction, over, minus};
 ghost use Rattle.scr_num.specs.Table.{Table, IsSquare};
 ghost use Rattle.scr_num.specs.Figure.{Figure, Figures, Frac, Max, Times, Root, AtMost, AtLeast};
-ghost use Rattle.scr_num.specs.Rounding.{Ends, exact_ends, add_ends, max_ends, hull_ends};
-ghost use Rattle.scr_num.specs.Rounding.{scale_ends, floor_div, ceil_div, floor_root, ceil_root};
-ghost use Rattle.scr_num.specs.Rounding.{quad_ends};
+ghost use Rattle.scr_num.specs.Rounding.{Ends, exact_ends, add_ends, sub_ends, max_ends, min_ends};
+ghost use Rattle.scr_num.specs.Rounding.{hull_ends, scale_ends, root_ends, quad_ends};
+ghost use Rattle.scr_num.specs.Rounding.{floor_div, ceil_div, floor_root, ceil_root};
+ghost use Rattle.scr_num.specs.Narrow.{IsNarrow, AreNarrow};
 ghost use Rattle.scr_num.specs.Amounts.{IsAmount, AreAmounts};
 ghost use Rattle.scr_num.specs.Sizes.{IsWithin, AreTogether};
 ghost use Rattle.scr_num.specs.Enclosure.{Encloses, EncloseAll};
@@ -18,6 +19,8 @@ ghost use Rattle.scr_num.specs.Ratio.{ratio_unit, ratio_ends, fraction_of, IsAtM
 ghost use Rattle.scr_num.specs.Ratio.{product_ends};
 ghost use Rattle.scr_num.specs.Sums.{Equals, EncloseEach, parts_of, sum_ends, sum_figure};
 ghost use Rattle.scr_num.specs.Sums.{sum_fraction, weighted_sum};
+
+use crate::Span;
 
 /// What the roundings are: the floor and the ceiling of a quotient lie less than one away from it,
 /// the floor root is the greatest number whose square is at most `n`, and the ceiling root the
@@ -171,3 +174,50 @@ pub fn figure_times_share()
         → Encloses new (product_ends a shares den).low (product_ends a shares den).high
         (Times f share) }
 {}
+
+/// How far each operator spreads: where the ends handed in are within given widths, those answered
+/// are within a width that follows from them, whatever the numbers are. A sum or a difference adds
+/// the widths, the greater and the smaller of two keep the larger one, a share of `num / den`
+/// takes the width times the share, rounded up, and one more for its two roundings, and a whole
+/// multiple nothing more. A root of at least 0 takes the root of the width. A product takes each
+/// width times the other side, and one more. So no figure is known less well than its formula and
+/// the widths of its sources say.
+pub fn spreads()
+    ensures wider { (width more : ℕ) (e : Ends) → width ≤ more → IsNarrow width e
+        → IsNarrow more e }
+    ensures exact { (v : ℤ) → IsNarrow 0 (exact_ends v) }
+    ensures sum { (v w : ℕ) (a b : Ends) → IsNarrow v a → IsNarrow w b
+        → IsNarrow (v + w) (add_ends a b) }
+    ensures difference { (v w : ℕ) (a b : Ends) → IsNarrow v a → IsNarrow w b
+        → IsNarrow (v + w) (sub_ends a b) }
+    ensures sums { (w : ℕ) (all : List Ends) → AllByRecursion (IsNarrow w) all
+        → IsNarrow (length all * w) (sum_ends all) }
+    ensures total { (widths : List ℕ) (all : List Ends) → AreNarrow widths all
+        → IsNarrow (sum_by (λ w. w) widths) (sum_ends all) }
+    ensures greater { (w : ℕ) (a b : Ends) → IsNarrow w a → IsNarrow w b
+        → IsNarrow w (max_ends a b) }
+    ensures smaller { (w : ℕ) (a b : Ends) → IsNarrow w a → IsNarrow w b
+        → IsNarrow w (min_ends a b) }
+    ensures quotient { (low high : ℤ) (k den : ℕ) → 0 < den → high ≤ℤ (low +ℤ pos (k * den))
+        → IsNarrow (k + 1) (record { low = floor_div low den; high = ceil_div high den }) }
+    ensures share { (w k num den : ℕ) (a : Ends) → 0 < den → w * num ≤ k * den → IsNarrow w a
+        → IsNarrow (k + 1) (scale_ends a num den) }
+    ensures ratio { (num den : ℕ) → 0 < den → IsNarrow 1 (ratio_ends num den) }
+    ensures multiple { (w num : ℕ) (a : Ends) → IsNarrow w a
+        → IsNarrow (w * num) (scale_ends a num 1) }
+    ensures product { (v w p q k den : ℕ) (a shares : Ends) → 0 < den → pos 0 ≤ℤ a.low
+        → pos 0 ≤ℤ shares.low
+        → a.low ≤ℤ a.high → shares.low ≤ℤ shares.high → a.high ≤ℤ pos p → shares.low ≤ℤ pos q
+        → p * w + q * v ≤ k * den → IsNarrow v a → IsNarrow w shares
+        → IsNarrow (k + 1) (product_ends a shares den) }
+    ensures root { (w s : ℕ) (a : Ends) → pos 0 ≤ℤ a.low → 0 < s → w ≤ s * s → IsNarrow w a
+        → IsNarrow s (root_ends a) }
+{}
+
+/// Compiles only where threads may share a `T` and hand it on.
+fn shared<T: Send + Sync>() {}
+
+/// Threads may share spans, and hand them on.
+pub fn sharing() {
+    shared::<Span>();
+}

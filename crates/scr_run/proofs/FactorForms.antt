@@ -1,5 +1,5 @@
 -- The values of a factor file that is read are in form.
-use Rattle.std.proofs.Common.{◌≡◌, ℕ, ◌<◌, Bool, true, false, cond, List, Option, Some, None, Result, Ok, Err, refl, sym, ap, subst}
+use Rattle.std.proofs.Common.{◌≡◌, ℕ, ◌<◌, pos, ◌≤ℤ◌, Bool, true, false, cond, List, Option, Some, None, Result, Ok, Err, refl, sym, ap, subst}
 use Rattle.std.specs.Str.{is_utf8}
 use Rattle.toml.specs.Data.{Members}
 use Rattle.toml.specs.Parse.{parse_document}
@@ -9,8 +9,8 @@ use Rattle.scr_factors.specs.Values.{FactorValues, IsInForm}
 use Rattle.scr_factors.specs.declared.fault.FactorFault.{FactorFault}
 use Rattle.scr_factors.specs.declared.fault.FactorFault.TheVariants.{NotToml}
 use Rattle.scr_factors.specs.declared.key.Key.TheVariants.{Form, NlPremium, NlReserve, NlCorr, NsltPremium, NsltReserve}
-use Rattle.scr_factors.proofs.ReadLemmas.{correlations-form, matrix_of-correlation, numbers-row, rows-all}
-use Rattle.scr_profile.specs.Matrix.{IsCorrelation}
+use Rattle.scr_factors.proofs.ReadLemmas.{correlations-form, matrix_of-correlation, matrix_of-not_negative, numbers-row, rows-all}
+use Rattle.scr_profile.specs.Matrix.{entry, IsCorrelation}
 use Rattle.scr_profile.specs.declared.matrix.Matrix.{Matrix}
 use Rattle.scr_io.specs.declared.reading.TheConstants.{MAX_BYTES}
 use Rattle.scr_plans.specs.Plan.{limited, and_then}
@@ -32,6 +32,10 @@ symmetric-ok : (found : List (List ℕ)) (pair : Option (ℕ × ℕ)) (matrix : 
     → (pair ≡ None) × (matrix ≡ matrix_of found)
 symmetric-ok found None matrix h = (refl, let same : matrix_of found ≡ matrix = cc in sym same)
 symmetric-ok found (Some pair) matrix h = cc
+
+-- no correlation is below 0
+abbrev NoneNegative : Matrix → Type 0
+NoneNegative m = (i j : ℕ) → i < m.n → j < m.n → pos 0 ≤ℤ entry m i j
 
 document-in-form : (document : Members) (values : FactorValues) → values_of document ≡ Ok values → IsInForm values
 document-in-form document values h =
@@ -61,6 +65,7 @@ document-in-form document values h =
       nl_segments = ap (λ (m : Matrix). m.n) same;
       hundredths = ap (λ (m : Matrix). m.den) same;
       correlations = subst IsCorrelation (sym same) (matrix_of-correlation found (correlations-form document found found_is) none);
+      not_negative = subst NoneNegative (sym same) (matrix_of-not_negative found (correlations-form document found found_is));
       nslt_premium = numbers-row 4 NsltPremium document nslt_premium nslt_premium_is;
       nslt_reserve = numbers-row 4 NsltReserve document nslt_reserve nslt_reserve_is;
     })

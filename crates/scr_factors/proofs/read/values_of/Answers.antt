@@ -3,7 +3,7 @@ use Rattle.toml.specs.View.{table_view}
 use Rattle.scr_factors.specs.declared.key.Key.TheVariants.{NlPremium, NlReserve, NsltPremium, NsltReserve}
 use Rattle.scr_profile.specs.Matrix.{IsCorrelation}
 use Rattle.scr_factors.specs.Reading.{spread_keys}
-use Rattle.scr_factors.proofs.ReadLemmas.{numbers-row, rows-all, correlations-form, hundredths, matrix_of-correlation}
+use Rattle.scr_factors.proofs.ReadLemmas.{numbers-row, rows-all, correlations-form, hundredths, matrix_of-correlation, matrix_of-not_negative}
 use Rattle.scr_factors.proofs.read.values_of.Goals as goal
 
 pub matrix_of-requires : goal.matrix_of-requires
@@ -27,6 +27,7 @@ invariant_of-result c =
       nl_segments = rw c.matrix_of.ensures refl;
       hundredths = rw c.matrix_of.ensures refl;
       correlations = correlation;
+      not_negative = rw c.matrix_of.ensures (matrix_of-not_negative rows form);
       nslt_premium = numbers-row 4 NsltPremium document c.in_ok-nslt_premium.nslt_premium
           (sym c.in_ok-nslt_premium.ensures);
       nslt_reserve = numbers-row 4 NsltReserve document c.in_ok-nslt_reserve.nslt_reserve
