@@ -4,10 +4,9 @@
 #![tactic(auto)]
 
 mod chains;
+pub mod laws;
 mod links;
-mod sharing;
 mod walk;
 
 pub use links::{EdgeId, Links};
-pub use sharing::threads_share_links;
 pub use walk::Walk;

@@ -1,4 +1,2 @@
 pub mod Families
-pub mod Placing
-pub mod Levels
 pub mod Grouped

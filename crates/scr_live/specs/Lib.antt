@@ -1,4 +1,2 @@
-pub mod PlacedNames
-pub mod PlacedFunds
 pub mod Selections
 pub mod Members

@@ -1,14 +1,12 @@
-//! All figures of a balance sheet, each after those from which it is reckoned.
+//! All figures of a balance sheet but totals, each after those from which it is reckoned.
 ghost use Rattle.std.specs.Prelude.{◌≡◌, ◌++◌, filter, map, IfOk, OnOk};
-ghost use Rattle.scr_sheet.specs.Validity.{Valid};
-ghost use Rattle.scr_nodes.specs.LiveNodes.{AreInOrder, charges, chosen, class_sums, constant_nodes, currency_families, default_nodes, flat, group_families, life_nodes, market_nodes, market_risks, nodes_above_funds, nonlife_nodes, nonlife_results, payment_families, plain_scenarios, requirement_nodes, rest_nodes, slt_nodes, stress_families};
+ghost use Rattle.scr_nodes.specs.LiveNodes.{charges, chosen, class_sums, constant_nodes, currency_families, default_nodes, flat, group_families, life_nodes, market_nodes, market_risks, nonlife_nodes, nonlife_results, payment_families, plain_scenarios, requirement_nodes, rest_nodes, slt_nodes, stress_families};
 ghost use Rattle.scr_nodes.specs.Rows.{has_flows, is_paying};
-ghost use Rattle.scr_nodes.specs.Sources.{security_total, unit_loss, security_rate, liability_rate, liability_present, liability_loss};
+ghost use Rattle.scr_nodes.specs.Sources.{unit_loss, security_rate, liability_rate, liability_present, liability_loss};
 
 use crate::all_sources::{
     push_all, push_currencies, push_foreign, push_groups, push_segments, push_spreads,
 };
-use crate::order::fund_order;
 use crate::selections::{Foreign, GroupFigure};
 use scr_nodes::rows::{has_flows, is_paying};
 use scr_nodes::words::{
@@ -20,18 +18,6 @@ use scr_profile::Set;
 use scr_sheet::{BalanceSheet, CatKey, Class, Projection};
 use std::alloc::{AllocError as NoMemory, Global};
 
-/// All figures of the balance sheet, each once and after all of its sources, so that they can be
-/// reckoned in one pass. Only want of memory is refused. The cost is that of all rows, and of all
-/// components for each level on which funds hold funds.
-pub fn live(alloc: Global, sheet: &BalanceSheet) -> Result<Vec<Node>, NoMemory>
-    requires { Valid sheet.now }
-    ensures { IfOk result (λ list. AreInOrder sheet.now list.items) }
-{
-    let mut list = fund_order(alloc, sheet)?;
-    push_above_funds(&mut list, sheet)?;
-    Ok(list)
-}
-
 /// The figures that are no totals of funds or securities, each after all of its sources but such
 /// totals. Only want of memory is refused. The cost is that of all rows.
 pub fn rest_nodes(alloc: Global, sheet: &BalanceSheet) -> Result<Vec<Node>, NoMemory>
@@ -40,13 +26,6 @@ pub fn rest_nodes(alloc: Global, sheet: &BalanceSheet) -> Result<Vec<Node>, NoMe
     let mut list = Vec::new(alloc);
     push_rest(&mut list, sheet)?;
     Ok(list)
-}
-
-fn push_above_funds(list: &mut Vec<Node>, sheet: &BalanceSheet) -> Result<(), NoMemory>
-    ensures { OnOk result (list.new.items ≡ list.old.items ++ nodes_above_funds sheet.now) }
-{
-    push_securities(list, sheet)?;
-    push_rest(list, sheet)
 }
 
 fn push_rest(list: &mut Vec<Node>, sheet: &BalanceSheet) -> Result<(), NoMemory>
@@ -336,17 +315,6 @@ fn push_requirement(list: &mut Vec<Node>) -> Result<(), NoMemory>
             Node::Scr,
         ],
     )
-}
-
-fn push_securities(list: &mut Vec<Node>, sheet: &BalanceSheet) -> Result<(), NoMemory>
-    ensures { OnOk result (list.new.items ≡ list.old.items
-        ++ map security_total sheet.now.securities) }
-{
-    for k in 0..sheet.securities.len() {
-        let position = sheet.securities.at(k);
-        list.push(Node::SecurityTotal(position.security.name))?;
-    }
-    Ok(())
 }
 
 fn push_unit_losses(

@@ -14,12 +14,12 @@ use scr_nodes::rows::{
 };
 use scr_nodes::selections::{Holdings, is_counted};
 use scr_nodes::words::{
-    band_sources, charge_sources, currency_scenarios, default_types, equity_parts, gross_of,
-    health_parts, health_perils, infrastructure_classes, infrastructure_corporate_classes,
-    interest_scenarios, lapse_scenarios, life_parts, man_made_perils, market_parts, modules,
-    natural_perils, nonlife_catastrophes, nonlife_segments, nslt_segments, provision_sources,
-    requirement_parts, slt_parts, tax_sources, type1_classes, type1_sources, type2_classes,
-    variance_sources,
+    band_sources, charge_sources, currency_scenarios, default_types, diversification_sources,
+    equity_parts, gross_of, health_parts, health_perils, infrastructure_classes,
+    infrastructure_corporate_classes, interest_scenarios, lapse_scenarios, life_parts,
+    man_made_perils, market_parts, modules, natural_perils, nonlife_catastrophes, nonlife_segments,
+    nslt_segments, provision_sources, requirement_parts, slt_parts, tax_sources, type1_classes,
+    type1_sources, type2_classes, variance_sources,
 };
 use scr_nodes::{
     Adjustment, Alternatives, Biometric, Direction, Equities, Measure, Node, Operational,
@@ -110,7 +110,7 @@ fn push_sources(list: &mut Vec<Node>, sheet: &BalanceSheet, node: &Node) -> Resu
         ),
         Node::Bscr(measure) => push_all(list, &modules(*measure)),
         Node::Scr => push_all(list, &requirement_parts()),
-        Node::Diversification => push_all(list, &modules(Measure::Gross)),
+        Node::Diversification => push_all(list, &diversification_sources()),
     }
 }
 

@@ -1,12 +1,12 @@
 -- The Basic Solvency Capital Requirement as worked out encloses the exact figure, and how large it is.
-use Rattle.std.proofs.Common.{◌≡◌, refl, ℕ, ◌+◌, ◌*◌, ℤ, pos, negsuc, ◌+ℤ◌, ◌-ℤ◌, ◌≤ℤ◌, List, [], ◌∷◌, length, sum_by, arith, lit<, unsigned_abs, ◌≤◌}
+use Rattle.std.proofs.Common.{◌≡◌, refl, ℕ, ◌+◌, ◌*◌, ℤ, pos, negsuc, ◌+ℤ◌, ◌-ℤ◌, ◌≤ℤ◌, List, [], ◌∷◌, length, sum_by, arith, lit<, unsigned_abs, ◌≤◌, ap, ap₂, sym, subst}
 use Rattle.std.proofs.lemmas.Int.{ints}
 use Rattle.std.proofs.lemmas.List.Sums.{sum_by-cons}
 use Rattle.scr_num.specs.declared.span.Span.{Span}
 use Rattle.scr_num.specs.Fraction.{whole, percent, product}
 use Rattle.scr_num.specs.Figure.{Figure}
 use Rattle.scr_num.specs.Table.{IsSquare}
-use Rattle.scr_num.specs.Rounding.{Ends, ends, or_zero}
+use Rattle.scr_num.specs.Rounding.{Ends, ends, or_zero, sub_ends}
 use Rattle.scr_num.specs.Amounts.{IsAmount, AreAmounts}
 use Rattle.scr_num.specs.Sizes.{AreTogether}
 use Rattle.scr_num.specs.Enclosure.{Encloses}
@@ -53,23 +53,48 @@ bscr-size mosts modules intangible count h =
     amount-add (sum_by (λ most. most) mosts) (800 * intangible) (modules_ends modules) (intangible_ends intangible) (modules-size mosts modules count h)
     (amount-exact (800 * intangible) (800 * intangible) (omega arith))
 
-pub diversification-encloses : (modules : List Ends) (figures : List Figure) → length modules ≡ 5 → LowsNotNegative modules → EncloseEach 1000 modules figures
-    → Encloses 1000 (diversification_ends modules).low (diversification_ends modules).high (diversification_figure figures)
-diversification-encloses modules figures count lows h =
+less-again : (a b : ℤ) → ((a +ℤ b) -ℤ b) ≡ a
+less-again a b = omega (arith, ints)
+
+-- less the exact part that was added to it, an end is as it was
+pub root-again : (modules : List Ends) (intangible : ℕ)
+    → sub_ends (bscr_ends modules intangible) (intangible_ends intangible) ≡ modules_ends modules
+root-again modules intangible =
+    let more = pos (800 * intangible) in
+    ap₂ (λ (low high : ℤ). let e : Ends = record { low = low; high = high } in e)
+    (less-again (modules_ends modules).low more) (less-again (modules_ends modules).high more)
+
+-- so the diversification is the sum of the modules less the root over them
+pub diversification-root : (modules : List Ends) (intangible : ℕ)
+    → diversification_ends modules (bscr_ends modules intangible) intangible ≡ sub_ends (sum_ends modules) (modules_ends modules)
+diversification-root modules intangible = ap (sub_ends (sum_ends modules)) (root-again modules intangible)
+
+less-root-encloses : (modules : List Ends) (figures : List Figure) → length modules ≡ 5 → LowsNotNegative modules → EncloseEach 1000 modules figures
+    → let e = sub_ends (sum_ends modules) (modules_ends modules) in Encloses 1000 e.low e.high (diversification_figure figures)
+less-root-encloses modules figures count lows h =
     Encloses-sub 1000 (sum_ends modules).low (sum_ends modules).high (modules_ends modules).low (modules_ends modules).high
     (sum_figure figures) (modules_figure figures) (Encloses-sum 1000 (lit< tt) modules figures h) (modules-encloses modules figures count lows h)
+
+pub diversification-encloses : (modules : List Ends) (figures : List Figure) (intangible : ℕ) → length modules ≡ 5 → LowsNotNegative modules
+    → EncloseEach 1000 modules figures
+    → let e = diversification_ends modules (bscr_ends modules intangible) intangible in Encloses 1000 e.low e.high (diversification_figure figures)
+diversification-encloses modules figures intangible count lows h =
+    subst (λ (e : Ends). Encloses 1000 e.low e.high (diversification_figure figures)) (sym (diversification-root modules intangible))
+    (less-root-encloses modules figures count lows h)
 
 between : (a b c d : ℤ) (s : ℕ) → pos 0 ≤ℤ a → b ≤ℤ pos s → pos 0 ≤ℤ c → d ≤ℤ pos s → (pos 0 ≤ℤ ((a -ℤ d) +ℤ pos s)) × ((b -ℤ c) ≤ℤ pos s)
 between a b c d s h k l m = (omega (arith, ints), omega (arith, ints))
 
-pub diversification-size : (mosts : List ℕ) (modules : List Ends) → length modules ≡ 5 → AreAmounts mosts modules
-    → (pos 0 ≤ℤ ((diversification_ends modules).low +ℤ pos (sum_by (λ most. most) mosts))) × ((diversification_ends modules).high ≤ℤ pos (sum_by (λ most. most) mosts))
-diversification-size mosts modules count h =
+pub diversification-size : (mosts : List ℕ) (modules : List Ends) (intangible : ℕ) → length modules ≡ 5 → AreAmounts mosts modules
+    → let e = diversification_ends modules (bscr_ends modules intangible) intangible in
+    (pos 0 ≤ℤ (e.low +ℤ pos (sum_by (λ most. most) mosts))) × (e.high ≤ℤ pos (sum_by (λ most. most) mosts))
+diversification-size mosts modules intangible count h =
     let s = sum_by (λ (most : ℕ). most) mosts in
     let sum = amount-total mosts modules h in
     let root = modules-size mosts modules count h in
-    between (sum_ends modules).low (sum_ends modules).high (modules_ends modules).low (modules_ends modules).high s
-    sum.not_negative (amount-high s (sum_ends modules) sum) root.not_negative (amount-high s (modules_ends modules) root)
+    subst (λ (e : Ends). (pos 0 ≤ℤ (e.low +ℤ pos s)) × (e.high ≤ℤ pos s)) (sym (diversification-root modules intangible))
+    (between (sum_ends modules).low (sum_ends modules).high (modules_ends modules).low (modules_ends modules).high s
+    sum.not_negative (amount-high s (sum_ends modules) sum) root.not_negative (amount-high s (modules_ends modules) root))
 
 -- ---- the magnitudes of parts that are not negative
 low-magnitude : (low high : ℤ) → pos 0 ≤ℤ low → low ≤ℤ high → unsigned_abs low ≤ or_zero high

@@ -1,6 +1,6 @@
 //! The Basic Solvency Capital Requirement.
 
-ghost use Rattle.std.specs.Prelude.{◌≡◌, ◌+◌, ◌*◌, ◌≤◌, pos, ◌≤ℤ◌, List};
+ghost use Rattle.std.specs.Prelude.{◌≡◌, ◌+◌, ◌*◌, ◌≤◌, pos, ◌≤ℤ◌, List, unsigned_abs};
 ghost use Rattle.scr_num.specs.Figure.{Figure};
 ghost use Rattle.scr_num.specs.Enclosure.{Encloses};
 ghost use Rattle.scr_num.specs.Rounding.{ends};
@@ -43,13 +43,19 @@ fn intangible_assets(cents: u64) -> Span
 }
 
 /// What the requirements for market, default, life, health and non-life risk come to above the root
-/// over them, in grains.
-pub fn diversification(parts: &[Span; 5]) -> Span
+/// over them, in grains: that root is the Basic Solvency Capital Requirement without intangible
+/// assets, of the value in cents that went into it.
+pub fn diversification(parts: &[Span; 5], basic: Span, intangible: u64) -> Span
     requires lows { NotNegative parts.now }
     requires highs { total_high parts.now ≤ 6_000_000_000_000_000_000 }
-    ensures ends { ends result ≡ diversification_ends (all_ends parts.now) }
+    requires basic_low { unsigned_abs basic.low ≤ 5_000_000_000_000_000_000 }
+    requires basic_high { unsigned_abs basic.high ≤ 5_000_000_000_000_000_000 }
+    requires intangible { intangible ≤ MAX_AMOUNT }
+    ensures ends { ends result ≡ diversification_ends (all_ends parts.now) (ends basic) intangible }
     ensures encloses { (figures : List Figure) → EncloseEach 1000 (all_ends parts.now) figures
+        → ends basic ≡ bscr_ends (all_ends parts.now) intangible
         → Encloses 1000 result.low result.high (diversification_figure figures) }
 {
-    sub(total(parts), quad(parts, &BSCR))
+    let root = sub(basic, intangible_assets(intangible));
+    sub(total(parts), root)
 }

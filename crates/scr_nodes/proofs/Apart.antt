@@ -125,31 +125,3 @@ module _ {Row A : Type 0} (node : Row → A) (test : Row → Bool) where
           (node row) m in fresh-not row rows distinct.0 found.0 found.1 found.2),
       apart-mapped rows distinct.1,
     )
-
--- ---- places
-
-module _ {A : Type 0} where
-  -- where no two places have one, none stands twice
-  pub apart-from_places : (xs : List A) → ((j k : ℕ) (x : A) → slice_get xs j ≡ Some x → slice_get xs k ≡ Some x
-      → j ≡ k) → AreApart xs
-  apart-from_places [] once = tt
-  apart-from_places (x ∷ xs) once = (
-    (λ m. let found = place-of xs x m in let clash : 0 ≡ suc found.0 = once 0 (suc found.0) x refl found.1 in absurd
-        (cc)),
-    apart-from_places xs (λ j k y first second. let e : suc j ≡ suc k = once (suc j)
-        (suc k) y first second in omega arith),
-  )
-
-  -- a place in two lists, one after the other
-  pub split-place : (xs ys : List A) (k : ℕ) (x : A) → slice_get (xs ++ ys) k ≡ Some x
-      → (slice_get xs k ≡ Some x) ⊎ IsMember x ys
-  split-place [] ys k x is = inr (member-at ys k x is)
-  split-place (z ∷ zs) ys zero x is = inl is
-  split-place (z ∷ zs) ys (suc k) x is = split-place zs ys k x is
-
-  pub member-take-append : (xs ys : List A) (k : ℕ) (x : A) → IsMember x (take k xs) → IsMember x (take k (xs ++ ys))
-  member-take-append [] ys zero x m = absurd m
-  member-take-append [] ys (suc k) x m = absurd m
-  member-take-append (z ∷ zs) ys zero x m = absurd m
-  member-take-append (z ∷ zs) ys (suc k) x (inl e) = inl e
-  member-take-append (z ∷ zs) ys (suc k) x (inr m) = inr (member-take-append zs ys k x m)

@@ -28,17 +28,16 @@ use Rattle.scr_nodes.specs.declared.node.Node.TheVariants as nodes
 use Rattle.scr_nodes.specs.declared.node.Operational.TheVariants as operations
 use Rattle.scr_nodes.specs.declared.node.Risk.TheVariants as risks
 use Rattle.scr_nodes.specs.Live.{is_live}
-use Rattle.scr_nodes.specs.LiveNodes.{live_nodes, nodes_above_funds, rest_nodes, total_nodes, constant_nodes, families, payment_families, stress_families, currency_families, group_families, flat, payings, foreigns, losses_of, AreInOrder, HasNoRepeats}
-use Rattle.scr_nodes.specs.FundOrder.{AreFundsInOrder}
+use Rattle.scr_nodes.specs.LiveNodes.{live_nodes, nodes_above_funds, rest_nodes, total_nodes, constant_nodes, families, payment_families, stress_families, currency_families, group_families, flat, payings, foreigns, losses_of, HasNoRepeats}
 use Rattle.scr_nodes.specs.Rows.{is_paying, is_foreign, has_class, has_flows, is_stress, liability_of, group_of}
 use Rattle.scr_nodes.specs.Sources.{sources_of, fund_total, security_total, unit_loss, security_rate, liability_rate, liability_present, liability_loss, currency_loss, currency_scenario, currency_choice, currency_picked, security_spread, group_total, concentration_square, group_loss}
 use Rattle.scr_nodes.proofs.Chosen.{each-chosen, each-mapped, each-row}
 use Rattle.scr_nodes.proofs.OwnRows.{distinct-groups, distinct-liabilities, own-funds, own-groups, own-securities, own-liabilities, own-curves}
 use Rattle.scr_nodes.proofs.LiveSources.{IsLive, sources-live, loss-live, passes-own}
-use Rattle.scr_nodes.proofs.Apart.{AreApart, apart-chosen, apart-mapped, apart-from_places, one-place, place-of, member-at, member-take, member-chosen, split-place, member-take-append}
+use Rattle.scr_nodes.proofs.Apart.{AreApart, apart-chosen, apart-mapped, one-place, place-of, member-at, member-take, member-chosen}
 use Rattle.scr_nodes.proofs.Earlier.{sources-earlier}
-use Rattle.scr_nodes.proofs.Told.{told-choice, told-currency, told-group, told-group_loss, told-liability, told-loss, told-picked, told-present, told-rate, told-scenario, told-security, told-spread, told-square, told-unit}
-use Rattle.scr_nodes.proofs.Parts.{part_of, AllAt, IsArranged, arranged-part, arranged-numbered, both, each-tested, fund-or-above, sorted-before}
+use Rattle.scr_nodes.proofs.Told.{told-choice, told-currency, told-group, told-group_loss, told-liability, told-loss, told-picked, told-present, told-rate, told-scenario, told-spread, told-square, told-unit}
+use Rattle.scr_nodes.proofs.Parts.{part_of, AllAt, IsArranged, arranged-part, arranged-numbered, both, each-tested, sorted-before}
 
 infixr 5 ◌&◌
 -- one fact and then the others
@@ -457,12 +456,6 @@ module _ (sheet : BalanceSheet) (valid : Valid sheet) where
   arranged-rest : IsArranged 2 (rest_nodes sheet)
   arranged-rest = arranged-families 2 32 (families sheet) constant_nodes refl families-are arranged-constant
 
-  arranged-above : IsArranged 1 (nodes_above_funds sheet)
-  arranged-above =
-      let own = table-family position_name 1 security_total sheet.securities (λ p. refl) told-security
-      (distinct-securities sheet valid.named_once) in
-      arranged-part 1 (securities sheet) (rest_nodes sheet) own.0 own.1 arranged-rest
-
   -- ---- what is in the list is a figure
 
   live-paying : (node : Position → Node) → ((p : Position) → position_of (position_name p) sheet.securities ≡ Some p
@@ -655,95 +648,3 @@ module _ (sheet : BalanceSheet) (valid : Valid sheet) where
           inr (Contains-from_IsMember (take k (rest_nodes sheet)) source
           (member-take (rest_nodes sheet) place.0 k source place.1
           (sorted-before (rest_nodes sheet) arranged-rest.sorted k place.0 node source at place.1 less)))
-
-  -- ---- funds in an order, and then the others
-
-  module _ (funds : List Node) (order : AreFundsInOrder sheet funds) where
-    abbrev whole : List Node
-    whole = funds ++ nodes_above_funds sheet
-
-    same-member : (node : Node) → IsMember node funds → IsMember node (map fund_total sheet.funds)
-    same-member node m = IsMember-from_Contains (map fund_total sheet.funds) node
-        ((order.same node).0 (Contains-from_IsMember funds node m))
-
-    at-funds : (list : List Node) → ((node : Node) → IsMember node list → IsMember node (map fund_total sheet.funds))
-        → AllAt 0 list
-    at-funds [] within = tt
-    at-funds (n ∷ list) within = (
-      at_member (At 0) (map fund_total sheet.funds) n
-          (each-mapped (λ s. Unit {0}) (At 0) (λ s. true) fund_total sheet.funds (each-row sheet.funds)
-          (λ s fact. refl)) (within n (inl refl)),
-      at-funds list (λ m h. within m (inr h)),
-    )
-
-    arranged-whole : IsArranged 0 whole
-    arranged-whole = arranged-part 0 funds (nodes_above_funds sheet) (at-funds funds same-member)
-        (apart-from_places funds order.once) arranged-above
-
-    member-whole : (node : Node) → is_live sheet node ≡ true → IsMember node whole
-    member-whole node h = by (live-listed sheet node h)
-      where
-        by : IsListed sheet node → IsMember node whole
-        by (inl m) = IsMember-left funds (nodes_above_funds sheet) node
-            (IsMember-from_Contains funds node
-            ((order.same node).1 (Contains-from_IsMember (map fund_total sheet.funds) node m)))
-        by (inr m) = IsMember-right funds (nodes_above_funds sheet) node m
-
-    whole-live : (node : Node) → IsMember node whole → is_live sheet node ≡ true
-    whole-live node m = by (IsMember-cases funds (nodes_above_funds sheet) node m)
-      where
-        by : IsMember node funds ⊎ IsMember node (nodes_above_funds sheet) → is_live sheet node ≡ true
-        by (inl n) = listed-live node (inl (same-member node n))
-        by (inr n) = listed-live node (inr n)
-
-    -- a source of an earlier part
-    earlier : (k : ℕ) (node source : Node) → slice_get whole k ≡ Some node → 0 < part_of node
-        → IsMember source (sources_of sheet node) → IsMember source (take k whole)
-    earlier k node source at h m =
-        let live : is_live sheet source ≡ true =
-        at_member (IsLive sheet) (sources_of sheet node) source
-        (sources-live sheet valid node (whole-live node (member-at whole k node at))) m in
-        let less : part_of source < part_of node = at_member (λ n. part_of n < part_of node)
-        (sources_of sheet node) source (sources-earlier sheet node h) m in
-        let place = place-of whole source (member-whole source live) in
-        member-take whole place.0 k source place.1
-        (sorted-before whole arranged-whole.sorted k place.0 node source at place.1 less)
-
-    -- a holder of a fund
-    of-fund : (k : ℕ) (name : List ℕ) (source : Node) → slice_get whole k ≡ Some (nodes.FundTotal name)
-        → IsMember source (sources_of sheet (nodes.FundTotal name)) → IsMember source (take k whole)
-    of-fund k name source at m = by (split-place funds (nodes_above_funds sheet) k (nodes.FundTotal name) at)
-      where
-        by : (slice_get funds k ≡ Some (nodes.FundTotal name))
-            ⊎ IsMember (nodes.FundTotal name) (nodes_above_funds sheet) → IsMember source (take k whole)
-        by (inl here) =
-            member-take-append funds (nodes_above_funds sheet) k source
-            (IsMember-from_Contains (take k funds) source
-            (order.after_sources k (nodes.FundTotal name) source here
-            (Contains-from_IsMember (sources_of sheet (nodes.FundTotal name)) source m)))
-        by (inr n) =
-            let least : 1 ≤ part_of (nodes.FundTotal name) = at_member (λ x. 1 ≤ part_of x) (nodes_above_funds sheet)
-            (nodes.FundTotal name) arranged-above.from n in
-            absurd (omega arith)
-
-    by_node : (k : ℕ) (node source : Node) → slice_get whole k ≡ Some node → IsMember source (sources_of sheet node)
-        → IsMember source (take k whole)
-    by_node k node source at m = by (fund-or-above node)
-      where
-        by : ((name : List ℕ) × (node ≡ nodes.FundTotal name)) ⊎ (0 < part_of node) → IsMember source (take k whole)
-        by (inl fund) =
-            of-fund k fund.0 source (at ∙ ap Some fund.1)
-            (subst (λ n. IsMember source (sources_of sheet n)) fund.1 m)
-        by (inr some) = earlier k node source at some m
-
-    pub in-order : AreInOrder sheet whole
-    in-order = record {
-      live = λ node. (
-        (λ has. whole-live node (IsMember-from_Contains whole node has)),
-        (λ h. Contains-from_IsMember whole node (member-whole node h)),
-      );
-      once = λ j k node first second. one-place whole arranged-whole.apart j k node first second;
-      after_sources = λ k node source at has.
-          Contains-from_IsMember (take k whole) source
-          (by_node k node source at (IsMember-from_Contains (sources_of sheet node) source has));
-    }

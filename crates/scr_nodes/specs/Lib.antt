@@ -5,6 +5,5 @@ pub mod Sources
 pub mod Live
 pub mod Nth
 pub mod LiveNodes
-pub mod FundOrder
 pub mod Reckoned
 pub mod Selections

@@ -1,5 +1,5 @@
--- All figures that a balance sheet has, as one list, and what is asked of such a list (this project's own).
-use Rattle.std.specs.Prelude.{◌≡◌, ◌↔◌, ℕ, ◌++◌, true, List, [], ◌∷◌, Contains, Some, filter, map, slice_get, take}
+-- All figures that a balance sheet has, as one list (this project's own).
+use Rattle.std.specs.Prelude.{◌≡◌, ℕ, ◌++◌, List, [], ◌∷◌, Some, filter, map, slice_get}
 use Rattle.std.specs.List.{flat_map}
 use Rattle.scr_profile.specs.declared.set.Set.TheVariants as sets
 use Rattle.scr_sheet.specs.declared.keys.CatKey.TheVariants as cats
@@ -20,9 +20,8 @@ use Rattle.scr_nodes.specs.declared.node.Node.{Node}
 use Rattle.scr_nodes.specs.declared.node.Node.TheVariants as nodes
 use Rattle.scr_nodes.specs.declared.node.Operational.TheVariants as operations
 use Rattle.scr_nodes.specs.declared.node.Risk.TheVariants as risks
-use Rattle.scr_nodes.specs.Live.{is_live}
 use Rattle.scr_nodes.specs.Rows.{is_paying, is_foreign, has_class, has_flows}
-use Rattle.scr_nodes.specs.Sources.{sources_of, fund_total, security_total, unit_loss, security_rate, liability_rate, liability_present, liability_loss, currency_loss, currency_scenario, currency_choice, currency_picked, security_spread, group_total, concentration_square, group_loss, interest_scenarios, lapse_scenarios, equity_parts, class_losses, class_squares, segments_of, natural_perils, man_made_perils, health_perils}
+use Rattle.scr_nodes.specs.Sources.{fund_total, security_total, unit_loss, security_rate, liability_rate, liability_present, liability_loss, currency_loss, currency_scenario, currency_choice, currency_picked, security_spread, group_total, concentration_square, group_loss, interest_scenarios, lapse_scenarios, equity_parts, class_losses, class_squares, segments_of, natural_perils, man_made_perils, health_perils}
 
 -- ---- the figures of rows, family by family
 
@@ -169,10 +168,3 @@ live_nodes sheet = map fund_total sheet.funds ++ nodes_above_funds sheet
 -- none stands at two places
 abbrev pub HasNoRepeats : List Node → Type 0
 HasNoRepeats list = (j k : ℕ) (node : Node) → slice_get list j ≡ Some node → slice_get list k ≡ Some node → j ≡ k
-
--- the figures of the balance sheet and no others, each once and after all of its sources
-pub record AreInOrder (sheet : BalanceSheet) (list : List Node) : Type 0 where
-  pub live : (node : Node) → Contains list node ↔ (is_live sheet node ≡ true)
-  pub once : HasNoRepeats list
-  pub after_sources : (k : ℕ) (node source : Node) → slice_get list k ≡ Some node
-      → Contains (sources_of sheet node) source → Contains (take k list) source

@@ -118,8 +118,9 @@ pub data Own : Type 0 where
   Catastrophes : Own
   -- the root over the modules, and so many cents of intangible assets besides (Articles 87 and 203)
   Bscr : (intangible : ℕ) → Own
-  -- by how much the sum of the modules exceeds their root
-  Diversified : Own
+  -- by how much the sum of the modules, the first figures, exceeds the Basic Solvency Capital Requirement, the last,
+  -- without so many cents of intangible assets
+  Diversified : (intangible : ℕ) → Own
   -- operational risk by earned premiums and by technical provisions, of which nothing else is read; its cap; and by
   -- these three and the expenses of unit-linked business (Article 204)
   Premiums : OpInput → Own

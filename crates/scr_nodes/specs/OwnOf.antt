@@ -303,4 +303,4 @@ own_of factors sheet (nodes.OpPart part) = operational_own part sheet.numbers
 own_of factors sheet (nodes.Adjust adjustments.TechnicalProvisions) = Absorbing sheet.numbers.fdb
 own_of factors sheet (nodes.Adjust adjustments.DeferredTaxes) = Taxed sheet.numbers.tax sheet.numbers.cap
 own_of factors sheet nodes.Scr = Requirement
-own_of factors sheet nodes.Diversification = Diversified
+own_of factors sheet nodes.Diversification = Diversified sheet.numbers.intangible

@@ -261,6 +261,10 @@ modules measure =
     nodes.Market measure ∷ risk_part risks.Default measure ∷ nodes.Life measure ∷ nodes.Health measure
     ∷ nodes.Nonlife measure ∷ []
 
+-- the modules, and the root over them with intangible assets besides
+abbrev pub diversification_sources : List Node
+diversification_sources = modules measures.Gross ++ nodes.Bscr measures.Gross ∷ []
+
 abbrev pub operational_sources : Operational → List Node
 operational_sources operations.Premiums = []
 operational_sources operations.Provisions = []
@@ -339,4 +343,4 @@ sources_of sheet (nodes.Bscr measure) = modules measure
 sources_of sheet (nodes.OpPart part) = operational_sources part
 sources_of sheet (nodes.Adjust adjustment) = adjustment_sources adjustment
 sources_of sheet nodes.Scr = requirement_parts
-sources_of sheet nodes.Diversification = modules measures.Gross
+sources_of sheet nodes.Diversification = diversification_sources

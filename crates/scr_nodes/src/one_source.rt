@@ -10,12 +10,12 @@ use crate::nth::{
 };
 use crate::selections::Holdings;
 use crate::words::{
-    band_sources, charge_sources, currency_scenarios, default_types, equity_parts, gross_of,
-    health_parts, health_perils, infrastructure_classes, infrastructure_corporate_classes,
-    interest_scenarios, lapse_scenarios, life_parts, man_made_perils, market_parts, modules,
-    natural_perils, nonlife_catastrophes, nonlife_segments, nslt_segments, provision_sources,
-    requirement_parts, slt_parts, tax_sources, type1_classes, type1_sources, type2_classes,
-    variance_sources,
+    band_sources, charge_sources, currency_scenarios, default_types, diversification_sources,
+    equity_parts, gross_of, health_parts, health_perils, infrastructure_classes,
+    infrastructure_corporate_classes, interest_scenarios, lapse_scenarios, life_parts,
+    man_made_perils, market_parts, modules, natural_perils, nonlife_catastrophes, nonlife_segments,
+    nslt_segments, provision_sources, requirement_parts, slt_parts, tax_sources, type1_classes,
+    type1_sources, type2_classes, variance_sources,
 };
 use crate::{Adjustment, Alternatives, Biometric, Direction, Equities, Measure, Node, Operational};
 use scr_profile::Set;
@@ -104,7 +104,7 @@ fn nth_source(sheet: &BalanceSheet, node: &Node, place: u32) -> Nth
         ),
         Node::Bscr(measure) => nth_in(&modules(*measure), place),
         Node::Scr => nth_in(&requirement_parts(), place),
-        Node::Diversification => nth_in(&modules(Measure::Gross), place),
+        Node::Diversification => nth_in(&diversification_sources(), place),
     }
 }
 

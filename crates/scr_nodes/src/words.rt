@@ -6,7 +6,7 @@ ghost use Rattle.scr_nodes.specs.declared.node.Operational.TheVariants as operat
 ghost use Rattle.scr_nodes.specs.declared.node.Equities.TheVariants as kinds;
 ghost use Rattle.scr_profile.specs.declared.set.Set.TheVariants as sets;
 ghost use Rattle.scr_nodes.specs.declared.node.Node.TheVariants as nodes;
-ghost use Rattle.scr_nodes.specs.Sources.{interest_scenarios, lapse_scenarios, currency_scenarios, classes_of, equity_parts, gross_of, risk_part, market_parts, class_losses, class_squares, default_types, life_parts, slt_parts, health_parts, segments_of, natural_perils, man_made_perils, nonlife_catastrophes, health_perils, modules, requirement_parts, operational_sources, adjustment_sources};
+ghost use Rattle.scr_nodes.specs.Sources.{interest_scenarios, lapse_scenarios, currency_scenarios, classes_of, equity_parts, gross_of, risk_part, market_parts, class_losses, class_squares, default_types, life_parts, slt_parts, health_parts, segments_of, natural_perils, man_made_perils, nonlife_catastrophes, health_perils, modules, diversification_sources, requirement_parts, operational_sources, adjustment_sources};
 
 use crate::{
     Adjustment, Alternatives, Biometric, Direction, Equities, Measure, Node, Operational, Risk,
@@ -369,6 +369,21 @@ pub fn modules(measure: Measure) -> [Node; 5]
         Node::Life(measure),
         Node::Health(measure),
         Node::Nonlife(measure),
+    ]
+}
+
+/// What tells by how much the modules together exceed their root: the modules, and the Basic
+/// Solvency Capital Requirement.
+pub fn diversification_sources() -> [Node; 6]
+    ensures { result ≡ diversification_sources }
+{
+    [
+        Node::Market(Measure::Gross),
+        risk_part(Risk::Default, Measure::Gross),
+        Node::Life(Measure::Gross),
+        Node::Health(Measure::Gross),
+        Node::Nonlife(Measure::Gross),
+        Node::Bscr(Measure::Gross),
     ]
 }
 

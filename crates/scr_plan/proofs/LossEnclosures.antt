@@ -72,7 +72,7 @@ module _ (factors : FactorValues) (known : IsInForm factors) (sheet : BalanceShe
     unfolding diversification_exact
     diversification-holds =
         is-enclosed _ _ _ (sizes.diversification-worked factors known sheet valid)
-        (diversification-encloses (map figure (modules measures.Gross)) (modules_exact others factors sheet measures.Gross) refl (lows measures.Gross) (modules-hold measures.Gross))
+        (diversification-encloses (map figure (modules measures.Gross)) (modules_exact others factors sheet measures.Gross) sheet.numbers.intangible refl (lows measures.Gross) (modules-hold measures.Gross))
 
     -- ---- operational risk
     premiums-hold : Holds (figure (nodes.OpPart operations.Premiums)) (prem_figure (operations_of sheet.numbers))

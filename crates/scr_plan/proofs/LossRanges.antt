@@ -11,7 +11,7 @@ use Rattle.scr_nodes.specs.declared.node.Measure.TheVariants as measures
 use Rattle.scr_nodes.specs.declared.node.Node.TheVariants as nodes
 use Rattle.scr_nodes.specs.declared.node.Operational.TheVariants as operations
 use Rattle.scr_nodes.specs.OwnOf.{own_of}
-use Rattle.scr_nodes.specs.Sources.{sources_of, modules}
+use Rattle.scr_nodes.specs.Sources.{sources_of, modules, diversification_sources}
 use Rattle.scr_plan.specs.Fits.{Fits}
 use Rattle.scr_plan.specs.LossFits.{AreModules, MAX_REQUIREMENT}
 use Rattle.scr_plan.specs.Worked.{worked}
@@ -58,7 +58,21 @@ module _ (factors : FactorValues) (known : IsInForm factors) (sheet : BalanceShe
     bscr-fits measure = record { amount = valid.numbers.intangible; modules = modules-fit measure }
 
     pub diversification-fits : NodeFits nodes.Diversification
-    diversification-fits = modules-fit measures.Gross
+    diversification-fits = record {
+      amount = valid.numbers.intangible;
+      modules = with-basic (modules-fit measures.Gross);
+      basic = sizes.bscr-within factors known sheet valid market default_risk life slt within measures.Gross;
+    }
+      where
+        with-basic : AreModules (map figure (modules measures.Gross)) → AreModules (map figure diversification_sources)
+        with-basic fit = record {
+          market = fit.market;
+          default_risk = fit.default_risk;
+          life = fit.life;
+          health = fit.health;
+          nonlife = fit.nonlife;
+          highs = fit.highs;
+        }
 
     pub operational-fits : (part : Operational) → NodeFits (nodes.OpPart part)
     operational-fits operations.Premiums = sizes.premiums-within factors known sheet valid

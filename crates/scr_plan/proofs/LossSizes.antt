@@ -1,6 +1,6 @@
 -- The worked figures of the Basic Solvency Capital Requirement, of operational risk, of the adjustments and of the Solvency
 -- Capital Requirement of a valid balance sheet: what they are, and how large.
-use Rattle.std.proofs.Common.{◌≡◌, ℕ, ◌+◌, ◌*◌, ◌^◌, ◌≤◌, List, [], ◌∷◌, map, sum_by, ℤ, pos, negsuc, neg_ℤ, ◌+ℤ◌, ◌-ℤ◌, ◌*ℤ◌, ◌≤ℤ◌, unsigned_abs, refl, ap₂, sym, subst, arith, lit≤}
+use Rattle.std.proofs.Common.{◌≡◌, ℕ, ◌+◌, ◌*◌, ◌^◌, ◌≤◌, List, [], ◌∷◌, map, sum_by, ℤ, pos, negsuc, neg_ℤ, ◌+ℤ◌, ◌-ℤ◌, ◌*ℤ◌, ◌≤ℤ◌, unsigned_abs, refl, ap, ap₂, ◌∙◌, sym, subst, arith, lit≤}
 use Rattle.std.specs.Prelude.{slice_index_or}
 use Rattle.std.specs.Int.{int_max}
 use Rattle.std.proofs.lemmas.Int.{ints, clamps}
@@ -161,8 +161,11 @@ module _ (factors : FactorValues) (known : IsInForm factors) (sheet : BalanceShe
   pub bscr-worked : (measure : Measure) → figure (nodes.Bscr measure) ≡ bscr_ends (map figure (modules measure)) sheet.numbers.intangible
   bscr-worked measure = worked-equation factors sheet valid (nodes.Bscr measure)
 
-  pub diversification-worked : figure nodes.Diversification ≡ diversification_ends (map figure (modules measures.Gross))
-  diversification-worked = worked-equation factors sheet valid nodes.Diversification
+  pub diversification-worked : figure nodes.Diversification
+      ≡ diversification_ends (map figure (modules measures.Gross)) (bscr_ends (map figure (modules measures.Gross)) sheet.numbers.intangible) sheet.numbers.intangible
+  diversification-worked =
+      worked-equation factors sheet valid nodes.Diversification
+      ∙ ap (λ (basic : Ends). diversification_ends (map figure (modules measures.Gross)) basic sheet.numbers.intangible) (bscr-worked measures.Gross)
 
   pub cap-worked : figure (nodes.OpPart operations.Cap) ≡ cap_ends (figure (nodes.Bscr measures.Gross))
   cap-worked = worked-equation factors sheet valid (nodes.OpPart operations.Cap)

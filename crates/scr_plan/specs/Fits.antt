@@ -21,7 +21,7 @@ use Rattle.scr_profile.specs.declared.limits.TheConstants.{MAX_HELD, MAX_AMOUNT}
 use Rattle.scr_plan.specs.MarketFits.{FitsWorth, FitsForeign, FitsMultiple, FitsStressed, FitsSquare, FitsSquareRoot, FitsMarket}
 use Rattle.scr_plan.specs.LifeFits.{FitsExcess, FitsRoot}
 use Rattle.scr_plan.specs.DefaultFits.{FitsLosses, FitsSquares, FitsVariance, FitsBand, FitsDue}
-use Rattle.scr_plan.specs.LossFits.{AreModules, FitsBscr, IsRequirement, FitsCharge, FitsAbsorbing, FitsTaxed, FitsRequirement}
+use Rattle.scr_plan.specs.LossFits.{FitsBscr, FitsDiversified, IsRequirement, FitsCharge, FitsAbsorbing, FitsTaxed, FitsRequirement}
 use Rattle.scr_plan.specs.NonlifeFits.{FitsCharged, FitsSegment, FitsPremiumReserve, FitsNatural, FitsManMade, FitsCatastrophes}
 use Rattle.scr_plan.specs.NonlifeFits.{FitsHealthCatastrophe, FitsNonlife, FitsNslt, FitsHealth}
 use Rattle.scr_plan.specs.Rules.{figure_at, parts_held}
@@ -113,7 +113,7 @@ Fits (CorrelatedWith NonlifeRoot lapse) figures = FitsNonlife lapse figures
 Fits (CorrelatedWith NsltRoot lapse) figures = FitsNslt lapse figures
 Fits (Correlated HealthRoot) figures = FitsHealth figures
 Fits (Bscr intangible) figures = FitsBscr intangible figures
-Fits Diversified figures = AreModules figures
+Fits (Diversified intangible) figures = FitsDiversified intangible figures
 Fits (Premiums operation) figures = IsWithinLimits operation
 Fits (Provisions operation) figures = IsWithinLimits operation
 Fits Cap figures = IsRequirement (figure_at figures 0)

@@ -34,6 +34,11 @@ pub record FitsBscr (intangible : ℕ) (figures : List Ends) : Type 0 where
 abbrev pub IsRequirement : Ends → Type 0
 IsRequirement e = IsWithin MAX_REQUIREMENT e
 
+pub record FitsDiversified (intangible : ℕ) (figures : List Ends) : Type 0 where
+  pub amount : intangible ≤ MAX_AMOUNT
+  pub modules : AreModules figures
+  pub basic : IsRequirement (figure_at figures 5)
+
 pub record FitsCharge (expenses : ℕ) (figures : List Ends) : Type 0 where
   pub amount : expenses ≤ MAX_AMOUNT
   pub premiums : IsRequirement (figure_at figures 0)

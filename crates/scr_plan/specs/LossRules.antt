@@ -16,8 +16,9 @@ modules_from figures =
 abbrev pub bscr_from : (intangible : ℕ) → List Ends → Ends
 bscr_from intangible figures = bscr_ends (modules_from figures) intangible
 
-abbrev pub diversification_from : List Ends → Ends
-diversification_from figures = diversification_ends (modules_from figures)
+-- the modules, and the Basic Solvency Capital Requirement
+abbrev pub diversification_from : (intangible : ℕ) → List Ends → Ends
+diversification_from intangible figures = diversification_ends (modules_from figures) (figure_at figures 5) intangible
 
 -- of the Basic Solvency Capital Requirement
 abbrev pub cap_from : List Ends → Ends

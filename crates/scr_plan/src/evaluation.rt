@@ -201,7 +201,7 @@ fn figure(
             Adjustment::DeferredTaxes => taxed(spans, sheet.numbers.tax, sheet.numbers.cap),
         },
         Node::Scr => requirement(spans),
-        Node::Diversification => diversification(spans),
+        Node::Diversification => diversification(spans, sheet.numbers.intangible),
     }
 }
 

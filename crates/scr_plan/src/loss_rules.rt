@@ -5,7 +5,7 @@ ghost use Rattle.scr_num.specs.Rounding.{ends};
 ghost use Rattle.scr_loss.specs.Operational.{IsWithinLimits};
 ghost use Rattle.scr_loss.specs.OperationalEnds.{prem_ends, prov_ends};
 ghost use Rattle.scr_nodes.specs.OwnOf.{premiums_of, provisions_of};
-ghost use Rattle.scr_plan.specs.LossFits.{AreModules, IsRequirement, FitsBscr, FitsCharge, FitsAbsorbing, FitsTaxed, FitsRequirement};
+ghost use Rattle.scr_plan.specs.LossFits.{IsRequirement, FitsBscr, FitsDiversified, FitsCharge, FitsAbsorbing, FitsTaxed, FitsRequirement};
 ghost use Rattle.scr_plan.specs.LossRules.{bscr_from, diversification_from, cap_from, charge_from, absorbing_from, taxed_from, requirement_from};
 ghost use Rattle.scr_plan.specs.Figures.{figure_at};
 
@@ -45,18 +45,23 @@ pub(crate) fn bscr(spans: &[Span], intangible: u64) -> Span
     )
 }
 
-/// By how much the five modules together exceed their root.
-pub(crate) fn diversification(spans: &[Span]) -> Span
-    requires { AreModules (map ends spans.now) }
-    ensures { ends result ≡ diversification_from (map ends spans.now) }
+/// By how much the five modules together exceed their root, which is the Basic Solvency Capital Requirement without
+/// intangible assets, of this value in cents.
+pub(crate) fn diversification(spans: &[Span], intangible: u64) -> Span
+    requires { FitsDiversified intangible (map ends spans.now) }
+    ensures { ends result ≡ diversification_from intangible (map ends spans.now) }
 {
-    scr_loss::diversification(&[
-        at(spans, 0),
-        at(spans, 1),
-        at(spans, 2),
-        at(spans, 3),
-        at(spans, 4),
-    ])
+    scr_loss::diversification(
+        &[
+            at(spans, 0),
+            at(spans, 1),
+            at(spans, 2),
+            at(spans, 3),
+            at(spans, 4),
+        ],
+        at(spans, 5),
+        intangible,
+    )
 }
 
 /// Operational risk by earned premiums.

@@ -98,7 +98,7 @@ impl Places {
     }
 
     /// The place of a figure, which is given the next one where it has none.
-    pub fn enter(&mut self, node: &Node) -> Result<u32, NoMemory>
+    pub fn enter(&mut self, alloc: Global, node: &Node) -> Result<u32, NoMemory>
         ensures there { IfOk result (λ place. slice_get self.new place ≡ Some node.now) }
         ensures others { OnOk result ((self.new ≡ self.old) ⊎ (self.new ≡ self.old ++ node.now ∷ [])) }
         ensures err { OnErr result (self.new ≡ self.old) }

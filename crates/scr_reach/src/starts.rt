@@ -35,7 +35,7 @@ impl Starts {
     }
 
     /// Puts a place, unless it is there. Where memory is refused, all is as before.
-    pub fn put(&mut self, place: u32) -> Result<(), NoMemory>
+    pub fn put(&mut self, alloc: Global, place: u32) -> Result<(), NoMemory>
         ensures ok { OnOk result (self.new ≡ with_place place self.old) }
         ensures err { OnErr result (self.new ≡ self.old) }
     {

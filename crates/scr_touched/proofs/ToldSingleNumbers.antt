@@ -17,7 +17,7 @@ use Rattle.scr_sheet.specs.declared.sheet.BalanceSheet.{BalanceSheet}
 use Rattle.scr_nodes.specs.Live.{is_segment}
 use Rattle.scr_nodes.specs.Own.{Own}
 use Rattle.scr_nodes.specs.Own.ChargedRoot.{NsltRoot, NonlifeRoot}
-use Rattle.scr_nodes.specs.Own.Own.{Absorbing, Bscr, Charged, CorrelatedWith, Due, Fall, Net as NetOwn, OperationalCharge, Premiums, Provisions, Segment, Taxed}
+use Rattle.scr_nodes.specs.Own.Own.{Absorbing, Bscr, Charged, CorrelatedWith, Diversified, Due, Fall, Net as NetOwn, OperationalCharge, Premiums, Provisions, Segment, Taxed}
 use Rattle.scr_nodes.specs.OwnOf.{catastrophe_cents, interest_key, lapse_cents, no_operations, premiums_of, provisions_of, risk_key, volumes_in_regions}
 use Rattle.scr_nodes.specs.Rows.{has_stress}
 use Rattle.scr_nodes.specs.declared.node.Adjustment.TheVariants as adjustments
@@ -59,6 +59,10 @@ of-bscr : Own → ℕ
 of-bscr (Bscr n) = n
 of-bscr own = 0
 
+of-diversified : Own → ℕ
+of-diversified (Diversified n) = n
+of-diversified own = 0
+
 of-absorbing : Own → ℕ
 of-absorbing (Absorbing n) = n
 of-absorbing own = 0
@@ -86,6 +90,10 @@ nonlife-same a b = cents-same (CorrelatedWith NonlifeRoot) of-root (λ n. refl) 
 bscr-same : (a b : ℕ) → Decides (a == b) (Bscr a ≡ Bscr b)
 unfolding of-bscr
 bscr-same a b = cents-same Bscr of-bscr (λ n. refl) a b
+
+diversified-same : (a b : ℕ) → Decides (a == b) (Diversified a ≡ Diversified b)
+unfolding of-diversified
+diversified-same a b = cents-same Diversified of-diversified (λ n. refl) a b
 
 absorbing-same : (a b : ℕ) → Decides (a == b) (Absorbing a ≡ Absorbing b)
 unfolding of-absorbing
@@ -302,6 +310,9 @@ module _ (factors : FactorValues) (sheet : BalanceSheet) (new : Numbers) where
       told-always factors sheet later nodes.Intangible _ refl refl (charged-same 800 old.intangible new.intangible) refl
   told (nodes.Bscr measure) =
       told-always factors sheet later (nodes.Bscr measure) _ refl refl (bscr-same old.intangible new.intangible) refl
+  told nodes.Diversification =
+      told-always factors sheet later nodes.Diversification _ refl refl
+      (diversified-same old.intangible new.intangible) refl
   told (nodes.OpPart operations.Premiums) =
       told-always factors sheet later (nodes.OpPart operations.Premiums) _ refl refl (premiums-same old new) refl
   told (nodes.OpPart operations.Provisions) =
@@ -390,6 +401,7 @@ module _ (factors : FactorValues) (sheet : BalanceSheet) (new : Numbers) where
   covers (nodes.OpPart operations.Charge) e = in-place 82 _ refl
   covers (nodes.Adjust adjustments.TechnicalProvisions) e = in-place 83 _ refl
   covers (nodes.Adjust adjustments.DeferredTaxes) e = in-place 84 _ refl
+  covers nodes.Diversification e = in-place 85 _ refl
   covers (nodes.BioScenario biometrics.Life projections.Base Net) e = absurd (cc)
   covers (nodes.BioScenario biometrics.Health projections.Base Net) e = absurd (cc)
   covers (nodes.BioScenario biometrics.Health projections.Catastrophe Net) e = absurd (cc)

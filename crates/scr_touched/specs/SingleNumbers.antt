@@ -78,6 +78,7 @@ numbers_touch old new (nodes.Nslt measure) = not (lapse_cents sets.Nslt old == l
 numbers_touch old new (nodes.Nonlife measure) = not (lapse_cents sets.Nl old == lapse_cents sets.Nl new)
 numbers_touch old new nodes.Intangible = not (old.intangible == new.intangible)
 numbers_touch old new (nodes.Bscr measure) = not (old.intangible == new.intangible)
+numbers_touch old new nodes.Diversification = not (old.intangible == new.intangible)
 numbers_touch old new (nodes.OpPart part) = not (same_operations part old new)
 numbers_touch old new (nodes.Adjust adjustments.TechnicalProvisions) = not (old.fdb == new.fdb)
 numbers_touch old new (nodes.Adjust adjustments.DeferredTaxes) = not ((old.tax == new.tax) && (old.cap == new.cap))
@@ -108,7 +109,8 @@ abbrev pub requirement_nodes : List Node
 requirement_nodes =
     nodes.Intangible ∷ nodes.Bscr Gross ∷ nodes.Bscr Net ∷ nodes.OpPart operations.Premiums
     ∷ nodes.OpPart operations.Provisions ∷ nodes.OpPart operations.Charge
-    ∷ nodes.Adjust adjustments.TechnicalProvisions ∷ nodes.Adjust adjustments.DeferredTaxes ∷ []
+    ∷ nodes.Adjust adjustments.TechnicalProvisions ∷ nodes.Adjust adjustments.DeferredTaxes ∷ nodes.Diversification
+    ∷ []
 
 abbrev pub scenario_nodes : List Node
 scenario_nodes =

@@ -43,7 +43,9 @@ pub(crate) fn numbers_touch(old: &Numbers, new: &Numbers, node: &Node) -> bool
         Node::Lapse(set) => lapse_cents(old, *set) != lapse_cents(new, *set),
         Node::Nslt(_) => lapse_cents(old, Set::Nslt) != lapse_cents(new, Set::Nslt),
         Node::Nonlife(_) => lapse_cents(old, Set::Nl) != lapse_cents(new, Set::Nl),
-        Node::Intangible | Node::Bscr(_) => old.intangible != new.intangible,
+        Node::Intangible | Node::Bscr(_) | Node::Diversification => {
+            old.intangible != new.intangible
+        }
         Node::OpPart(part) => !are_operations_same(old, new, *part),
         Node::Adjust(Adjustment::TechnicalProvisions) => old.fdb != new.fdb,
         Node::Adjust(Adjustment::DeferredTaxes) => !(old.tax == new.tax && old.cap == new.cap),
@@ -191,7 +193,7 @@ fn charge_nodes() -> [Node; 8]
     ]
 }
 
-fn requirement_nodes() -> [Node; 8]
+fn requirement_nodes() -> [Node; 9]
     ensures { result ≡ requirement_nodes }
 {
     [
@@ -203,5 +205,6 @@ fn requirement_nodes() -> [Node; 8]
         Node::OpPart(Operational::Charge),
         Node::Adjust(Adjustment::TechnicalProvisions),
         Node::Adjust(Adjustment::DeferredTaxes),
+        Node::Diversification,
     ]
 }

@@ -31,13 +31,14 @@ pub(crate) fn enter_all(
 {
     let mut starts = Starts::new(alloc);
     for node in nodes {
-        starts.put(enter(places, figures, node)?)?;
+        starts.put(alloc, enter(alloc, places, figures, node)?)?;
     }
     Ok(starts)
 }
 
 /// The place of a figure, which is given the next one where it has none.
 pub(crate) fn enter(
+    alloc: Global,
     places: &mut Places,
     figures: &mut Vec<Figure>,
     node: &Node,
@@ -52,7 +53,7 @@ pub(crate) fn enter(
         → (slice_get places.old place ≡ Some other) ⊎ (other ≡ node.now) }
 {
     make_room(figures, places.len())?;
-    places.enter(node)
+    places.enter(alloc, node)
 }
 
 /// Room for what one figure more than so many comes to.

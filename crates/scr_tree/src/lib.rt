@@ -6,6 +6,7 @@ mod edits;
 mod engine;
 mod figures;
 mod inputs;
+pub mod laws;
 mod opening;
 mod reckon;
 mod refusal;

@@ -64,7 +64,7 @@ fn enter_each(
 {
     let mut numbers = Vec::with_capacity(alloc, nodes.len())?;
     for node in nodes {
-        numbers.push(enter(places, figures, node)?)?;
+        numbers.push(enter(alloc, places, figures, node)?)?;
     }
     Ok(numbers)
 }

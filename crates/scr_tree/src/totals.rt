@@ -36,11 +36,12 @@ pub(crate) fn put_totals<G: Gate>(
 {
     let totals = totals(alloc, sheet)?;
     let funds = sheet.funds.len();
-    put_funds(sheet, &totals[..funds], places, figures, gate)?;
-    put_securities(sheet, &totals[funds..], places, figures, gate)
+    put_funds(alloc, sheet, &totals[..funds], places, figures, gate)?;
+    put_securities(alloc, sheet, &totals[funds..], places, figures, gate)
 }
 
 fn put_funds<G: Gate>(
+    alloc: Global,
     sheet: &BalanceSheet,
     totals: &[u64],
     places: &mut Places,
@@ -55,13 +56,14 @@ fn put_funds<G: Gate>(
 {
     for k in 0..sheet.funds.len() {
         let node = Node::FundTotal(sheet.funds.at(k).fund.name);
-        put_total(places, figures, &node, totals[k], gate)?;
+        put_total(alloc, places, figures, &node, totals[k], gate)?;
     }
     Ok(())
 }
 
 /// Puts those of the securities, where those of the funds are there.
 fn put_securities<G: Gate>(
+    alloc: Global,
     sheet: &BalanceSheet,
     totals: &[u64],
     places: &mut Places,
@@ -78,13 +80,14 @@ fn put_securities<G: Gate>(
 {
     for k in 0..sheet.securities.len() {
         let node = Node::SecurityTotal(sheet.securities.at(k).security.name);
-        put_total(places, figures, &node, totals[k], gate)?;
+        put_total(alloc, places, figures, &node, totals[k], gate)?;
     }
     Ok(())
 }
 
 /// Puts a total of so many cents, which rests on no choice.
 fn put_total<G: Gate>(
+    alloc: Global,
     places: &mut Places,
     figures: &mut Vec<Figure>,
     node: &Node,
@@ -95,7 +98,7 @@ fn put_total<G: Gate>(
     ensures { OnOk result (IsTotalPut node.now cents places.old figures.old.items places.new
         figures.new.items) }
 {
-    let place = enter(places, figures, node)?;
+    let place = enter(alloc, places, figures, node)?;
     gate.pass(place);
     places.len();
     write_total(figures, place, cents);
