@@ -2,13 +2,15 @@
 //! prints the first line of each piece of the report with the number of evaluations since the piece before.
 #![tactic(auto)]
 
+mod told;
+
 use scr_io::{Gate, HostShelf, HostSink};
 use scr_run::run;
-use scr_told::{Told, first_line};
 use std::env;
 use std::io::{self, Write};
 use std::process::ExitCode;
 use std::sync::atomic::{AtomicU64, Ordering};
+use told::{Told, first_line};
 
 /// A gate that counts what passes it.
 #[derive(Drop)]
