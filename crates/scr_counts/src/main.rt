@@ -2,13 +2,15 @@
 //! prints the first line of each piece of the report with the number of evaluations since the piece before.
 #![tactic(auto)]
 
+mod told;
+
 use scr_io::{Gate, HostShelf, HostSink};
 use scr_run::run;
-use scr_told::{Told, first_line};
 use std::env;
-use std::io::{self, Write};
+use std::io::{self, ErrorKind, Write};
 use std::process::ExitCode;
 use std::sync::atomic::{AtomicU64, Ordering};
+use told::{Told, first_line};
 
 /// A gate that counts what passes it.
 #[derive(Drop)]
@@ -47,8 +49,10 @@ fn main(rt: HostRuntime) -> ExitCode {
     let gate = Counter {
         passes: AtomicU64::new(0),
     };
-    let Ok(words) = arguments(&rt) else {
-        return ExitCode::from(7);
+    let words = match arguments(&rt) {
+        Ok(words) => words,
+        Err(error) if error.kind() == ErrorKind::OutOfMemory => return ExitCode::from(7),
+        Err(_) => return ExitCode::from(2),
     };
     let mut sink = HostSink::new(Tally {
         out: rt.stdout(),

@@ -9,12 +9,14 @@ mod host;
 pub mod laws;
 mod memory;
 mod reading;
+mod steps;
 mod writing;
 
 pub use gate::{Gate, OpenGate};
 pub use host::{HostShelf, HostSink, read_step, write_step};
 pub use memory::{MemShelf, MemSink, RESERVE};
 pub use reading::{MAX_BYTES, ReadFault, Shelf, read_all};
+pub use steps::Steps;
 pub use writing::{Sink, write_all};
 
 /// Want of memory.

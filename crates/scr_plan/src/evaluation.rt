@@ -28,11 +28,11 @@ use crate::rules::{choice, equities, fall, lost, net, picked, scaled};
 use crate::{Curves, GroupLosses};
 use scr_book::{BalanceSheet, Book, Name};
 use scr_factors::{Factors, Set};
+use scr_io::Steps;
 use scr_nodes::single_numbers::{catastrophe_cents, interest_key, lapse_cents, risk_key};
 use scr_nodes::{Adjustment, Direction, Measure, Node, Operational};
 use scr_num::Span;
 use scr_rate::{gross, total};
-use scr_steps::Steps;
 use std::sync::ledger::Ledger;
 
 /// The source of a node at place `k`, counted from 0, in the order in which its rule takes them; none exactly past the

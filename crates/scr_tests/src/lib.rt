@@ -1,9 +1,28 @@
-//! Tests that cross crates: of runs whose reads or writes fail in their midst, which no stored run of the program can show.
+//! Tests of what no stored run of the program shows: calls that it does not make, ends of spans that no printed cent
+//! tells apart, texts that it does not print, and runs whose reads or writes fail in their midst.
 #![tactic(auto)]
 
+#[cfg(test)]
+mod curve;
+#[cfg(test)]
+mod dates;
+#[cfg(test)]
+mod flow;
+#[cfg(test)]
+mod funds;
+#[cfg(test)]
+mod io;
+#[cfg(test)]
+mod modules;
+#[cfg(test)]
+mod names;
 #[cfg(test)]
 mod outside;
 #[cfg(test)]
 mod runs;
 #[cfg(test)]
+mod spans;
+#[cfg(test)]
 mod statuses;
+#[cfg(test)]
+mod threads;

@@ -73,3 +73,14 @@ fn each_failing_write_leaves_a_front(rt: HostRuntime) -> Result<(), Fail> {
     }
     Ok(())
 }
+
+// A block has 103 lines. Where an allocation fails, of which `rt try --test --fail-alloc N` lets the Nth do so, no part of a
+// block stands at the end.
+#[test]
+fn whole_blocks_are_written(rt: HostRuntime) -> Result<(), Fail> {
+    let end = outcome(&rt, rt.alloc(), &FILES, &SOUND)?;
+    let lines = end.written.iter().filter(|b| **b == b'\n').count();
+    assert!(rt; lines % 103 == 0 && (end.written.is_empty() || end.written.ends_with(b"\n")));
+    assert!(rt; end.code == 7 || lines == 206);
+    Ok(())
+}

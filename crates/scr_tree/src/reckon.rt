@@ -16,13 +16,12 @@ ghost use Rattle.scr_tree.specs.declared.figures.Figure.{Figure};
 use crate::figures::{Figure, Fresh};
 use scr_book::Book;
 use scr_factors::Factors;
-use scr_io::Gate;
+use scr_io::{Gate, Steps};
 use scr_nodes::Node;
 use scr_num::Span;
 use scr_plan::{Curves, GroupLosses, evaluate, evaluate_with};
 use scr_reach::Places;
 use scr_rounds::Due;
-use scr_steps::Steps;
 use std::alloc::{AllocError as NoMemory, Global};
 use std::sync::ledger::Ledger;
 

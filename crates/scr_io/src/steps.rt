@@ -1,6 +1,4 @@
 //! A counter of the steps of a reckoning, one for each figure that is evaluated. At run time it takes no bytes and no time.
-#![tactic(auto)]
-
 ghost use Rattle.std.specs.Prelude.{◌≡◌, ◌+◌, ◌<◌};
 
 use std::marker::Model;

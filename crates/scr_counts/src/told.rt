@@ -1,8 +1,6 @@
 //! What is told of each piece of a report: its first line, and how much passed since the piece before.
-#![tactic(auto)]
-
 ghost use Rattle.std.specs.Prelude.{◌≡◌, ◌≤◌, ◌<◌, ◌+◌, ◌==◌, IfSome, length, position};
-ghost use Rattle.scr_told.specs.FirstLine as piece;
+ghost use Rattle.scr_counts.specs.FirstLine as piece;
 
 /// How much of what passed is told.
 #[derive(Drop)]

@@ -2,7 +2,7 @@
 use Rattle.std.proofs.Common.{subst, sym}
 use Rattle.scr_funds.specs.Chains.{IsAcyclic}
 use Rattle.scr_funds.specs.Components.{Components, components_of}
-use Rattle.scr_low_tests.proofs.funds.edges_are_put_back.Goals as goal
+use Rattle.scr_tests.proofs.funds.edges_are_put_back.Goals as goal
 
 pub put_back-requires-clause-acyclic : goal.put_back-requires-clause-acyclic
 put_back-requires-clause-acyclic g c =
