@@ -1,5 +1,5 @@
 mod Steps
 mod NamesRead
-mod Members
+pub mod Members
 mod FormedRecords
 mod ReadBack

@@ -29,7 +29,7 @@ fn push_count(alloc: Global, out: &mut Vec<u8>, label: &str, count: u64) -> Resu
 
 /// Appends the line of a cell in the book.
 #[tactic(auto, unfolding(crate::specs::Summary::book_line))]
-pub fn push_book_line(out: &mut Vec<u8>, cell: &[u8]) -> Result<(), NoMemory>
+pub fn push_book_line(_alloc: Global, out: &mut Vec<u8>, cell: &[u8]) -> Result<(), NoMemory>
     ensures { OnOk result (out.new.items ≡ out.old.items ++ book_line cell.now) }
 {
     push(out, "book ")?;
@@ -57,7 +57,7 @@ pub fn push_edits_line(
 
 /// Appends the line of a cell after the last record.
 #[tactic(auto, unfolding(crate::specs::Summary::last_line))]
-pub fn push_last_line(out: &mut Vec<u8>, cell: &[u8]) -> Result<(), NoMemory>
+pub fn push_last_line(_alloc: Global, out: &mut Vec<u8>, cell: &[u8]) -> Result<(), NoMemory>
     ensures { OnOk result (out.new.items ≡ out.old.items ++ last_line cell.now) }
 {
     push(out, "last ")?;

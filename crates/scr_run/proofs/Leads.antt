@@ -1,6 +1,6 @@
 -- Where the plan of a report leads by the contents of its files.
 use Rattle.std.proofs.Common.{◌≡◌, ℕ, List, Result, Ok, Err, ap, ◌∙◌}
-use Rattle.scr_cells.specs.Block.{block_text, requirement_line}
+use Rattle.scr_cells.specs.Block.{block_text}
 use Rattle.scr_csv.specs.Lines.{records}
 use Rattle.scr_factors.specs.Values.{FactorValues}
 use Rattle.scr_io.specs.Content.{Content, Holds}
@@ -8,11 +8,9 @@ use Rattle.scr_plans.specs.Outcome.{outcome, outcome_at}
 use Rattle.scr_plans.specs.Outcome.Outcome.{Ends, Tells}
 use Rattle.scr_plans.specs.Plan.{Plan, ask, unless_refused}
 use Rattle.scr_sheet.specs.declared.sheet.BalanceSheet.{BalanceSheet}
-use Rattle.scr_run.specs.Plans.{Names, book_plan, ended_status, made_plan, plan_on, report_plan, script_plan, summed, told}
+use Rattle.scr_run.specs.Plans.{Names, book_plan, ended_status, made_plan, plan_on, report_plan, told}
 use Rattle.scr_run.specs.Readings.{book_in, edits_in, factors_in}
 use Rattle.scr_run.specs.Report.{answers, any_refused, report_text}
-use Rattle.scr_made.specs.Made.{book_text, script_text}
-use Rattle.scr_run.specs.Summary.{summary_text}
 use Rattle.scr_run.specs.declared.status.Status.{Status}
 
 module _ {V : Type 0} (name : List ℕ) (reading : List ℕ → Result V Status) (rest : V → Plan Status)
@@ -69,34 +67,7 @@ module _ (name : List ℕ) (number : ℕ) (content : List ℕ → Content) (fact
   unfolding made_plan
   made_stops due e = stops name factors_in (book_plan number) content factors there due e
 
-  module _ (values : FactorValues) (are_values : factors_in factors ≡ Ok values) where
-    by_book : (book : Result BalanceSheet Status) → book_in (book_text number) ≡ book
-        → outcome (made_plan name number) content
-        ≡ outcome (unless_refused (script_plan values number (script_text number)) book) content
-    unfolding made_plan book_plan
-    by_book book e =
-        passes name factors_in (book_plan number) content factors there values are_values
-        ∙ ap (λ r. outcome (unless_refused (script_plan values number (script_text number)) r) content) e
-
-    pub made_book_stops : (due : Status) → book_in (book_text number) ≡ Err due
-        → outcome (made_plan name number) content ≡ Ends due
-    made_book_stops due e = by_book (Err due) e
-
-    module _ (sheet : BalanceSheet) (is_sheet : book_in (book_text number) ≡ Ok sheet) where
-      by_script : (script : Result (List ℕ) Status) → edits_in (script_text number) ≡ script
-          → outcome (made_plan name number) content
-          ≡ outcome (unless_refused (summed values number sheet) script) content
-      unfolding script_plan
-      by_script script e =
-          by_book (Ok sheet) is_sheet
-          ∙ ap (λ r. outcome (unless_refused (summed values number sheet) r) content) e
-
-      pub made_script_stops : (due : Status) → edits_in (script_text number) ≡ Err due
-          → outcome (made_plan name number) content ≡ Ends due
-      made_script_stops due e = by_script (Err due) e
-
-      pub made_told : (script : List ℕ) → edits_in (script_text number) ≡ Ok script
-          → outcome (made_plan name number) content ≡ Tells (ended_status (any_refused (answers (records script) sheet)))
-          (summary_text (requirement_line values) number script sheet)
-      unfolding summed
-      made_told script e = by_script (Ok script) e
+  pub made_goes_on : (values : FactorValues) → factors_in factors ≡ Ok values
+      → outcome (made_plan name number) content ≡ outcome (book_plan number values) content
+  unfolding made_plan
+  made_goes_on values e = passes name factors_in (book_plan number) content factors there values e

@@ -11,3 +11,4 @@ pub mod Engines
 pub mod MadeRuns
 pub mod ScriptSteps
 pub mod FactorForms
+pub mod MadeBooks

@@ -56,7 +56,7 @@ length_answers [] sheet = refl
 length_answers (line ∷ lines) sheet =
     ap suc (length_answers lines (after (recorded line.1 sheet) sheet))
 
-accepted-next : (reply : Reply) (replies : List Reply) → accepted (reply ∷ replies) ≡ cond (is_ok reply.1) 1 0 + accepted replies
+pub accepted-next : (reply : Reply) (replies : List Reply) → accepted (reply ∷ replies) ≡ cond (is_ok reply.1) 1 0 + accepted replies
 accepted-next reply replies = sum_by-cons (λ (r : Reply). cond (is_ok r.1) 1 0) reply replies
 
 one_more : (a n : ℕ) → nat_lt (1 + a) (suc n) ≡ nat_lt a n

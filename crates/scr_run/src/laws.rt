@@ -1,5 +1,5 @@
 //! What the definitions of the report come to, whatever a program does.
-ghost use Rattle.std.specs.Prelude.{◌≡◌, ℕ, List, Ok, Err};
+ghost use Rattle.std.specs.Prelude.{◌≡◌, ◌⊎◌, ℕ, List, Ok, Err, length};
 ghost use Rattle.std.specs.List.{AllByRecursion};
 ghost use Rattle.scr_csv.specs.Lines.{records};
 ghost use Rattle.scr_factors.specs.Values.{FactorValues, IsInForm};
@@ -10,15 +10,19 @@ ghost use Rattle.scr_cells.specs.Certified.{Certified, IsBounded};
 ghost use Rattle.scr_cells.specs.EquityCells.{AreBounded, equity_cells};
 ghost use Rattle.scr_cells.specs.Table.{market_cells};
 ghost use Rattle.scr_io.specs.Content.{Content, Holds};
-ghost use Rattle.scr_plans.specs.Outcome.{outcome};
+ghost use Rattle.scr_plans.specs.Outcome.{Calls, outcome};
 ghost use Rattle.scr_plans.specs.Outcome.Outcome.{Ends, Tells};
+ghost use Rattle.scr_plans.specs.Plan.Plan.{Tell};
 ghost use Rattle.scr_run.specs.BookFile.{sheet_of};
-ghost use Rattle.scr_run.specs.Plans.{Names, ended_status, made_plan, report_plan};
+ghost use Rattle.scr_run.specs.Plans.{Names, book_plan, ended_status, made_plan, report_plan};
 ghost use Rattle.scr_run.specs.Readings.{book_in, edits_in, factors_in};
 ghost use Rattle.scr_run.specs.Report.{answers, any_refused, printed, report_text};
-ghost use Rattle.scr_made.specs.Made.{book_text, script_text};
-ghost use Rattle.scr_run.specs.Summary.{summary_text};
+ghost use Rattle.scr_made.specs.Made.{made_book, script_text};
+ghost use Rattle.scr_sheet.specs.BalanceSheet.{opening};
+ghost use Rattle.scr_sound.specs.Accepted.{sheet_after};
+ghost use Rattle.scr_run.specs.Summary.{accepted, summary_text};
 ghost use Rattle.scr_run.specs.declared.status.Status.{Status};
+ghost use Rattle.scr_run.specs.declared.status.Status.TheVariants as statuses;
 
 /// Every balance sheet from which a block is printed is valid: that of a book file, and what each
 /// accepted record of its edits leaves. The values of every factor file that is read are in form.
@@ -67,29 +71,32 @@ pub fn outcomes()
         → outcome (report_plan names) content ≡ Ends due }
 {}
 
-/// Where the plan of a made book leads by the contents of the factor file, and by what the made
-/// texts stand for: each that calls for a status ends the run, and where none does, the summary is
-/// written.
+/// Where the plan of a made book leads: once the factor file has no fault, the summary is written and
+/// the run is done, since no record of the book or of its script is refused and both texts are within
+/// the limit of a file. So each status that is called for is `Done`, or one that a factor file calls
+/// for, and the counts of the summary are 20 of 20.
 pub fn made_outcomes()
+    ensures plan { (number : ℕ) (values : FactorValues) → book_plan number values ≡ Tell statuses.Done
+        (summary_text (requirement_line values) number (script_text number)
+        (sheet_after (made_book number) opening)) }
     ensures summary { (name : List ℕ) (number : ℕ) (content : List ℕ → Content) (factors : List ℕ)
-        (values : FactorValues) (sheet : BalanceSheet) (script : List ℕ)
+        (values : FactorValues)
         → content name ≡ Holds factors → factors_in factors ≡ Ok values
-        → book_in (book_text number) ≡ Ok sheet → edits_in (script_text number) ≡ Ok script
-        → outcome (made_plan name number) content ≡ Tells
-        (ended_status (any_refused (answers (records script) sheet)))
-        (summary_text (requirement_line values) number script sheet) }
+        → outcome (made_plan name number) content ≡ Tells statuses.Done
+        (summary_text (requirement_line values) number (script_text number)
+        (sheet_after (made_book number) opening)) }
     ensures factors { (name : List ℕ) (number : ℕ) (content : List ℕ → Content) (factors : List ℕ)
         (due : Status)
         → content name ≡ Holds factors → factors_in factors ≡ Err due
         → outcome (made_plan name number) content ≡ Ends due }
-    ensures book { (name : List ℕ) (number : ℕ) (content : List ℕ → Content) (factors : List ℕ)
-        (values : FactorValues) (due : Status)
-        → content name ≡ Holds factors → factors_in factors ≡ Ok values
-        → book_in (book_text number) ≡ Err due
-        → outcome (made_plan name number) content ≡ Ends due }
-    ensures edits { (name : List ℕ) (number : ℕ) (content : List ℕ → Content) (factors : List ℕ)
-        (values : FactorValues) (sheet : BalanceSheet) (due : Status)
-        → content name ≡ Holds factors → factors_in factors ≡ Ok values
-        → book_in (book_text number) ≡ Ok sheet → edits_in (script_text number) ≡ Err due
-        → outcome (made_plan name number) content ≡ Ends due }
-{}
+    ensures called { (name : List ℕ) (number : ℕ) (content : List ℕ → Content) (status : Status)
+        → Calls (made_plan name number) content status
+        → (status ≡ statuses.Done) ⊎ ((factors : List ℕ) × (factors_in factors ≡ Err status)) }
+    ensures count { (number : ℕ) → (length (records (script_text number)) ≡ 20)
+        × (accepted (answers (records (script_text number)) (sheet_after (made_book number) opening))
+        ≡ 20) }
+{
+    scr_made::laws::read_as_made();
+    scr_sound::laws::without_fault();
+    scr_sound::laws::within_a_file()
+}

@@ -79,11 +79,11 @@ fn summary_of<R: Threads + Sync, G: Gate + Sync>(
     let mut text = Vec::new(alloc);
     push_counts(alloc, &mut text, number)?;
     let book = requirement_line(alloc, engine)?;
-    push_book_line(&mut text, book.as_slice())?;
+    push_book_line(alloc, &mut text, book.as_slice())?;
     let counts = apply_all(crew, alloc, engine, script)?;
     push_edits_line(alloc, &mut text, counts.records, counts.accepted)?;
     let last = requirement_line(alloc, engine)?;
-    push_last_line(&mut text, last.as_slice())?;
+    push_last_line(alloc, &mut text, last.as_slice())?;
     Ok(Summary {
         text,
         refused: counts.accepted < counts.records,

@@ -1,0 +1,15 @@
+mod Numbered
+mod Runs
+mod Sight
+mod Built
+mod Faultless
+mod NoCycle
+mod RowSteps
+mod FundSteps
+mod NumberSteps
+mod Market
+mod Payments
+mod Components
+mod Sections
+mod Lengths
+pub mod Sizes
