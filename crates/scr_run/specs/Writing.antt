@@ -18,6 +18,15 @@ WritesText text old new (Err faults.NoMemory) = AppendsFront old.written new.wri
 abbrev pub Leaves : Sunk → Sunk → List ℕ → List ℕ → Type 0
 Leaves old now whole rest = (done : List ℕ) × (whole ≡ done ++ rest) × Appends old.written now.written done
 
--- the text was written as far as the sink took it and memory allowed
-abbrev pub IsTold : List ℕ → Sunk → Sunk → Type 0
-IsTold text old new = (told : Result (Unit {0}) WriteFault) × WritesText text old new told
+-- The line of a status was written whole; or a front of it, where a write failed; or nothing of it, where memory was refused.
+-- The sink's faults rose only where a write failed. `seen` is what a sink tells.
+abbrev pub TellsLine : {E : Type 0} → (E → Sunk) → List ℕ → E → E → Result (Unit {0}) WriteFault → Type 0
+TellsLine seen line old new (Ok done) = Appends (seen old).written (seen new).written line
+    × ((seen new).faults ≡ (seen old).faults)
+TellsLine seen line old new (Err faults.Failed) = AppendsFront (seen old).written (seen new).written line
+    × Rose (seen old).faults (seen new).faults
+TellsLine seen line old new (Err faults.NoMemory) = new ≡ old
+
+-- the line was told as far as the sink took it, and not begun where memory was refused
+abbrev pub IsTold : {E : Type 0} → (E → Sunk) → List ℕ → E → E → Type 0
+IsTold seen line old new = (told : Result (Unit {0}) WriteFault) × TellsLine seen line old new told

@@ -6,7 +6,7 @@ ghost use Rattle.scr_run.specs.Codes.{code_of};
 ghost use Rattle.scr_run.specs.Plans.{plan_of};
 ghost use Rattle.scr_run.specs.Statuses.{answer_of};
 ghost use Rattle.scr_run.specs.StatusTexts.{told_line};
-ghost use Rattle.scr_run.specs.Writing.{IsTold, WritesText};
+ghost use Rattle.scr_run.specs.Writing.{IsTold, TellsLine};
 ghost use Rattle.scr_words.specs.Forms.{said as words_say};
 ghost use Rattle.scr_run.specs.declared.status.Status.{Status as Ended};
 
@@ -37,8 +37,7 @@ pub fn program<R: Threads + Sync, F: Shelf, K: Sink, E: Sink, G: Gate + Sync>(
         (sunk (K.written sink.old) (K.faults sink.old))
         (sunk (K.written sink.new) (K.faults sink.new))
         (answer_of status)
-        × IsTold (told_line status) (sunk (E.written errors.old) (E.faults errors.old))
-        (sunk (E.written errors.new) (E.faults errors.new)) }
+        × IsTold (λ e. sunk (E.written e) (E.faults e)) (told_line status) errors.old errors.new }
     ensures usage { result ≡ 2 → words_say (drop 1 arguments.now) ≡ None }
     ensures untouched { words_say (drop 1 arguments.now) ≡ None → shelf.new ≡ shelf.old }
     ensures quiet { 2 ≤ result → result ≤ 5 → sink.new ≡ sink.old }
@@ -57,21 +56,21 @@ fn words_of(arguments: &[String]) -> &[String]
     }
 }
 
-/// Tells how a run ended, and answers the exit code. Where the line cannot be told, the code is the
-/// same.
+/// Tells how a run ended, and answers the exit code. Where memory for the line is refused, nothing
+/// of it is told; the code is the same wherever it cannot be told.
 pub fn conclude<E: Sink>(alloc: Global, status: &Status, errors: &mut E) -> u8
     ensures code { result ≡ code_of status.now }
-    ensures told { IsTold (told_line status.now) (sunk (E.written errors.old) (E.faults errors.old))
-        (sunk (E.written errors.new) (E.faults errors.new)) }
+    ensures told { IsTold (λ e. sunk (E.written e) (E.faults e)) (told_line status.now)
+        errors.old errors.new }
 {
     let _ = tell(alloc, status, errors);
     status.code()
 }
 
-/// Writes the line of a status that is no end with a whole report.
+/// Writes the line of a status that is no end with a whole report; nothing where memory is refused.
 fn tell<E: Sink>(alloc: Global, status: &Status, errors: &mut E) -> Result<(), WriteFault>
-    ensures { WritesText (told_line status.now) (sunk (E.written errors.old) (E.faults errors.old))
-        (sunk (E.written errors.new) (E.faults errors.new)) result }
+    ensures { TellsLine (λ e. sunk (E.written e) (E.faults e)) (told_line status.now)
+        errors.old errors.new result }
 {
     let Ok(line) = line_of(alloc, status) else {
         return Err(WriteFault::NoMemory);
