@@ -68,7 +68,7 @@ side_total side [] h = omega arith
 side_total Low (part ∷ parts) h = omega (arith, low_below part.low part.high h.0 part.ordered, side_total Low parts h.1)
 side_total High (part ∷ parts) h = omega (arith, high_is part.low part.high h.0 part.ordered, side_total High parts h.1)
 
-rising : (parts : List Span) → NotNegative parts → Related ◌≤◌ (map (end_of Low) parts) (map (end_of High) parts)
+pub rising : (parts : List Span) → NotNegative parts → Related ◌≤◌ (map (end_of Low) parts) (map (end_of High) parts)
 rising [] h = tt
 rising (part ∷ parts) h = (
   omega (arith, low_below part.low part.high h.0 part.ordered, high_is part.low part.high h.0 part.ordered),

@@ -1,5 +1,5 @@
 -- What is left of an amount, and the amount chosen among several, are amounts.
-use Rattle.std.proofs.Common.{◌≡◌, ℕ, zero, suc, ◌*◌, ◌≤◌, List, [], ◌∷◌, map, fold, ℤ, pos, ◌-ℤ◌, ◌≤ℤ◌, arith}
+use Rattle.std.proofs.Common.{ℕ, zero, suc, ◌*◌, List, [], ◌∷◌, map, fold, pos, ◌≤ℤ◌, arith}
 use Rattle.std.specs.List.{AllByRecursion}
 use Rattle.std.proofs.lemmas.Int.{ints}
 use Rattle.scr_num.specs.Rounding.{Ends, exact_ends, sub_ends, hull_ends, max_ends}

@@ -102,7 +102,7 @@ same_length unit (a ∷ list) (o ∷ outcomes) h = ap suc (same_length unit list
 same_length unit [] (o ∷ outcomes) h = absurd h
 same_length unit (a ∷ list) [] h = absurd h
 
-enclosed_at : (unit : ℕ) (list : List Alternative) (outcomes : List Outcome) → EncloseOutcomes unit list outcomes
+pub enclosed_at : (unit : ℕ) (list : List Alternative) (outcomes : List Outcome) → EncloseOutcomes unit list outcomes
     → (k : ℕ) → k < length list
     → EncloseOutcome unit (alternative_at list k) (outcome_at outcomes k)
 enclosed_at unit [] outcomes h k lt = absurd (omega arith)

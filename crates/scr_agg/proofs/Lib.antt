@@ -12,3 +12,7 @@ pub mod Bits
 pub mod ExactAmounts
 pub mod RootSizes
 pub mod ChosenAmounts
+pub mod Squares
+pub mod FormSpreads
+pub mod RootWidths
+pub mod ChoiceWidths

@@ -1,9 +1,9 @@
 -- A root over the table of a matrix is at most the sum of its parts.
-use Rattle.std.proofs.Common.{◌≡◌, ℕ, ◌+◌, ◌-◌, ◌*◌, ◌<◌, ◌≤◌, List, [], ◌∷◌, ℤ, pos, negsuc, ◌*ℤ◌, ◌<ℤ◌, ◌≤ℤ◌, length}
+use Rattle.std.proofs.Common.{◌≡◌, ℕ, ◌-◌, ◌*◌, ◌<◌, ◌≤◌, List, [], ◌∷◌, ℤ, pos, negsuc, ◌*ℤ◌, ◌<ℤ◌, ◌≤ℤ◌, length}
 use Rattle.std.proofs.Common.{sum_by, refl, sym, ap, subst, ◌∙◌, unsigned_abs, arith}
 use Rattle.std.proofs.lemmas.Int.{ints}
 use Rattle.std.proofs.lemmas.List.Sums.{sum_by-cons}
-use Rattle.scr_num.specs.Rounding.{Ends, or_zero, floor_div, ceil_div, floor_root, ceil_root, quad_ends}
+use Rattle.scr_num.specs.Rounding.{Ends, or_zero, floor_div, ceil_div, quad_ends}
 use Rattle.scr_num.specs.Amounts.{IsAmount, AreAmounts}
 use Rattle.scr_num.specs.declared.span.Span.{Span}
 use Rattle.scr_num.proofs.AmountBounds.{is_amount, amount-wider}
@@ -31,7 +31,7 @@ root_over-size l h den s positive order small =
     is_amount s (root_over (pos l) (pos h) den) (omega (arith, ints)) (omega (arith, ints, between))
     (omega (arith, ints, most))
 
-or_zero-positive : (den : ℤ) → pos 0 <ℤ den → 0 < or_zero den
+pub or_zero-positive : (den : ℤ) → pos 0 <ℤ den → 0 < or_zero den
 or_zero-positive (pos n) h = omega (arith, ints)
 or_zero-positive (negsuc n) h = absurd (omega (arith, ints))
 
@@ -48,28 +48,28 @@ root-size m parts count lows den cells =
     (omega (arith, form_bound High Positive m.den m.n m.cells parts count lows not_negative cells)))
 
 -- ---- of any ends that are in order
-spans_of : (mosts : List ℕ) (es : List Ends) → AreAmounts mosts es → List Span
+unfoldable pub spans_of : (mosts : List ℕ) (es : List Ends) → AreAmounts mosts es → List Span
 spans_of [] [] h = []
 spans_of [] (e ∷ es) h = absurd h
 spans_of (most ∷ mosts) [] h = absurd h
 spans_of (most ∷ mosts) (e ∷ es) h = record { low = e.low; high = e.high; ordered = h.0.ordered } ∷ spans_of mosts es
     h.1
 
-ends_are : (mosts : List ℕ) (es : List Ends) (h : AreAmounts mosts es) → all_ends (spans_of mosts es h) ≡ es
+pub ends_are : (mosts : List ℕ) (es : List Ends) (h : AreAmounts mosts es) → all_ends (spans_of mosts es h) ≡ es
 unfolding spans_of
 ends_are [] [] h = refl
 ends_are [] (e ∷ es) h = absurd h
 ends_are (most ∷ mosts) [] h = absurd h
 ends_are (most ∷ mosts) (e ∷ es) h = ap (λ (rest : List Ends). e ∷ rest) (ends_are mosts es h.1)
 
-lows_are : (mosts : List ℕ) (es : List Ends) (h : AreAmounts mosts es) → NotNegative (spans_of mosts es h)
+pub lows_are : (mosts : List ℕ) (es : List Ends) (h : AreAmounts mosts es) → NotNegative (spans_of mosts es h)
 unfolding spans_of
 lows_are [] [] h = tt
 lows_are [] (e ∷ es) h = absurd h
 lows_are (most ∷ mosts) [] h = absurd h
 lows_are (most ∷ mosts) (e ∷ es) h = (h.0.not_negative, lows_are mosts es h.1)
 
-length-spans_of : (mosts : List ℕ) (es : List Ends) (h : AreAmounts mosts es) → length (spans_of mosts es h) ≡ length es
+pub length-spans_of : (mosts : List ℕ) (es : List Ends) (h : AreAmounts mosts es) → length (spans_of mosts es h) ≡ length es
 unfolding spans_of
 length-spans_of [] [] h = refl
 length-spans_of [] (e ∷ es) h = absurd h

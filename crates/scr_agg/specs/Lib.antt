@@ -3,3 +3,4 @@ pub mod Absorbed
 pub mod Forms
 pub mod Choice
 pub mod Unbeaten
+pub mod Nearness

@@ -2,13 +2,16 @@
 
 ghost use Rattle.std.specs.Prelude.{◌≡◌, ◌↔◌, ℕ, ◌+◌, ◌^◌, ◌<◌, ◌≤◌, pos, ◌≤ℤ◌, false, length};
 ghost use Rattle.std.specs.Prelude.{IsBitSet, IsTrue, IfSome, IfNone, List};
+ghost use Rattle.std.specs.List.{AllByRecursion};
 ghost use Rattle.scr_num.specs.Figure.{Frac};
 ghost use Rattle.scr_num.specs.Enclosure.{Encloses};
+ghost use Rattle.scr_num.specs.Narrow.{IsNarrow};
 ghost use Rattle.scr_num.specs.Rounding.{ends, hull_ends};
 ghost use Rattle.scr_agg.specs.Choice.{Outcome, IsChosen, outcome_at};
 ghost use Rattle.scr_agg.specs.Unbeaten as spec;
 ghost use Rattle.scr_agg.specs.Unbeaten.{alternative, alternatives, unbeaten, mask_of};
 ghost use Rattle.scr_agg.specs.Unbeaten.{chosen_gross, chosen_net, EncloseOutcomes};
+ghost use Rattle.scr_agg.specs.Nearness.{HasOpen};
 
 use crate::{Picked, Scenario};
 use scr_num::{Span, hull, max};
@@ -16,7 +19,8 @@ use scr_num::{Span, hull, max};
 /// The scenario that decides: the one with the greatest net requirement, then the greatest gross
 /// one, then the first listed (Delegated Regulation (EU) 2015/35, Article 206(2)). Where the ends
 /// leave it open which one it is, the gross requirement spans those of all that may decide, and the
-/// net one is the greatest, end by end.
+/// net one is the greatest, end by end. It is left open only between scenarios whose requirements are
+/// at most twice as far apart as their own ends.
 pub fn pick(list: &[Scenario]) -> Picked
     requires some { 1 ≤ length list.now }
     requires few { length list.now ≤ 8 }
@@ -33,6 +37,11 @@ pub fn pick(list: &[Scenario]) -> Picked
         → IsBitSet result.mask place
         × Encloses unit result.gross.low result.gross.high (Frac (outcome_at outcomes place).gross)
         × Encloses unit result.net.low result.net.high (Frac (outcome_at outcomes place).net) }
+    ensures gap { (unit w : ℕ) (outcomes : List Outcome)
+        → EncloseOutcomes unit (alternatives list.now) outcomes
+        → AllByRecursion (λ a. IsNarrow w a.gross) (alternatives list.now)
+        → AllByRecursion (λ a. IsNarrow w a.net) (alternatives list.now) → IsTrue result.close
+        → HasOpen unit (w + w) (alternatives list.now) outcomes }
 {
     Picked {
         gross: gross_of(list),

@@ -1,7 +1,8 @@
 //! Laws of exact amounts, net amounts, roots and the choice among scenarios, whatever a program
 //! does. Each is a function that does nothing, whose contract is the law.
 
-ghost use Rattle.std.specs.Prelude.{◌≡◌, ◌↔◌, ℕ, ℤ, pos, ◌<◌, ◌≤◌, ◌<ℤ◌, ◌≤ℤ◌, false, length};
+ghost use Rattle.std.specs.Prelude.{◌≡◌, ◌↔◌, ℕ, ℤ, ◌+◌, ◌*◌, pos, ◌<◌, ◌≤◌, ◌<ℤ◌, ◌≤ℤ◌};
+ghost use Rattle.std.specs.Prelude.{false, length};
 ghost use Rattle.std.specs.Prelude.{sum_by, List, IsBitSet};
 ghost use Rattle.std.specs.List.{AllByRecursion};
 ghost use Rattle.scr_num.specs.Fraction.{Fraction, zero_fraction, plus, minus, greater};
@@ -9,14 +10,18 @@ ghost use Rattle.scr_num.specs.Figure.{Figure, Frac, Sum, Diff, Max};
 ghost use Rattle.scr_num.specs.Enclosure.{Encloses};
 ghost use Rattle.scr_num.specs.Rounding.{Ends, exact_ends, max_ends, quad_ends};
 ghost use Rattle.scr_num.specs.Amounts.{IsAmount, AreAmounts};
+ghost use Rattle.scr_num.specs.Narrow.{IsNarrow, AreNarrow};
 ghost use Rattle.scr_num.specs.Table.{IsSquare};
+ghost use Rattle.scr_profile.specs.declared.correlations.TheConstants.{LIFE, SLT};
 ghost use Rattle.scr_profile.specs.declared.matrix.Matrix.{Matrix};
+ghost use Rattle.scr_profile.specs.Matrix.{entry, IsCorrelation};
 ghost use Rattle.scr_agg.specs.Correlated.{table_of, CellsWithin};
 ghost use Rattle.scr_agg.specs.Absorbed.{net_figure, net_ends, net_exact};
 ghost use Rattle.scr_agg.specs.Choice.{Outcome, IsChosen, chosen, outcome_at};
 ghost use Rattle.scr_agg.specs.Unbeaten.{Alternative, EncloseOutcomes, HasSeveral, Holds, unbeaten};
 ghost use Rattle.scr_agg.specs.Unbeaten.{alternative_at, is_beaten, mask_of, chosen_gross};
 ghost use Rattle.scr_agg.specs.Unbeaten.{chosen_net};
+ghost use Rattle.scr_agg.specs.Nearness.{HasOpen};
 
 /// The net ends of ends that enclose a gross figure enclose its net figure, and those of an amount
 /// are an amount.
@@ -42,6 +47,25 @@ pub fn roots()
         → length parts ≡ m.n → AreAmounts mosts parts
         → IsAmount (sum_by (λ most. most) mosts) (quad_ends parts (table_of m)) }
     ensures square { (m : Matrix) → IsSquare m.n (table_of m) }
+{}
+
+/// How far apart the ends of a root over correlated parts can be, whatever the amounts are: at most
+/// one more than `k` times the widths of its parts together, where no correlation is below 0 and
+/// there are at most `k * k` parts, and one more than seven times them for the roots of life
+/// (Delegated Regulation (EU) 2015/35, Article 136) and of SLT health (Article 151), where the
+/// correlation of mortality and longevity is below 0.
+pub fn roots_spread()
+    ensures table { (m : Matrix) (k : ℕ) (mosts widths : List ℕ) (parts : List Ends)
+        → IsCorrelation m
+        → ((i j : ℕ) → i < m.n → j < m.n → pos 0 ≤ℤ entry m i j) → 0 < k → m.n ≤ k * k
+        → length parts ≡ m.n → AreAmounts mosts parts → AreNarrow widths parts
+        → IsNarrow (k * sum_by (λ w. w) widths + 1) (quad_ends parts (table_of m)) }
+    ensures life { (mosts widths : List ℕ) (parts : List Ends) → length parts ≡ 7
+        → AreAmounts mosts parts → AreNarrow widths parts
+        → IsNarrow (7 * sum_by (λ w. w) widths + 1) (quad_ends parts (table_of LIFE)) }
+    ensures slt { (mosts widths : List ℕ) (parts : List Ends) → length parts ≡ 6
+        → AreAmounts mosts parts → AreNarrow widths parts
+        → IsNarrow (7 * sum_by (λ w. w) widths + 1) (quad_ends parts (table_of SLT)) }
 {}
 
 /// Ends that enclose a sum, a difference or the greater of two fractions, or what an absorption
@@ -109,4 +133,20 @@ pub fn choice_stays_within()
     ensures net_size { (most : ℕ) (list : List Alternative)
         → AllByRecursion (λ a. IsAmount most a.net) list
         → IsAmount most (chosen_net list) }
+{}
+
+/// How far apart the ends of what is chosen can be, where those of each scenario are at most `w`
+/// apart: no further, but for the gross requirement where several scenarios may decide. Then two
+/// of these have exact net requirements at most twice `w` apart, and gross ones too where the net
+/// ones are known and equal: a choice stays open only between scenarios that cost nearly the same.
+pub fn choices_spread()
+    ensures net { (w : ℕ) (list : List Alternative) → AllByRecursion (λ a. IsNarrow w a.net) list
+        → IsNarrow w (chosen_net list) }
+    ensures gross { (w : ℕ) (list : List Alternative)
+        → AllByRecursion (λ a. IsNarrow w a.gross) list
+        → (HasSeveral (mask_of list) → ⊥) → IsNarrow w (chosen_gross list) }
+    ensures gap { (unit w : ℕ) (list : List Alternative) (outcomes : List Outcome)
+        → EncloseOutcomes unit list outcomes → AllByRecursion (λ a. IsNarrow w a.gross) list
+        → AllByRecursion (λ a. IsNarrow w a.net) list → 2 ≤ length (unbeaten list)
+        → HasOpen unit (w + w) list outcomes }
 {}

@@ -4,3 +4,4 @@ pub mod PowerLemmas
 pub mod TableLemmas
 pub mod SameRates
 pub mod RateLemmas
+pub mod DiscountWidths

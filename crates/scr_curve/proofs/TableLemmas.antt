@@ -36,7 +36,7 @@ table_by_place first (s ∷ spans) (n ∷ curve) e h =
     (λ k d d' within. h (suc k) d d' (omega (arith, within)) ∙ ap (λ (y : ℕ). discount_ends (get_or curve k d') y) (omega arith)))
 
 -- ---- what holds of each discount holds along a table
-at_place : (P : ℕ → Ends → Type 0) (curve : List ℤ) → ((k : ℕ) → k < length curve → P k (discount_ends (get_or curve k (pos 0)) (k + 1)))
+pub at_place : (P : ℕ → Ends → Type 0) (curve : List ℤ) → ((k : ℕ) → k < length curve → P k (discount_ends (get_or curve k (pos 0)) (k + 1)))
     → (k : ℕ) (d : Ends) → k < length (table_ends curve) → P k (get_or (table_ends curve) k d)
 at_place P curve h k d within =
     let inside : k < length curve = omega (arith, within, length-ends_from 1 curve) in

@@ -26,6 +26,10 @@ ends_from years (rate ∷ curve) = discount_ends rate years ∷ ends_from (years
 abbrev pub table_ends : List ℤ → List Ends
 table_ends curve = ends_from 1 curve
 
+-- the most that the ends of a discount are apart: each of 100 years rounds twice, and at -1 % a year widens the gap
+abbrev pub discount_width : ℕ
+discount_width = 548
+
 -- from 0 to the most that one is worth
 pub record IsDiscount (ends : Ends) : Type 0 where
   pub low : pos 0 ≤ℤ ends.low

@@ -4,7 +4,8 @@ ghost use Rattle.std.specs.Prelude.{◌≡◌, ℕ, ◌≤◌, ℤ, All, List, l
 ghost use Rattle.scr_num.specs.Fraction.{Fraction};
 ghost use Rattle.scr_curve.specs.Rate.{rate};
 ghost use Rattle.scr_curve.specs.Parts.{IsRateInParts, IsCurveInMillionths, AreRates, rates_in_parts};
-ghost use Rattle.scr_curve.specs.DiscountEnds.{discount_ends, table_ends, IsDiscount, EncloseDiscounts};
+ghost use Rattle.scr_curve.specs.DiscountEnds.{discount_ends, table_ends, IsDiscount, EncloseDiscounts, discount_width};
+ghost use Rattle.scr_num.specs.Narrow.{IsNarrow};
 ghost use Rattle.scr_curve.specs.declared.tilt.Tilt.{Tilt};
 
 use crate::Discounts;
@@ -23,6 +24,13 @@ pub fn discounts_of_rates()
     ensures table { (curve : List ℤ) → All IsRateInParts curve → length curve ≤ 100 → All IsDiscount (table_ends curve) }
     ensures encloses { (curve : List ℤ) (rate : ℕ → Fraction) → All IsRateInParts curve → AreRates curve rate
         → EncloseDiscounts rate (table_ends curve) }
+{}
+
+/// How far apart the ends of a discount can be, whatever the rate and the maturity: 548 of 10^-18 at most. So a discount
+/// is known to fifteen places.
+pub fn discounts_spread()
+    ensures each { (rate : ℤ) (years : ℕ) → IsRateInParts rate → years ≤ 100 → IsNarrow discount_width (discount_ends rate years) }
+    ensures table { (curve : List ℤ) → All IsRateInParts curve → length curve ≤ 100 → All (IsNarrow discount_width) (table_ends curve) }
 {}
 
 /// Compiles only where threads may share a `T` and hand it on.

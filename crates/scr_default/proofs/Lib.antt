@@ -5,3 +5,4 @@ pub mod Enclosed
 pub mod Band
 pub mod Roots
 pub mod Alike
+pub mod Widths

@@ -8,3 +8,4 @@ pub mod Type1
 pub mod Type1Ends
 pub mod Default
 pub mod DefaultEnds
+pub mod Bands

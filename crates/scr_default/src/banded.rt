@@ -4,7 +4,10 @@ ghost use Rattle.std.specs.Prelude.{◌≡◌, ◌*◌, ◌+◌, ◌^◌, ◌<�
 ghost use Rattle.scr_num.specs.Fraction.{Fraction};
 ghost use Rattle.scr_num.specs.Figure.{Frac};
 ghost use Rattle.scr_num.specs.Enclosure.{Encloses};
-ghost use Rattle.scr_num.specs.Rounding.{ends, exact_ends, hull_ends, scale_ends};
+ghost use Rattle.scr_num.specs.Narrow.{IsNarrow};
+ghost use Rattle.scr_num.specs.Rounding.{ends, exact_ends, hull_ends, root_ends, scale_ends};
+ghost use Rattle.scr_agg.specs.Unbeaten.{HasSeveral};
+ghost use Rattle.scr_default.specs.Bands.{IsNearBand};
 ghost use Rattle.scr_default.specs.Losses.{grains};
 ghost use Rattle.scr_default.specs.Type1.{band_of, type1_figure};
 ghost use Rattle.scr_default.specs.Type1Ends as worked;
@@ -33,7 +36,9 @@ struct Bands {
 }
 
 /// The capital requirement for type 1 exposures: Delegated Regulation (EU) 2015/35, Article 200. Where the ends of the
-/// variance leave it open which band the standard deviation lies in, the charge spans those of all that are possible.
+/// variance leave it open which band the standard deviation lies in, the charge spans those of all that are possible. Of a
+/// variance that is known to 42 square grains that is so only where 7 or 20 percent of the total lie between two ends of
+/// the standard deviation at most 7 grains apart; elsewhere the charge is known to 35 grains.
 ///
 /// `total` is the loss given default of all type 1 exposures in grains, and `variance` in square grains.
 pub fn type1(total: u64, variance: Span) -> Banded
@@ -50,6 +55,9 @@ pub fn type1(total: u64, variance: Span) -> Banded
     ensures one_at_least { 1 ≤ result.mask }
     ensures no_other_bits { result.mask < 8 }
     ensures size { IsAmount (16 * 10 ^ 16) (ends result.charge) }
+    ensures narrow { IsNarrow 42 (ends variance) → (HasSeveral result.mask → ⊥) → IsNarrow 35 (ends result.charge) }
+    ensures gap { IsNarrow 42 (ends variance) → HasSeveral result.mask
+        → IsNearBand (root_ends (ends variance)) total × IsNarrow 7 (root_ends (ends variance)) }
 {
     let deviation = root_of(variance);
     let bands = possible_bands(deviation, total);

@@ -20,6 +20,8 @@ ghost use Rattle.scr_profile.specs.declared.correlations.TheConstants.{DEFAULT};
 ghost use Rattle.scr_default.specs.Default.{type2_figure, default_correlations, default_figure};
 ghost use Rattle.scr_default.specs.DefaultEnds.{type2_ends, default_ends};
 ghost use Rattle.scr_num.specs.Amounts.{IsAmount};
+ghost use Rattle.scr_num.specs.Narrow.{IsNarrow};
+ghost use Rattle.scr_default.specs.Bands.{IsNearBand};
 ghost use Rattle.scr_default.specs.declared.TheConstants.{MAX_LOSS};
 
 /// The table that the root over type 1 and type 2 exposures is taken over is that of Delegated Regulation (EU) 2015/35,
@@ -99,4 +101,16 @@ pub fn default_enclosure()
         Encloses unit worked.low worked.high (default_figure type1 type2) }
     ensures size { (m n : ℕ) (s1 s2 : Ends) → IsAmount m s1 → IsAmount n s2
         → IsAmount (m + n) (default_ends s1 s2) }
+{}
+
+/// How far apart the ends of the variance and of the charge for type 1 exposures can be, whatever the losses are: 42
+/// square grains, and 35 grains where one band alone is possible. Several are possible only where 7 or 20 percent of the
+/// total lie between two ends of the standard deviation at most 7 grains apart.
+pub fn type1_spreads()
+    ensures variance { (totals squares : List ℕ) → IsNarrow 42 (variance_ends totals squares) }
+    ensures charge { (total : ℕ) (variance : Ends) → pos 0 ≤ℤ variance.low → IsNarrow 42 variance
+        → (HasSeveral (type1_mask total variance) → ⊥) → IsNarrow 35 (type1_ends total variance) }
+    ensures gap { (total : ℕ) (variance : Ends) → pos 0 ≤ℤ variance.low → IsNarrow 42 variance
+        → HasSeveral (type1_mask total variance)
+        → IsNearBand (root_ends variance) total × IsNarrow 7 (root_ends variance) }
 {}

@@ -5,3 +5,4 @@ pub mod Millions
 pub mod OneValue
 pub mod SizeLemmas
 pub mod LossesEnclosed
+pub mod WidthLemmas

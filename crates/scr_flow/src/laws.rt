@@ -1,6 +1,6 @@
 //! Laws of payments, whatever a program does. Each is a function that does nothing, whose contract is the law.
 
-ghost use Rattle.std.specs.Prelude.{◌≡◌, ℕ, ◌*◌, ◌≤◌, ℤ, All, List, length, sum_by, unsigned_abs};
+ghost use Rattle.std.specs.Prelude.{◌≡◌, ℕ, ◌+◌, ◌*◌, ◌≤◌, ℤ, All, List, length, sum_by, unsigned_abs};
 ghost use Rattle.scr_num.specs.Fraction.{Fraction};
 ghost use Rattle.scr_num.specs.Figure.{Frac};
 ghost use Rattle.scr_num.specs.Rounding.{Ends};
@@ -15,6 +15,7 @@ ghost use Rattle.scr_flow.specs.Loss.{loss_exact};
 ghost use Rattle.scr_flow.specs.LossEnds.{present_ends, loss_ends, scaled_ends};
 ghost use Rattle.scr_flow.specs.Payments.{payments_exact, payments_loss_exact};
 ghost use Rattle.scr_num.specs.Sizes.{IsWithin};
+ghost use Rattle.scr_num.specs.Narrow.{IsNarrow};
 
 /// What falls due in each of 100 years is at most what is paid. Payments that are summed by maturity are worth what they
 /// are worth one by one, each at its own maturity.
@@ -33,6 +34,18 @@ pub fn sizes()
         → IsWithin (MAX_DISCOUNT * sum_by unsigned_abs flows) (loss_ends flows base from stressed to) }
     ensures scaled { (unit : Ends) (cents : ℕ) → IsWithin 13_700_000_000_000_000_000_000_000 unit
         → IsWithin (13_700_000_000_000_000_000 * cents) (scaled_ends unit cents) }
+{}
+
+/// How far apart the ends of a present value and of a loss can be, where those of each discount are at most `w` apart: the
+/// absolute payments times that width, and twice that width where the rates change. A loss of so many cents, taken from
+/// that of a million, has its share of the width and one more.
+pub fn sums_spread()
+    ensures present { (w : ℕ) (flows : List ℤ) (table : List Ends) → All (IsNarrow w) table
+        → IsNarrow (w * sum_by unsigned_abs flows) (present_ends flows table) }
+    ensures loss { (w : ℕ) (flows base stressed : List ℤ) (from to : List Ends) → All (IsNarrow w) from → All (IsNarrow w) to
+        → IsNarrow ((w + w) * sum_by unsigned_abs flows) (loss_ends flows base from stressed to) }
+    ensures scaled { (w k : ℕ) (unit : Ends) (cents : ℕ) → w * cents ≤ k * 1_000_000 → IsNarrow w unit
+        → IsNarrow (k + 1) (scaled_ends unit cents) }
 {}
 
 /// Where the discounts of two curves are enclosed, so is what payments lose from the one to the other: summed by

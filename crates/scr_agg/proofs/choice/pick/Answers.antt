@@ -1,10 +1,11 @@
-use Rattle.std.proofs.Common.{◌^◌, length, ap, arith}
+use Rattle.std.proofs.Common.{◌^◌, ◌≤◌, length, ap, arith}
 use Rattle.scr_num.specs.Rounding.{Ends}
 use Rattle.scr_num.proofs.Enclosing.{Encloses-same}
-use Rattle.scr_agg.specs.Unbeaten.{alternatives}
+use Rattle.scr_agg.specs.Unbeaten.{alternatives, unbeaten}
 use Rattle.scr_agg.proofs.Alternatives.{length-alternatives, mask_below-lt}
 use Rattle.scr_agg.proofs.Bits.{mask_bits, mask_positive}
 use Rattle.scr_agg.proofs.Enclosed.{one_unbeaten, chosen_unbeaten, gross_encloses, net_encloses, same_length}
+use Rattle.scr_agg.proofs.ChoiceWidths.{open_choice}
 use Rattle.scr_agg.proofs.choice.pick.Goals as goal
 
 pub returns-clause-bits : goal.returns-clause-bits
@@ -33,3 +34,10 @@ returns-clause-chosen c =
       (Encloses-same unit _ _ _ _ _ (ap (λ (x : Ends). x.low) c.net_of.ensures)
           (ap (λ (x : Ends). x.high) c.net_of.ensures) (net_encloses unit list outcomes place h chosen)),
     )
+
+pub returns-clause-gap : goal.returns-clause-gap
+returns-clause-gap c =
+    λ unit w outcomes h grosses nets close.
+    let several : 2 ≤ length (unbeaten (alternatives c.args.list.now)) =
+    grind (arith, close, c.unbeaten_count.ensures) in
+    open_choice unit w (alternatives c.args.list.now) outcomes h grosses nets several

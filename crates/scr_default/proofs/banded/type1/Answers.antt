@@ -1,9 +1,11 @@
-use Rattle.std.proofs.Common.{◌^◌, ◌∙◌, ap}
+use Rattle.std.proofs.Common.{◌^◌, ◌∙◌, ap, sym, subst}
 use Rattle.scr_num.specs.Rounding.{Ends, ends, root_ends}
 use Rattle.scr_num.proofs.AmountBounds.{is_amount}
 use Rattle.scr_num.proofs.Enclosing.{Encloses-same}
 use Rattle.scr_default.specs.Type1Ends.{is_possible, charge_ends}
 use Rattle.scr_default.proofs.Band.{hull-is, mask-is, mask-positive, third_possible, rises, type1-encloses, type1-bit, type1-size}
+use Rattle.scr_agg.specs.Unbeaten.{HasSeveral}
+use Rattle.scr_default.proofs.Widths.{narrow-type1, type1-near}
 use Rattle.scr_default.proofs.banded.type1.Goals as goal
 
 pub returns-clause-charge : goal.returns-clause-charge
@@ -52,3 +54,14 @@ returns-clause-size c =
     rw (returns-clause-charge c)
     (type1-size c.args.total (ends c.args.variance) c.requires.total
     (is_amount (10 ^ 33) (ends c.args.variance) c.requires.low c.args.variance.ordered c.requires.high))
+
+pub returns-clause-narrow : goal.returns-clause-narrow
+returns-clause-narrow c =
+    λ h one. rw (returns-clause-charge c)
+    (narrow-type1 c.args.total (ends c.args.variance) c.requires.low h
+    (λ more. one (subst HasSeveral (sym (returns-clause-mask c)) more)))
+
+pub returns-clause-gap : goal.returns-clause-gap
+returns-clause-gap c =
+    λ h more. type1-near c.args.total (ends c.args.variance) c.requires.low h
+    (subst HasSeveral (returns-clause-mask c) more)
