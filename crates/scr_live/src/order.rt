@@ -68,7 +68,7 @@ fn place_next(
         → Contains sheet.now.funds stake → is_placed placed.new stake.fund.name ≡ true) }
 {
     let waiting = waiting(alloc, sheet, placed)?;
-    place_ready(sheet, &waiting, placed)
+    place_ready(alloc, sheet, &waiting, placed)
 }
 
 /// What a fund holds that is not yet placed.
@@ -83,12 +83,13 @@ fn waiting(
     let mut waiting = Rows::new(alloc);
     for k in 0..sheet.funds.len() {
         let stake = sheet.funds.at(k);
-        add_unplaced(&mut waiting, placed, stake)?;
+        add_unplaced(alloc, &mut waiting, placed, stake)?;
     }
     Ok(waiting)
 }
 
 fn add_unplaced(
+    alloc: Global,
     waiting: &mut Rows<Placed>,
     placed: &Rows<Placed>,
     stake: &Stake,
@@ -99,21 +100,22 @@ fn add_unplaced(
     if placed.contains(&stake.fund.name) {
         return Ok(());
     }
-    add_components(waiting, stake)
+    add_components(alloc, waiting, stake)
 }
 
-fn add_components(waiting: &mut Rows<Placed>, stake: &Stake) -> Result<(), NoMemory>
+fn add_components(alloc: Global, waiting: &mut Rows<Placed>, stake: &Stake) -> Result<(), NoMemory>
     ensures { OnOk result ((x : List ℕ) → is_placed waiting.new x ≡
         (is_placed waiting.old x || holds x stake.now)) }
 {
     for component in stake.fund.components.as_slice() {
-        waiting.put(Placed { name: component.0 })?;
+        waiting.put(alloc, Placed { name: component.0 })?;
     }
     Ok(())
 }
 
 /// Places the funds that do not wait, and tells whether others are left.
 fn place_ready(
+    alloc: Global,
     sheet: &BalanceSheet,
     waiting: &Rows<Placed>,
     placed: &mut Rows<Placed>,
@@ -136,7 +138,7 @@ fn place_ready(
         if waiting.contains(&name) {
             more = true;
         } else {
-            placed.put(Placed { name })?;
+            placed.put(alloc, Placed { name })?;
         }
     }
     Ok(more)
