@@ -19,8 +19,8 @@ pub(crate) fn graph_of(alloc: Global, sheet: &BalanceSheet) -> Result<FundGraph,
     ensures { IfOk result (IsGraphOf sheet.now) }
 {
     let mut graph = FundGraph::new(alloc)?;
-    enter(&mut graph, &sheet.securities)?;
-    enter(&mut graph, &sheet.funds)?;
+    enter(&mut graph, alloc, &sheet.securities)?;
+    enter(&mut graph, alloc, &sheet.funds)?;
     put(&mut graph, alloc, &sheet.funds)?;
     Ok(graph)
 }
@@ -44,7 +44,7 @@ pub(crate) fn refresh(
 }
 
 // Enters the name of each row.
-fn enter<R: Row>(graph: &mut FundGraph, rows: &Rows<R>) -> Result<(), NoMemory>
+fn enter<R: Row>(graph: &mut FundGraph, alloc: Global, rows: &Rows<R>) -> Result<(), NoMemory>
     ensures rows { OnOk result (
         AllByRecursion (λ row. IsTrue (entered_in graph.new (R.name_of row))) rows.now) }
     ensures others { OnOk result (
@@ -52,7 +52,7 @@ fn enter<R: Row>(graph: &mut FundGraph, rows: &Rows<R>) -> Result<(), NoMemory>
     ensures components { OnOk result (components_under graph.new ≡ components_under graph.old) }
 {
     for row in rows.iter() {
-        graph.enter(row.name())?;
+        graph.enter(alloc, row.name())?;
     }
     Ok(())
 }

@@ -5,11 +5,11 @@ mod book;
 mod checks;
 mod days;
 mod due;
+pub mod laws;
 mod ledger;
 mod parts;
 mod puts;
 mod ranges;
-mod sharing;
 mod sums;
 mod undo;
 mod users;
@@ -25,5 +25,4 @@ pub use scr_sheet::{
     Numbers, OpInput, Position, Projection, Quantity, Rates, Regions, Rein, Security, Stake, Table,
     User,
 };
-pub use sharing::threads_share_books;
 pub use undo::Undo;

@@ -31,7 +31,7 @@ impl Ledger {
     {
         match edit {
             Edit::Curve { currency, rates } => self.put_curve(alloc, currency, rates),
-            Edit::Group { name, kind, step } => self.put_group(name, *kind, *step),
+            Edit::Group { name, kind, step } => self.put_group(alloc, name, *kind, *step),
             Edit::Security {
                 name,
                 class,
@@ -57,8 +57,8 @@ impl Ledger {
                 recoverables,
                 mitigation,
                 collateral,
-            } => self.put_rein(name, group, *recoverables, *mitigation, *collateral),
-            Edit::Bank { name, group, cents } => self.put_bank(name, group, *cents),
+            } => self.put_rein(alloc, name, group, *recoverables, *mitigation, *collateral),
+            Edit::Bank { name, group, cents } => self.put_bank(alloc, name, group, *cents),
             _ => {
                 self.put_in_place(edit);
                 Ok(())
@@ -104,26 +104,38 @@ impl Ledger {
     {
         let rates = rates.copy(alloc)?;
         let (absorb_up, absorb_down) = self.absorptions(currency);
-        self.sheet.curves.put(Curve {
-            currency: *currency,
-            rates,
-            absorb_up,
-            absorb_down,
-        })?;
+        self.sheet.curves.put(
+            alloc,
+            Curve {
+                currency: *currency,
+                rates,
+                absorb_up,
+                absorb_down,
+            },
+        )?;
         Ok(())
     }
 
-    fn put_group(&mut self, name: &Name, kind: GroupKind, step: Option<u8>) -> Result<(), NoMemory>
+    fn put_group(
+        &mut self,
+        alloc: Global,
+        name: &Name,
+        kind: GroupKind,
+        step: Option<u8>,
+    ) -> Result<(), NoMemory>
         requires formed { Formed (Edit.Group name.now kind step) }
         requires no_fault { fault_of (Edit.Group name.now kind step) self.old ≡ None }
         ensures ok { OnOk result (self.new ≡ applied (Edit.Group name.now kind step) self.old) }
         ensures err { OnErr result (self.new ≡ self.old) }
     {
-        self.sheet.groups.put(Group {
-            name: *name,
-            kind,
-            step,
-        })?;
+        self.sheet.groups.put(
+            alloc,
+            Group {
+                name: *name,
+                kind,
+                step,
+            },
+        )?;
         Ok(())
     }
 
@@ -153,7 +165,7 @@ impl Ledger {
             });
             return Ok(());
         }
-        self.graph.enter(*name)?;
+        self.graph.enter(alloc, *name)?;
         let security = Security {
             name: *name,
             class,
@@ -162,7 +174,9 @@ impl Ledger {
             duration,
             flows: Flows::new(Vec::new(alloc)),
         };
-        self.sheet.securities.put(Position { security, held: 0 })?;
+        self.sheet
+            .securities
+            .put(alloc, Position { security, held: 0 })?;
         Ok(())
     }
 
@@ -198,13 +212,13 @@ impl Ledger {
         let old = self.component_count(name);
         let held = self.sheet.fund_hold(name);
         refresh(&mut self.graph, self.is_graph_due, alloc, &self.sheet)?;
-        self.graph.enter(*name)?;
+        self.graph.enter(alloc, *name)?;
         self.graph.put(alloc, name, components.as_slice())?;
         let fund = Fund {
             name: *name,
             components,
         };
-        let Ok(()) = self.sheet.funds.put(Stake { fund, held }) else {
+        let Ok(()) = self.sheet.funds.put(alloc, Stake { fund, held }) else {
             self.graph.clear(name);
             return Err(NoMemory);
         };
@@ -247,12 +261,15 @@ impl Ledger {
             });
             return Ok(());
         }
-        self.sheet.liabilities.put(Liability {
-            name: *name,
-            kind,
-            currency,
-            flows: LiabilityFlows::none(alloc),
-        })?;
+        self.sheet.liabilities.put(
+            alloc,
+            Liability {
+                name: *name,
+                kind,
+                currency,
+                flows: LiabilityFlows::none(alloc),
+            },
+        )?;
         Ok(())
     }
 
@@ -313,6 +330,7 @@ impl Ledger {
 
     fn put_rein(
         &mut self,
+        alloc: Global,
         name: &Name,
         group: &Name,
         recoverables: i64,
@@ -328,18 +346,27 @@ impl Ledger {
         let recoverables = natural(recoverables);
         let mitigation = natural(mitigation);
         let old = self.rein_total(name);
-        self.sheet.reinsurers.put(Rein {
-            name: *name,
-            group: *group,
-            recoverables,
-            mitigation,
-            collateral: natural(collateral),
-        })?;
+        self.sheet.reinsurers.put(
+            alloc,
+            Rein {
+                name: *name,
+                group: *group,
+                recoverables,
+                mitigation,
+                collateral: natural(collateral),
+            },
+        )?;
         self.sums.defaults = self.sums.defaults - old + recoverables + mitigation;
         Ok(())
     }
 
-    fn put_bank(&mut self, name: &Name, group: &Name, cents: i64) -> Result<(), NoMemory>
+    fn put_bank(
+        &mut self,
+        alloc: Global,
+        name: &Name,
+        group: &Name,
+        cents: i64,
+    ) -> Result<(), NoMemory>
         requires formed { Formed (Edit.Bank name.now group.now cents) }
         requires no_fault { fault_of (Edit.Bank name.now group.now cents) self.old ≡ None }
         ensures ok { OnOk result (self.new ≡ applied (Edit.Bank name.now group.now cents) self.old) }
@@ -347,11 +374,14 @@ impl Ledger {
     {
         let cents = natural(cents);
         let old = self.bank_total(name);
-        self.sheet.banks.put(Bank {
-            name: *name,
-            group: *group,
-            cents,
-        })?;
+        self.sheet.banks.put(
+            alloc,
+            Bank {
+                name: *name,
+                group: *group,
+                cents,
+            },
+        )?;
         self.sums.defaults = self.sums.defaults - old + cents;
         Ok(())
     }

@@ -147,8 +147,8 @@ impl Users {
         ensures { AreUsersOf (applied edit.now sheet.now) self.new }
     {
         self.renew(alloc, sheet, edit);
-        self.take(used_before(sheet, edit));
-        self.add(used_after(edit));
+        self.take(alloc, used_before(sheet, edit));
+        self.add(alloc, used_after(edit));
     }
 
     // A record that drops a row had all rows looked at where they are not counted: they are from now on.
@@ -172,41 +172,41 @@ impl Users {
             names: NameTally::new(alloc),
             currencies: NameTally::new(alloc),
         };
-        users.add_all(&sheet.securities);
-        users.add_all(&sheet.funds);
-        users.add_all(&sheet.liabilities);
-        users.add_all(&sheet.banks);
-        users.add_all(&sheet.reinsurers);
+        users.add_all(alloc, &sheet.securities);
+        users.add_all(alloc, &sheet.funds);
+        users.add_all(alloc, &sheet.liabilities);
+        users.add_all(alloc, &sheet.banks);
+        users.add_all(alloc, &sheet.reinsurers);
         users
     }
 
     // Counts what each row uses.
-    fn add_all<R: Using>(&mut self, rows: &Rows<R>)
+    fn add_all<R: Using>(&mut self, alloc: Global, rows: &Rows<R>)
         ensures { HaveCounted R.uses_of [] rows.now self.old self.new }
     {
         for row in rows.iter() {
-            self.add(row.uses());
+            self.add(alloc, row.uses());
         }
     }
 
     // Counts what a row uses.
-    fn add(&mut self, uses: Uses<'_>)
+    fn add(&mut self, alloc: Global, uses: Uses<'_>)
         ensures names { Moves nothing (λ name. of_name name uses.entry) self.old.names self.new.names }
         ensures currencies { Moves nothing (λ name. of_currency name uses.entry) self.old.currencies self.new.currencies }
     {
-        self.names.add_each(uses.components);
-        self.names.add(uses.group);
-        self.currencies.add(uses.currency);
+        self.names.add_each(alloc, uses.components);
+        self.names.add(alloc, uses.group);
+        self.currencies.add(alloc, uses.currency);
     }
 
     // Takes away what a row uses.
-    fn take(&mut self, uses: Uses<'_>)
+    fn take(&mut self, alloc: Global, uses: Uses<'_>)
         ensures names { Moves (λ name. of_name name uses.entry) nothing self.old.names self.new.names }
         ensures currencies { Moves (λ name. of_currency name uses.entry) nothing self.old.currencies self.new.currencies }
     {
-        self.names.take_each(uses.components);
-        self.names.take(uses.group);
-        self.currencies.take(uses.currency);
+        self.names.take_each(alloc, uses.components);
+        self.names.take(alloc, uses.group);
+        self.currencies.take(alloc, uses.currency);
     }
 }
 

@@ -333,7 +333,7 @@ impl Writer {
             Field::Word(word) => self.text.extend_from_slice(word),
             Field::Name(name) => self.text.extend_from_slice(name.as_bytes()),
             Field::Number(number) => push_number(self.alloc, *number, &mut self.text),
-            Field::Day(day) => push_day(*day, &mut self.text),
+            Field::Day(day) => push_day(self.alloc, *day, &mut self.text),
             Field::Key(key) => push_absorb_key(self.alloc, &mut self.text, *key),
         }
     }

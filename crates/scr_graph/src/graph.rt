@@ -68,7 +68,7 @@ impl FundGraph {
 
     /// Enters a name, for good, and what holds what stays. Memory is taken for a new name alone.
     /// Where 2^32 - 1 names were entered, a new one is refused as if for want of memory.
-    pub fn enter(&mut self, name: Name) -> Result<(), NoMemory>
+    pub fn enter(&mut self, alloc: Global, name: Name) -> Result<(), NoMemory>
         ensures entered { OnOk result
             ((x : List ℕ) → entered_in self.new x ≡ (same_name x name || entered_in self.old x)) }
         ensures components { components_under self.new ≡ components_under self.old }
@@ -81,7 +81,7 @@ impl FundGraph {
         if self.nodes.len() >= MAX_NAMES {
             return Err(NoMemory);
         }
-        self.nodes.put(Node { name })?;
+        self.nodes.put(alloc, Node { name })?;
         Ok(())
     }
 

@@ -1,6 +1,5 @@
 pub mod NameBytes
 pub mod TableRows
-pub mod TableSums
 pub mod Entries
 pub mod Moves
 pub mod PastRows

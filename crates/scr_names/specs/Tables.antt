@@ -30,7 +30,3 @@ module _ {Row : Type 0} (name_of : Row → List ℕ) where
   -- how many rows there are with one of this name: a row more, unless there is one already
   abbrev pub rows_with : List ℕ → List Row → ℕ
   rows_with name rows = if has_row name rows then length rows else length rows + 1
-
-  -- what the row of this name adds to a sum, 0 where there is none
-  abbrev pub measured : (Row → ℕ) → List ℕ → List Row → ℕ
-  measured measure_of name rows = option_map_or measure_of (row_of name rows) 0

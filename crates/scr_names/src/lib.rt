@@ -6,12 +6,10 @@ mod name;
 mod past;
 mod room;
 mod series;
-mod summed;
 mod table;
 
 pub use name::Name;
 pub use past::{Copied, Past};
 pub use room::Room;
 pub use series::{Names, Series};
-pub use summed::{Measured, Summed};
 pub use table::{Row, Rows};

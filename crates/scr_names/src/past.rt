@@ -32,7 +32,7 @@ impl<R: Row> Rows<R> {
     {
         match past {
             Past::New(name) => self.remove(&name),
-            Past::Replaced(row) => self.put(row).unwrap(),
+            Past::Replaced(row) => self.insert(row).unwrap(),
             Past::Dropped { place, row, room } => self.put_at(place, row, room),
         }
     }

@@ -101,7 +101,18 @@ impl<R: Row> Rows<R> {
 
     /// The row takes the place of the one of its name, and one of a new name goes last. Memory is
     /// taken for a new name alone.
-    pub fn put(&mut self, row: R) -> Result<(), NoMemory>
+    pub fn put(&mut self, alloc: Global, row: R) -> Result<(), NoMemory>
+        ensures ok { OnOk result (self.new ≡ with_row R.name_of row self.old) }
+        ensures err { OnErr result (self.new ≡ self.old) }
+        ensures new_name { OnErr result (has_row R.name_of (R.name_of row) self.old ≡ false) }
+    {
+        // The table grows by its own allocator.
+        let _ = alloc;
+        self.insert(row)
+    }
+
+    /// As `put`, for a caller that knows the name: no memory is then taken.
+    pub(crate) fn insert(&mut self, row: R) -> Result<(), NoMemory>
         ensures ok { OnOk result (self.new ≡ with_row R.name_of row self.old) }
         ensures err { OnErr result (self.new ≡ self.old) }
         ensures new_name { OnErr result (has_row R.name_of (R.name_of row) self.old ≡ false) }

@@ -17,3 +17,4 @@ pub mod EarlierSheets
 pub mod HeldNames
 pub mod SeenThrough
 pub mod CycleFaults
+pub mod FaultKinds

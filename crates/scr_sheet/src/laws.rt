@@ -17,11 +17,31 @@ ghost use Rattle.scr_profile.specs.declared.limits.TheConstants.{MAX_FUND_COMPON
 ghost use Rattle.scr_sheet.specs.declared.rows.Position.{Position};
 ghost use Rattle.scr_sheet.specs.declared.rows.Stake.{Stake};
 
+use crate::{BalanceSheet, Earlier, Edit, Fault, Numbers};
+
+/// Compiles only where threads may share a `T` and hand it on.
+fn shared<T: Send + Sync>() {}
+
+/// Threads may share a balance sheet, its numbers, a record, a fault and what a record changed, and hand them on.
+pub fn sharing() {
+    shared::<BalanceSheet>();
+    shared::<Numbers>();
+    shared::<Edit>();
+    shared::<Fault>();
+    shared::<Earlier>();
+}
+
 /// The opening balance sheet is valid, and a record that has its form and no fault leads from a valid balance
 /// sheet to a valid one.
 pub fn validity()
     ensures opening { Valid opening }
     ensures applied { (edit : Edit) (sheet : BalanceSheet) → Formed edit → Valid sheet → fault_of edit sheet ≡ None → Valid (applied edit sheet) }
+{}
+
+/// The fault of a record is never want of memory, whatever the balance sheet: a refusal that tells a fault tells one of the
+/// record.
+pub fn fault_kinds()
+    ensures { (edit : Edit) (sheet : BalanceSheet) → ¬ (fault_of edit sheet ≡ Some faults.NoMemory) }
 {}
 
 /// What is held under the name of a security or a fund is what its row says, and over all securities and funds it sums

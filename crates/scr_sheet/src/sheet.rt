@@ -29,12 +29,15 @@ impl BalanceSheet {
         ensures { IfOk result (λ sheet. sheet ≡ opening) }
     {
         let mut curves = Rows::new(alloc);
-        curves.put(Curve {
-            currency: opening::euro(),
-            rates: Rates::new(vec![in alloc; 0]?),
-            absorb_up: 0,
-            absorb_down: 0,
-        })?;
+        curves.put(
+            alloc,
+            Curve {
+                currency: opening::euro(),
+                rates: Rates::new(vec![in alloc; 0]?),
+                absorb_up: 0,
+                absorb_down: 0,
+            },
+        )?;
         Ok(BalanceSheet {
             groups: Rows::new(alloc),
             securities: Rows::new(alloc),

@@ -7,13 +7,15 @@ ghost use Rattle.scr_spelling.specs.Texts.{day_text, civil_text, date_text, tens
 use jiff::civil::Date;
 use jiff_core::civil;
 use scr_dates::Day;
-use std::alloc::AllocError as NoMemory;
+use std::alloc::{AllocError as NoMemory, Global};
 
 /// Appends a day as `YYYY-MM-DD`, and nothing for a day outside the years 1900 to 2200.
 #[tactic(auto, unfolding(crate::specs::Texts::day_text))]
-pub fn push_day(day: Day, out: &mut Vec<u8>) -> Result<(), NoMemory>
+pub fn push_day(alloc: Global, day: Day, out: &mut Vec<u8>) -> Result<(), NoMemory>
     ensures { OnOk result (out.new.items ≡ out.old.items ++ day_text day) }
 {
+    // The text grows by its own allocator.
+    let _ = alloc;
     if day.number < -25_567 || 84_370 < day.number {
         return Ok(());
     }

@@ -3,9 +3,8 @@
 
 mod counts;
 mod days;
+pub mod laws;
 mod names;
-mod sharing;
 
 pub use days::DayTally;
 pub use names::NameTally;
-pub use sharing::threads_share_tallies;

@@ -52,25 +52,25 @@ impl NameTally {
     }
 
     /// Counts a row that uses each of these names.
-    pub fn add_each(&mut self, names: &[(Name, i64)])
+    pub fn add_each(&mut self, alloc: Global, names: &[(Name, i64)])
         ensures { Moves nothing (uses_each names.now) self.old self.new }
     {
         for (name, _) in names {
-            self.add(Some(*name));
+            self.add(alloc, Some(*name));
         }
     }
 
     /// Takes away a row that uses each of these names.
-    pub fn take_each(&mut self, names: &[(Name, i64)])
+    pub fn take_each(&mut self, alloc: Global, names: &[(Name, i64)])
         ensures { Moves (uses_each names.now) nothing self.old self.new }
     {
         for (name, _) in names {
-            self.take(Some(*name));
+            self.take(alloc, Some(*name));
         }
     }
 
     /// Counts a row that uses this name, if it uses one.
-    pub fn add(&mut self, name: Option<Name>)
+    pub fn add(&mut self, alloc: Global, name: Option<Name>)
         ensures { Moves nothing (uses_one name) self.old self.new }
     {
         let Some(name) = name else {
@@ -80,13 +80,13 @@ impl NameTally {
             return;
         }
         match self.users(&name).checked_add(1) {
-            Some(users) => self.write(name, users),
+            Some(users) => self.write(alloc, name, users),
             None => self.is_lost = true,
         }
     }
 
     /// Takes away a row that uses this name, if it uses one.
-    pub fn take(&mut self, name: Option<Name>)
+    pub fn take(&mut self, alloc: Global, name: Option<Name>)
         ensures { Moves (uses_one name) nothing self.old self.new }
     {
         let Some(name) = name else {
@@ -96,7 +96,7 @@ impl NameTally {
             return;
         }
         match self.users(&name).checked_sub(1) {
-            Some(users) => self.write(name, users),
+            Some(users) => self.write(alloc, name, users),
             None => self.is_lost = true,
         }
     }
@@ -133,10 +133,10 @@ impl NameTally {
     }
 
     // Writes how many rows use a name, or loses the tally.
-    fn write(&mut self, name: Name, users: u32)
+    fn write(&mut self, alloc: Global, name: Name, users: u32)
         ensures { IsWritten name users self.old self.new }
     {
-        match self.used.put(Used { name, users }) {
+        match self.used.put(alloc, Used { name, users }) {
             Ok(()) => (),
             Err(NoMemory) => self.is_lost = true,
         }

@@ -15,8 +15,6 @@ mod io;
 #[cfg(test)]
 mod modules;
 #[cfg(test)]
-mod names;
-#[cfg(test)]
 mod outside;
 #[cfg(test)]
 mod runs;

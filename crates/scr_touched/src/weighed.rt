@@ -37,6 +37,7 @@ fn of_fund(alloc: Global, stake: &Stake) -> Result<Weighed, NoMemory>
         all += weight_of(component);
         let through = all;
         put_first(
+            alloc,
             &mut rows,
             Component {
                 name,
@@ -57,11 +58,15 @@ fn weight_of(component: &(Name, i64)) -> u128
 }
 
 /// Of two components of one name the first counts.
-fn put_first(rows: &mut Rows<Component>, component: Component) -> Result<(), NoMemory>
+fn put_first(
+    alloc: Global,
+    rows: &mut Rows<Component>,
+    component: Component,
+) -> Result<(), NoMemory>
     ensures { OnOk result (rows.new ≡ with_first component rows.old) }
 {
     if !rows.contains(&component.name) {
-        rows.put(component)?;
+        rows.put(alloc, component)?;
     }
     Ok(())
 }

@@ -3,7 +3,7 @@ use Rattle.indexmap.specs.IndexMap.{insert_entry}
 use Rattle.std.specs.Map.{lookup}
 use Rattle.scr_names.specs.Names.{same_name}
 use Rattle.scr_names.proofs.Entries.{lookup-kept, put-kept}
-use Rattle.scr_names.proofs.table.Rows.put.Goals as goal
+use Rattle.scr_names.proofs.table.Rows.insert.Goals as goal
 
 pub invariant_of-self-2 : goal.invariant_of-self-2
 invariant_of-self-2 g c =
