@@ -21,7 +21,7 @@ use Rattle.scr_cells.specs.Table.{NamedFigure, market_cells, table}
 use Rattle.scr_cells.proofs.LiveCells.{IsLive, all-pass, all_live, in_grains}
 
 -- grains rounded outward to cents
-pub in-cents : (worked : Ends) (exact : Figure) → Encloses 1000 worked.low worked.high exact
+in-cents : (worked : Ends) (exact : Figure) → Encloses 1000 worked.low worked.high exact
     → Encloses 1 (lower_bound worked) (upper_bound worked) exact
 in-cents worked exact enclosed = Encloses-coarser 1 1000 worked.low worked.high exact (lit< tt) enclosed
 

@@ -1,5 +1,4 @@
 mod BlockLines
 pub mod Bounded
-pub mod EquityBounded
 mod LiveCells
 mod RowSums

@@ -1,6 +1,6 @@
 -- What is printed of a balance sheet (this project's own): a block with a line for each cell, with a lower and an upper
 -- bound of its figure.
-use Rattle.std.specs.Prelude.{ℕ, ℤ, pos, ◌++◌, Bool, true, false, List, [], Option, codes, flat_map, option_map, slice_get}
+use Rattle.std.specs.Prelude.{ℕ, ℤ, pos, ◌++◌, Bool, true, false, List, [], Option, codes, flat_map, option_and_then, option_map, slice_get}
 use Rattle.scr_num.specs.Rounding.{Ends, floor_div, ceil_div}
 use Rattle.scr_factors.specs.Values.{FactorValues}
 use Rattle.scr_sheet.specs.declared.sheet.BalanceSheet.{BalanceSheet}
@@ -38,7 +38,7 @@ cell_of k bounds width =
 -- the cell of this number, from 0 in the order of the report
 abbrev pub cell_at : FactorValues → BalanceSheet → ℕ → Option Cell
 cell_at factors sheet k =
-    option_map (λ cell. cell_of k (bounds_at factors sheet cell.node) (stated_width sheet cell.node)) (slice_get table k)
+    option_and_then (λ cell. option_map (cell_of k (bounds_at factors sheet cell.node)) (stated_width sheet cell.node)) (slice_get table k)
 
 -- ---- the text
 

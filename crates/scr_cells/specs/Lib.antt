@@ -1,7 +1,6 @@
 pub mod AmountTexts
 pub mod Block
 pub mod Certified
-pub mod EquityCells
 pub mod Scales
 pub mod Shown
 pub mod Table

@@ -1,7 +1,7 @@
 -- How far apart the two bounds of a cell may be (this project's own). A width is in grains, thousandths of a cent. A figure
 -- that is worked out exactly has none. Each rounding adds to it, discounting adds the more, the more is discounted, and a
 -- root multiplies what its parts have together.
-use Rattle.std.specs.Prelude.{ℕ, ◌+◌, ◌*◌, ◌/◌, count_by, if◌then◌else◌, nat_le}
+use Rattle.std.specs.Prelude.{ℕ, ◌+◌, ◌*◌, ◌/◌, Option, Some, None, count_by, if◌then◌else◌, nat_le, option_map}
 use Rattle.scr_profile.specs.Segments.{segments}
 use Rattle.scr_profile.specs.declared.set.Set.{Set}
 use Rattle.scr_profile.specs.declared.set.Set.TheVariants as sets
@@ -155,44 +155,66 @@ abbrev pub adjustment_width : Scale → Adjustment → ℕ
 adjustment_width scale adjustments.TechnicalProvisions = absorbing_width scale
 adjustment_width scale adjustments.DeferredTaxes = taxed_width scale
 
--- That of a figure which a cell shows, and of the charges and segments that one is reckoned from. Of others nothing is said:
--- they stand at 0.
-abbrev pub width : Scale → Node → ℕ
-width scale (nodes.InterestScenario direction measure) = payments_width scale
-width scale (nodes.Picked alternatives measure) = payments_width scale
-width scale (nodes.EquityPart kind) = 2
-width scale nodes.EquityRoot = risk_width risks.Equity
-width scale nodes.Property = risk_width risks.Property
-width scale nodes.Spread = risk_width risks.Spread
-width scale nodes.Concentration = risk_width risks.Concentration
-width scale (nodes.NetPart risk) = risk_width risk
-width scale (nodes.Currency measure) = currency_width scale
-width scale (nodes.Market measure) = market_width scale
-width scale nodes.DefaultType1 = 60
-width scale nodes.DefaultType2 = 0
-width scale nodes.Default = risk_width risks.Default
-width scale (nodes.BioScenario biometric projection measure) = payments_width scale
-width scale (nodes.Life measure) = life_width scale
-width scale (nodes.Slt measure) = slt_width scale
-width scale (nodes.Segment set number) = 2
-width scale (nodes.PremiumReserve set) = premium_reserve_width set
-width scale (nodes.CatCharge key) = 0
-width scale (nodes.Lapse set) = 0
-width scale nodes.Natural = natural_width
-width scale nodes.ManMade = man_made_width
-width scale nodes.NonlifeCatastrophe = nonlife_catastrophe_width
-width scale nodes.HealthCatastrophe = risk_width risks.HealthCatastrophe
-width scale (nodes.Nslt measure) = nslt_width
-width scale (nodes.Health measure) = health_width scale
-width scale (nodes.Nonlife measure) = nonlife_width
-width scale nodes.Intangible = 0
-width scale (nodes.Bscr measure) = bscr_width scale
-width scale (nodes.OpPart part) = operational_width scale part
-width scale (nodes.Adjust adjustment) = adjustment_width scale adjustment
-width scale nodes.Scr = requirement_width scale
-width scale nodes.Diversification = diversification_width scale
-width scale node = 0
+-- That of a figure, where it is stated. Where it is not, the figure is of one row or of one currency, or it is the variance
+-- of losses: how far apart their ends are is told only of what is reckoned from them.
+abbrev pub width : Scale → Node → Option ℕ
+width scale (nodes.UnitLoss name direction) = None
+width scale (nodes.SecurityRate name direction) = None
+width scale (nodes.LiabilityRate name direction) = None
+width scale (nodes.LiabilityPresent name) = None
+width scale (nodes.LiabilityLoss name projection) = None
+width scale (nodes.CurrencyLoss currency direction) = None
+width scale (nodes.CurrencyScenario currency direction measure) = None
+width scale (nodes.CurrencyPicked currency measure) = None
+width scale nodes.Variance = None
+width scale (nodes.InterestScenario direction measure) = Some (payments_width scale)
+width scale (nodes.Picked alternatives measure) = Some (payments_width scale)
+width scale (nodes.EquityPart kind) = Some 2
+width scale nodes.EquityRoot = Some (risk_width risks.Equity)
+width scale nodes.Property = Some (risk_width risks.Property)
+width scale nodes.Spread = Some (risk_width risks.Spread)
+width scale nodes.Concentration = Some (risk_width risks.Concentration)
+width scale (nodes.NetPart risk) = Some (risk_width risk)
+width scale (nodes.Currency measure) = Some (currency_width scale)
+width scale (nodes.Market measure) = Some (market_width scale)
+width scale nodes.DefaultType1 = Some 60
+width scale nodes.Default = Some (risk_width risks.Default)
+width scale (nodes.BioScenario biometric projection measure) = Some (payments_width scale)
+width scale (nodes.Life measure) = Some (life_width scale)
+width scale (nodes.Slt measure) = Some (slt_width scale)
+width scale (nodes.Segment set number) = Some 2
+width scale (nodes.PremiumReserve set) = Some (premium_reserve_width set)
+width scale nodes.Natural = Some natural_width
+width scale nodes.ManMade = Some man_made_width
+width scale nodes.NonlifeCatastrophe = Some nonlife_catastrophe_width
+width scale nodes.HealthCatastrophe = Some (risk_width risks.HealthCatastrophe)
+width scale (nodes.Nslt measure) = Some nslt_width
+width scale (nodes.Health measure) = Some (health_width scale)
+width scale (nodes.Nonlife measure) = Some nonlife_width
+width scale (nodes.Bscr measure) = Some (bscr_width scale)
+width scale (nodes.OpPart part) = Some (operational_width scale part)
+width scale (nodes.Adjust adjustment) = Some (adjustment_width scale adjustment)
+width scale nodes.Scr = Some (requirement_width scale)
+width scale nodes.Diversification = Some (diversification_width scale)
+-- the others are whole numbers: what is handed in, sums and products of it, squares and choices
+width scale (nodes.FundTotal name) = Some 0
+width scale (nodes.SecurityTotal name) = Some 0
+width scale (nodes.ClassSum class) = Some 0
+width scale (nodes.GroupTotal name) = Some 0
+width scale nodes.Assets = Some 0
+width scale (nodes.SecuritySpread name) = Some 0
+width scale (nodes.ConcentrationSquare name) = Some 0
+width scale (nodes.Choice alternatives) = Some 0
+width scale (nodes.CurrencyChoice currency) = Some 0
+width scale (nodes.GroupLoss name) = Some 0
+width scale (nodes.ClassLoss class) = Some 0
+width scale (nodes.ClassSquare class) = Some 0
+width scale nodes.DefaultBand = Some 0
+width scale nodes.DefaultType2 = Some 0
+width scale (nodes.CatCharge key) = Some 0
+width scale (nodes.Lapse set) = Some 0
+width scale nodes.Intangible = Some 0
 
 -- that of a cell, in cents: rounding outward to cents adds less than two
-abbrev pub stated_width : BalanceSheet → Node → ℕ
-stated_width sheet node = width (scale_of sheet) node / 1000 + 2
+abbrev pub stated_width : BalanceSheet → Node → Option ℕ
+stated_width sheet node = option_map (λ grains. grains / 1000 + 2) (width (scale_of sheet) node)

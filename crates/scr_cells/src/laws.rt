@@ -8,7 +8,6 @@ ghost use Rattle.scr_sheet.specs.Validity.{Valid};
 ghost use Rattle.scr_nodes.specs.Live.{is_live};
 ghost use Rattle.scr_plan.specs.Exact.{unit_of};
 ghost use Rattle.scr_cells.specs.Certified.{Certified, IsBounded};
-ghost use Rattle.scr_cells.specs.EquityCells.{AreBounded, AreOfTable, equity_cells};
 ghost use Rattle.scr_cells.specs.Table.{market_cells, table};
 ghost use Rattle.scr_cells.specs.declared.table.TheConstants.{CELL_COUNT};
 
@@ -22,14 +21,10 @@ pub fn figures()
 {}
 
 /// For factors in form and every valid balance sheet the printed bounds of each cell enclose its
-/// exact figure, and those of market risk do so whatever the factors. Those of equity risk do for
-/// every balance sheet; where it is valid, they are the printed ones.
+/// exact figure, and those of market risk do so whatever the factors.
 pub fn enclosure()
     ensures certified { (factors : FactorValues) → IsInForm factors → (sheet : BalanceSheet)
         → Valid sheet → Certified factors sheet }
     ensures market { (factors : FactorValues) (sheet : BalanceSheet) → Valid sheet
         → AllByRecursion (λ cell. IsBounded factors sheet cell.node) market_cells }
-    ensures equity { (sheet : BalanceSheet) → AreBounded (equity_cells sheet) }
-    ensures equity_printed { (factors : FactorValues) (sheet : BalanceSheet) → Valid sheet
-        → AreOfTable factors sheet (equity_cells sheet) }
 {}

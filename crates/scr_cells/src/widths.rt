@@ -1,6 +1,6 @@
 //! How far apart the two bounds of a cell may be. Widths of figures are in grains, thousandths of a
 //! cent.
-ghost use Rattle.std.specs.Prelude.{◌≡◌, ◌≤◌};
+ghost use Rattle.std.specs.Prelude.{◌≡◌, ◌≤◌, Some};
 ghost use Rattle.scr_cells.specs.Scales.{IsScale};
 ghost use Rattle.scr_cells.specs.Shown.{node_of};
 ghost use Rattle.scr_cells.specs.Widths as widths;
@@ -14,7 +14,7 @@ use scr_profile::Set;
 /// How far apart the bounds of a cell that shows the figure may be, in cents: rounding outward to
 /// cents adds less than two.
 pub(crate) fn stated_width(book: &Book, shown: Shown) -> u64
-    ensures { result ≡ widths.stated_width book.now (node_of shown) }
+    ensures { widths.stated_width book.now (node_of shown) ≡ Some result }
 {
     width(&scale_of(book), shown) / 1000 + 2
 }
@@ -22,7 +22,7 @@ pub(crate) fn stated_width(book: &Book, shown: Shown) -> u64
 /// How far apart the ends of the figure may be.
 fn width(scale: &Scale, shown: Shown) -> u64
     requires { IsScale scale.now }
-    ensures { result ≡ widths.width scale.now (node_of shown) }
+    ensures { widths.width scale.now (node_of shown) ≡ Some result }
 {
     match shown {
         Shown::InterestScenario(_, _) | Shown::Picked(_, _) => payments(scale),

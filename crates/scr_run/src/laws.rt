@@ -7,7 +7,6 @@ ghost use Rattle.scr_sheet.specs.declared.sheet.BalanceSheet.{BalanceSheet};
 ghost use Rattle.scr_sheet.specs.Validity.{Valid};
 ghost use Rattle.scr_cells.specs.Block.{block_text, requirement_line};
 ghost use Rattle.scr_cells.specs.Certified.{Certified, IsBounded};
-ghost use Rattle.scr_cells.specs.EquityCells.{AreBounded, equity_cells};
 ghost use Rattle.scr_cells.specs.Table.{market_cells};
 ghost use Rattle.scr_io.specs.Content.{Content, Holds};
 ghost use Rattle.scr_plans.specs.Outcome.{Calls, outcome};
@@ -27,8 +26,7 @@ ghost use Rattle.scr_run.specs.declared.status.Status.TheVariants as statuses;
 /// Every balance sheet from which a block is printed is valid: that of a book file, and what each
 /// accepted record of its edits leaves. The values of every factor file that is read are in form.
 /// So the printed bounds of each cell of the report enclose its exact figure, whatever of the
-/// report was written; those of market risk do so whatever the values, and those of equity risk for
-/// every balance sheet.
+/// report was written; those of market risk do so whatever the values.
 pub fn enclosure()
     ensures valid { (book edits : List ℕ) (sheet : BalanceSheet) → sheet_of book ≡ Ok sheet
         → AllByRecursion Valid (printed sheet (answers (records edits) sheet)) }
@@ -41,7 +39,6 @@ pub fn enclosure()
         → Valid sheet → Certified values sheet }
     ensures market { (values : FactorValues) (sheet : BalanceSheet) → Valid sheet
         → AllByRecursion (λ cell. IsBounded values sheet cell.node) market_cells }
-    ensures equity { (sheet : BalanceSheet) → AreBounded (equity_cells sheet) }
 {}
 
 /// Where the plan of the words leads by the contents of the files: the first file that ends the run

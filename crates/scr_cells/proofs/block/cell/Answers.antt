@@ -1,5 +1,5 @@
-use Rattle.std.proofs.Common.{◌≡◌, ◌∙◌, true, Some, ap, ap₂, subst, sym}
-use Rattle.std.specs.Prelude.{option_map}
+use Rattle.std.proofs.Common.{◌≡◌, ◌∙◌, true, Some, ap, subst, sym}
+use Rattle.std.specs.Prelude.{option_and_then, option_map}
 use Rattle.scr_sheet.specs.declared.sheet.BalanceSheet.{BalanceSheet}
 use Rattle.scr_nodes.specs.declared.node.Node.{Node}
 use Rattle.scr_nodes.specs.Live.{is_live}
@@ -7,6 +7,7 @@ use Rattle.scr_cells.specs.Block.{bounds_at, cell_of}
 use Rattle.scr_cells.specs.Shown.{node_of}
 use Rattle.scr_cells.specs.Table.{NamedFigure}
 use Rattle.scr_cells.specs.Widths.{stated_width}
+use Rattle.scr_cells.specs.declared.bounds.Bounds.{Bounds}
 use Rattle.scr_cells.proofs.LiveCells.{live_at}
 use Rattle.scr_cells.proofs.block.cell.Goals as goal
 
@@ -22,7 +23,8 @@ returns c =
     let engine = c.args.engine.now in
     let node = node_of c.entry_of.result.now.shown in
     let bounds = c.bounds_at-bounds.ensures ∙ ap (bounds_at engine.factors engine.sheet) c.node_of.ensures in
-    let width = c.stated_width.ensures ∙ ap (λ (sheet : BalanceSheet). stated_width sheet node) c.book.ensures.value in
-    ap (option_map (λ (cell : NamedFigure). cell_of k (bounds_at engine.factors engine.sheet cell.node) (stated_width engine.sheet cell.node)))
+    let width = sym (ap (λ (sheet : BalanceSheet). stated_width sheet node) c.book.ensures.value) ∙ c.stated_width.ensures in
+    ap (option_and_then (λ (cell : NamedFigure). option_map (cell_of k (bounds_at engine.factors engine.sheet cell.node)) (stated_width engine.sheet cell.node)))
     c.entry_of.ensures
-    ∙ ap Some (sym (c.cell_of.ensures ∙ ap₂ (cell_of k) bounds width))
+    ∙ ap (option_map (cell_of k (bounds_at engine.factors engine.sheet node))) width
+    ∙ ap Some (sym (c.cell_of.ensures ∙ ap (λ (b : Bounds). cell_of k b c.stated_width.result) bounds))

@@ -1,6 +1,5 @@
 use Rattle.scr_cells.proofs.Bounded.{certified, market_bounded}
-use Rattle.scr_cells.proofs.EquityBounded.{equity_bounded, equity_printed}
 use Rattle.scr_cells.proofs.laws.enclosure.Goals as goal
 
 pub returns : goal.returns
-returns c = record { certified = certified; market = market_bounded; equity = equity_bounded; equity_printed = equity_printed }
+returns c = record { certified = certified; market = market_bounded }

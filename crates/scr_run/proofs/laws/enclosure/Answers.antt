@@ -1,6 +1,5 @@
 use Rattle.scr_csv.specs.Lines.{records}
 use Rattle.scr_cells.proofs.Bounded.{certified, market_bounded}
-use Rattle.scr_cells.proofs.EquityBounded.{equity_bounded}
 use Rattle.scr_run.proofs.FactorForms.{factors-in-form}
 use Rattle.scr_run.proofs.PrintedSheets.{printed_certified, printed_valid}
 use Rattle.scr_run.proofs.laws.enclosure.Goals as goal
@@ -12,5 +11,4 @@ returns c = record {
   printed = λ values book edits sheet form e. printed_certified values form book (records edits) sheet e;
   certified = λ values sheet form valid. certified values form sheet valid;
   market = market_bounded;
-  equity = equity_bounded;
 }
