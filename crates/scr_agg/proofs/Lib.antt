@@ -16,3 +16,4 @@ pub mod Squares
 pub mod FormSpreads
 pub mod RootWidths
 pub mod ChoiceWidths
+pub mod TableWidths

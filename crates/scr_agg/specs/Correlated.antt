@@ -1,7 +1,9 @@
 -- Matrices of correlation coefficients as tables, and what a root over one asks of its parts (this project's own).
-use Rattle.std.specs.Prelude.{ℕ, ◌+◌, ◌<◌, pos, neg_ℤ, ◌≤ℤ◌, List, [], ◌∷◌, map}
+use Rattle.std.specs.Prelude.{◌≡◌, ℕ, ◌+◌, ◌*◌, ◌<◌, pos, neg_ℤ, ◌≤ℤ◌, List, [], ◌∷◌, map, length, sum_by}
 use Rattle.scr_num.specs.declared.span.Span.{Span}
-use Rattle.scr_num.specs.Rounding.{Ends, ends, or_zero}
+use Rattle.scr_num.specs.Rounding.{Ends, ends, or_zero, quad_ends}
+use Rattle.scr_num.specs.Amounts.{AreAmounts}
+use Rattle.scr_num.specs.Narrow.{IsNarrow, AreNarrow}
 use Rattle.scr_num.specs.Table.{Table}
 use Rattle.scr_profile.specs.declared.matrix.Matrix.{Matrix}
 use Rattle.scr_profile.specs.Matrix.{entry, coefficients}
@@ -27,3 +29,9 @@ total_high (part ∷ parts) = or_zero part.high + total_high parts
 -- the ends of each part
 abbrev pub all_ends : List Span → List Ends
 all_ends parts = map ends parts
+
+-- A root over the table is at most one more than k times as wide as its parts, which are amounts, are together.
+abbrev pub SpreadsBy : ℕ → Matrix → Type 0
+SpreadsBy k m =
+    (mosts widths : List ℕ) (parts : List Ends) → length parts ≡ m.n → AreAmounts mosts parts
+    → AreNarrow widths parts → IsNarrow (k * sum_by (λ w. w) widths + 1) (quad_ends parts (table_of m))

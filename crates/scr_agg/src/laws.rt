@@ -10,12 +10,15 @@ ghost use Rattle.scr_num.specs.Figure.{Figure, Frac, Sum, Diff, Max};
 ghost use Rattle.scr_num.specs.Enclosure.{Encloses};
 ghost use Rattle.scr_num.specs.Rounding.{Ends, exact_ends, max_ends, quad_ends};
 ghost use Rattle.scr_num.specs.Amounts.{IsAmount, AreAmounts};
-ghost use Rattle.scr_num.specs.Narrow.{IsNarrow, AreNarrow};
+ghost use Rattle.scr_num.specs.Narrow.{IsNarrow};
 ghost use Rattle.scr_num.specs.Table.{IsSquare};
-ghost use Rattle.scr_profile.specs.declared.correlations.TheConstants.{LIFE, SLT};
+ghost use Rattle.scr_profile.specs.declared.correlations.TheConstants.{BSCR, MARKET_0};
+ghost use Rattle.scr_profile.specs.declared.correlations.TheConstants.{MARKET_HALF, LIFE, SLT};
+ghost use Rattle.scr_profile.specs.declared.correlations.TheConstants.{HEALTH, NONLIFE, NSLT};
+ghost use Rattle.scr_profile.specs.declared.correlations.TheConstants.{EQUITY, DEFAULT};
 ghost use Rattle.scr_profile.specs.declared.matrix.Matrix.{Matrix};
 ghost use Rattle.scr_profile.specs.Matrix.{entry, IsCorrelation};
-ghost use Rattle.scr_agg.specs.Correlated.{table_of, CellsWithin};
+ghost use Rattle.scr_agg.specs.Correlated.{table_of, CellsWithin, SpreadsBy};
 ghost use Rattle.scr_agg.specs.Absorbed.{net_figure, net_ends, net_exact};
 ghost use Rattle.scr_agg.specs.Choice.{Outcome, IsChosen, chosen, outcome_at};
 ghost use Rattle.scr_agg.specs.Unbeaten.{Alternative, EncloseOutcomes, HasSeveral, Holds, unbeaten};
@@ -55,17 +58,19 @@ pub fn roots()
 /// (Delegated Regulation (EU) 2015/35, Article 136) and of SLT health (Article 151), where the
 /// correlation of mortality and longevity is below 0.
 pub fn roots_spread()
-    ensures table { (m : Matrix) (k : ℕ) (mosts widths : List ℕ) (parts : List Ends)
-        → IsCorrelation m
+    ensures table { (m : Matrix) (k : ℕ) → IsCorrelation m
         → ((i j : ℕ) → i < m.n → j < m.n → pos 0 ≤ℤ entry m i j) → 0 < k → m.n ≤ k * k
-        → length parts ≡ m.n → AreAmounts mosts parts → AreNarrow widths parts
-        → IsNarrow (k * sum_by (λ w. w) widths + 1) (quad_ends parts (table_of m)) }
-    ensures life { (mosts widths : List ℕ) (parts : List Ends) → length parts ≡ 7
-        → AreAmounts mosts parts → AreNarrow widths parts
-        → IsNarrow (7 * sum_by (λ w. w) widths + 1) (quad_ends parts (table_of LIFE)) }
-    ensures slt { (mosts widths : List ℕ) (parts : List Ends) → length parts ≡ 6
-        → AreAmounts mosts parts → AreNarrow widths parts
-        → IsNarrow (7 * sum_by (λ w. w) widths + 1) (quad_ends parts (table_of SLT)) }
+        → SpreadsBy k m }
+    ensures life { SpreadsBy 7 LIFE }
+    ensures slt { SpreadsBy 7 SLT }
+    ensures bscr { SpreadsBy 3 BSCR }
+    ensures market_0 { SpreadsBy 3 MARKET_0 }
+    ensures market_half { SpreadsBy 3 MARKET_HALF }
+    ensures health { SpreadsBy 2 HEALTH }
+    ensures nonlife { SpreadsBy 2 NONLIFE }
+    ensures nslt { SpreadsBy 2 NSLT }
+    ensures equity { SpreadsBy 2 EQUITY }
+    ensures default { SpreadsBy 2 DEFAULT }
 {}
 
 /// Ends that enclose a sum, a difference or the greater of two fractions, or what an absorption
