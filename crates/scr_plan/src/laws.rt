@@ -31,6 +31,8 @@ ghost use Rattle.scr_plan.specs.LifeExact.{lapse_outcomes};
 ghost use Rattle.scr_plan.specs.Rules.{amount_of};
 ghost use Rattle.scr_plan.specs.Worked.{node_rule, worked};
 
+use crate::{Curves, Node};
+
 /// For every valid balance sheet the worked figure of each node is its rule on the worked figures of its sources, and
 /// nothing else obeys this on all live nodes. A figure rests on an open choice exactly where it is one or one of its sources
 /// does.
@@ -108,3 +110,12 @@ pub fn default_losses()
         → Encloses 1_000_000 (pos (class_square_grains sheet class)) (pos (class_square_grains sheet class))
         (Frac (class_square sheet class)) }
 {}
+
+/// Threads may share nodes, and the discounts of all currencies.
+pub fn sharing() {
+    shared::<Curves>();
+    shared::<Node>();
+}
+
+// Compiles only where threads may share a `T` and hand it on.
+fn shared<T: Send + Sync>() {}

@@ -16,7 +16,6 @@ mod market_rules;
 mod nonlife_rules;
 mod paid;
 mod rules;
-mod sharing;
 mod spans;
 
 pub use all_losses::{GroupLosses, group_losses};
@@ -24,4 +23,3 @@ pub use discounting::curves;
 pub use evaluation::{evaluate, evaluate_with, source};
 pub use kept::Curves;
 pub use scr_nodes::{Alternatives, Biometric, Direction, Equities, Measure, Node, Risk};
-pub use sharing::threads_share_curves;
