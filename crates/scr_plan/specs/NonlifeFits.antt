@@ -9,6 +9,8 @@ use Rattle.scr_profile.specs.declared.limits.TheConstants.{MAX_AMOUNT}
 use Rattle.scr_profile.specs.declared.matrix.Matrix.{Matrix}
 use Rattle.scr_nonlife.specs.Segment.{total_volume}
 use Rattle.scr_plan.specs.Figures.{figure_at}
+use Rattle.scr_plan.specs.LossFits.{MAX_REQUIREMENT}
+use Rattle.scr_plan.specs.RootFits.{FitsRoot}
 
 -- the most grains of a handed-in charge
 abbrev pub MAX_CHARGE : ℕ
@@ -47,8 +49,7 @@ pub record FitsManMade (figures : List Ends) : Type 0 where
   pub credit : IsAmount MAX_CHARGE (figure_at figures 5)
 
 pub record FitsCatastrophes (figures : List Ends) : Type 0 where
-  pub natural : IsAmount (10 ^ 18) (figure_at figures 0)
-  pub man_made : IsAmount (10 ^ 18) (figure_at figures 1)
+  pub parts : FitsRoot 2 figures
   pub property : IsAmount MAX_CHARGE (figure_at figures 2)
   pub other : IsAmount MAX_CHARGE (figure_at figures 3)
 
@@ -59,14 +60,9 @@ pub record FitsHealthCatastrophe (figures : List Ends) : Type 0 where
 
 pub record FitsNonlife (lapse : ℕ) (figures : List Ends) : Type 0 where
   pub charge : lapse ≤ MAX_AMOUNT
-  pub premium_reserve : IsAmount (10 ^ 18) (figure_at figures 0)
-  pub catastrophe : IsAmount (10 ^ 18) (figure_at figures 1)
+  pub parts : FitsRoot 2 figures
 
 pub record FitsNslt (lapse : ℕ) (figures : List Ends) : Type 0 where
   pub charge : lapse ≤ MAX_AMOUNT
-  pub premium_reserve : IsAmount (10 ^ 18) (figure_at figures 0)
-
-pub record FitsHealth (figures : List Ends) : Type 0 where
-  pub slt : IsAmount 5_000_000_000_000_000_000 (figure_at figures 0)
-  pub nslt : IsAmount (4 * 10 ^ 17) (figure_at figures 1)
-  pub catastrophe : IsAmount (4 * 10 ^ 17) (figure_at figures 2)
+  pub low : pos 0 ≤ℤ (figure_at figures 0).low
+  pub high : (figure_at figures 0).high ≤ℤ pos MAX_REQUIREMENT

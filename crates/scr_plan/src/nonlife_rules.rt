@@ -7,7 +7,8 @@ ghost use Rattle.scr_profile.specs.Segments.{segments};
 ghost use Rattle.scr_profile.specs.declared.limits.TheConstants.{MAX_AMOUNT};
 ghost use Rattle.scr_factors.specs.Values.{sigma_of};
 ghost use Rattle.scr_nodes.specs.OwnOf.{volumes_in_regions, segment_correlations};
-ghost use Rattle.scr_plan.specs.NonlifeFits.{MAX_CHARGE, FitsCharged, FitsSegment, FitsPremiumReserve, FitsNatural, FitsManMade, FitsCatastrophes, FitsHealthCatastrophe, FitsNonlife, FitsNslt, FitsHealth};
+ghost use Rattle.scr_plan.specs.NonlifeFits.{MAX_CHARGE, FitsCharged, FitsSegment, FitsPremiumReserve, FitsNatural, FitsManMade, FitsCatastrophes, FitsHealthCatastrophe, FitsNonlife, FitsNslt};
+ghost use Rattle.scr_plan.specs.RootFits.{FitsRoot};
 ghost use Rattle.scr_plan.specs.NonlifeRules.{numbered_volumes, charged_ends, cents_at, premium_reserve_from, natural_from, man_made_from, catastrophes_from, health_catastrophe_from, nonlife_from, nslt_from, health_from};
 ghost use Rattle.scr_plan.specs.Figures.{figure_at};
 
@@ -141,7 +142,7 @@ pub(crate) fn nslt(spans: &[Span], lapse: u64) -> Span
 
 /// Health.
 pub(crate) fn health(spans: &[Span]) -> Span
-    requires { FitsHealth (map ends spans.now) }
+    requires { FitsRoot 3 (map ends spans.now) }
     ensures { ends result ≡ health_from (map ends spans.now) }
 {
     scr_bio::health(at(spans, 0), at(spans, 1), at(spans, 2))
