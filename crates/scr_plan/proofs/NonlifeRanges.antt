@@ -110,21 +110,19 @@ module _ (factors : FactorValues) (known : IsInForm factors) (sheet : BalanceShe
   charge key = sizes.charge-amount factors known sheet valid key
 
   pub natural-fits : NodeFits nodes.Natural
-  natural-fits = record { windstorm = charge cats.Windstorm; earthquake = charge cats.Earthquake; flood = charge cats.Flood; hail = charge cats.Hail; subsidence = charge cats.Subsidence }
+  natural-fits = root-fits 5 (sizes.most_charges 5) (map figure (sources_of sheet nodes.Natural)) (sizes.natural-amounts factors known sheet valid) (omega arith)
 
   pub man_made-fits : NodeFits nodes.ManMade
-  man_made-fits = record { motor = charge cats.Motor; marine = charge cats.Marine; aviation = charge cats.Aviation; fire = charge cats.Fire; liability = charge cats.Liability; credit = charge cats.Credit }
+  man_made-fits = root-fits 6 (sizes.most_charges 6) (map figure (sources_of sheet nodes.ManMade)) (sizes.man_made-amounts factors known sheet valid) (omega arith)
 
   pub catastrophe-fits : NodeFits nodes.NonlifeCatastrophe
-  catastrophe-fits = record {
-    parts = root-fits 2 (50 * 10 ^ 15 ∷ 60 * 10 ^ 15 ∷ []) (map figure (sources_of sheet nodes.NonlifeCatastrophe))
-        (sizes.natural-amount factors known sheet valid, (sizes.man_made-amount factors known sheet valid, tt)) (omega arith);
-    property = charge cats.NonProportionalProperty;
-    other = charge cats.Other;
-  }
+  catastrophe-fits =
+      root-fits 4 (50 * 10 ^ 15 ∷ 60 * 10 ^ 15 ∷ MAX_CHARGE ∷ MAX_CHARGE ∷ []) (map figure (sources_of sheet nodes.NonlifeCatastrophe))
+      (sizes.natural-amount factors known sheet valid, (sizes.man_made-amount factors known sheet valid, (charge cats.NonProportionalProperty, (charge cats.Other, tt))))
+      (omega arith)
 
   pub health_catastrophe-fits : NodeFits nodes.HealthCatastrophe
-  health_catastrophe-fits = record { mass = charge cats.MassAccident; concentration = charge cats.AccidentConcentration; pandemic = charge cats.Pandemic }
+  health_catastrophe-fits = root-fits 3 (sizes.most_charges 3) (map figure (sources_of sheet nodes.HealthCatastrophe)) (sizes.health-amounts factors known sheet valid) (omega arith)
 
   pub health_net-fits : NodeFits (nodes.NetPart risks.HealthCatastrophe)
   health_net-fits = record {

@@ -22,8 +22,7 @@ use Rattle.scr_plan.specs.MarketFits.{FitsWorth, FitsForeign, FitsMultiple, Fits
 use Rattle.scr_plan.specs.LifeFits.{FitsExcess}
 use Rattle.scr_plan.specs.DefaultFits.{FitsLosses, FitsSquares, FitsVariance, FitsBand, FitsDue}
 use Rattle.scr_plan.specs.LossFits.{AreModules, FitsBscr, IsRequirement, FitsCharge, FitsAbsorbing, FitsTaxed, FitsRequirement}
-use Rattle.scr_plan.specs.NonlifeFits.{FitsCharged, FitsSegment, FitsPremiumReserve, FitsNatural, FitsManMade, FitsCatastrophes}
-use Rattle.scr_plan.specs.NonlifeFits.{FitsHealthCatastrophe, FitsNonlife, FitsNslt}
+use Rattle.scr_plan.specs.NonlifeFits.{FitsCharged, FitsSegment, FitsPremiumReserve, FitsNonlife, FitsNslt}
 use Rattle.scr_plan.specs.Rules.{figure_at, parts_held}
 
 -- a share by weights, of which there are some
@@ -99,10 +98,10 @@ Fits (Correlated SltRoot) figures = FitsRoot 6 figures
 Fits (Charged times cents) figures = FitsCharged times cents
 Fits (Segment volumes premium reserve) figures = FitsSegment volumes premium reserve
 Fits (PremiumReserve correlations) figures = FitsPremiumReserve correlations figures
-Fits (Correlated NaturalRoot) figures = FitsNatural figures
-Fits (Correlated ManMadeRoot) figures = FitsManMade figures
-Fits Catastrophes figures = FitsCatastrophes figures
-Fits (Correlated HealthCatastropheRoot) figures = FitsHealthCatastrophe figures
+Fits (Correlated NaturalRoot) figures = FitsRoot 5 figures
+Fits (Correlated ManMadeRoot) figures = FitsRoot 6 figures
+Fits Catastrophes figures = FitsRoot 4 figures
+Fits (Correlated HealthCatastropheRoot) figures = FitsRoot 3 figures
 Fits (CorrelatedWith NonlifeRoot lapse) figures = FitsNonlife lapse figures
 Fits (CorrelatedWith NsltRoot lapse) figures = FitsNslt lapse figures
 Fits (Correlated HealthRoot) figures = FitsRoot 3 figures
