@@ -73,20 +73,12 @@ nslt-size most pr lapse h =
     (within TWO (most ∷ (1000 * lapse) ∷ []) (pr ∷ cents_ends lapse ∷ []) refl refl (h, (cents-size lapse, tt)))
 
 -- ---- health catastrophes
-pub health_cat-encloses : (mass accident pandemic : ℕ)
-    → Encloses 1000 (health_cat_ends mass accident pandemic).low (health_cat_ends mass accident pandemic).high (health_cat_figure mass accident pandemic)
-health_cat-encloses mass accident pandemic =
-    Encloses-quad 1000 (lit< tt) _ _ three_risks (lit< tt) (table_of-square THREE) (
-      cents-not_negative mass,
-      Encloses-cents mass,
-      (cents-not_negative accident, Encloses-cents accident, (cents-not_negative pandemic, Encloses-cents pandemic, tt)),
-    )
+pub health_cat-encloses : (parts : List Ends) (figures : Figures) → length parts ≡ 3 → EncloseAll 1000 parts figures
+    → Encloses 1000 (health_cat_ends parts).low (health_cat_ends parts).high (health_cat_figure figures)
+health_cat-encloses parts figures count h = Encloses-quad 1000 (lit< tt) parts figures three_risks (lit< tt) (square_of THREE parts count) h
 
-pub health_cat-size : (mass accident pandemic : ℕ) → IsAmount (1000 * (mass + accident + pandemic)) (health_cat_ends mass accident pandemic)
-health_cat-size mass accident pandemic =
-    amount-wider _ _ (health_cat_ends mass accident pandemic) (omega arith)
-    (within THREE ((1000 * mass) ∷ (1000 * accident) ∷ (1000 * pandemic) ∷ []) (cents_ends mass ∷ cents_ends accident ∷ cents_ends pandemic ∷ []) refl refl
-    (cents-size mass, (cents-size accident, (cents-size pandemic, tt))))
+pub health_cat-size : (mosts : List ℕ) (parts : List Ends) → length parts ≡ 3 → AreAmounts mosts parts → IsAmount (sum_by (λ most. most) mosts) (health_cat_ends parts)
+health_cat-size mosts parts count h = within THREE mosts parts refl count h
 
 -- ---- health
 pub health-encloses : (slt nslt cat : Ends) (f g h : Figure) → pos 0 ≤ℤ slt.low → pos 0 ≤ℤ nslt.low → pos 0 ≤ℤ cat.low

@@ -71,11 +71,9 @@ three_risks = record {
       ∷ [];
 }
 
--- the root of the squares of the charges for mass accidents, accident concentration and pandemics, in cents (Article
--- 160)
-abbrev pub health_cat_figure : (mass accident pandemic : ℕ) → Figure
-health_cat_figure mass accident pandemic =
-    Root (more (cents_figure mass) (more (cents_figure accident) (more (cents_figure pandemic) none))) three_risks
+-- the root of the squares of the charges for mass accidents, accident concentration and pandemics (Article 160)
+abbrev pub health_cat_figure : Figures → Figure
+health_cat_figure parts = Root parts three_risks
 
 -- ---- health
 -- SLT health, NSLT health and health catastrophe risk (Article 144); the cells are quarters

@@ -22,9 +22,9 @@ slt_ends parts = quad_ends parts slt_correlations
 abbrev pub nslt_ends : (premium_reserve : Ends) → (lapse : ℕ) → Ends
 nslt_ends premium_reserve lapse = quad_ends (premium_reserve ∷ cents_ends lapse ∷ []) two_risks
 
-abbrev pub health_cat_ends : (mass accident pandemic : ℕ) → Ends
-health_cat_ends mass accident pandemic =
-    quad_ends (cents_ends mass ∷ cents_ends accident ∷ cents_ends pandemic ∷ []) three_risks
+-- mass accidents, accident concentration and pandemics, in grains
+abbrev pub health_cat_ends : List Ends → Ends
+health_cat_ends parts = quad_ends parts three_risks
 
 abbrev pub health_ends : (slt nslt cat : Ends) → Ends
 health_ends slt nslt cat = quad_ends (slt ∷ nslt ∷ cat ∷ []) health_correlations

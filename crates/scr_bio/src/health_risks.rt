@@ -1,7 +1,9 @@
 //! The health underwriting risk module.
 
-ghost use Rattle.std.specs.Prelude.{◌≡◌, ◌+◌, ◌*◌, ◌≤◌, pos, ◌+ℤ◌, ◌≤ℤ◌};
+ghost use Rattle.std.specs.Prelude.{◌≡◌, ◌+◌, ◌*◌, ◌≤◌, pos, ◌+ℤ◌, ◌≤ℤ◌, [], ◌∷◌};
+ghost use Rattle.scr_num.specs.Cents.{cents_ends, cents_figure};
 ghost use Rattle.scr_num.specs.Figure.{Figure, Figures};
+ghost use Rattle.scr_num.specs.Figure.Figures.{more, none};
 ghost use Rattle.scr_num.specs.Enclosure.{Encloses, EncloseAll};
 ghost use Rattle.scr_num.specs.Rounding.{ends};
 ghost use Rattle.scr_agg.specs.Correlated.{NotNegative, total_high, all_ends};
@@ -50,13 +52,27 @@ pub fn health_cat(mass: u64, accident: u64, pandemic: u64) -> Span
     requires mass { mass ≤ MAX_AMOUNT }
     requires accident { accident ≤ MAX_AMOUNT }
     requires pandemic { pandemic ≤ MAX_AMOUNT }
-    ensures ends { ends result ≡ health_cat_ends mass accident pandemic }
-    ensures encloses { Encloses 1000 result.low result.high
-        (health_cat_figure mass accident pandemic) }
+    ensures ends { ends result
+        ≡ health_cat_ends (cents_ends mass ∷ cents_ends accident ∷ cents_ends pandemic ∷ []) }
+    ensures encloses { Encloses 1000 result.low result.high (health_cat_figure
+        (more (cents_figure mass) (more (cents_figure accident) (more (cents_figure pandemic) none)))) }
     ensures not_negative { pos 0 ≤ℤ result.low }
     ensures at_most_the_sum { result.high ≤ℤ pos (1000 * (mass + accident + pandemic)) }
 {
-    quad(&[cents(mass), cents(accident), cents(pandemic)], &THREE)
+    health_catastrophe(&[cents(mass), cents(accident), cents(pandemic)])
+}
+
+/// The same of the charges in grains.
+pub fn health_catastrophe(parts: &[Span; 3]) -> Span
+    requires lows { NotNegative parts.now }
+    requires highs { total_high parts.now ≤ 6_000_000_000_000_000_000 }
+    ensures ends { ends result ≡ health_cat_ends (all_ends parts.now) }
+    ensures encloses { (figures : Figures) → EncloseAll 1000 (all_ends parts.now) figures
+        → Encloses 1000 result.low result.high (health_cat_figure figures) }
+    ensures not_negative { pos 0 ≤ℤ result.low }
+    ensures at_most_the_sum { result.high ≤ℤ pos (total_high parts.now) }
+{
+    quad(parts, &THREE)
 }
 
 /// The capital requirement for health underwriting risk, in grains, of those for SLT health, NSLT

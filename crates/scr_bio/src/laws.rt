@@ -61,14 +61,15 @@ pub fn nslt()
         → IsAmount (most + 1000 * lapse) (nslt_ends pr lapse) }
 {}
 
-/// For all charges the ends of health catastrophes enclose the exact figure, and are at most the
-/// sum of the charges.
+/// Ends of at least 0 that enclose the three charges of health catastrophes give ends that enclose
+/// the requirement, and are at most the sum of all.
 pub fn health_cat()
-    ensures encloses { (mass accident pandemic : ℕ)
-        → Encloses 1000 (health_cat_ends mass accident pandemic).low
-        (health_cat_ends mass accident pandemic).high (health_cat_figure mass accident pandemic) }
-    ensures size { (mass accident pandemic : ℕ) → IsAmount (1000 * (mass + accident + pandemic))
-        (health_cat_ends mass accident pandemic) }
+    ensures encloses { (parts : List Ends) (figures : Figures) → length parts ≡ 3
+        → EncloseAll 1000 parts figures
+        → Encloses 1000 (health_cat_ends parts).low (health_cat_ends parts).high
+        (health_cat_figure figures) }
+    ensures size { (mosts : List ℕ) (parts : List Ends) → length parts ≡ 3 → AreAmounts mosts parts
+        → IsAmount (sum_by (λ most. most) mosts) (health_cat_ends parts) }
 {}
 
 /// Ends of at least 0 that enclose the three parts of health give ends that enclose the module, and

@@ -6,5 +6,5 @@ pub mod laws;
 mod life_risks;
 mod uncorrelated;
 
-pub use health_risks::{health, health_cat, nslt, slt};
+pub use health_risks::{health, health_cat, health_catastrophe, nslt, slt};
 pub use life_risks::{life, loss};

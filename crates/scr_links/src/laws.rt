@@ -6,7 +6,7 @@ fn shared<T: Send + Sync>() {}
 
 /// An arena of edges and the names of its edges may be handed to other threads, and be read by
 /// several at once.
-pub fn threads_share_links() {
+pub fn sharing() {
     shared::<Links>();
     shared::<EdgeId>();
 }

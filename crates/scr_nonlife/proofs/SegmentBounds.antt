@@ -5,7 +5,7 @@ use Rattle.std.proofs.lemmas.Nat.{mul-le}
 use Rattle.std.proofs.lemmas.List.Sums.{sum_by-cons}
 use Rattle.scr_num.specs.Fraction.{Share, whole, millionths, plus, product, square}
 use Rattle.scr_num.specs.Figure.{Frac, AtMost}
-use Rattle.scr_num.specs.Rounding.{Ends, floor_div, ceil_div, ceil_root, floor_root}
+use Rattle.scr_num.specs.Rounding.{floor_div, ceil_div, ceil_root, floor_root}
 use Rattle.scr_num.specs.Enclosure.{Encloses}
 use Rattle.scr_num.specs.Ratio.{ratio_unit, ratio_ends, fraction_of}
 use Rattle.scr_num.specs.Amounts.{IsAmount}
@@ -55,10 +55,6 @@ diversification-not_negative volumes = share-not_negative (squared_volumes volum
 
 pub diversification-at_most_one : (volumes : List (ℕ × ℕ)) → (diversification_ends volumes).high ≤ℤ pos ratio_unit
 diversification-at_most_one volumes = share-at_most_one (squared_volumes volumes) (total_volume volumes * total_volume volumes) (squared-at_most volumes)
-
-pub diversification-empty : (volumes : List (ℕ × ℕ)) → total_volume volumes ≡ 0
-    → diversification_ends volumes ≡ (let e : Ends = record { low = pos ratio_unit; high = pos ratio_unit } in e)
-diversification-empty volumes e = ap (λ (x : ℕ). share_ends (squared_volumes volumes) (x * x)) e
 
 -- where there is volume
 pub diversification-some : (num den : ℕ) → 0 < den → ratio_ends num den ≡ share_ends num den

@@ -35,10 +35,6 @@ nslt_correlations = record {
 }
 
 -- ---- catastrophe risk
--- the charge at a place
-abbrev pub charge_figure : List ℕ → ℕ → Figure
-charge_figure charges place = cents_figure (slice_index charges place)
-
 -- no two of five natural perils, of six man-made ones and of three kinds of catastrophe are correlated
 abbrev pub five_perils : Table
 five_perils = record {
@@ -76,23 +72,38 @@ three_catastrophes = record {
 }
 
 -- natural catastrophes: the root of the squares of windstorm, earthquake, flood, hail and subsidence (Article 120)
-abbrev pub nat_figure : List ℕ → Figure
-nat_figure charges =
-    Root (more (charge_figure charges 0) (more (charge_figure charges 1) (more (charge_figure charges 2)
-    (more (charge_figure charges 3) (more (charge_figure charges 4) none))))) five_perils
+abbrev pub nat_figure : (perils : Figures) → Figure
+nat_figure perils = Root perils five_perils
 
 -- man-made catastrophes: the root of the squares of motor, marine, aviation, fire, liability, and credit and suretyship
 -- (Article 128)
-abbrev pub manmade_figure : List ℕ → Figure
-manmade_figure charges =
-    Root (more (charge_figure charges 6) (more (charge_figure charges 7) (more (charge_figure charges 8)
-    (more (charge_figure charges 9) (more (charge_figure charges 10) (more (charge_figure charges 11) none)))))) six_perils
+abbrev pub manmade_figure : (perils : Figures) → Figure
+manmade_figure perils = Root perils six_perils
 
 -- the root of the squares of natural catastrophes with non-proportional property reinsurance, of man-made ones and of
 -- others (Article 119)
-abbrev pub cat_figure : (nat manmade : Figure) → (npproperty other : ℕ) → Figure
-cat_figure nat manmade npproperty other =
-    Root (more (Sum nat (cents_figure npproperty)) (more manmade (more (cents_figure other) none))) three_catastrophes
+abbrev pub cat_figure : (nat manmade property other : Figure) → Figure
+cat_figure nat manmade property other =
+    Root (more (Sum nat property) (more manmade (more other none))) three_catastrophes
+
+-- ---- from thirteen charges in cents
+abbrev pub charge_figure : List ℕ → ℕ → Figure
+charge_figure charges place = cents_figure (slice_index charges place)
+
+abbrev pub natural_figure : List ℕ → Figure
+natural_figure charges =
+    let charge = charge_figure charges in
+    nat_figure (more (charge 0) (more (charge 1) (more (charge 2) (more (charge 3) (more (charge 4) none)))))
+
+abbrev pub man_made_figure : List ℕ → Figure
+man_made_figure charges =
+    let charge = charge_figure charges in
+    manmade_figure
+    (more (charge 6) (more (charge 7) (more (charge 8) (more (charge 9) (more (charge 10) (more (charge 11) none))))))
+
+abbrev pub catastrophes_figure : List ℕ → Figure
+catastrophes_figure charges =
+    cat_figure (natural_figure charges) (man_made_figure charges) (charge_figure charges 5) (charge_figure charges 12)
 
 -- ---- the module
 -- premium and reserve risk is correlated 0.25 with catastrophe risk, and lapse risk with neither (Article 114); the

@@ -1,12 +1,13 @@
 //! The catastrophe risk sub-module.
 
-ghost use Rattle.std.specs.Prelude.{◌≡◌, ◌+◌, ◌*◌, ◌≤◌, All, ℕ, slice_index, pos, ◌+ℤ◌, ◌≤ℤ◌};
-ghost use Rattle.scr_num.specs.Figure.{Figure};
-ghost use Rattle.scr_num.specs.Enclosure.{Encloses};
+ghost use Rattle.std.specs.Prelude.{◌≡◌, ◌≤◌, All, ℕ, pos, ◌≤ℤ◌, [], ◌∷◌};
+ghost use Rattle.scr_num.specs.Figure.{Figure, Figures};
+ghost use Rattle.scr_num.specs.Enclosure.{Encloses, EncloseAll};
 ghost use Rattle.scr_num.specs.Rounding.{ends};
+ghost use Rattle.scr_agg.specs.Correlated.{NotNegative, total_high, all_ends};
 ghost use Rattle.scr_profile.specs.declared.limits.TheConstants.{MAX_AMOUNT};
-ghost use Rattle.scr_nonlife.specs.Nonlife.{nat_figure, manmade_figure, cat_figure};
-ghost use Rattle.scr_nonlife.specs.NonlifeEnds.{nat_ends, manmade_ends, cat_ends};
+ghost use Rattle.scr_nonlife.specs.Nonlife.{nat_figure, manmade_figure, cat_figure, natural_figure, man_made_figure, catastrophes_figure};
+ghost use Rattle.scr_nonlife.specs.NonlifeEnds.{nat_ends, manmade_ends, cat_ends, natural_perils, man_made_perils, catastrophes_ends};
 
 use scr_agg::quad;
 use scr_num::{Span, add, cents};
@@ -73,84 +74,105 @@ pub struct NlCat {
 /// catastrophes.
 pub fn cat(charges: &[u64; 13]) -> NlCat
     requires { All (λ cents. cents ≤ MAX_AMOUNT) charges.now }
-    ensures nat { ends result.nat ≡ nat_ends charges.now }
-    ensures manmade { ends result.manmade ≡ manmade_ends charges.now }
-    ensures all { ends result.all ≡ cat_ends (nat_ends charges.now) (manmade_ends charges.now)
-        (slice_index charges.now 5) (slice_index charges.now 12) }
-    ensures nat_within { Encloses 1000 result.nat.low result.nat.high (nat_figure charges.now) }
+    ensures nat { ends result.nat ≡ nat_ends (natural_perils charges.now) }
+    ensures manmade { ends result.manmade ≡ manmade_ends (man_made_perils charges.now) }
+    ensures all { ends result.all ≡ catastrophes_ends charges.now }
+    ensures nat_within { Encloses 1000 result.nat.low result.nat.high (natural_figure charges.now) }
     ensures manmade_within { Encloses 1000 result.manmade.low result.manmade.high
-        (manmade_figure charges.now) }
+        (man_made_figure charges.now) }
     ensures all_within { Encloses 1000 result.all.low result.all.high
-        (cat_figure (nat_figure charges.now) (manmade_figure charges.now)
-        (slice_index charges.now 5) (slice_index charges.now 12)) }
+        (catastrophes_figure charges.now) }
     ensures not_negative { pos 0 ≤ℤ result.all.low }
     ensures size { result.all.high ≤ℤ pos 130_000_000_000_000_000 }
 {
-    let nat = nat(charges);
-    let manmade = manmade(charges);
+    let nat = natural(charges);
+    let manmade = man_made(charges);
     NlCat {
         nat,
         manmade,
-        all: cat_all(nat, manmade, charges[5], charges[12]),
+        all: cat_all(nat, manmade, cents(charges[5]), cents(charges[12])),
     }
 }
 
-/// The capital requirement for natural catastrophes, in grains (Article 120). The charges are those
-/// of `cat`.
-pub fn nat(charges: &[u64; 13]) -> Span
+// Natural catastrophes, from the charges of `cat`.
+fn natural(charges: &[u64; 13]) -> Span
     requires { All (λ cents. cents ≤ MAX_AMOUNT) charges.now }
-    ensures ends { ends result ≡ nat_ends charges.now }
-    ensures encloses { Encloses 1000 result.low result.high (nat_figure charges.now) }
+    ensures ends { ends result ≡ nat_ends (natural_perils charges.now) }
+    ensures encloses { Encloses 1000 result.low result.high (natural_figure charges.now) }
     ensures not_negative { pos 0 ≤ℤ result.low }
     ensures size { result.high ≤ℤ pos 50_000_000_000_000_000 }
 {
-    let perils = [
+    nat(&[
         cents(charges[0]),
         cents(charges[1]),
         cents(charges[2]),
         cents(charges[3]),
         cents(charges[4]),
-    ];
-    quad(&perils, &NATURAL)
+    ])
 }
 
-/// The capital requirement for man-made catastrophes, in grains (Article 128). The charges are
-/// those of `cat`.
-pub fn manmade(charges: &[u64; 13]) -> Span
+// Man-made catastrophes, from the charges of `cat`.
+fn man_made(charges: &[u64; 13]) -> Span
     requires { All (λ cents. cents ≤ MAX_AMOUNT) charges.now }
-    ensures ends { ends result ≡ manmade_ends charges.now }
-    ensures encloses { Encloses 1000 result.low result.high (manmade_figure charges.now) }
+    ensures ends { ends result ≡ manmade_ends (man_made_perils charges.now) }
+    ensures encloses { Encloses 1000 result.low result.high (man_made_figure charges.now) }
     ensures not_negative { pos 0 ≤ℤ result.low }
     ensures size { result.high ≤ℤ pos 60_000_000_000_000_000 }
 {
-    let perils = [
+    manmade(&[
         cents(charges[6]),
         cents(charges[7]),
         cents(charges[8]),
         cents(charges[9]),
         cents(charges[10]),
         cents(charges[11]),
-    ];
-    quad(&perils, &MANMADE)
+    ])
+}
+
+/// The capital requirement for natural catastrophes, in grains, of the charges for windstorm,
+/// earthquake, flood, hail and subsidence in grains (Article 120).
+pub fn nat(perils: &[Span; 5]) -> Span
+    requires lows { NotNegative perils.now }
+    requires highs { total_high perils.now ≤ 6_000_000_000_000_000_000 }
+    ensures ends { ends result ≡ nat_ends (all_ends perils.now) }
+    ensures encloses { (figures : Figures) → EncloseAll 1000 (all_ends perils.now) figures
+        → Encloses 1000 result.low result.high (nat_figure figures) }
+    ensures not_negative { pos 0 ≤ℤ result.low }
+    ensures at_most_the_sum { result.high ≤ℤ pos (total_high perils.now) }
+{
+    quad(perils, &NATURAL)
+}
+
+/// The capital requirement for man-made catastrophes, in grains, of the charges for motor, marine,
+/// aviation, fire, liability, and credit and suretyship in grains (Article 128).
+pub fn manmade(perils: &[Span; 6]) -> Span
+    requires lows { NotNegative perils.now }
+    requires highs { total_high perils.now ≤ 6_000_000_000_000_000_000 }
+    ensures ends { ends result ≡ manmade_ends (all_ends perils.now) }
+    ensures encloses { (figures : Figures) → EncloseAll 1000 (all_ends perils.now) figures
+        → Encloses 1000 result.low result.high (manmade_figure figures) }
+    ensures not_negative { pos 0 ≤ℤ result.low }
+    ensures at_most_the_sum { result.high ≤ℤ pos (total_high perils.now) }
+{
+    quad(perils, &MANMADE)
 }
 
 /// The capital requirement for all catastrophes, in grains, of those for natural and for man-made
-/// ones in grains and of the charges for non-proportional property reinsurance and for other
-/// catastrophes in cents (Article 119).
-pub fn cat_all(nat: Span, manmade: Span, npproperty: u64, other: u64) -> Span
-    requires nat_not_negative { pos 0 ≤ℤ nat.low }
-    requires manmade_not_negative { pos 0 ≤ℤ manmade.low }
-    requires parts { (nat.high +ℤ manmade.high) ≤ℤ pos 6_000_000_000_000_000_000 }
-    requires npproperty { npproperty ≤ MAX_AMOUNT }
-    requires other { other ≤ MAX_AMOUNT }
-    ensures ends { ends result ≡ cat_ends (ends nat) (ends manmade) npproperty other }
-    ensures encloses { (f g : Figure) → Encloses 1000 nat.low nat.high f
-        → Encloses 1000 manmade.low manmade.high g
-        → Encloses 1000 result.low result.high (cat_figure f g npproperty other) }
+/// ones and of the charges for non-proportional property reinsurance and for other catastrophes,
+/// all in grains (Article 119).
+pub fn cat_all(nat: Span, manmade: Span, property: Span, other: Span) -> Span
+    requires lows { NotNegative (nat ∷ manmade ∷ property ∷ other ∷ []) }
+    requires highs { total_high (nat ∷ manmade ∷ property ∷ other ∷ [])
+        ≤ 6_000_000_000_000_000_000 }
+    ensures ends { ends result ≡ cat_ends (ends nat) (ends manmade) (ends property) (ends other) }
+    ensures encloses { (f g h k : Figure) → Encloses 1000 nat.low nat.high f
+        → Encloses 1000 manmade.low manmade.high g → Encloses 1000 property.low property.high h
+        → Encloses 1000 other.low other.high k
+        → Encloses 1000 result.low result.high (cat_figure f g h k) }
     ensures not_negative { pos 0 ≤ℤ result.low }
-    ensures at_most_the_sum { result.high ≤ℤ (nat.high +ℤ manmade.high +ℤ pos (1000 *
-        (npproperty + other))) }
+    ensures at_most_the_sum { result.high
+        ≤ℤ pos (total_high (nat ∷ manmade ∷ property ∷ other ∷ [])) }
 {
-    let natural = add(nat, cents(npproperty));
-    quad(&[natural, manmade, cents(other)], &CATASTROPHES)
+    let natural = add(nat, property);
+    quad(&[natural, manmade, other], &CATASTROPHES)
 }

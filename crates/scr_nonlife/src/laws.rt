@@ -1,7 +1,7 @@
 //! Laws of the non-life underwriting risk module, whatever a program does. Each is a function that
 //! does nothing, whose contract is the law.
 
-ghost use Rattle.std.specs.Prelude.{◌≡◌, ℕ, ◌+◌, ◌*◌, ◌<◌, ◌≤◌, pos, ◌<ℤ◌, ◌≤ℤ◌, List, length, sum_by, slice_index};
+ghost use Rattle.std.specs.Prelude.{◌≡◌, ℕ, ◌+◌, ◌*◌, ◌<◌, ◌≤◌, pos, ◌<ℤ◌, ◌≤ℤ◌, List, length, sum_by};
 ghost use Rattle.scr_num.specs.Figure.{Figure, Figures, Frac};
 ghost use Rattle.scr_num.specs.Table.{Table, IsSquare};
 ghost use Rattle.scr_num.specs.Enclosure.{Encloses, EncloseAll};
@@ -60,37 +60,36 @@ pub fn premium_and_reserve()
         → IsAmount (3 * sum_by (λ most. most) mosts) (premium_reserve_ends segments (table_of m)) }
 {}
 
-/// For all charges the ends of natural and of man-made catastrophes enclose the exact figures, and
-/// are at most the sum of the charges.
+/// Ends of at least 0 that enclose the five natural and the six man-made perils give ends that
+/// enclose natural and man-made catastrophes, and are at most the sum of all.
 pub fn perils()
-    ensures nat { (charges : List ℕ)
-        → Encloses 1000 (nat_ends charges).low (nat_ends charges).high (nat_figure charges) }
-    ensures manmade { (charges : List ℕ)
-        → Encloses 1000 (manmade_ends charges).low (manmade_ends charges).high
-        (manmade_figure charges) }
-    ensures nat_size { (charges : List ℕ)
-        → IsAmount (1000 * (slice_index charges 0 + slice_index charges 1
-        + slice_index charges 2 + slice_index charges 3 + slice_index charges 4))
-        (nat_ends charges) }
-    ensures manmade_size { (charges : List ℕ)
-        → IsAmount (1000 * (slice_index charges 6 + slice_index charges 7
-        + slice_index charges 8 + slice_index charges 9
-        + slice_index charges 10 + slice_index charges 11))
-        (manmade_ends charges) }
+    ensures nat { (perils : List Ends) (figures : Figures) → length perils ≡ 5
+        → EncloseAll 1000 perils figures
+        → Encloses 1000 (nat_ends perils).low (nat_ends perils).high (nat_figure figures) }
+    ensures manmade { (perils : List Ends) (figures : Figures) → length perils ≡ 6
+        → EncloseAll 1000 perils figures
+        → Encloses 1000 (manmade_ends perils).low (manmade_ends perils).high
+        (manmade_figure figures) }
+    ensures nat_size { (mosts : List ℕ) (perils : List Ends) → length perils ≡ 5
+        → AreAmounts mosts perils
+        → IsAmount (sum_by (λ most. most) mosts) (nat_ends perils) }
+    ensures manmade_size { (mosts : List ℕ) (perils : List Ends) → length perils ≡ 6
+        → AreAmounts mosts perils
+        → IsAmount (sum_by (λ most. most) mosts) (manmade_ends perils) }
 {}
 
-/// Ends of at least 0 that enclose natural and man-made catastrophes give ends that enclose all
-/// catastrophes, and are at most the sum of all.
+/// Ends of at least 0 that enclose natural and man-made catastrophes and both charges give ends
+/// that enclose all catastrophes, and are at most the sum of all.
 pub fn all_catastrophes()
-    ensures encloses { (nat manmade : Ends) (f g : Figure) (npproperty other : ℕ) → pos 0 ≤ℤ nat.low
-        → pos 0 ≤ℤ manmade.low → Encloses 1000 nat.low nat.high f
-        → Encloses 1000 manmade.low manmade.high g
-        → Encloses 1000 (cat_ends nat manmade npproperty other).low
-        (cat_ends nat manmade npproperty other).high
-        (cat_figure f g npproperty other) }
-    ensures size { (a b : ℕ) (nat manmade : Ends) (npproperty other : ℕ) → IsAmount a nat
-        → IsAmount b manmade
-        → IsAmount (a + b + 1000 * (npproperty + other)) (cat_ends nat manmade npproperty other) }
+    ensures encloses { (nat manmade property other : Ends) (f g h k : Figure) → pos 0 ≤ℤ nat.low
+        → pos 0 ≤ℤ manmade.low → pos 0 ≤ℤ property.low → pos 0 ≤ℤ other.low
+        → Encloses 1000 nat.low nat.high f → Encloses 1000 manmade.low manmade.high g
+        → Encloses 1000 property.low property.high h → Encloses 1000 other.low other.high k
+        → Encloses 1000 (cat_ends nat manmade property other).low
+        (cat_ends nat manmade property other).high (cat_figure f g h k) }
+    ensures size { (a b c d : ℕ) (nat manmade property other : Ends) → IsAmount a nat
+        → IsAmount b manmade → IsAmount c property → IsAmount d other
+        → IsAmount (a + b + c + d) (cat_ends nat manmade property other) }
 {}
 
 /// Ends of at least 0 that enclose premium and reserve and catastrophe risk give ends that enclose

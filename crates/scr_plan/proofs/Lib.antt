@@ -9,6 +9,7 @@ pub mod Sizes
 pub mod MarketSums
 pub mod MarketPayments
 pub mod MarketSizes
+pub mod RootAmounts
 pub mod MarketRanges
 pub mod MarketEnclosures
 pub mod ExcessValues

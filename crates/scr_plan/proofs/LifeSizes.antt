@@ -60,7 +60,8 @@ use Rattle.scr_nodes.specs.Sources.{liability_loss, losses_under, life_parts, sl
 use Rattle.scr_nodes.proofs.OwnRows.{own-liabilities}
 use Rattle.scr_plan.specs.Discounts.{discounts_at}
 use Rattle.scr_plan.specs.LifeExact.{stress_loss}
-use Rattle.scr_plan.specs.LifeFits.{AreSortable, FitsExcess, AreNotNegative, high_total}
+use Rattle.scr_plan.specs.LifeFits.{AreSortable, FitsExcess}
+use Rattle.scr_plan.specs.RootFits.{AreNotNegative, high_total}
 use Rattle.scr_plan.specs.LifeRules.{excess_dues, excess_ends}
 use Rattle.scr_plan.specs.Worked.{worked}
 use Rattle.scr_plan.proofs.Equations.{worked-equation}

@@ -35,7 +35,8 @@ use Rattle.scr_nodes.specs.Sources.{sources_of, gross_of}
 use Rattle.scr_plan.specs.Fits.{Fits}
 use Rattle.scr_plan.specs.MarketFits.{FitsWorth}
 use Rattle.scr_plan.specs.Worked.{worked}
-use Rattle.scr_plan.proofs.MarketSizes.{first-are, others-are, worths-count, held-sum, assets-small, owed-small, tested-together, change-amount, picked-together, property-amount, bonds-together, spread-amount, group-worked, group-small, assets-worked, all-assets-small, group-part, squares-together, squares-amount, concentration-amount, interest-amount, interest-mask, mask-amount, part-amount, equity-amount, currency-amount, change-most-small}
+use Rattle.scr_plan.proofs.MarketSizes.{first-are, others-are, worths-count, held-sum, assets-small, owed-small, tested-together, change-amount, picked-together, property-amount, bonds-together, spread-amount, group-worked, group-small, assets-worked, all-assets-small, group-part, squares-together, squares-amount, concentration-amount, interest-mask, mask-amount, six_most, six-amounts, change-most-small}
+use Rattle.scr_plan.proofs.RootAmounts.{root-fits}
 use Rattle.scr_plan.proofs.Payments.{liability-known, liability-fits}
 use Rattle.scr_plan.proofs.Sizes.{class-amount}
 use Rattle.scr_plan.proofs.Totals.{security-amount}
@@ -175,12 +176,7 @@ module _ (factors : FactorValues) (sheet : BalanceSheet) (valid : Valid sheet) w
 
   pub market-fits : (measure : Measure) → NodeFits (nodes.Market measure)
   market-fits measure = record {
-    interest = interest-amount factors sheet valid measure;
-    equity = amount-wider _ _ _ (lit≤ tt) (equity-amount factors sheet valid measure);
-    property = amount-wider _ _ _ (lit≤ tt) (part-amount factors sheet valid risks.Property measure _ (property-amount factors sheet valid));
-    spread = amount-wider _ _ _ (lit≤ tt) (part-amount factors sheet valid risks.Spread measure _ (spread-amount factors sheet valid));
-    concentration = amount-wider _ _ _ (lit≤ tt) (part-amount factors sheet valid risks.Concentration measure _ (concentration-amount factors sheet valid));
-    currency = amount-wider _ _ _ (lit≤ tt) (currency-amount factors sheet valid measure);
+    parts = root-fits 6 (six_most factors sheet valid) (map figure (sources_of sheet (nodes.Market measure))) (six-amounts factors sheet valid measure) (omega arith);
     mask = mask-amount factors sheet valid;
     some = (interest-mask factors sheet valid (figure (nodes.Choice alternatives.Interest)) refl).some;
   }

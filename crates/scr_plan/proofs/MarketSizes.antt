@@ -6,7 +6,7 @@ use Rattle.std.proofs.Math.Seq.{take-append_seam, drop-append_seam}
 use Rattle.std.proofs.lemmas.Int.{ints, clamps}
 use Rattle.std.proofs.lemmas.List.{map-append, length-map, length-append}
 use Rattle.std.proofs.lemmas.List.Sums.{sum_by-le-sum_by}
-use Rattle.scr_num.specs.Amounts.{IsAmount}
+use Rattle.scr_num.specs.Amounts.{IsAmount, AreAmounts}
 use Rattle.scr_num.specs.Rounding.{Ends, exact_ends, sub_ends, max_ends, scale_ends, or_zero}
 use Rattle.scr_num.specs.Sizes.{IsWithin, AreTogether}
 use Rattle.scr_num.specs.Sums.{sum_ends}
@@ -589,12 +589,24 @@ module _ (factors : FactorValues) (sheet : BalanceSheet) (valid : Valid sheet) w
       ∷ figure (risk_part risks.Spread measure) ∷ figure (risk_part risks.Concentration measure) ∷ figure (nodes.Currency measure) ∷ []
 
   -- 1.4·10^18 grains together
-  abbrev six_most : List ℕ
+  abbrev pub six_most : List ℕ
   six_most =
       10 ^ 18 ∷ (MAX_EQUITY_PART + (MAX_EQUITY_PART + MAX_EQUITY_PART + MAX_EQUITY_PART)) ∷ MAX_PROPERTY ∷ 50_000_000_000_000_000 ∷ 38 * 10 ^ 15 ∷ 10 ^ 17 ∷ []
 
   pub equity-amount : (measure : Measure) → IsAmount (MAX_EQUITY_PART + (MAX_EQUITY_PART + MAX_EQUITY_PART + MAX_EQUITY_PART)) (figure (risk_part risks.Equity measure))
   equity-amount measure = part-amount risks.Equity measure _ (root-amount factors sheet valid)
+
+  pub six-amounts : (measure : Measure) → AreAmounts six_most (six measure)
+  six-amounts measure = (
+    interest-amount measure,
+    (
+      equity-amount measure,
+      (
+        part-amount risks.Property measure _ property-amount,
+        (part-amount risks.Spread measure _ spread-amount, (part-amount risks.Concentration measure _ concentration-amount, (currency-amount measure, tt))),
+      ),
+    ),
+  )
 
   pub market-worked : (measure : Measure) → figure (nodes.Market measure) ≡ market_ends (six measure) (amount_of (figure (nodes.Choice alternatives.Interest)))
   market-worked measure = worked-equation factors sheet valid (nodes.Market measure)
@@ -603,13 +615,4 @@ module _ (factors : FactorValues) (sheet : BalanceSheet) (valid : Valid sheet) w
   market-amount measure =
       subst (IsAmount (2 * 10 ^ 18)) (sym (market-worked measure))
       (amount-wider _ _ _ (lit≤ tt)
-      (market-size six_most (six measure) (amount_of (figure (nodes.Choice alternatives.Interest))) refl (
-        interest-amount measure,
-        (
-          equity-amount measure,
-          (
-            part-amount risks.Property measure _ property-amount,
-            (part-amount risks.Spread measure _ spread-amount, (part-amount risks.Concentration measure _ concentration-amount, (currency-amount measure, tt))),
-          ),
-        ),
-      )))
+      (market-size six_most (six measure) (amount_of (figure (nodes.Choice alternatives.Interest))) refl (six-amounts measure)))

@@ -10,7 +10,6 @@ use Rattle.scr_num.proofs.CentAmounts.{Encloses-cents, or_zero-is}
 use Rattle.scr_agg.specs.Correlated.{table_of}
 use Rattle.scr_agg.proofs.NetAmounts.{Encloses-net}
 use Rattle.scr_agg.proofs.Roots.{table_of-square}
-use Rattle.scr_bio.specs.Biometric.{health_cat_figure}
 use Rattle.scr_bio.proofs.BiometricBounds.{nslt-encloses, health_cat-encloses, health-encloses}
 use Rattle.scr_nonlife.proofs.NonlifeBounds.{premium_reserve-encloses, nat-encloses, manmade-encloses, cat-encloses, nonlife-encloses}
 use Rattle.scr_nonlife.proofs.SegmentBounds.{segment-encloses}
@@ -30,7 +29,7 @@ use Rattle.scr_nodes.specs.OwnOf.{risk_key, catastrophe_cents, lapse_cents, volu
 use Rattle.scr_nodes.specs.Sources.{risk_part, segments_of}
 use Rattle.scr_nonlife.specs.Nonlife.{premium_reserve_figure}
 use Rattle.scr_nonlife.specs.NonlifeEnds.{premium_reserve_ends}
-use Rattle.scr_plan.specs.NonlifeExact.{catastrophe_charge, lapse_charge, segment_exact, segments_exact, segment_table, premium_reserve_exact, natural_exact, man_made_exact, catastrophe_exact, health_catastrophe_exact, nonlife_exact, nslt_exact, health_exact}
+use Rattle.scr_plan.specs.NonlifeExact.{catastrophe_charge, lapse_charge, segment_exact, segments_exact, segment_table, premium_reserve_exact, natural_exact, man_made_exact, catastrophe_exact, health_charges, health_catastrophe_exact, nonlife_exact, nslt_exact, health_exact}
 use Rattle.scr_plan.specs.Worked.{worked}
 use Rattle.scr_plan.proofs.NonlifeSizes as sizes
 
@@ -95,28 +94,41 @@ module _ (factors : FactorValues) (known : IsInForm factors) (sheet : BalanceShe
       (positive (segment_correlations factors set).den (sizes.correlations-positive factors known sheet valid set)) (square set) (segments-hold set)))
 
   -- ---- catastrophes
+  charge-low : (key : CatKey) → pos 0 ≤ℤ (figure (nodes.CatCharge key)).low
+  charge-low key = (sizes.charge-amount factors known sheet valid key).not_negative
+
   pub natural-holds : Holds (figure nodes.Natural) (natural_exact sheet)
   unfolding natural_exact
-  natural-holds = is-enclosed _ _ _ (sizes.natural-worked factors known sheet valid) (nat-encloses sheet.numbers.cat)
+  natural-holds =
+      let p = charge-low in
+      let e = charge-encloses in
+      is-enclosed _ _ _ (sizes.natural-worked factors known sheet valid) (nat-encloses (sizes.natural_charges factors known sheet valid) _ refl
+      (p cats.Windstorm, e cats.Windstorm, (p cats.Earthquake, e cats.Earthquake, (p cats.Flood, e cats.Flood, (p cats.Hail, e cats.Hail, (p cats.Subsidence, e cats.Subsidence, tt))))))
 
   pub man_made-holds : Holds (figure nodes.ManMade) (man_made_exact sheet)
   unfolding man_made_exact
-  man_made-holds = is-enclosed _ _ _ (sizes.man_made-worked factors known sheet valid) (manmade-encloses sheet.numbers.cat)
+  man_made-holds =
+      let p = charge-low in
+      let e = charge-encloses in
+      is-enclosed _ _ _ (sizes.man_made-worked factors known sheet valid) (manmade-encloses (sizes.man_made_charges factors known sheet valid) _ refl
+      (p cats.Motor, e cats.Motor, (p cats.Marine, e cats.Marine, (p cats.Aviation, e cats.Aviation, (p cats.Fire, e cats.Fire, (p cats.Liability, e cats.Liability, (p cats.Credit, e cats.Credit, tt)))))))
 
   pub catastrophe-holds : Holds (figure nodes.NonlifeCatastrophe) (catastrophe_exact sheet)
   unfolding catastrophe_exact
   catastrophe-holds =
       is-enclosed _ _ _ (sizes.catastrophe-worked factors known sheet valid)
-      (cat-encloses (figure nodes.Natural) (figure nodes.ManMade) (natural_exact sheet) (man_made_exact sheet)
-      (catastrophe_cents cats.NonProportionalProperty sheet.numbers) (catastrophe_cents cats.Other sheet.numbers)
+      (cat-encloses (figure nodes.Natural) (figure nodes.ManMade) (figure (nodes.CatCharge cats.NonProportionalProperty)) (figure (nodes.CatCharge cats.Other))
+      (natural_exact sheet) (man_made_exact sheet) (catastrophe_charge sheet cats.NonProportionalProperty) (catastrophe_charge sheet cats.Other)
       (sizes.natural-amount factors known sheet valid).not_negative (sizes.man_made-amount factors known sheet valid).not_negative
-      natural-holds man_made-holds)
+      (charge-low cats.NonProportionalProperty) (charge-low cats.Other)
+      natural-holds man_made-holds (charge-encloses cats.NonProportionalProperty) (charge-encloses cats.Other))
 
-  health_gross-holds : Holds (figure nodes.HealthCatastrophe)
-      (health_cat_figure (catastrophe_cents cats.MassAccident sheet.numbers) (catastrophe_cents cats.AccidentConcentration sheet.numbers) (catastrophe_cents cats.Pandemic sheet.numbers))
+  health_gross-holds : Holds (figure nodes.HealthCatastrophe) (health_charges sheet)
   health_gross-holds =
-      is-enclosed _ _ _ (sizes.health_catastrophe-worked factors known sheet valid)
-      (health_cat-encloses (catastrophe_cents cats.MassAccident sheet.numbers) (catastrophe_cents cats.AccidentConcentration sheet.numbers) (catastrophe_cents cats.Pandemic sheet.numbers))
+      let p = charge-low in
+      let e = charge-encloses in
+      is-enclosed _ _ _ (sizes.health_catastrophe-worked factors known sheet valid) (health_cat-encloses (sizes.health_charges factors known sheet valid) _ refl
+      (p cats.MassAccident, e cats.MassAccident, (p cats.AccidentConcentration, e cats.AccidentConcentration, (p cats.Pandemic, e cats.Pandemic, tt))))
 
   pub health_catastrophe-holds : (measure : Measure) → Holds (figure (risk_part risks.HealthCatastrophe measure)) (health_catastrophe_exact sheet measure)
   unfolding health_catastrophe_exact

@@ -8,7 +8,7 @@ use Rattle.std.proofs.lemmas.List.Sums.{sum_by-cons}
 use Rattle.scr_num.specs.Amounts.{IsAmount, AreAmounts}
 use Rattle.scr_num.specs.Rounding.{Ends, or_zero}
 use Rattle.scr_num.specs.Sizes.{IsWithin}
-use Rattle.scr_num.proofs.AmountBounds.{amount-high, amount-wider}
+use Rattle.scr_num.proofs.AmountBounds.{amount-high}
 use Rattle.scr_num.proofs.CentAmounts.{or_zero-at_most, square-small}
 use Rattle.scr_profile.specs.Segments.{segments}
 use Rattle.scr_profile.specs.declared.set.Set.{Set}
@@ -27,6 +27,7 @@ use Rattle.scr_nodes.specs.Sources.{sources_of, segments_of}
 use Rattle.scr_plan.specs.Fits.{Fits}
 use Rattle.scr_plan.specs.NonlifeFits.{MAX_CHARGE}
 use Rattle.scr_plan.specs.Worked.{worked}
+use Rattle.scr_plan.proofs.RootAmounts.{root-fits}
 use Rattle.scr_plan.proofs.NonlifeSizes as sizes
 
 pub lows-not_negative : (mosts : List ℕ) (es : List Ends) → AreAmounts mosts es → AllByRecursion (λ e. pos 0 ≤ℤ e.low) es
@@ -109,21 +110,19 @@ module _ (factors : FactorValues) (known : IsInForm factors) (sheet : BalanceShe
   charge key = sizes.charge-amount factors known sheet valid key
 
   pub natural-fits : NodeFits nodes.Natural
-  natural-fits = record { windstorm = charge cats.Windstorm; earthquake = charge cats.Earthquake; flood = charge cats.Flood; hail = charge cats.Hail; subsidence = charge cats.Subsidence }
+  natural-fits = root-fits 5 (sizes.most_charges 5) (map figure (sources_of sheet nodes.Natural)) (sizes.natural-amounts factors known sheet valid) (omega arith)
 
   pub man_made-fits : NodeFits nodes.ManMade
-  man_made-fits = record { motor = charge cats.Motor; marine = charge cats.Marine; aviation = charge cats.Aviation; fire = charge cats.Fire; liability = charge cats.Liability; credit = charge cats.Credit }
+  man_made-fits = root-fits 6 (sizes.most_charges 6) (map figure (sources_of sheet nodes.ManMade)) (sizes.man_made-amounts factors known sheet valid) (omega arith)
 
   pub catastrophe-fits : NodeFits nodes.NonlifeCatastrophe
-  catastrophe-fits = record {
-    natural = amount-wider _ (10 ^ 18) _ (omega arith) (sizes.natural-amount factors known sheet valid);
-    man_made = amount-wider _ (10 ^ 18) _ (omega arith) (sizes.man_made-amount factors known sheet valid);
-    property = charge cats.NonProportionalProperty;
-    other = charge cats.Other;
-  }
+  catastrophe-fits =
+      root-fits 4 (50 * 10 ^ 15 ∷ 60 * 10 ^ 15 ∷ MAX_CHARGE ∷ MAX_CHARGE ∷ []) (map figure (sources_of sheet nodes.NonlifeCatastrophe))
+      (sizes.natural-amount factors known sheet valid, (sizes.man_made-amount factors known sheet valid, (charge cats.NonProportionalProperty, (charge cats.Other, tt))))
+      (omega arith)
 
   pub health_catastrophe-fits : NodeFits nodes.HealthCatastrophe
-  health_catastrophe-fits = record { mass = charge cats.MassAccident; concentration = charge cats.AccidentConcentration; pandemic = charge cats.Pandemic }
+  health_catastrophe-fits = root-fits 3 (sizes.most_charges 3) (map figure (sources_of sheet nodes.HealthCatastrophe)) (sizes.health-amounts factors known sheet valid) (omega arith)
 
   pub health_net-fits : NodeFits (nodes.NetPart risks.HealthCatastrophe)
   health_net-fits = record {
@@ -132,23 +131,21 @@ module _ (factors : FactorValues) (known : IsInForm factors) (sheet : BalanceShe
   }
 
   -- ---- modules
-  premium_reserve : (set : Set) → IsAmount (10 ^ 18) (figure (nodes.PremiumReserve set))
-  premium_reserve set = amount-wider _ (10 ^ 18) _ (omega arith) (sizes.premium_reserve-amount factors known sheet valid set)
-
   pub nonlife-fits : (measure : Measure) → NodeFits (nodes.Nonlife measure)
   nonlife-fits measure = record {
     charge = sizes.lapse-within factors known sheet valid sets.Nl;
-    premium_reserve = premium_reserve sets.Nl;
-    catastrophe = amount-wider _ (10 ^ 18) _ (omega arith) (sizes.catastrophe-amount factors known sheet valid);
+    parts = root-fits 2 (30_000_000_000_000_000 ∷ 130 * 10 ^ 15 ∷ []) (map figure (sources_of sheet (nodes.Nonlife measure)))
+        (sizes.premium_reserve-amount factors known sheet valid sets.Nl, (sizes.catastrophe-amount factors known sheet valid, tt)) (omega arith);
   }
 
   pub nslt-fits : (measure : Measure) → NodeFits (nodes.Nslt measure)
-  nslt-fits measure = record { charge = sizes.lapse-within factors known sheet valid sets.Nslt; premium_reserve = premium_reserve sets.Nslt }
+  nslt-fits measure =
+      let all = sizes.premium_reserve-amount factors known sheet valid sets.Nslt in
+      let high = amount-high _ _ all in
+      record { charge = sizes.lapse-within factors known sheet valid sets.Nslt; low = all.not_negative; high = omega (arith, ints, high) }
 
   -- where what is similar to life is no more than the limit
   pub health-fits : (measure : Measure) → IsAmount 5_000_000_000_000_000_000 (figure (nodes.Slt measure)) → NodeFits (nodes.Health measure)
-  health-fits measure h = record {
-    slt = h;
-    nslt = amount-wider _ (4 * 10 ^ 17) _ (omega arith) (sizes.nslt-amount factors known sheet valid measure);
-    catastrophe = amount-wider _ (4 * 10 ^ 17) _ (omega arith) (sizes.health_part-amount factors known sheet valid measure);
-  }
+  health-fits measure h =
+      root-fits 3 (5_000_000_000_000_000_000 ∷ 40 * 10 ^ 15 ∷ 30 * 10 ^ 15 ∷ []) (map figure (sources_of sheet (nodes.Health measure)))
+      (h, (sizes.nslt-amount factors known sheet valid measure, (sizes.health_part-amount factors known sheet valid measure, tt))) (omega arith)

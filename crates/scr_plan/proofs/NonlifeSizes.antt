@@ -1,7 +1,7 @@
 -- The worked figures of charges that are handed in, of segments, of catastrophes, and of the non-life and health modules of
 -- a valid balance sheet: what they are, and how large.
-use Rattle.std.proofs.Common.{◌≡◌, ℕ, zero, suc, ◌+◌, ◌-◌, ◌*◌, ◌/◌, ◌^◌, ◌≤◌, List, [], ◌∷◌, length, map, drop, sum_by, pos, ◌<ℤ◌, Option, Some, None, refl, ap, ap₂, sym, subst, ◌∙◌, arith, lit≤}
-use Rattle.std.specs.Prelude.{slice_index, slice_index_or}
+use Rattle.std.proofs.Common.{◌≡◌, ℕ, zero, suc, ◌+◌, ◌-◌, ◌*◌, ◌^◌, ◌≤◌, List, [], ◌∷◌, length, map, drop, sum_by, pos, ◌<ℤ◌, Option, Some, None, refl, sym, subst, arith, lit≤}
+use Rattle.std.specs.Prelude.{slice_index_or}
 use Rattle.std.specs.List.{AllByRecursion}
 use Rattle.std.specs.Option.{option_map_or}
 use Rattle.std.proofs.lemmas.Int.{ints}
@@ -39,7 +39,6 @@ use Rattle.scr_nodes.specs.declared.node.Risk.TheVariants as risks
 use Rattle.scr_nodes.specs.OwnOf.{risk_key, catastrophe_cents, lapse_cents, volumes_in_regions, segment_correlations}
 use Rattle.scr_nodes.specs.Sources.{risk_part, segments_of}
 use Rattle.scr_plan.specs.NonlifeFits.{MAX_CHARGE}
-use Rattle.scr_plan.specs.Figures.{amount_of}
 use Rattle.scr_plan.specs.Worked.{worked}
 use Rattle.scr_plan.proofs.Equations.{worked-equation}
 
@@ -99,20 +98,10 @@ grains-within (suc count) place segments =
       volume-first segments place,
     )
 
--- ---- charges from their grains
-quotient : (n : ℕ) → 1000 * n / 1000 ≡ n
-quotient n = omega arith
-
-same-three : {X : Type 0} (f : ℕ → ℕ → ℕ → X) (a b c x y z : ℕ) → a ≡ x → b ≡ y → c ≡ z → f a b c ≡ f x y z
-same-three f a b c x y z p q r = cc
-
-same-five : {X : Type 0} (f : ℕ → ℕ → ℕ → ℕ → ℕ → X) (a b c d e u v x y z : ℕ) → a ≡ u → b ≡ v → c ≡ x → d ≡ y → e ≡ z
-    → f a b c d e ≡ f u v x y z
-same-five f a b c d e u v x y z p q r s t = cc
-
-same-six : {X : Type 0} (f : ℕ → ℕ → ℕ → ℕ → ℕ → ℕ → X) (a b c d e g u v w x y z : ℕ) → a ≡ u → b ≡ v → c ≡ w → d ≡ x
-    → e ≡ y → g ≡ z → f a b c d e g ≡ f u v w x y z
-same-six f a b c d e g u v w x y z p q r s t o = cc
+-- the most grains of so many handed-in charges
+abbrev pub most_charges : ℕ → List ℕ
+most_charges zero = []
+most_charges (suc count) = MAX_CHARGE ∷ most_charges count
 
 module _ (factors : FactorValues) (known : IsInForm factors) (sheet : BalanceSheet) (valid : Valid sheet) where
   abbrev figure : Node → Ends
@@ -135,9 +124,6 @@ module _ (factors : FactorValues) (known : IsInForm factors) (sheet : BalanceShe
   charge-amount key =
       subst (IsAmount MAX_CHARGE) (sym (charge-worked key))
       (amount-exact MAX_CHARGE (1000 * catastrophe_cents key sheet.numbers) (omega (arith, catastrophe-within key)))
-
-  pub charge-cents : (key : CatKey) → amount_of (figure (nodes.CatCharge key)) / 1000 ≡ catastrophe_cents key sheet.numbers
-  charge-cents key = ap (λ (e : Ends). amount_of e / 1000) (charge-worked key) ∙ quotient (catastrophe_cents key sheet.numbers)
 
   pub lapse-within : (set : Set) → lapse_cents set sheet.numbers ≤ MAX_AMOUNT
   lapse-within set = each-at validity.IsAmount sheet.numbers.lapse (lapse_place set) 0 (omega arith) valid.numbers.lapse
@@ -211,44 +197,46 @@ module _ (factors : FactorValues) (known : IsInForm factors) (sheet : BalanceShe
       (correlations-positive set) (correlations-within set) (segments-counted set) (segments-amounts set)))
 
   -- ---- catastrophes of non-life
-  cat-within : (k : ℕ) → slice_index sheet.numbers.cat k ≤ MAX_AMOUNT
-  cat-within k = each-at validity.IsAmount sheet.numbers.cat k 0 (omega arith) valid.numbers.cat
+  abbrev charge : CatKey → Ends
+  charge key = figure (nodes.CatCharge key)
 
-  pub natural-worked : figure nodes.Natural ≡ nat_ends sheet.numbers.cat
-  natural-worked =
-      worked-equation factors sheet valid nodes.Natural
-      ∙ same-five (λ a b c d e. nat_ends (a ∷ b ∷ c ∷ d ∷ e ∷ [])) _ _ _ _ _ _ _ _ _ _
-      (charge-cents cats.Windstorm) (charge-cents cats.Earthquake) (charge-cents cats.Flood) (charge-cents cats.Hail) (charge-cents cats.Subsidence)
+  abbrev pub natural_charges : List Ends
+  natural_charges = charge cats.Windstorm ∷ charge cats.Earthquake ∷ charge cats.Flood ∷ charge cats.Hail ∷ charge cats.Subsidence ∷ []
+
+  pub natural-amounts : AreAmounts (most_charges 5) natural_charges
+  natural-amounts = (charge-amount cats.Windstorm, (charge-amount cats.Earthquake, (charge-amount cats.Flood, (charge-amount cats.Hail, (charge-amount cats.Subsidence, tt)))))
+
+  pub natural-worked : figure nodes.Natural ≡ nat_ends natural_charges
+  natural-worked = worked-equation factors sheet valid nodes.Natural
 
   pub natural-amount : IsAmount (50 * 10 ^ 15) (figure nodes.Natural)
   natural-amount =
       subst (IsAmount (50 * 10 ^ 15)) (sym natural-worked)
-      (amount-wider _ (50 * 10 ^ 15) _ (omega (arith, cat-within 0, cat-within 1, cat-within 2, cat-within 3, cat-within 4)) (nat-size sheet.numbers.cat))
+      (amount-wider _ (50 * 10 ^ 15) _ (omega arith) (nat-size (most_charges 5) natural_charges refl natural-amounts))
 
-  pub man_made-worked : figure nodes.ManMade ≡ manmade_ends sheet.numbers.cat
-  man_made-worked =
-      worked-equation factors sheet valid nodes.ManMade
-      ∙ same-six (λ a b c d e g. manmade_ends (0 ∷ 0 ∷ 0 ∷ 0 ∷ 0 ∷ 0 ∷ a ∷ b ∷ c ∷ d ∷ e ∷ g ∷ [])) _ _ _ _ _ _ _ _ _ _ _ _
-      (charge-cents cats.Motor) (charge-cents cats.Marine) (charge-cents cats.Aviation) (charge-cents cats.Fire) (charge-cents cats.Liability) (charge-cents cats.Credit)
+  abbrev pub man_made_charges : List Ends
+  man_made_charges = charge cats.Motor ∷ charge cats.Marine ∷ charge cats.Aviation ∷ charge cats.Fire ∷ charge cats.Liability ∷ charge cats.Credit ∷ []
+
+  pub man_made-amounts : AreAmounts (most_charges 6) man_made_charges
+  man_made-amounts = (charge-amount cats.Motor, (charge-amount cats.Marine, (charge-amount cats.Aviation, (charge-amount cats.Fire, (charge-amount cats.Liability, (charge-amount cats.Credit, tt))))))
+
+  pub man_made-worked : figure nodes.ManMade ≡ manmade_ends man_made_charges
+  man_made-worked = worked-equation factors sheet valid nodes.ManMade
 
   pub man_made-amount : IsAmount (60 * 10 ^ 15) (figure nodes.ManMade)
   man_made-amount =
       subst (IsAmount (60 * 10 ^ 15)) (sym man_made-worked)
-      (amount-wider _ (60 * 10 ^ 15) _
-      (omega (arith, cat-within 6, cat-within 7, cat-within 8, cat-within 9, cat-within 10, cat-within 11)) (manmade-size sheet.numbers.cat))
+      (amount-wider _ (60 * 10 ^ 15) _ (omega arith) (manmade-size (most_charges 6) man_made_charges refl man_made-amounts))
 
   pub catastrophe-worked : figure nodes.NonlifeCatastrophe
-      ≡ cat_ends (figure nodes.Natural) (figure nodes.ManMade) (catastrophe_cents cats.NonProportionalProperty sheet.numbers) (catastrophe_cents cats.Other sheet.numbers)
-  catastrophe-worked =
-      worked-equation factors sheet valid nodes.NonlifeCatastrophe
-      ∙ ap₂ (cat_ends (figure nodes.Natural) (figure nodes.ManMade)) (charge-cents cats.NonProportionalProperty) (charge-cents cats.Other)
+      ≡ cat_ends (figure nodes.Natural) (figure nodes.ManMade) (charge cats.NonProportionalProperty) (charge cats.Other)
+  catastrophe-worked = worked-equation factors sheet valid nodes.NonlifeCatastrophe
 
   pub catastrophe-amount : IsAmount (130 * 10 ^ 15) (figure nodes.NonlifeCatastrophe)
   catastrophe-amount =
       subst (IsAmount (130 * 10 ^ 15)) (sym catastrophe-worked)
-      (amount-wider _ (130 * 10 ^ 15) _
-      (omega (arith, catastrophe-within cats.NonProportionalProperty, catastrophe-within cats.Other))
-      (cat-size (50 * 10 ^ 15) (60 * 10 ^ 15) _ _ _ _ natural-amount man_made-amount))
+      (amount-wider _ (130 * 10 ^ 15) _ (omega arith)
+      (cat-size (50 * 10 ^ 15) (60 * 10 ^ 15) MAX_CHARGE MAX_CHARGE _ _ _ _ natural-amount man_made-amount (charge-amount cats.NonProportionalProperty) (charge-amount cats.Other)))
 
   -- ---- non-life
   pub nonlife-worked : (measure : Measure) → figure (nodes.Nonlife measure)
@@ -262,18 +250,19 @@ module _ (factors : FactorValues) (known : IsInForm factors) (sheet : BalanceShe
       (nonlife-size 30_000_000_000_000_000 (130 * 10 ^ 15) _ _ (lapse_cents sets.Nl sheet.numbers) (premium_reserve-amount sets.Nl) catastrophe-amount))
 
   -- ---- health
-  pub health_catastrophe-worked : figure nodes.HealthCatastrophe
-      ≡ health_cat_ends (catastrophe_cents cats.MassAccident sheet.numbers) (catastrophe_cents cats.AccidentConcentration sheet.numbers) (catastrophe_cents cats.Pandemic sheet.numbers)
-  health_catastrophe-worked =
-      worked-equation factors sheet valid nodes.HealthCatastrophe
-      ∙ same-three health_cat_ends _ _ _ _ _ _ (charge-cents cats.MassAccident) (charge-cents cats.AccidentConcentration) (charge-cents cats.Pandemic)
+  abbrev pub health_charges : List Ends
+  health_charges = charge cats.MassAccident ∷ charge cats.AccidentConcentration ∷ charge cats.Pandemic ∷ []
+
+  pub health-amounts : AreAmounts (most_charges 3) health_charges
+  health-amounts = (charge-amount cats.MassAccident, (charge-amount cats.AccidentConcentration, (charge-amount cats.Pandemic, tt)))
+
+  pub health_catastrophe-worked : figure nodes.HealthCatastrophe ≡ health_cat_ends health_charges
+  health_catastrophe-worked = worked-equation factors sheet valid nodes.HealthCatastrophe
 
   pub health_catastrophe-amount : IsAmount (30 * 10 ^ 15) (figure nodes.HealthCatastrophe)
   health_catastrophe-amount =
       subst (IsAmount (30 * 10 ^ 15)) (sym health_catastrophe-worked)
-      (amount-wider _ (30 * 10 ^ 15) _
-      (omega (arith, catastrophe-within cats.MassAccident, catastrophe-within cats.AccidentConcentration, catastrophe-within cats.Pandemic))
-      (health_cat-size (catastrophe_cents cats.MassAccident sheet.numbers) (catastrophe_cents cats.AccidentConcentration sheet.numbers) (catastrophe_cents cats.Pandemic sheet.numbers)))
+      (amount-wider _ (30 * 10 ^ 15) _ (omega arith) (health_cat-size (most_charges 3) health_charges refl health-amounts))
 
   pub health_net-worked : figure (nodes.NetPart risks.HealthCatastrophe)
       ≡ net_ends (figure nodes.HealthCatastrophe) (absorbed (risk_key risks.HealthCatastrophe) sheet.numbers)

@@ -1,10 +1,11 @@
 -- For every live node the rule fits its own data and the worked figures of its sources.
-use Rattle.std.proofs.Common.{◌≡◌, ℕ, ◌^◌, ◌≤◌, true, false, map, refl, ap, subst, sym, Some, None, is_some, Option, arith}
+use Rattle.std.proofs.Common.{◌≡◌, ℕ, ◌^◌, ◌≤◌, true, false, map, refl, ap, subst, sym, Some, None, is_some, Option, [], ◌∷◌, arith}
 use Rattle.std.specs.Option.{option_map_or}
 use Rattle.scr_num.specs.Amounts.{IsAmount}
 use Rattle.scr_num.specs.Rounding.{Ends}
 use Rattle.scr_num.specs.Sizes.{IsWithin}
 use Rattle.scr_num.proofs.AmountBounds.{amount-exact}
+use Rattle.scr_market.specs.declared.equity_parts.TheConstants.{MAX_EQUITY_PART}
 use Rattle.scr_factors.specs.Values.{FactorValues, IsInForm}
 use Rattle.scr_sheet.specs.BalanceSheet.{liability_name, position_of}
 use Rattle.scr_sheet.specs.declared.rows.Class.TheVariants as classes
@@ -27,6 +28,7 @@ use Rattle.scr_plan.specs.Fits.{Fits, FitsPaid}
 use Rattle.scr_plan.specs.Worked.{worked}
 use Rattle.scr_plan.proofs.MarketRanges.{present-fits, change-fits, change-net-fits, change-choice-fits, change-picked-fits, currency-fits, property-fits, bond-fits, spread-fits, group-fits, assets-fits, square-fits, concentration-fits, property-net-fits, spread-net-fits, concentration-net-fits, market-fits}
 use Rattle.scr_plan.proofs.Payments.{security-known, liability-known, security-fits, liability-fits}
+use Rattle.scr_plan.proofs.RootAmounts.{root-fits}
 use Rattle.scr_plan.proofs.Sizes.{unit-within, one-currency, losses-together, gross-small, class-amount, class-together, part-amount, root-amount, least, greatest}
 use Rattle.scr_plan.proofs.Totals as totals
 use Rattle.scr_plan.proofs.LifeRanges as life
@@ -83,12 +85,10 @@ module _ (factors : FactorValues) (known : IsInForm factors) (sheet : BalanceShe
   node-fits (nodes.Picked alternatives.Interest measure) live = record { some = omega arith; few = omega arith }
   node-fits (nodes.ClassSum class) live = class-together factors sheet valid class
   node-fits (nodes.EquityPart kind) live = fall-fits kind
-  node-fits nodes.EquityRoot live = record {
-    type1 = part-amount factors sheet valid equities.Type1;
-    type2 = part-amount factors sheet valid equities.Type2;
-    infra = part-amount factors sheet valid equities.Infrastructure;
-    infracorp = part-amount factors sheet valid equities.InfrastructureCorporate;
-  }
+  node-fits nodes.EquityRoot live =
+      let part = part-amount factors sheet valid in
+      root-fits 4 (MAX_EQUITY_PART ∷ MAX_EQUITY_PART ∷ MAX_EQUITY_PART ∷ MAX_EQUITY_PART ∷ []) (map figure (sources_of sheet nodes.EquityRoot))
+      (part equities.Type1, (part equities.Type2, (part equities.Infrastructure, (part equities.InfrastructureCorporate, tt)))) (omega arith)
   node-fits (nodes.NetPart risks.Equity) live = record {
     absorbed = absorbed-within (risk_key risks.Equity) sheet.numbers valid.numbers.absorb;
     gross = wider _ (figure nodes.EquityRoot) (omega arith) (amount-within _ _ (root-amount factors sheet valid));

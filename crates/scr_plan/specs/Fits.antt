@@ -15,15 +15,14 @@ use Rattle.scr_nodes.specs.Own.Own.{Charged, CorrelatedWith, Segment, PremiumRes
 use Rattle.scr_nodes.specs.Own.Own.{Premiums, Provisions, Cap, OperationalCharge, Absorbing, Taxed, Requirement}
 use Rattle.scr_nodes.specs.Own.Root.{DefaultRoot, LifeRoot, SltRoot, HealthRoot, NaturalRoot, ManMadeRoot, HealthCatastropheRoot}
 use Rattle.scr_nodes.specs.Own.ChargedRoot.{NsltRoot, NonlifeRoot}
-use Rattle.scr_market.specs.declared.equity_parts.TheConstants.{MAX_EQUITY_PART}
 use Rattle.scr_loss.specs.Operational.{IsWithinLimits}
 use Rattle.scr_profile.specs.declared.limits.TheConstants.{MAX_HELD, MAX_AMOUNT}
+use Rattle.scr_plan.specs.RootFits.{FitsRoot}
 use Rattle.scr_plan.specs.MarketFits.{FitsWorth, FitsForeign, FitsMultiple, FitsStressed, FitsSquare, FitsSquareRoot, FitsMarket}
-use Rattle.scr_plan.specs.LifeFits.{FitsExcess, FitsRoot}
+use Rattle.scr_plan.specs.LifeFits.{FitsExcess}
 use Rattle.scr_plan.specs.DefaultFits.{FitsLosses, FitsSquares, FitsVariance, FitsBand, FitsDue}
 use Rattle.scr_plan.specs.LossFits.{FitsBscr, FitsDiversified, IsRequirement, FitsCharge, FitsAbsorbing, FitsTaxed, FitsRequirement}
-use Rattle.scr_plan.specs.NonlifeFits.{FitsCharged, FitsSegment, FitsPremiumReserve, FitsNatural, FitsManMade, FitsCatastrophes}
-use Rattle.scr_plan.specs.NonlifeFits.{FitsHealthCatastrophe, FitsNonlife, FitsNslt, FitsHealth}
+use Rattle.scr_plan.specs.NonlifeFits.{FitsCharged, FitsSegment, FitsPremiumReserve, FitsNonlife, FitsNslt}
 use Rattle.scr_plan.specs.Rules.{figure_at, parts_held}
 
 -- a share by weights, of which there are some
@@ -65,12 +64,6 @@ pub record FitsFall (sym : ℤ) (figures : List Ends) : Type 0 where
   pub least : negsuc 99_999 ≤ℤ sym
   pub most : sym ≤ℤ pos 100_000
 
-pub record FitsEquityRoot (figures : List Ends) : Type 0 where
-  pub type1 : IsAmount MAX_EQUITY_PART (figure_at figures 0)
-  pub type2 : IsAmount MAX_EQUITY_PART (figure_at figures 1)
-  pub infra : IsAmount MAX_EQUITY_PART (figure_at figures 2)
-  pub infracorp : IsAmount MAX_EQUITY_PART (figure_at figures 3)
-
 abbrev pub Fits : Own → List Ends → Type 0
 Fits (Held cents shares) figures = FitsHeld cents shares figures
 Fits (Loss paid) figures = FitsPaid paid
@@ -83,7 +76,7 @@ Fits Choice figures = FitsChoice figures
 Fits (Picked measure) figures = FitsChoice figures
 Fits Added figures = AreTogether (10 ^ 33) figures
 Fits (Fall kind sym) figures = FitsFall sym figures
-Fits EquityRoot figures = FitsEquityRoot figures
+Fits EquityRoot figures = FitsRoot 4 figures
 Fits (Worth valued) figures = FitsWorth valued
 Fits (Foreign direction securities) figures = FitsForeign securities figures
 Fits (Multiple times) figures = FitsMultiple figures
@@ -105,13 +98,13 @@ Fits (Correlated SltRoot) figures = FitsRoot 6 figures
 Fits (Charged times cents) figures = FitsCharged times cents
 Fits (Segment volumes premium reserve) figures = FitsSegment volumes premium reserve
 Fits (PremiumReserve correlations) figures = FitsPremiumReserve correlations figures
-Fits (Correlated NaturalRoot) figures = FitsNatural figures
-Fits (Correlated ManMadeRoot) figures = FitsManMade figures
-Fits Catastrophes figures = FitsCatastrophes figures
-Fits (Correlated HealthCatastropheRoot) figures = FitsHealthCatastrophe figures
+Fits (Correlated NaturalRoot) figures = FitsRoot 5 figures
+Fits (Correlated ManMadeRoot) figures = FitsRoot 6 figures
+Fits Catastrophes figures = FitsRoot 4 figures
+Fits (Correlated HealthCatastropheRoot) figures = FitsRoot 3 figures
 Fits (CorrelatedWith NonlifeRoot lapse) figures = FitsNonlife lapse figures
 Fits (CorrelatedWith NsltRoot lapse) figures = FitsNslt lapse figures
-Fits (Correlated HealthRoot) figures = FitsHealth figures
+Fits (Correlated HealthRoot) figures = FitsRoot 3 figures
 Fits (Bscr intangible) figures = FitsBscr intangible figures
 Fits (Diversified intangible) figures = FitsDiversified intangible figures
 Fits (Premiums operation) figures = IsWithinLimits operation

@@ -12,6 +12,7 @@ use Rattle.scr_conc.specs.Thresholds.{step_of}
 use Rattle.scr_conc.specs.declared.TheConstants.{MAX_SQUARES}
 use Rattle.scr_profile.specs.declared.limits.TheConstants.{MAX_HELD, MAX_DURATION}
 use Rattle.scr_nodes.specs.Own.{Valued}
+use Rattle.scr_plan.specs.RootFits.{FitsRoot}
 use Rattle.scr_plan.specs.Rules.{figure_at, amount_at}
 
 pub record FitsWorth (valued : Valued) : Type 0 where
@@ -47,13 +48,8 @@ pub record FitsSquareRoot (figures : List Ends) : Type 0 where
   pub together : AreTogether MAX_SQUARES figures
   pub sum : IsAmount MAX_SQUARES (sum_ends figures)
 
--- the six parts are together at most 6·10^18 grains, and one of the two interest scenarios may decide
+-- one of the two interest scenarios may decide
 pub record FitsMarket (figures : List Ends) : Type 0 where
-  pub interest : IsAmount (10 ^ 18) (figure_at figures 0)
-  pub equity : IsAmount (10 ^ 18) (figure_at figures 1)
-  pub property : IsAmount (10 ^ 18) (figure_at figures 2)
-  pub spread : IsAmount (10 ^ 18) (figure_at figures 3)
-  pub concentration : IsAmount (10 ^ 18) (figure_at figures 4)
-  pub currency : IsAmount (10 ^ 18) (figure_at figures 5)
+  pub parts : FitsRoot 6 figures
   pub mask : IsAmount 3 (figure_at figures 6)
   pub some : 1 ≤ amount_at figures 6

@@ -62,28 +62,35 @@ premium_reserve_exact factors sheet set =
 
 -- ---- catastrophes
 
--- natural ones (Article 120) and man-made ones (Article 128)
+-- natural ones (Article 120)
 unfoldable pub natural_exact : BalanceSheet → Figure
-natural_exact sheet = nat_figure sheet.numbers.cat
+natural_exact sheet =
+    let charge = catastrophe_charge sheet in
+    nat_figure (more (charge cats.Windstorm) (more (charge cats.Earthquake) (more (charge cats.Flood) (more (charge cats.Hail)
+    (more (charge cats.Subsidence) none)))))
 
+-- man-made ones (Article 128)
 unfoldable pub man_made_exact : BalanceSheet → Figure
-man_made_exact sheet = manmade_figure sheet.numbers.cat
+man_made_exact sheet =
+    let charge = catastrophe_charge sheet in
+    manmade_figure (more (charge cats.Motor) (more (charge cats.Marine) (more (charge cats.Aviation) (more (charge cats.Fire)
+    (more (charge cats.Liability) (more (charge cats.Credit) none))))))
 
 -- all of non-life (Article 119)
 unfoldable pub catastrophe_exact : BalanceSheet → Figure
 catastrophe_exact sheet =
-    cat_figure (natural_exact sheet) (man_made_exact sheet)
-    (catastrophe_cents cats.NonProportionalProperty sheet.numbers) (catastrophe_cents cats.Other sheet.numbers)
+    cat_figure (natural_exact sheet) (man_made_exact sheet) (catastrophe_charge sheet cats.NonProportionalProperty)
+    (catastrophe_charge sheet cats.Other)
 
 -- those of health (Article 160), before and after absorption (Article 206(2))
+abbrev pub health_charges : BalanceSheet → Figure
+health_charges sheet =
+    let charge = catastrophe_charge sheet in
+    health_cat_figure (more (charge cats.MassAccident) (more (charge cats.AccidentConcentration) (more (charge cats.Pandemic) none)))
+
 unfoldable pub health_catastrophe_exact : BalanceSheet → Measure → Figure
-health_catastrophe_exact sheet measures.Gross =
-    health_cat_figure (catastrophe_cents cats.MassAccident sheet.numbers)
-    (catastrophe_cents cats.AccidentConcentration sheet.numbers) (catastrophe_cents cats.Pandemic sheet.numbers)
-health_catastrophe_exact sheet measures.Net =
-    net_figure (health_cat_figure (catastrophe_cents cats.MassAccident sheet.numbers)
-    (catastrophe_cents cats.AccidentConcentration sheet.numbers) (catastrophe_cents cats.Pandemic sheet.numbers))
-    (absorbed absorb.HealthCatastrophe sheet.numbers)
+health_catastrophe_exact sheet measures.Gross = health_charges sheet
+health_catastrophe_exact sheet measures.Net = net_figure (health_charges sheet) (absorbed absorb.HealthCatastrophe sheet.numbers)
 
 -- ---- modules, of which non-life and health not similar to life are the same before and after absorption (this
 -- project's own)

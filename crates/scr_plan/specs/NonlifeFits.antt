@@ -1,14 +1,15 @@
--- When the rules of charges that are handed in, of segments, of catastrophes, and of the non-life and health modules keep
--- to 128 bits (this project's own).
+-- When the rules of charges that are handed in, of segments, and of the modules with a charge for lapse risk keep to 128
+-- bits (this project's own).
 use Rattle.std.specs.Prelude.{◌≡◌, ℕ, ◌*◌, ◌^◌, ◌≤◌, ◌<◌, pos, ◌<ℤ◌, ◌≤ℤ◌, List, length, sum_by}
 use Rattle.std.specs.List.{AllByRecursion}
-use Rattle.scr_num.specs.Amounts.{IsAmount}
 use Rattle.scr_num.specs.Rounding.{Ends, or_zero}
 use Rattle.scr_agg.specs.Correlated.{CellsWithin}
 use Rattle.scr_profile.specs.declared.limits.TheConstants.{MAX_AMOUNT}
 use Rattle.scr_profile.specs.declared.matrix.Matrix.{Matrix}
 use Rattle.scr_nonlife.specs.Segment.{total_volume}
 use Rattle.scr_plan.specs.Figures.{figure_at}
+use Rattle.scr_plan.specs.LossFits.{MAX_REQUIREMENT}
+use Rattle.scr_plan.specs.RootFits.{FitsRoot}
 
 -- the most grains of a handed-in charge
 abbrev pub MAX_CHARGE : ℕ
@@ -31,42 +32,11 @@ pub record FitsPremiumReserve (m : Matrix) (figures : List Ends) : Type 0 where
   pub small :
       or_zero m.den * (sum_by (λ e. or_zero e.high) figures * sum_by (λ e. or_zero e.high) figures) < 2 ^ 127
 
-pub record FitsNatural (figures : List Ends) : Type 0 where
-  pub windstorm : IsAmount MAX_CHARGE (figure_at figures 0)
-  pub earthquake : IsAmount MAX_CHARGE (figure_at figures 1)
-  pub flood : IsAmount MAX_CHARGE (figure_at figures 2)
-  pub hail : IsAmount MAX_CHARGE (figure_at figures 3)
-  pub subsidence : IsAmount MAX_CHARGE (figure_at figures 4)
-
-pub record FitsManMade (figures : List Ends) : Type 0 where
-  pub motor : IsAmount MAX_CHARGE (figure_at figures 0)
-  pub marine : IsAmount MAX_CHARGE (figure_at figures 1)
-  pub aviation : IsAmount MAX_CHARGE (figure_at figures 2)
-  pub fire : IsAmount MAX_CHARGE (figure_at figures 3)
-  pub liability : IsAmount MAX_CHARGE (figure_at figures 4)
-  pub credit : IsAmount MAX_CHARGE (figure_at figures 5)
-
-pub record FitsCatastrophes (figures : List Ends) : Type 0 where
-  pub natural : IsAmount (10 ^ 18) (figure_at figures 0)
-  pub man_made : IsAmount (10 ^ 18) (figure_at figures 1)
-  pub property : IsAmount MAX_CHARGE (figure_at figures 2)
-  pub other : IsAmount MAX_CHARGE (figure_at figures 3)
-
-pub record FitsHealthCatastrophe (figures : List Ends) : Type 0 where
-  pub mass : IsAmount MAX_CHARGE (figure_at figures 0)
-  pub concentration : IsAmount MAX_CHARGE (figure_at figures 1)
-  pub pandemic : IsAmount MAX_CHARGE (figure_at figures 2)
-
 pub record FitsNonlife (lapse : ℕ) (figures : List Ends) : Type 0 where
   pub charge : lapse ≤ MAX_AMOUNT
-  pub premium_reserve : IsAmount (10 ^ 18) (figure_at figures 0)
-  pub catastrophe : IsAmount (10 ^ 18) (figure_at figures 1)
+  pub parts : FitsRoot 2 figures
 
 pub record FitsNslt (lapse : ℕ) (figures : List Ends) : Type 0 where
   pub charge : lapse ≤ MAX_AMOUNT
-  pub premium_reserve : IsAmount (10 ^ 18) (figure_at figures 0)
-
-pub record FitsHealth (figures : List Ends) : Type 0 where
-  pub slt : IsAmount 5_000_000_000_000_000_000 (figure_at figures 0)
-  pub nslt : IsAmount (4 * 10 ^ 17) (figure_at figures 1)
-  pub catastrophe : IsAmount (4 * 10 ^ 17) (figure_at figures 2)
+  pub low : pos 0 ≤ℤ (figure_at figures 0).low
+  pub high : (figure_at figures 0).high ≤ℤ pos MAX_REQUIREMENT

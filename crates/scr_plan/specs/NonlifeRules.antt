@@ -1,22 +1,18 @@
 -- The rules of charges that are handed in, of segments, of catastrophes, and of the non-life and health modules, from the
 -- figures of their sources (Articles 114 to 128, 144 to 148 and 160 of Delegated Regulation (EU) 2015/35; the rounding is
 -- this project's own).
-use Rattle.std.specs.Prelude.{ℕ, ◌-◌, ◌*◌, ◌/◌, pos, List, [], ◌∷◌, slice_index_or}
+use Rattle.std.specs.Prelude.{ℕ, ◌-◌, ◌*◌, pos, List, [], slice_index_or}
 use Rattle.scr_num.specs.Rounding.{Ends, exact_ends}
 use Rattle.scr_agg.specs.Correlated.{table_of}
 use Rattle.scr_profile.specs.declared.matrix.Matrix.{Matrix}
 use Rattle.scr_bio.specs.BiometricEnds.{nslt_ends, health_cat_ends, health_ends}
 use Rattle.scr_nonlife.specs.NonlifeEnds.{premium_reserve_ends, nat_ends, manmade_ends, cat_ends, nonlife_ends}
 use Rattle.scr_sheet.specs.declared.numbers.Regions.{Regions}
-use Rattle.scr_plan.specs.Figures.{figure_at, amount_at}
+use Rattle.scr_plan.specs.Figures.{figure_at, figures_from}
 
 -- so many grains for each of so many cents
 abbrev pub charged_ends : (times cents : ℕ) → Ends
 charged_ends times cents = exact_ends (pos (times * cents))
-
--- a handed-in charge, which is a whole number of cents, from its grains
-abbrev pub cents_at : List Ends → ℕ → ℕ
-cents_at figures k = amount_at figures k / 1000
 
 -- ---- premium and reserve risk
 
@@ -29,32 +25,22 @@ premium_reserve_from correlations figures = premium_reserve_ends figures (table_
 
 -- ---- catastrophes
 
--- five natural perils and six man-made ones, each in its place among the charges of non-life
-abbrev pub natural_charges : List Ends → List ℕ
-natural_charges figures =
-    cents_at figures 0 ∷ cents_at figures 1 ∷ cents_at figures 2 ∷ cents_at figures 3 ∷ cents_at figures 4
-    ∷ 0 ∷ 0 ∷ 0 ∷ 0 ∷ 0 ∷ 0 ∷ 0 ∷ 0 ∷ []
-
-abbrev pub man_made_charges : List Ends → List ℕ
-man_made_charges figures =
-    0 ∷ 0 ∷ 0 ∷ 0 ∷ 0 ∷ 0
-    ∷ cents_at figures 0 ∷ cents_at figures 1 ∷ cents_at figures 2 ∷ cents_at figures 3 ∷ cents_at figures 4 ∷ cents_at figures 5
-    ∷ 0 ∷ []
-
+-- natural ones: the root over windstorm, earthquake, flood, hail and subsidence (Article 120)
 abbrev pub natural_from : List Ends → Ends
-natural_from figures = nat_ends (natural_charges figures)
+natural_from figures = nat_ends (figures_from figures 0 5)
 
+-- man-made ones: the root over motor, marine, aviation, fire, liability, and credit and suretyship (Article 128)
 abbrev pub man_made_from : List Ends → Ends
-man_made_from figures = manmade_ends (man_made_charges figures)
+man_made_from figures = manmade_ends (figures_from figures 0 6)
 
--- natural and man-made ones, and the charges for non-proportional property reinsurance and for others
+-- all: the root over natural ones with non-proportional property reinsurance, man-made ones and others (Article 119)
 abbrev pub catastrophes_from : List Ends → Ends
 catastrophes_from figures =
-    cat_ends (figure_at figures 0) (figure_at figures 1) (cents_at figures 2) (cents_at figures 3)
+    cat_ends (figure_at figures 0) (figure_at figures 1) (figure_at figures 2) (figure_at figures 3)
 
--- mass accidents, accident concentration and pandemics
+-- those of health: the root over mass accidents, accident concentration and pandemics (Article 160)
 abbrev pub health_catastrophe_from : List Ends → Ends
-health_catastrophe_from figures = health_cat_ends (cents_at figures 0) (cents_at figures 1) (cents_at figures 2)
+health_catastrophe_from figures = health_cat_ends (figures_from figures 0 3)
 
 -- ---- modules
 

@@ -11,7 +11,7 @@ ghost use Rattle.scr_plan.specs.DefaultExact.{total_where, bank_grains, reinsure
 ghost use Rattle.scr_plan.specs.DefaultFits.{FitsLosses, FitsSquares, FitsVariance, FitsBand, FitsDue};
 ghost use Rattle.scr_plan.specs.DefaultRules.{losses_grains, squares_total, variance_from, loss_total, bands_from, banded_from};
 ghost use Rattle.scr_plan.specs.Figures.{figure_at, amount_of};
-ghost use Rattle.scr_plan.specs.LifeFits.{FitsRoot};
+ghost use Rattle.scr_plan.specs.RootFits.{FitsRoot};
 
 use crate::spans::at;
 use scr_book::{BalanceSheet, Name};

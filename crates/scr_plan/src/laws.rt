@@ -111,10 +111,11 @@ pub fn default_losses()
         (Frac (class_square sheet class)) }
 {}
 
-fn shared<T: Send + Sync>() {}
-
-/// Nodes and the discounts of all currencies may be handed to other threads, and be read by several at once.
-pub fn threads_share_curves() {
+/// Threads may share nodes, and the discounts of all currencies.
+pub fn sharing() {
     shared::<Curves>();
     shared::<Node>();
 }
+
+// Compiles only where threads may share a `T` and hand it on.
+fn shared<T: Send + Sync>() {}

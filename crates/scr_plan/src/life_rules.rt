@@ -8,7 +8,8 @@ ghost use Rattle.scr_nodes.specs.declared.node.Node.TheVariants as nodes;
 ghost use Rattle.scr_sheet.specs.Validity.{Valid};
 ghost use Rattle.scr_plan.specs.Figures.{figures_from};
 ghost use Rattle.scr_plan.specs.Kept.{rows_of, row_in, discounts_in, AreDiscountsOf};
-ghost use Rattle.scr_plan.specs.LifeFits.{FitsExcess, FitsRoot};
+ghost use Rattle.scr_plan.specs.LifeFits.{FitsExcess};
+ghost use Rattle.scr_plan.specs.RootFits.{FitsRoot};
 ghost use Rattle.scr_plan.specs.LifeRules.{excess_ends, less_at};
 ghost use Rattle.scr_plan.specs.Paid.{valued_in};
 

@@ -1,15 +1,13 @@
 //! The rules of charges that are handed in, of segments, of catastrophes, and of the non-life and health modules.
-ghost use Rattle.std.specs.Prelude.{◌≡◌, ◌≤◌, length, map};
-ghost use Rattle.scr_num.specs.Amounts.{IsAmount};
+ghost use Rattle.std.specs.Prelude.{◌≡◌, length, map};
 ghost use Rattle.scr_num.specs.Rounding.{ends};
 ghost use Rattle.scr_nonlife.specs.SegmentEnds.{segment_ends};
 ghost use Rattle.scr_profile.specs.Segments.{segments};
-ghost use Rattle.scr_profile.specs.declared.limits.TheConstants.{MAX_AMOUNT};
 ghost use Rattle.scr_factors.specs.Values.{sigma_of};
 ghost use Rattle.scr_nodes.specs.OwnOf.{volumes_in_regions, segment_correlations};
-ghost use Rattle.scr_plan.specs.NonlifeFits.{MAX_CHARGE, FitsCharged, FitsSegment, FitsPremiumReserve, FitsNatural, FitsManMade, FitsCatastrophes, FitsHealthCatastrophe, FitsNonlife, FitsNslt, FitsHealth};
-ghost use Rattle.scr_plan.specs.NonlifeRules.{numbered_volumes, charged_ends, cents_at, premium_reserve_from, natural_from, man_made_from, catastrophes_from, health_catastrophe_from, nonlife_from, nslt_from, health_from};
-ghost use Rattle.scr_plan.specs.Figures.{figure_at};
+ghost use Rattle.scr_plan.specs.RootFits.{FitsRoot};
+ghost use Rattle.scr_plan.specs.NonlifeFits.{FitsCharged, FitsSegment, FitsPremiumReserve, FitsNonlife, FitsNslt};
+ghost use Rattle.scr_plan.specs.NonlifeRules.{numbered_volumes, charged_ends, premium_reserve_from, natural_from, man_made_from, catastrophes_from, health_catastrophe_from, nonlife_from, nslt_from, health_from};
 
 use crate::spans::at;
 use scr_factors::{Factors, NSLT, Set};
@@ -64,63 +62,49 @@ pub(crate) fn premium_reserve(factors: &Factors, spans: &[Span], set: Set) -> Sp
     }
 }
 
-/// The cents of a handed-in charge, from its grains.
-fn charge(spans: &[Span], place: usize) -> u64
-    requires { IsAmount MAX_CHARGE (figure_at (map ends spans.now) place) }
-    ensures value { result ≡ cents_at (map ends spans.now) place }
-    ensures small { result ≤ MAX_AMOUNT }
-{
-    at(spans, place).low as u64 / 1000
-}
-
 /// Natural catastrophes, from five perils.
 pub(crate) fn natural(spans: &[Span]) -> Span
-    requires { FitsNatural (map ends spans.now) }
+    requires { FitsRoot 5 (map ends spans.now) }
     ensures { ends result ≡ natural_from (map ends spans.now) }
 {
-    let mut charges = [0; 13];
-    charges[0] = charge(spans, 0);
-    charges[1] = charge(spans, 1);
-    charges[2] = charge(spans, 2);
-    charges[3] = charge(spans, 3);
-    charges[4] = charge(spans, 4);
-    scr_nonlife::nat(&charges)
+    scr_nonlife::nat(&[
+        at(spans, 0),
+        at(spans, 1),
+        at(spans, 2),
+        at(spans, 3),
+        at(spans, 4),
+    ])
 }
 
 /// Man-made catastrophes, from six perils.
 pub(crate) fn man_made(spans: &[Span]) -> Span
-    requires { FitsManMade (map ends spans.now) }
+    requires { FitsRoot 6 (map ends spans.now) }
     ensures { ends result ≡ man_made_from (map ends spans.now) }
 {
-    let mut charges = [0; 13];
-    charges[6] = charge(spans, 0);
-    charges[7] = charge(spans, 1);
-    charges[8] = charge(spans, 2);
-    charges[9] = charge(spans, 3);
-    charges[10] = charge(spans, 4);
-    charges[11] = charge(spans, 5);
-    scr_nonlife::manmade(&charges)
+    scr_nonlife::manmade(&[
+        at(spans, 0),
+        at(spans, 1),
+        at(spans, 2),
+        at(spans, 3),
+        at(spans, 4),
+        at(spans, 5),
+    ])
 }
 
 /// All catastrophes of non-life.
 pub(crate) fn catastrophes(spans: &[Span]) -> Span
-    requires { FitsCatastrophes (map ends spans.now) }
+    requires { FitsRoot 4 (map ends spans.now) }
     ensures { ends result ≡ catastrophes_from (map ends spans.now) }
 {
-    scr_nonlife::cat_all(
-        at(spans, 0),
-        at(spans, 1),
-        charge(spans, 2),
-        charge(spans, 3),
-    )
+    scr_nonlife::cat_all(at(spans, 0), at(spans, 1), at(spans, 2), at(spans, 3))
 }
 
 /// Catastrophes of health.
 pub(crate) fn health_catastrophe(spans: &[Span]) -> Span
-    requires { FitsHealthCatastrophe (map ends spans.now) }
+    requires { FitsRoot 3 (map ends spans.now) }
     ensures { ends result ≡ health_catastrophe_from (map ends spans.now) }
 {
-    scr_bio::health_cat(charge(spans, 0), charge(spans, 1), charge(spans, 2))
+    scr_bio::health_catastrophe(&[at(spans, 0), at(spans, 1), at(spans, 2)])
 }
 
 /// Non-life, of which the charge for lapse risk is handed in.
@@ -141,7 +125,7 @@ pub(crate) fn nslt(spans: &[Span], lapse: u64) -> Span
 
 /// Health.
 pub(crate) fn health(spans: &[Span]) -> Span
-    requires { FitsHealth (map ends spans.now) }
+    requires { FitsRoot 3 (map ends spans.now) }
     ensures { ends result ≡ health_from (map ends spans.now) }
 {
     scr_bio::health(at(spans, 0), at(spans, 1), at(spans, 2))

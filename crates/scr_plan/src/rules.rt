@@ -7,7 +7,8 @@ ghost use Rattle.scr_agg.specs.Absorbed.{net_ends};
 ghost use Rattle.scr_agg.specs.Unbeaten.{alternative, mask_of, chosen_gross, chosen_net};
 ghost use Rattle.scr_flow.specs.LossEnds.{scaled_ends};
 ghost use Rattle.scr_rate.specs.InterestEnds.{gross_ends};
-ghost use Rattle.scr_plan.specs.Fits.{FitsScaled, FitsNet, FitsChoice, FitsFall, FitsEquityRoot};
+ghost use Rattle.scr_plan.specs.Fits.{FitsScaled, FitsNet, FitsChoice, FitsFall};
+ghost use Rattle.scr_plan.specs.RootFits.{FitsRoot};
 ghost use Rattle.scr_plan.specs.Rules.{figure_at, amount_at, alternative_from, alternatives_from, chosen_from, fall_of, equities_ends};
 
 use crate::spans::{amount, at};
@@ -103,7 +104,7 @@ pub(crate) fn fall(spans: &[Span], kind: Equities, sym: i32) -> Span
 
 /// The root over type 1 equities and the sum of all others.
 pub(crate) fn equities(spans: &[Span]) -> Span
-    requires { FitsEquityRoot (map ends spans.now) }
+    requires { FitsRoot 4 (map ends spans.now) }
     ensures { ends result ≡ equities_ends (map ends spans.now) }
 {
     let others = add(add(at(spans, 1), at(spans, 2)), at(spans, 3));

@@ -5,6 +5,6 @@ use crate::Engine;
 fn shared<T: Send + Sync>() {}
 
 /// An engine may be handed to another thread, and be read by several at once.
-pub fn threads_share_engines() {
+pub fn sharing() {
     shared::<Engine>();
 }

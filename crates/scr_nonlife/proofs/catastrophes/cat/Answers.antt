@@ -1,6 +1,5 @@
-use Rattle.scr_nonlife.specs.Nonlife.{nat_figure, manmade_figure}
 use Rattle.scr_nonlife.proofs.catastrophes.cat.Goals as goal
 
 pub returns-clause-all_within : goal.returns-clause-all_within
 returns-clause-all_within c =
-    c.cat_all.ensures.encloses (nat_figure c.args.charges.now) (manmade_figure c.args.charges.now) c.nat-nat.ensures.encloses c.manmade-manmade.ensures.encloses
+    c.cat_all.ensures.encloses _ _ _ _ c.natural-nat.ensures.encloses c.man_made-manmade.ensures.encloses c.cents.ensures.encloses c.cents-2.ensures.encloses

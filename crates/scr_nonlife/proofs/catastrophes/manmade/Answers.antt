@@ -1,20 +1,11 @@
-use Rattle.std.proofs.Common.{arith, rules, lit<}
+use Rattle.std.proofs.Common.{lit<}
 use Rattle.scr_num.proofs.CentAmounts.{square-small}
-use Rattle.scr_nonlife.proofs.NonlifeBounds.{cents-small}
 use Rattle.scr_nonlife.proofs.catastrophes.manmade.Goals as goal
 
 pub quad-requires-clause-small : goal.quad-requires-clause-small
 quad-requires-clause-small c =
-    let charges = c.args.charges.now in
-    let small_6 = cents-small charges 6 c.cents.result.high c.requires (search rules) c.cents.ensures.high in
-    let small_7 = cents-small charges 7 c.cents-2.result.high c.requires (search rules) c.cents-2.ensures.high in
-    let small_8 = cents-small charges 8 c.cents-3.result.high c.requires (search rules) c.cents-3.ensures.high in
-    let small_9 = cents-small charges 9 c.cents-4.result.high c.requires (search rules) c.cents-4.ensures.high in
-    let small_10 = cents-small charges 10 c.cents-5.result.high c.requires (search rules) c.cents-5.ensures.high in
-    let small_11 = cents-small charges 11 c.cents-6.result.high c.requires (search rules) c.cents-6.ensures.high in
-    square-small 1 _ 60000000000000000 (omega arith) (lit< tt)
+    square-small 1 _ 6000000000000000000 c.requires.highs (lit< tt)
 
 pub returns-clause-encloses : goal.returns-clause-encloses
 returns-clause-encloses c =
-    c.quad.ensures.encloses 1000 (lit< tt) _
-    (c.cents.ensures.not_negative, c.cents.ensures.encloses, (c.cents-2.ensures.not_negative, c.cents-2.ensures.encloses, (c.cents-3.ensures.not_negative, c.cents-3.ensures.encloses, (c.cents-4.ensures.not_negative, c.cents-4.ensures.encloses, (c.cents-5.ensures.not_negative, c.cents-5.ensures.encloses, (c.cents-6.ensures.not_negative, c.cents-6.ensures.encloses, tt))))))
+    λ figures h. c.quad.ensures.encloses 1000 (lit< tt) figures h
