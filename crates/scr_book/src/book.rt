@@ -17,6 +17,7 @@ use crate::{
 };
 use std::alloc::{AllocError as NoMemory, Global};
 use std::marker::Model;
+use std::mem::drop;
 
 /// An insurer's balance sheet. Contracts see it as the lists of its rows and its numbers, which are valid at all times.
 #[derive(Drop)]
@@ -245,5 +246,7 @@ impl Book {
     }
 
     /// Lets the book go.
-    pub fn close(self) {}
+    pub fn close(self) {
+        drop(self);
+    }
 }
