@@ -8,7 +8,7 @@ use Rattle.std.proofs.lemmas.Fmt.{length_signed_le}
 use Rattle.std.proofs.lemmas.List.{length-append, length-map}
 use Rattle.std.proofs.lemmas.List.Concat.{flat_map-cons}
 use Rattle.scr_dates.specs.declared.day.Day.{Day}
-use Rattle.scr_dates.specs.Civil.{date_of}
+use Rattle.scr_dates.specs.Civil.{IsDay, date_of}
 use Rattle.scr_names.specs.Names.{is_name_byte}
 use Rattle.scr_profile.specs.declared.group_kind.GroupKind.{GroupKind}
 use Rattle.scr_profile.specs.declared.group_kind.GroupKind.TheVariants as groups
@@ -201,7 +201,8 @@ pairs_short first second P one other (x ∷ xs) all =
 
 flows_short : (flows : List (Day × ℤ)) → AreFlows flows → AreShort (2 * length flows) (flow_fields flows)
 flows_short flows all =
-    pairs_short (λ (flow : Day × ℤ). day_text flow.0) (λ (flow : Day × ℤ). number_text flow.1) _
+    pairs_short (λ (flow : Day × ℤ). day_text flow.0) (λ (flow : Day × ℤ). number_text flow.1)
+    (λ flow. IsDay flow.0.number × IsNumber flow.1)
     (λ flow h. day_short flow.0) (λ flow h. number_short flow.1 h.1) flows all
 
 few_segments : (set : Set) (number : ℕ) → number ≤ segments set → IsNumber (pos number)
@@ -227,7 +228,8 @@ fields_brief (edits.Flows security flows) h brief =
 fields_brief (edits.Fund name components) h brief =
     wider (suc (2 * length components)) 62 _ (omega (arith, brief))
     (and_one (2 * length components) _ _ (name_short name h.0)
-    (pairs_short (λ (c : List ℕ × ℤ). c.0) (λ (c : List ℕ × ℤ). number_text c.1) _
+    (pairs_short (λ (c : List ℕ × ℤ). c.0) (λ (c : List ℕ × ℤ). number_text c.1)
+    (λ c. IsName c.0 × IsNumber c.1)
     (λ c own. name_short c.0 own.0) (λ c own. number_short c.1 own.1) components h.1))
 fields_brief (edits.Hold name cents) h brief =
     wider 2 62 _ (lit≤ tt) (and_one 1 _ _ (name_short name h.0) (and_one 0 _ _ (number_short cents h.1) no_more))
@@ -277,7 +279,7 @@ fields-le (field ∷ fields) all =
     let rest = fields-le fields all.1 in
     let whole : length (next_field field ++ flat_map next_field fields) ≤ 33 * suc (length fields) =
     omega (arith, own, rest, length-append (next_field field) (flat_map next_field fields)) in
-    rw (flat_map-cons next_field field fields) whole
+    whole
 
 line-le : (edit : Edit) → Formed edit → IsBrief edit → length (record_line edit) ≤ 2063
 unfolding record_line edit_text record_text

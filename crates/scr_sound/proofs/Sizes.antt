@@ -37,7 +37,7 @@ brief_then m n most first second le h k state =
 brief_each : (most n : ℕ) (make : ℕ → Drawn (List Edit)) → ((k : ℕ) → k < n → BriefMade most (make k))
     → BriefMade (n * most) (each n make)
 unfolding each
-brief_each most zero make h state = record { each = tt; count = lit≤ tt }
+brief_each most zero make h state = record { each = tt; count = omega arith }
 brief_each most (suc n) make h state =
     brief_then (n * most) most (suc n * most) (each n make) (make n) (omega arith)
     (brief_each most n make (λ k lt. h k (omega arith))) (h n (omega arith)) state
