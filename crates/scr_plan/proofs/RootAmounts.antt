@@ -1,7 +1,7 @@
 -- Amounts that are together within the limit fit under a root.
-use Rattle.std.proofs.Common.{ℕ, ◌+◌, ◌≤◌, List, [], ◌∷◌, sum_by, arith}
+use Rattle.std.proofs.Common.{ℕ, ◌≤◌, List, [], ◌∷◌, sum_by, arith}
 use Rattle.std.proofs.lemmas.List.Sums.{sum_by-cons}
-use Rattle.scr_num.specs.Amounts.{IsAmount, AreAmounts}
+use Rattle.scr_num.specs.Amounts.{AreAmounts}
 use Rattle.scr_num.specs.Rounding.{Ends}
 use Rattle.scr_num.proofs.AmountBounds.{amount-high}
 use Rattle.scr_num.proofs.CentAmounts.{or_zero-at_most}
