@@ -19,11 +19,19 @@ pub(crate) fn euro() -> Name
 pub(crate) fn numbers() -> Numbers
     ensures { result ≡ opening_numbers }
 {
+    let asof = Day {
+        number: OPENING_DAY,
+    };
+    zeros(asof, euro())
+}
+
+// The same, at any reference date and in any reporting currency.
+fn zeros(asof: Day, currency: Name) -> Numbers
+    ensures { result ≡ record opening_numbers { asof = asof; currency = currency } }
+{
     Numbers {
-        asof: Day {
-            number: OPENING_DAY,
-        },
-        currency: euro(),
+        asof,
+        currency,
         absorb: [0; 25],
         nl: [[(0, 0); 18]; 12],
         nslt: [[(0, 0); 18]; 4],
