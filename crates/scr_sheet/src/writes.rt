@@ -70,6 +70,14 @@ impl LiabilityFlows {
     }
 }
 
+fn in_region(segment: &[(u64, u64); 18], region: u8) -> (u64, u64)
+    requires first { 1 ≤ region }
+    requires last { region ≤ 18 }
+    ensures { slice_get segment.now (region - 1) ≡ Some result }
+{
+    segment[usize::from(region) - 1]
+}
+
 impl Numbers {
     /// The premium and the reserve volume of a segment in a region, both numbered from 1.
     pub fn volumes(&self, set: Set, number: u8, region: u8) -> (u64, u64)
@@ -80,10 +88,9 @@ impl Numbers {
         ensures { volumes_in set number region self.now ≡ Some result }
     {
         let segment = usize::from(number) - 1;
-        let region = usize::from(region) - 1;
         match set {
-            Set::Nl => self.nl[segment][region],
-            Set::Nslt => self.nslt[segment][region],
+            Set::Nl => in_region(&self.nl[segment], region),
+            Set::Nslt => in_region(&self.nslt[segment], region),
         }
     }
 
