@@ -195,7 +195,7 @@ lapse_cents set numbers = slice_index_or numbers.lapse (lapse_place set) 0
 -- the volumes of a segment, numbered from 1, by region
 abbrev pub volumes_in_regions : Set → ℕ → Numbers → List (ℕ × ℕ)
 volumes_in_regions set number numbers =
-    (slice_index_or (volumes_of set numbers) (number - 1) (record { volumes = [] })).volumes
+    slice_index_or (volumes_of set numbers) (number - 1) []
 
 abbrev pub segment_own : FactorValues → Set → ℕ → Numbers → Own
 segment_own factors set number numbers =

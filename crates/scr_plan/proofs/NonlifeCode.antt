@@ -11,7 +11,6 @@ use Rattle.scr_nonlife.specs.SegmentEnds.{squared_deviation, diversified_ends, p
 use Rattle.scr_profile.specs.declared.set.Set.{Set}
 use Rattle.scr_profile.specs.declared.set.Set.TheVariants as sets
 use Rattle.scr_factors.specs.Values.{FactorValues, sigma_of}
-use Rattle.scr_sheet.specs.declared.numbers.Regions.{Regions}
 use Rattle.scr_plan.specs.NonlifeRules.{numbered_volumes}
 
 pub lows-of : (spans : List Span) → AllByRecursion (λ (e : Ends). pos 0 ≤ℤ e.low) (map ends spans) → NotNegative spans
@@ -45,15 +44,15 @@ nothing-worked premium reserve =
     ap₂ (λ (a b : ℕ). product_ends (root_ends (exact_ends (pos (squared_deviation a b)))) (diversified_ends []) products_of_a_grain) (times-none premium) (times-none reserve)
     ∙ none-worked
 
-past-all : (all : List Regions) (place : ℕ) → length all ≤ place → slice_index_or all place (record { volumes = [] }) ≡ (let none : Regions = record { volumes = [] } in none)
+past-all : (all : List (List (ℕ × ℕ))) (place : ℕ) → length all ≤ place → slice_index_or all place [] ≡ []
 past-all [] place h = refl
-past-all (regions ∷ all) zero h = absurd (omega arith)
-past-all (regions ∷ all) (suc place) h = past-all all place (omega arith)
+past-all (volumes ∷ all) zero h = absurd (omega arith)
+past-all (volumes ∷ all) (suc place) h = past-all all place (omega arith)
 
-pub missing-worked : (all : List Regions) (number place premium reserve : ℕ) → place ≡ number - 1 → length all ≤ place
+pub missing-worked : (all : List (List (ℕ × ℕ))) (number place premium reserve : ℕ) → place ≡ number - 1 → length all ≤ place
     → exact_ends (pos 0) ≡ segment_ends (numbered_volumes all number) premium reserve
 missing-worked all number place premium reserve is past =
-    sym (ap (λ (regions : Regions). segment_ends regions.volumes premium reserve) (past-all all (number - 1) (omega arith)) ∙ nothing-worked premium reserve)
+    sym (ap (λ (volumes : List (ℕ × ℕ)). segment_ends volumes premium reserve) (past-all all (number - 1) (omega arith)) ∙ nothing-worked premium reserve)
 
 same-deviations : (factors : FactorValues) (set : Set) (m n : ℕ) → m - 1 ≡ n - 1 → sigma_of factors set m ≡ sigma_of factors set n
 same-deviations factors sets.Nl m n is =
@@ -61,12 +60,12 @@ same-deviations factors sets.Nl m n is =
 same-deviations factors sets.Nslt m n is =
     ap (λ (k : ℕ). let s : ℕ × ℕ = (slice_index factors.nslt_premium k, slice_index factors.nslt_reserve k) in s) is
 
-pub present-worked : (factors : FactorValues) (set : Set) (all : List Regions) (regions : Regions) (number place other : ℕ) (sigma : ℕ × ℕ)
-    → place ≡ number - 1 → other - 1 ≡ number - 1 → ((missing : Regions) → regions ≡ slice_index_or all place missing) → sigma ≡ sigma_of factors set other
-    → segment_ends regions.volumes sigma.0 sigma.1
+pub present-worked : (factors : FactorValues) (set : Set) (all : List (List (ℕ × ℕ))) (volumes : List (ℕ × ℕ)) (number place other : ℕ) (sigma : ℕ × ℕ)
+    → place ≡ number - 1 → other - 1 ≡ number - 1 → ((missing : List (ℕ × ℕ)) → volumes ≡ slice_index_or all place missing) → sigma ≡ sigma_of factors set other
+    → segment_ends volumes sigma.0 sigma.1
     ≡ segment_ends (numbered_volumes all number) (sigma_of factors set number).0 (sigma_of factors set number).1
-present-worked factors set all regions number place other sigma here there found told =
-    let row : regions ≡ slice_index_or all (number - 1) (record { volumes = [] }) =
-    found (record { volumes = [] }) ∙ ap (λ (k : ℕ). slice_index_or all k (record { volumes = [] })) here in
+present-worked factors set all volumes number place other sigma here there found told =
+    let row : volumes ≡ slice_index_or all (number - 1) [] =
+    found [] ∙ ap (λ (k : ℕ). slice_index_or all k []) here in
     let deviations : sigma ≡ sigma_of factors set number = told ∙ same-deviations factors set other number there in
-    ap₂ (λ (r : Regions) (s : ℕ × ℕ). segment_ends r.volumes s.0 s.1) row deviations
+    ap₂ (λ (r : List (ℕ × ℕ)) (s : ℕ × ℕ). segment_ends r s.0 s.1) row deviations

@@ -30,7 +30,7 @@ use Rattle.scr_sheet.specs.BalanceSheet.{volumes_of}
 use Rattle.scr_sheet.specs.Records.{cat_place, health_cat_place, lapse_place}
 use Rattle.scr_sheet.specs.Validity.{Valid}
 use Rattle.scr_sheet.specs.Validity as validity
-use Rattle.scr_sheet.specs.declared.{keys.CatKey.CatKey, numbers.Regions.Regions, sheet.BalanceSheet.BalanceSheet}
+use Rattle.scr_sheet.specs.declared.{keys.CatKey.CatKey, sheet.BalanceSheet.BalanceSheet}
 use Rattle.scr_sheet.specs.declared.keys.CatKey.TheVariants as cats
 use Rattle.scr_nodes.specs.declared.{node.Measure.Measure, node.Node.Node}
 use Rattle.scr_nodes.specs.declared.node.Measure.TheVariants as measures
@@ -59,35 +59,35 @@ net-amount most absorb e h =
 -- ---- segments by their places
 
 -- no volume in any region
-abbrev empty : Regions
-empty = record { volumes = [] }
+abbrev empty : List (ℕ × ℕ)
+empty = []
 
-abbrev volume_at : List Regions → ℕ → ℕ
-volume_at segments place = total_volume (slice_index_or segments place empty).volumes
+abbrev volume_at : List (List (ℕ × ℕ)) → ℕ → ℕ
+volume_at segments place = total_volume (slice_index_or segments place empty)
 
-abbrev all_volumes : List Regions → ℕ
-all_volumes segments = sum_by (λ (segment : Regions). total_volume segment.volumes) segments
+abbrev all_volumes : List (List (ℕ × ℕ)) → ℕ
+all_volumes segments = sum_by total_volume segments
 
 -- the volume at a place and those after it are all from that place on
-volume-first : (segments : List Regions) (place : ℕ)
+volume-first : (segments : List (List (ℕ × ℕ))) (place : ℕ)
     → volume_at segments place + all_volumes (drop (suc place) segments) ≡ all_volumes (drop place segments)
 volume-first [] zero = refl
 volume-first [] (suc place) = refl
-volume-first (s ∷ rest) zero = sym (sum_by-cons (λ (segment : Regions). total_volume segment.volumes) s rest)
+volume-first (s ∷ rest) zero = sym (sum_by-cons total_volume s rest)
 volume-first (s ∷ rest) (suc place) = volume-first rest place
 
-pub volume-within : (segments : List Regions) (place : ℕ) → volume_at segments place ≤ all_volumes segments
+pub volume-within : (segments : List (List (ℕ × ℕ))) (place : ℕ) → volume_at segments place ≤ all_volumes segments
 volume-within [] place = omega arith
-volume-within (s ∷ rest) zero = omega (arith, sum_by-cons (λ (segment : Regions). total_volume segment.volumes) s rest)
+volume-within (s ∷ rest) zero = omega (arith, sum_by-cons total_volume s rest)
 volume-within (s ∷ rest) (suc place) =
-    omega (arith, volume-within rest place, sum_by-cons (λ (segment : Regions). total_volume segment.volumes) s rest)
+    omega (arith, volume-within rest place, sum_by-cons total_volume s rest)
 
 -- the grains of so many segments from a place on
-abbrev grains_from : (count place : ℕ) → List Regions → List ℕ
+abbrev grains_from : (count place : ℕ) → List (List (ℕ × ℕ)) → List ℕ
 grains_from zero place segments = []
 grains_from (suc count) place segments = 1000 * volume_at segments place ∷ grains_from count (suc place) segments
 
-grains-within : (count place : ℕ) (segments : List Regions)
+grains-within : (count place : ℕ) (segments : List (List (ℕ × ℕ)))
     → sum_by (λ most. most) (grains_from count place segments) ≤ 1000 * all_volumes (drop place segments)
 grains-within zero place segments = omega arith
 grains-within (suc count) place segments =

@@ -7,7 +7,6 @@ use Rattle.scr_agg.specs.Correlated.{table_of}
 use Rattle.scr_profile.specs.declared.matrix.Matrix.{Matrix}
 use Rattle.scr_bio.specs.BiometricEnds.{nslt_ends, health_cat_ends, health_ends}
 use Rattle.scr_nonlife.specs.NonlifeEnds.{premium_reserve_ends, nat_ends, manmade_ends, cat_ends, nonlife_ends}
-use Rattle.scr_sheet.specs.declared.numbers.Regions.{Regions}
 use Rattle.scr_plan.specs.Figures.{figure_at, figures_from}
 
 -- so many grains for each of so many cents
@@ -17,8 +16,8 @@ charged_ends times cents = exact_ends (pos (times * cents))
 -- ---- premium and reserve risk
 
 -- the volumes of a segment by its number from 1, none where there is no such segment
-abbrev pub numbered_volumes : List Regions → ℕ → List (ℕ × ℕ)
-numbered_volumes segments number = (slice_index_or segments (number - 1) (record { volumes = [] })).volumes
+abbrev pub numbered_volumes : List (List (ℕ × ℕ)) → ℕ → List (ℕ × ℕ)
+numbered_volumes segments number = slice_index_or segments (number - 1) []
 
 abbrev pub premium_reserve_from : Matrix → List Ends → Ends
 premium_reserve_from correlations figures = premium_reserve_ends figures (table_of correlations)

@@ -12,7 +12,7 @@ ghost use Rattle.scr_plan.specs.NonlifeRules.{numbered_volumes, charged_ends, pr
 use crate::spans::at;
 use scr_factors::{Factors, NSLT, Set};
 use scr_num::{Span, exact};
-use scr_sheet::{Numbers, Regions};
+use scr_sheet::Numbers;
 
 /// So many grains for each of so many cents.
 pub(crate) fn charged(times: u64, cents: u64) -> Span
@@ -36,7 +36,7 @@ pub(crate) fn segment(factors: &Factors, numbers: &Numbers, set: Set, number: u8
 }
 
 /// The same among the segments of its set.
-fn numbered(factors: &Factors, all: &[Regions], set: Set, number: u8) -> Span
+fn numbered(factors: &Factors, all: &[[(u64, u64); 18]], set: Set, number: u8) -> Span
     requires count { length all.now ≡ segments set }
     requires fits { FitsSegment (numbered_volumes all.now number) (sigma_of factors.now set number).0
         (sigma_of factors.now set number).1 }
@@ -44,11 +44,11 @@ fn numbered(factors: &Factors, all: &[Regions], set: Set, number: u8) -> Span
         (sigma_of factors.now set number).1 }
 {
     let place = usize::from(number).saturating_sub(1);
-    let Some(regions) = all.get(place) else {
+    let Some(volumes) = all.get(place) else {
         return exact(0);
     };
     let (premium, reserve) = factors.sigma(set, place as u8 + 1);
-    scr_nonlife::segment(&regions.volumes, premium, reserve)
+    scr_nonlife::segment(volumes, premium, reserve)
 }
 
 /// Three times the root over the segments of a set.

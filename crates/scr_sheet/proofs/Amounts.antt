@@ -4,7 +4,7 @@ use Rattle.std.specs.List.{AllByRecursion}
 use Rattle.std.specs.Option.{option_map_or}
 use Rattle.std.specs.Prelude.{slice_index_or}
 use Rattle.scr_sheet.specs.Absorptions.{absorbed}
-use Rattle.scr_sheet.specs.declared.{keys.AbsorbKey.AbsorbKey, numbers.Numbers.Numbers, numbers.Regions.Regions}
+use Rattle.scr_sheet.specs.declared.{keys.AbsorbKey.AbsorbKey, numbers.Numbers.Numbers}
 use Rattle.scr_dates.specs.declared.day.Day.{Day}
 use Rattle.scr_dates.specs.Civil.{IsDay}
 use Rattle.scr_sheet.specs.Forms.{IsCurrency}
@@ -36,13 +36,13 @@ pub All-placed : (place : Option ℕ) (cents : ℕ) (amounts : List ℕ) → IsA
 All-placed None cents amounts own all = all
 All-placed (Some k) cents amounts own all = All-set IsAmount amounts k cents own all
 
-volumes-with_volumes : (number region : ℕ) (new : ℕ × ℕ) (volumes : List Regions) → IsAmount new.0 → IsAmount new.1 → AreVolumes volumes → AreVolumes (with_volumes number region new volumes)
+volumes-with_volumes : (number region : ℕ) (new : ℕ × ℕ) (volumes : List (List (ℕ × ℕ))) → IsAmount new.0 → IsAmount new.1 → AreVolumes volumes → AreVolumes (with_volumes number region new volumes)
 volumes-with_volumes number region new volumes premium reserve all =
     let P : ℕ × ℕ → Type 0 = λ v. IsAmount v.0 × IsAmount v.1 in
-    let Q : Regions → Type 0 = λ segment. AllByRecursion P segment.volumes in
-    All-set Q volumes _ _ (All-set P _ _ new (premium, reserve) (All-get_or Q volumes _ (record { volumes = [] }) tt all)) all
+    let Q : List (ℕ × ℕ) → Type 0 = AllByRecursion P in
+    All-set Q volumes _ _ (All-set P _ _ new (premium, reserve) (All-get_or Q volumes _ [] tt all)) all
 
-pub volumes-with_segment : (own set : Set) (number region : ℕ) (new : ℕ × ℕ) (volumes : List Regions) → IsAmount new.0 → IsAmount new.1 → AreVolumes volumes → AreVolumes (with_segment own set number region new volumes)
+pub volumes-with_segment : (own set : Set) (number region : ℕ) (new : ℕ × ℕ) (volumes : List (List (ℕ × ℕ))) → IsAmount new.0 → IsAmount new.1 → AreVolumes volumes → AreVolumes (with_segment own set number region new volumes)
 volumes-with_segment sets.Nl sets.Nl number region new volumes premium reserve all = volumes-with_volumes number region new volumes premium reserve all
 volumes-with_segment sets.Nslt sets.Nslt number region new volumes premium reserve all = volumes-with_volumes number region new volumes premium reserve all
 volumes-with_segment sets.Nl sets.Nslt number region new volumes premium reserve all = all
@@ -54,7 +54,7 @@ with_asof n asof_now currency_now v asof_is currency_is = record { asof = asof_i
 pub with_absorb : (n : Numbers) (absorb_now : List ℕ) → AreNumbers n → AllByRecursion IsAmount absorb_now → AreNumbers (record n { absorb = absorb_now })
 with_absorb n absorb_now v absorb_is = record { asof = v.asof; currency = v.currency; absorb = absorb_is; nl = v.nl; nslt = v.nslt; cat = v.cat; health_cat = v.health_cat; lapse = v.lapse; due = v.due; provisions = v.provisions; earned = v.earned; sym = v.sym; tax = v.tax; cap = v.cap; fdb = v.fdb; intangible = v.intangible }
 
-pub with_both_volumes : (n : Numbers) (nl_now : List Regions) (nslt_now : List Regions) → AreNumbers n → AreVolumes nl_now → AreVolumes nslt_now → AreNumbers (record n { nl = nl_now; nslt = nslt_now })
+pub with_both_volumes : (n : Numbers) (nl_now : List (List (ℕ × ℕ))) (nslt_now : List (List (ℕ × ℕ))) → AreNumbers n → AreVolumes nl_now → AreVolumes nslt_now → AreNumbers (record n { nl = nl_now; nslt = nslt_now })
 with_both_volumes n nl_now nslt_now v nl_is nslt_is = record { asof = v.asof; currency = v.currency; absorb = v.absorb; nl = nl_is; nslt = nslt_is; cat = v.cat; health_cat = v.health_cat; lapse = v.lapse; due = v.due; provisions = v.provisions; earned = v.earned; sym = v.sym; tax = v.tax; cap = v.cap; fdb = v.fdb; intangible = v.intangible }
 
 pub with_cats : (n : Numbers) (cat_now : List ℕ) (health_cat_now : List ℕ) → AreNumbers n → AllByRecursion IsAmount cat_now → AllByRecursion IsAmount health_cat_now → AreNumbers (record n { cat = cat_now; health_cat = health_cat_now })

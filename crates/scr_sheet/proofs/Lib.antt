@@ -18,3 +18,4 @@ pub mod HeldNames
 pub mod SeenThrough
 pub mod CycleFaults
 pub mod FaultKinds
+pub mod Repeated

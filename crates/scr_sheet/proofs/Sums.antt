@@ -10,7 +10,7 @@ use Rattle.scr_names.specs.Names.{same_name}
 use Rattle.scr_names.specs.Tables.{row_of, has_row, with_row, changed}
 use Rattle.scr_sheet.specs.CashFlows.{total, flows_under, with_flows, no_flows}
 use Rattle.scr_sheet.specs.BalanceSheet.{group_name, position_name, stake_name, liability_name, bank_name, rein_name, volumes_of, is_in, held_of, held_total, liability_flows_total, volumes_total, defaults_total, components_total}
-use Rattle.scr_sheet.specs.declared.{sheet.BalanceSheet.BalanceSheet, edit.Edit.Edit, keys.Projection.Projection, keys.Table.Table, numbers.Numbers.Numbers, numbers.Regions.Regions, rows.Bank.Bank, rows.Class.Class, rows.Liability.Liability, rows.LiabilityKind.LiabilityKind, rows.Position.Position, rows.Rein.Rein, rows.Stake.Stake}
+use Rattle.scr_sheet.specs.declared.{sheet.BalanceSheet.BalanceSheet, edit.Edit.Edit, keys.Projection.Projection, keys.Table.Table, numbers.Numbers.Numbers, rows.Bank.Bank, rows.Class.Class, rows.Liability.Liability, rows.LiabilityKind.LiabilityKind, rows.Position.Position, rows.Rein.Rein, rows.Stake.Stake}
 use Rattle.scr_sheet.specs.Records.{applied, dropped, natural, kept_flows, kept_hold, with_volumes}
 use Rattle.scr_sheet.specs.Users.{holder_of, first_row, names_of_holders}
 use Rattle.scr_sheet.specs.Faults.{in_use}
@@ -306,40 +306,40 @@ moves_volumes edit = false
 abbrev volume : ℕ × ℕ → ℕ
 volume v = v.0 + v.1
 
-abbrev volume_total : Regions → ℕ
-volume_total segment = sum_by (λ v. v.0 + v.1) segment.volumes
+abbrev volume_total : List (ℕ × ℕ) → ℕ
+volume_total segment = sum_by (λ v. v.0 + v.1) segment
 
-abbrev nothing : Regions
-nothing = record { volumes = [] }
+abbrev nothing : List (ℕ × ℕ)
+nothing = []
 
 -- where a segment has a region, it is one of the segments
-module _ (number region : ℕ) (old : ℕ × ℕ) (segments : List Regions) (is : slice_get (get_or segments (number - 1) nothing).volumes (region - 1) ≡ Some old) where
-  segment_at : (segment : Regions) × (slice_get segments (number - 1) ≡ Some segment) × (get_or segments (number - 1) nothing ≡ segment) × (slice_get segment.volumes (region - 1) ≡ Some old)
+module _ (number region : ℕ) (old : ℕ × ℕ) (segments : List (List (ℕ × ℕ))) (is : slice_get (get_or segments (number - 1) nothing) (region - 1) ≡ Some old) where
+  segment_at : (segment : List (ℕ × ℕ)) × (slice_get segments (number - 1) ≡ Some segment) × (get_or segments (number - 1) nothing ≡ segment) × (slice_get segment (region - 1) ≡ Some old)
   segment_at = by (slice_get segments (number - 1)) refl
     where
-      by : (found : Option Regions) → slice_get segments (number - 1) ≡ found → (segment : Regions) × (slice_get segments (number - 1) ≡ Some segment) × (get_or segments (number - 1) nothing ≡ segment) × (slice_get segment.volumes (region - 1) ≡ Some old)
+      by : (found : Option (List (ℕ × ℕ))) → slice_get segments (number - 1) ≡ found → (segment : List (ℕ × ℕ)) × (slice_get segments (number - 1) ≡ Some segment) × (get_or segments (number - 1) nothing ≡ segment) × (slice_get segment (region - 1) ≡ Some old)
       by None e =
           let missing : get_or segments (number - 1) nothing ≡ nothing = get_or-missing segments (number - 1) nothing e in
-          let empty : slice_get nothing.volumes (region - 1) ≡ Some old = ap (λ (s : Regions). slice_get s.volumes (region - 1)) (sym missing) ∙ is in
+          let empty : slice_get nothing (region - 1) ≡ Some old = ap (λ (s : List (ℕ × ℕ)). slice_get s (region - 1)) (sym missing) ∙ is in
           absurd (cc)
       by (Some segment) e =
           let here : get_or segments (number - 1) nothing ≡ segment = get_or_from_slice_get segments (number - 1) segment nothing e in
-          (segment, e, here, ap (λ (s : Regions). slice_get s.volumes (region - 1)) (sym here) ∙ is)
+          (segment, e, here, ap (λ (s : List (ℕ × ℕ)). slice_get s (region - 1)) (sym here) ∙ is)
 
   volumes-written : (new : ℕ × ℕ) → sum_by volume_total (with_volumes number region new segments) + volume old ≡ sum_by volume_total segments + volume new
   volumes-written new =
-      let segment : Regions = segment_at.0 in
-      let written : Regions = record { volumes = set segment.volumes (region - 1) new } in
-      let inner : volume_total written + volume old ≡ volume_total segment + volume new = sum-set volume segment.volumes (region - 1) old new segment_at.3 in
+      let segment : List (ℕ × ℕ) = segment_at.0 in
+      let written : List (ℕ × ℕ) = set segment (region - 1) new in
+      let inner : volume_total written + volume old ≡ volume_total segment + volume new = sum-set volume segment (region - 1) old new segment_at.3 in
       let outer : sum_by volume_total (set segments (number - 1) written) + volume_total segment ≡ sum_by volume_total segments + volume_total written =
       sum-set volume_total segments (number - 1) segment written segment_at.1 in
       let same : sum_by volume_total (with_volumes number region new segments) ≡ sum_by volume_total (set segments (number - 1) written) =
-      ap (λ (s : Regions). sum_by volume_total (set segments (number - 1) (record { volumes = set s.volumes (region - 1) new }))) segment_at.2 in
+      ap (λ (s : List (ℕ × ℕ)). sum_by volume_total (set segments (number - 1) (set s (region - 1) new))) segment_at.2 in
       omega arith
 
   volumes-within : volume old ≤ sum_by volume_total segments
   volumes-within =
-      let inner = member-le volume segment_at.0.volumes (region - 1) old segment_at.3 in
+      let inner = member-le volume segment_at.0 (region - 1) old segment_at.3 in
       let outer = member-le volume_total segments (number - 1) segment_at.0 segment_at.1 in
       omega arith
 
@@ -356,7 +356,7 @@ volumes-part sets.Nslt number region sheet old is = volumes-within number region
 
 pub volumes-same : (set : Set) (edit : Edit) (sheet : BalanceSheet) → moves_volumes edit ≡ false → volumes_total set (applied edit sheet) ≡ volumes_total set sheet
 volumes-same set (edits.Segment own number region premium reserve) sheet other = absurd (cc)
-volumes-same set (edits.Remove table name) sheet other = ap (λ (n : Numbers). sum_by (λ segment. sum_by (λ v. v.0 + v.1) segment.volumes) (volumes_of set n)) (numbers-dropped table name sheet)
+volumes-same set (edits.Remove table name) sheet other = ap (λ (n : Numbers). sum_by (λ segment. sum_by (λ v. v.0 + v.1) segment) (volumes_of set n)) (numbers-dropped table name sheet)
   where
     numbers-dropped : (table : Table) (name : List ℕ) (sheet : BalanceSheet) → (dropped table name sheet).numbers ≡ sheet.numbers
     numbers-dropped tables.Group name sheet = refl

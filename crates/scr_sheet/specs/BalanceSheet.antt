@@ -6,7 +6,7 @@ use Rattle.scr_names.specs.Tables.{row_of, has_row}
 use Rattle.scr_sheet.specs.CashFlows.{total, flows_under, greatest_years, all_projections}
 use Rattle.scr_profile.specs.declared.set.Set.{Set}
 use Rattle.scr_profile.specs.declared.set.Set.TheVariants as sets
-use Rattle.scr_sheet.specs.declared.{keys.Table.Table, keys.Projection.Projection, rows.Group.Group, rows.Position.Position, rows.Stake.Stake, rows.Liability.Liability, rows.Bank.Bank, rows.Rein.Rein, rows.Curve.Curve, numbers.Numbers.Numbers, numbers.Regions.Regions, sheet.BalanceSheet.BalanceSheet}
+use Rattle.scr_sheet.specs.declared.{keys.Table.Table, keys.Projection.Projection, rows.Group.Group, rows.Position.Position, rows.Stake.Stake, rows.Liability.Liability, rows.Bank.Bank, rows.Rein.Rein, rows.Curve.Curve, numbers.Numbers.Numbers, sheet.BalanceSheet.BalanceSheet}
 use Rattle.scr_sheet.specs.declared.keys.Table.TheVariants as tables
 
 -- ---- the sheet before the first record
@@ -16,8 +16,8 @@ abbrev pub euro : List ℕ
 euro = 69 ∷ 85 ∷ 82 ∷ []
 
 -- a segment without volumes
-abbrev pub no_volumes : Regions
-no_volumes = record { volumes = replicate 18 (0, 0) }
+abbrev pub no_volumes : List (ℕ × ℕ)
+no_volumes = replicate 18 (0, 0)
 
 -- every number is 0, the reference date is 1 January 2000 and the reporting currency the euro
 abbrev pub opening_numbers : Numbers
@@ -122,13 +122,13 @@ abbrev pub liability_flows_total : Projection → BalanceSheet → ℕ
 liability_flows_total projection sheet = sum_by (λ l. total (flows_under projection l.flows)) sheet.liabilities
 
 -- the segments of a set, each with its volumes in each region
-abbrev pub volumes_of : Set → Numbers → List Regions
+abbrev pub volumes_of : Set → Numbers → List (List (ℕ × ℕ))
 volumes_of sets.Nl numbers = numbers.nl
 volumes_of sets.Nslt numbers = numbers.nslt
 
 -- the premium and reserve volumes of all segments and regions of a set
 abbrev pub volumes_total : Set → BalanceSheet → ℕ
-volumes_total set sheet = sum_by (λ segment. sum_by (λ v. v.0 + v.1) segment.volumes) (volumes_of set sheet.numbers)
+volumes_total set sheet = sum_by (λ segment. sum_by (λ v. v.0 + v.1) segment) (volumes_of set sheet.numbers)
 
 -- what banks hold, and the recoverables and the risk-mitigating effects of all reinsurers
 abbrev pub defaults_total : BalanceSheet → ℕ

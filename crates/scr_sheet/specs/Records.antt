@@ -6,7 +6,7 @@ use Rattle.scr_dates.specs.declared.day.Day.{Day}
 use Rattle.scr_names.specs.Tables.{row_of, with_row, without, changed}
 use Rattle.scr_sheet.specs.CashFlows.{with_flows, no_flows}
 use Rattle.scr_sheet.specs.BalanceSheet.{group_name, position_name, liability_name, bank_name, rein_name, curve_name, stake_name}
-use Rattle.scr_sheet.specs.declared.{sheet.BalanceSheet.BalanceSheet, edit.Edit.Edit, keys.Table.Table, keys.AbsorbKey.AbsorbKey, keys.CatKey.CatKey, rows.Curve.Curve, numbers.Regions.Regions, rows.Position.Position, rows.Stake.Stake}
+use Rattle.scr_sheet.specs.declared.{sheet.BalanceSheet.BalanceSheet, edit.Edit.Edit, keys.Table.Table, keys.AbsorbKey.AbsorbKey, keys.CatKey.CatKey, rows.Curve.Curve, rows.Position.Position, rows.Stake.Stake}
 use Rattle.scr_sheet.specs.declared.edit.Edit.TheVariants as edits
 use Rattle.scr_profile.specs.declared.set.Set.{Set}
 use Rattle.scr_profile.specs.declared.set.Set.TheVariants as sets
@@ -80,15 +80,15 @@ abbrev pub placed : Option ℕ → ℕ → List ℕ → List ℕ
 placed place cents amounts = option_map_or (λ k. slice_set amounts k cents) place amounts
 
 -- a segment with the volumes of one region, numbered from 1
-abbrev pub with_region : ℕ → ℕ × ℕ → Regions → Regions
-with_region region new segment = record { volumes = slice_set segment.volumes (region - 1) new }
+abbrev pub with_region : ℕ → ℕ × ℕ → List (ℕ × ℕ) → List (ℕ × ℕ)
+with_region region new segment = slice_set segment (region - 1) new
 
 -- the segments with the volumes of one of them, numbered from 1, in one region
-abbrev pub with_volumes : ℕ → ℕ → ℕ × ℕ → List Regions → List Regions
-with_volumes number region new segments = slice_set segments (number - 1) (with_region region new (slice_index_or segments (number - 1) (record { volumes = [] })))
+abbrev pub with_volumes : ℕ → ℕ → ℕ × ℕ → List (List (ℕ × ℕ)) → List (List (ℕ × ℕ))
+with_volumes number region new segments = slice_set segments (number - 1) (with_region region new (slice_index_or segments (number - 1) []))
 
 -- the volumes of `own` where they are those of the set of the record, which is `set`
-abbrev pub with_segment : Set → Set → ℕ → ℕ → ℕ × ℕ → List Regions → List Regions
+abbrev pub with_segment : Set → Set → ℕ → ℕ → ℕ × ℕ → List (List (ℕ × ℕ)) → List (List (ℕ × ℕ))
 with_segment sets.Nl sets.Nl number region new volumes = with_volumes number region new volumes
 with_segment sets.Nslt sets.Nslt number region new volumes = with_volumes number region new volumes
 with_segment own set number region new volumes = volumes

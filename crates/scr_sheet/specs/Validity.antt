@@ -9,7 +9,7 @@ use Rattle.scr_names.specs.Tables.{has_row}
 use Rattle.scr_sheet.specs.Forms.{IsName, IsCurrency, IsNameOrNone, IsStepOrNone, AreOnDays}
 use Rattle.scr_sheet.specs.CashFlows.{total, flows_under, suits}
 use Rattle.scr_sheet.specs.BalanceSheet.{group_name, position_name, stake_name, curve_name, names_of, components_of, components_total, held_total, liability_flows_total, volumes_total, defaults_total, sheet_years}
-use Rattle.scr_sheet.specs.declared.{sheet.BalanceSheet.BalanceSheet, keys.Projection.Projection, rows.Group.Group, rows.Position.Position, rows.Stake.Stake, rows.Liability.Liability, rows.Bank.Bank, rows.Rein.Rein, rows.Curve.Curve, numbers.Numbers.Numbers, numbers.Regions.Regions}
+use Rattle.scr_sheet.specs.declared.{sheet.BalanceSheet.BalanceSheet, keys.Projection.Projection, rows.Group.Group, rows.Position.Position, rows.Stake.Stake, rows.Liability.Liability, rows.Bank.Bank, rows.Rein.Rein, rows.Curve.Curve, numbers.Numbers.Numbers}
 use Rattle.scr_profile.specs.declared.set.Set.{Set}
 use Rattle.scr_profile.specs.declared.limits.TheConstants.{MIN_RATE, MAX_RATE, MAX_RATES, MAX_DURATION, MAX_FLOWS, MAX_PROMISED, MAX_AMOUNT, MAX_SYM, MAX_TAX, MAX_HELD, MAX_LIABILITY_FLOWS, MAX_YEARS, MAX_CURRENCIES, MAX_SECURITIES, MAX_FUNDS, MAX_COMPONENTS, MAX_FUND_COMPONENTS, MIN_WEIGHT, MAX_WEIGHT, MAX_LIABILITIES, MAX_GROUPS, MAX_EXPOSURES}
 
@@ -60,8 +60,8 @@ IsCurve curve =
     IsCurrency curve.currency × AllByRecursion (IsBetween MIN_RATE MAX_RATE) curve.rates × (1 ≤ length curve.rates) × (length curve.rates ≤ MAX_RATES)
     × IsAmount curve.absorb_up × IsAmount curve.absorb_down
 
-abbrev pub AreVolumes : List Regions → Type 0
-AreVolumes segments = AllByRecursion (λ segment. AllByRecursion (λ v. IsAmount v.0 × IsAmount v.1) segment.volumes) segments
+abbrev pub AreVolumes : List (List (ℕ × ℕ)) → Type 0
+AreVolumes segments = AllByRecursion (λ segment. AllByRecursion (λ v. IsAmount v.0 × IsAmount v.1) segment) segments
 
 -- the single numbers, each within its own limits
 pub record AreNumbers (numbers : Numbers) : Type 0 where

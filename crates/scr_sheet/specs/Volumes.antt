@@ -7,4 +7,4 @@ use Rattle.scr_sheet.specs.declared.numbers.Numbers.{Numbers}
 
 -- the premium and the reserve volume, none where the set has no such segment or the segment no such region
 abbrev pub volumes_in : Set → ℕ → ℕ → Numbers → Option (ℕ × ℕ)
-volumes_in set number region numbers = slice_get (slice_index_or (volumes_of set numbers) (number - 1) (record { volumes = [] })).volumes (region - 1)
+volumes_in set number region numbers = slice_get (slice_index_or (volumes_of set numbers) (number - 1) []) (region - 1)

@@ -24,7 +24,7 @@ pub use edit::Edit;
 pub use fault::{Fault, Quantity, User};
 pub use fields::{above, fields_outside, first_of};
 pub use keys::{AbsorbKey, CatKey, PROJECTIONS, Projection, Table};
-pub use numbers::{Numbers, Regions};
+pub use numbers::Numbers;
 pub use rows::{
     Bank, Class, Components, Curve, Fund, Group, Liability, LiabilityFlows, LiabilityKind,
     Position, Rates, Rein, Security, Stake,

@@ -3,12 +3,6 @@
 use crate::Name;
 use scr_dates::Day;
 
-/// The premium and reserve volume of a segment in each region.
-#[derive(Clone, Copy)]
-pub struct Regions {
-    pub volumes: [(u64, u64); 18],
-}
-
 /// The single numbers, the reference date and the reporting currency. Amounts are in cents, `sym` and `tax` in
 /// millionths.
 #[derive(Clone, Copy)]
@@ -17,10 +11,10 @@ pub struct Numbers {
     pub currency: Name,
     /// By absorption key, without those of the currencies.
     pub absorb: [u64; 25],
-    /// The volumes of each segment of non-life.
-    pub nl: [Regions; 12],
+    /// The premium and the reserve volume of each segment of non-life in each region.
+    pub nl: [[(u64, u64); 18]; 12],
     /// The same of health that is not similar to life.
-    pub nslt: [Regions; 4],
+    pub nslt: [[(u64, u64); 18]; 4],
     /// The catastrophe charges of non-life.
     pub cat: [u64; 13],
     /// The catastrophe charges of health: mass accident, accident concentration, pandemic.

@@ -2,7 +2,7 @@
 ghost use Rattle.std.specs.Prelude.{◌≡◌};
 ghost use Rattle.scr_sheet.specs.BalanceSheet.{opening_numbers, euro};
 
-use crate::{Name, Numbers, Regions};
+use crate::{Name, Numbers};
 use scr_dates::Day;
 
 /// 1 January 2000, the reference date until a record gives another.
@@ -19,17 +19,22 @@ pub(crate) fn euro() -> Name
 pub(crate) fn numbers() -> Numbers
     ensures { result ≡ opening_numbers }
 {
-    let none = Regions {
-        volumes: [(0, 0); 18],
+    let asof = Day {
+        number: OPENING_DAY,
     };
+    zeros(asof, euro())
+}
+
+// The same, at any reference date and in any reporting currency.
+fn zeros(asof: Day, currency: Name) -> Numbers
+    ensures { result ≡ record opening_numbers { asof = asof; currency = currency } }
+{
     Numbers {
-        asof: Day {
-            number: OPENING_DAY,
-        },
-        currency: euro(),
+        asof,
+        currency,
         absorb: [0; 25],
-        nl: [none; 12],
-        nslt: [none; 4],
+        nl: [[(0, 0); 18]; 12],
+        nslt: [[(0, 0); 18]; 4],
         cat: [0; 13],
         health_cat: [0; 3],
         lapse: [0; 2],

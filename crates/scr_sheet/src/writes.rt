@@ -10,7 +10,7 @@ ghost use Rattle.scr_sheet.specs.Records.{applied, natural, placed, absorb_place
 ghost use Rattle.scr_sheet.specs.Verbs.{is_operational};
 ghost use Rattle.scr_sheet.specs.Volumes.{volumes_in};
 
-use crate::{AbsorbKey, CatKey, Edit, Flows, LiabilityFlows, Numbers, Projection, Regions};
+use crate::{AbsorbKey, CatKey, Edit, Flows, LiabilityFlows, Numbers, Projection};
 use scr_profile::Set;
 use std::alloc::Global;
 
@@ -70,14 +70,12 @@ impl LiabilityFlows {
     }
 }
 
-impl Regions {
-    fn volumes_in(&self, region: u8) -> (u64, u64)
-        requires first { 1 ≤ region }
-        requires last { region ≤ 18 }
-        ensures { slice_get self.now.volumes (region - 1) ≡ Some result }
-    {
-        self.volumes[usize::from(region) - 1]
-    }
+fn in_region(segment: &[(u64, u64); 18], region: u8) -> (u64, u64)
+    requires first { 1 ≤ region }
+    requires last { region ≤ 18 }
+    ensures { slice_get segment.now (region - 1) ≡ Some result }
+{
+    segment[usize::from(region) - 1]
 }
 
 impl Numbers {
@@ -91,8 +89,8 @@ impl Numbers {
     {
         let segment = usize::from(number) - 1;
         match set {
-            Set::Nl => self.nl[segment].volumes_in(region),
-            Set::Nslt => self.nslt[segment].volumes_in(region),
+            Set::Nl => in_region(&self.nl[segment], region),
+            Set::Nslt => in_region(&self.nslt[segment], region),
         }
     }
 
@@ -198,8 +196,8 @@ impl Numbers {
         let segment = usize::from(number) - 1;
         let region = usize::from(region) - 1;
         match set {
-            Set::Nl => self.nl[segment].volumes[region] = new,
-            Set::Nslt => self.nslt[segment].volumes[region] = new,
+            Set::Nl => self.nl[segment][region] = new,
+            Set::Nslt => self.nslt[segment][region] = new,
         }
     }
 

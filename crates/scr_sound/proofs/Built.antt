@@ -15,7 +15,7 @@ use Rattle.scr_profile.specs.declared.limits.TheConstants.{MAX_AMOUNT, MAX_COMPO
 use Rattle.scr_sheet.specs.BalanceSheet.{bank_name, components_total, curve_name, defaults_total, group_name, held_total, liability_flows_total, liability_name, liability_years, position_name, security_years, sheet_years, stake_name, volumes_total}
 use Rattle.scr_sheet.specs.CashFlows.{all_projections, flows_under, greatest_years, total}
 use Rattle.scr_sheet.specs.Faults.{above, liability_flows_outside, sheet_outside, volumes_outside}
-use Rattle.scr_sheet.specs.declared.{edit.Edit.Edit, keys.Projection.Projection, numbers.Numbers.Numbers, numbers.Regions.Regions, rows.Bank.Bank, rows.Liability.Liability, rows.Position.Position, rows.Stake.Stake, sheet.BalanceSheet.BalanceSheet}
+use Rattle.scr_sheet.specs.declared.{edit.Edit.Edit, keys.Projection.Projection, numbers.Numbers.Numbers, rows.Bank.Bank, rows.Liability.Liability, rows.Position.Position, rows.Stake.Stake, sheet.BalanceSheet.BalanceSheet}
 use Rattle.scr_sheet.specs.declared.fault.Fault.{Fault}
 use Rattle.scr_sheet.specs.declared.fault.Quantity.TheVariants as quantities
 use Rattle.scr_sheet.proofs.Bounds.{above-within}
@@ -54,9 +54,9 @@ pub record LineBounds (l : Liability) : Type 0 where
 abbrev pub BankBounds : Bank → Type 0
 BankBounds b = b.cents ≤ 50000000
 
-pub record SegmentBounds (segment : Regions) : Type 0 where
-  pub regions : length segment.volumes ≤ 18
-  pub volumes : AllByRecursion (λ (v : ℕ × ℕ). v.0 + v.1 ≤ 4000000000) segment.volumes
+pub record SegmentBounds (segment : List (ℕ × ℕ)) : Type 0 where
+  pub regions : length segment ≤ 18
+  pub volumes : AllByRecursion (λ (v : ℕ × ℕ). v.0 + v.1 ≤ 4000000000) segment
 
 -- ---- the tables
 
@@ -143,9 +143,9 @@ module _ (n : Counts) (sheet : BalanceSheet) (b : Built n sheet) where
 
   pub volumes-within : volumes_total sets.Nl sheet ≤ MAX_AMOUNT
   volumes-within =
-      let of_segment : (segment : Regions) → SegmentBounds segment → sum_by (λ (v : ℕ × ℕ). v.0 + v.1) segment.volumes ≤ 72000000000 =
-      λ segment h. sum-within_rows (λ (v : ℕ × ℕ). v.0 + v.1) (λ (v : ℕ × ℕ). v.0 + v.1 ≤ 4000000000) 4000000000 18 (λ v most. most) segment.volumes h.regions h.volumes in
-      let volumes = sum-within_rows (λ segment. sum_by (λ (v : ℕ × ℕ). v.0 + v.1) segment.volumes) SegmentBounds 72000000000 12 of_segment sheet.numbers.nl b.segments b.volumes in
+      let of_segment : (segment : List (ℕ × ℕ)) → SegmentBounds segment → sum_by (λ (v : ℕ × ℕ). v.0 + v.1) segment ≤ 72000000000 =
+      λ segment h. sum-within_rows (λ (v : ℕ × ℕ). v.0 + v.1) (λ (v : ℕ × ℕ). v.0 + v.1 ≤ 4000000000) 4000000000 18 (λ v most. most) segment h.regions h.volumes in
+      let volumes = sum-within_rows (λ segment. sum_by (λ (v : ℕ × ℕ). v.0 + v.1) segment) SegmentBounds 72000000000 12 of_segment sheet.numbers.nl b.segments b.volumes in
       omega (arith, volumes)
 
   defaults-within : defaults_total sheet ≤ MAX_AMOUNT

@@ -7,7 +7,7 @@ use Rattle.scr_profile.specs.declared.limits.TheConstants.{MAX_AMOUNT}
 use Rattle.scr_profile.specs.declared.set.Set.TheVariants as sets
 use Rattle.scr_sheet.specs.BalanceSheet.{volumes_total}
 use Rattle.scr_sheet.specs.Records.{applied, with_region, with_volumes}
-use Rattle.scr_sheet.specs.declared.{keys.CatKey.CatKey, numbers.Regions.Regions, sheet.BalanceSheet.BalanceSheet}
+use Rattle.scr_sheet.specs.declared.{keys.CatKey.CatKey, sheet.BalanceSheet.BalanceSheet}
 use Rattle.scr_sheet.specs.declared.edit.Edit.TheVariants as edits
 use Rattle.scr_sheet.specs.declared.fault.Quantity.TheVariants as quantities
 use Rattle.scr_sheet.proofs.Amounts.{All-set}
@@ -25,17 +25,17 @@ All-at P [] k d miss all = miss
 All-at P (x ∷ xs) zero d miss all = all.0
 All-at P (x ∷ xs) (suc k) d miss all = All-at P xs k d miss all.1
 
-none_taken : SegmentBounds (record { volumes = [] })
+none_taken : SegmentBounds []
 none_taken = record { regions = lit≤ tt; volumes = tt }
 
-with_first_region : (premium reserve : ℕ) → premium ≤ 2000000000 → reserve ≤ 2000000000 → (segment : Regions)
+with_first_region : (premium reserve : ℕ) → premium ≤ 2000000000 → reserve ≤ 2000000000 → (segment : List (ℕ × ℕ))
     → SegmentBounds segment → SegmentBounds (with_region 1 (premium, reserve) segment)
 with_first_region premium reserve low few segment h =
     let regions = h.regions in
-    let kept = length-set segment.volumes 0 (premium, reserve) in
+    let kept = length-set segment 0 (premium, reserve) in
     record {
       regions = omega (arith, regions, kept);
-      volumes = All-set (λ (v : ℕ × ℕ). v.0 + v.1 ≤ 4000000000) segment.volumes 0 (premium, reserve) (omega (arith, low, few)) h.volumes;
+      volumes = All-set (λ (v : ℕ × ℕ). v.0 + v.1 ≤ 4000000000) segment 0 (premium, reserve) (omega (arith, low, few)) h.volumes;
     }
 
 module _ (n : Counts) (sheet : BalanceSheet) (b : Built n sheet) where
@@ -43,10 +43,10 @@ module _ (n : Counts) (sheet : BalanceSheet) (b : Built n sheet) where
       → Step n (edits.Segment sets.Nl number 1 (pos premium) (pos reserve)) sheet
   with_segment_record number premium reserve low few =
       let segments = b.segments in
-      let segment = get_or sheet.numbers.nl (number - 1) (record { volumes = [] }) in
+      let segment = get_or sheet.numbers.nl (number - 1) [] in
       let new = with_region 1 (premium, reserve) segment in
       let bounds = with_first_region premium reserve low few segment
-      (All-at SegmentBounds sheet.numbers.nl (number - 1) (record { volumes = [] }) none_taken b.volumes) in
+      (All-at SegmentBounds sheet.numbers.nl (number - 1) [] none_taken b.volumes) in
       let kept = length-set sheet.numbers.nl (number - 1) new in
       let after : Built n (applied (edits.Segment sets.Nl number 1 (pos premium) (pos reserve)) sheet) =
       with_numbers n sheet b _ (omega (arith, segments, kept))

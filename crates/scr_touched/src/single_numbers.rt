@@ -88,8 +88,8 @@ fn are_volumes_same(old: &Numbers, new: &Numbers, set: Set, number: u8) -> bool
 {
     let place = usize::from(number) - 1;
     match set {
-        Set::Nl => old.nl[place].volumes == new.nl[place].volumes,
-        Set::Nslt => old.nslt[place].volumes == new.nslt[place].volumes,
+        Set::Nl => old.nl[place] == new.nl[place],
+        Set::Nslt => old.nslt[place] == new.nslt[place],
     }
 }
 

@@ -10,5 +10,5 @@ returns-in_default c =
 pub returns : goal.returns
 returns c =
     c.segment.ensures.ends
-    ∙ present-worked c.args.factors.now c.args.set c.args.all.now c.in-Some.regions.now c.args.number c.saturating_sub-place.result _ c.sigma-premium.result
+    ∙ present-worked c.args.factors.now c.args.set c.args.all.now c.in-Some.volumes.now c.args.number c.saturating_sub-place.result _ c.sigma-premium.result
     (omega arith) (omega arith) c.in-Some.ensures.lookup.3.1 c.sigma-premium.ensures.value
