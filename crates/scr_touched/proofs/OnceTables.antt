@@ -1,18 +1,27 @@
 -- No figure stands twice among those of payments, of the reporting currency, of the single numbers, or of a fund and its
 -- components before and after.
+use Rattle.std.specs.Prelude.{⊤}
 use Rattle.std.proofs.Common.{Contains, ◌≡◌, ◌⊎◌, inl, inr, ℕ, ℤ, ◌||◌, Bool, true, false, not, List, [], ◌∷◌, ◌++◌, map, flat_map, Option, Some, None, is_some, refl, sym, ap, subst, ◌∙◌}
 use Rattle.std.specs.List.{AllByRecursion, IsDistinct, list_all, list_any}
-use Rattle.std.specs.Option.{option_map_or}
+use Rattle.std.specs.Option.{option_map, option_map_or}
 use Rattle.scr_dates.specs.declared.day.Day.{Day}
 use Rattle.scr_funds.proofs.Members.{IsMember, IsMember-cases, IsMember-mapped, IsMember-right, Contains-from_IsMember, at_member}
 use Rattle.scr_names.specs.Names.{same_name}
 use Rattle.scr_names.specs.Tables.{row_of}
 use Rattle.scr_names.proofs.TableRows.{passes_or_fails, same_name-is, same_name-itself}
-use Rattle.scr_sheet.specs.BalanceSheet.{liability_name, position_name, stake_name}
+use Rattle.scr_sheet.specs.BalanceSheet.{liability_name, position_name, position_of, stake_name, stake_of}
+use Rattle.scr_sheet.specs.Faults.{list_fault}
+use Rattle.scr_sheet.specs.Records.{natural}
 use Rattle.scr_sheet.specs.Validity.{IsStake, Valid}
+use Rattle.scr_sheet.specs.declared.edit.Edit.{Edit}
+use Rattle.scr_sheet.specs.declared.edit.Edit.TheVariants as edits
+use Rattle.scr_sheet.specs.declared.keys.AbsorbKey.TheVariants as absorb
+use Rattle.scr_sheet.specs.declared.keys.Table.TheVariants as tables
+use Rattle.scr_profile.specs.declared.limits.TheConstants.{MAX_FUND_COMPONENTS}
 use Rattle.scr_sheet.specs.declared.{sheet.BalanceSheet.BalanceSheet, rows.Curve.Curve, rows.Liability.Liability, rows.Position.Position, rows.Stake.Stake}
 use Rattle.scr_sheet.specs.declared.rows.Class.TheVariants as classes
-use Rattle.scr_sheet.proofs.Holds.{distinct-funds, distinct-securities}
+use Rattle.scr_sheet.proofs.Holds.{distinct-securities}
+use Rattle.scr_sheet.proofs.Preserved.{once}
 use Rattle.scr_nodes.specs.Rows.{holds, is_component}
 use Rattle.scr_nodes.specs.declared.node.Node.{Node}
 use Rattle.scr_nodes.specs.declared.node.Direction.TheVariants.{Up, Down}
@@ -21,12 +30,11 @@ use Rattle.scr_nodes.specs.declared.node.Node.TheVariants as nodes
 use Rattle.scr_nodes.proofs.Apart.{AreApart, apart-append}
 use Rattle.scr_nodes.proofs.OwnRows.{distinct-liabilities}
 use Rattle.scr_nodes.proofs.Parts.{each-tested}
-use Rattle.scr_changes.specs.Changes.{after}
+use Rattle.scr_changes.specs.Changes.{change_of, hold_change}
 use Rattle.scr_changes.specs.Comparisons.{same_rates}
-use Rattle.scr_changes.specs.Exchanges.{HasName}
 use Rattle.scr_changes.specs.Readings.{rates_by}
+use Rattle.scr_changes.specs.declared.change.Change.{Change}
 use Rattle.scr_changes.specs.declared.change.Change.TheVariants as changes
-use Rattle.scr_changes.proofs.Exchanged.{row-own}
 use Rattle.scr_changes.proofs.LookedUp.{found-member}
 use Rattle.scr_touched.specs.Curves.{currency_nodes, curve_nodes, foreign_nodes, moved_nodes}
 use Rattle.scr_touched.specs.Funds.{component_nodes, fund_nodes, is_of_stake, share_of, totals_of}
@@ -259,7 +267,7 @@ any-member (d ∷ ds) c (inl e) =
 any-member (d ∷ ds) c (inr m) = either-true (same_name c.0 d.0) _ (inr (any-member ds c m))
 
 -- the names of the components of a fund, if there is one
-abbrev components_at : Option Stake → List (List ℕ)
+abbrev pub components_at : Option Stake → List (List ℕ)
 components_at stake = option_map_or (λ (s : Stake). map (λ c. c.0) s.fund.components) stake []
 
 -- the totals of components are of those that the fund holds
@@ -275,11 +283,15 @@ component-known name s x m =
     by c held (inr (inl e)) = ap (is_of_stake name (Some s)) e ∙ held
     by c held (inr (inr n)) = absurd n
 
-components-apart : (stake : Option Stake) → ((s : Stake) → stake ≡ Some s → IsStake s)
+pub none-twice : IsDistinct same_name (components_at None)
+unfolding IsDistinct
+none-twice = tt
+
+components-apart : (stake : Option Stake) → IsDistinct same_name (components_at stake)
     → AreApart (component_nodes stake)
-components-apart None is = tt
-components-apart (Some s) is =
-    apart-flat (λ c. c.0) (λ c. totals_of c.0) component-own component-apart s.fund.components (is s refl).3
+components-apart None distinct = tt
+components-apart (Some s) distinct =
+    apart-flat (λ c. c.0) (λ c. totals_of c.0) component-own component-apart s.fund.components distinct
 
 -- a component's figure is a total
 not-class : (stake : Option Stake) → IsMember (nodes.ClassSum classes.Type2Equity) (component_nodes stake) → ⊥
@@ -311,14 +323,19 @@ module _ (sheet : BalanceSheet) (valid : Valid sheet) (name : List ℕ) where
             (Contains-from_IsMember (map (λ c. c.0) s.fund.components) name among),
       )
 
-  pub fund-split : (new : Option Stake) → ((s : Stake) → new ≡ Some s → IsStake s)
+  old-distinct : IsDistinct same_name (components_at (row_of stake_name name sheet.funds))
+  old-distinct = by (row_of stake_name name sheet.funds) refl
+    where
+      by : (found : Option Stake) → row_of stake_name name sheet.funds ≡ found
+          → IsDistinct same_name (components_at found)
+      by None e = none-twice
+      by (Some s) e = (at_member IsStake sheet.funds s valid.funds (found-member stake_name name sheet.funds s e)).3
+
+  pub fund-split : (new : Option Stake) → IsDistinct same_name (components_at new)
       → AreSplit (is_of_stake name old) (fund_nodes name old) (component_nodes new)
-  fund-split new valid_new = record {
-    first_apart = (
-      first,
-      (not-class old, components-apart old (λ s is. at_member IsStake sheet.funds s valid.funds (found-member stake_name name sheet.funds s is))),
-    );
-    later_apart = components-apart new valid_new;
+  fund-split new distinct = record {
+    first_apart = (first, (not-class old, components-apart old old-distinct));
+    later_apart = components-apart new distinct;
     known = λ x m n. known old x m n;
     there = λ x e. there old x e;
   }
@@ -347,10 +364,34 @@ module _ (sheet : BalanceSheet) (valid : Valid sheet) (name : List ℕ) where
       there stake (nodes.SecurityTotal y) e = inr (inr ((held stake y e).1))
       there stake x e = absurd (cc)
 
--- where the balance sheet is valid afterwards, so is what the fund becomes
-pub new-stake : (sheet : BalanceSheet) → Valid sheet → (name : List ℕ) (new : Option Stake)
-    → HasName stake_name name new → Valid (after (changes.Fund name new) sheet) → (s : Stake) → new ≡ Some s → IsStake s
-new-stake sheet valid name new named later s is =
-    at_member IsStake (after (changes.Fund name new) sheet).funds s later.funds
-    (found-member stake_name name (after (changes.Fund name new) sheet).funds s
-    (row-own stake_name name new sheet.funds (distinct-funds sheet valid.named_once) named ∙ is))
+-- what a fund becomes has no component twice
+abbrev pub HasDistinct : Change → Type 0
+HasDistinct (changes.Fund name new) = IsDistinct same_name (components_at new)
+HasDistinct change = ⊤
+
+module _ (sheet : BalanceSheet) (valid : Valid sheet) where
+  held-distinct : (name : List ℕ) (cents : ℕ) (found : Option Position)
+      → HasDistinct (hold_change name cents found (stake_of name sheet.funds))
+  held-distinct name cents None = by (stake_of name sheet.funds) (old-distinct sheet valid name)
+    where
+      by : (stake : Option Stake) → IsDistinct same_name (components_at stake)
+          → IsDistinct same_name (components_at (option_map (λ (s : Stake). record s { held = cents }) stake))
+      by None distinct = distinct
+      by (Some s) distinct = distinct
+  held-distinct name cents (Some position) = tt
+
+  -- by its own list where it is put in, else as it was
+  pub distinct-change : (edit : Edit) → list_fault edit ≡ None → HasDistinct (change_of edit sheet)
+  distinct-change (edits.Fund name components) none = (once 2 MAX_FUND_COMPONENTS [] components none).apart
+  distinct-change (edits.Hold name cents) none = held-distinct name (natural cents) (position_of name sheet.securities)
+  distinct-change (edits.Absorb (absorb.CurrencyUp currency) cents) none = tt
+  distinct-change (edits.Absorb (absorb.CurrencyDown currency) cents) none = tt
+  distinct-change (edits.Absorb key cents) none = tt
+  distinct-change (edits.Remove tables.Group name) none = tt
+  distinct-change (edits.Remove tables.Security name) none = tt
+  distinct-change (edits.Remove tables.Fund name) none = none-twice
+  distinct-change (edits.Remove tables.Liability name) none = tt
+  distinct-change (edits.Remove tables.Bank name) none = tt
+  distinct-change (edits.Remove tables.Rein name) none = tt
+  distinct-change (edits.Remove tables.Curve name) none = tt
+  distinct-change edit none = tt

@@ -7,12 +7,11 @@ use Rattle.scr_names.specs.Tables.{row_of}
 use Rattle.scr_names.proofs.TableRows.{passes_or_fails}
 use Rattle.scr_sheet.specs.BalanceSheet.{curve_name}
 use Rattle.scr_sheet.specs.Faults.{fault_of, fields_outside, list_fault, unknown_name, wrong_kind, in_use, cycle, sheet_outside}
-use Rattle.scr_sheet.specs.Forms.{Formed}
 use Rattle.scr_sheet.specs.Records.{applied}
 use Rattle.scr_sheet.specs.Validity.{Valid}
 use Rattle.scr_sheet.specs.declared.edit.Edit.{Edit}
+use Rattle.scr_sheet.specs.declared.fault.Fault.{Fault}
 use Rattle.scr_sheet.specs.declared.sheet.BalanceSheet.{BalanceSheet}
-use Rattle.scr_sheet.proofs.Preserved.{Valid-applied}
 use Rattle.scr_nodes.specs.Live.{is_live}
 use Rattle.scr_nodes.specs.LiveNodes.{HasNoRepeats}
 use Rattle.scr_nodes.specs.declared.node.Node.{Node}
@@ -23,7 +22,7 @@ use Rattle.scr_touched.specs.SingleNumbers.{number_nodes}
 use Rattle.scr_touched.proofs.Decided.{Tells}
 use Rattle.scr_touched.proofs.Once.{AreSplit, apart-kept, kept-member, member-kept, split-apart, split-member, split-none}
 use Rattle.scr_touched.proofs.OnceRows.{debt-split, group-split, liability-split, security-split}
-use Rattle.scr_touched.proofs.OnceTables.{curve-split, date-split, fund-split, new-stake}
+use Rattle.scr_touched.proofs.OnceTables.{HasDistinct, curve-split, date-split, distinct-change, fund-split, none-twice}
 use Rattle.scr_nodes.proofs.Apart.{one-place}
 use Rattle.scr_nodes.proofs.Parts.{apart-by_parts}
 use Rattle.scr_changes.specs.declared.change.Change.{Change}
@@ -44,7 +43,7 @@ module _ (sheet : BalanceSheet) (valid : Valid sheet) where
       → IsMember x (first_candidates sheet change)
   all-there (changes.Security name new) x e = (security-split name _ None).there x e
   all-there (changes.Fund name new) x e =
-      (fund-split sheet valid name None (λ s is. absurd (let clash : None ≡ Some s = is in cc))).there x e
+      (fund-split sheet valid name None none-twice).there x e
   all-there (changes.Group name new) x e = (group-split sheet valid name _ None).there x e
   all-there (changes.Bank name new) x e = (debt-split _ None).there x e
   all-there (changes.Rein name new) x e = (debt-split _ None).there x e
@@ -53,18 +52,18 @@ module _ (sheet : BalanceSheet) (valid : Valid sheet) where
   all-there (changes.Asof date currency) x e = (date-split sheet valid date currency).there x e
   all-there (changes.Numbers new) x e = absurd (cc)
 
-  -- a record without a fault leaves a valid balance sheet, so that what a fund becomes has no component twice
-  all-split : (change : Change) → IsNamed change → Valid (after change sheet)
+  all-split : (change : Change) → HasDistinct change
       → AreSplit (is_of_row sheet change) (first_candidates sheet change) (later_candidates sheet change)
-  all-split (changes.Security name new) named later = security-split name _ new
-  all-split (changes.Fund name new) named later = fund-split sheet valid name new (new-stake sheet valid name new named later)
-  all-split (changes.Group name new) named later = group-split sheet valid name _ new
-  all-split (changes.Bank name new) named later = debt-split _ _
-  all-split (changes.Rein name new) named later = debt-split _ _
-  all-split (changes.Liability name new) named later = liability-split name _ new
-  all-split (changes.Curve name new) named later = curve-split sheet valid name (row_of curve_name name sheet.curves) new
-  all-split (changes.Asof date currency) named later = date-split sheet valid date currency
-  all-split (changes.Numbers new) named later = split-none number_nodes (apart-by_parts number_nodes refl)
+  all-split (changes.Security name new) distinct = security-split name _ new
+  all-split (changes.Fund name new) distinct = fund-split sheet valid name new distinct
+  all-split (changes.Group name new) distinct = group-split sheet valid name _ new
+  all-split (changes.Bank name new) distinct = debt-split _ _
+  all-split (changes.Rein name new) distinct = debt-split _ _
+  all-split (changes.Liability name new) distinct = liability-split name _ new
+  all-split (changes.Curve name new) distinct =
+      curve-split sheet valid name (row_of curve_name name sheet.curves) new
+  all-split (changes.Asof date currency) distinct = date-split sheet valid date currency
+  all-split (changes.Numbers new) distinct = split-none number_nodes (apart-by_parts number_nodes refl)
 
 module _ (factors : FactorValues) (sheet : BalanceSheet) (valid : Valid sheet) where
   all-told : (change : Change) → IsNamed change → (node : Node)
@@ -142,25 +141,23 @@ pub all-touched : (sheet : BalanceSheet) (edit : Edit) → Valid sheet
 unfolding AreTouched
 all-touched sheet edit valid = λ factors node fault. told-of factors sheet valid edit node
 
-all-once : (sheet : BalanceSheet) (edit : Edit) → Valid sheet → Formed edit → fault_of edit sheet ≡ None
+all-once : (sheet : BalanceSheet) (edit : Edit) → Valid sheet → list_fault edit ≡ None
     → HasNoRepeats (filter (touches sheet (change_of edit sheet)) (candidates sheet (change_of edit sheet)))
-all-once sheet edit valid formed fault =
+all-once sheet edit valid none =
     let change : Change = change_of edit sheet in
-    let later : Valid (after change sheet) =
-    subst Valid (as-change edit sheet valid) (Valid-applied edit sheet formed valid fault) in
-    let split = all-split sheet valid change (named-change edit sheet) later in
+    let split = all-split sheet valid change (distinct-change sheet valid edit none) in
     λ j k x first second.
     one-place (filter (touches sheet change) (candidates sheet change))
     (apart-kept (touches sheet change) (candidates sheet change)
     (split-apart (is_of_row sheet change) (first_candidates sheet change) (later_candidates sheet change) split))
     j k x first second
 
-pub all-once-by : (sheet : BalanceSheet) (edit : Edit) (change : Change) (items : List Node) → Valid sheet → Formed edit
-    → change ≡ change_of edit sheet → items ≡ filter (touches sheet change) (candidates sheet change)
-    → fault_of edit sheet ≡ None → HasNoRepeats items
-all-once-by sheet edit change items valid formed is e fault =
+pub all-once-by : (sheet : BalanceSheet) (edit : Edit) (change : Change) (items : List Node) → Valid sheet
+    → list_fault edit ≡ None → change ≡ change_of edit sheet
+    → items ≡ filter (touches sheet change) (candidates sheet change) → HasNoRepeats items
+all-once-by sheet edit change items valid none is e =
     subst HasNoRepeats (sym (e ∙ ap (λ it. filter (touches sheet it) (candidates sheet it)) is))
-    (all-once sheet edit valid formed fault)
+    (all-once sheet edit valid none)
 
 -- ---- records with a fault
 
@@ -172,6 +169,10 @@ none-second : {A : Type 0} (a b : Option A) → option_or a b ≡ None → b ≡
 none-second None b e = e
 none-second (Some x) b e = absurd (cc)
 
+-- without a fault the record has none in its list, and its quantities lie within their limits
+listed-fault : (edit : Edit) (sheet : BalanceSheet) → fault_of edit sheet ≡ None → list_fault edit ≡ None
+listed-fault edit sheet e = none-first (list_fault edit) _ e
+
 within-fault : (edit : Edit) (sheet : BalanceSheet) → fault_of edit sheet ≡ None → fields_outside edit ≡ None
 within-fault edit sheet e =
     none-first (fields_outside edit) (sheet_outside edit (applied edit sheet))
@@ -179,16 +180,22 @@ within-fault edit sheet e =
     (none-second (unknown_name edit sheet) _ (none-second (list_fault edit) _ e)))))
 
 -- of a record that is refused nothing is asked
-pub refused : (sheet : BalanceSheet) (edit : Edit) (list : List Node) → is_some (fields_outside edit) ≡ true
-    → AreTouched sheet edit list
+pub refused : (sheet : BalanceSheet) (edit : Edit) (list : List Node)
+    → (is_some (fields_outside edit) || is_some (list_fault edit)) ≡ true → AreTouched sheet edit list
 unfolding AreTouched
-refused sheet edit list outside = λ factors node fault.
-    let never : false ≡ true = sym (ap is_some (within-fault edit sheet fault)) ∙ outside in absurd (cc)
+refused sheet edit list faulty = λ factors node fault.
+    let never : false ≡ true =
+    sym (λ i. is_some (within-fault edit sheet fault i) || is_some (listed-fault edit sheet fault i)) ∙ faulty in
+    absurd (cc)
 
-pub refused-once : (sheet : BalanceSheet) (edit : Edit) (list : List Node) → is_some (fields_outside edit) ≡ true
-    → fault_of edit sheet ≡ None → HasNoRepeats list
-refused-once sheet edit list outside fault =
-    let never : false ≡ true = sym (ap is_some (within-fault edit sheet fault)) ∙ outside in absurd (cc)
+pub neither-fault : (fields list : Option Fault) → (is_some fields || is_some list) ≡ false
+    → (fields ≡ None) × (list ≡ None)
+neither-fault None None e = (refl, refl)
+neither-fault None (Some f) e = absurd (cc)
+neither-fault (Some f) list e = absurd (cc)
+
+pub none-repeated : (list : List Node) → list ≡ [] → HasNoRepeats list
+none-repeated list e = subst HasNoRepeats (sym e) (λ j k x first second. absurd (cc))
 
 pub all-touched-by : (sheet : BalanceSheet) (edit : Edit) (change : Change) (items : List Node) → Valid sheet
     → change ≡ change_of edit sheet → items ≡ filter (touches sheet change) (candidates sheet change)

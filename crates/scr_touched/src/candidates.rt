@@ -1,7 +1,7 @@
 //! The figures that a record touches.
-ghost use Rattle.std.specs.Prelude.{◌≡◌, ◌++◌, None, IfOk, OnOk, filter, is_some, not};
+ghost use Rattle.std.specs.Prelude.{◌≡◌, ◌++◌, ◌||◌, None, IfOk, OnOk, filter, is_some, not};
 ghost use Rattle.scr_nodes.specs.LiveNodes.{HasNoRepeats};
-ghost use Rattle.scr_sheet.specs.Faults.{fault_of, fields_outside};
+ghost use Rattle.scr_sheet.specs.Faults.{fields_outside, list_fault};
 ghost use Rattle.scr_sheet.specs.Forms.{Formed};
 ghost use Rattle.scr_sheet.specs.Validity.{Valid};
 ghost use Rattle.scr_touched.specs.Candidates.{touches, candidates, first_candidates, is_of_row, later_candidates};
@@ -21,40 +21,50 @@ use scr_book::Book;
 use scr_changes::debts::{bank_debt, rein_debt};
 use scr_changes::{Change, change_of};
 use scr_nodes::Node;
-use scr_sheet::{BalanceSheet, Edit, fields_outside};
+use scr_sheet::{BalanceSheet, Edit, Fault, check_lists, fields_outside};
 use std::alloc::{AllocError as NoMemory, Global};
 use std::mem::drop;
 
 /// The figures whose own data or list of sources the record changes, or which it makes or removes,
-/// each once. Of a record that would be refused nothing is told. Only want of memory is refused. The cost is that of the row that the record makes, replaces or takes out; of
-/// other rates, another reference date or a group of counterparties it is that of all securities
-/// and liabilities.
+/// each once. Of a record that would be refused nothing is told but that none stands twice. Only
+/// want of memory is refused. The cost is that of the row that the record makes, replaces or takes
+/// out; of other rates, another reference date or a group of counterparties it is that of all
+/// securities and liabilities.
 pub fn touched(alloc: Global, book: &Book, edit: &Edit) -> Result<Vec<Node>, NoMemory>
     requires formed { Formed edit.now }
     ensures touched { IfOk result (λ list. AreTouched book.now edit.now list.items) }
-    ensures once { IfOk result (λ list. fault_of edit.now book.now ≡ None
-        → HasNoRepeats list.items) }
+    ensures once { IfOk result (λ list. HasNoRepeats list.items) }
 {
-    if is_outside(edit) {
+    let faulty = is_faulty(alloc, edit)?;
+    if faulty {
         return Ok(Vec::new(alloc));
     }
     touched_in(alloc, book.sheet(), edit)
 }
 
-/// A quantity of the record lies outside its limits.
-fn is_outside(edit: &Edit) -> bool
-    ensures { result ≡ is_some (fields_outside edit.now) }
+/// A quantity of the record lies outside its limits, or its list has a fault, as a component that
+/// comes twice.
+fn is_faulty(alloc: Global, edit: &Edit) -> Result<bool, NoMemory>
+    ensures { IfOk result (λ faulty. faulty
+        ≡ (is_some (fields_outside edit.now) || is_some (list_fault edit.now))) }
 {
-    fields_outside(edit).is_some()
+    if fields_outside(edit).is_some() {
+        return Ok(true);
+    }
+    match check_lists(alloc, edit) {
+        Ok(()) => Ok(false),
+        Err(Fault::NoMemory) => Err(NoMemory),
+        Err(_) => Ok(true),
+    }
 }
 
 fn touched_in(alloc: Global, sheet: &BalanceSheet, edit: &Edit) -> Result<Vec<Node>, NoMemory>
     requires formed { Formed edit.now }
     requires within { fields_outside edit.now ≡ None }
+    requires listed { list_fault edit.now ≡ None }
     requires valid { Valid sheet.now }
     ensures touched { IfOk result (λ list. AreTouched sheet.now edit.now list.items) }
-    ensures once { IfOk result (λ list. fault_of edit.now sheet.now ≡ None
-        → HasNoRepeats list.items) }
+    ensures once { IfOk result (λ list. HasNoRepeats list.items) }
 {
     let change = change_of(alloc, sheet, edit)?;
     let list = touched_by(alloc, sheet, &change);

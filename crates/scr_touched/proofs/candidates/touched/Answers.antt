@@ -1,16 +1,15 @@
-use Rattle.std.proofs.Common.{◌≡◌, IfOk, None, subst, sym, ◌∙◌}
-use Rattle.scr_nodes.specs.LiveNodes.{HasNoRepeats}
-use Rattle.scr_sheet.specs.Faults.{fault_of}
-use Rattle.scr_touched.proofs.Whole.{refused, refused-once}
+use Rattle.std.proofs.Common.{sym, ◌∙◌}
+use Rattle.scr_touched.proofs.Whole.{neither-fault, none-repeated, refused}
 use Rattle.scr_touched.proofs.candidates.touched.Goals as goal
 
-pub returns-then-is_outside-clause-touched : goal.returns-then-is_outside-clause-touched
-returns-then-is_outside-clause-touched c = refused _ _ _ (sym c.is_outside.ensures ∙ c.if-is_outside.true)
+pub returns-then-faulty-clause-touched : goal.returns-then-faulty-clause-touched
+returns-then-faulty-clause-touched c = refused _ _ _ (sym c.in_ok-faulty.ensures ∙ c.if-faulty.true)
 
-pub returns-then-is_outside-clause-once : goal.returns-then-is_outside-clause-once
-returns-then-is_outside-clause-once c = refused-once c.args.book.now c.args.edit.now _ (sym c.is_outside.ensures ∙ c.if-is_outside.true)
+pub returns-then-faulty-clause-once : goal.returns-then-faulty-clause-once
+returns-then-faulty-clause-once c = none-repeated c.new.result.items c.new.ensures.items
 
-pub returns-clause-once : goal.returns-clause-once
-returns-clause-once c =
-    subst (λ sheet. IfOk c.touched_in.result (λ list. fault_of c.args.edit.now sheet ≡ None → HasNoRepeats list.items))
-    c.sheet.ensures.sheet c.touched_in.ensures.once
+pub touched_in-requires-clause-within : goal.touched_in-requires-clause-within
+touched_in-requires-clause-within c = (neither-fault _ _ (sym c.in_ok-faulty.ensures ∙ c.if-faulty.false)).0
+
+pub touched_in-requires-clause-listed : goal.touched_in-requires-clause-listed
+touched_in-requires-clause-listed c = (neither-fault _ _ (sym c.in_ok-faulty.ensures ∙ c.if-faulty.false)).1

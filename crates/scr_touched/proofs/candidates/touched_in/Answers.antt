@@ -8,5 +8,5 @@ returns-clause-touched c =
 
 pub returns-clause-once : goal.returns-clause-once
 returns-clause-once c =
-    if-ok _ _ (λ list e. all-once-by _ _ _ _ c.requires.valid c.requires.formed c.in_ok-change.ensures e)
+    if-ok _ _ (λ list e. all-once-by _ _ _ _ c.requires.valid c.requires.listed c.in_ok-change.ensures e)
     c.touched_by-list.result c.touched_by-list.ensures
