@@ -12,3 +12,6 @@ pub mod PaidFigures
 pub mod Given
 pub mod Weights
 pub mod Loops
+pub mod Once
+pub mod OnceRows
+pub mod OnceTables

@@ -1,6 +1,6 @@
 -- What an exchanged bank or reinsurance arrangement owes touches just the figures that its test tells, and they are among
 -- its candidates.
-use Rattle.std.proofs.Common.{◌≡◌, ℕ, ◌&&◌, true, List, [], Option, map, filter, refl, ap, inl}
+use Rattle.std.proofs.Common.{◌≡◌, ℕ, ◌&&◌, true, List, [], Option, map, filter, refl, ap, inl, ◌++◌}
 use Rattle.std.specs.Bool.{Decides}
 use Rattle.std.specs.Prelude.{◌==◌}
 use Rattle.std.proofs.lemmas.Bool.Decides.{Decides-and, Decides-at, Decides-eqb, Decides-like}
@@ -27,7 +27,7 @@ use Rattle.scr_nodes.specs.OwnOf.{reinsured}
 use Rattle.scr_nodes.specs.Rows.{is_bank_of, is_reinsurer_of}
 use Rattle.scr_nodes.specs.declared.node.Node.{Node}
 use Rattle.scr_nodes.specs.declared.node.Node.TheVariants as nodes
-use Rattle.scr_touched.specs.Debts.{debt_touches, debt_losses, debt_nodes}
+use Rattle.scr_touched.specs.Debts.{debt_touches, debt_losses}
 use Rattle.scr_touched.proofs.Decided.{Tells, told-by, unread}
 use Rattle.scr_touched.proofs.Given.{own-moved, same-class}
 
@@ -128,7 +128,7 @@ module _ (factors : FactorValues) (sheet : BalanceSheet) (name : List ℕ) where
       unread factors sheet (rein_after new) node (record { live = refl; own = refl; sources = refl })
 
 pub covers : (sheet : BalanceSheet) (old new : Option Debt) (node : Node) → debt_touches sheet old new node ≡ true
-    → IsMember node (debt_nodes old new)
+    → IsMember node (debt_losses old ++ debt_losses new)
 covers sheet old new (nodes.GroupLoss group) touched =
     in-given (is_owed_by group) same_debt debt_losses (nodes.GroupLoss group)
     (λ debt e. inl (ap nodes.GroupLoss (same_name-is group debt.group e))) old new

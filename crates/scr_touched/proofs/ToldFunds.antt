@@ -1,5 +1,5 @@
 -- An exchanged fund touches just the figures that its test tells, and they are among its candidates.
-use Rattle.std.proofs.Common.{◌≡◌, ℕ, ℤ, ◌==◌, ◌&&◌, ◌||◌, Bool, true, false, cond, not, List, [], ◌∷◌, map, Option, Some, None, is_some, refl, sym, ap, subst, ◌∙◌, inl, inr}
+use Rattle.std.proofs.Common.{◌≡◌, ℕ, ℤ, ◌==◌, ◌&&◌, ◌||◌, Bool, true, false, cond, not, List, [], ◌∷◌, map, Option, Some, None, is_some, refl, sym, ap, subst, ◌∙◌, inl, inr, ◌++◌}
 use Rattle.std.specs.Bool.{Decides, beq}
 use Rattle.std.specs.List.{flat_map, list_any}
 use Rattle.std.specs.Option.{option_eq}
@@ -78,7 +78,7 @@ share-given x (Some a) (Some b) = by (holds x a) (holds x b)
     by false true = refl
     by false false = refl
 
-has-share : (x : List ℕ) (stake : Option Stake) → is_some (share_of x stake) ≡ passes (holds x) stake
+pub has-share : (x : List ℕ) (stake : Option Stake) → is_some (share_of x stake) ≡ passes (holds x) stake
 has-share x None = refl
 has-share x (Some stake) = by (holds x stake)
   where
@@ -89,7 +89,7 @@ has-share x (Some stake) = by (holds x stake)
 holder-is : (x : List ℕ) (old new : Option Stake) → holder_kept x old new ≡ is_kept (holds x) old new
 holder-is x old new = λ i. beq (has-share x old i) (has-share x new i)
 
-in-components : (x : List ℕ) (components : List (List ℕ × ℤ)) → list_any (is_component x) components ≡ true
+pub in-components : (x : List ℕ) (components : List (List ℕ × ℤ)) → list_any (is_component x) components ≡ true
     → IsMember (nodes.FundTotal x) (flat_map (λ c. totals_of c.0) components)
     × IsMember (nodes.SecurityTotal x) (flat_map (λ c. totals_of c.0) components)
 in-components x [] e = absurd (cc)
@@ -185,14 +185,14 @@ module _ (factors : FactorValues) (sheet : BalanceSheet) (name : List ℕ) (new 
 
   in-held : (node : Node) (x : List ℕ)
       → ((stake : Stake) → holds x stake ≡ true → IsMember node (component_nodes (Some stake)))
-      → (share_kept x old new && holder_kept x old new) ≡ false → IsMember node (fund_nodes name old new)
+      → (share_kept x old new && holder_kept x old new) ≡ false → IsMember node (fund_nodes name old ++ component_nodes new)
   in-held node x each e =
       inr (inr (either-fails (share_kept x old new) (holder_kept x old new) e
       (λ f. in-given (holds x) (same_share x) component_nodes node each old new (sym (share-given x old new) ∙ f))
       (λ f. in-either (holds x) component_nodes node each old new (sym (holder-is x old new) ∙ f))))
 
   pub covers : (node : Node) → fund_touches sheet name old new node ≡ true
-      → IsMember node (fund_nodes name old new)
+      → IsMember node (fund_nodes name old ++ component_nodes new)
   covers (nodes.FundTotal x) touched =
       same_or_other x name
       (λ h. inl (ap nodes.FundTotal (same_name-is x name h)))

@@ -1,5 +1,5 @@
 -- An exchanged group of counterparties touches just the figures that its test tells, and they are among its candidates.
-use Rattle.std.proofs.Common.{◌≡◌, ℕ, Bool, true, false, not, ◌&&◌, ◌||◌, ◌++◌, List, Option, Some, None, is_some, refl, sym, ap, subst, ◌∙◌, inl, inr}
+use Rattle.std.proofs.Common.{◌≡◌, ℕ, Bool, true, false, not, ◌&&◌, ◌||◌, ◌++◌, List, Option, Some, None, is_some, refl, sym, ap, subst, ◌∙◌, inl, inr, append_assoc}
 use Rattle.std.specs.Bool.{Decides, beq}
 use Rattle.std.specs.Prelude.{nat_lt}
 use Rattle.std.specs.Option.{option_map_or}
@@ -25,7 +25,7 @@ use Rattle.scr_nodes.specs.Sources.{concentration_square, group_loss, security_s
 use Rattle.scr_nodes.specs.declared.node.Node.{Node}
 use Rattle.scr_nodes.specs.declared.node.Node.TheVariants as nodes
 use Rattle.scr_changes.specs.Readings.{is_same_kind, kind_of, step_of, same_step}
-use Rattle.scr_touched.specs.Groups.{group_touches, group_nodes, own_nodes, class_nodes, spread_nodes, counts_in, is_moved, square_touched}
+use Rattle.scr_touched.specs.Groups.{group_touches, group_nodes, later_group_nodes, own_nodes, class_nodes, spread_nodes, counts_in, is_moved, square_touched}
 use Rattle.scr_changes.specs.Changes.{after}
 use Rattle.scr_changes.specs.Comparisons.{is_kept}
 use Rattle.scr_touched.specs.Comparisons.{is_touched}
@@ -179,33 +179,43 @@ module _ (factors : FactorValues) (sheet : BalanceSheet) (name : List ℕ) (new 
   not-either true b e = refl
   not-either false b e = absurd (cc)
 
+  -- all, by the rows that they are figures of
+  abbrev whole : List Node
+  whole = own_nodes name ++ ((class_nodes old ++ class_nodes new) ++ spread_nodes sheet name)
+
   in-class : (node : Node) (class : ℕ)
       → is_touched (nat_lt class 6) (nat_lt class 6) true (is_kept (is_of_default_class class) old new) ≡ true
       → ((group : Group) → is_of_default_class class group ≡ true → IsMember node (class_nodes (Some group)))
-      → IsMember node (group_nodes sheet name old new)
+      → IsMember node whole
   in-class node class e each =
       IsMember-right (own_nodes name) others node
       (IsMember-left (class_nodes old ++ class_nodes new) (spread_nodes sheet name) node
       (in-either (is_of_default_class class) class_nodes node each old new
       (moved (nat_lt class 6) true (is_kept (is_of_default_class class) old new) e)))
 
-  pub covers : (node : Node) → group_touches sheet name old new node ≡ true
-      → IsMember node (group_nodes sheet name old new)
-  covers (nodes.SecuritySpread x) e =
+  whole-covers : (node : Node) → group_touches sheet name old new node ≡ true
+      → IsMember node whole
+  whole-covers (nodes.SecuritySpread x) e =
       IsMember-right (own_nodes name) others (nodes.SecuritySpread x)
       (IsMember-right (class_nodes old ++ class_nodes new) (spread_nodes sheet name) (nodes.SecuritySpread x)
       (in-chosen position_name (is_of_group name) security_spread nodes.SecuritySpread (λ row. refl) x sheet.securities
       (not-either (counts_in sheet name x) (same_step old new)
       (own-moved (is_bond sheet x) (not (counts_in sheet name x) || same_step old new) e))))
-  covers (nodes.GroupTotal x) e = inl (ap nodes.GroupTotal (name-is x (is_moved old new) e))
-  covers (nodes.ConcentrationSquare x) e =
+  whole-covers (nodes.GroupTotal x) e = inl (ap nodes.GroupTotal (name-is x (is_moved old new) e))
+  whole-covers (nodes.ConcentrationSquare x) e =
       inr (inl (ap nodes.ConcentrationSquare (name-is x (square_touched old new) e)))
-  covers (nodes.GroupLoss x) e = inr (inr (inl (ap nodes.GroupLoss (name-is x (is_moved old new) e))))
-  covers nodes.Concentration e = inr (inr (inr (inl refl)))
-  covers (nodes.ClassLoss class) e =
+  whole-covers (nodes.GroupLoss x) e = inr (inr (inl (ap nodes.GroupLoss (name-is x (is_moved old new) e))))
+  whole-covers nodes.Concentration e = inr (inr (inr (inl refl)))
+  whole-covers (nodes.ClassLoss class) e =
       in-class (nodes.ClassLoss class) class e
       (λ group f. inl (ap nodes.ClassLoss (sym ((Decides-eqb (class_of_step group.step) class).0 f))))
-  covers (nodes.ClassSquare class) e =
+  whole-covers (nodes.ClassSquare class) e =
       in-class (nodes.ClassSquare class) class e
       (λ group f. inr (inl (ap nodes.ClassSquare (sym ((Decides-eqb (class_of_step group.step) class).0 f)))))
-  covers node e = absurd (cc)
+  whole-covers node e = absurd (cc)
+
+  pub covers : (node : Node) → group_touches sheet name old new node ≡ true
+      → IsMember node (group_nodes name old ++ later_group_nodes sheet name new)
+  covers node e =
+      subst (λ xs. IsMember node (own_nodes name ++ xs))
+      (append_assoc (class_nodes old) (class_nodes new) (spread_nodes sheet name)) (whole-covers node e)

@@ -185,10 +185,10 @@ module _ (factors : FactorValues) (sheet : BalanceSheet) (name : List ℕ) (new 
   abbrev stress_figures : List Node
   stress_figures = life ++ (health ++ owed)
 
-  of-value : (node : Node) → IsMember node (value_figures name) → IsMember node (liability_nodes name old new)
+  of-value : (node : Node) → IsMember node (value_figures name) → IsMember node (liability_nodes name old ++ owed_nodes new)
   of-value node m = IsMember-left (value_figures name) (loss_figures name ++ stress_figures) node m
 
-  of-stress : (node : Node) → IsMember node stress_figures → IsMember node (liability_nodes name old new)
+  of-stress : (node : Node) → IsMember node stress_figures → IsMember node (liability_nodes name old ++ owed_nodes new)
   of-stress node m =
       IsMember-right (value_figures name) (loss_figures name ++ stress_figures) node
       (IsMember-right (loss_figures name) stress_figures node m)
@@ -196,7 +196,7 @@ module _ (factors : FactorValues) (sheet : BalanceSheet) (name : List ℕ) (new 
   of-owed : (node : Node) (currency : List ℕ) (live : Bool)
       → is_touched live live true (is_kept (is_owed_in currency) old new) ≡ true
       → ((row : Liability) → currency ≡ row.currency → IsMember node (owed_nodes (Some row)))
-      → IsMember node (liability_nodes name old new)
+      → IsMember node (liability_nodes name old ++ owed_nodes new)
   of-owed node currency live e each =
       of-stress node
       (IsMember-right life (health ++ owed) node
@@ -223,7 +223,7 @@ module _ (factors : FactorValues) (sheet : BalanceSheet) (name : List ℕ) (new 
       of b p f = refl
 
   pub covers : (node : Node) → liability_touches sheet name old new node ≡ true
-      → IsMember node (liability_nodes name old new)
+      → IsMember node (liability_nodes name old ++ owed_nodes new)
   covers (nodes.LiabilityRate x direction) e =
       of-value (nodes.LiabilityRate x direction)
       (subst (λ n. IsMember (nodes.LiabilityRate x direction) (value_figures n)) (name-is x _ e) (rate-in x direction))

@@ -1,6 +1,6 @@
 -- Another reference date or reporting currency touches just the figures that the test tells, and they are among the
 -- candidates.
-use Rattle.std.proofs.Common.{◌≡◌, ◌⊎◌, ℕ, ◌&&◌, ◌++◌, not, Bool, true, false, List, [], ◌∷◌, map, filter, Option, Some, None, is_some, inl, inr, refl, sym, ap, subst, ◌∙◌}
+use Rattle.std.proofs.Common.{◌≡◌, ◌⊎◌, ℕ, ◌&&◌, ◌++◌, not, Bool, true, false, List, [], ◌∷◌, map, filter, Option, Some, None, is_some, inl, inr, refl, sym, ap, subst, ◌∙◌, append_assoc}
 use Rattle.std.specs.Bool.{Decides}
 use Rattle.std.specs.Option.{option_map_or}
 use Rattle.std.proofs.lemmas.Bool.Decides.{Decides-int_eq}
@@ -39,7 +39,7 @@ use Rattle.scr_touched.specs.Comparisons.{is_touched}
 use Rattle.scr_touched.specs.Curves.{foreign_nodes, moved_nodes}
 use Rattle.scr_touched.specs.Liabilities.{is_under}
 use Rattle.scr_touched.specs.Payments.{payment_figures, value_figures}
-use Rattle.scr_touched.specs.ReferenceDates.{date_nodes, date_touches, dated_touched, same_date}
+use Rattle.scr_touched.specs.ReferenceDates.{date_nodes, reporting_nodes, date_touches, dated_touched, same_date}
 use Rattle.scr_changes.specs.declared.change.Change.TheVariants as changes
 use Rattle.scr_changes.proofs.Compared.{always}
 use Rattle.scr_touched.proofs.Decided.{Tells, told-by, unread}
@@ -200,27 +200,30 @@ module _ (factors : FactorValues) (sheet : BalanceSheet) (date : Day) (currency 
       foreign_nodes reporting ++ (foreign_nodes currency
       ++ nodes.Currency measures.Gross ∷ nodes.Currency measures.Net ∷ [])
 
+  abbrev whole : List Node
+  whole = moved_nodes sheet same ++ reporting_figures
+
   of-payments : (node : Node) → same ≡ false → IsMember node (payment_figures sheet)
-      → IsMember node (date_nodes sheet date currency)
+      → IsMember node whole
   of-payments node e m = IsMember-left (moved_nodes sheet same) reporting_figures node (moved-in sheet same node e m)
 
   unit-covered : (x : List ℕ) (direction : Direction) (p : Option Position) → position_of x sheet.securities ≡ p
       → dated_touched sheet date (passes is_paying p) ≡ true
-      → IsMember (nodes.UnitLoss x direction) (date_nodes sheet date currency)
+      → IsMember (nodes.UnitLoss x direction) whole
   unit-covered x direction None found e = absurd (cc)
   unit-covered x direction (Some p) found e =
       of-payments (nodes.UnitLoss x direction) (not-same (is_paying p) same e) (unit-listed sheet x p found direction)
 
   value-covered : (x : List ℕ) (node : Node) → IsMember node (value_figures x) → (l : Option Liability)
       → liability_of x sheet.liabilities ≡ l → dated_touched sheet date (is_some l) ≡ true
-      → IsMember node (date_nodes sheet date currency)
+      → IsMember node whole
   value-covered x node m None found e = absurd (cc)
   value-covered x node m (Some l) found e =
       of-payments node (not-same true same e) (value-listed sheet x l found node m)
 
   loss-covered : (x : List ℕ) (projection : Projection) (l : Option Liability) → liability_of x sheet.liabilities ≡ l
       → dated_touched sheet date (is_under projection l) ≡ true
-      → IsMember (nodes.LiabilityLoss x projection) (date_nodes sheet date currency)
+      → IsMember (nodes.LiabilityLoss x projection) whole
   loss-covered x projection None found e = absurd (never (is_stress projection) e)
     where
       never : (b : Bool) → dated_touched sheet date (b && false) ≡ true → ⊥
@@ -234,7 +237,7 @@ module _ (factors : FactorValues) (sheet : BalanceSheet) (date : Day) (currency 
   foreign-covered : (x : List ℕ) (f : List ℕ → Node) → ((n : List ℕ) → IsMember (f n) (foreign_nodes n))
       → (c : Option Curve) → row_of curve_name x sheet.curves ≡ c
       → is_touched (passes (is_other reporting) c) (passes (is_other currency) c) true true ≡ true
-      → IsMember (f x) (date_nodes sheet date currency)
+      → IsMember (f x) whole
   foreign-covered x f each None found e = absurd (cc)
   foreign-covered x f each (Some c) found e =
       IsMember-right (moved_nodes sheet same) reporting_figures (f x)
@@ -257,7 +260,7 @@ module _ (factors : FactorValues) (sheet : BalanceSheet) (date : Day) (currency 
           (f x) (one currency g))
 
   sum-covered : (node : Node) → IsMember node (nodes.Currency measures.Gross ∷ nodes.Currency measures.Net ∷ [])
-      → IsMember node (date_nodes sheet date currency)
+      → IsMember node whole
   sum-covered node m =
       IsMember-right (moved_nodes sheet same) reporting_figures node
       (IsMember-right (foreign_nodes reporting) (foreign_nodes currency
@@ -265,36 +268,42 @@ module _ (factors : FactorValues) (sheet : BalanceSheet) (date : Day) (currency 
       (IsMember-right (foreign_nodes currency) (nodes.Currency measures.Gross ∷ nodes.Currency measures.Net ∷ [])
       node m))
 
-  pub covers : (node : Node) → date_touches sheet date currency node ≡ true
-      → IsMember node (date_nodes sheet date currency)
-  covers (nodes.UnitLoss x direction) e = unit-covered x direction (position_of x sheet.securities) refl e
-  covers (nodes.LiabilityRate x direction) e =
+  whole-covers : (node : Node) → date_touches sheet date currency node ≡ true
+      → IsMember node whole
+  whole-covers (nodes.UnitLoss x direction) e = unit-covered x direction (position_of x sheet.securities) refl e
+  whole-covers (nodes.LiabilityRate x direction) e =
       value-covered x (nodes.LiabilityRate x direction) (rate-in x direction) (liability_of x sheet.liabilities) refl e
-  covers (nodes.LiabilityPresent x) e =
+  whole-covers (nodes.LiabilityPresent x) e =
       value-covered x (nodes.LiabilityPresent x) (present-in x) (liability_of x sheet.liabilities) refl e
-  covers (nodes.LiabilityLoss x projection) e =
+  whole-covers (nodes.LiabilityLoss x projection) e =
       loss-covered x projection (liability_of x sheet.liabilities) refl e
-  covers (nodes.CurrencyScenario x directions.Up measures.Gross) e =
+  whole-covers (nodes.CurrencyScenario x directions.Up measures.Gross) e =
       foreign-covered x (λ n. nodes.CurrencyScenario n directions.Up measures.Gross) (λ n. inl refl)
       (row_of curve_name x sheet.curves) refl e
-  covers (nodes.CurrencyScenario x directions.Up measures.Net) e =
+  whole-covers (nodes.CurrencyScenario x directions.Up measures.Net) e =
       foreign-covered x (λ n. nodes.CurrencyScenario n directions.Up measures.Net) (λ n. inr (inl refl))
       (row_of curve_name x sheet.curves) refl e
-  covers (nodes.CurrencyScenario x directions.Down measures.Gross) e =
+  whole-covers (nodes.CurrencyScenario x directions.Down measures.Gross) e =
       foreign-covered x (λ n. nodes.CurrencyScenario n directions.Down measures.Gross) (λ n. inr (inr (inl refl)))
       (row_of curve_name x sheet.curves) refl e
-  covers (nodes.CurrencyScenario x directions.Down measures.Net) e =
+  whole-covers (nodes.CurrencyScenario x directions.Down measures.Net) e =
       foreign-covered x (λ n. nodes.CurrencyScenario n directions.Down measures.Net) (λ n. inr (inr (inr (inl refl))))
       (row_of curve_name x sheet.curves) refl e
-  covers (nodes.CurrencyChoice x) e =
+  whole-covers (nodes.CurrencyChoice x) e =
       foreign-covered x nodes.CurrencyChoice (λ n. inr (inr (inr (inr (inl refl)))))
       (row_of curve_name x sheet.curves) refl e
-  covers (nodes.CurrencyPicked x measures.Gross) e =
+  whole-covers (nodes.CurrencyPicked x measures.Gross) e =
       foreign-covered x (λ n. nodes.CurrencyPicked n measures.Gross) (λ n. inr (inr (inr (inr (inr (inl refl))))))
       (row_of curve_name x sheet.curves) refl e
-  covers (nodes.CurrencyPicked x measures.Net) e =
+  whole-covers (nodes.CurrencyPicked x measures.Net) e =
       foreign-covered x (λ n. nodes.CurrencyPicked n measures.Net) (λ n. inr (inr (inr (inr (inr (inr (inl refl)))))))
       (row_of curve_name x sheet.curves) refl e
-  covers (nodes.Currency measures.Gross) e = sum-covered (nodes.Currency measures.Gross) (inl refl)
-  covers (nodes.Currency measures.Net) e = sum-covered (nodes.Currency measures.Net) (inr (inl refl))
-  covers node e = absurd (cc)
+  whole-covers (nodes.Currency measures.Gross) e = sum-covered (nodes.Currency measures.Gross) (inl refl)
+  whole-covers (nodes.Currency measures.Net) e = sum-covered (nodes.Currency measures.Net) (inr (inl refl))
+  whole-covers node e = absurd (cc)
+
+  pub covers : (node : Node) → date_touches sheet date currency node ≡ true
+      → IsMember node (date_nodes sheet date ++ reporting_nodes currency)
+  covers node e =
+      subst (IsMember node) (sym (append_assoc (moved_nodes sheet same) (foreign_nodes reporting) (reporting_nodes currency)))
+      (whole-covers node e)

@@ -247,7 +247,7 @@ module _ (factors : FactorValues) (sheet : BalanceSheet) (name : List ℕ) (new 
   abbrev rows_of_figures : List Node
   rows_of_figures = row_nodes old ++ row_nodes new
 
-  in-rows : (node : Node) → IsMember node rows_of_figures → IsMember node (security_nodes name old new)
+  in-rows : (node : Node) → IsMember node rows_of_figures → IsMember node (security_nodes name old ++ row_nodes new)
   in-rows node m = IsMember-right (own_nodes name) rows_of_figures node m
 
   name-is : (x : List ℕ) (b : Bool) → (same_name x name && b) ≡ true → x ≡ name
@@ -257,7 +257,7 @@ module _ (factors : FactorValues) (sheet : BalanceSheet) (name : List ℕ) (new 
   of-rows : (node : Node) (test : Position → Bool) (live own : Bool)
       → is_touched live live own (is_kept test old new) ≡ true → own ≡ true
       → ((row : Position) → test row ≡ true → IsMember node (row_nodes (Some row)))
-      → IsMember node (security_nodes name old new)
+      → IsMember node (security_nodes name old ++ row_nodes new)
   of-rows node test live own e always_own each =
       in-rows node (in-either test row_nodes node each old new
       (ap (λ b. b && is_kept test old new) (sym always_own) ∙ moved live own (is_kept test old new) e))
@@ -271,7 +271,7 @@ module _ (factors : FactorValues) (sheet : BalanceSheet) (name : List ℕ) (new 
       twice kept (moved (is_foreign_currency sheet currency) kept kept e)
 
   pub covers : (node : Node) → security_touches sheet name old new node ≡ true
-      → IsMember node (security_nodes name old new)
+      → IsMember node (security_nodes name old ++ row_nodes new)
   covers (nodes.SecurityTotal x) e = inl (ap nodes.SecurityTotal (name-is x _ e))
   covers (nodes.UnitLoss x directions.Up) e = inr (inl (ap (λ n. nodes.UnitLoss n directions.Up) (name-is x _ e)))
   covers (nodes.UnitLoss x directions.Down) e =

@@ -1,5 +1,5 @@
 -- Which figures an exchanged bank or reinsurance arrangement touches (this project's own).
-use Rattle.std.specs.Prelude.{◌++◌, Bool, true, false, List, [], ◌∷◌, Option, Some, None}
+use Rattle.std.specs.Prelude.{Bool, true, false, List, [], ◌∷◌, Option, Some, None}
 use Rattle.scr_sheet.specs.declared.sheet.BalanceSheet.{BalanceSheet}
 use Rattle.scr_changes.specs.Debts.{is_owed_by, same_debt}
 use Rattle.scr_changes.specs.Parts.{gives_same}
@@ -7,6 +7,7 @@ use Rattle.scr_changes.specs.declared.debts.Debt.{Debt}
 use Rattle.scr_nodes.specs.Live.{is_group}
 use Rattle.scr_nodes.specs.declared.node.Node.{Node}
 use Rattle.scr_nodes.specs.declared.node.Node.TheVariants as nodes
+use Rattle.scr_changes.specs.Comparisons.{passes}
 use Rattle.scr_touched.specs.Comparisons.{is_touched}
 
 -- what a bank or a reinsurer owes becomes another debt, or comes or goes
@@ -22,5 +23,6 @@ abbrev pub debt_losses : Option Debt → List Node
 debt_losses None = []
 debt_losses (Some debt) = nodes.GroupLoss debt.group ∷ []
 
-abbrev pub debt_nodes : Option Debt → Option Debt → List Node
-debt_nodes old new = debt_losses old ++ debt_losses new
+abbrev pub is_of_debtor : Option Debt → Node → Bool
+is_of_debtor debt (nodes.GroupLoss group) = passes (is_owed_by group) debt
+is_of_debtor debt node = false

@@ -1,8 +1,9 @@
 -- Which figures an exchanged fund touches (this project's own).
-use Rattle.std.specs.Prelude.{ℕ, ◌==◌, ◌&&◌, ◌++◌, Bool, true, false, List, [], ◌∷◌, Option, Some, None, is_some, if◌then◌else◌}
+use Rattle.std.specs.Prelude.{ℕ, ◌==◌, ◌&&◌, ◌||◌, Bool, true, false, List, [], ◌∷◌, Option, Some, None, is_some, if◌then◌else◌}
 use Rattle.std.specs.Bool.{beq}
 use Rattle.std.specs.List.{flat_map}
 use Rattle.std.specs.Option.{option_eq}
+use Rattle.scr_names.specs.Names.{same_name}
 use Rattle.scr_names.specs.Tables.{has_row}
 use Rattle.scr_sheet.specs.BalanceSheet.{position_name, stake_name}
 use Rattle.scr_sheet.specs.declared.rows.Class.TheVariants as classes
@@ -67,6 +68,11 @@ abbrev pub component_nodes : Option Stake → List Node
 component_nodes None = []
 component_nodes (Some stake) = flat_map (λ c. totals_of c.0) stake.fund.components
 
-abbrev pub fund_nodes : List ℕ → Option Stake → Option Stake → List Node
-fund_nodes name old new =
-    nodes.FundTotal name ∷ nodes.ClassSum classes.Type2Equity ∷ (component_nodes old ++ component_nodes new)
+abbrev pub fund_nodes : List ℕ → Option Stake → List Node
+fund_nodes name old = nodes.FundTotal name ∷ nodes.ClassSum classes.Type2Equity ∷ component_nodes old
+
+-- it is a total of the fund of this name, or of one of its components
+abbrev pub is_of_stake : List ℕ → Option Stake → Node → Bool
+is_of_stake name stake (nodes.FundTotal x) = same_name x name || is_some (share_of x stake)
+is_of_stake name stake (nodes.SecurityTotal x) = is_some (share_of x stake)
+is_of_stake name stake node = false

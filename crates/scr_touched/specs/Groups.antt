@@ -12,7 +12,7 @@ use Rattle.scr_nodes.specs.Rows.{is_of_group, is_of_default_class, class_of_step
 use Rattle.scr_nodes.specs.Sources.{security_spread}
 use Rattle.scr_nodes.specs.declared.node.Node.{Node}
 use Rattle.scr_nodes.specs.declared.node.Node.TheVariants as nodes
-use Rattle.scr_changes.specs.Comparisons.{is_kept}
+use Rattle.scr_changes.specs.Comparisons.{is_kept, passes}
 use Rattle.scr_changes.specs.Readings.{is_same_kind, kind_of, same_step}
 use Rattle.scr_touched.specs.Comparisons.{is_touched}
 
@@ -72,5 +72,14 @@ class_nodes (Some group) =
 abbrev pub spread_nodes : BalanceSheet → List ℕ → List Node
 spread_nodes sheet name = map security_spread (filter (is_of_group name) sheet.securities)
 
-abbrev pub group_nodes : BalanceSheet → List ℕ → Option Group → Option Group → List Node
-group_nodes sheet name old new = own_nodes name ++ ((class_nodes old ++ class_nodes new) ++ spread_nodes sheet name)
+abbrev pub group_nodes : List ℕ → Option Group → List Node
+group_nodes name old = own_nodes name ++ class_nodes old
+
+abbrev pub later_group_nodes : BalanceSheet → List ℕ → Option Group → List Node
+later_group_nodes sheet name new = class_nodes new ++ spread_nodes sheet name
+
+-- it is a figure of the class of the group
+abbrev pub is_of_class_of : Option Group → Node → Bool
+is_of_class_of row (nodes.ClassLoss class) = passes (is_of_default_class class) row
+is_of_class_of row (nodes.ClassSquare class) = passes (is_of_default_class class) row
+is_of_class_of row node = false

@@ -78,7 +78,13 @@ owed_nodes (Some liability) =
     ∷ nodes.CurrencyScenario liability.currency directions.Up measures.Gross
     ∷ nodes.CurrencyScenario liability.currency directions.Down measures.Gross ∷ []
 
-abbrev pub liability_nodes : List ℕ → Option Liability → Option Liability → List Node
-liability_nodes name old new =
+abbrev pub liability_nodes : List ℕ → Option Liability → List Node
+liability_nodes name old =
     value_figures name ++ (loss_figures name ++ (stress_nodes biometrics.Life ++ (stress_nodes biometrics.Health
-    ++ (owed_nodes old ++ owed_nodes new))))
+    ++ owed_nodes old)))
+
+-- it is a figure of the currency of the liability
+abbrev pub is_of_liability : Option Liability → Node → Bool
+is_of_liability row (nodes.CurrencyLoss currency direction) = passes (is_owed_in currency) row
+is_of_liability row (nodes.CurrencyScenario currency direction measures.Gross) = passes (is_owed_in currency) row
+is_of_liability row node = false

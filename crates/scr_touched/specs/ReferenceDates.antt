@@ -50,8 +50,15 @@ date_touches sheet date currency node = false
 -- ---- what may be touched
 
 -- the figures of payments, unless the date stays, and those of the reporting currency before and after
-abbrev pub date_nodes : BalanceSheet → Day → List ℕ → List Node
-date_nodes sheet date currency =
-    moved_nodes sheet (same_date sheet date)
-    ++ (foreign_nodes sheet.numbers.currency ++ (foreign_nodes currency
-    ++ nodes.Currency measures.Gross ∷ nodes.Currency measures.Net ∷ []))
+abbrev pub date_nodes : BalanceSheet → Day → List Node
+date_nodes sheet date = moved_nodes sheet (same_date sheet date) ++ foreign_nodes sheet.numbers.currency
+
+abbrev pub reporting_nodes : List ℕ → List Node
+reporting_nodes currency = foreign_nodes currency ++ nodes.Currency measures.Gross ∷ nodes.Currency measures.Net ∷ []
+
+-- it is a figure of the currency as a foreign one
+abbrev pub is_of_currency : List ℕ → Node → Bool
+is_of_currency currency (nodes.CurrencyScenario x direction measure) = same_name x currency
+is_of_currency currency (nodes.CurrencyChoice x) = same_name x currency
+is_of_currency currency (nodes.CurrencyPicked x measure) = same_name x currency
+is_of_currency currency node = false

@@ -92,5 +92,13 @@ row_nodes (Some position) =
     ∷ nodes.CurrencyScenario position.security.currency directions.Down measures.Gross
     ∷ nodes.ClassSum position.security.class ∷ group_nodes position.security.group
 
-abbrev pub security_nodes : List ℕ → Option Position → Option Position → List Node
-security_nodes name old new = own_nodes name ++ (row_nodes old ++ row_nodes new)
+abbrev pub security_nodes : List ℕ → Option Position → List Node
+security_nodes name old = own_nodes name ++ row_nodes old
+
+-- it is a figure of the currency, the class or the group of the security
+abbrev pub is_of_position : Option Position → Node → Bool
+is_of_position row (nodes.CurrencyLoss currency direction) = passes (is_held_in currency) row
+is_of_position row (nodes.CurrencyScenario currency direction measures.Gross) = passes (is_held_in currency) row
+is_of_position row (nodes.ClassSum class) = passes (has_class class) row
+is_of_position row (nodes.GroupTotal group) = passes (is_of_group group) row
+is_of_position row node = false

@@ -1,7 +1,7 @@
 //! Which figures an exchanged bank or reinsurance arrangement touches.
-ghost use Rattle.std.specs.Prelude.{◌≡◌, ◌++◌, IfOk, OnOk};
+ghost use Rattle.std.specs.Prelude.{◌≡◌, IfOk};
 ghost use Rattle.std.specs.Option.{option_copied};
-ghost use Rattle.scr_touched.specs.Debts.{debt_touches, debt_losses, debt_nodes};
+ghost use Rattle.scr_touched.specs.Debts.{debt_touches, debt_losses, is_of_debtor};
 
 use crate::comparisons::is_touched;
 use scr_changes::debts::{Debt, owes_same};
@@ -29,27 +29,23 @@ pub(crate) fn debt_touches(
     }
 }
 
-/// The figures that it may touch: what the groups lose that owe it before and after.
-pub(crate) fn debt_nodes(
-    alloc: Global,
-    old: Option<&Debt>,
-    new: Option<&Debt>,
-) -> Result<Vec<Node>, NoMemory>
-    ensures { IfOk result (λ list. list.items
-        ≡ debt_nodes (option_copied old.entry) (option_copied new.entry)) }
+/// The figure that it may touch: what the group loses that owes it.
+pub(crate) fn debt_losses(alloc: Global, debt: Option<&Debt>) -> Result<Vec<Node>, NoMemory>
+    ensures { IfOk result (λ list. list.items ≡ debt_losses (option_copied debt.entry)) }
 {
     let mut list = Vec::new(alloc);
-    push_loss(&mut list, old)?;
-    push_loss(&mut list, new)?;
-    Ok(list)
-}
-
-fn push_loss(list: &mut Vec<Node>, debt: Option<&Debt>) -> Result<(), NoMemory>
-    ensures { OnOk result (list.new.items
-        ≡ list.old.items ++ debt_losses (option_copied debt.entry)) }
-{
     if let Some(debt) = debt {
         list.push(Node::GroupLoss(debt.group))?;
     }
-    Ok(())
+    Ok(list)
+}
+
+/// Whether a figure is that one.
+pub(crate) fn is_of_debtor(debt: Option<&Debt>, node: &Node) -> bool
+    ensures { result ≡ is_of_debtor (option_copied debt.entry) node.now }
+{
+    match (node, debt) {
+        (Node::GroupLoss(group), Some(debt)) => *group == debt.group,
+        _ => false,
+    }
 }

@@ -6,11 +6,11 @@ ghost use Rattle.scr_nodes.specs.Rows.{is_closed};
 ghost use Rattle.scr_changes.specs.Comparisons.{passes};
 ghost use Rattle.scr_touched.specs.FundShares.{AreBothShares};
 ghost use Rattle.scr_changes.specs.Readings.{held_kept, is_fund_after};
-ghost use Rattle.scr_touched.specs.Funds.{fund_touched, holding_touched, fund_touches, totals_of, component_nodes, fund_nodes};
+ghost use Rattle.scr_touched.specs.Funds.{fund_touched, holding_touched, fund_touches, totals_of, component_nodes, fund_nodes, is_of_stake};
 
 use crate::comparisons::is_touched;
 use crate::component::Shares;
-use crate::weighed::{kept, weighed};
+use crate::weighed::{is_held, kept, weighed};
 use scr_changes::readings::{held_kept, is_fund_after};
 use scr_nodes::Node;
 use scr_nodes::rows::is_closed;
@@ -104,20 +104,44 @@ fn closed(stake: Option<&Stake>) -> bool
     }
 }
 
-/// The figures that an exchanged fund may touch.
+/// The figures that an exchanged fund may touch, and those of its components before.
 pub(crate) fn fund_nodes(
     alloc: Global,
     name: &Name,
     old: Option<&Stake>,
-    new: Option<&Stake>,
 ) -> Result<Vec<Node>, NoMemory>
-    ensures { IfOk result (λ list. list.items ≡ fund_nodes name.now
-        (option_copied old.entry) (option_copied new.entry)) }
+    ensures { IfOk result (λ list. list.items ≡ fund_nodes name.now (option_copied old.entry)) }
 {
     let mut list = vec![in alloc; Node::FundTotal(*name), Node::ClassSum(Class::Type2Equity)]?;
     push_components(&mut list, old)?;
-    push_components(&mut list, new)?;
     Ok(list)
+}
+
+/// The totals of the components of a fund.
+pub(crate) fn component_nodes(alloc: Global, stake: Option<&Stake>) -> Result<Vec<Node>, NoMemory>
+    ensures { IfOk result (λ list. list.items ≡ component_nodes (option_copied stake.entry)) }
+{
+    let mut list = Vec::new(alloc);
+    push_components(&mut list, stake)?;
+    Ok(list)
+}
+
+/// Whether a figure is the total of the fund, or of a component before.
+pub(crate) fn is_of_stake(
+    name: &Name,
+    shares: &Shares,
+    _old: Option<&Stake>,
+    _new: Option<&Stake>,
+    node: &Node,
+) -> bool
+    requires { AreBothShares shares.now (option_copied _old) (option_copied _new) }
+    ensures { result ≡ is_of_stake name.now (option_copied _old.entry) node.now }
+{
+    match node {
+        Node::FundTotal(x) => x == name || is_held(x, &shares.old, _old),
+        Node::SecurityTotal(x) => is_held(x, &shares.old, _old),
+        _ => false,
+    }
 }
 
 fn push_components(list: &mut Vec<Node>, stake: Option<&Stake>) -> Result<(), NoMemory>

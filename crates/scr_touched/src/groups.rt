@@ -5,7 +5,7 @@ ghost use Rattle.scr_nodes.specs.Live.{is_bond};
 ghost use Rattle.scr_nodes.specs.Rows.{class_of_step, is_of_default_class, is_of_group};
 ghost use Rattle.scr_changes.specs.Comparisons.{passes};
 ghost use Rattle.scr_changes.specs.Readings.{same_step, kind_of};
-ghost use Rattle.scr_touched.specs.Groups.{group_touches, group_nodes, is_moved, square_touched, class_touched, step_touched, counts_in, class_nodes, spread_nodes};
+ghost use Rattle.scr_touched.specs.Groups.{group_touches, group_nodes, later_group_nodes, is_of_class_of, is_moved, square_touched, class_touched, step_touched, counts_in, class_nodes, spread_nodes};
 
 use crate::comparisons::is_touched;
 use scr_changes::readings::{kind_of, same_step};
@@ -102,13 +102,10 @@ fn is_of_class(class: u8, group: Option<&Group>) -> bool
 /// those of its securities.
 pub(crate) fn group_nodes(
     alloc: Global,
-    sheet: &BalanceSheet,
     name: &Name,
     old: Option<&Group>,
-    new: Option<&Group>,
 ) -> Result<Vec<Node>, NoMemory>
-    ensures { IfOk result (λ list. list.items ≡ group_nodes sheet.now name.now
-        (option_copied old.entry) (option_copied new.entry)) }
+    ensures { IfOk result (λ list. list.items ≡ group_nodes name.now (option_copied old.entry)) }
 {
     let mut list = vec![in alloc;
         Node::GroupTotal(*name),
@@ -117,9 +114,33 @@ pub(crate) fn group_nodes(
         Node::Concentration,
     ]?;
     push_class(&mut list, old)?;
+    Ok(list)
+}
+
+/// The figures of its class of probabilities of default afterwards, and those of its bonds.
+pub(crate) fn later_group_nodes(
+    alloc: Global,
+    sheet: &BalanceSheet,
+    name: &Name,
+    new: Option<&Group>,
+) -> Result<Vec<Node>, NoMemory>
+    ensures { IfOk result (λ list. list.items ≡ later_group_nodes sheet.now name.now
+        (option_copied new.entry)) }
+{
+    let mut list = Vec::new(alloc);
     push_class(&mut list, new)?;
     push_spreads(&mut list, sheet, name)?;
     Ok(list)
+}
+
+/// Whether a figure is one of the class of a group.
+pub(crate) fn is_of_class_of(group: Option<&Group>, node: &Node) -> bool
+    ensures { result ≡ is_of_class_of (option_copied group.entry) node.now }
+{
+    match node {
+        Node::ClassLoss(class) | Node::ClassSquare(class) => is_of_class(*class, group),
+        _ => false,
+    }
 }
 
 fn push_class(list: &mut Vec<Node>, group: Option<&Group>) -> Result<(), NoMemory>

@@ -4,7 +4,7 @@ ghost use Rattle.std.specs.Option.{option_copied};
 ghost use Rattle.scr_nodes.specs.Rows.{has_stress, is_owed_in, is_stress, is_stressed};
 ghost use Rattle.scr_changes.specs.Comparisons.{is_kept, passes};
 ghost use Rattle.scr_changes.specs.Readings.{best_estimate_of, paid_for};
-ghost use Rattle.scr_touched.specs.Liabilities.{rates_for, is_under, same_value, value_touched, loss_touched, liability_touches, stress_nodes, owed_nodes, liability_nodes};
+ghost use Rattle.scr_touched.specs.Liabilities.{rates_for, is_under, same_value, value_touched, loss_touched, liability_touches, stress_nodes, owed_nodes, liability_nodes, is_of_liability};
 
 use crate::comparisons::is_touched;
 use crate::lookups::rates_of;
@@ -134,15 +134,14 @@ fn suffers(biometric: Biometric, projection: Projection, liability: Option<&Liab
 }
 
 /// The figures that an exchanged liability may touch: its own, the stresses, and those of its
-/// currency before and after.
+/// currency before.
 pub(crate) fn liability_nodes(
     alloc: Global,
     name: &Name,
     old: Option<&Liability>,
-    new: Option<&Liability>,
 ) -> Result<Vec<Node>, NoMemory>
     ensures { IfOk result (λ list. list.items ≡ liability_nodes name.now
-        (option_copied old.entry) (option_copied new.entry)) }
+        (option_copied old.entry)) }
 {
     let mut list = Vec::new(alloc);
     push_values(&mut list, name)?;
@@ -150,8 +149,31 @@ pub(crate) fn liability_nodes(
     push_stresses(&mut list, Biometric::Life)?;
     push_stresses(&mut list, Biometric::Health)?;
     push_owed(&mut list, old)?;
-    push_owed(&mut list, new)?;
     Ok(list)
+}
+
+/// The figures of the currency of a liability.
+pub(crate) fn owed_nodes(
+    alloc: Global,
+    liability: Option<&Liability>,
+) -> Result<Vec<Node>, NoMemory>
+    ensures { IfOk result (λ list. list.items ≡ owed_nodes (option_copied liability.entry)) }
+{
+    let mut list = Vec::new(alloc);
+    push_owed(&mut list, liability)?;
+    Ok(list)
+}
+
+/// Whether a figure is one of these.
+pub(crate) fn is_of_liability(liability: Option<&Liability>, node: &Node) -> bool
+    ensures { result ≡ is_of_liability (option_copied liability.entry) node.now }
+{
+    match node {
+        Node::CurrencyLoss(currency, _) | Node::CurrencyScenario(currency, _, Measure::Gross) => {
+            is_owed(currency, liability)
+        }
+        _ => false,
+    }
 }
 
 fn push_stresses(list: &mut Vec<Node>, biometric: Biometric) -> Result<(), NoMemory>

@@ -1,7 +1,7 @@
 //! Which figures another reference date, or another reporting currency, touches.
 ghost use Rattle.std.specs.Prelude.{◌≡◌, IfOk};
 ghost use Rattle.scr_nodes.specs.Live.{is_stressed_liability, pays};
-ghost use Rattle.scr_touched.specs.ReferenceDates.{same_date, is_foreign_to, dated_touched, reporting_touched, date_touches, date_nodes};
+ghost use Rattle.scr_touched.specs.ReferenceDates.{same_date, is_foreign_to, dated_touched, reporting_touched, date_touches, date_nodes, reporting_nodes, is_of_currency};
 
 use crate::comparisons::is_touched;
 use crate::curves::{moved_nodes, push_foreign};
@@ -62,19 +62,37 @@ fn is_foreign_to(sheet: &BalanceSheet, reporting: &Name, currency: &Name) -> boo
 }
 
 /// The figures that they may touch: those of payments, unless the date stays, and those of the
-/// reporting currency before and after. The cost is that of all securities and liabilities, unless
-/// the date stays.
+/// reporting currency before. The cost is that of all securities and liabilities, unless the date
+/// stays.
 pub(crate) fn date_nodes(
     alloc: Global,
     sheet: &BalanceSheet,
     date: Day,
-    currency: &Name,
 ) -> Result<Vec<Node>, NoMemory>
-    ensures { IfOk result (λ list. list.items ≡ date_nodes sheet.now date currency.now) }
+    ensures { IfOk result (λ list. list.items ≡ date_nodes sheet.now date) }
 {
     let mut list = moved_nodes(alloc, sheet, same_date(sheet, date))?;
     push_foreign(&mut list, &sheet.numbers.currency)?;
+    Ok(list)
+}
+
+/// The figures of the reporting currency afterwards, and what all foreign currencies come to.
+pub(crate) fn reporting_nodes(alloc: Global, currency: &Name) -> Result<Vec<Node>, NoMemory>
+    ensures { IfOk result (λ list. list.items ≡ reporting_nodes currency.now) }
+{
+    let mut list = Vec::new(alloc);
     push_foreign(&mut list, currency)?;
     list.extend_from_slice(&[Node::Currency(Measure::Gross), Node::Currency(Measure::Net)])?;
     Ok(list)
+}
+
+/// Whether a figure is one of the currency as a foreign one.
+pub(crate) fn is_of_currency(currency: &Name, node: &Node) -> bool
+    ensures { result ≡ is_of_currency currency.now node.now }
+{
+    match node {
+        Node::CurrencyScenario(x, _, _) | Node::CurrencyChoice(x) | Node::CurrencyPicked(x, _) => x
+            == currency,
+        _ => false,
+    }
 }

@@ -6,7 +6,7 @@ ghost use Rattle.scr_nodes.specs.Selections.{is_counted};
 ghost use Rattle.scr_sheet.specs.declared.rows.Class.TheVariants as classes;
 ghost use Rattle.scr_changes.specs.Comparisons.{is_kept, passes};
 ghost use Rattle.scr_changes.specs.Readings.{flows_of, duration_of, position_held};
-ghost use Rattle.scr_touched.specs.Securities.{rates_for, step_for, total_touched, unit_touched, spread_touched, security_touches, own_nodes, row_nodes, security_nodes};
+ghost use Rattle.scr_touched.specs.Securities.{rates_for, step_for, total_touched, unit_touched, spread_touched, security_touches, own_nodes, row_nodes, security_nodes, is_of_position};
 
 use crate::comparisons::is_touched;
 use crate::lookups::{rates_of, step_of};
@@ -139,20 +139,40 @@ fn step_for(sheet: &BalanceSheet, position: Option<&Position>) -> Option<u8>
 }
 
 /// The figures that an exchanged security may touch: its own, and those of its currency, class and
-/// group before and after.
+/// group before.
 pub(crate) fn security_nodes(
     alloc: Global,
     name: &Name,
     old: Option<&Position>,
-    new: Option<&Position>,
 ) -> Result<Vec<Node>, NoMemory>
-    ensures { IfOk result (λ list. list.items ≡ security_nodes name.now (option_copied old.entry)
-        (option_copied new.entry)) }
+    ensures { IfOk result (λ list. list.items ≡ security_nodes name.now (option_copied old.entry)) }
 {
     let mut list = own_nodes(alloc, name)?;
     push_row(&mut list, old)?;
-    push_row(&mut list, new)?;
     Ok(list)
+}
+
+/// The figures of the currency, the class and the group of a security.
+pub(crate) fn row_nodes(alloc: Global, position: Option<&Position>) -> Result<Vec<Node>, NoMemory>
+    ensures { IfOk result (λ list. list.items ≡ row_nodes (option_copied position.entry)) }
+{
+    let mut list = Vec::new(alloc);
+    push_row(&mut list, position)?;
+    Ok(list)
+}
+
+/// Whether a figure is one of these.
+pub(crate) fn is_of_position(position: Option<&Position>, node: &Node) -> bool
+    ensures { result ≡ is_of_position (option_copied position.entry) node.now }
+{
+    match node {
+        Node::CurrencyLoss(currency, _) | Node::CurrencyScenario(currency, _, Measure::Gross) => {
+            is_counted_of(&Holdings::In(*currency), position)
+        }
+        Node::ClassSum(class) => is_counted_of(&Holdings::OfClass(*class), position),
+        Node::GroupTotal(group) => is_counted_of(&Holdings::OfGroup(*group), position),
+        _ => false,
+    }
 }
 
 fn own_nodes(alloc: Global, name: &Name) -> Result<Vec<Node>, NoMemory>

@@ -4,7 +4,7 @@ ghost use Rattle.std.specs.Bool.{beq};
 ghost use Rattle.std.specs.Option.{option_copied, option_eq};
 ghost use Rattle.scr_sheet.specs.Records.{natural};
 ghost use Rattle.scr_touched.specs.Components.{with_first};
-ghost use Rattle.scr_touched.specs.Funds.{share_kept, holder_kept, is_same_share};
+ghost use Rattle.scr_touched.specs.Funds.{share_kept, share_of, holder_kept, is_same_share};
 ghost use Rattle.scr_touched.specs.Weighed.{AreShares, AreWeighed, share_at};
 
 use crate::component::{Component, Weighed};
@@ -88,6 +88,20 @@ pub(crate) fn kept(
         (option_copied _new_fund.entry) }
 {
     (same_share(name, old, new), same_holder(name, old, new))
+}
+
+/// What has this name is a component of the fund.
+pub(crate) fn is_held(name: &Name, weighed: &Weighed, _fund: Option<&Stake>) -> bool
+    requires { AreShares weighed.now (option_copied _fund) }
+    ensures { result ≡ is_some (share_of name.now (option_copied _fund.entry)) }
+{
+    has_share(name, weighed)
+}
+
+fn has_share(name: &Name, weighed: &Weighed) -> bool
+    ensures { result ≡ is_some (share_at name.now weighed.now) }
+{
+    weighed.rows.get(name).is_some()
 }
 
 fn same_share(name: &Name, old: &Weighed, new: &Weighed) -> bool

@@ -52,7 +52,7 @@ change_of-change-requires-after_bounds g c κs within =
       is = is;
       same = λ node none live.
           subst (λ after. (is_live before node || is_live after node) ≡ true → IsSame c.self.inside.factors before after node) (sym is)
-          ((c.in-Ok.ensures c.self.inside.factors node c.in-Ok-apply_kept.ensures.answer).rest
+          ((c.in-Ok.ensures.touched c.self.inside.factors node c.in-Ok-apply_kept.ensures.answer).rest
           (λ has. none (subst (λ list. Contains list node) (sym c.deref.ensures.value) has))) live;
       curves = c.self.invariant.curves;
       room = c.self.invariant.room;
@@ -100,7 +100,7 @@ returns-in-Ok-change-clause-steps g c =
     let edit = c.args.edit.now in
     let listed = c.deref.result.now in
     let told : (n : Node) → Contains listed n ↔ IsTouched factors before edit n =
-    λ n. let here = (c.in-Ok.ensures factors n c.in-Ok-apply_kept.ensures.answer).listed in (
+    λ n. let here = (c.in-Ok.ensures.touched factors n c.in-Ok-apply_kept.ensures.answer).listed in (
       λ h. here.0 (subst (λ list. Contains list n) c.deref.ensures.value h),
       λ t. subst (λ list. Contains list n) (sym c.deref.ensures.value) (here.1 t),
     ) in
