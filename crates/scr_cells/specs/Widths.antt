@@ -12,6 +12,12 @@ use Rattle.scr_nodes.specs.declared.node.Adjustment.{Adjustment}
 use Rattle.scr_nodes.specs.declared.node.Adjustment.TheVariants as adjustments
 use Rattle.scr_nodes.specs.declared.node.Node.{Node}
 use Rattle.scr_nodes.specs.declared.node.Node.TheVariants as nodes
+use Rattle.scr_nodes.specs.declared.node.OfFund.TheVariants as of_funds
+use Rattle.scr_nodes.specs.declared.node.OfSecurity.TheVariants as of_securities
+use Rattle.scr_nodes.specs.declared.node.OfLiability.TheVariants as of_liabilities
+use Rattle.scr_nodes.specs.declared.node.OfCurrency.TheVariants as of_currencies
+use Rattle.scr_nodes.specs.declared.node.OfGroup.TheVariants as of_groups
+use Rattle.scr_nodes.specs.declared.node.Whole.TheVariants as wholes
 use Rattle.scr_nodes.specs.declared.node.Operational.{Operational}
 use Rattle.scr_nodes.specs.declared.node.Operational.TheVariants as operations
 use Rattle.scr_nodes.specs.declared.node.Risk.{Risk}
@@ -158,62 +164,62 @@ adjustment_width scale adjustments.DeferredTaxes = taxed_width scale
 -- That of a figure, where it is stated. Where it is not, the figure is of one row or of one currency, or it is the variance
 -- of losses: how far apart their ends are is told only of what is reckoned from them.
 abbrev pub width : Scale → Node → Option ℕ
-width scale (nodes.UnitLoss name direction) = None
-width scale (nodes.SecurityRate name direction) = None
-width scale (nodes.LiabilityRate name direction) = None
-width scale (nodes.LiabilityPresent name) = None
-width scale (nodes.LiabilityLoss name projection) = None
-width scale (nodes.CurrencyLoss currency direction) = None
-width scale (nodes.CurrencyScenario currency direction measure) = None
-width scale (nodes.CurrencyPicked currency measure) = None
-width scale nodes.Variance = None
-width scale (nodes.InterestScenario direction measure) = Some (payments_width scale)
-width scale (nodes.Picked alternatives measure) = Some (payments_width scale)
-width scale (nodes.EquityPart kind) = Some 2
-width scale nodes.EquityRoot = Some (risk_width risks.Equity)
-width scale nodes.Property = Some (risk_width risks.Property)
-width scale nodes.Spread = Some (risk_width risks.Spread)
-width scale nodes.Concentration = Some (risk_width risks.Concentration)
-width scale (nodes.NetPart risk) = Some (risk_width risk)
-width scale (nodes.Currency measure) = Some (currency_width scale)
-width scale (nodes.Market measure) = Some (market_width scale)
-width scale nodes.DefaultType1 = Some 60
-width scale nodes.Default = Some (risk_width risks.Default)
-width scale (nodes.BioScenario biometric projection measure) = Some (payments_width scale)
-width scale (nodes.Life measure) = Some (life_width scale)
-width scale (nodes.Slt measure) = Some (slt_width scale)
-width scale (nodes.Segment set number) = Some 2
-width scale (nodes.PremiumReserve set) = Some (premium_reserve_width set)
-width scale nodes.Natural = Some natural_width
-width scale nodes.ManMade = Some man_made_width
-width scale nodes.NonlifeCatastrophe = Some nonlife_catastrophe_width
-width scale nodes.HealthCatastrophe = Some (risk_width risks.HealthCatastrophe)
-width scale (nodes.Nslt measure) = Some nslt_width
-width scale (nodes.Health measure) = Some (health_width scale)
-width scale (nodes.Nonlife measure) = Some nonlife_width
-width scale (nodes.Bscr measure) = Some (bscr_width scale)
-width scale (nodes.OpPart part) = Some (operational_width scale part)
-width scale (nodes.Adjust adjustment) = Some (adjustment_width scale adjustment)
-width scale nodes.Scr = Some (requirement_width scale)
-width scale nodes.Diversification = Some (diversification_width scale)
+width scale (nodes.Security name (of_securities.UnitLoss direction)) = None
+width scale (nodes.Security name (of_securities.Rate direction)) = None
+width scale (nodes.Liability name (of_liabilities.Rate direction)) = None
+width scale (nodes.Liability name of_liabilities.Present) = None
+width scale (nodes.Liability name (of_liabilities.Loss projection)) = None
+width scale (nodes.Currency currency (of_currencies.Loss direction)) = None
+width scale (nodes.Currency currency (of_currencies.Scenario direction measure)) = None
+width scale (nodes.Currency currency (of_currencies.Picked measure)) = None
+width scale (nodes.Whole wholes.Variance) = None
+width scale (nodes.Whole (wholes.InterestScenario direction measure)) = Some (payments_width scale)
+width scale (nodes.Whole (wholes.Picked alternatives measure)) = Some (payments_width scale)
+width scale (nodes.Whole (wholes.EquityPart kind)) = Some 2
+width scale (nodes.Whole wholes.EquityRoot) = Some (risk_width risks.Equity)
+width scale (nodes.Whole wholes.Property) = Some (risk_width risks.Property)
+width scale (nodes.Whole wholes.Spread) = Some (risk_width risks.Spread)
+width scale (nodes.Whole wholes.Concentration) = Some (risk_width risks.Concentration)
+width scale (nodes.Whole (wholes.NetPart risk)) = Some (risk_width risk)
+width scale (nodes.Whole (wholes.Currency measure)) = Some (currency_width scale)
+width scale (nodes.Whole (wholes.Market measure)) = Some (market_width scale)
+width scale (nodes.Whole wholes.DefaultType1) = Some 60
+width scale (nodes.Whole wholes.Default) = Some (risk_width risks.Default)
+width scale (nodes.Whole (wholes.BioScenario biometric projection measure)) = Some (payments_width scale)
+width scale (nodes.Whole (wholes.Life measure)) = Some (life_width scale)
+width scale (nodes.Whole (wholes.Slt measure)) = Some (slt_width scale)
+width scale (nodes.Whole (wholes.Segment set number)) = Some 2
+width scale (nodes.Whole (wholes.PremiumReserve set)) = Some (premium_reserve_width set)
+width scale (nodes.Whole wholes.Natural) = Some natural_width
+width scale (nodes.Whole wholes.ManMade) = Some man_made_width
+width scale (nodes.Whole wholes.NonlifeCatastrophe) = Some nonlife_catastrophe_width
+width scale (nodes.Whole wholes.HealthCatastrophe) = Some (risk_width risks.HealthCatastrophe)
+width scale (nodes.Whole (wholes.Nslt measure)) = Some nslt_width
+width scale (nodes.Whole (wholes.Health measure)) = Some (health_width scale)
+width scale (nodes.Whole (wholes.Nonlife measure)) = Some nonlife_width
+width scale (nodes.Whole (wholes.Bscr measure)) = Some (bscr_width scale)
+width scale (nodes.Whole (wholes.OpPart part)) = Some (operational_width scale part)
+width scale (nodes.Whole (wholes.Adjust adjustment)) = Some (adjustment_width scale adjustment)
+width scale (nodes.Whole wholes.Scr) = Some (requirement_width scale)
+width scale (nodes.Whole wholes.Diversification) = Some (diversification_width scale)
 -- the others are whole numbers: what is handed in, sums and products of it, squares and choices
-width scale (nodes.FundTotal name) = Some 0
-width scale (nodes.SecurityTotal name) = Some 0
-width scale (nodes.ClassSum class) = Some 0
-width scale (nodes.GroupTotal name) = Some 0
-width scale nodes.Assets = Some 0
-width scale (nodes.SecuritySpread name) = Some 0
-width scale (nodes.ConcentrationSquare name) = Some 0
-width scale (nodes.Choice alternatives) = Some 0
-width scale (nodes.CurrencyChoice currency) = Some 0
-width scale (nodes.GroupLoss name) = Some 0
-width scale (nodes.ClassLoss class) = Some 0
-width scale (nodes.ClassSquare class) = Some 0
-width scale nodes.DefaultBand = Some 0
-width scale nodes.DefaultType2 = Some 0
-width scale (nodes.CatCharge key) = Some 0
-width scale (nodes.Lapse set) = Some 0
-width scale nodes.Intangible = Some 0
+width scale (nodes.Fund name of_funds.Total) = Some 0
+width scale (nodes.Security name of_securities.Total) = Some 0
+width scale (nodes.Whole (wholes.ClassSum class)) = Some 0
+width scale (nodes.Group name of_groups.Total) = Some 0
+width scale (nodes.Whole wholes.Assets) = Some 0
+width scale (nodes.Security name of_securities.Spread) = Some 0
+width scale (nodes.Group name of_groups.ConcentrationSquare) = Some 0
+width scale (nodes.Whole (wholes.Choice alternatives)) = Some 0
+width scale (nodes.Currency currency of_currencies.Choice) = Some 0
+width scale (nodes.Group name of_groups.Loss) = Some 0
+width scale (nodes.Whole (wholes.ClassLoss class)) = Some 0
+width scale (nodes.Whole (wholes.ClassSquare class)) = Some 0
+width scale (nodes.Whole wholes.DefaultBand) = Some 0
+width scale (nodes.Whole wholes.DefaultType2) = Some 0
+width scale (nodes.Whole (wholes.CatCharge key)) = Some 0
+width scale (nodes.Whole (wholes.Lapse set)) = Some 0
+width scale (nodes.Whole wholes.Intangible) = Some 0
 
 -- that of a cell, in cents: rounding outward to cents adds less than two
 abbrev pub stated_width : BalanceSheet → Node → Option ℕ

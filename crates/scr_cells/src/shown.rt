@@ -4,6 +4,7 @@ ghost use Rattle.scr_cells.specs.Shown.{node_of};
 
 use scr_nodes::{
     Adjustment, Alternatives, Biometric, Direction, Equities, Measure, Node, Operational, Risk,
+    Whole,
 };
 use scr_profile::Set;
 use scr_sheet::Projection;
@@ -50,38 +51,40 @@ pub(crate) fn node_of(shown: Shown) -> Node
     ensures { result ≡ node_of shown }
 {
     match shown {
-        Shown::InterestScenario(direction, measure) => Node::InterestScenario(direction, measure),
-        Shown::Picked(alternatives, measure) => Node::Picked(alternatives, measure),
-        Shown::EquityPart(kind) => Node::EquityPart(kind),
-        Shown::EquityRoot => Node::EquityRoot,
-        Shown::Property => Node::Property,
-        Shown::Spread => Node::Spread,
-        Shown::Concentration => Node::Concentration,
-        Shown::Currency(measure) => Node::Currency(measure),
-        Shown::NetPart(risk) => Node::NetPart(risk),
-        Shown::Market(measure) => Node::Market(measure),
-        Shown::DefaultType1 => Node::DefaultType1,
-        Shown::DefaultType2 => Node::DefaultType2,
-        Shown::Default => Node::Default,
+        Shown::InterestScenario(direction, measure) => Node::Whole(Whole::InterestScenario(
+            direction, measure,
+        )),
+        Shown::Picked(alternatives, measure) => Node::Whole(Whole::Picked(alternatives, measure)),
+        Shown::EquityPart(kind) => Node::Whole(Whole::EquityPart(kind)),
+        Shown::EquityRoot => Node::Whole(Whole::EquityRoot),
+        Shown::Property => Node::Whole(Whole::Property),
+        Shown::Spread => Node::Whole(Whole::Spread),
+        Shown::Concentration => Node::Whole(Whole::Concentration),
+        Shown::Currency(measure) => Node::Whole(Whole::Currency(measure)),
+        Shown::NetPart(risk) => Node::Whole(Whole::NetPart(risk)),
+        Shown::Market(measure) => Node::Whole(Whole::Market(measure)),
+        Shown::DefaultType1 => Node::Whole(Whole::DefaultType1),
+        Shown::DefaultType2 => Node::Whole(Whole::DefaultType2),
+        Shown::Default => Node::Whole(Whole::Default),
         Shown::BioScenario(biometric, projection, measure) => {
-            Node::BioScenario(biometric, projection, measure)
+            Node::Whole(Whole::BioScenario(biometric, projection, measure))
         }
-        Shown::Life(measure) => Node::Life(measure),
-        Shown::Slt(measure) => Node::Slt(measure),
-        Shown::PremiumReserve(set) => Node::PremiumReserve(set),
-        Shown::Lapse(set) => Node::Lapse(set),
-        Shown::Natural => Node::Natural,
-        Shown::ManMade => Node::ManMade,
-        Shown::NonlifeCatastrophe => Node::NonlifeCatastrophe,
-        Shown::HealthCatastrophe => Node::HealthCatastrophe,
-        Shown::Nslt(measure) => Node::Nslt(measure),
-        Shown::Health(measure) => Node::Health(measure),
-        Shown::Nonlife(measure) => Node::Nonlife(measure),
-        Shown::Intangible => Node::Intangible,
-        Shown::Bscr(measure) => Node::Bscr(measure),
-        Shown::OpPart(part) => Node::OpPart(part),
-        Shown::Adjust(adjustment) => Node::Adjust(adjustment),
-        Shown::Scr => Node::Scr,
-        Shown::Diversification => Node::Diversification,
+        Shown::Life(measure) => Node::Whole(Whole::Life(measure)),
+        Shown::Slt(measure) => Node::Whole(Whole::Slt(measure)),
+        Shown::PremiumReserve(set) => Node::Whole(Whole::PremiumReserve(set)),
+        Shown::Lapse(set) => Node::Whole(Whole::Lapse(set)),
+        Shown::Natural => Node::Whole(Whole::Natural),
+        Shown::ManMade => Node::Whole(Whole::ManMade),
+        Shown::NonlifeCatastrophe => Node::Whole(Whole::NonlifeCatastrophe),
+        Shown::HealthCatastrophe => Node::Whole(Whole::HealthCatastrophe),
+        Shown::Nslt(measure) => Node::Whole(Whole::Nslt(measure)),
+        Shown::Health(measure) => Node::Whole(Whole::Health(measure)),
+        Shown::Nonlife(measure) => Node::Whole(Whole::Nonlife(measure)),
+        Shown::Intangible => Node::Whole(Whole::Intangible),
+        Shown::Bscr(measure) => Node::Whole(Whole::Bscr(measure)),
+        Shown::OpPart(part) => Node::Whole(Whole::OpPart(part)),
+        Shown::Adjust(adjustment) => Node::Whole(Whole::Adjust(adjustment)),
+        Shown::Scr => Node::Whole(Whole::Scr),
+        Shown::Diversification => Node::Whole(Whole::Diversification),
     }
 }

@@ -14,6 +14,7 @@ use Rattle.scr_sheet.specs.declared.rows.Position.{Position}
 use Rattle.scr_sheet.specs.declared.sheet.BalanceSheet.{BalanceSheet}
 use Rattle.scr_nodes.specs.declared.node.Node.{Node}
 use Rattle.scr_nodes.specs.declared.node.Node.TheVariants as nodes
+use Rattle.scr_nodes.specs.declared.node.OfGroup.TheVariants as of_groups
 use Rattle.scr_nodes.specs.Rows.{is_of_group}
 use Rattle.scr_nodes.specs.Sources.{security_total, sources_of}
 use Rattle.scr_nodes.proofs.Walks.{pushed, passed_over}
@@ -141,7 +142,7 @@ pub all-entered : (sheet : BalanceSheet) (k : ℕ) (lists : List (List Node)) �
     → lists ≡ first_members sheet k → AreMembersOf sheet lists
 unfolding AreMembersOf
 all-entered sheet k lists all is =
-    is ∙ every (λ (group : Group). sources_of sheet (nodes.GroupTotal group.name)) (first_of_group sheet k)
+    is ∙ every (λ (group : Group). sources_of sheet (nodes.Group group.name of_groups.Total)) (first_of_group sheet k)
     (λ group. ap (λ rows. map security_total (filter (is_of_group group.name) rows)) (take_all k sheet.securities all))
     sheet.groups
 
@@ -165,18 +166,18 @@ pub member-there : (sheet : BalanceSheet) (lists : List (Vec Node Global)) (plac
     → place < length lists
 unfolding AreMembersOf
 member-there sheet lists place name are there =
-    list-there sheet (λ (group : Group). sources_of sheet (nodes.GroupTotal group.name)) lists place name are there
+    list-there sheet (λ (group : Group). sources_of sheet (nodes.Group group.name of_groups.Total)) lists place name are there
 
 -- and it is that of the sources of the group's total
 pub member-list : (sheet : BalanceSheet) (lists : List (Vec Node Global)) (place : ℕ) (name : List ℕ)
     (found : Vec Node Global) → AreMembersOf sheet (lists_of lists)
     → option_map group_name (slice_get sheet.groups place) ≡ Some name → found ≡ get_or lists place found
-    → found.items ≡ sources_of sheet (nodes.GroupTotal name)
+    → found.items ≡ sources_of sheet (nodes.Group name of_groups.Total)
 unfolding AreMembersOf
 member-list sheet lists place name found are there is =
     let items : Vec Node Global → List Node = λ (list : Vec Node Global). list.items in
-    let totals : Group → List Node = λ (group : Group). sources_of sheet (nodes.GroupTotal group.name) in
-    let told : List Node = sources_of sheet (nodes.GroupTotal name) in
+    let totals : Group → List Node = λ (group : Group). sources_of sheet (nodes.Group group.name of_groups.Total) in
+    let told : List Node = sources_of sheet (nodes.Group name of_groups.Total) in
     let within : place < length lists = list-there sheet totals lists place name are there in
     let here : slice_get (lists_of lists) place ≡ Some told =
     ap (λ (ls : List (List Node)). slice_get ls place) are ∙ slice_get-map totals sheet.groups place
@@ -185,9 +186,9 @@ member-list sheet lists place name found are there is =
     ∙ get_or_from_slice_get (lists_of lists) place told [] here
   where
     by : (group : Option Group) → option_map group_name group ≡ Some name
-        → option_map (λ (group : Group). sources_of sheet (nodes.GroupTotal group.name)) group
-        ≡ Some (sources_of sheet (nodes.GroupTotal name))
+        → option_map (λ (group : Group). sources_of sheet (nodes.Group group.name of_groups.Total)) group
+        ≡ Some (sources_of sheet (nodes.Group name of_groups.Total))
     by None e = absurd (let clash : None ≡ Some name = e in cc)
     by (Some group) e =
         let same : group.name ≡ name = cc in
-        ap (λ n. Some (sources_of sheet (nodes.GroupTotal n))) same
+        ap (λ n. Some (sources_of sheet (nodes.Group n of_groups.Total))) same

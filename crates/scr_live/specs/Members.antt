@@ -5,6 +5,7 @@ use Rattle.scr_sheet.specs.declared.sheet.BalanceSheet.{BalanceSheet}
 use Rattle.scr_sheet.specs.declared.rows.Group.{Group}
 use Rattle.scr_nodes.specs.declared.node.Node.{Node}
 use Rattle.scr_nodes.specs.declared.node.Node.TheVariants as nodes
+use Rattle.scr_nodes.specs.declared.node.OfGroup.TheVariants as of_groups
 use Rattle.scr_nodes.specs.Rows.{is_of_group}
 use Rattle.scr_nodes.specs.Sources.{security_total, sources_of}
 
@@ -14,7 +15,7 @@ lists_of lists = map (λ list. list.items) lists
 
 -- for each group, in the order of their table, the figures from which its total is summed
 unfoldable pub AreMembersOf : BalanceSheet → List (List Node) → Type 0
-AreMembersOf sheet members = members ≡ map (λ (group : Group). sources_of sheet (nodes.GroupTotal group.name)) sheet.groups
+AreMembersOf sheet members = members ≡ map (λ (group : Group). sources_of sheet (nodes.Group group.name of_groups.Total)) sheet.groups
 
 -- the totals of those of the group among the first k securities
 abbrev pub first_of_group : BalanceSheet → ℕ → Group → List Node

@@ -13,7 +13,10 @@ use scr_nodes::words::{
     class_losses, class_squares, equity_parts, health_perils, interest_scenarios, lapse_scenarios,
     man_made_perils, natural_perils,
 };
-use scr_nodes::{Adjustment, Alternatives, Biometric, Direction, Measure, Node, Operational, Risk};
+use scr_nodes::{
+    Adjustment, Alternatives, Biometric, Direction, Measure, Node, OfLiability, OfSecurity,
+    Operational, Risk, Whole,
+};
 use scr_profile::Set;
 use scr_sheet::{BalanceSheet, CatKey, Class, Projection};
 use std::alloc::{AllocError as NoMemory, Global};
@@ -95,7 +98,7 @@ fn push_bonds_and_groups(list: &mut Vec<Node>, sheet: &BalanceSheet) -> Result<(
 {
     push_spreads(list, sheet)?;
     push_groups(list, sheet, GroupFigure::Total)?;
-    push_all(list, &[Node::Assets])?;
+    push_all(list, &[Node::Whole(Whole::Assets)])?;
     push_groups(list, sheet, GroupFigure::Square)?;
     push_groups(list, sheet, GroupFigure::Loss)
 }
@@ -121,7 +124,10 @@ fn push_market(list: &mut Vec<Node>) -> Result<(), NoMemory>
     push_market_risks(list)?;
     push_all(
         list,
-        &[Node::Market(Measure::Gross), Node::Market(Measure::Net)],
+        &[
+            Node::Whole(Whole::Market(Measure::Gross)),
+            Node::Whole(Whole::Market(Measure::Net)),
+        ],
     )
 }
 
@@ -131,16 +137,16 @@ fn push_class_sums(list: &mut Vec<Node>) -> Result<(), NoMemory>
     push_all(
         list,
         &[
-            Node::ClassSum(Class::Type1Equity),
-            Node::ClassSum(Class::Type1Strategic),
-            Node::ClassSum(Class::Type2Equity),
-            Node::ClassSum(Class::Type2Strategic),
-            Node::ClassSum(Class::Infrastructure),
-            Node::ClassSum(Class::InfrastructureCorporate),
-            Node::ClassSum(Class::Property),
-            Node::ClassSum(Class::Bond),
-            Node::ClassSum(Class::Government),
-            Node::ClassSum(Class::Other),
+            Node::Whole(Whole::ClassSum(Class::Type1Equity)),
+            Node::Whole(Whole::ClassSum(Class::Type1Strategic)),
+            Node::Whole(Whole::ClassSum(Class::Type2Equity)),
+            Node::Whole(Whole::ClassSum(Class::Type2Strategic)),
+            Node::Whole(Whole::ClassSum(Class::Infrastructure)),
+            Node::Whole(Whole::ClassSum(Class::InfrastructureCorporate)),
+            Node::Whole(Whole::ClassSum(Class::Property)),
+            Node::Whole(Whole::ClassSum(Class::Bond)),
+            Node::Whole(Whole::ClassSum(Class::Government)),
+            Node::Whole(Whole::ClassSum(Class::Other)),
         ],
     )
 }
@@ -151,9 +157,9 @@ fn push_chosen(list: &mut Vec<Node>, which: Alternatives) -> Result<(), NoMemory
     push_all(
         list,
         &[
-            Node::Choice(which),
-            Node::Picked(which, Measure::Gross),
-            Node::Picked(which, Measure::Net),
+            Node::Whole(Whole::Choice(which)),
+            Node::Whole(Whole::Picked(which, Measure::Gross)),
+            Node::Whole(Whole::Picked(which, Measure::Net)),
         ],
     )
 }
@@ -164,16 +170,16 @@ fn push_market_risks(list: &mut Vec<Node>) -> Result<(), NoMemory>
     push_all(
         list,
         &[
-            Node::EquityRoot,
-            Node::Property,
-            Node::Spread,
-            Node::Concentration,
-            Node::NetPart(Risk::Equity),
-            Node::NetPart(Risk::Property),
-            Node::NetPart(Risk::Spread),
-            Node::NetPart(Risk::Concentration),
-            Node::Currency(Measure::Gross),
-            Node::Currency(Measure::Net),
+            Node::Whole(Whole::EquityRoot),
+            Node::Whole(Whole::Property),
+            Node::Whole(Whole::Spread),
+            Node::Whole(Whole::Concentration),
+            Node::Whole(Whole::NetPart(Risk::Equity)),
+            Node::Whole(Whole::NetPart(Risk::Property)),
+            Node::Whole(Whole::NetPart(Risk::Spread)),
+            Node::Whole(Whole::NetPart(Risk::Concentration)),
+            Node::Whole(Whole::Currency(Measure::Gross)),
+            Node::Whole(Whole::Currency(Measure::Net)),
         ],
     )
 }
@@ -186,12 +192,12 @@ fn push_default(list: &mut Vec<Node>) -> Result<(), NoMemory>
     push_all(
         list,
         &[
-            Node::Variance,
-            Node::DefaultBand,
-            Node::DefaultType1,
-            Node::DefaultType2,
-            Node::Default,
-            Node::NetPart(Risk::Default),
+            Node::Whole(Whole::Variance),
+            Node::Whole(Whole::DefaultBand),
+            Node::Whole(Whole::DefaultType1),
+            Node::Whole(Whole::DefaultType2),
+            Node::Whole(Whole::Default),
+            Node::Whole(Whole::NetPart(Risk::Default)),
         ],
     )
 }
@@ -205,10 +211,14 @@ fn push_life(list: &mut Vec<Node>) -> Result<(), NoMemory>
     push_all(
         list,
         &[
-            Node::BioScenario(Biometric::Life, Projection::Catastrophe, Measure::Gross),
-            Node::BioScenario(Biometric::Life, Projection::Catastrophe, Measure::Net),
-            Node::Life(Measure::Gross),
-            Node::Life(Measure::Net),
+            Node::Whole(Whole::BioScenario(
+                Biometric::Life,
+                Projection::Catastrophe,
+                Measure::Gross,
+            )),
+            Node::Whole(Whole::BioScenario(Biometric::Life, Projection::Catastrophe, Measure::Net)),
+            Node::Whole(Whole::Life(Measure::Gross)),
+            Node::Whole(Whole::Life(Measure::Net)),
         ],
     )
 }
@@ -219,16 +229,16 @@ fn push_scenarios_without_choice(list: &mut Vec<Node>, biometric: Biometric) -> 
     push_all(
         list,
         &[
-            Node::BioScenario(biometric, Projection::Mortality, Measure::Gross),
-            Node::BioScenario(biometric, Projection::Mortality, Measure::Net),
-            Node::BioScenario(biometric, Projection::Longevity, Measure::Gross),
-            Node::BioScenario(biometric, Projection::Longevity, Measure::Net),
-            Node::BioScenario(biometric, Projection::Disability, Measure::Gross),
-            Node::BioScenario(biometric, Projection::Disability, Measure::Net),
-            Node::BioScenario(biometric, Projection::Expense, Measure::Gross),
-            Node::BioScenario(biometric, Projection::Expense, Measure::Net),
-            Node::BioScenario(biometric, Projection::Revision, Measure::Gross),
-            Node::BioScenario(biometric, Projection::Revision, Measure::Net),
+            Node::Whole(Whole::BioScenario(biometric, Projection::Mortality, Measure::Gross)),
+            Node::Whole(Whole::BioScenario(biometric, Projection::Mortality, Measure::Net)),
+            Node::Whole(Whole::BioScenario(biometric, Projection::Longevity, Measure::Gross)),
+            Node::Whole(Whole::BioScenario(biometric, Projection::Longevity, Measure::Net)),
+            Node::Whole(Whole::BioScenario(biometric, Projection::Disability, Measure::Gross)),
+            Node::Whole(Whole::BioScenario(biometric, Projection::Disability, Measure::Net)),
+            Node::Whole(Whole::BioScenario(biometric, Projection::Expense, Measure::Gross)),
+            Node::Whole(Whole::BioScenario(biometric, Projection::Expense, Measure::Net)),
+            Node::Whole(Whole::BioScenario(biometric, Projection::Revision, Measure::Gross)),
+            Node::Whole(Whole::BioScenario(biometric, Projection::Revision, Measure::Net)),
         ],
     )
 }
@@ -239,7 +249,13 @@ fn push_slt(list: &mut Vec<Node>) -> Result<(), NoMemory>
     push_scenarios_without_choice(list, Biometric::Health)?;
     push_all(list, &lapse_scenarios(Biometric::Health))?;
     push_chosen(list, Alternatives::HealthLapse)?;
-    push_all(list, &[Node::Slt(Measure::Gross), Node::Slt(Measure::Net)])
+    push_all(
+        list,
+        &[
+            Node::Whole(Whole::Slt(Measure::Gross)),
+            Node::Whole(Whole::Slt(Measure::Net)),
+        ],
+    )
 }
 
 fn push_nonlife(list: &mut Vec<Node>) -> Result<(), NoMemory>
@@ -259,17 +275,17 @@ fn push_charges(list: &mut Vec<Node>) -> Result<(), NoMemory>
     push_all(
         list,
         &[
-            Node::CatCharge(CatKey::NonProportionalProperty),
-            Node::CatCharge(CatKey::Other),
+            Node::Whole(Whole::CatCharge(CatKey::NonProportionalProperty)),
+            Node::Whole(Whole::CatCharge(CatKey::Other)),
         ],
     )?;
     push_all(list, &health_perils())?;
     push_all(
         list,
         &[
-            Node::Lapse(Set::Nl),
-            Node::Lapse(Set::Nslt),
-            Node::Intangible,
+            Node::Whole(Whole::Lapse(Set::Nl)),
+            Node::Whole(Whole::Lapse(Set::Nslt)),
+            Node::Whole(Whole::Intangible),
         ],
     )
 }
@@ -280,19 +296,19 @@ fn push_nonlife_results(list: &mut Vec<Node>) -> Result<(), NoMemory>
     push_all(
         list,
         &[
-            Node::PremiumReserve(Set::Nl),
-            Node::PremiumReserve(Set::Nslt),
-            Node::Natural,
-            Node::ManMade,
-            Node::NonlifeCatastrophe,
-            Node::HealthCatastrophe,
-            Node::NetPart(Risk::HealthCatastrophe),
-            Node::Nslt(Measure::Gross),
-            Node::Nslt(Measure::Net),
-            Node::Health(Measure::Gross),
-            Node::Health(Measure::Net),
-            Node::Nonlife(Measure::Gross),
-            Node::Nonlife(Measure::Net),
+            Node::Whole(Whole::PremiumReserve(Set::Nl)),
+            Node::Whole(Whole::PremiumReserve(Set::Nslt)),
+            Node::Whole(Whole::Natural),
+            Node::Whole(Whole::ManMade),
+            Node::Whole(Whole::NonlifeCatastrophe),
+            Node::Whole(Whole::HealthCatastrophe),
+            Node::Whole(Whole::NetPart(Risk::HealthCatastrophe)),
+            Node::Whole(Whole::Nslt(Measure::Gross)),
+            Node::Whole(Whole::Nslt(Measure::Net)),
+            Node::Whole(Whole::Health(Measure::Gross)),
+            Node::Whole(Whole::Health(Measure::Net)),
+            Node::Whole(Whole::Nonlife(Measure::Gross)),
+            Node::Whole(Whole::Nonlife(Measure::Net)),
         ],
     )
 }
@@ -303,16 +319,16 @@ fn push_requirement(list: &mut Vec<Node>) -> Result<(), NoMemory>
     push_all(
         list,
         &[
-            Node::Bscr(Measure::Gross),
-            Node::Bscr(Measure::Net),
-            Node::Diversification,
-            Node::OpPart(Operational::Premiums),
-            Node::OpPart(Operational::Provisions),
-            Node::OpPart(Operational::Cap),
-            Node::OpPart(Operational::Charge),
-            Node::Adjust(Adjustment::TechnicalProvisions),
-            Node::Adjust(Adjustment::DeferredTaxes),
-            Node::Scr,
+            Node::Whole(Whole::Bscr(Measure::Gross)),
+            Node::Whole(Whole::Bscr(Measure::Net)),
+            Node::Whole(Whole::Diversification),
+            Node::Whole(Whole::OpPart(Operational::Premiums)),
+            Node::Whole(Whole::OpPart(Operational::Provisions)),
+            Node::Whole(Whole::OpPart(Operational::Cap)),
+            Node::Whole(Whole::OpPart(Operational::Charge)),
+            Node::Whole(Whole::Adjust(Adjustment::TechnicalProvisions)),
+            Node::Whole(Whole::Adjust(Adjustment::DeferredTaxes)),
+            Node::Whole(Whole::Scr),
         ],
     )
 }
@@ -328,7 +344,7 @@ fn push_unit_losses(
     for k in 0..sheet.securities.len() {
         let position = sheet.securities.at(k);
         if is_paying(position) {
-            list.push(Node::UnitLoss(position.security.name, direction))?;
+            list.push(Node::Security(position.security.name, OfSecurity::UnitLoss(direction)))?;
         }
     }
     Ok(())
@@ -345,7 +361,7 @@ fn push_security_rates(
     for k in 0..sheet.securities.len() {
         let position = sheet.securities.at(k);
         if is_paying(position) {
-            list.push(Node::SecurityRate(position.security.name, direction))?;
+            list.push(Node::Security(position.security.name, OfSecurity::Rate(direction)))?;
         }
     }
     Ok(())
@@ -361,7 +377,7 @@ fn push_liability_rates(
 {
     for k in 0..sheet.liabilities.len() {
         let liability = sheet.liabilities.at(k);
-        list.push(Node::LiabilityRate(liability.name, direction))?;
+        list.push(Node::Liability(liability.name, OfLiability::Rate(direction)))?;
     }
     Ok(())
 }
@@ -372,7 +388,7 @@ fn push_presents(list: &mut Vec<Node>, sheet: &BalanceSheet) -> Result<(), NoMem
 {
     for k in 0..sheet.liabilities.len() {
         let liability = sheet.liabilities.at(k);
-        list.push(Node::LiabilityPresent(liability.name))?;
+        list.push(Node::Liability(liability.name, OfLiability::Present))?;
     }
     Ok(())
 }
@@ -389,7 +405,7 @@ fn push_losses(
     for k in 0..sheet.liabilities.len() {
         let liability = sheet.liabilities.at(k);
         if has_flows(projection, liability) {
-            list.push(Node::LiabilityLoss(liability.name, projection))?;
+            list.push(Node::Liability(liability.name, OfLiability::Loss(projection)))?;
         }
     }
     Ok(())

@@ -4,7 +4,7 @@ ghost use Rattle.scr_nodes.specs.Sources.{sources_of};
 ghost use Rattle.scr_live.specs.Members.{AreMembersOf, first_members, lists_of, with_figure};
 
 use crate::all_sources::sources;
-use scr_nodes::Node;
+use scr_nodes::{Node, OfGroup, OfSecurity};
 use scr_sheet::BalanceSheet;
 use std::alloc::{AllocError as NoMemory, Global};
 use std::marker::Model;
@@ -49,7 +49,7 @@ pub fn sources_with(
     requires { AreMembersOf sheet.now members.now }
     ensures { IfOk result (λ list. list.items ≡ sources_of sheet.now node.now) }
 {
-    if let Node::GroupTotal(name) = node {
+    if let Node::Group(name, OfGroup::Total) = node {
         if let Some(place) = sheet.groups.place(name) {
             return Vec::from_slice(alloc, &members.lists[place]);
         }
@@ -81,7 +81,11 @@ fn enter(lists: &mut Vec<Vec<Node>>, sheet: &BalanceSheet, k: usize) -> Result<(
         return Ok(());
     };
     match sheet.groups.place(&group) {
-        Some(place) => push_at(lists, place, Node::SecurityTotal(security.name)),
+        Some(place) => push_at(
+            lists,
+            place,
+            Node::Security(security.name, OfSecurity::Total),
+        ),
         None => Ok(()),
     }
 }

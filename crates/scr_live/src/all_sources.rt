@@ -1,6 +1,9 @@
 //! All sources of a figure at once.
 ghost use Rattle.std.specs.Prelude.{◌≡◌, ◌++◌, [], ◌∷◌, filter, map, IfOk, OnOk};
 ghost use Rattle.scr_nodes.specs.declared.node.Node.TheVariants as nodes;
+ghost use Rattle.scr_nodes.specs.declared.node.OfSecurity.TheVariants as of_securities;
+ghost use Rattle.scr_nodes.specs.declared.node.OfCurrency.TheVariants as of_currencies;
+ghost use Rattle.scr_nodes.specs.declared.node.Whole.TheVariants as wholes;
 ghost use Rattle.scr_sheet.specs.declared.rows.Class.TheVariants as classes;
 ghost use Rattle.scr_nodes.specs.Rows.{is_closed, is_paying_in, is_owed_in, has_class, is_foreign, is_of_default_class, is_stressed};
 ghost use Rattle.scr_nodes.specs.Selections.{is_counted};
@@ -22,7 +25,8 @@ use scr_nodes::words::{
     type1_sources, type2_classes, variance_sources,
 };
 use scr_nodes::{
-    Adjustment, Alternatives, Biometric, Direction, Equities, Measure, Node, Operational,
+    Adjustment, Alternatives, Biometric, Direction, Equities, Measure, Node, OfCurrency, OfFund,
+    OfGroup, OfLiability, OfSecurity, Operational, Whole,
 };
 use scr_profile::Set;
 use scr_sheet::{BalanceSheet, Class, Name, Projection};
@@ -43,74 +47,102 @@ fn push_sources(list: &mut Vec<Node>, sheet: &BalanceSheet, node: &Node) -> Resu
     ensures { OnOk result (list.new.items ≡ list.old.items ++ sources_of sheet.now node.now) }
 {
     match node {
-        Node::FundTotal(name) | Node::SecurityTotal(name) => push_holders(list, sheet, name),
-        Node::UnitLoss(_, _)
-        | Node::LiabilityRate(_, _)
-        | Node::LiabilityPresent(_)
-        | Node::LiabilityLoss(_, _)
-        | Node::GroupLoss(_)
-        | Node::DefaultType2
-        | Node::Segment(_, _)
-        | Node::CatCharge(_)
-        | Node::Lapse(_)
-        | Node::Intangible => Ok(()),
-        Node::SecurityRate(name, direction) => push_of_rate(list, name, *direction),
-        Node::CurrencyLoss(currency, direction) => push_rates(list, sheet, currency, *direction),
-        Node::InterestScenario(direction, measure) => push_of_scenario(
+        Node::Fund(name, OfFund::Total) | Node::Security(name, OfSecurity::Total) => push_holders(
+            list, sheet, name,
+        ),
+        Node::Security(_, OfSecurity::UnitLoss(_))
+        | Node::Liability(_, OfLiability::Rate(_))
+        | Node::Liability(_, OfLiability::Present)
+        | Node::Liability(_, OfLiability::Loss(_))
+        | Node::Group(_, OfGroup::Loss)
+        | Node::Whole(Whole::DefaultType2)
+        | Node::Whole(Whole::Segment(_, _))
+        | Node::Whole(Whole::CatCharge(_))
+        | Node::Whole(Whole::Lapse(_))
+        | Node::Whole(Whole::Intangible) => Ok(()),
+        Node::Security(name, OfSecurity::Rate(direction)) => push_of_rate(list, name, *direction),
+        Node::Currency(currency, OfCurrency::Loss(direction)) => push_rates(
+            list, sheet, currency, *direction,
+        ),
+        Node::Whole(Whole::InterestScenario(direction, measure)) => push_of_scenario(
             list, sheet, *direction, *measure,
         ),
-        Node::CurrencyScenario(currency, direction, measure) => push_of_currency(
+        Node::Currency(currency, OfCurrency::Scenario(direction, measure)) => push_of_currency(
             list, sheet, currency, *direction, *measure,
         ),
-        Node::CurrencyPicked(currency, _) => push_of_currency_picked(list, currency),
-        Node::Currency(measure) => push_foreign(list, sheet, Foreign::Picked(*measure)),
-        Node::Choice(alternatives) => push_scenarios(list, *alternatives),
-        Node::Picked(alternatives, _) => push_of_picked(list, *alternatives),
-        Node::ClassSum(class) => push_held(list, sheet, *class),
-        Node::EquityPart(equities) => push_classes(list, *equities),
-        Node::Spread => push_spreads(list, sheet),
-        Node::GroupTotal(name) => push_totals(list, sheet, &Holdings::OfGroup(*name)),
-        Node::Assets => push_totals(list, sheet, &Holdings::Grouped),
-        Node::Concentration => push_groups(list, sheet, GroupFigure::Square),
-        Node::ClassLoss(class) | Node::ClassSquare(class) => push_losses_of_class(
-            list, sheet, *class,
+        Node::Currency(currency, OfCurrency::Picked(_)) => push_of_currency_picked(list, currency),
+        Node::Whole(Whole::Currency(measure)) => push_foreign(
+            list,
+            sheet,
+            Foreign::Picked(*measure),
         ),
-        Node::BioScenario(biometric, projection, measure) => push_of_stress(
+        Node::Whole(Whole::Choice(alternatives)) => push_scenarios(list, *alternatives),
+        Node::Whole(Whole::Picked(alternatives, _)) => push_of_picked(list, *alternatives),
+        Node::Whole(Whole::ClassSum(class)) => push_held(list, sheet, *class),
+        Node::Whole(Whole::EquityPart(equities)) => push_classes(list, *equities),
+        Node::Whole(Whole::Spread) => push_spreads(list, sheet),
+        Node::Group(name, OfGroup::Total) => push_totals(list, sheet, &Holdings::OfGroup(*name)),
+        Node::Whole(Whole::Assets) => push_totals(list, sheet, &Holdings::Grouped),
+        Node::Whole(Whole::Concentration) => push_groups(list, sheet, GroupFigure::Square),
+        Node::Whole(Whole::ClassLoss(class)) | Node::Whole(Whole::ClassSquare(class)) =>
+            push_losses_of_class(list, sheet, *class),
+        Node::Whole(Whole::BioScenario(biometric, projection, measure)) => push_of_stress(
             list,
             sheet,
             *biometric,
             *projection,
             *measure,
         ),
-        Node::PremiumReserve(set) => push_segments(list, *set),
-        Node::OpPart(part) => push_of_operational(list, *part),
-        Node::Adjust(adjustment) => push_of_adjustment(list, *adjustment),
-        Node::CurrencyChoice(currency) => push_all(list, &currency_scenarios(currency)),
-        Node::EquityRoot => push_all(list, &equity_parts()),
-        Node::Property => push_all(list, &[Node::ClassSum(Class::Property)]),
-        Node::SecuritySpread(name) => push_all(list, &[Node::SecurityTotal(*name)]),
-        Node::ConcentrationSquare(name) => push_all(list, &[Node::Assets, Node::GroupTotal(*name)]),
-        Node::NetPart(risk) => push_all(list, &[gross_of(*risk)]),
-        Node::Market(measure) => push_all(list, &market_parts(*measure)),
-        Node::Variance => push_all(list, &variance_sources()),
-        Node::DefaultBand => push_all(list, &band_sources()),
-        Node::DefaultType1 => push_all(list, &type1_sources()),
-        Node::Default => push_all(list, &default_types()),
-        Node::Life(measure) => push_all(list, &life_parts(*measure)),
-        Node::Slt(measure) => push_all(list, &slt_parts(*measure)),
-        Node::Natural => push_all(list, &natural_perils()),
-        Node::ManMade => push_all(list, &man_made_perils()),
-        Node::NonlifeCatastrophe => push_all(list, &nonlife_catastrophes()),
-        Node::HealthCatastrophe => push_all(list, &health_perils()),
-        Node::Nslt(_) => push_all(list, &[Node::PremiumReserve(Set::Nslt)]),
-        Node::Health(measure) => push_all(list, &health_parts(*measure)),
-        Node::Nonlife(_) => push_all(
+        Node::Whole(Whole::PremiumReserve(set)) => push_segments(list, *set),
+        Node::Whole(Whole::OpPart(part)) => push_of_operational(list, *part),
+        Node::Whole(Whole::Adjust(adjustment)) => push_of_adjustment(list, *adjustment),
+        Node::Currency(currency, OfCurrency::Choice) => push_all(
             list,
-            &[Node::PremiumReserve(Set::Nl), Node::NonlifeCatastrophe],
+            &currency_scenarios(currency),
         ),
-        Node::Bscr(measure) => push_all(list, &modules(*measure)),
-        Node::Scr => push_all(list, &requirement_parts()),
-        Node::Diversification => push_all(list, &diversification_sources()),
+        Node::Whole(Whole::EquityRoot) => push_all(list, &equity_parts()),
+        Node::Whole(Whole::Property) => push_all(
+            list,
+            &[Node::Whole(Whole::ClassSum(Class::Property))],
+        ),
+        Node::Security(name, OfSecurity::Spread) => push_all(
+            list,
+            &[Node::Security(*name, OfSecurity::Total)],
+        ),
+        Node::Group(name, OfGroup::ConcentrationSquare) => push_all(
+            list,
+            &[
+                Node::Whole(Whole::Assets),
+                Node::Group(*name, OfGroup::Total),
+            ],
+        ),
+        Node::Whole(Whole::NetPart(risk)) => push_all(list, &[gross_of(*risk)]),
+        Node::Whole(Whole::Market(measure)) => push_all(list, &market_parts(*measure)),
+        Node::Whole(Whole::Variance) => push_all(list, &variance_sources()),
+        Node::Whole(Whole::DefaultBand) => push_all(list, &band_sources()),
+        Node::Whole(Whole::DefaultType1) => push_all(list, &type1_sources()),
+        Node::Whole(Whole::Default) => push_all(list, &default_types()),
+        Node::Whole(Whole::Life(measure)) => push_all(list, &life_parts(*measure)),
+        Node::Whole(Whole::Slt(measure)) => push_all(list, &slt_parts(*measure)),
+        Node::Whole(Whole::Natural) => push_all(list, &natural_perils()),
+        Node::Whole(Whole::ManMade) => push_all(list, &man_made_perils()),
+        Node::Whole(Whole::NonlifeCatastrophe) => push_all(list, &nonlife_catastrophes()),
+        Node::Whole(Whole::HealthCatastrophe) => push_all(list, &health_perils()),
+        Node::Whole(Whole::Nslt(_)) => push_all(
+            list,
+            &[Node::Whole(Whole::PremiumReserve(Set::Nslt))],
+        ),
+        Node::Whole(Whole::Health(measure)) => push_all(list, &health_parts(*measure)),
+        Node::Whole(Whole::Nonlife(_)) => push_all(
+            list,
+            &[
+                Node::Whole(Whole::PremiumReserve(Set::Nl)),
+                Node::Whole(Whole::NonlifeCatastrophe),
+            ],
+        ),
+        Node::Whole(Whole::Bscr(measure)) => push_all(list, &modules(*measure)),
+        Node::Whole(Whole::Scr) => push_all(list, &requirement_parts()),
+        Node::Whole(Whole::Diversification) => push_all(list, &diversification_sources()),
     }
 }
 
@@ -122,11 +154,14 @@ pub(crate) fn push_all(list: &mut Vec<Node>, more: &[Node]) -> Result<(), NoMemo
 
 fn push_of_rate(list: &mut Vec<Node>, name: &Name, direction: Direction) -> Result<(), NoMemory>
     ensures { OnOk result (list.new.items ≡ list.old.items
-        ++ (nodes.SecurityTotal name.now ∷ nodes.UnitLoss name.now direction ∷ [])) }
+        ++ (nodes.Security name.now of_securities.Total ∷ nodes.Security name.now (of_securities.UnitLoss direction) ∷ [])) }
 {
     push_all(
         list,
-        &[Node::SecurityTotal(*name), Node::UnitLoss(*name, direction)],
+        &[
+            Node::Security(*name, OfSecurity::Total),
+            Node::Security(*name, OfSecurity::UnitLoss(direction)),
+        ],
     )
 }
 
@@ -137,11 +172,14 @@ fn push_of_scenario(
     measure: Measure,
 ) -> Result<(), NoMemory>
     ensures { OnOk result (list.new.items ≡ list.old.items
-        ++ sources_of sheet.now (nodes.InterestScenario direction measure)) }
+        ++ sources_of sheet.now (nodes.Whole (wholes.InterestScenario direction measure))) }
 {
     match measure {
         Measure::Gross => push_currencies(list, sheet, direction),
-        Measure::Net => push_all(list, &[Node::InterestScenario(direction, Measure::Gross)]),
+        Measure::Net => push_all(
+            list,
+            &[Node::Whole(Whole::InterestScenario(direction, Measure::Gross))],
+        ),
     }
 }
 
@@ -157,10 +195,10 @@ fn push_scenarios(list: &mut Vec<Node>, alternatives: Alternatives) -> Result<()
 
 fn push_of_picked(list: &mut Vec<Node>, alternatives: Alternatives) -> Result<(), NoMemory>
     ensures { OnOk result (list.new.items ≡ list.old.items
-        ++ (scenarios alternatives ++ nodes.Choice alternatives ∷ [])) }
+        ++ (scenarios alternatives ++ nodes.Whole (wholes.Choice alternatives) ∷ [])) }
 {
     push_scenarios(list, alternatives)?;
-    push_all(list, &[Node::Choice(alternatives)])
+    push_all(list, &[Node::Whole(Whole::Choice(alternatives))])
 }
 
 fn push_rates(
@@ -216,13 +254,13 @@ fn push_of_currency(
 ) -> Result<(), NoMemory>
     ensures { OnOk result (list.new.items
         ≡ list.old.items ++ sources_of sheet.now
-        (nodes.CurrencyScenario currency.now direction measure)) }
+        (nodes.Currency currency.now (of_currencies.Scenario direction measure))) }
 {
     match measure {
         Measure::Gross => push_worths(list, sheet, currency),
         Measure::Net => push_all(
             list,
-            &[Node::CurrencyScenario(*currency, direction, Measure::Gross)],
+            &[Node::Currency(*currency, OfCurrency::Scenario(direction, Measure::Gross))],
         ),
     }
 }
@@ -237,10 +275,10 @@ fn push_worths(list: &mut Vec<Node>, sheet: &BalanceSheet, currency: &Name) -> R
 fn push_of_currency_picked(list: &mut Vec<Node>, currency: &Name) -> Result<(), NoMemory>
     ensures { OnOk result (list.new.items
         ≡ list.old.items
-        ++ (currency_scenarios currency.now ++ nodes.CurrencyChoice currency.now ∷ [])) }
+        ++ (currency_scenarios currency.now ++ nodes.Currency currency.now of_currencies.Choice ∷ [])) }
 {
     push_all(list, &currency_scenarios(currency))?;
-    push_all(list, &[Node::CurrencyChoice(*currency)])
+    push_all(list, &[Node::Currency(*currency, OfCurrency::Choice)])
 }
 
 fn push_of_stress(
@@ -251,13 +289,13 @@ fn push_of_stress(
     measure: Measure,
 ) -> Result<(), NoMemory>
     ensures { OnOk result (list.new.items
-        ≡ list.old.items ++ sources_of sheet.now (nodes.BioScenario biometric projection measure)) }
+        ≡ list.old.items ++ sources_of sheet.now (nodes.Whole (wholes.BioScenario biometric projection measure))) }
 {
     match measure {
         Measure::Gross => push_losses_under(list, sheet, biometric, projection),
         Measure::Net => push_all(
             list,
-            &[Node::BioScenario(biometric, projection, Measure::Gross)],
+            &[Node::Whole(Whole::BioScenario(biometric, projection, Measure::Gross))],
         ),
     }
 }
@@ -276,7 +314,7 @@ fn push_of_operational(list: &mut Vec<Node>, part: Operational) -> Result<(), No
 {
     match part {
         Operational::Premiums | Operational::Provisions => Ok(()),
-        Operational::Cap => push_all(list, &[Node::Bscr(Measure::Gross)]),
+        Operational::Cap => push_all(list, &[Node::Whole(Whole::Bscr(Measure::Gross))]),
         Operational::Charge => push_all(list, &charge_sources()),
     }
 }
@@ -298,7 +336,7 @@ fn push_holders(list: &mut Vec<Node>, sheet: &BalanceSheet, name: &Name) -> Resu
     for k in 0..sheet.funds.len() {
         let stake = sheet.funds.at(k);
         if holds(name, stake) {
-            list.push(Node::FundTotal(stake.fund.name))?;
+            list.push(Node::Fund(stake.fund.name, OfFund::Total))?;
         }
     }
     Ok(())
@@ -311,7 +349,7 @@ fn push_closed(list: &mut Vec<Node>, sheet: &BalanceSheet) -> Result<(), NoMemor
     for k in 0..sheet.funds.len() {
         let stake = sheet.funds.at(k);
         if is_closed(stake) {
-            list.push(Node::FundTotal(stake.fund.name))?;
+            list.push(Node::Fund(stake.fund.name, OfFund::Total))?;
         }
     }
     Ok(())
@@ -331,7 +369,7 @@ fn push_paying(
     for k in 0..sheet.securities.len() {
         let position = sheet.securities.at(k);
         if is_paying_in(currency, position) {
-            list.push(Node::SecurityRate(position.security.name, direction))?;
+            list.push(Node::Security(position.security.name, OfSecurity::Rate(direction)))?;
         }
     }
     Ok(())
@@ -351,7 +389,7 @@ fn push_owed(
     for k in 0..sheet.liabilities.len() {
         let liability = sheet.liabilities.at(k);
         if is_owed_in(currency, liability) {
-            list.push(Node::LiabilityRate(liability.name, direction))?;
+            list.push(Node::Liability(liability.name, OfLiability::Rate(direction)))?;
         }
     }
     Ok(())
@@ -367,7 +405,7 @@ pub(crate) fn push_currencies(
 {
     for k in 0..sheet.curves.len() {
         let curve = sheet.curves.at(k);
-        list.push(Node::CurrencyLoss(curve.currency, direction))?;
+        list.push(Node::Currency(curve.currency, OfCurrency::Loss(direction)))?;
     }
     Ok(())
 }
@@ -384,7 +422,7 @@ fn push_totals(
     for k in 0..sheet.securities.len() {
         let position = sheet.securities.at(k);
         if is_counted(holdings, position) {
-            list.push(Node::SecurityTotal(position.security.name))?;
+            list.push(Node::Security(position.security.name, OfSecurity::Total))?;
         }
     }
     Ok(())
@@ -402,7 +440,7 @@ fn push_presents_in(
     for k in 0..sheet.liabilities.len() {
         let liability = sheet.liabilities.at(k);
         if is_owed_in(currency, liability) {
-            list.push(Node::LiabilityPresent(liability.name))?;
+            list.push(Node::Liability(liability.name, OfLiability::Present))?;
         }
     }
     Ok(())
@@ -416,7 +454,7 @@ pub(crate) fn push_spreads(list: &mut Vec<Node>, sheet: &BalanceSheet) -> Result
     for k in 0..sheet.securities.len() {
         let position = sheet.securities.at(k);
         if has_class(Class::Bond, position) {
-            list.push(Node::SecuritySpread(position.security.name))?;
+            list.push(Node::Security(position.security.name, OfSecurity::Spread))?;
         }
     }
     Ok(())
@@ -433,7 +471,7 @@ fn push_losses_of_class(
     for k in 0..sheet.groups.len() {
         let group = sheet.groups.at(k);
         if is_of_default_class(class, group) {
-            list.push(Node::GroupLoss(group.name))?;
+            list.push(Node::Group(group.name, OfGroup::Loss))?;
         }
     }
     Ok(())
@@ -452,7 +490,7 @@ fn push_losses_under(
     for k in 0..sheet.liabilities.len() {
         let liability = sheet.liabilities.at(k);
         if is_stressed(biometric, projection, liability) {
-            list.push(Node::LiabilityLoss(liability.name, projection))?;
+            list.push(Node::Liability(liability.name, OfLiability::Loss(projection)))?;
         }
     }
     Ok(())

@@ -2,7 +2,7 @@
 ghost use Rattle.std.specs.Prelude.{◌≡◌};
 ghost use Rattle.scr_live.specs.Selections.{foreign_node, group_node};
 
-use scr_nodes::{Direction, Measure, Node};
+use scr_nodes::{Direction, Measure, Node, OfCurrency, OfGroup};
 use scr_sheet::{Curve, Group};
 
 /// The figures of a foreign currency.
@@ -27,10 +27,10 @@ pub(crate) fn foreign_node(figure: Foreign, curve: &Curve) -> Node
 {
     match figure {
         Foreign::Scenario(direction, measure) => {
-            Node::CurrencyScenario(curve.currency, direction, measure)
+            Node::Currency(curve.currency, OfCurrency::Scenario(direction, measure))
         }
-        Foreign::Choice => Node::CurrencyChoice(curve.currency),
-        Foreign::Picked(measure) => Node::CurrencyPicked(curve.currency, measure),
+        Foreign::Choice => Node::Currency(curve.currency, OfCurrency::Choice),
+        Foreign::Picked(measure) => Node::Currency(curve.currency, OfCurrency::Picked(measure)),
     }
 }
 
@@ -39,8 +39,8 @@ pub(crate) fn group_node(figure: GroupFigure, group: &Group) -> Node
     ensures { result ≡ group_node figure group.now }
 {
     match figure {
-        GroupFigure::Total => Node::GroupTotal(group.name),
-        GroupFigure::Square => Node::ConcentrationSquare(group.name),
-        GroupFigure::Loss => Node::GroupLoss(group.name),
+        GroupFigure::Total => Node::Group(group.name, OfGroup::Total),
+        GroupFigure::Square => Node::Group(group.name, OfGroup::ConcentrationSquare),
+        GroupFigure::Loss => Node::Group(group.name, OfGroup::Loss),
     }
 }

@@ -13,6 +13,7 @@ use Rattle.scr_sheet.specs.declared.{sheet.BalanceSheet.BalanceSheet, rows.Stake
 use Rattle.scr_sheet.specs.Validity.{Valid}
 use Rattle.scr_nodes.specs.declared.node.Node.{Node}
 use Rattle.scr_nodes.specs.declared.node.Node.TheVariants as nodes
+use Rattle.scr_nodes.specs.declared.node.OfFund.TheVariants as of_funds
 use Rattle.scr_nodes.specs.Rows.{holds, is_component}
 use Rattle.scr_nodes.specs.Sources.{sources_of, fund_total}
 use Rattle.scr_nodes.proofs.Chosen.{each-chosen}
@@ -67,7 +68,7 @@ module _ (sheet : BalanceSheet) (valid : Valid sheet) where
   climb-ends : (levels : ℕ) (first top : List ℕ) (below : List (List ℕ))
       → IsClimb same_name same_name-is same_name-itself components (top ∷ below)
       → ((x : List ℕ) → IsMember x (top ∷ below) → IsMember x (first ∷ names))
-      → length (first ∷ names) < levels + length (top ∷ below) → EndsIn sheet levels (nodes.FundTotal top)
+      → length (first ∷ names) < levels + length (top ∷ below) → EndsIn sheet levels (nodes.Fund top of_funds.Total)
   climb-ends zero first top below climb within short =
       let least : length (top ∷ below) ≤ length
       (first ∷ names) = climb-short same_name same_name-is same_name-itself components valid.acyclic (first ∷ names)
@@ -104,7 +105,7 @@ module _ (sheet : BalanceSheet) (valid : Valid sheet) where
   above zero = suc (length sheet.funds)
   above (suc j) = suc (above j)
 
-  pub ends-total : (name : List ℕ) → EndsIn sheet (above 0) (nodes.FundTotal name)
+  pub ends-total : (name : List ℕ) → EndsIn sheet (above 0) (nodes.Fund name of_funds.Total)
   ends-total name = climb-ends (above 0) name name [] (tt, tt) (λ x m. first x m)
       (omega (arith, length-map sheet.funds stake_name))
     where
@@ -120,20 +121,20 @@ module _ (sheet : BalanceSheet) (valid : Valid sheet) where
   above-le j k h = let first = above-is j in let second = above-is k in omega (arith, first, second)
 
   -- a fund's total, at any level
-  ends-fund : (part : ℕ) (name : List ℕ) → EndsIn sheet (above part) (nodes.FundTotal name)
+  ends-fund : (part : ℕ) (name : List ℕ) → EndsIn sheet (above part) (nodes.Fund name of_funds.Total)
   ends-fund part name =
-      ends-le sheet (above 0) (above part) (above-le 0 part (omega arith)) (nodes.FundTotal name) (ends-total name)
+      ends-le sheet (above 0) (above part) (above-le 0 part (omega arith)) (nodes.Fund name of_funds.Total) (ends-total name)
 
   -- each chain goes from a family to earlier ones, and then along funds
   ends-part : (part : ℕ) (node : Node) → part_of node ≤ part → EndsIn sheet (above part) node
   ends-part zero node least = by (fund-or-above node)
     where
-      by : ((name : List ℕ) × (node ≡ nodes.FundTotal name)) ⊎ (0 < part_of node) → EndsIn sheet (above 0) node
+      by : ((name : List ℕ) × (node ≡ nodes.Fund name of_funds.Total)) ⊎ (0 < part_of node) → EndsIn sheet (above 0) node
       by (inl fund) = subst (EndsIn sheet (above 0)) (sym fund.1) (ends-fund 0 fund.0)
       by (inr some) = absurd (omega arith)
   ends-part (suc part) node least = by (fund-or-above node) (ends-part part)
     where
-      by : ((name : List ℕ) × (node ≡ nodes.FundTotal name)) ⊎ (0 < part_of node)
+      by : ((name : List ℕ) × (node ≡ nodes.Fund name of_funds.Total)) ⊎ (0 < part_of node)
           → ((n : Node) → part_of n ≤ part → EndsIn sheet (above part) n) → EndsIn sheet (above (suc part)) node
       by (inl fund) rest = subst (EndsIn sheet (above (suc part))) (sym fund.1) (ends-fund (suc part) fund.0)
       by (inr some) rest =

@@ -14,6 +14,11 @@ use Rattle.scr_nodes.specs.declared.node.Direction.TheVariants.{Up, Down}
 use Rattle.scr_nodes.specs.declared.node.Equities.TheVariants as equities
 use Rattle.scr_nodes.specs.declared.node.Measure.TheVariants.{Gross, Net}
 use Rattle.scr_nodes.specs.declared.node.Node.TheVariants as nodes
+use Rattle.scr_nodes.specs.declared.node.OfFund.TheVariants as of_funds
+use Rattle.scr_nodes.specs.declared.node.OfSecurity.TheVariants as of_securities
+use Rattle.scr_nodes.specs.declared.node.OfCurrency.TheVariants as of_currencies
+use Rattle.scr_nodes.specs.declared.node.OfGroup.TheVariants as of_groups
+use Rattle.scr_nodes.specs.declared.node.Whole.TheVariants as wholes
 use Rattle.scr_nodes.specs.declared.node.Operational.TheVariants as operations
 use Rattle.scr_nodes.specs.declared.node.Risk.TheVariants as risks
 use Rattle.scr_nodes.specs.Rows.{holds, is_closed, is_paying_in, is_owed_in, has_class, is_held_in, is_foreign, is_of_group, has_group, is_of_default_class, is_stressed}
@@ -93,62 +98,62 @@ module _ (sheet : BalanceSheet) where
   tested node h = below-tested (part_of node) (sources_of sheet node) h
 
   pub sources-earlier : (node : Node) → 0 < part_of node → AllBelow (part_of node) (sources_of sheet node)
-  sources-earlier (nodes.FundTotal name) h = absurd (omega arith)
-  sources-earlier (nodes.SecurityTotal name) h = below-chosen 1 (holds name) fund_total sheet.funds (λ s. omega arith)
-  sources-earlier (nodes.SecurityRate name Up) h = tested (nodes.SecurityRate name Up) refl
-  sources-earlier (nodes.CurrencyLoss currency direction) h =
-      below-weaker 8 (part_of (nodes.CurrencyLoss currency direction)) (omega arith) (rates_in currency direction sheet)
+  sources-earlier (nodes.Fund name of_funds.Total) h = absurd (omega arith)
+  sources-earlier (nodes.Security name of_securities.Total) h = below-chosen 1 (holds name) fund_total sheet.funds (λ s. omega arith)
+  sources-earlier (nodes.Security name (of_securities.Rate Up)) h = tested (nodes.Security name (of_securities.Rate Up)) refl
+  sources-earlier (nodes.Currency currency (of_currencies.Loss direction)) h =
+      below-weaker 8 (part_of (nodes.Currency currency (of_currencies.Loss direction))) (omega arith) (rates_in currency direction sheet)
       (below-rates currency direction)
-  sources-earlier (nodes.InterestScenario direction Gross) h =
-      below-weaker 20 (part_of (nodes.InterestScenario direction Gross)) (omega arith)
+  sources-earlier (nodes.Whole (wholes.InterestScenario direction Gross)) h =
+      below-weaker 20 (part_of (nodes.Whole (wholes.InterestScenario direction Gross))) (omega arith)
       (map (currency_loss direction) sheet.curves) (below-currencies direction)
-  sources-earlier (nodes.InterestScenario direction Net) h = (omega arith, tt)
-  sources-earlier (nodes.CurrencyScenario currency direction Gross) h =
-      below-weaker 9 (part_of (nodes.CurrencyScenario currency direction Gross)) (omega arith)
+  sources-earlier (nodes.Whole (wholes.InterestScenario direction Net)) h = (omega arith, tt)
+  sources-earlier (nodes.Currency currency (of_currencies.Scenario direction Gross)) h =
+      below-weaker 9 (part_of (nodes.Currency currency (of_currencies.Scenario direction Gross))) (omega arith)
       (worths_in currency sheet)
       (below-worths currency)
-  sources-earlier (nodes.CurrencyScenario currency direction Net) h = (omega arith, tt)
-  sources-earlier (nodes.CurrencyPicked currency Gross) h = tested (nodes.CurrencyPicked currency Gross) refl
-  sources-earlier (nodes.Choice alternatives.Interest) h = tested (nodes.Choice alternatives.Interest) refl
-  sources-earlier (nodes.Picked alternatives.Interest Gross) h = tested (nodes.Picked alternatives.Interest Gross) refl
-  sources-earlier (nodes.Currency measure) h =
-      below-weaker 27 (part_of (nodes.Currency measure)) (omega arith) (foreign_picked measure sheet)
+  sources-earlier (nodes.Currency currency (of_currencies.Scenario direction Net)) h = (omega arith, tt)
+  sources-earlier (nodes.Currency currency (of_currencies.Picked Gross)) h = tested (nodes.Currency currency (of_currencies.Picked Gross)) refl
+  sources-earlier (nodes.Whole (wholes.Choice alternatives.Interest)) h = tested (nodes.Whole (wholes.Choice alternatives.Interest)) refl
+  sources-earlier (nodes.Whole (wholes.Picked alternatives.Interest Gross)) h = tested (nodes.Whole (wholes.Picked alternatives.Interest Gross)) refl
+  sources-earlier (nodes.Whole (wholes.Currency measure)) h =
+      below-weaker 27 (part_of (nodes.Whole (wholes.Currency measure))) (omega arith) (foreign_picked measure sheet)
       (below-picked measure)
-  sources-earlier (nodes.ClassSum class) h =
-      below-weaker 2 (part_of (nodes.ClassSum class)) (omega arith) (held_of_class class sheet) (below-held class)
-  sources-earlier (nodes.EquityPart equities.Type1) h = tested (nodes.EquityPart equities.Type1) refl
-  sources-earlier nodes.Spread h =
+  sources-earlier (nodes.Whole (wholes.ClassSum class)) h =
+      below-weaker 2 (part_of (nodes.Whole (wholes.ClassSum class))) (omega arith) (held_of_class class sheet) (below-held class)
+  sources-earlier (nodes.Whole (wholes.EquityPart equities.Type1)) h = tested (nodes.Whole (wholes.EquityPart equities.Type1)) refl
+  sources-earlier (nodes.Whole wholes.Spread) h =
       below-chosen 55 (has_class classes.Bond) security_spread sheet.securities (λ p. omega arith)
-  sources-earlier (nodes.GroupTotal name) h =
+  sources-earlier (nodes.Group name of_groups.Total) h =
       below-chosen 28 (is_of_group name) security_total sheet.securities (λ p. omega arith)
-  sources-earlier nodes.Assets h = below-chosen 29 has_group security_total sheet.securities (λ p. omega arith)
-  sources-earlier nodes.Concentration h = below-mapped 56 concentration_square sheet.groups (λ g. omega arith)
-  sources-earlier (nodes.NetPart risks.Equity) h = tested (nodes.NetPart risks.Equity) refl
-  sources-earlier (nodes.Market Gross) h = tested (nodes.Market Gross) refl
-  sources-earlier (nodes.ClassLoss class) h =
-      below-weaker 32 (part_of (nodes.ClassLoss class)) (omega arith) (losses_of_class class sheet) (below-class class)
-  sources-earlier (nodes.ClassSquare class) h =
-      below-weaker 32 (part_of (nodes.ClassSquare class)) (omega arith) (losses_of_class class sheet)
+  sources-earlier (nodes.Whole wholes.Assets) h = below-chosen 29 has_group security_total sheet.securities (λ p. omega arith)
+  sources-earlier (nodes.Whole wholes.Concentration) h = below-mapped 56 concentration_square sheet.groups (λ g. omega arith)
+  sources-earlier (nodes.Whole (wholes.NetPart risks.Equity)) h = tested (nodes.Whole (wholes.NetPart risks.Equity)) refl
+  sources-earlier (nodes.Whole (wholes.Market Gross)) h = tested (nodes.Whole (wholes.Market Gross)) refl
+  sources-earlier (nodes.Whole (wholes.ClassLoss class)) h =
+      below-weaker 32 (part_of (nodes.Whole (wholes.ClassLoss class))) (omega arith) (losses_of_class class sheet) (below-class class)
+  sources-earlier (nodes.Whole (wholes.ClassSquare class)) h =
+      below-weaker 32 (part_of (nodes.Whole (wholes.ClassSquare class))) (omega arith) (losses_of_class class sheet)
       (below-class class)
-  sources-earlier (nodes.BioScenario biometrics.Life projection Gross) h =
-      below-weaker 18 (part_of (nodes.BioScenario biometrics.Life projection Gross)) (omega arith)
+  sources-earlier (nodes.Whole (wholes.BioScenario biometrics.Life projection Gross)) h =
+      below-weaker 18 (part_of (nodes.Whole (wholes.BioScenario biometrics.Life projection Gross))) (omega arith)
       (losses_under biometrics.Life projection sheet) (below-losses biometrics.Life projection)
-  sources-earlier (nodes.BioScenario biometrics.Health projection Gross) h =
-      below-weaker 18 (part_of (nodes.BioScenario biometrics.Health projection Gross)) (omega arith)
+  sources-earlier (nodes.Whole (wholes.BioScenario biometrics.Health projection Gross)) h =
+      below-weaker 18 (part_of (nodes.Whole (wholes.BioScenario biometrics.Health projection Gross))) (omega arith)
       (losses_under biometrics.Health projection sheet) (below-losses biometrics.Health projection)
-  sources-earlier (nodes.BioScenario biometric projection Net) h = (omega arith, tt)
-  sources-earlier (nodes.Life Gross) h = tested (nodes.Life Gross) refl
-  sources-earlier (nodes.Slt Gross) h = tested (nodes.Slt Gross) refl
-  sources-earlier (nodes.PremiumReserve sets.Nl) h = tested (nodes.PremiumReserve sets.Nl) refl
-  sources-earlier (nodes.Nslt Gross) h = tested (nodes.Nslt Gross) refl
-  sources-earlier (nodes.Health Gross) h = tested (nodes.Health Gross) refl
-  sources-earlier (nodes.Nonlife Gross) h = tested (nodes.Nonlife Gross) refl
-  sources-earlier (nodes.Bscr Gross) h = tested (nodes.Bscr Gross) refl
-  sources-earlier (nodes.OpPart operations.Premiums) h = tested (nodes.OpPart operations.Premiums) refl
-  sources-earlier (nodes.Adjust adjustments.TechnicalProvisions) h =
-      tested (nodes.Adjust adjustments.TechnicalProvisions) refl
-  sources-earlier (nodes.Picked alternatives.LifeLapse Gross) h =
-      tested (nodes.Picked alternatives.LifeLapse Gross) refl
-  sources-earlier (nodes.Picked alternatives.HealthLapse Gross) h =
-      tested (nodes.Picked alternatives.HealthLapse Gross) refl
+  sources-earlier (nodes.Whole (wholes.BioScenario biometric projection Net)) h = (omega arith, tt)
+  sources-earlier (nodes.Whole (wholes.Life Gross)) h = tested (nodes.Whole (wholes.Life Gross)) refl
+  sources-earlier (nodes.Whole (wholes.Slt Gross)) h = tested (nodes.Whole (wholes.Slt Gross)) refl
+  sources-earlier (nodes.Whole (wholes.PremiumReserve sets.Nl)) h = tested (nodes.Whole (wholes.PremiumReserve sets.Nl)) refl
+  sources-earlier (nodes.Whole (wholes.Nslt Gross)) h = tested (nodes.Whole (wholes.Nslt Gross)) refl
+  sources-earlier (nodes.Whole (wholes.Health Gross)) h = tested (nodes.Whole (wholes.Health Gross)) refl
+  sources-earlier (nodes.Whole (wholes.Nonlife Gross)) h = tested (nodes.Whole (wholes.Nonlife Gross)) refl
+  sources-earlier (nodes.Whole (wholes.Bscr Gross)) h = tested (nodes.Whole (wholes.Bscr Gross)) refl
+  sources-earlier (nodes.Whole (wholes.OpPart operations.Premiums)) h = tested (nodes.Whole (wholes.OpPart operations.Premiums)) refl
+  sources-earlier (nodes.Whole (wholes.Adjust adjustments.TechnicalProvisions)) h =
+      tested (nodes.Whole (wholes.Adjust adjustments.TechnicalProvisions)) refl
+  sources-earlier (nodes.Whole (wholes.Picked alternatives.LifeLapse Gross)) h =
+      tested (nodes.Whole (wholes.Picked alternatives.LifeLapse Gross)) refl
+  sources-earlier (nodes.Whole (wholes.Picked alternatives.HealthLapse Gross)) h =
+      tested (nodes.Whole (wholes.Picked alternatives.HealthLapse Gross)) refl
   sources-earlier node h = tested node refl

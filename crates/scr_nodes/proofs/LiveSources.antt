@@ -19,6 +19,11 @@ use Rattle.scr_nodes.specs.declared.node.Biometric.TheVariants as biometrics
 use Rattle.scr_nodes.specs.declared.node.Equities.TheVariants as equities
 use Rattle.scr_nodes.specs.declared.node.Measure.TheVariants.{Gross, Net}
 use Rattle.scr_nodes.specs.declared.node.Node.TheVariants as nodes
+use Rattle.scr_nodes.specs.declared.node.OfFund.TheVariants as of_funds
+use Rattle.scr_nodes.specs.declared.node.OfSecurity.TheVariants as of_securities
+use Rattle.scr_nodes.specs.declared.node.OfCurrency.TheVariants as of_currencies
+use Rattle.scr_nodes.specs.declared.node.OfGroup.TheVariants as of_groups
+use Rattle.scr_nodes.specs.declared.node.Whole.TheVariants as wholes
 use Rattle.scr_nodes.specs.declared.node.Operational.TheVariants as operations
 use Rattle.scr_nodes.specs.declared.node.Risk.TheVariants as risks
 use Rattle.scr_nodes.specs.Rows.{holds, is_closed, is_paying, is_paying_in, is_owed_in, has_class, liability_of, group_of, is_held_in, is_foreign, is_of_group, has_group, is_of_default_class, has_flows, is_stress, is_of_kind, is_stressed, has_stress}
@@ -160,40 +165,40 @@ module _ (sheet : BalanceSheet) (valid : Valid sheet) where
   live-segments sets.Nslt = tested (segments_of sets.Nslt) refl
 
   pub sources-live : (node : Node) → is_live sheet node ≡ true → AllByRecursion (IsLive sheet) (sources_of sheet node)
-  sources-live (nodes.FundTotal name) h = live-funds (holds name)
-  sources-live (nodes.SecurityTotal name) h = live-funds (holds name)
-  sources-live (nodes.SecurityRate name direction) h = (there is_paying (position_of name sheet.securities) h, (h, tt))
-  sources-live (nodes.CurrencyLoss currency direction) h = live-rates currency direction
-  sources-live (nodes.InterestScenario direction Gross) h =
+  sources-live (nodes.Fund name of_funds.Total) h = live-funds (holds name)
+  sources-live (nodes.Security name of_securities.Total) h = live-funds (holds name)
+  sources-live (nodes.Security name (of_securities.Rate direction)) h = (there is_paying (position_of name sheet.securities) h, (h, tt))
+  sources-live (nodes.Currency currency (of_currencies.Loss direction)) h = live-rates currency direction
+  sources-live (nodes.Whole (wholes.InterestScenario direction Gross)) h =
       each-mapped (λ c. row_of curve_name (curve_name c) sheet.curves ≡ Some c) (IsLive sheet) (λ c. true)
       (currency_loss direction) sheet.curves (own-curves sheet valid) (λ c own. ap is_some own)
-  sources-live (nodes.CurrencyScenario currency direction Gross) h = live-worths currency
-  sources-live (nodes.CurrencyScenario currency direction Net) h = (h, tt)
-  sources-live (nodes.CurrencyChoice currency) h = (h, (h, (h, (h, tt))))
-  sources-live (nodes.CurrencyPicked currency measure) h = (h, (h, (h, (h, (h, tt)))))
-  sources-live (nodes.Currency measure) h = live-foreign measure
-  sources-live (nodes.Choice which) h = live-scenarios which
-  sources-live (nodes.Picked which measure) h =
-      All-append (IsLive sheet) (scenarios which) (nodes.Choice which ∷ []) (live-scenarios which) (refl, tt)
-  sources-live (nodes.ClassSum class) h = live-held class
-  sources-live (nodes.EquityPart e) h = live-classes e
-  sources-live (nodes.SecuritySpread name) h =
+  sources-live (nodes.Currency currency (of_currencies.Scenario direction Gross)) h = live-worths currency
+  sources-live (nodes.Currency currency (of_currencies.Scenario direction Net)) h = (h, tt)
+  sources-live (nodes.Currency currency of_currencies.Choice) h = (h, (h, (h, (h, tt))))
+  sources-live (nodes.Currency currency (of_currencies.Picked measure)) h = (h, (h, (h, (h, (h, tt)))))
+  sources-live (nodes.Whole (wholes.Currency measure)) h = live-foreign measure
+  sources-live (nodes.Whole (wholes.Choice which)) h = live-scenarios which
+  sources-live (nodes.Whole (wholes.Picked which measure)) h =
+      All-append (IsLive sheet) (scenarios which) (nodes.Whole (wholes.Choice which) ∷ []) (live-scenarios which) (refl, tt)
+  sources-live (nodes.Whole (wholes.ClassSum class)) h = live-held class
+  sources-live (nodes.Whole (wholes.EquityPart e)) h = live-classes e
+  sources-live (nodes.Security name of_securities.Spread) h =
       (there (has_class classes.Bond) (position_of name sheet.securities) h, tt)
-  sources-live nodes.Spread h = live-bonds
-  sources-live (nodes.GroupTotal name) h = live-securities (is_of_group name)
-  sources-live nodes.Assets h = live-securities has_group
-  sources-live (nodes.ConcentrationSquare name) h = (refl, (h, tt))
-  sources-live nodes.Concentration h = live-squares
-  sources-live (nodes.NetPart risk) h = (live-gross risk, tt)
-  sources-live (nodes.Market Gross) h = tested (market_parts Gross) refl
-  sources-live (nodes.ClassLoss class) h = live-losses_of_class class
-  sources-live (nodes.ClassSquare class) h = live-losses_of_class class
-  sources-live (nodes.BioScenario biometric projection Gross) h =
+  sources-live (nodes.Whole wholes.Spread) h = live-bonds
+  sources-live (nodes.Group name of_groups.Total) h = live-securities (is_of_group name)
+  sources-live (nodes.Whole wholes.Assets) h = live-securities has_group
+  sources-live (nodes.Group name of_groups.ConcentrationSquare) h = (refl, (h, tt))
+  sources-live (nodes.Whole wholes.Concentration) h = live-squares
+  sources-live (nodes.Whole (wholes.NetPart risk)) h = (live-gross risk, tt)
+  sources-live (nodes.Whole (wholes.Market Gross)) h = tested (market_parts Gross) refl
+  sources-live (nodes.Whole (wholes.ClassLoss class)) h = live-losses_of_class class
+  sources-live (nodes.Whole (wholes.ClassSquare class)) h = live-losses_of_class class
+  sources-live (nodes.Whole (wholes.BioScenario biometric projection Gross)) h =
       live-losses biometric projection (stress-is biometric projection h)
-  sources-live (nodes.BioScenario biometric projection Net) h = (h, tt)
-  sources-live (nodes.PremiumReserve set) h = live-segments set
-  sources-live (nodes.Health Gross) h = tested (health_parts Gross) refl
-  sources-live (nodes.Bscr Gross) h = tested (modules Gross) refl
-  sources-live (nodes.OpPart part) h = live-operational part
-  sources-live (nodes.Adjust adjustment) h = live-adjustment adjustment
+  sources-live (nodes.Whole (wholes.BioScenario biometric projection Net)) h = (h, tt)
+  sources-live (nodes.Whole (wholes.PremiumReserve set)) h = live-segments set
+  sources-live (nodes.Whole (wholes.Health Gross)) h = tested (health_parts Gross) refl
+  sources-live (nodes.Whole (wholes.Bscr Gross)) h = tested (modules Gross) refl
+  sources-live (nodes.Whole (wholes.OpPart part)) h = live-operational part
+  sources-live (nodes.Whole (wholes.Adjust adjustment)) h = live-adjustment adjustment
   sources-live node h = tested (sources_of sheet node) refl

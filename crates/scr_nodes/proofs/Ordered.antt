@@ -25,6 +25,12 @@ use Rattle.scr_nodes.specs.declared.node.Direction.TheVariants.{Up, Down}
 use Rattle.scr_nodes.specs.declared.node.Equities.TheVariants as equities
 use Rattle.scr_nodes.specs.declared.node.Measure.TheVariants.{Gross, Net}
 use Rattle.scr_nodes.specs.declared.node.Node.TheVariants as nodes
+use Rattle.scr_nodes.specs.declared.node.OfFund.TheVariants as of_funds
+use Rattle.scr_nodes.specs.declared.node.OfSecurity.TheVariants as of_securities
+use Rattle.scr_nodes.specs.declared.node.OfLiability.TheVariants as of_liabilities
+use Rattle.scr_nodes.specs.declared.node.OfCurrency.TheVariants as of_currencies
+use Rattle.scr_nodes.specs.declared.node.OfGroup.TheVariants as of_groups
+use Rattle.scr_nodes.specs.declared.node.Whole.TheVariants as wholes
 use Rattle.scr_nodes.specs.declared.node.Operational.TheVariants as operations
 use Rattle.scr_nodes.specs.declared.node.Risk.TheVariants as risks
 use Rattle.scr_nodes.specs.Live.{is_live}
@@ -181,12 +187,12 @@ module _ (sheet : BalanceSheet) where
   of-loss : (place : ℕ) (projection : Projection) (name : List ℕ)
       → family_at (families sheet) place ≡ losses_of projection sheet
       → option_map_or (has_flows projection) (liability_of name sheet.liabilities) false ≡ true
-      → IsListed (nodes.LiabilityLoss name projection)
+      → IsListed (nodes.Liability name (of_liabilities.Loss projection))
   of-loss place projection name is h =
-      in-family place (nodes.LiabilityLoss name projection)
-      (subst (IsMember (nodes.LiabilityLoss name projection)) (sym is)
+      in-family place (nodes.Liability name (of_liabilities.Loss projection))
+      (subst (IsMember (nodes.Liability name (of_liabilities.Loss projection))) (sym is)
       (in-chosen liability_name (has_flows projection) (liability_loss projection)
-      (λ n. nodes.LiabilityLoss n projection) (λ l. refl) name sheet.liabilities h))
+      (λ n. nodes.Liability n (of_liabilities.Loss projection)) (λ l. refl) name sheet.liabilities h))
 
   of-foreign : (place : ℕ) (node : Curve → Node) (named : List ℕ → Node) → ((c : Curve) → node c ≡ named (curve_name c))
       → (currency : List ℕ) → family_at (families sheet) place ≡ map node (foreigns sheet)
@@ -198,151 +204,151 @@ module _ (sheet : BalanceSheet) where
       (in-chosen curve_name (is_foreign sheet) node named own currency sheet.curves h))
 
   pub live-listed : (node : Node) → is_live sheet node ≡ true → IsListed node
-  live-listed (nodes.FundTotal name) h =
-      inl (in-table stake_name fund_total nodes.FundTotal (λ s. refl) name sheet.funds h)
-  live-listed (nodes.SecurityTotal name) h =
-      inr (IsMember-left securities (rest_nodes sheet) (nodes.SecurityTotal name)
-      (in-table position_name security_total nodes.SecurityTotal (λ p. refl) name sheet.securities h))
-  live-listed (nodes.UnitLoss name Up) h =
-      in-family 0 (nodes.UnitLoss name Up)
-      (in-chosen position_name is_paying (unit_loss Up) (λ n. nodes.UnitLoss n Up) (λ r. refl) name sheet.securities h)
-  live-listed (nodes.UnitLoss name Down) h =
-      in-family 1 (nodes.UnitLoss name Down)
-      (in-chosen position_name is_paying (unit_loss Down) (λ n. nodes.UnitLoss n Down) (λ r. refl) name
+  live-listed (nodes.Fund name of_funds.Total) h =
+      inl (in-table stake_name fund_total (λ name. nodes.Fund name of_funds.Total) (λ s. refl) name sheet.funds h)
+  live-listed (nodes.Security name of_securities.Total) h =
+      inr (IsMember-left securities (rest_nodes sheet) (nodes.Security name of_securities.Total)
+      (in-table position_name security_total (λ name. nodes.Security name of_securities.Total) (λ p. refl) name sheet.securities h))
+  live-listed (nodes.Security name (of_securities.UnitLoss Up)) h =
+      in-family 0 (nodes.Security name (of_securities.UnitLoss Up))
+      (in-chosen position_name is_paying (unit_loss Up) (λ n. nodes.Security n (of_securities.UnitLoss Up)) (λ r. refl) name sheet.securities h)
+  live-listed (nodes.Security name (of_securities.UnitLoss Down)) h =
+      in-family 1 (nodes.Security name (of_securities.UnitLoss Down))
+      (in-chosen position_name is_paying (unit_loss Down) (λ n. nodes.Security n (of_securities.UnitLoss Down)) (λ r. refl) name
       sheet.securities h)
-  live-listed (nodes.SecurityRate name Up) h =
-      in-family 2 (nodes.SecurityRate name Up)
-      (in-chosen position_name is_paying (security_rate Up) (λ n. nodes.SecurityRate n Up) (λ r. refl) name
+  live-listed (nodes.Security name (of_securities.Rate Up)) h =
+      in-family 2 (nodes.Security name (of_securities.Rate Up))
+      (in-chosen position_name is_paying (security_rate Up) (λ n. nodes.Security n (of_securities.Rate Up)) (λ r. refl) name
       sheet.securities h)
-  live-listed (nodes.SecurityRate name Down) h =
-      in-family 3 (nodes.SecurityRate name Down)
-      (in-chosen position_name is_paying (security_rate Down) (λ n. nodes.SecurityRate n Down) (λ r. refl) name
+  live-listed (nodes.Security name (of_securities.Rate Down)) h =
+      in-family 3 (nodes.Security name (of_securities.Rate Down))
+      (in-chosen position_name is_paying (security_rate Down) (λ n. nodes.Security n (of_securities.Rate Down)) (λ r. refl) name
       sheet.securities h)
-  live-listed (nodes.LiabilityRate name Up) h =
-      in-family 4 (nodes.LiabilityRate name Up)
-      (in-table liability_name (liability_rate Up) (λ n. nodes.LiabilityRate n Up) (λ r. refl) name sheet.liabilities h)
-  live-listed (nodes.LiabilityRate name Down) h =
-      in-family 5 (nodes.LiabilityRate name Down)
-      (in-table liability_name (liability_rate Down) (λ n. nodes.LiabilityRate n Down) (λ r. refl) name
+  live-listed (nodes.Liability name (of_liabilities.Rate Up)) h =
+      in-family 4 (nodes.Liability name (of_liabilities.Rate Up))
+      (in-table liability_name (liability_rate Up) (λ n. nodes.Liability n (of_liabilities.Rate Up)) (λ r. refl) name sheet.liabilities h)
+  live-listed (nodes.Liability name (of_liabilities.Rate Down)) h =
+      in-family 5 (nodes.Liability name (of_liabilities.Rate Down))
+      (in-table liability_name (liability_rate Down) (λ n. nodes.Liability n (of_liabilities.Rate Down)) (λ r. refl) name
       sheet.liabilities h)
-  live-listed (nodes.LiabilityPresent name) h =
-      in-family 6 (nodes.LiabilityPresent name)
-      (in-table liability_name liability_present nodes.LiabilityPresent (λ r. refl) name sheet.liabilities h)
-  live-listed (nodes.LiabilityLoss name projections.Base) h = absurd (cc)
-  live-listed (nodes.LiabilityLoss name projections.Mortality) h = of-loss 7 projections.Mortality name refl h
-  live-listed (nodes.LiabilityLoss name projections.Longevity) h = of-loss 8 projections.Longevity name refl h
-  live-listed (nodes.LiabilityLoss name projections.Disability) h = of-loss 9 projections.Disability name refl h
-  live-listed (nodes.LiabilityLoss name projections.Expense) h = of-loss 10 projections.Expense name refl h
-  live-listed (nodes.LiabilityLoss name projections.Revision) h = of-loss 11 projections.Revision name refl h
-  live-listed (nodes.LiabilityLoss name projections.LapseUp) h = of-loss 12 projections.LapseUp name refl h
-  live-listed (nodes.LiabilityLoss name projections.LapseDown) h = of-loss 13 projections.LapseDown name refl h
-  live-listed (nodes.LiabilityLoss name projections.LapseMass) h = of-loss 14 projections.LapseMass name refl h
-  live-listed (nodes.LiabilityLoss name projections.Catastrophe) h = of-loss 15 projections.Catastrophe name refl h
-  live-listed (nodes.CurrencyLoss currency Up) h =
-      in-family 16 (nodes.CurrencyLoss currency Up)
-      (in-table curve_name (currency_loss Up) (λ n. nodes.CurrencyLoss n Up) (λ r. refl) currency sheet.curves h)
-  live-listed (nodes.CurrencyLoss currency Down) h =
-      in-family 17 (nodes.CurrencyLoss currency Down)
-      (in-table curve_name (currency_loss Down) (λ n. nodes.CurrencyLoss n Down) (λ r. refl) currency sheet.curves h)
-  live-listed (nodes.CurrencyScenario currency Up Gross) h =
-      of-foreign 18 (currency_scenario Up Gross) (λ n. nodes.CurrencyScenario n Up Gross) (λ c. refl) currency refl h
-  live-listed (nodes.CurrencyScenario currency Up Net) h =
-      of-foreign 19 (currency_scenario Up Net) (λ n. nodes.CurrencyScenario n Up Net) (λ c. refl) currency refl h
-  live-listed (nodes.CurrencyScenario currency Down Gross) h =
-      of-foreign 20 (currency_scenario Down Gross) (λ n. nodes.CurrencyScenario n Down Gross) (λ
+  live-listed (nodes.Liability name of_liabilities.Present) h =
+      in-family 6 (nodes.Liability name of_liabilities.Present)
+      (in-table liability_name liability_present (λ name. nodes.Liability name of_liabilities.Present) (λ r. refl) name sheet.liabilities h)
+  live-listed (nodes.Liability name (of_liabilities.Loss projections.Base)) h = absurd (cc)
+  live-listed (nodes.Liability name (of_liabilities.Loss projections.Mortality)) h = of-loss 7 projections.Mortality name refl h
+  live-listed (nodes.Liability name (of_liabilities.Loss projections.Longevity)) h = of-loss 8 projections.Longevity name refl h
+  live-listed (nodes.Liability name (of_liabilities.Loss projections.Disability)) h = of-loss 9 projections.Disability name refl h
+  live-listed (nodes.Liability name (of_liabilities.Loss projections.Expense)) h = of-loss 10 projections.Expense name refl h
+  live-listed (nodes.Liability name (of_liabilities.Loss projections.Revision)) h = of-loss 11 projections.Revision name refl h
+  live-listed (nodes.Liability name (of_liabilities.Loss projections.LapseUp)) h = of-loss 12 projections.LapseUp name refl h
+  live-listed (nodes.Liability name (of_liabilities.Loss projections.LapseDown)) h = of-loss 13 projections.LapseDown name refl h
+  live-listed (nodes.Liability name (of_liabilities.Loss projections.LapseMass)) h = of-loss 14 projections.LapseMass name refl h
+  live-listed (nodes.Liability name (of_liabilities.Loss projections.Catastrophe)) h = of-loss 15 projections.Catastrophe name refl h
+  live-listed (nodes.Currency currency (of_currencies.Loss Up)) h =
+      in-family 16 (nodes.Currency currency (of_currencies.Loss Up))
+      (in-table curve_name (currency_loss Up) (λ n. nodes.Currency n (of_currencies.Loss Up)) (λ r. refl) currency sheet.curves h)
+  live-listed (nodes.Currency currency (of_currencies.Loss Down)) h =
+      in-family 17 (nodes.Currency currency (of_currencies.Loss Down))
+      (in-table curve_name (currency_loss Down) (λ n. nodes.Currency n (of_currencies.Loss Down)) (λ r. refl) currency sheet.curves h)
+  live-listed (nodes.Currency currency (of_currencies.Scenario Up Gross)) h =
+      of-foreign 18 (currency_scenario Up Gross) (λ n. nodes.Currency n (of_currencies.Scenario Up Gross)) (λ c. refl) currency refl h
+  live-listed (nodes.Currency currency (of_currencies.Scenario Up Net)) h =
+      of-foreign 19 (currency_scenario Up Net) (λ n. nodes.Currency n (of_currencies.Scenario Up Net)) (λ c. refl) currency refl h
+  live-listed (nodes.Currency currency (of_currencies.Scenario Down Gross)) h =
+      of-foreign 20 (currency_scenario Down Gross) (λ n. nodes.Currency n (of_currencies.Scenario Down Gross)) (λ
       c. refl) currency refl h
-  live-listed (nodes.CurrencyScenario currency Down Net) h =
-      of-foreign 21 (currency_scenario Down Net) (λ n. nodes.CurrencyScenario n Down Net) (λ c. refl) currency refl h
-  live-listed (nodes.CurrencyChoice currency) h =
-      of-foreign 22 currency_choice nodes.CurrencyChoice (λ c. refl) currency refl h
-  live-listed (nodes.CurrencyPicked currency Gross) h =
-      of-foreign 23 (currency_picked Gross) (λ n. nodes.CurrencyPicked n Gross) (λ c. refl) currency refl h
-  live-listed (nodes.CurrencyPicked currency Net) h =
-      of-foreign 24 (currency_picked Net) (λ n. nodes.CurrencyPicked n Net) (λ c. refl) currency refl h
-  live-listed (nodes.SecuritySpread name) h =
-      in-family 25 (nodes.SecuritySpread name)
-      (in-chosen position_name (has_class classes.Bond) security_spread nodes.SecuritySpread (λ r. refl) name
+  live-listed (nodes.Currency currency (of_currencies.Scenario Down Net)) h =
+      of-foreign 21 (currency_scenario Down Net) (λ n. nodes.Currency n (of_currencies.Scenario Down Net)) (λ c. refl) currency refl h
+  live-listed (nodes.Currency currency of_currencies.Choice) h =
+      of-foreign 22 currency_choice (λ name. nodes.Currency name of_currencies.Choice) (λ c. refl) currency refl h
+  live-listed (nodes.Currency currency (of_currencies.Picked Gross)) h =
+      of-foreign 23 (currency_picked Gross) (λ n. nodes.Currency n (of_currencies.Picked Gross)) (λ c. refl) currency refl h
+  live-listed (nodes.Currency currency (of_currencies.Picked Net)) h =
+      of-foreign 24 (currency_picked Net) (λ n. nodes.Currency n (of_currencies.Picked Net)) (λ c. refl) currency refl h
+  live-listed (nodes.Security name of_securities.Spread) h =
+      in-family 25 (nodes.Security name of_securities.Spread)
+      (in-chosen position_name (has_class classes.Bond) security_spread (λ name. nodes.Security name of_securities.Spread) (λ r. refl) name
       sheet.securities h)
-  live-listed (nodes.GroupTotal name) h =
-      in-family 26 (nodes.GroupTotal name)
-      (in-table group_name group_total nodes.GroupTotal (λ r. refl) name sheet.groups h)
-  live-listed nodes.Assets h = in-family 27 nodes.Assets (inl refl)
-  live-listed (nodes.ConcentrationSquare name) h =
-      in-family 28 (nodes.ConcentrationSquare name)
-      (in-table group_name concentration_square nodes.ConcentrationSquare (λ r. refl) name sheet.groups h)
-  live-listed (nodes.GroupLoss name) h =
-      in-family 29 (nodes.GroupLoss name)
-      (in-table group_name group_loss nodes.GroupLoss (λ r. refl) name sheet.groups h)
-  live-listed (nodes.ClassSum classes.Type1Equity) h = constant (nodes.ClassSum classes.Type1Equity) refl
-  live-listed (nodes.EquityPart equities.Type1) h = constant (nodes.EquityPart equities.Type1) refl
-  live-listed (nodes.InterestScenario Up Gross) h = constant (nodes.InterestScenario Up Gross) refl
-  live-listed (nodes.Choice alternatives.Interest) h = constant (nodes.Choice alternatives.Interest) refl
-  live-listed (nodes.Picked alternatives.Interest Gross) h = constant (nodes.Picked alternatives.Interest Gross) refl
-  live-listed (nodes.NetPart risks.Equity) h = constant (nodes.NetPart risks.Equity) refl
-  live-listed (nodes.Currency Gross) h = constant (nodes.Currency Gross) refl
-  live-listed (nodes.Market Gross) h = constant (nodes.Market Gross) refl
-  live-listed (nodes.ClassLoss class) h = constant-at nodes.ClassLoss 0 6 class (refl, (refl, (refl, (refl, (refl, (refl, tt)))))) (omega arith) (ltb-true class 6 h)
-  live-listed (nodes.ClassSquare class) h = constant-at nodes.ClassSquare 0 6 class (refl, (refl, (refl, (refl, (refl, (refl, tt)))))) (omega arith) (ltb-true class 6 h)
-  live-listed (nodes.BioScenario biometric projections.Base measure) h = absurd (cc)
-  live-listed (nodes.BioScenario biometrics.Health projections.Catastrophe measure) h = absurd (cc)
-  live-listed (nodes.BioScenario biometrics.Life projections.Mortality Gross) h =
-      constant (nodes.BioScenario biometrics.Life projections.Mortality Gross) refl
-  live-listed (nodes.Life Gross) h = constant (nodes.Life Gross) refl
-  live-listed (nodes.Slt Gross) h = constant (nodes.Slt Gross) refl
-  live-listed (nodes.Segment sets.Nl number) h =
+  live-listed (nodes.Group name of_groups.Total) h =
+      in-family 26 (nodes.Group name of_groups.Total)
+      (in-table group_name group_total (λ name. nodes.Group name of_groups.Total) (λ r. refl) name sheet.groups h)
+  live-listed (nodes.Whole wholes.Assets) h = in-family 27 (nodes.Whole wholes.Assets) (inl refl)
+  live-listed (nodes.Group name of_groups.ConcentrationSquare) h =
+      in-family 28 (nodes.Group name of_groups.ConcentrationSquare)
+      (in-table group_name concentration_square (λ name. nodes.Group name of_groups.ConcentrationSquare) (λ r. refl) name sheet.groups h)
+  live-listed (nodes.Group name of_groups.Loss) h =
+      in-family 29 (nodes.Group name of_groups.Loss)
+      (in-table group_name group_loss (λ name. nodes.Group name of_groups.Loss) (λ r. refl) name sheet.groups h)
+  live-listed (nodes.Whole (wholes.ClassSum classes.Type1Equity)) h = constant (nodes.Whole (wholes.ClassSum classes.Type1Equity)) refl
+  live-listed (nodes.Whole (wholes.EquityPart equities.Type1)) h = constant (nodes.Whole (wholes.EquityPart equities.Type1)) refl
+  live-listed (nodes.Whole (wholes.InterestScenario Up Gross)) h = constant (nodes.Whole (wholes.InterestScenario Up Gross)) refl
+  live-listed (nodes.Whole (wholes.Choice alternatives.Interest)) h = constant (nodes.Whole (wholes.Choice alternatives.Interest)) refl
+  live-listed (nodes.Whole (wholes.Picked alternatives.Interest Gross)) h = constant (nodes.Whole (wholes.Picked alternatives.Interest Gross)) refl
+  live-listed (nodes.Whole (wholes.NetPart risks.Equity)) h = constant (nodes.Whole (wholes.NetPart risks.Equity)) refl
+  live-listed (nodes.Whole (wholes.Currency Gross)) h = constant (nodes.Whole (wholes.Currency Gross)) refl
+  live-listed (nodes.Whole (wholes.Market Gross)) h = constant (nodes.Whole (wholes.Market Gross)) refl
+  live-listed (nodes.Whole (wholes.ClassLoss class)) h = constant-at (λ name. nodes.Whole (wholes.ClassLoss name)) 0 6 class (refl, (refl, (refl, (refl, (refl, (refl, tt)))))) (omega arith) (ltb-true class 6 h)
+  live-listed (nodes.Whole (wholes.ClassSquare class)) h = constant-at (λ name. nodes.Whole (wholes.ClassSquare name)) 0 6 class (refl, (refl, (refl, (refl, (refl, (refl, tt)))))) (omega arith) (ltb-true class 6 h)
+  live-listed (nodes.Whole (wholes.BioScenario biometric projections.Base measure)) h = absurd (cc)
+  live-listed (nodes.Whole (wholes.BioScenario biometrics.Health projections.Catastrophe measure)) h = absurd (cc)
+  live-listed (nodes.Whole (wholes.BioScenario biometrics.Life projections.Mortality Gross)) h =
+      constant (nodes.Whole (wholes.BioScenario biometrics.Life projections.Mortality Gross)) refl
+  live-listed (nodes.Whole (wholes.Life Gross)) h = constant (nodes.Whole (wholes.Life Gross)) refl
+  live-listed (nodes.Whole (wholes.Slt Gross)) h = constant (nodes.Whole (wholes.Slt Gross)) refl
+  live-listed (nodes.Whole (wholes.Segment sets.Nl number)) h =
       let two = both (nat_le 1 number) (nat_le number (segments sets.Nl)) h in
       let most : number ≤ 12 = leb-true number 12 two.1 in
-      constant-at (nodes.Segment sets.Nl) 1 12 number (refl, (refl, (refl, (refl, (refl, (refl, (refl, (refl, (refl, (refl, (refl, (refl, tt)))))))))))) (leb-true 1 number two.0) (omega arith)
-  live-listed (nodes.Segment sets.Nslt number) h =
+      constant-at ((λ one. nodes.Whole (wholes.Segment sets.Nl one))) 1 12 number (refl, (refl, (refl, (refl, (refl, (refl, (refl, (refl, (refl, (refl, (refl, (refl, tt)))))))))))) (leb-true 1 number two.0) (omega arith)
+  live-listed (nodes.Whole (wholes.Segment sets.Nslt number)) h =
       let two = both (nat_le 1 number) (nat_le number (segments sets.Nslt)) h in
       let most : number ≤ 4 = leb-true number 4 two.1 in
-      constant-at (nodes.Segment sets.Nslt) 1 4 number (refl, (refl, (refl, (refl, tt)))) (leb-true 1 number two.0) (omega arith)
-  live-listed (nodes.CatCharge cats.Windstorm) h = constant (nodes.CatCharge cats.Windstorm) refl
-  live-listed (nodes.Lapse sets.Nl) h = constant (nodes.Lapse sets.Nl) refl
-  live-listed (nodes.PremiumReserve sets.Nl) h = constant (nodes.PremiumReserve sets.Nl) refl
-  live-listed (nodes.Nslt Gross) h = constant (nodes.Nslt Gross) refl
-  live-listed (nodes.Health Gross) h = constant (nodes.Health Gross) refl
-  live-listed (nodes.Nonlife Gross) h = constant (nodes.Nonlife Gross) refl
-  live-listed (nodes.Bscr Gross) h = constant (nodes.Bscr Gross) refl
-  live-listed (nodes.OpPart operations.Premiums) h = constant (nodes.OpPart operations.Premiums) refl
-  live-listed (nodes.Adjust adjustments.TechnicalProvisions) h =
-      constant (nodes.Adjust adjustments.TechnicalProvisions) refl
-  live-listed (nodes.InterestScenario Down Gross) h = constant (nodes.InterestScenario Down Gross) refl
-  live-listed (nodes.Picked alternatives.LifeLapse Gross) h = constant (nodes.Picked alternatives.LifeLapse Gross) refl
-  live-listed (nodes.Picked alternatives.HealthLapse Gross) h =
-      constant (nodes.Picked alternatives.HealthLapse Gross) refl
-  live-listed (nodes.BioScenario biometrics.Life projections.Longevity Gross) h =
-      constant (nodes.BioScenario biometrics.Life projections.Longevity Gross) refl
-  live-listed (nodes.BioScenario biometrics.Life projections.Disability Gross) h =
-      constant (nodes.BioScenario biometrics.Life projections.Disability Gross) refl
-  live-listed (nodes.BioScenario biometrics.Life projections.Expense Gross) h =
-      constant (nodes.BioScenario biometrics.Life projections.Expense Gross) refl
-  live-listed (nodes.BioScenario biometrics.Life projections.Revision Gross) h =
-      constant (nodes.BioScenario biometrics.Life projections.Revision Gross) refl
-  live-listed (nodes.BioScenario biometrics.Life projections.LapseUp Gross) h =
-      constant (nodes.BioScenario biometrics.Life projections.LapseUp Gross) refl
-  live-listed (nodes.BioScenario biometrics.Life projections.LapseDown Gross) h =
-      constant (nodes.BioScenario biometrics.Life projections.LapseDown Gross) refl
-  live-listed (nodes.BioScenario biometrics.Life projections.LapseMass Gross) h =
-      constant (nodes.BioScenario biometrics.Life projections.LapseMass Gross) refl
-  live-listed (nodes.BioScenario biometrics.Life projections.Catastrophe Gross) h =
-      constant (nodes.BioScenario biometrics.Life projections.Catastrophe Gross) refl
-  live-listed (nodes.BioScenario biometrics.Health projections.Mortality Gross) h =
-      constant (nodes.BioScenario biometrics.Health projections.Mortality Gross) refl
-  live-listed (nodes.BioScenario biometrics.Health projections.Longevity Gross) h =
-      constant (nodes.BioScenario biometrics.Health projections.Longevity Gross) refl
-  live-listed (nodes.BioScenario biometrics.Health projections.Disability Gross) h =
-      constant (nodes.BioScenario biometrics.Health projections.Disability Gross) refl
-  live-listed (nodes.BioScenario biometrics.Health projections.Expense Gross) h =
-      constant (nodes.BioScenario biometrics.Health projections.Expense Gross) refl
-  live-listed (nodes.BioScenario biometrics.Health projections.Revision Gross) h =
-      constant (nodes.BioScenario biometrics.Health projections.Revision Gross) refl
-  live-listed (nodes.BioScenario biometrics.Health projections.LapseUp Gross) h =
-      constant (nodes.BioScenario biometrics.Health projections.LapseUp Gross) refl
-  live-listed (nodes.BioScenario biometrics.Health projections.LapseDown Gross) h =
-      constant (nodes.BioScenario biometrics.Health projections.LapseDown Gross) refl
-  live-listed (nodes.BioScenario biometrics.Health projections.LapseMass Gross) h =
-      constant (nodes.BioScenario biometrics.Health projections.LapseMass Gross) refl
+      constant-at ((λ one. nodes.Whole (wholes.Segment sets.Nslt one))) 1 4 number (refl, (refl, (refl, (refl, tt)))) (leb-true 1 number two.0) (omega arith)
+  live-listed (nodes.Whole (wholes.CatCharge cats.Windstorm)) h = constant (nodes.Whole (wholes.CatCharge cats.Windstorm)) refl
+  live-listed (nodes.Whole (wholes.Lapse sets.Nl)) h = constant (nodes.Whole (wholes.Lapse sets.Nl)) refl
+  live-listed (nodes.Whole (wholes.PremiumReserve sets.Nl)) h = constant (nodes.Whole (wholes.PremiumReserve sets.Nl)) refl
+  live-listed (nodes.Whole (wholes.Nslt Gross)) h = constant (nodes.Whole (wholes.Nslt Gross)) refl
+  live-listed (nodes.Whole (wholes.Health Gross)) h = constant (nodes.Whole (wholes.Health Gross)) refl
+  live-listed (nodes.Whole (wholes.Nonlife Gross)) h = constant (nodes.Whole (wholes.Nonlife Gross)) refl
+  live-listed (nodes.Whole (wholes.Bscr Gross)) h = constant (nodes.Whole (wholes.Bscr Gross)) refl
+  live-listed (nodes.Whole (wholes.OpPart operations.Premiums)) h = constant (nodes.Whole (wholes.OpPart operations.Premiums)) refl
+  live-listed (nodes.Whole (wholes.Adjust adjustments.TechnicalProvisions)) h =
+      constant (nodes.Whole (wholes.Adjust adjustments.TechnicalProvisions)) refl
+  live-listed (nodes.Whole (wholes.InterestScenario Down Gross)) h = constant (nodes.Whole (wholes.InterestScenario Down Gross)) refl
+  live-listed (nodes.Whole (wholes.Picked alternatives.LifeLapse Gross)) h = constant (nodes.Whole (wholes.Picked alternatives.LifeLapse Gross)) refl
+  live-listed (nodes.Whole (wholes.Picked alternatives.HealthLapse Gross)) h =
+      constant (nodes.Whole (wholes.Picked alternatives.HealthLapse Gross)) refl
+  live-listed (nodes.Whole (wholes.BioScenario biometrics.Life projections.Longevity Gross)) h =
+      constant (nodes.Whole (wholes.BioScenario biometrics.Life projections.Longevity Gross)) refl
+  live-listed (nodes.Whole (wholes.BioScenario biometrics.Life projections.Disability Gross)) h =
+      constant (nodes.Whole (wholes.BioScenario biometrics.Life projections.Disability Gross)) refl
+  live-listed (nodes.Whole (wholes.BioScenario biometrics.Life projections.Expense Gross)) h =
+      constant (nodes.Whole (wholes.BioScenario biometrics.Life projections.Expense Gross)) refl
+  live-listed (nodes.Whole (wholes.BioScenario biometrics.Life projections.Revision Gross)) h =
+      constant (nodes.Whole (wholes.BioScenario biometrics.Life projections.Revision Gross)) refl
+  live-listed (nodes.Whole (wholes.BioScenario biometrics.Life projections.LapseUp Gross)) h =
+      constant (nodes.Whole (wholes.BioScenario biometrics.Life projections.LapseUp Gross)) refl
+  live-listed (nodes.Whole (wholes.BioScenario biometrics.Life projections.LapseDown Gross)) h =
+      constant (nodes.Whole (wholes.BioScenario biometrics.Life projections.LapseDown Gross)) refl
+  live-listed (nodes.Whole (wholes.BioScenario biometrics.Life projections.LapseMass Gross)) h =
+      constant (nodes.Whole (wholes.BioScenario biometrics.Life projections.LapseMass Gross)) refl
+  live-listed (nodes.Whole (wholes.BioScenario biometrics.Life projections.Catastrophe Gross)) h =
+      constant (nodes.Whole (wholes.BioScenario biometrics.Life projections.Catastrophe Gross)) refl
+  live-listed (nodes.Whole (wholes.BioScenario biometrics.Health projections.Mortality Gross)) h =
+      constant (nodes.Whole (wholes.BioScenario biometrics.Health projections.Mortality Gross)) refl
+  live-listed (nodes.Whole (wholes.BioScenario biometrics.Health projections.Longevity Gross)) h =
+      constant (nodes.Whole (wholes.BioScenario biometrics.Health projections.Longevity Gross)) refl
+  live-listed (nodes.Whole (wholes.BioScenario biometrics.Health projections.Disability Gross)) h =
+      constant (nodes.Whole (wholes.BioScenario biometrics.Health projections.Disability Gross)) refl
+  live-listed (nodes.Whole (wholes.BioScenario biometrics.Health projections.Expense Gross)) h =
+      constant (nodes.Whole (wholes.BioScenario biometrics.Health projections.Expense Gross)) refl
+  live-listed (nodes.Whole (wholes.BioScenario biometrics.Health projections.Revision Gross)) h =
+      constant (nodes.Whole (wholes.BioScenario biometrics.Health projections.Revision Gross)) refl
+  live-listed (nodes.Whole (wholes.BioScenario biometrics.Health projections.LapseUp Gross)) h =
+      constant (nodes.Whole (wholes.BioScenario biometrics.Health projections.LapseUp Gross)) refl
+  live-listed (nodes.Whole (wholes.BioScenario biometrics.Health projections.LapseDown Gross)) h =
+      constant (nodes.Whole (wholes.BioScenario biometrics.Health projections.LapseDown Gross)) refl
+  live-listed (nodes.Whole (wholes.BioScenario biometrics.Health projections.LapseMass Gross)) h =
+      constant (nodes.Whole (wholes.BioScenario biometrics.Health projections.LapseMass Gross)) refl
   live-listed node h = constant node refl
 
 -- ---- the whole list

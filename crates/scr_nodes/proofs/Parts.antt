@@ -17,6 +17,12 @@ use Rattle.scr_nodes.specs.declared.node.Direction.TheVariants.{Up, Down}
 use Rattle.scr_nodes.specs.declared.node.Equities.TheVariants as equities
 use Rattle.scr_nodes.specs.declared.node.Measure.TheVariants.{Gross, Net}
 use Rattle.scr_nodes.specs.declared.node.Node.TheVariants as nodes
+use Rattle.scr_nodes.specs.declared.node.OfFund.TheVariants as of_funds
+use Rattle.scr_nodes.specs.declared.node.OfSecurity.TheVariants as of_securities
+use Rattle.scr_nodes.specs.declared.node.OfLiability.TheVariants as of_liabilities
+use Rattle.scr_nodes.specs.declared.node.OfCurrency.TheVariants as of_currencies
+use Rattle.scr_nodes.specs.declared.node.OfGroup.TheVariants as of_groups
+use Rattle.scr_nodes.specs.declared.node.Whole.TheVariants as wholes
 use Rattle.scr_nodes.specs.declared.node.Operational.TheVariants as operations
 use Rattle.scr_nodes.specs.declared.node.Risk.TheVariants as risks
 use Rattle.scr_nodes.proofs.Apart.{AreApart, member-at}
@@ -130,62 +136,62 @@ adjustment_place adjustments.DeferredTaxes = 1
 -- ---- the families in their order: of rows, and from 32 on each figure that every balance sheet has
 
 abbrev pub part_of : Node → ℕ
-part_of (nodes.FundTotal name) = 0
-part_of (nodes.SecurityTotal name) = 1
-part_of (nodes.UnitLoss name direction) = 2 + direction_place direction
-part_of (nodes.SecurityRate name direction) = 4 + direction_place direction
-part_of (nodes.LiabilityRate name direction) = 6 + direction_place direction
-part_of (nodes.LiabilityPresent name) = 8
-part_of (nodes.LiabilityLoss name projection) = 9 + loss_place projection
-part_of (nodes.CurrencyLoss currency direction) = 18 + direction_place direction
-part_of (nodes.CurrencyScenario currency direction measure) = 20 + 2 * direction_place direction + measure_place measure
-part_of (nodes.CurrencyChoice currency) = 24
-part_of (nodes.CurrencyPicked currency measure) = 25 + measure_place measure
-part_of (nodes.SecuritySpread name) = 27
-part_of (nodes.GroupTotal name) = 28
-part_of nodes.Assets = 29
-part_of (nodes.ConcentrationSquare name) = 30
-part_of (nodes.GroupLoss name) = 31
-part_of (nodes.ClassSum class) = 32 + class_place class
-part_of (nodes.EquityPart equities) = 42 + equities_place equities
-part_of (nodes.InterestScenario direction measure) = 46 + 2 * direction_place direction + measure_place measure
-part_of (nodes.Choice which) = choice_place which
-part_of (nodes.Picked which measure) = 1 + choice_place which + measure_place measure
-part_of nodes.EquityRoot = 53
-part_of nodes.Property = 54
-part_of nodes.Spread = 55
-part_of nodes.Concentration = 56
-part_of (nodes.NetPart risk) = risk_place risk
-part_of (nodes.Currency measure) = 61 + measure_place measure
-part_of (nodes.Market measure) = 63 + measure_place measure
-part_of (nodes.ClassLoss class) = 65 + min class 5
-part_of (nodes.ClassSquare class) = 71 + min class 5
-part_of nodes.Variance = 77
-part_of nodes.DefaultBand = 78
-part_of nodes.DefaultType1 = 79
-part_of nodes.DefaultType2 = 80
-part_of nodes.Default = 81
-part_of (nodes.BioScenario biometric projection measure) =
+part_of (nodes.Fund name of_funds.Total) = 0
+part_of (nodes.Security name of_securities.Total) = 1
+part_of (nodes.Security name (of_securities.UnitLoss direction)) = 2 + direction_place direction
+part_of (nodes.Security name (of_securities.Rate direction)) = 4 + direction_place direction
+part_of (nodes.Liability name (of_liabilities.Rate direction)) = 6 + direction_place direction
+part_of (nodes.Liability name of_liabilities.Present) = 8
+part_of (nodes.Liability name (of_liabilities.Loss projection)) = 9 + loss_place projection
+part_of (nodes.Currency currency (of_currencies.Loss direction)) = 18 + direction_place direction
+part_of (nodes.Currency currency (of_currencies.Scenario direction measure)) = 20 + 2 * direction_place direction + measure_place measure
+part_of (nodes.Currency currency of_currencies.Choice) = 24
+part_of (nodes.Currency currency (of_currencies.Picked measure)) = 25 + measure_place measure
+part_of (nodes.Security name of_securities.Spread) = 27
+part_of (nodes.Group name of_groups.Total) = 28
+part_of (nodes.Whole wholes.Assets) = 29
+part_of (nodes.Group name of_groups.ConcentrationSquare) = 30
+part_of (nodes.Group name of_groups.Loss) = 31
+part_of (nodes.Whole (wholes.ClassSum class)) = 32 + class_place class
+part_of (nodes.Whole (wholes.EquityPart equities)) = 42 + equities_place equities
+part_of (nodes.Whole (wholes.InterestScenario direction measure)) = 46 + 2 * direction_place direction + measure_place measure
+part_of (nodes.Whole (wholes.Choice which)) = choice_place which
+part_of (nodes.Whole (wholes.Picked which measure)) = 1 + choice_place which + measure_place measure
+part_of (nodes.Whole wholes.EquityRoot) = 53
+part_of (nodes.Whole wholes.Property) = 54
+part_of (nodes.Whole wholes.Spread) = 55
+part_of (nodes.Whole wholes.Concentration) = 56
+part_of (nodes.Whole (wholes.NetPart risk)) = risk_place risk
+part_of (nodes.Whole (wholes.Currency measure)) = 61 + measure_place measure
+part_of (nodes.Whole (wholes.Market measure)) = 63 + measure_place measure
+part_of (nodes.Whole (wholes.ClassLoss class)) = 65 + min class 5
+part_of (nodes.Whole (wholes.ClassSquare class)) = 71 + min class 5
+part_of (nodes.Whole wholes.Variance) = 77
+part_of (nodes.Whole wholes.DefaultBand) = 78
+part_of (nodes.Whole wholes.DefaultType1) = 79
+part_of (nodes.Whole wholes.DefaultType2) = 80
+part_of (nodes.Whole wholes.Default) = 81
+part_of (nodes.Whole (wholes.BioScenario biometric projection measure)) =
     scenarios_from biometric + scenario_place projection + measure_place measure
-part_of (nodes.Life measure) = 104 + measure_place measure
-part_of (nodes.Slt measure) = 125 + measure_place measure
-part_of (nodes.Segment set number) = segments_from set + min number 12
-part_of (nodes.CatCharge key) = 143 + charge_place key
-part_of (nodes.Lapse set) = 159 + set_place set
-part_of nodes.Intangible = 161
-part_of (nodes.PremiumReserve set) = 162 + set_place set
-part_of nodes.Natural = 164
-part_of nodes.ManMade = 165
-part_of nodes.NonlifeCatastrophe = 166
-part_of nodes.HealthCatastrophe = 167
-part_of (nodes.Nslt measure) = 169 + measure_place measure
-part_of (nodes.Health measure) = 171 + measure_place measure
-part_of (nodes.Nonlife measure) = 173 + measure_place measure
-part_of (nodes.Bscr measure) = 175 + measure_place measure
-part_of nodes.Diversification = 177
-part_of (nodes.OpPart part) = 178 + operational_place part
-part_of (nodes.Adjust adjustment) = 182 + adjustment_place adjustment
-part_of nodes.Scr = 184
+part_of (nodes.Whole (wholes.Life measure)) = 104 + measure_place measure
+part_of (nodes.Whole (wholes.Slt measure)) = 125 + measure_place measure
+part_of (nodes.Whole (wholes.Segment set number)) = segments_from set + min number 12
+part_of (nodes.Whole (wholes.CatCharge key)) = 143 + charge_place key
+part_of (nodes.Whole (wholes.Lapse set)) = 159 + set_place set
+part_of (nodes.Whole wholes.Intangible) = 161
+part_of (nodes.Whole (wholes.PremiumReserve set)) = 162 + set_place set
+part_of (nodes.Whole wholes.Natural) = 164
+part_of (nodes.Whole wholes.ManMade) = 165
+part_of (nodes.Whole wholes.NonlifeCatastrophe) = 166
+part_of (nodes.Whole wholes.HealthCatastrophe) = 167
+part_of (nodes.Whole (wholes.Nslt measure)) = 169 + measure_place measure
+part_of (nodes.Whole (wholes.Health measure)) = 171 + measure_place measure
+part_of (nodes.Whole (wholes.Nonlife measure)) = 173 + measure_place measure
+part_of (nodes.Whole (wholes.Bscr measure)) = 175 + measure_place measure
+part_of (nodes.Whole wholes.Diversification) = 177
+part_of (nodes.Whole (wholes.OpPart part)) = 178 + operational_place part
+part_of (nodes.Whole (wholes.Adjust adjustment)) = 182 + adjustment_place adjustment
+part_of (nodes.Whole wholes.Scr) = 184
 
 -- ---- none is beyond the last
 
@@ -248,7 +254,7 @@ class-place-most x = omega arith
 
 -- the last part
 pub last-part : (node : Node) → part_of node ≤ 184
-last-part (nodes.FundTotal name) = omega arith
+last-part (nodes.Fund name of_funds.Total) = omega arith
 last-part node =
     omega (
       arith,
@@ -398,10 +404,10 @@ below-weaker least most h list below =
     each_weaker (λ n. part_of n < least) (λ n. part_of n < most) (λ n l. omega arith) list below
 
 -- a fund, or of a part above the first
-pub fund-or-above : (node : Node) → ((name : List ℕ) × (node ≡ nodes.FundTotal name)) ⊎ (0 < part_of node)
-fund-or-above (nodes.FundTotal name) = inl (name, refl)
-fund-or-above (nodes.Choice alternatives.Interest) = inr (omega arith)
-fund-or-above (nodes.NetPart risks.Equity) = inr (omega arith)
-fund-or-above (nodes.BioScenario biometrics.Life projection measure) = inr (omega arith)
-fund-or-above (nodes.Segment sets.Nl number) = inr (omega arith)
+pub fund-or-above : (node : Node) → ((name : List ℕ) × (node ≡ nodes.Fund name of_funds.Total)) ⊎ (0 < part_of node)
+fund-or-above (nodes.Fund name of_funds.Total) = inl (name, refl)
+fund-or-above (nodes.Whole (wholes.Choice alternatives.Interest)) = inr (omega arith)
+fund-or-above (nodes.Whole (wholes.NetPart risks.Equity)) = inr (omega arith)
+fund-or-above (nodes.Whole (wholes.BioScenario biometrics.Life projection measure)) = inr (omega arith)
+fund-or-above (nodes.Whole (wholes.Segment sets.Nl number)) = inr (omega arith)
 fund-or-above node = inr (omega arith)

@@ -13,6 +13,11 @@ use Rattle.scr_nodes.specs.declared.{node.Direction.Direction, node.Node.Node}
 use Rattle.scr_nodes.specs.declared.node.Equities.TheVariants as equities
 use Rattle.scr_nodes.specs.declared.node.Measure.TheVariants.{Gross}
 use Rattle.scr_nodes.specs.declared.node.Node.TheVariants as nodes
+use Rattle.scr_nodes.specs.declared.node.OfFund.TheVariants as of_funds
+use Rattle.scr_nodes.specs.declared.node.OfSecurity.TheVariants as of_securities
+use Rattle.scr_nodes.specs.declared.node.OfCurrency.TheVariants as of_currencies
+use Rattle.scr_nodes.specs.declared.node.OfGroup.TheVariants as of_groups
+use Rattle.scr_nodes.specs.declared.node.Whole.TheVariants as wholes
 use Rattle.scr_nodes.specs.declared.node.Operational.TheVariants as operations
 use Rattle.scr_nodes.specs.LiveNodes.{HasNoRepeats}
 use Rattle.scr_nodes.specs.Rows.{holds, is_closed, is_paying_in, is_owed_in, has_class, is_held_in, is_foreign, is_of_group, has_group, is_of_default_class, is_stressed}
@@ -102,43 +107,43 @@ module _ (sheet : BalanceSheet) (valid : Valid sheet) where
   apart-words node h = apart-by_parts (sources_of sheet node) h
 
   apart-sources : (node : Node) → AreApart (sources_of sheet node)
-  apart-sources (nodes.FundTotal name) = apart-funds (holds name)
-  apart-sources (nodes.SecurityTotal name) = apart-funds (holds name)
-  apart-sources (nodes.SecurityRate name direction) = two _ _ (λ e. absurd (cc))
-  apart-sources (nodes.CurrencyLoss currency direction) = apart-rates currency direction
-  apart-sources (nodes.InterestScenario direction Gross) =
+  apart-sources (nodes.Fund name of_funds.Total) = apart-funds (holds name)
+  apart-sources (nodes.Security name of_securities.Total) = apart-funds (holds name)
+  apart-sources (nodes.Security name (of_securities.Rate direction)) = two _ _ (λ e. absurd (cc))
+  apart-sources (nodes.Currency currency (of_currencies.Loss direction)) = apart-rates currency direction
+  apart-sources (nodes.Whole (wholes.InterestScenario direction Gross)) =
       apart-mapped (currency_loss direction) (λ c. true) curve_name (told-currency direction) sheet.curves
       valid.currencies_once
-  apart-sources (nodes.CurrencyScenario currency direction Gross) = apart-worths currency
-  apart-sources (nodes.Currency measure) =
+  apart-sources (nodes.Currency currency (of_currencies.Scenario direction Gross)) = apart-worths currency
+  apart-sources (nodes.Whole (wholes.Currency measure)) =
       apart-chosen (currency_picked measure) (is_foreign sheet) curve_name (told-picked measure) sheet.curves
       valid.currencies_once
-  apart-sources (nodes.Choice alternatives.Interest) = apart-words (nodes.Choice alternatives.Interest) refl
-  apart-sources (nodes.Picked alternatives.Interest measure) =
-      apart-words (nodes.Picked alternatives.Interest measure) refl
-  apart-sources (nodes.ClassSum class) = apart-held class
-  apart-sources (nodes.EquityPart equities.Type1) = apart-words (nodes.EquityPart equities.Type1) refl
-  apart-sources nodes.Spread =
+  apart-sources (nodes.Whole (wholes.Choice alternatives.Interest)) = apart-words (nodes.Whole (wholes.Choice alternatives.Interest)) refl
+  apart-sources (nodes.Whole (wholes.Picked alternatives.Interest measure)) =
+      apart-words (nodes.Whole (wholes.Picked alternatives.Interest measure)) refl
+  apart-sources (nodes.Whole (wholes.ClassSum class)) = apart-held class
+  apart-sources (nodes.Whole (wholes.EquityPart equities.Type1)) = apart-words (nodes.Whole (wholes.EquityPart equities.Type1)) refl
+  apart-sources (nodes.Whole wholes.Spread) =
       apart-chosen security_spread (has_class classes.Bond) position_name told-spread sheet.securities
       (distinct-securities sheet valid.named_once)
-  apart-sources (nodes.GroupTotal name) = apart-securities (is_of_group name)
-  apart-sources nodes.Assets = apart-securities has_group
-  apart-sources nodes.Concentration =
+  apart-sources (nodes.Group name of_groups.Total) = apart-securities (is_of_group name)
+  apart-sources (nodes.Whole wholes.Assets) = apart-securities has_group
+  apart-sources (nodes.Whole wholes.Concentration) =
       apart-mapped concentration_square (λ g. true) group_name told-square sheet.groups (distinct-groups sheet valid)
-  apart-sources (nodes.Market Gross) = apart-words (nodes.Market Gross) refl
-  apart-sources (nodes.ClassLoss class) = apart-losses_of_class class
-  apart-sources (nodes.ClassSquare class) = apart-losses_of_class class
-  apart-sources (nodes.BioScenario biometric projection Gross) =
+  apart-sources (nodes.Whole (wholes.Market Gross)) = apart-words (nodes.Whole (wholes.Market Gross)) refl
+  apart-sources (nodes.Whole (wholes.ClassLoss class)) = apart-losses_of_class class
+  apart-sources (nodes.Whole (wholes.ClassSquare class)) = apart-losses_of_class class
+  apart-sources (nodes.Whole (wholes.BioScenario biometric projection Gross)) =
       apart-chosen (liability_loss projection) (is_stressed biometric projection) liability_name (told-loss projection)
       sheet.liabilities (distinct-liabilities sheet valid)
-  apart-sources (nodes.Life Gross) = apart-words (nodes.Life Gross) refl
-  apart-sources (nodes.Slt Gross) = apart-words (nodes.Slt Gross) refl
-  apart-sources (nodes.PremiumReserve sets.Nl) = apart-words (nodes.PremiumReserve sets.Nl) refl
-  apart-sources (nodes.Health Gross) = apart-words (nodes.Health Gross) refl
-  apart-sources (nodes.Bscr Gross) = apart-words (nodes.Bscr Gross) refl
-  apart-sources (nodes.OpPart operations.Premiums) = apart-words (nodes.OpPart operations.Premiums) refl
-  apart-sources (nodes.Adjust adjustments.TechnicalProvisions) =
-      apart-words (nodes.Adjust adjustments.TechnicalProvisions) refl
+  apart-sources (nodes.Whole (wholes.Life Gross)) = apart-words (nodes.Whole (wholes.Life Gross)) refl
+  apart-sources (nodes.Whole (wholes.Slt Gross)) = apart-words (nodes.Whole (wholes.Slt Gross)) refl
+  apart-sources (nodes.Whole (wholes.PremiumReserve sets.Nl)) = apart-words (nodes.Whole (wholes.PremiumReserve sets.Nl)) refl
+  apart-sources (nodes.Whole (wholes.Health Gross)) = apart-words (nodes.Whole (wholes.Health Gross)) refl
+  apart-sources (nodes.Whole (wholes.Bscr Gross)) = apart-words (nodes.Whole (wholes.Bscr Gross)) refl
+  apart-sources (nodes.Whole (wholes.OpPart operations.Premiums)) = apart-words (nodes.Whole (wholes.OpPart operations.Premiums)) refl
+  apart-sources (nodes.Whole (wholes.Adjust adjustments.TechnicalProvisions)) =
+      apart-words (nodes.Whole (wholes.Adjust adjustments.TechnicalProvisions)) refl
   apart-sources node = apart-words node refl
 
   pub sources-once : (node : Node) → HasNoRepeats (sources_of sheet node)

@@ -10,6 +10,12 @@ use Rattle.scr_sheet.specs.declared.rows.Class.TheVariants as classes
 use Rattle.scr_sheet.specs.declared.sheet.BalanceSheet.{BalanceSheet}
 use Rattle.scr_nodes.specs.declared.node.Node.{Node}
 use Rattle.scr_nodes.specs.declared.node.Node.TheVariants as nodes
+use Rattle.scr_nodes.specs.declared.node.OfFund.TheVariants as of_funds
+use Rattle.scr_nodes.specs.declared.node.OfSecurity.TheVariants as of_securities
+use Rattle.scr_nodes.specs.declared.node.OfLiability.TheVariants as of_liabilities
+use Rattle.scr_nodes.specs.declared.node.OfCurrency.TheVariants as of_currencies
+use Rattle.scr_nodes.specs.declared.node.OfGroup.TheVariants as of_groups
+use Rattle.scr_nodes.specs.declared.node.Whole.TheVariants as wholes
 use Rattle.scr_nodes.specs.Rows.{is_paying, is_foreign, has_class, has_flows, is_stress, has_stress, liability_of}
 
 -- a security of this name that pays
@@ -36,23 +42,23 @@ abbrev pub is_segment : Set → ℕ → Bool
 is_segment set number = nat_le 1 number && nat_le number (segments set)
 
 abbrev pub is_live : BalanceSheet → Node → Bool
-is_live sheet (nodes.FundTotal name) = has_row stake_name name sheet.funds
-is_live sheet (nodes.SecurityTotal name) = has_row position_name name sheet.securities
-is_live sheet (nodes.UnitLoss name direction) = pays sheet name
-is_live sheet (nodes.SecurityRate name direction) = pays sheet name
-is_live sheet (nodes.LiabilityRate name direction) = has_row liability_name name sheet.liabilities
-is_live sheet (nodes.CurrencyLoss currency direction) = has_row curve_name currency sheet.curves
-is_live sheet (nodes.LiabilityPresent name) = has_row liability_name name sheet.liabilities
-is_live sheet (nodes.LiabilityLoss name projection) = is_stressed_liability sheet name projection
-is_live sheet (nodes.CurrencyScenario currency direction measure) = is_foreign_currency sheet currency
-is_live sheet (nodes.CurrencyChoice currency) = is_foreign_currency sheet currency
-is_live sheet (nodes.CurrencyPicked currency measure) = is_foreign_currency sheet currency
-is_live sheet (nodes.SecuritySpread name) = is_bond sheet name
-is_live sheet (nodes.GroupTotal name) = is_group sheet name
-is_live sheet (nodes.ConcentrationSquare name) = is_group sheet name
-is_live sheet (nodes.GroupLoss name) = is_group sheet name
-is_live sheet (nodes.ClassLoss class) = nat_lt class 6
-is_live sheet (nodes.ClassSquare class) = nat_lt class 6
-is_live sheet (nodes.BioScenario biometric projection measure) = has_stress biometric projection
-is_live sheet (nodes.Segment set number) = is_segment set number
+is_live sheet (nodes.Fund name of_funds.Total) = has_row stake_name name sheet.funds
+is_live sheet (nodes.Security name of_securities.Total) = has_row position_name name sheet.securities
+is_live sheet (nodes.Security name (of_securities.UnitLoss direction)) = pays sheet name
+is_live sheet (nodes.Security name (of_securities.Rate direction)) = pays sheet name
+is_live sheet (nodes.Liability name (of_liabilities.Rate direction)) = has_row liability_name name sheet.liabilities
+is_live sheet (nodes.Currency currency (of_currencies.Loss direction)) = has_row curve_name currency sheet.curves
+is_live sheet (nodes.Liability name of_liabilities.Present) = has_row liability_name name sheet.liabilities
+is_live sheet (nodes.Liability name (of_liabilities.Loss projection)) = is_stressed_liability sheet name projection
+is_live sheet (nodes.Currency currency (of_currencies.Scenario direction measure)) = is_foreign_currency sheet currency
+is_live sheet (nodes.Currency currency of_currencies.Choice) = is_foreign_currency sheet currency
+is_live sheet (nodes.Currency currency (of_currencies.Picked measure)) = is_foreign_currency sheet currency
+is_live sheet (nodes.Security name of_securities.Spread) = is_bond sheet name
+is_live sheet (nodes.Group name of_groups.Total) = is_group sheet name
+is_live sheet (nodes.Group name of_groups.ConcentrationSquare) = is_group sheet name
+is_live sheet (nodes.Group name of_groups.Loss) = is_group sheet name
+is_live sheet (nodes.Whole (wholes.ClassLoss class)) = nat_lt class 6
+is_live sheet (nodes.Whole (wholes.ClassSquare class)) = nat_lt class 6
+is_live sheet (nodes.Whole (wholes.BioScenario biometric projection measure)) = has_stress biometric projection
+is_live sheet (nodes.Whole (wholes.Segment set number)) = is_segment set number
 is_live sheet node = true

@@ -18,6 +18,7 @@ use Rattle.scr_nodes.specs.declared.node.Direction.TheVariants.{Up, Down}
 use Rattle.scr_nodes.specs.declared.node.Measure.TheVariants.{Gross, Net}
 use Rattle.scr_nodes.specs.declared.node.Node.{Node}
 use Rattle.scr_nodes.specs.declared.node.Node.TheVariants as nodes
+use Rattle.scr_nodes.specs.declared.node.Whole.TheVariants as wholes
 use Rattle.scr_nodes.specs.declared.node.Operational.TheVariants as operations
 use Rattle.scr_nodes.specs.declared.node.Risk.TheVariants as risks
 use Rattle.scr_nodes.specs.Rows.{is_paying, is_foreign, has_class, has_flows}
@@ -62,7 +63,7 @@ currency_families sheet =
 abbrev pub group_families : BalanceSheet → List (List Node)
 group_families sheet =
     map security_spread (filter (has_class classes.Bond) sheet.securities)
-    ∷ map group_total sheet.groups ∷ (nodes.Assets ∷ []) ∷ map concentration_square sheet.groups
+    ∷ map group_total sheet.groups ∷ (nodes.Whole wholes.Assets ∷ []) ∷ map concentration_square sheet.groups
     ∷ map group_loss sheet.groups ∷ []
 
 -- so that the sources of each come in an earlier family or are totals
@@ -74,71 +75,71 @@ families sheet =
 
 abbrev pub class_sums : List Node
 class_sums =
-    nodes.ClassSum classes.Type1Equity ∷ nodes.ClassSum classes.Type1Strategic ∷ nodes.ClassSum classes.Type2Equity
-    ∷ nodes.ClassSum classes.Type2Strategic ∷ nodes.ClassSum classes.Infrastructure
-    ∷ nodes.ClassSum classes.InfrastructureCorporate ∷ nodes.ClassSum classes.Property ∷ nodes.ClassSum classes.Bond
-    ∷ nodes.ClassSum classes.Government ∷ nodes.ClassSum classes.Other ∷ []
+    nodes.Whole (wholes.ClassSum classes.Type1Equity) ∷ nodes.Whole (wholes.ClassSum classes.Type1Strategic) ∷ nodes.Whole (wholes.ClassSum classes.Type2Equity)
+    ∷ nodes.Whole (wholes.ClassSum classes.Type2Strategic) ∷ nodes.Whole (wholes.ClassSum classes.Infrastructure)
+    ∷ nodes.Whole (wholes.ClassSum classes.InfrastructureCorporate) ∷ nodes.Whole (wholes.ClassSum classes.Property) ∷ nodes.Whole (wholes.ClassSum classes.Bond)
+    ∷ nodes.Whole (wholes.ClassSum classes.Government) ∷ nodes.Whole (wholes.ClassSum classes.Other) ∷ []
 
 -- the alternatives, and what the one that decides comes to
 abbrev pub chosen : Alternatives → List Node
-chosen which = nodes.Choice which ∷ nodes.Picked which Gross ∷ nodes.Picked which Net ∷ []
+chosen which = nodes.Whole (wholes.Choice which) ∷ nodes.Whole (wholes.Picked which Gross) ∷ nodes.Whole (wholes.Picked which Net) ∷ []
 
 abbrev pub market_risks : List Node
 market_risks =
-    nodes.EquityRoot ∷ nodes.Property ∷ nodes.Spread ∷ nodes.Concentration ∷ nodes.NetPart risks.Equity
-    ∷ nodes.NetPart risks.Property ∷ nodes.NetPart risks.Spread ∷ nodes.NetPart risks.Concentration
-    ∷ nodes.Currency Gross ∷ nodes.Currency Net ∷ []
+    nodes.Whole wholes.EquityRoot ∷ nodes.Whole wholes.Property ∷ nodes.Whole wholes.Spread ∷ nodes.Whole wholes.Concentration ∷ nodes.Whole (wholes.NetPart risks.Equity)
+    ∷ nodes.Whole (wholes.NetPart risks.Property) ∷ nodes.Whole (wholes.NetPart risks.Spread) ∷ nodes.Whole (wholes.NetPart risks.Concentration)
+    ∷ nodes.Whole (wholes.Currency Gross) ∷ nodes.Whole (wholes.Currency Net) ∷ []
 
 abbrev pub market_nodes : List Node
 market_nodes =
     class_sums ++ (equity_parts ++ (interest_scenarios ++ (chosen alternatives.Interest ++ (market_risks
-    ++ (nodes.Market Gross ∷ nodes.Market Net ∷ [])))))
+    ++ (nodes.Whole (wholes.Market Gross) ∷ nodes.Whole (wholes.Market Net) ∷ [])))))
 
 abbrev pub default_nodes : List Node
 default_nodes =
-    class_losses ++ (class_squares ++ (nodes.Variance ∷ nodes.DefaultBand ∷ nodes.DefaultType1 ∷ nodes.DefaultType2
-    ∷ nodes.Default ∷ nodes.NetPart risks.Default ∷ []))
+    class_losses ++ (class_squares ++ (nodes.Whole wholes.Variance ∷ nodes.Whole wholes.DefaultBand ∷ nodes.Whole wholes.DefaultType1 ∷ nodes.Whole wholes.DefaultType2
+    ∷ nodes.Whole wholes.Default ∷ nodes.Whole (wholes.NetPart risks.Default) ∷ []))
 
 -- the scenarios of which no choice is made, but for the catastrophe
 abbrev pub plain_scenarios : Biometric → List Node
 plain_scenarios biometric =
-    nodes.BioScenario biometric projections.Mortality Gross ∷ nodes.BioScenario biometric projections.Mortality Net
-    ∷ nodes.BioScenario biometric projections.Longevity Gross ∷ nodes.BioScenario biometric projections.Longevity Net
-    ∷ nodes.BioScenario biometric projections.Disability Gross ∷ nodes.BioScenario biometric projections.Disability Net
-    ∷ nodes.BioScenario biometric projections.Expense Gross ∷ nodes.BioScenario biometric projections.Expense Net
-    ∷ nodes.BioScenario biometric projections.Revision Gross ∷ nodes.BioScenario biometric projections.Revision Net ∷ []
+    nodes.Whole (wholes.BioScenario biometric projections.Mortality Gross) ∷ nodes.Whole (wholes.BioScenario biometric projections.Mortality Net)
+    ∷ nodes.Whole (wholes.BioScenario biometric projections.Longevity Gross) ∷ nodes.Whole (wholes.BioScenario biometric projections.Longevity Net)
+    ∷ nodes.Whole (wholes.BioScenario biometric projections.Disability Gross) ∷ nodes.Whole (wholes.BioScenario biometric projections.Disability Net)
+    ∷ nodes.Whole (wholes.BioScenario biometric projections.Expense Gross) ∷ nodes.Whole (wholes.BioScenario biometric projections.Expense Net)
+    ∷ nodes.Whole (wholes.BioScenario biometric projections.Revision Gross) ∷ nodes.Whole (wholes.BioScenario biometric projections.Revision Net) ∷ []
 
 abbrev pub life_nodes : List Node
 life_nodes =
     plain_scenarios biometrics.Life ++ (lapse_scenarios biometrics.Life ++ (chosen alternatives.LifeLapse
-    ++ (nodes.BioScenario biometrics.Life projections.Catastrophe Gross
-    ∷ nodes.BioScenario biometrics.Life projections.Catastrophe Net ∷ nodes.Life Gross ∷ nodes.Life Net ∷ [])))
+    ++ (nodes.Whole (wholes.BioScenario biometrics.Life projections.Catastrophe Gross)
+    ∷ nodes.Whole (wholes.BioScenario biometrics.Life projections.Catastrophe Net) ∷ nodes.Whole (wholes.Life Gross) ∷ nodes.Whole (wholes.Life Net) ∷ [])))
 
 abbrev pub slt_nodes : List Node
 slt_nodes =
     plain_scenarios biometrics.Health ++ (lapse_scenarios biometrics.Health ++ (chosen alternatives.HealthLapse
-    ++ (nodes.Slt Gross ∷ nodes.Slt Net ∷ [])))
+    ++ (nodes.Whole (wholes.Slt Gross) ∷ nodes.Whole (wholes.Slt Net) ∷ [])))
 
 abbrev pub charges : List Node
 charges =
-    natural_perils ++ (man_made_perils ++ (nodes.CatCharge cats.NonProportionalProperty ∷ nodes.CatCharge cats.Other
-    ∷ (health_perils ++ (nodes.Lapse sets.Nl ∷ nodes.Lapse sets.Nslt ∷ nodes.Intangible ∷ []))))
+    natural_perils ++ (man_made_perils ++ (nodes.Whole (wholes.CatCharge cats.NonProportionalProperty) ∷ nodes.Whole (wholes.CatCharge cats.Other)
+    ∷ (health_perils ++ (nodes.Whole (wholes.Lapse sets.Nl) ∷ nodes.Whole (wholes.Lapse sets.Nslt) ∷ nodes.Whole wholes.Intangible ∷ []))))
 
 abbrev pub nonlife_results : List Node
 nonlife_results =
-    nodes.PremiumReserve sets.Nl ∷ nodes.PremiumReserve sets.Nslt ∷ nodes.Natural ∷ nodes.ManMade
-    ∷ nodes.NonlifeCatastrophe ∷ nodes.HealthCatastrophe ∷ nodes.NetPart risks.HealthCatastrophe
-    ∷ nodes.Nslt Gross ∷ nodes.Nslt Net ∷ nodes.Health Gross ∷ nodes.Health Net
-    ∷ nodes.Nonlife Gross ∷ nodes.Nonlife Net ∷ []
+    nodes.Whole (wholes.PremiumReserve sets.Nl) ∷ nodes.Whole (wholes.PremiumReserve sets.Nslt) ∷ nodes.Whole wholes.Natural ∷ nodes.Whole wholes.ManMade
+    ∷ nodes.Whole wholes.NonlifeCatastrophe ∷ nodes.Whole wholes.HealthCatastrophe ∷ nodes.Whole (wholes.NetPart risks.HealthCatastrophe)
+    ∷ nodes.Whole (wholes.Nslt Gross) ∷ nodes.Whole (wholes.Nslt Net) ∷ nodes.Whole (wholes.Health Gross) ∷ nodes.Whole (wholes.Health Net)
+    ∷ nodes.Whole (wholes.Nonlife Gross) ∷ nodes.Whole (wholes.Nonlife Net) ∷ []
 
 abbrev pub nonlife_nodes : List Node
 nonlife_nodes = segments_of sets.Nl ++ (segments_of sets.Nslt ++ (charges ++ nonlife_results))
 
 abbrev pub requirement_nodes : List Node
 requirement_nodes =
-    nodes.Bscr Gross ∷ nodes.Bscr Net ∷ nodes.Diversification ∷ nodes.OpPart operations.Premiums
-    ∷ nodes.OpPart operations.Provisions ∷ nodes.OpPart operations.Cap ∷ nodes.OpPart operations.Charge
-    ∷ nodes.Adjust adjustments.TechnicalProvisions ∷ nodes.Adjust adjustments.DeferredTaxes ∷ nodes.Scr ∷ []
+    nodes.Whole (wholes.Bscr Gross) ∷ nodes.Whole (wholes.Bscr Net) ∷ nodes.Whole wholes.Diversification ∷ nodes.Whole (wholes.OpPart operations.Premiums)
+    ∷ nodes.Whole (wholes.OpPart operations.Provisions) ∷ nodes.Whole (wholes.OpPart operations.Cap) ∷ nodes.Whole (wholes.OpPart operations.Charge)
+    ∷ nodes.Whole (wholes.Adjust adjustments.TechnicalProvisions) ∷ nodes.Whole (wholes.Adjust adjustments.DeferredTaxes) ∷ nodes.Whole wholes.Scr ∷ []
 
 abbrev pub constant_nodes : List Node
 constant_nodes =

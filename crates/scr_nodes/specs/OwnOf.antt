@@ -35,6 +35,12 @@ use Rattle.scr_nodes.specs.declared.node.Direction.TheVariants as directions
 use Rattle.scr_nodes.specs.declared.node.Measure.TheVariants as measures
 use Rattle.scr_nodes.specs.declared.node.Node.{Node}
 use Rattle.scr_nodes.specs.declared.node.Node.TheVariants as nodes
+use Rattle.scr_nodes.specs.declared.node.OfFund.TheVariants as of_funds
+use Rattle.scr_nodes.specs.declared.node.OfSecurity.TheVariants as of_securities
+use Rattle.scr_nodes.specs.declared.node.OfLiability.TheVariants as of_liabilities
+use Rattle.scr_nodes.specs.declared.node.OfCurrency.TheVariants as of_currencies
+use Rattle.scr_nodes.specs.declared.node.OfGroup.TheVariants as of_groups
+use Rattle.scr_nodes.specs.declared.node.Whole.TheVariants as wholes
 use Rattle.scr_nodes.specs.declared.node.Operational.{Operational}
 use Rattle.scr_nodes.specs.declared.node.Operational.TheVariants as operations
 use Rattle.scr_nodes.specs.declared.node.Risk.{Risk}
@@ -236,71 +242,71 @@ operational_own operations.Cap numbers = Cap
 operational_own operations.Charge numbers = OperationalCharge (slice_index_or numbers.earned 6 0)
 
 abbrev pub own_of : FactorValues → BalanceSheet → Node → Own
-own_of factors sheet (nodes.FundTotal name) = Held (fund_held name sheet) (map (share_in name) (holders name sheet))
-own_of factors sheet (nodes.SecurityTotal name) = Held (security_held name sheet)
+own_of factors sheet (nodes.Fund name of_funds.Total) = Held (fund_held name sheet) (map (share_in name) (holders name sheet))
+own_of factors sheet (nodes.Security name of_securities.Total) = Held (security_held name sheet)
     (map (share_in name) (holders name sheet))
-own_of factors sheet (nodes.UnitLoss name direction) = Loss (security_paid sheet name direction)
-own_of factors sheet (nodes.SecurityRate name direction) = Scaled
-own_of factors sheet (nodes.LiabilityRate name direction) = Cost (liability_paid sheet name direction)
-own_of factors sheet (nodes.CurrencyLoss currency direction) = Lost
-own_of factors sheet (nodes.InterestScenario direction measures.Gross) = Gross
-own_of factors sheet (nodes.InterestScenario direction measures.Net) = Net
+own_of factors sheet (nodes.Security name (of_securities.UnitLoss direction)) = Loss (security_paid sheet name direction)
+own_of factors sheet (nodes.Security name (of_securities.Rate direction)) = Scaled
+own_of factors sheet (nodes.Liability name (of_liabilities.Rate direction)) = Cost (liability_paid sheet name direction)
+own_of factors sheet (nodes.Currency currency (of_currencies.Loss direction)) = Lost
+own_of factors sheet (nodes.Whole (wholes.InterestScenario direction measures.Gross)) = Gross
+own_of factors sheet (nodes.Whole (wholes.InterestScenario direction measures.Net)) = Net
     (absorbed (interest_key direction) sheet.numbers)
-own_of factors sheet (nodes.Choice alternatives) = Choice
-own_of factors sheet (nodes.Picked alternatives measure) = Picked measure
-own_of factors sheet (nodes.ClassSum class) = Added
-own_of factors sheet (nodes.EquityPart equities) = Fall equities sheet.numbers.sym
-own_of factors sheet nodes.EquityRoot = EquityRoot
-own_of factors sheet (nodes.NetPart risk) = Net (absorbed (risk_key risk) sheet.numbers)
-own_of factors sheet (nodes.LiabilityPresent name) = Worth (liability_valued sheet name)
-own_of factors sheet (nodes.LiabilityLoss name projection) =
+own_of factors sheet (nodes.Whole (wholes.Choice alternatives)) = Choice
+own_of factors sheet (nodes.Whole (wholes.Picked alternatives measure)) = Picked measure
+own_of factors sheet (nodes.Whole (wholes.ClassSum class)) = Added
+own_of factors sheet (nodes.Whole (wholes.EquityPart equities)) = Fall equities sheet.numbers.sym
+own_of factors sheet (nodes.Whole wholes.EquityRoot) = EquityRoot
+own_of factors sheet (nodes.Whole (wholes.NetPart risk)) = Net (absorbed (risk_key risk) sheet.numbers)
+own_of factors sheet (nodes.Liability name of_liabilities.Present) = Worth (liability_valued sheet name)
+own_of factors sheet (nodes.Liability name (of_liabilities.Loss projection)) =
     Excess (liability_valued sheet name) (paid_under sheet name projection)
-own_of factors sheet (nodes.CurrencyScenario currency direction measures.Gross) =
+own_of factors sheet (nodes.Currency currency (of_currencies.Scenario direction measures.Gross)) =
     Foreign direction (held_in currency sheet)
-own_of factors sheet (nodes.CurrencyScenario currency direction measures.Net) =
+own_of factors sheet (nodes.Currency currency (of_currencies.Scenario direction measures.Net)) =
     Net (currency_absorbed sheet currency direction)
-own_of factors sheet (nodes.CurrencyChoice currency) = Choice
-own_of factors sheet (nodes.CurrencyPicked currency measure) = Picked measure
-own_of factors sheet (nodes.Currency measure) = Added
-own_of factors sheet nodes.Property = Multiple 250
-own_of factors sheet (nodes.SecuritySpread name) =
+own_of factors sheet (nodes.Currency currency of_currencies.Choice) = Choice
+own_of factors sheet (nodes.Currency currency (of_currencies.Picked measure)) = Picked measure
+own_of factors sheet (nodes.Whole (wholes.Currency measure)) = Added
+own_of factors sheet (nodes.Whole wholes.Property) = Multiple 250
+own_of factors sheet (nodes.Security name of_securities.Spread) =
     option_map_or (bond_stressed factors sheet) (position_of name sheet.securities) (Stressed factors None 0)
-own_of factors sheet nodes.Spread = Spread
-own_of factors sheet (nodes.GroupTotal name) = Added
-own_of factors sheet nodes.Assets = Added
-own_of factors sheet (nodes.ConcentrationSquare name) =
+own_of factors sheet (nodes.Whole wholes.Spread) = Spread
+own_of factors sheet (nodes.Group name of_groups.Total) = Added
+own_of factors sheet (nodes.Whole wholes.Assets) = Added
+own_of factors sheet (nodes.Group name of_groups.ConcentrationSquare) =
     option_map_or group_square (group_of name sheet.groups) (Square group_kinds.Name None)
-own_of factors sheet nodes.Concentration = SquareRoot
-own_of factors sheet (nodes.Market measure) = Market
-own_of factors sheet (nodes.GroupLoss name) = owed_by_group name sheet
-own_of factors sheet (nodes.ClassLoss class) = Added
-own_of factors sheet (nodes.ClassSquare class) = Squares
-own_of factors sheet nodes.Variance = Variance
-own_of factors sheet nodes.DefaultBand = Band
-own_of factors sheet nodes.DefaultType1 = Banded
-own_of factors sheet nodes.DefaultType2 =
+own_of factors sheet (nodes.Whole wholes.Concentration) = SquareRoot
+own_of factors sheet (nodes.Whole (wholes.Market measure)) = Market
+own_of factors sheet (nodes.Group name of_groups.Loss) = owed_by_group name sheet
+own_of factors sheet (nodes.Whole (wholes.ClassLoss class)) = Added
+own_of factors sheet (nodes.Whole (wholes.ClassSquare class)) = Squares
+own_of factors sheet (nodes.Whole wholes.Variance) = Variance
+own_of factors sheet (nodes.Whole wholes.DefaultBand) = Band
+own_of factors sheet (nodes.Whole wholes.DefaultType1) = Banded
+own_of factors sheet (nodes.Whole wholes.DefaultType2) =
     Due (slice_index_or sheet.numbers.due 0 0) (slice_index_or sheet.numbers.due 1 0)
-own_of factors sheet nodes.Default = Correlated DefaultRoot
-own_of factors sheet (nodes.BioScenario biometric projection measures.Gross) = Gross
-own_of factors sheet (nodes.BioScenario biometric projection measures.Net) =
+own_of factors sheet (nodes.Whole wholes.Default) = Correlated DefaultRoot
+own_of factors sheet (nodes.Whole (wholes.BioScenario biometric projection measures.Gross)) = Gross
+own_of factors sheet (nodes.Whole (wholes.BioScenario biometric projection measures.Net)) =
     Net (stress_absorbed sheet biometric projection)
-own_of factors sheet (nodes.Life measure) = Correlated LifeRoot
-own_of factors sheet (nodes.Slt measure) = Correlated SltRoot
-own_of factors sheet (nodes.Segment set number) = segment_own factors set number sheet.numbers
-own_of factors sheet (nodes.PremiumReserve set) = PremiumReserve (segment_correlations factors set)
-own_of factors sheet (nodes.CatCharge key) = Charged 1000 (catastrophe_cents key sheet.numbers)
-own_of factors sheet (nodes.Lapse set) = Charged 1000 (lapse_cents set sheet.numbers)
-own_of factors sheet nodes.Natural = Correlated NaturalRoot
-own_of factors sheet nodes.ManMade = Correlated ManMadeRoot
-own_of factors sheet nodes.NonlifeCatastrophe = Catastrophes
-own_of factors sheet nodes.HealthCatastrophe = Correlated HealthCatastropheRoot
-own_of factors sheet (nodes.Nslt measure) = CorrelatedWith NsltRoot (lapse_cents sets.Nslt sheet.numbers)
-own_of factors sheet (nodes.Health measure) = Correlated HealthRoot
-own_of factors sheet (nodes.Nonlife measure) = CorrelatedWith NonlifeRoot (lapse_cents sets.Nl sheet.numbers)
-own_of factors sheet nodes.Intangible = Charged 800 sheet.numbers.intangible
-own_of factors sheet (nodes.Bscr measure) = Bscr sheet.numbers.intangible
-own_of factors sheet (nodes.OpPart part) = operational_own part sheet.numbers
-own_of factors sheet (nodes.Adjust adjustments.TechnicalProvisions) = Absorbing sheet.numbers.fdb
-own_of factors sheet (nodes.Adjust adjustments.DeferredTaxes) = Taxed sheet.numbers.tax sheet.numbers.cap
-own_of factors sheet nodes.Scr = Requirement
-own_of factors sheet nodes.Diversification = Diversified sheet.numbers.intangible
+own_of factors sheet (nodes.Whole (wholes.Life measure)) = Correlated LifeRoot
+own_of factors sheet (nodes.Whole (wholes.Slt measure)) = Correlated SltRoot
+own_of factors sheet (nodes.Whole (wholes.Segment set number)) = segment_own factors set number sheet.numbers
+own_of factors sheet (nodes.Whole (wholes.PremiumReserve set)) = PremiumReserve (segment_correlations factors set)
+own_of factors sheet (nodes.Whole (wholes.CatCharge key)) = Charged 1000 (catastrophe_cents key sheet.numbers)
+own_of factors sheet (nodes.Whole (wholes.Lapse set)) = Charged 1000 (lapse_cents set sheet.numbers)
+own_of factors sheet (nodes.Whole wholes.Natural) = Correlated NaturalRoot
+own_of factors sheet (nodes.Whole wholes.ManMade) = Correlated ManMadeRoot
+own_of factors sheet (nodes.Whole wholes.NonlifeCatastrophe) = Catastrophes
+own_of factors sheet (nodes.Whole wholes.HealthCatastrophe) = Correlated HealthCatastropheRoot
+own_of factors sheet (nodes.Whole (wholes.Nslt measure)) = CorrelatedWith NsltRoot (lapse_cents sets.Nslt sheet.numbers)
+own_of factors sheet (nodes.Whole (wholes.Health measure)) = Correlated HealthRoot
+own_of factors sheet (nodes.Whole (wholes.Nonlife measure)) = CorrelatedWith NonlifeRoot (lapse_cents sets.Nl sheet.numbers)
+own_of factors sheet (nodes.Whole wholes.Intangible) = Charged 800 sheet.numbers.intangible
+own_of factors sheet (nodes.Whole (wholes.Bscr measure)) = Bscr sheet.numbers.intangible
+own_of factors sheet (nodes.Whole (wholes.OpPart part)) = operational_own part sheet.numbers
+own_of factors sheet (nodes.Whole (wholes.Adjust adjustments.TechnicalProvisions)) = Absorbing sheet.numbers.fdb
+own_of factors sheet (nodes.Whole (wholes.Adjust adjustments.DeferredTaxes)) = Taxed sheet.numbers.tax sheet.numbers.cap
+own_of factors sheet (nodes.Whole wholes.Scr) = Requirement
+own_of factors sheet (nodes.Whole wholes.Diversification) = Diversified sheet.numbers.intangible

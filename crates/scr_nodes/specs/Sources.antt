@@ -28,6 +28,12 @@ use Rattle.scr_nodes.specs.declared.node.Measure.{Measure}
 use Rattle.scr_nodes.specs.declared.node.Measure.TheVariants as measures
 use Rattle.scr_nodes.specs.declared.node.Node.{Node}
 use Rattle.scr_nodes.specs.declared.node.Node.TheVariants as nodes
+use Rattle.scr_nodes.specs.declared.node.OfFund.TheVariants as of_funds
+use Rattle.scr_nodes.specs.declared.node.OfSecurity.TheVariants as of_securities
+use Rattle.scr_nodes.specs.declared.node.OfLiability.TheVariants as of_liabilities
+use Rattle.scr_nodes.specs.declared.node.OfCurrency.TheVariants as of_currencies
+use Rattle.scr_nodes.specs.declared.node.OfGroup.TheVariants as of_groups
+use Rattle.scr_nodes.specs.declared.node.Whole.TheVariants as wholes
 use Rattle.scr_nodes.specs.declared.node.Operational.{Operational}
 use Rattle.scr_nodes.specs.declared.node.Operational.TheVariants as operations
 use Rattle.scr_nodes.specs.declared.node.Risk.{Risk}
@@ -37,49 +43,49 @@ use Rattle.scr_nodes.specs.Rows.{holders, is_closed, is_paying_in, is_owed_in, h
 -- ---- the nodes of rows
 
 abbrev pub fund_total : Stake → Node
-fund_total stake = nodes.FundTotal stake.fund.name
+fund_total stake = nodes.Fund stake.fund.name of_funds.Total
 
 abbrev pub security_total : Position → Node
-security_total position = nodes.SecurityTotal position.security.name
+security_total position = nodes.Security position.security.name of_securities.Total
 
 abbrev pub unit_loss : Direction → Position → Node
-unit_loss direction position = nodes.UnitLoss position.security.name direction
+unit_loss direction position = nodes.Security position.security.name (of_securities.UnitLoss direction)
 
 abbrev pub security_rate : Direction → Position → Node
-security_rate direction position = nodes.SecurityRate position.security.name direction
+security_rate direction position = nodes.Security position.security.name (of_securities.Rate direction)
 
 abbrev pub liability_rate : Direction → Liability → Node
-liability_rate direction liability = nodes.LiabilityRate liability.name direction
+liability_rate direction liability = nodes.Liability liability.name (of_liabilities.Rate direction)
 
 abbrev pub currency_loss : Direction → Curve → Node
-currency_loss direction curve = nodes.CurrencyLoss curve.currency direction
+currency_loss direction curve = nodes.Currency curve.currency (of_currencies.Loss direction)
 
 abbrev pub liability_present : Liability → Node
-liability_present liability = nodes.LiabilityPresent liability.name
+liability_present liability = nodes.Liability liability.name of_liabilities.Present
 
 abbrev pub liability_loss : Projection → Liability → Node
-liability_loss projection liability = nodes.LiabilityLoss liability.name projection
+liability_loss projection liability = nodes.Liability liability.name (of_liabilities.Loss projection)
 
 abbrev pub currency_scenario : Direction → Measure → Curve → Node
-currency_scenario direction measure curve = nodes.CurrencyScenario curve.currency direction measure
+currency_scenario direction measure curve = nodes.Currency curve.currency (of_currencies.Scenario direction measure)
 
 abbrev pub currency_choice : Curve → Node
-currency_choice curve = nodes.CurrencyChoice curve.currency
+currency_choice curve = nodes.Currency curve.currency of_currencies.Choice
 
 abbrev pub currency_picked : Measure → Curve → Node
-currency_picked measure curve = nodes.CurrencyPicked curve.currency measure
+currency_picked measure curve = nodes.Currency curve.currency (of_currencies.Picked measure)
 
 abbrev pub security_spread : Position → Node
-security_spread position = nodes.SecuritySpread position.security.name
+security_spread position = nodes.Security position.security.name of_securities.Spread
 
 abbrev pub group_total : Group → Node
-group_total group = nodes.GroupTotal group.name
+group_total group = nodes.Group group.name of_groups.Total
 
 abbrev pub concentration_square : Group → Node
-concentration_square group = nodes.ConcentrationSquare group.name
+concentration_square group = nodes.Group group.name of_groups.ConcentrationSquare
 
 abbrev pub group_loss : Group → Node
-group_loss group = nodes.GroupLoss group.name
+group_loss group = nodes.Group group.name of_groups.Loss
 
 -- ---- lists of sources
 
@@ -104,27 +110,27 @@ held_of_class class sheet = map security_total (filter (has_class class) sheet.s
 -- the rise and the fall, each before and after absorption
 abbrev pub interest_scenarios : List Node
 interest_scenarios =
-    nodes.InterestScenario directions.Up measures.Gross ∷ nodes.InterestScenario directions.Up measures.Net
-    ∷ nodes.InterestScenario directions.Down measures.Gross ∷ nodes.InterestScenario directions.Down measures.Net ∷ []
+    nodes.Whole (wholes.InterestScenario directions.Up measures.Gross) ∷ nodes.Whole (wholes.InterestScenario directions.Up measures.Net)
+    ∷ nodes.Whole (wholes.InterestScenario directions.Down measures.Gross) ∷ nodes.Whole (wholes.InterestScenario directions.Down measures.Net) ∷ []
 
 -- more, fewer and mass lapses, each before and after absorption (Articles 142 and 159)
 abbrev pub lapse_scenarios : Biometric → List Node
 lapse_scenarios biometric =
-    nodes.BioScenario biometric projections.LapseUp measures.Gross
-    ∷ nodes.BioScenario biometric projections.LapseUp measures.Net
-    ∷ nodes.BioScenario biometric projections.LapseDown measures.Gross
-    ∷ nodes.BioScenario biometric projections.LapseDown measures.Net
-    ∷ nodes.BioScenario biometric projections.LapseMass measures.Gross
-    ∷ nodes.BioScenario biometric projections.LapseMass measures.Net
+    nodes.Whole (wholes.BioScenario biometric projections.LapseUp measures.Gross)
+    ∷ nodes.Whole (wholes.BioScenario biometric projections.LapseUp measures.Net)
+    ∷ nodes.Whole (wholes.BioScenario biometric projections.LapseDown measures.Gross)
+    ∷ nodes.Whole (wholes.BioScenario biometric projections.LapseDown measures.Net)
+    ∷ nodes.Whole (wholes.BioScenario biometric projections.LapseMass measures.Gross)
+    ∷ nodes.Whole (wholes.BioScenario biometric projections.LapseMass measures.Net)
     ∷ []
 
 -- the rise and the fall of a foreign currency, each before and after absorption (Article 188(2))
 abbrev pub currency_scenarios : List ℕ → List Node
 currency_scenarios currency =
-    nodes.CurrencyScenario currency directions.Up measures.Gross
-    ∷ nodes.CurrencyScenario currency directions.Up measures.Net
-    ∷ nodes.CurrencyScenario currency directions.Down measures.Gross
-    ∷ nodes.CurrencyScenario currency directions.Down measures.Net
+    nodes.Currency currency (of_currencies.Scenario directions.Up measures.Gross)
+    ∷ nodes.Currency currency (of_currencies.Scenario directions.Up measures.Net)
+    ∷ nodes.Currency currency (of_currencies.Scenario directions.Down measures.Gross)
+    ∷ nodes.Currency currency (of_currencies.Scenario directions.Down measures.Net)
     ∷ []
 
 abbrev pub scenarios : Alternatives → List Node
@@ -134,29 +140,29 @@ scenarios alternatives.HealthLapse = lapse_scenarios biometrics.Health
 
 -- the classes of one kind of equities (Articles 168(2) and (3), and 171)
 abbrev pub classes_of : Equities → List Node
-classes_of equities.Type1 = nodes.ClassSum classes.Type1Equity ∷ nodes.ClassSum classes.Type1Strategic ∷ []
-classes_of equities.Type2 = nodes.ClassSum classes.Type2Equity ∷ nodes.ClassSum classes.Type2Strategic ∷ []
-classes_of equities.Infrastructure = nodes.ClassSum classes.Infrastructure ∷ []
-classes_of equities.InfrastructureCorporate = nodes.ClassSum classes.InfrastructureCorporate ∷ []
+classes_of equities.Type1 = nodes.Whole (wholes.ClassSum classes.Type1Equity) ∷ nodes.Whole (wholes.ClassSum classes.Type1Strategic) ∷ []
+classes_of equities.Type2 = nodes.Whole (wholes.ClassSum classes.Type2Equity) ∷ nodes.Whole (wholes.ClassSum classes.Type2Strategic) ∷ []
+classes_of equities.Infrastructure = nodes.Whole (wholes.ClassSum classes.Infrastructure) ∷ []
+classes_of equities.InfrastructureCorporate = nodes.Whole (wholes.ClassSum classes.InfrastructureCorporate) ∷ []
 
 abbrev pub equity_parts : List Node
 equity_parts =
-    nodes.EquityPart equities.Type1 ∷ nodes.EquityPart equities.Type2 ∷ nodes.EquityPart equities.Infrastructure
-    ∷ nodes.EquityPart equities.InfrastructureCorporate ∷ []
+    nodes.Whole (wholes.EquityPart equities.Type1) ∷ nodes.Whole (wholes.EquityPart equities.Type2) ∷ nodes.Whole (wholes.EquityPart equities.Infrastructure)
+    ∷ nodes.Whole (wholes.EquityPart equities.InfrastructureCorporate) ∷ []
 
 -- the requirement before absorption
 abbrev pub gross_of : Risk → Node
-gross_of risks.Equity = nodes.EquityRoot
-gross_of risks.Property = nodes.Property
-gross_of risks.Spread = nodes.Spread
-gross_of risks.Concentration = nodes.Concentration
-gross_of risks.Default = nodes.Default
-gross_of risks.HealthCatastrophe = nodes.HealthCatastrophe
+gross_of risks.Equity = (nodes.Whole wholes.EquityRoot)
+gross_of risks.Property = (nodes.Whole wholes.Property)
+gross_of risks.Spread = (nodes.Whole wholes.Spread)
+gross_of risks.Concentration = (nodes.Whole wholes.Concentration)
+gross_of risks.Default = (nodes.Whole wholes.Default)
+gross_of risks.HealthCatastrophe = (nodes.Whole wholes.HealthCatastrophe)
 
 -- the requirement before or after absorption
 abbrev pub risk_part : Risk → Measure → Node
 risk_part risk measures.Gross = gross_of risk
-risk_part risk measures.Net = nodes.NetPart risk
+risk_part risk measures.Net = nodes.Whole (wholes.NetPart risk)
 
 -- ---- currencies (Article 188)
 
@@ -173,9 +179,9 @@ foreign_picked measure sheet = map (currency_picked measure) (filter (is_foreign
 
 abbrev pub market_parts : Measure → List Node
 market_parts measure =
-    nodes.Picked alternatives.Interest measure ∷ risk_part risks.Equity measure ∷ risk_part risks.Property measure
-    ∷ risk_part risks.Spread measure ∷ risk_part risks.Concentration measure ∷ nodes.Currency measure
-    ∷ nodes.Choice alternatives.Interest ∷ []
+    nodes.Whole (wholes.Picked alternatives.Interest measure) ∷ risk_part risks.Equity measure ∷ risk_part risks.Property measure
+    ∷ risk_part risks.Spread measure ∷ risk_part risks.Concentration measure ∷ nodes.Whole (wholes.Currency measure)
+    ∷ nodes.Whole (wholes.Choice alternatives.Interest) ∷ []
 
 -- ---- counterparty default risk (Articles 199 to 201)
 
@@ -185,16 +191,16 @@ losses_of_class class sheet = map group_loss (filter (is_of_default_class class)
 
 abbrev pub class_losses : List Node
 class_losses =
-    nodes.ClassLoss 0 ∷ nodes.ClassLoss 1 ∷ nodes.ClassLoss 2 ∷ nodes.ClassLoss 3 ∷ nodes.ClassLoss 4
-    ∷ nodes.ClassLoss 5 ∷ []
+    nodes.Whole (wholes.ClassLoss 0) ∷ nodes.Whole (wholes.ClassLoss 1) ∷ nodes.Whole (wholes.ClassLoss 2) ∷ nodes.Whole (wholes.ClassLoss 3) ∷ nodes.Whole (wholes.ClassLoss 4)
+    ∷ nodes.Whole (wholes.ClassLoss 5) ∷ []
 
 abbrev pub class_squares : List Node
 class_squares =
-    nodes.ClassSquare 0 ∷ nodes.ClassSquare 1 ∷ nodes.ClassSquare 2 ∷ nodes.ClassSquare 3 ∷ nodes.ClassSquare 4
-    ∷ nodes.ClassSquare 5 ∷ []
+    nodes.Whole (wholes.ClassSquare 0) ∷ nodes.Whole (wholes.ClassSquare 1) ∷ nodes.Whole (wholes.ClassSquare 2) ∷ nodes.Whole (wholes.ClassSquare 3) ∷ nodes.Whole (wholes.ClassSquare 4)
+    ∷ nodes.Whole (wholes.ClassSquare 5) ∷ []
 
 abbrev pub default_types : List Node
-default_types = nodes.DefaultType1 ∷ nodes.DefaultType2 ∷ []
+default_types = nodes.Whole wholes.DefaultType1 ∷ nodes.Whole wholes.DefaultType2 ∷ []
 
 -- ---- life and health (Articles 136, 144, 145, 151 and 160)
 
@@ -205,142 +211,142 @@ losses_under biometric projection sheet =
 
 abbrev pub life_parts : Measure → List Node
 life_parts measure =
-    nodes.BioScenario biometrics.Life projections.Mortality measure
-    ∷ nodes.BioScenario biometrics.Life projections.Longevity measure
-    ∷ nodes.BioScenario biometrics.Life projections.Disability measure
-    ∷ nodes.BioScenario biometrics.Life projections.Expense measure
-    ∷ nodes.BioScenario biometrics.Life projections.Revision measure ∷ nodes.Picked alternatives.LifeLapse measure
-    ∷ nodes.BioScenario biometrics.Life projections.Catastrophe measure ∷ []
+    nodes.Whole (wholes.BioScenario biometrics.Life projections.Mortality measure)
+    ∷ nodes.Whole (wholes.BioScenario biometrics.Life projections.Longevity measure)
+    ∷ nodes.Whole (wholes.BioScenario biometrics.Life projections.Disability measure)
+    ∷ nodes.Whole (wholes.BioScenario biometrics.Life projections.Expense measure)
+    ∷ nodes.Whole (wholes.BioScenario biometrics.Life projections.Revision measure) ∷ nodes.Whole (wholes.Picked alternatives.LifeLapse measure)
+    ∷ nodes.Whole (wholes.BioScenario biometrics.Life projections.Catastrophe measure) ∷ []
 
 abbrev pub slt_parts : Measure → List Node
 slt_parts measure =
-    nodes.BioScenario biometrics.Health projections.Mortality measure
-    ∷ nodes.BioScenario biometrics.Health projections.Longevity measure
-    ∷ nodes.BioScenario biometrics.Health projections.Disability measure
-    ∷ nodes.BioScenario biometrics.Health projections.Expense measure
-    ∷ nodes.BioScenario biometrics.Health projections.Revision measure ∷ nodes.Picked alternatives.HealthLapse measure
+    nodes.Whole (wholes.BioScenario biometrics.Health projections.Mortality measure)
+    ∷ nodes.Whole (wholes.BioScenario biometrics.Health projections.Longevity measure)
+    ∷ nodes.Whole (wholes.BioScenario biometrics.Health projections.Disability measure)
+    ∷ nodes.Whole (wholes.BioScenario biometrics.Health projections.Expense measure)
+    ∷ nodes.Whole (wholes.BioScenario biometrics.Health projections.Revision measure) ∷ nodes.Whole (wholes.Picked alternatives.HealthLapse measure)
     ∷ []
 
 abbrev pub health_parts : Measure → List Node
-health_parts measure = nodes.Slt measure ∷ nodes.Nslt measure ∷ risk_part risks.HealthCatastrophe measure ∷ []
+health_parts measure = nodes.Whole (wholes.Slt measure) ∷ nodes.Whole (wholes.Nslt measure) ∷ risk_part risks.HealthCatastrophe measure ∷ []
 
 -- ---- non-life, and health as non-life (Articles 114 to 135 and 145 to 163)
 
 abbrev pub segments_of : Set → List Node
 segments_of sets.Nl =
-    nodes.Segment sets.Nl 1 ∷ nodes.Segment sets.Nl 2 ∷ nodes.Segment sets.Nl 3 ∷ nodes.Segment sets.Nl 4
-    ∷ nodes.Segment sets.Nl 5 ∷ nodes.Segment sets.Nl 6 ∷ nodes.Segment sets.Nl 7 ∷ nodes.Segment sets.Nl 8
-    ∷ nodes.Segment sets.Nl 9 ∷ nodes.Segment sets.Nl 10 ∷ nodes.Segment sets.Nl 11 ∷ nodes.Segment sets.Nl 12 ∷ []
+    nodes.Whole (wholes.Segment sets.Nl 1) ∷ nodes.Whole (wholes.Segment sets.Nl 2) ∷ nodes.Whole (wholes.Segment sets.Nl 3) ∷ nodes.Whole (wholes.Segment sets.Nl 4)
+    ∷ nodes.Whole (wholes.Segment sets.Nl 5) ∷ nodes.Whole (wholes.Segment sets.Nl 6) ∷ nodes.Whole (wholes.Segment sets.Nl 7) ∷ nodes.Whole (wholes.Segment sets.Nl 8)
+    ∷ nodes.Whole (wholes.Segment sets.Nl 9) ∷ nodes.Whole (wholes.Segment sets.Nl 10) ∷ nodes.Whole (wholes.Segment sets.Nl 11) ∷ nodes.Whole (wholes.Segment sets.Nl 12) ∷ []
 segments_of sets.Nslt =
-    nodes.Segment sets.Nslt 1 ∷ nodes.Segment sets.Nslt 2 ∷ nodes.Segment sets.Nslt 3 ∷ nodes.Segment sets.Nslt 4 ∷ []
+    nodes.Whole (wholes.Segment sets.Nslt 1) ∷ nodes.Whole (wholes.Segment sets.Nslt 2) ∷ nodes.Whole (wholes.Segment sets.Nslt 3) ∷ nodes.Whole (wholes.Segment sets.Nslt 4) ∷ []
 
 abbrev pub natural_perils : List Node
 natural_perils =
-    nodes.CatCharge cats.Windstorm ∷ nodes.CatCharge cats.Earthquake ∷ nodes.CatCharge cats.Flood
-    ∷ nodes.CatCharge cats.Hail
-    ∷ nodes.CatCharge cats.Subsidence ∷ []
+    nodes.Whole (wholes.CatCharge cats.Windstorm) ∷ nodes.Whole (wholes.CatCharge cats.Earthquake) ∷ nodes.Whole (wholes.CatCharge cats.Flood)
+    ∷ nodes.Whole (wholes.CatCharge cats.Hail)
+    ∷ nodes.Whole (wholes.CatCharge cats.Subsidence) ∷ []
 
 abbrev pub man_made_perils : List Node
 man_made_perils =
-    nodes.CatCharge cats.Motor ∷ nodes.CatCharge cats.Marine ∷ nodes.CatCharge cats.Aviation ∷ nodes.CatCharge cats.Fire
-    ∷ nodes.CatCharge cats.Liability ∷ nodes.CatCharge cats.Credit ∷ []
+    nodes.Whole (wholes.CatCharge cats.Motor) ∷ nodes.Whole (wholes.CatCharge cats.Marine) ∷ nodes.Whole (wholes.CatCharge cats.Aviation) ∷ nodes.Whole (wholes.CatCharge cats.Fire)
+    ∷ nodes.Whole (wholes.CatCharge cats.Liability) ∷ nodes.Whole (wholes.CatCharge cats.Credit) ∷ []
 
 abbrev pub nonlife_catastrophes : List Node
 nonlife_catastrophes =
-    nodes.Natural ∷ nodes.ManMade ∷ nodes.CatCharge cats.NonProportionalProperty ∷ nodes.CatCharge cats.Other ∷ []
+    nodes.Whole wholes.Natural ∷ nodes.Whole wholes.ManMade ∷ nodes.Whole (wholes.CatCharge cats.NonProportionalProperty) ∷ nodes.Whole (wholes.CatCharge cats.Other) ∷ []
 
 abbrev pub health_perils : List Node
 health_perils =
-    nodes.CatCharge cats.MassAccident ∷ nodes.CatCharge cats.AccidentConcentration ∷ nodes.CatCharge cats.Pandemic ∷ []
+    nodes.Whole (wholes.CatCharge cats.MassAccident) ∷ nodes.Whole (wholes.CatCharge cats.AccidentConcentration) ∷ nodes.Whole (wholes.CatCharge cats.Pandemic) ∷ []
 
 -- ---- the whole (Articles 87, 204, 206 and 207)
 
 -- the modules of the Basic Solvency Capital Requirement
 abbrev pub modules : Measure → List Node
 modules measure =
-    nodes.Market measure ∷ risk_part risks.Default measure ∷ nodes.Life measure ∷ nodes.Health measure
-    ∷ nodes.Nonlife measure ∷ []
+    nodes.Whole (wholes.Market measure) ∷ risk_part risks.Default measure ∷ nodes.Whole (wholes.Life measure) ∷ nodes.Whole (wholes.Health measure)
+    ∷ nodes.Whole (wholes.Nonlife measure) ∷ []
 
 -- the modules, and the root over them with intangible assets besides
 abbrev pub diversification_sources : List Node
-diversification_sources = modules measures.Gross ++ nodes.Bscr measures.Gross ∷ []
+diversification_sources = modules measures.Gross ++ nodes.Whole (wholes.Bscr measures.Gross) ∷ []
 
 abbrev pub operational_sources : Operational → List Node
 operational_sources operations.Premiums = []
 operational_sources operations.Provisions = []
-operational_sources operations.Cap = nodes.Bscr measures.Gross ∷ []
+operational_sources operations.Cap = nodes.Whole (wholes.Bscr measures.Gross) ∷ []
 operational_sources operations.Charge =
-    nodes.OpPart operations.Premiums ∷ nodes.OpPart operations.Provisions ∷ nodes.OpPart operations.Cap ∷ []
+    nodes.Whole (wholes.OpPart operations.Premiums) ∷ nodes.Whole (wholes.OpPart operations.Provisions) ∷ nodes.Whole (wholes.OpPart operations.Cap) ∷ []
 
 abbrev pub adjustment_sources : Adjustment → List Node
-adjustment_sources adjustments.TechnicalProvisions = nodes.Bscr measures.Gross ∷ nodes.Bscr measures.Net ∷ []
+adjustment_sources adjustments.TechnicalProvisions = nodes.Whole (wholes.Bscr measures.Gross) ∷ nodes.Whole (wholes.Bscr measures.Net) ∷ []
 adjustment_sources adjustments.DeferredTaxes =
-    nodes.Bscr measures.Gross ∷ nodes.Adjust adjustments.TechnicalProvisions ∷ nodes.OpPart operations.Charge ∷ []
+    nodes.Whole (wholes.Bscr measures.Gross) ∷ nodes.Whole (wholes.Adjust adjustments.TechnicalProvisions) ∷ nodes.Whole (wholes.OpPart operations.Charge) ∷ []
 
 abbrev pub requirement_parts : List Node
 requirement_parts =
-    nodes.Bscr measures.Gross ∷ nodes.Adjust adjustments.TechnicalProvisions ∷ nodes.Adjust adjustments.DeferredTaxes
-    ∷ nodes.OpPart operations.Charge ∷ []
+    nodes.Whole (wholes.Bscr measures.Gross) ∷ nodes.Whole (wholes.Adjust adjustments.TechnicalProvisions) ∷ nodes.Whole (wholes.Adjust adjustments.DeferredTaxes)
+    ∷ nodes.Whole (wholes.OpPart operations.Charge) ∷ []
 
 abbrev pub sources_of : BalanceSheet → Node → List Node
-sources_of sheet (nodes.FundTotal name) = holder_totals name sheet
-sources_of sheet (nodes.SecurityTotal name) = holder_totals name sheet
-sources_of sheet (nodes.UnitLoss name direction) = []
-sources_of sheet (nodes.SecurityRate name direction) = nodes.SecurityTotal name ∷ nodes.UnitLoss name direction ∷ []
-sources_of sheet (nodes.LiabilityRate name direction) = []
-sources_of sheet (nodes.CurrencyLoss currency direction) = rates_in currency direction sheet
-sources_of sheet (nodes.InterestScenario direction measures.Gross) = map (currency_loss direction) sheet.curves
-sources_of sheet (nodes.InterestScenario direction measures.Net) = nodes.InterestScenario direction measures.Gross ∷ []
-sources_of sheet (nodes.Choice alternatives) = scenarios alternatives
-sources_of sheet (nodes.Picked alternatives measure) = scenarios alternatives ++ nodes.Choice alternatives ∷ []
-sources_of sheet (nodes.ClassSum class) = held_of_class class sheet
-sources_of sheet (nodes.EquityPart equities) = classes_of equities
-sources_of sheet nodes.EquityRoot = equity_parts
-sources_of sheet (nodes.NetPart risk) = gross_of risk ∷ []
-sources_of sheet (nodes.LiabilityPresent name) = []
-sources_of sheet (nodes.LiabilityLoss name projection) = []
-sources_of sheet (nodes.CurrencyScenario currency direction measures.Gross) = worths_in currency sheet
-sources_of sheet (nodes.CurrencyScenario currency direction measures.Net) =
-    nodes.CurrencyScenario currency direction measures.Gross ∷ []
-sources_of sheet (nodes.CurrencyChoice currency) = currency_scenarios currency
-sources_of sheet (nodes.CurrencyPicked currency measure) =
-    currency_scenarios currency ++ nodes.CurrencyChoice currency ∷ []
-sources_of sheet (nodes.Currency measure) = foreign_picked measure sheet
-sources_of sheet nodes.Property = nodes.ClassSum classes.Property ∷ []
-sources_of sheet (nodes.SecuritySpread name) = nodes.SecurityTotal name ∷ []
-sources_of sheet nodes.Spread = map security_spread (filter (has_class classes.Bond) sheet.securities)
-sources_of sheet (nodes.GroupTotal name) = map security_total (filter (is_of_group name) sheet.securities)
-sources_of sheet nodes.Assets = map security_total (filter has_group sheet.securities)
-sources_of sheet (nodes.ConcentrationSquare name) = nodes.Assets ∷ nodes.GroupTotal name ∷ []
-sources_of sheet nodes.Concentration = map concentration_square sheet.groups
-sources_of sheet (nodes.Market measure) = market_parts measure
-sources_of sheet (nodes.GroupLoss name) = []
-sources_of sheet (nodes.ClassLoss class) = losses_of_class class sheet
-sources_of sheet (nodes.ClassSquare class) = losses_of_class class sheet
-sources_of sheet nodes.Variance = class_losses ++ class_squares
-sources_of sheet nodes.DefaultBand = class_losses ++ nodes.Variance ∷ []
-sources_of sheet nodes.DefaultType1 = class_losses ++ nodes.Variance ∷ nodes.DefaultBand ∷ []
-sources_of sheet nodes.DefaultType2 = []
-sources_of sheet nodes.Default = default_types
-sources_of sheet (nodes.BioScenario biometric projection measures.Gross) = losses_under biometric projection sheet
-sources_of sheet (nodes.BioScenario biometric projection measures.Net) =
-    nodes.BioScenario biometric projection measures.Gross ∷ []
-sources_of sheet (nodes.Life measure) = life_parts measure
-sources_of sheet (nodes.Slt measure) = slt_parts measure
-sources_of sheet (nodes.Segment set number) = []
-sources_of sheet (nodes.PremiumReserve set) = segments_of set
-sources_of sheet (nodes.CatCharge key) = []
-sources_of sheet (nodes.Lapse set) = []
-sources_of sheet nodes.Natural = natural_perils
-sources_of sheet nodes.ManMade = man_made_perils
-sources_of sheet nodes.NonlifeCatastrophe = nonlife_catastrophes
-sources_of sheet nodes.HealthCatastrophe = health_perils
-sources_of sheet (nodes.Nslt measure) = nodes.PremiumReserve sets.Nslt ∷ []
-sources_of sheet (nodes.Health measure) = health_parts measure
-sources_of sheet (nodes.Nonlife measure) = nodes.PremiumReserve sets.Nl ∷ nodes.NonlifeCatastrophe ∷ []
-sources_of sheet nodes.Intangible = []
-sources_of sheet (nodes.Bscr measure) = modules measure
-sources_of sheet (nodes.OpPart part) = operational_sources part
-sources_of sheet (nodes.Adjust adjustment) = adjustment_sources adjustment
-sources_of sheet nodes.Scr = requirement_parts
-sources_of sheet nodes.Diversification = diversification_sources
+sources_of sheet (nodes.Fund name of_funds.Total) = holder_totals name sheet
+sources_of sheet (nodes.Security name of_securities.Total) = holder_totals name sheet
+sources_of sheet (nodes.Security name (of_securities.UnitLoss direction)) = []
+sources_of sheet (nodes.Security name (of_securities.Rate direction)) = nodes.Security name of_securities.Total ∷ nodes.Security name (of_securities.UnitLoss direction) ∷ []
+sources_of sheet (nodes.Liability name (of_liabilities.Rate direction)) = []
+sources_of sheet (nodes.Currency currency (of_currencies.Loss direction)) = rates_in currency direction sheet
+sources_of sheet (nodes.Whole (wholes.InterestScenario direction measures.Gross)) = map (currency_loss direction) sheet.curves
+sources_of sheet (nodes.Whole (wholes.InterestScenario direction measures.Net)) = nodes.Whole (wholes.InterestScenario direction measures.Gross) ∷ []
+sources_of sheet (nodes.Whole (wholes.Choice alternatives)) = scenarios alternatives
+sources_of sheet (nodes.Whole (wholes.Picked alternatives measure)) = scenarios alternatives ++ nodes.Whole (wholes.Choice alternatives) ∷ []
+sources_of sheet (nodes.Whole (wholes.ClassSum class)) = held_of_class class sheet
+sources_of sheet (nodes.Whole (wholes.EquityPart equities)) = classes_of equities
+sources_of sheet (nodes.Whole wholes.EquityRoot) = equity_parts
+sources_of sheet (nodes.Whole (wholes.NetPart risk)) = gross_of risk ∷ []
+sources_of sheet (nodes.Liability name of_liabilities.Present) = []
+sources_of sheet (nodes.Liability name (of_liabilities.Loss projection)) = []
+sources_of sheet (nodes.Currency currency (of_currencies.Scenario direction measures.Gross)) = worths_in currency sheet
+sources_of sheet (nodes.Currency currency (of_currencies.Scenario direction measures.Net)) =
+    nodes.Currency currency (of_currencies.Scenario direction measures.Gross) ∷ []
+sources_of sheet (nodes.Currency currency of_currencies.Choice) = currency_scenarios currency
+sources_of sheet (nodes.Currency currency (of_currencies.Picked measure)) =
+    currency_scenarios currency ++ nodes.Currency currency of_currencies.Choice ∷ []
+sources_of sheet (nodes.Whole (wholes.Currency measure)) = foreign_picked measure sheet
+sources_of sheet (nodes.Whole wholes.Property) = nodes.Whole (wholes.ClassSum classes.Property) ∷ []
+sources_of sheet (nodes.Security name of_securities.Spread) = nodes.Security name of_securities.Total ∷ []
+sources_of sheet (nodes.Whole wholes.Spread) = map security_spread (filter (has_class classes.Bond) sheet.securities)
+sources_of sheet (nodes.Group name of_groups.Total) = map security_total (filter (is_of_group name) sheet.securities)
+sources_of sheet (nodes.Whole wholes.Assets) = map security_total (filter has_group sheet.securities)
+sources_of sheet (nodes.Group name of_groups.ConcentrationSquare) = nodes.Whole wholes.Assets ∷ nodes.Group name of_groups.Total ∷ []
+sources_of sheet (nodes.Whole wholes.Concentration) = map concentration_square sheet.groups
+sources_of sheet (nodes.Whole (wholes.Market measure)) = market_parts measure
+sources_of sheet (nodes.Group name of_groups.Loss) = []
+sources_of sheet (nodes.Whole (wholes.ClassLoss class)) = losses_of_class class sheet
+sources_of sheet (nodes.Whole (wholes.ClassSquare class)) = losses_of_class class sheet
+sources_of sheet (nodes.Whole wholes.Variance) = class_losses ++ class_squares
+sources_of sheet (nodes.Whole wholes.DefaultBand) = class_losses ++ nodes.Whole wholes.Variance ∷ []
+sources_of sheet (nodes.Whole wholes.DefaultType1) = class_losses ++ nodes.Whole wholes.Variance ∷ nodes.Whole wholes.DefaultBand ∷ []
+sources_of sheet (nodes.Whole wholes.DefaultType2) = []
+sources_of sheet (nodes.Whole wholes.Default) = default_types
+sources_of sheet (nodes.Whole (wholes.BioScenario biometric projection measures.Gross)) = losses_under biometric projection sheet
+sources_of sheet (nodes.Whole (wholes.BioScenario biometric projection measures.Net)) =
+    nodes.Whole (wholes.BioScenario biometric projection measures.Gross) ∷ []
+sources_of sheet (nodes.Whole (wholes.Life measure)) = life_parts measure
+sources_of sheet (nodes.Whole (wholes.Slt measure)) = slt_parts measure
+sources_of sheet (nodes.Whole (wholes.Segment set number)) = []
+sources_of sheet (nodes.Whole (wholes.PremiumReserve set)) = segments_of set
+sources_of sheet (nodes.Whole (wholes.CatCharge key)) = []
+sources_of sheet (nodes.Whole (wholes.Lapse set)) = []
+sources_of sheet (nodes.Whole wholes.Natural) = natural_perils
+sources_of sheet (nodes.Whole wholes.ManMade) = man_made_perils
+sources_of sheet (nodes.Whole wholes.NonlifeCatastrophe) = nonlife_catastrophes
+sources_of sheet (nodes.Whole wholes.HealthCatastrophe) = health_perils
+sources_of sheet (nodes.Whole (wholes.Nslt measure)) = nodes.Whole (wholes.PremiumReserve sets.Nslt) ∷ []
+sources_of sheet (nodes.Whole (wholes.Health measure)) = health_parts measure
+sources_of sheet (nodes.Whole (wholes.Nonlife measure)) = nodes.Whole (wholes.PremiumReserve sets.Nl) ∷ nodes.Whole wholes.NonlifeCatastrophe ∷ []
+sources_of sheet (nodes.Whole wholes.Intangible) = []
+sources_of sheet (nodes.Whole (wholes.Bscr measure)) = modules measure
+sources_of sheet (nodes.Whole (wholes.OpPart part)) = operational_sources part
+sources_of sheet (nodes.Whole (wholes.Adjust adjustment)) = adjustment_sources adjustment
+sources_of sheet (nodes.Whole wholes.Scr) = requirement_parts
+sources_of sheet (nodes.Whole wholes.Diversification) = diversification_sources

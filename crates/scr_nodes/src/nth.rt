@@ -11,7 +11,9 @@ use crate::rows::{
     is_stressed,
 };
 use crate::selections::{Holdings, is_counted};
-use crate::{Biometric, Direction, Measure, Node};
+use crate::{
+    Biometric, Direction, Measure, Node, OfCurrency, OfFund, OfGroup, OfLiability, OfSecurity,
+};
 use scr_sheet::{BalanceSheet, Class, Name, Projection};
 
 /// The node at a place of a list, or how far past the list's end the place lies.
@@ -29,7 +31,7 @@ pub(crate) fn nth_holder(sheet: &BalanceSheet, name: &Name, place: u32) -> Nth
         let stake = sheet.funds.at(k);
         if holds(name, stake) {
             if left == 0 {
-                return Nth::There(Node::FundTotal(stake.fund.name));
+                return Nth::There(Node::Fund(stake.fund.name, OfFund::Total));
             }
             left -= 1;
         }
@@ -46,7 +48,7 @@ pub(crate) fn nth_closed(sheet: &BalanceSheet, place: u32) -> Nth
         let stake = sheet.funds.at(k);
         if is_closed(stake) {
             if left == 0 {
-                return Nth::There(Node::FundTotal(stake.fund.name));
+                return Nth::There(Node::Fund(stake.fund.name, OfFund::Total));
             }
             left -= 1;
         }
@@ -69,7 +71,10 @@ pub(crate) fn nth_paying(
         let position = sheet.securities.at(k);
         if is_paying_in(currency, position) {
             if left == 0 {
-                return Nth::There(Node::SecurityRate(position.security.name, direction));
+                return Nth::There(Node::Security(
+                    position.security.name,
+                    OfSecurity::Rate(direction),
+                ));
             }
             left -= 1;
         }
@@ -92,7 +97,7 @@ pub(crate) fn nth_owed(
         let liability = sheet.liabilities.at(k);
         if is_owed_in(currency, liability) {
             if left == 0 {
-                return Nth::There(Node::LiabilityRate(liability.name, direction));
+                return Nth::There(Node::Liability(liability.name, OfLiability::Rate(direction)));
             }
             left -= 1;
         }
@@ -107,7 +112,7 @@ pub(crate) fn nth_currency(sheet: &BalanceSheet, direction: Direction, place: u3
     let count = sheet.curves.len();
     if (place as usize) < count {
         let curve = sheet.curves.at(place as usize);
-        Nth::There(Node::CurrencyLoss(curve.currency, direction))
+        Nth::There(Node::Currency(curve.currency, OfCurrency::Loss(direction)))
     } else {
         Nth::Past((place as usize - count) as u32)
     }
@@ -123,7 +128,7 @@ pub(crate) fn nth_total(sheet: &BalanceSheet, holdings: &Holdings, place: u32) -
         let position = sheet.securities.at(k);
         if is_counted(holdings, position) {
             if left == 0 {
-                return Nth::There(Node::SecurityTotal(position.security.name));
+                return Nth::There(Node::Security(position.security.name, OfSecurity::Total));
             }
             left -= 1;
         }
@@ -141,7 +146,7 @@ pub(crate) fn nth_present_in(sheet: &BalanceSheet, currency: &Name, place: u32) 
         let liability = sheet.liabilities.at(k);
         if is_owed_in(currency, liability) {
             if left == 0 {
-                return Nth::There(Node::LiabilityPresent(liability.name));
+                return Nth::There(Node::Liability(liability.name, OfLiability::Present));
             }
             left -= 1;
         }
@@ -159,7 +164,7 @@ pub(crate) fn nth_spread(sheet: &BalanceSheet, place: u32) -> Nth
         let position = sheet.securities.at(k);
         if has_class(Class::Bond, position) {
             if left == 0 {
-                return Nth::There(Node::SecuritySpread(position.security.name));
+                return Nth::There(Node::Security(position.security.name, OfSecurity::Spread));
             }
             left -= 1;
         }
@@ -177,7 +182,7 @@ pub(crate) fn nth_loss_of_class(sheet: &BalanceSheet, class: u8, place: u32) -> 
         let group = sheet.groups.at(k);
         if is_of_default_class(class, group) {
             if left == 0 {
-                return Nth::There(Node::GroupLoss(group.name));
+                return Nth::There(Node::Group(group.name, OfGroup::Loss));
             }
             left -= 1;
         }
@@ -200,7 +205,7 @@ pub(crate) fn nth_loss_under(
         let liability = sheet.liabilities.at(k);
         if is_stressed(biometric, projection, liability) {
             if left == 0 {
-                return Nth::There(Node::LiabilityLoss(liability.name, projection));
+                return Nth::There(Node::Liability(liability.name, OfLiability::Loss(projection)));
             }
             left -= 1;
         }
@@ -218,7 +223,7 @@ pub(crate) fn nth_picked(sheet: &BalanceSheet, measure: Measure, place: u32) -> 
         let curve = sheet.curves.at(k);
         if is_foreign(sheet, curve) {
             if left == 0 {
-                return Nth::There(Node::CurrencyPicked(curve.currency, measure));
+                return Nth::There(Node::Currency(curve.currency, OfCurrency::Picked(measure)));
             }
             left -= 1;
         }
@@ -233,7 +238,7 @@ pub(crate) fn nth_square(sheet: &BalanceSheet, place: u32) -> Nth
     let count = sheet.groups.len();
     if (place as usize) < count {
         let group = sheet.groups.at(place as usize);
-        Nth::There(Node::ConcentrationSquare(group.name))
+        Nth::There(Node::Group(group.name, OfGroup::ConcentrationSquare))
     } else {
         Nth::Past((place as usize - count) as u32)
     }

@@ -1,6 +1,9 @@
 //! The source at a place of a figure's list, without memory.
 ghost use Rattle.std.specs.Prelude.{◌≡◌, ◌++◌, [], ◌∷◌, slice_get};
 ghost use Rattle.scr_nodes.specs.declared.node.Node.TheVariants as nodes;
+ghost use Rattle.scr_nodes.specs.declared.node.OfSecurity.TheVariants as of_securities;
+ghost use Rattle.scr_nodes.specs.declared.node.OfCurrency.TheVariants as of_currencies;
+ghost use Rattle.scr_nodes.specs.declared.node.Whole.TheVariants as wholes;
 ghost use Rattle.scr_nodes.specs.Nth.{IsNth};
 ghost use Rattle.scr_nodes.specs.Sources.{sources_of, rates_in, worths_in, funds_of_class, held_of_class, currency_scenarios, scenarios, classes_of, segments_of, operational_sources, adjustment_sources};
 
@@ -17,7 +20,10 @@ use crate::words::{
     nslt_segments, provision_sources, requirement_parts, slt_parts, tax_sources, type1_classes,
     type1_sources, type2_classes, variance_sources,
 };
-use crate::{Adjustment, Alternatives, Biometric, Direction, Equities, Measure, Node, Operational};
+use crate::{
+    Adjustment, Alternatives, Biometric, Direction, Equities, Measure, Node, OfCurrency, OfFund,
+    OfGroup, OfLiability, OfSecurity, Operational, Whole,
+};
 use scr_profile::Set;
 use scr_sheet::{BalanceSheet, Class, Name, Projection};
 
@@ -37,93 +43,123 @@ fn nth_source(sheet: &BalanceSheet, node: &Node, place: u32) -> Nth
     ensures { IsNth (sources_of sheet.now node.now) place result }
 {
     match node {
-        Node::FundTotal(name) | Node::SecurityTotal(name) => nth_holder(sheet, name, place),
-        Node::UnitLoss(_, _)
-        | Node::LiabilityRate(_, _)
-        | Node::LiabilityPresent(_)
-        | Node::LiabilityLoss(_, _)
-        | Node::GroupLoss(_)
-        | Node::DefaultType2
-        | Node::Segment(_, _)
-        | Node::CatCharge(_)
-        | Node::Lapse(_)
-        | Node::Intangible => Nth::Past(place),
-        Node::SecurityRate(name, direction) => nth_of_rate(name, *direction, place),
-        Node::CurrencyLoss(currency, direction) => nth_rate(sheet, currency, *direction, place),
-        Node::InterestScenario(direction, measure) => nth_of_scenario(
+        Node::Fund(name, OfFund::Total) | Node::Security(name, OfSecurity::Total) => nth_holder(
+            sheet, name, place,
+        ),
+        Node::Security(_, OfSecurity::UnitLoss(_))
+        | Node::Liability(_, OfLiability::Rate(_))
+        | Node::Liability(_, OfLiability::Present)
+        | Node::Liability(_, OfLiability::Loss(_))
+        | Node::Group(_, OfGroup::Loss)
+        | Node::Whole(Whole::DefaultType2)
+        | Node::Whole(Whole::Segment(_, _))
+        | Node::Whole(Whole::CatCharge(_))
+        | Node::Whole(Whole::Lapse(_))
+        | Node::Whole(Whole::Intangible) => Nth::Past(place),
+        Node::Security(name, OfSecurity::Rate(direction)) => nth_of_rate(name, *direction, place),
+        Node::Currency(currency, OfCurrency::Loss(direction)) => nth_rate(
+            sheet, currency, *direction, place,
+        ),
+        Node::Whole(Whole::InterestScenario(direction, measure)) => nth_of_scenario(
             sheet, *direction, *measure, place,
         ),
-        Node::CurrencyScenario(currency, direction, measure) => nth_of_currency(
+        Node::Currency(currency, OfCurrency::Scenario(direction, measure)) => nth_of_currency(
             sheet, currency, *direction, *measure, place,
         ),
-        Node::CurrencyPicked(currency, _) => nth_of_currency_picked(currency, place),
-        Node::Currency(measure) => nth_picked(sheet, *measure, place),
-        Node::Choice(alternatives) => nth_scenario(*alternatives, place),
-        Node::Picked(alternatives, _) => nth_of_picked(*alternatives, place),
-        Node::ClassSum(class) => nth_held(sheet, *class, place),
-        Node::EquityPart(equities) => nth_class(*equities, place),
-        Node::Spread => nth_spread(sheet, place),
-        Node::GroupTotal(name) => nth_total(sheet, &Holdings::OfGroup(*name), place),
-        Node::Assets => nth_total(sheet, &Holdings::Grouped, place),
-        Node::Concentration => nth_square(sheet, place),
-        Node::ClassLoss(class) | Node::ClassSquare(class) => nth_loss_of_class(
-            sheet, *class, place,
-        ),
-        Node::BioScenario(biometric, projection, measure) => nth_of_stress(
+        Node::Currency(currency, OfCurrency::Picked(_)) => nth_of_currency_picked(currency, place),
+        Node::Whole(Whole::Currency(measure)) => nth_picked(sheet, *measure, place),
+        Node::Whole(Whole::Choice(alternatives)) => nth_scenario(*alternatives, place),
+        Node::Whole(Whole::Picked(alternatives, _)) => nth_of_picked(*alternatives, place),
+        Node::Whole(Whole::ClassSum(class)) => nth_held(sheet, *class, place),
+        Node::Whole(Whole::EquityPart(equities)) => nth_class(*equities, place),
+        Node::Whole(Whole::Spread) => nth_spread(sheet, place),
+        Node::Group(name, OfGroup::Total) => nth_total(sheet, &Holdings::OfGroup(*name), place),
+        Node::Whole(Whole::Assets) => nth_total(sheet, &Holdings::Grouped, place),
+        Node::Whole(Whole::Concentration) => nth_square(sheet, place),
+        Node::Whole(Whole::ClassLoss(class)) | Node::Whole(Whole::ClassSquare(class)) =>
+            nth_loss_of_class(sheet, *class, place),
+        Node::Whole(Whole::BioScenario(biometric, projection, measure)) => nth_of_stress(
             sheet,
             *biometric,
             *projection,
             *measure,
             place,
         ),
-        Node::PremiumReserve(set) => nth_segment(*set, place),
-        Node::OpPart(part) => nth_of_operational(*part, place),
-        Node::Adjust(adjustment) => nth_of_adjustment(*adjustment, place),
-        Node::CurrencyChoice(currency) => nth_in(&currency_scenarios(currency), place),
-        Node::EquityRoot => nth_in(&equity_parts(), place),
-        Node::Property => nth_in(&[Node::ClassSum(Class::Property)], place),
-        Node::SecuritySpread(name) => nth_in(&[Node::SecurityTotal(*name)], place),
-        Node::ConcentrationSquare(name) => nth_in(&[Node::Assets, Node::GroupTotal(*name)], place),
-        Node::NetPart(risk) => nth_in(&[gross_of(*risk)], place),
-        Node::Market(measure) => nth_in(&market_parts(*measure), place),
-        Node::Variance => nth_in(&variance_sources(), place),
-        Node::DefaultBand => nth_in(&band_sources(), place),
-        Node::DefaultType1 => nth_in(&type1_sources(), place),
-        Node::Default => nth_in(&default_types(), place),
-        Node::Life(measure) => nth_in(&life_parts(*measure), place),
-        Node::Slt(measure) => nth_in(&slt_parts(*measure), place),
-        Node::Natural => nth_in(&natural_perils(), place),
-        Node::ManMade => nth_in(&man_made_perils(), place),
-        Node::NonlifeCatastrophe => nth_in(&nonlife_catastrophes(), place),
-        Node::HealthCatastrophe => nth_in(&health_perils(), place),
-        Node::Nslt(_) => nth_in(&[Node::PremiumReserve(Set::Nslt)], place),
-        Node::Health(measure) => nth_in(&health_parts(*measure), place),
-        Node::Nonlife(_) => nth_in(
-            &[Node::PremiumReserve(Set::Nl), Node::NonlifeCatastrophe],
+        Node::Whole(Whole::PremiumReserve(set)) => nth_segment(*set, place),
+        Node::Whole(Whole::OpPart(part)) => nth_of_operational(*part, place),
+        Node::Whole(Whole::Adjust(adjustment)) => nth_of_adjustment(*adjustment, place),
+        Node::Currency(currency, OfCurrency::Choice) => nth_in(
+            &currency_scenarios(currency),
             place,
         ),
-        Node::Bscr(measure) => nth_in(&modules(*measure), place),
-        Node::Scr => nth_in(&requirement_parts(), place),
-        Node::Diversification => nth_in(&diversification_sources(), place),
+        Node::Whole(Whole::EquityRoot) => nth_in(&equity_parts(), place),
+        Node::Whole(Whole::Property) => nth_in(
+            &[Node::Whole(Whole::ClassSum(Class::Property))],
+            place,
+        ),
+        Node::Security(name, OfSecurity::Spread) => nth_in(
+            &[Node::Security(*name, OfSecurity::Total)],
+            place,
+        ),
+        Node::Group(name, OfGroup::ConcentrationSquare) => nth_in(
+            &[
+                Node::Whole(Whole::Assets),
+                Node::Group(*name, OfGroup::Total),
+            ],
+            place,
+        ),
+        Node::Whole(Whole::NetPart(risk)) => nth_in(&[gross_of(*risk)], place),
+        Node::Whole(Whole::Market(measure)) => nth_in(&market_parts(*measure), place),
+        Node::Whole(Whole::Variance) => nth_in(&variance_sources(), place),
+        Node::Whole(Whole::DefaultBand) => nth_in(&band_sources(), place),
+        Node::Whole(Whole::DefaultType1) => nth_in(&type1_sources(), place),
+        Node::Whole(Whole::Default) => nth_in(&default_types(), place),
+        Node::Whole(Whole::Life(measure)) => nth_in(&life_parts(*measure), place),
+        Node::Whole(Whole::Slt(measure)) => nth_in(&slt_parts(*measure), place),
+        Node::Whole(Whole::Natural) => nth_in(&natural_perils(), place),
+        Node::Whole(Whole::ManMade) => nth_in(&man_made_perils(), place),
+        Node::Whole(Whole::NonlifeCatastrophe) => nth_in(&nonlife_catastrophes(), place),
+        Node::Whole(Whole::HealthCatastrophe) => nth_in(&health_perils(), place),
+        Node::Whole(Whole::Nslt(_)) => nth_in(
+            &[Node::Whole(Whole::PremiumReserve(Set::Nslt))],
+            place,
+        ),
+        Node::Whole(Whole::Health(measure)) => nth_in(&health_parts(*measure), place),
+        Node::Whole(Whole::Nonlife(_)) => nth_in(
+            &[
+                Node::Whole(Whole::PremiumReserve(Set::Nl)),
+                Node::Whole(Whole::NonlifeCatastrophe),
+            ],
+            place,
+        ),
+        Node::Whole(Whole::Bscr(measure)) => nth_in(&modules(*measure), place),
+        Node::Whole(Whole::Scr) => nth_in(&requirement_parts(), place),
+        Node::Whole(Whole::Diversification) => nth_in(&diversification_sources(), place),
     }
 }
 
 fn nth_of_rate(name: &Name, direction: Direction, place: u32) -> Nth
-    ensures { IsNth (nodes.SecurityTotal name.now ∷ nodes.UnitLoss name.now direction
+    ensures { IsNth (nodes.Security name.now of_securities.Total ∷ nodes.Security name.now (of_securities.UnitLoss direction)
         ∷ []) place result }
 {
     nth_in(
-        &[Node::SecurityTotal(*name), Node::UnitLoss(*name, direction)],
+        &[
+            Node::Security(*name, OfSecurity::Total),
+            Node::Security(*name, OfSecurity::UnitLoss(direction)),
+        ],
         place,
     )
 }
 
 fn nth_of_scenario(sheet: &BalanceSheet, direction: Direction, measure: Measure, place: u32) -> Nth
-    ensures { IsNth (sources_of sheet.now (nodes.InterestScenario direction measure)) place result }
+    ensures { IsNth (sources_of sheet.now (nodes.Whole (wholes.InterestScenario direction measure))) place result }
 {
     match measure {
         Measure::Gross => nth_currency(sheet, direction, place),
-        Measure::Net => nth_in(&[Node::InterestScenario(direction, Measure::Gross)], place),
+        Measure::Net => nth_in(
+            &[Node::Whole(Whole::InterestScenario(direction, Measure::Gross))],
+            place,
+        ),
     }
 }
 
@@ -139,10 +175,10 @@ fn nth_scenario(alternatives: Alternatives, place: u32) -> Nth
 
 #[tactic(auto, using(crate::proofs::Joined::past_first))]
 fn nth_of_picked(alternatives: Alternatives, place: u32) -> Nth
-    ensures { IsNth (scenarios alternatives ++ nodes.Choice alternatives ∷ []) place result }
+    ensures { IsNth (scenarios alternatives ++ nodes.Whole (wholes.Choice alternatives) ∷ []) place result }
 {
     match nth_scenario(alternatives, place) {
-        Nth::Past(left) => nth_in(&[Node::Choice(alternatives)], left),
+        Nth::Past(left) => nth_in(&[Node::Whole(Whole::Choice(alternatives))], left),
         found => found,
     }
 }
@@ -194,13 +230,13 @@ fn nth_of_currency(
     measure: Measure,
     place: u32,
 ) -> Nth
-    ensures { IsNth (sources_of sheet.now (nodes.CurrencyScenario currency.now direction measure))
+    ensures { IsNth (sources_of sheet.now (nodes.Currency currency.now (of_currencies.Scenario direction measure)))
         place result }
 {
     match measure {
         Measure::Gross => nth_worth(sheet, currency, place),
         Measure::Net => nth_in(
-            &[Node::CurrencyScenario(*currency, direction, Measure::Gross)],
+            &[Node::Currency(*currency, OfCurrency::Scenario(direction, Measure::Gross))],
             place,
         ),
     }
@@ -218,11 +254,11 @@ fn nth_worth(sheet: &BalanceSheet, currency: &Name, place: u32) -> Nth
 
 #[tactic(auto, using(crate::proofs::Joined::past_first))]
 fn nth_of_currency_picked(currency: &Name, place: u32) -> Nth
-    ensures { IsNth (currency_scenarios currency.now ++ nodes.CurrencyChoice currency.now ∷ [])
+    ensures { IsNth (currency_scenarios currency.now ++ nodes.Currency currency.now of_currencies.Choice ∷ [])
         place result }
 {
     match nth_in(&currency_scenarios(currency), place) {
-        Nth::Past(left) => nth_in(&[Node::CurrencyChoice(*currency)], left),
+        Nth::Past(left) => nth_in(&[Node::Currency(*currency, OfCurrency::Choice)], left),
         found => found,
     }
 }
@@ -234,13 +270,13 @@ fn nth_of_stress(
     measure: Measure,
     place: u32,
 ) -> Nth
-    ensures { IsNth (sources_of sheet.now (nodes.BioScenario biometric projection measure))
+    ensures { IsNth (sources_of sheet.now (nodes.Whole (wholes.BioScenario biometric projection measure)))
         place result }
 {
     match measure {
         Measure::Gross => nth_loss_under(sheet, biometric, projection, place),
         Measure::Net => nth_in(
-            &[Node::BioScenario(biometric, projection, Measure::Gross)],
+            &[Node::Whole(Whole::BioScenario(biometric, projection, Measure::Gross))],
             place,
         ),
     }
@@ -260,7 +296,7 @@ fn nth_of_operational(part: Operational, place: u32) -> Nth
 {
     match part {
         Operational::Premiums | Operational::Provisions => Nth::Past(place),
-        Operational::Cap => nth_in(&[Node::Bscr(Measure::Gross)], place),
+        Operational::Cap => nth_in(&[Node::Whole(Whole::Bscr(Measure::Gross))], place),
         Operational::Charge => nth_in(&charge_sources(), place),
     }
 }

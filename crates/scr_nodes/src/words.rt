@@ -6,10 +6,12 @@ ghost use Rattle.scr_nodes.specs.declared.node.Operational.TheVariants as operat
 ghost use Rattle.scr_nodes.specs.declared.node.Equities.TheVariants as kinds;
 ghost use Rattle.scr_profile.specs.declared.set.Set.TheVariants as sets;
 ghost use Rattle.scr_nodes.specs.declared.node.Node.TheVariants as nodes;
+ghost use Rattle.scr_nodes.specs.declared.node.Whole.TheVariants as wholes;
 ghost use Rattle.scr_nodes.specs.Sources.{interest_scenarios, lapse_scenarios, currency_scenarios, classes_of, equity_parts, gross_of, risk_part, market_parts, class_losses, class_squares, default_types, life_parts, slt_parts, health_parts, segments_of, natural_perils, man_made_perils, nonlife_catastrophes, health_perils, modules, diversification_sources, requirement_parts, operational_sources, adjustment_sources};
 
 use crate::{
-    Adjustment, Alternatives, Biometric, Direction, Equities, Measure, Node, Operational, Risk,
+    Adjustment, Alternatives, Biometric, Direction, Equities, Measure, Node, OfCurrency,
+    Operational, Risk, Whole,
 };
 use scr_profile::Set;
 use scr_sheet::{CatKey, Class, Name, Projection};
@@ -20,10 +22,10 @@ pub fn interest_scenarios() -> [Node; 4]
     ensures { result ≡ interest_scenarios }
 {
     [
-        Node::InterestScenario(Direction::Up, Measure::Gross),
-        Node::InterestScenario(Direction::Up, Measure::Net),
-        Node::InterestScenario(Direction::Down, Measure::Gross),
-        Node::InterestScenario(Direction::Down, Measure::Net),
+        Node::Whole(Whole::InterestScenario(Direction::Up, Measure::Gross)),
+        Node::Whole(Whole::InterestScenario(Direction::Up, Measure::Net)),
+        Node::Whole(Whole::InterestScenario(Direction::Down, Measure::Gross)),
+        Node::Whole(Whole::InterestScenario(Direction::Down, Measure::Net)),
     ]
 }
 
@@ -33,8 +35,8 @@ pub fn type1_classes() -> [Node; 2]
     ensures { result ≡ classes_of kinds.Type1 }
 {
     [
-        Node::ClassSum(Class::Type1Equity),
-        Node::ClassSum(Class::Type1Strategic),
+        Node::Whole(Whole::ClassSum(Class::Type1Equity)),
+        Node::Whole(Whole::ClassSum(Class::Type1Strategic)),
     ]
 }
 
@@ -44,8 +46,8 @@ pub fn type2_classes() -> [Node; 2]
     ensures { result ≡ classes_of kinds.Type2 }
 {
     [
-        Node::ClassSum(Class::Type2Equity),
-        Node::ClassSum(Class::Type2Strategic),
+        Node::Whole(Whole::ClassSum(Class::Type2Equity)),
+        Node::Whole(Whole::ClassSum(Class::Type2Strategic)),
     ]
 }
 
@@ -53,14 +55,14 @@ pub fn type2_classes() -> [Node; 2]
 pub fn infrastructure_classes() -> [Node; 1]
     ensures { result ≡ classes_of kinds.Infrastructure }
 {
-    [Node::ClassSum(Class::Infrastructure)]
+    [Node::Whole(Whole::ClassSum(Class::Infrastructure))]
 }
 
 /// What is held of equities of qualifying infrastructure corporates (Articles 164b and 169(4)).
 pub fn infrastructure_corporate_classes() -> [Node; 1]
     ensures { result ≡ classes_of kinds.InfrastructureCorporate }
 {
-    [Node::ClassSum(Class::InfrastructureCorporate)]
+    [Node::Whole(Whole::ClassSum(Class::InfrastructureCorporate))]
 }
 
 /// The requirements for the four kinds of equities (Article 168(4)).
@@ -68,10 +70,10 @@ pub fn equity_parts() -> [Node; 4]
     ensures { result ≡ equity_parts }
 {
     [
-        Node::EquityPart(Equities::Type1),
-        Node::EquityPart(Equities::Type2),
-        Node::EquityPart(Equities::Infrastructure),
-        Node::EquityPart(Equities::InfrastructureCorporate),
+        Node::Whole(Whole::EquityPart(Equities::Type1)),
+        Node::Whole(Whole::EquityPart(Equities::Type2)),
+        Node::Whole(Whole::EquityPart(Equities::Infrastructure)),
+        Node::Whole(Whole::EquityPart(Equities::InfrastructureCorporate)),
     ]
 }
 
@@ -80,12 +82,12 @@ pub fn gross_of(risk: Risk) -> Node
     ensures { result ≡ gross_of risk }
 {
     match risk {
-        Risk::Equity => Node::EquityRoot,
-        Risk::Property => Node::Property,
-        Risk::Spread => Node::Spread,
-        Risk::Concentration => Node::Concentration,
-        Risk::Default => Node::Default,
-        Risk::HealthCatastrophe => Node::HealthCatastrophe,
+        Risk::Equity => Node::Whole(Whole::EquityRoot),
+        Risk::Property => Node::Whole(Whole::Property),
+        Risk::Spread => Node::Whole(Whole::Spread),
+        Risk::Concentration => Node::Whole(Whole::Concentration),
+        Risk::Default => Node::Whole(Whole::Default),
+        Risk::HealthCatastrophe => Node::Whole(Whole::HealthCatastrophe),
     }
 }
 
@@ -95,7 +97,7 @@ fn risk_part(risk: Risk, measure: Measure) -> Node
 {
     match measure {
         Measure::Gross => gross_of(risk),
-        Measure::Net => Node::NetPart(risk),
+        Measure::Net => Node::Whole(Whole::NetPart(risk)),
     }
 }
 
@@ -105,12 +107,12 @@ pub fn lapse_scenarios(biometric: Biometric) -> [Node; 6]
     ensures { result ≡ lapse_scenarios biometric }
 {
     [
-        Node::BioScenario(biometric, Projection::LapseUp, Measure::Gross),
-        Node::BioScenario(biometric, Projection::LapseUp, Measure::Net),
-        Node::BioScenario(biometric, Projection::LapseDown, Measure::Gross),
-        Node::BioScenario(biometric, Projection::LapseDown, Measure::Net),
-        Node::BioScenario(biometric, Projection::LapseMass, Measure::Gross),
-        Node::BioScenario(biometric, Projection::LapseMass, Measure::Net),
+        Node::Whole(Whole::BioScenario(biometric, Projection::LapseUp, Measure::Gross)),
+        Node::Whole(Whole::BioScenario(biometric, Projection::LapseUp, Measure::Net)),
+        Node::Whole(Whole::BioScenario(biometric, Projection::LapseDown, Measure::Gross)),
+        Node::Whole(Whole::BioScenario(biometric, Projection::LapseDown, Measure::Net)),
+        Node::Whole(Whole::BioScenario(biometric, Projection::LapseMass, Measure::Gross)),
+        Node::Whole(Whole::BioScenario(biometric, Projection::LapseMass, Measure::Net)),
     ]
 }
 
@@ -120,10 +122,19 @@ pub fn currency_scenarios(currency: &Name) -> [Node; 4]
     ensures { result ≡ currency_scenarios currency.now }
 {
     [
-        Node::CurrencyScenario(*currency, Direction::Up, Measure::Gross),
-        Node::CurrencyScenario(*currency, Direction::Up, Measure::Net),
-        Node::CurrencyScenario(*currency, Direction::Down, Measure::Gross),
-        Node::CurrencyScenario(*currency, Direction::Down, Measure::Net),
+        Node::Currency(
+            *currency,
+            OfCurrency::Scenario(Direction::Up, Measure::Gross),
+        ),
+        Node::Currency(*currency, OfCurrency::Scenario(Direction::Up, Measure::Net)),
+        Node::Currency(
+            *currency,
+            OfCurrency::Scenario(Direction::Down, Measure::Gross),
+        ),
+        Node::Currency(
+            *currency,
+            OfCurrency::Scenario(Direction::Down, Measure::Net),
+        ),
     ]
 }
 
@@ -133,13 +144,13 @@ pub fn market_parts(measure: Measure) -> [Node; 7]
     ensures { result ≡ market_parts measure }
 {
     [
-        Node::Picked(Alternatives::Interest, measure),
+        Node::Whole(Whole::Picked(Alternatives::Interest, measure)),
         risk_part(Risk::Equity, measure),
         risk_part(Risk::Property, measure),
         risk_part(Risk::Spread, measure),
         risk_part(Risk::Concentration, measure),
-        Node::Currency(measure),
-        Node::Choice(Alternatives::Interest),
+        Node::Whole(Whole::Currency(measure)),
+        Node::Whole(Whole::Choice(Alternatives::Interest)),
     ]
 }
 
@@ -149,12 +160,12 @@ pub fn class_losses() -> [Node; 6]
     ensures { result ≡ class_losses }
 {
     [
-        Node::ClassLoss(0),
-        Node::ClassLoss(1),
-        Node::ClassLoss(2),
-        Node::ClassLoss(3),
-        Node::ClassLoss(4),
-        Node::ClassLoss(5),
+        Node::Whole(Whole::ClassLoss(0)),
+        Node::Whole(Whole::ClassLoss(1)),
+        Node::Whole(Whole::ClassLoss(2)),
+        Node::Whole(Whole::ClassLoss(3)),
+        Node::Whole(Whole::ClassLoss(4)),
+        Node::Whole(Whole::ClassLoss(5)),
     ]
 }
 
@@ -163,12 +174,12 @@ pub fn class_squares() -> [Node; 6]
     ensures { result ≡ class_squares }
 {
     [
-        Node::ClassSquare(0),
-        Node::ClassSquare(1),
-        Node::ClassSquare(2),
-        Node::ClassSquare(3),
-        Node::ClassSquare(4),
-        Node::ClassSquare(5),
+        Node::Whole(Whole::ClassSquare(0)),
+        Node::Whole(Whole::ClassSquare(1)),
+        Node::Whole(Whole::ClassSquare(2)),
+        Node::Whole(Whole::ClassSquare(3)),
+        Node::Whole(Whole::ClassSquare(4)),
+        Node::Whole(Whole::ClassSquare(5)),
     ]
 }
 
@@ -178,51 +189,51 @@ pub fn variance_sources() -> [Node; 12]
     ensures { result ≡ (class_losses ++ class_squares) }
 {
     [
-        Node::ClassLoss(0),
-        Node::ClassLoss(1),
-        Node::ClassLoss(2),
-        Node::ClassLoss(3),
-        Node::ClassLoss(4),
-        Node::ClassLoss(5),
-        Node::ClassSquare(0),
-        Node::ClassSquare(1),
-        Node::ClassSquare(2),
-        Node::ClassSquare(3),
-        Node::ClassSquare(4),
-        Node::ClassSquare(5),
+        Node::Whole(Whole::ClassLoss(0)),
+        Node::Whole(Whole::ClassLoss(1)),
+        Node::Whole(Whole::ClassLoss(2)),
+        Node::Whole(Whole::ClassLoss(3)),
+        Node::Whole(Whole::ClassLoss(4)),
+        Node::Whole(Whole::ClassLoss(5)),
+        Node::Whole(Whole::ClassSquare(0)),
+        Node::Whole(Whole::ClassSquare(1)),
+        Node::Whole(Whole::ClassSquare(2)),
+        Node::Whole(Whole::ClassSquare(3)),
+        Node::Whole(Whole::ClassSquare(4)),
+        Node::Whole(Whole::ClassSquare(5)),
     ]
 }
 
 /// What tells which bands of the standard deviation may decide: the sums of each class, and the
 /// variance (Article 200).
 pub fn band_sources() -> [Node; 7]
-    ensures { result ≡ (class_losses ++ nodes.Variance ∷ []) }
+    ensures { result ≡ (class_losses ++ nodes.Whole wholes.Variance ∷ []) }
 {
     [
-        Node::ClassLoss(0),
-        Node::ClassLoss(1),
-        Node::ClassLoss(2),
-        Node::ClassLoss(3),
-        Node::ClassLoss(4),
-        Node::ClassLoss(5),
-        Node::Variance,
+        Node::Whole(Whole::ClassLoss(0)),
+        Node::Whole(Whole::ClassLoss(1)),
+        Node::Whole(Whole::ClassLoss(2)),
+        Node::Whole(Whole::ClassLoss(3)),
+        Node::Whole(Whole::ClassLoss(4)),
+        Node::Whole(Whole::ClassLoss(5)),
+        Node::Whole(Whole::Variance),
     ]
 }
 
 /// What the requirement for type 1 exposures is reckoned from: the sums of each class, the
 /// variance, and which bands may decide (Article 200).
 pub fn type1_sources() -> [Node; 8]
-    ensures { result ≡ (class_losses ++ nodes.Variance ∷ nodes.DefaultBand ∷ []) }
+    ensures { result ≡ (class_losses ++ nodes.Whole wholes.Variance ∷ nodes.Whole wholes.DefaultBand ∷ []) }
 {
     [
-        Node::ClassLoss(0),
-        Node::ClassLoss(1),
-        Node::ClassLoss(2),
-        Node::ClassLoss(3),
-        Node::ClassLoss(4),
-        Node::ClassLoss(5),
-        Node::Variance,
-        Node::DefaultBand,
+        Node::Whole(Whole::ClassLoss(0)),
+        Node::Whole(Whole::ClassLoss(1)),
+        Node::Whole(Whole::ClassLoss(2)),
+        Node::Whole(Whole::ClassLoss(3)),
+        Node::Whole(Whole::ClassLoss(4)),
+        Node::Whole(Whole::ClassLoss(5)),
+        Node::Whole(Whole::Variance),
+        Node::Whole(Whole::DefaultBand),
     ]
 }
 
@@ -230,7 +241,10 @@ pub fn type1_sources() -> [Node; 8]
 pub fn default_types() -> [Node; 2]
     ensures { result ≡ default_types }
 {
-    [Node::DefaultType1, Node::DefaultType2]
+    [
+        Node::Whole(Whole::DefaultType1),
+        Node::Whole(Whole::DefaultType2),
+    ]
 }
 
 /// The requirements for the sub-modules of life underwriting risk, before or after absorption
@@ -239,13 +253,13 @@ pub fn life_parts(measure: Measure) -> [Node; 7]
     ensures { result ≡ life_parts measure }
 {
     [
-        Node::BioScenario(Biometric::Life, Projection::Mortality, measure),
-        Node::BioScenario(Biometric::Life, Projection::Longevity, measure),
-        Node::BioScenario(Biometric::Life, Projection::Disability, measure),
-        Node::BioScenario(Biometric::Life, Projection::Expense, measure),
-        Node::BioScenario(Biometric::Life, Projection::Revision, measure),
-        Node::Picked(Alternatives::LifeLapse, measure),
-        Node::BioScenario(Biometric::Life, Projection::Catastrophe, measure),
+        Node::Whole(Whole::BioScenario(Biometric::Life, Projection::Mortality, measure)),
+        Node::Whole(Whole::BioScenario(Biometric::Life, Projection::Longevity, measure)),
+        Node::Whole(Whole::BioScenario(Biometric::Life, Projection::Disability, measure)),
+        Node::Whole(Whole::BioScenario(Biometric::Life, Projection::Expense, measure)),
+        Node::Whole(Whole::BioScenario(Biometric::Life, Projection::Revision, measure)),
+        Node::Whole(Whole::Picked(Alternatives::LifeLapse, measure)),
+        Node::Whole(Whole::BioScenario(Biometric::Life, Projection::Catastrophe, measure)),
     ]
 }
 
@@ -255,12 +269,12 @@ pub fn slt_parts(measure: Measure) -> [Node; 6]
     ensures { result ≡ slt_parts measure }
 {
     [
-        Node::BioScenario(Biometric::Health, Projection::Mortality, measure),
-        Node::BioScenario(Biometric::Health, Projection::Longevity, measure),
-        Node::BioScenario(Biometric::Health, Projection::Disability, measure),
-        Node::BioScenario(Biometric::Health, Projection::Expense, measure),
-        Node::BioScenario(Biometric::Health, Projection::Revision, measure),
-        Node::Picked(Alternatives::HealthLapse, measure),
+        Node::Whole(Whole::BioScenario(Biometric::Health, Projection::Mortality, measure)),
+        Node::Whole(Whole::BioScenario(Biometric::Health, Projection::Longevity, measure)),
+        Node::Whole(Whole::BioScenario(Biometric::Health, Projection::Disability, measure)),
+        Node::Whole(Whole::BioScenario(Biometric::Health, Projection::Expense, measure)),
+        Node::Whole(Whole::BioScenario(Biometric::Health, Projection::Revision, measure)),
+        Node::Whole(Whole::Picked(Alternatives::HealthLapse, measure)),
     ]
 }
 
@@ -270,8 +284,8 @@ pub fn health_parts(measure: Measure) -> [Node; 3]
     ensures { result ≡ health_parts measure }
 {
     [
-        Node::Slt(measure),
-        Node::Nslt(measure),
+        Node::Whole(Whole::Slt(measure)),
+        Node::Whole(Whole::Nslt(measure)),
         risk_part(Risk::HealthCatastrophe, measure),
     ]
 }
@@ -281,18 +295,18 @@ pub fn nonlife_segments() -> [Node; 12]
     ensures { result ≡ segments_of sets.Nl }
 {
     [
-        Node::Segment(Set::Nl, 1),
-        Node::Segment(Set::Nl, 2),
-        Node::Segment(Set::Nl, 3),
-        Node::Segment(Set::Nl, 4),
-        Node::Segment(Set::Nl, 5),
-        Node::Segment(Set::Nl, 6),
-        Node::Segment(Set::Nl, 7),
-        Node::Segment(Set::Nl, 8),
-        Node::Segment(Set::Nl, 9),
-        Node::Segment(Set::Nl, 10),
-        Node::Segment(Set::Nl, 11),
-        Node::Segment(Set::Nl, 12),
+        Node::Whole(Whole::Segment(Set::Nl, 1)),
+        Node::Whole(Whole::Segment(Set::Nl, 2)),
+        Node::Whole(Whole::Segment(Set::Nl, 3)),
+        Node::Whole(Whole::Segment(Set::Nl, 4)),
+        Node::Whole(Whole::Segment(Set::Nl, 5)),
+        Node::Whole(Whole::Segment(Set::Nl, 6)),
+        Node::Whole(Whole::Segment(Set::Nl, 7)),
+        Node::Whole(Whole::Segment(Set::Nl, 8)),
+        Node::Whole(Whole::Segment(Set::Nl, 9)),
+        Node::Whole(Whole::Segment(Set::Nl, 10)),
+        Node::Whole(Whole::Segment(Set::Nl, 11)),
+        Node::Whole(Whole::Segment(Set::Nl, 12)),
     ]
 }
 
@@ -301,10 +315,10 @@ pub fn nslt_segments() -> [Node; 4]
     ensures { result ≡ segments_of sets.Nslt }
 {
     [
-        Node::Segment(Set::Nslt, 1),
-        Node::Segment(Set::Nslt, 2),
-        Node::Segment(Set::Nslt, 3),
-        Node::Segment(Set::Nslt, 4),
+        Node::Whole(Whole::Segment(Set::Nslt, 1)),
+        Node::Whole(Whole::Segment(Set::Nslt, 2)),
+        Node::Whole(Whole::Segment(Set::Nslt, 3)),
+        Node::Whole(Whole::Segment(Set::Nslt, 4)),
     ]
 }
 
@@ -313,11 +327,11 @@ pub fn natural_perils() -> [Node; 5]
     ensures { result ≡ natural_perils }
 {
     [
-        Node::CatCharge(CatKey::Windstorm),
-        Node::CatCharge(CatKey::Earthquake),
-        Node::CatCharge(CatKey::Flood),
-        Node::CatCharge(CatKey::Hail),
-        Node::CatCharge(CatKey::Subsidence),
+        Node::Whole(Whole::CatCharge(CatKey::Windstorm)),
+        Node::Whole(Whole::CatCharge(CatKey::Earthquake)),
+        Node::Whole(Whole::CatCharge(CatKey::Flood)),
+        Node::Whole(Whole::CatCharge(CatKey::Hail)),
+        Node::Whole(Whole::CatCharge(CatKey::Subsidence)),
     ]
 }
 
@@ -326,12 +340,12 @@ pub fn man_made_perils() -> [Node; 6]
     ensures { result ≡ man_made_perils }
 {
     [
-        Node::CatCharge(CatKey::Motor),
-        Node::CatCharge(CatKey::Marine),
-        Node::CatCharge(CatKey::Aviation),
-        Node::CatCharge(CatKey::Fire),
-        Node::CatCharge(CatKey::Liability),
-        Node::CatCharge(CatKey::Credit),
+        Node::Whole(Whole::CatCharge(CatKey::Motor)),
+        Node::Whole(Whole::CatCharge(CatKey::Marine)),
+        Node::Whole(Whole::CatCharge(CatKey::Aviation)),
+        Node::Whole(Whole::CatCharge(CatKey::Fire)),
+        Node::Whole(Whole::CatCharge(CatKey::Liability)),
+        Node::Whole(Whole::CatCharge(CatKey::Credit)),
     ]
 }
 
@@ -340,10 +354,10 @@ pub fn nonlife_catastrophes() -> [Node; 4]
     ensures { result ≡ nonlife_catastrophes }
 {
     [
-        Node::Natural,
-        Node::ManMade,
-        Node::CatCharge(CatKey::NonProportionalProperty),
-        Node::CatCharge(CatKey::Other),
+        Node::Whole(Whole::Natural),
+        Node::Whole(Whole::ManMade),
+        Node::Whole(Whole::CatCharge(CatKey::NonProportionalProperty)),
+        Node::Whole(Whole::CatCharge(CatKey::Other)),
     ]
 }
 
@@ -352,9 +366,9 @@ pub fn health_perils() -> [Node; 3]
     ensures { result ≡ health_perils }
 {
     [
-        Node::CatCharge(CatKey::MassAccident),
-        Node::CatCharge(CatKey::AccidentConcentration),
-        Node::CatCharge(CatKey::Pandemic),
+        Node::Whole(Whole::CatCharge(CatKey::MassAccident)),
+        Node::Whole(Whole::CatCharge(CatKey::AccidentConcentration)),
+        Node::Whole(Whole::CatCharge(CatKey::Pandemic)),
     ]
 }
 
@@ -364,11 +378,11 @@ pub fn modules(measure: Measure) -> [Node; 5]
     ensures { result ≡ modules measure }
 {
     [
-        Node::Market(measure),
+        Node::Whole(Whole::Market(measure)),
         risk_part(Risk::Default, measure),
-        Node::Life(measure),
-        Node::Health(measure),
-        Node::Nonlife(measure),
+        Node::Whole(Whole::Life(measure)),
+        Node::Whole(Whole::Health(measure)),
+        Node::Whole(Whole::Nonlife(measure)),
     ]
 }
 
@@ -378,12 +392,12 @@ pub fn diversification_sources() -> [Node; 6]
     ensures { result ≡ diversification_sources }
 {
     [
-        Node::Market(Measure::Gross),
+        Node::Whole(Whole::Market(Measure::Gross)),
         risk_part(Risk::Default, Measure::Gross),
-        Node::Life(Measure::Gross),
-        Node::Health(Measure::Gross),
-        Node::Nonlife(Measure::Gross),
-        Node::Bscr(Measure::Gross),
+        Node::Whole(Whole::Life(Measure::Gross)),
+        Node::Whole(Whole::Health(Measure::Gross)),
+        Node::Whole(Whole::Nonlife(Measure::Gross)),
+        Node::Whole(Whole::Bscr(Measure::Gross)),
     ]
 }
 
@@ -392,10 +406,10 @@ pub fn requirement_parts() -> [Node; 4]
     ensures { result ≡ requirement_parts }
 {
     [
-        Node::Bscr(Measure::Gross),
-        Node::Adjust(Adjustment::TechnicalProvisions),
-        Node::Adjust(Adjustment::DeferredTaxes),
-        Node::OpPart(Operational::Charge),
+        Node::Whole(Whole::Bscr(Measure::Gross)),
+        Node::Whole(Whole::Adjust(Adjustment::TechnicalProvisions)),
+        Node::Whole(Whole::Adjust(Adjustment::DeferredTaxes)),
+        Node::Whole(Whole::OpPart(Operational::Charge)),
     ]
 }
 
@@ -404,9 +418,9 @@ pub fn charge_sources() -> [Node; 3]
     ensures { result ≡ operational_sources operations.Charge }
 {
     [
-        Node::OpPart(Operational::Premiums),
-        Node::OpPart(Operational::Provisions),
-        Node::OpPart(Operational::Cap),
+        Node::Whole(Whole::OpPart(Operational::Premiums)),
+        Node::Whole(Whole::OpPart(Operational::Provisions)),
+        Node::Whole(Whole::OpPart(Operational::Cap)),
     ]
 }
 
@@ -414,7 +428,10 @@ pub fn charge_sources() -> [Node; 3]
 pub fn provision_sources() -> [Node; 2]
     ensures { result ≡ adjustment_sources adjustments.TechnicalProvisions }
 {
-    [Node::Bscr(Measure::Gross), Node::Bscr(Measure::Net)]
+    [
+        Node::Whole(Whole::Bscr(Measure::Gross)),
+        Node::Whole(Whole::Bscr(Measure::Net)),
+    ]
 }
 
 /// What tells how much deferred taxes absorb (Article 207).
@@ -422,8 +439,8 @@ pub fn tax_sources() -> [Node; 3]
     ensures { result ≡ adjustment_sources adjustments.DeferredTaxes }
 {
     [
-        Node::Bscr(Measure::Gross),
-        Node::Adjust(Adjustment::TechnicalProvisions),
-        Node::OpPart(Operational::Charge),
+        Node::Whole(Whole::Bscr(Measure::Gross)),
+        Node::Whole(Whole::Adjust(Adjustment::TechnicalProvisions)),
+        Node::Whole(Whole::OpPart(Operational::Charge)),
     ]
 }

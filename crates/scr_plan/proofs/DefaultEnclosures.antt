@@ -31,6 +31,8 @@ use Rattle.scr_sheet.specs.Validity.{Valid}
 use Rattle.scr_sheet.specs.declared.{rows.Group.Group, sheet.BalanceSheet.BalanceSheet}
 use Rattle.scr_nodes.specs.declared.node.Node.{Node}
 use Rattle.scr_nodes.specs.declared.node.Node.TheVariants as nodes
+use Rattle.scr_nodes.specs.declared.node.OfGroup.TheVariants as of_groups
+use Rattle.scr_nodes.specs.declared.node.Whole.TheVariants as wholes
 use Rattle.scr_nodes.specs.declared.node.Risk.TheVariants as risks
 use Rattle.scr_nodes.specs.OwnOf.{risk_key}
 use Rattle.scr_nodes.specs.Rows.{is_bank_of, is_reinsurer_of, is_of_default_class}
@@ -199,16 +201,16 @@ module _ (factors : FactorValues) (sheet : BalanceSheet) (valid : Valid sheet) w
   told : (unit : ℕ) (e : Ends) (g f : Figure) → Some g ≡ Some f → Holds unit e g → Holds unit e f
   told unit e g f is h = let same : g ≡ f = cc in subst (Holds unit e) same h
 
-  pub group-encloses : (name : List ℕ) → NodeEncloses (nodes.GroupLoss name)
+  pub group-encloses : (name : List ℕ) → NodeEncloses (nodes.Group name of_groups.Loss)
   group-encloses name f is = told 1000 _ _ f is (subst (λ (e : Ends). Enclosed 1000 e (group_loss sheet name)) (sym (group-is factors sheet valid name)) (group-told sheet name))
 
-  pub class-encloses : (class : ℕ) → NodeEncloses (nodes.ClassLoss class)
+  pub class-encloses : (class : ℕ) → NodeEncloses (nodes.Whole (wholes.ClassLoss class))
   class-encloses class f is = told 1000 _ _ f is (subst (λ (e : Ends). Enclosed 1000 e (class_loss sheet class)) (sym (class-is factors sheet valid class)) (class-told sheet class))
 
-  pub square-encloses : (class : ℕ) → NodeEncloses (nodes.ClassSquare class)
+  pub square-encloses : (class : ℕ) → NodeEncloses (nodes.Whole (wholes.ClassSquare class))
   square-encloses class f is = told 1_000_000 _ _ f is (subst (λ (e : Ends). Enclosed 1_000_000 e (class_square sheet class)) (sym (square-is factors sheet valid class)) (square-told sheet class))
 
-  variance-holds : Enclosed 1_000_000 (figure nodes.Variance) (default_variance sheet)
+  variance-holds : Enclosed 1_000_000 (figure (nodes.Whole wholes.Variance)) (default_variance sheet)
   unfolding default_variance
   variance-holds =
       subst (λ (e : Ends). Enclosed 1_000_000 e (default_variance sheet)) (sym (variance-is factors sheet valid))
@@ -216,43 +218,43 @@ module _ (factors : FactorValues) (sheet : BalanceSheet) (valid : Valid sheet) w
       (variance-alike (totals_in (in_classes (class_grains sheet))) (class_loss sheet) (squares_in (in_classes (class_square_grains sheet))) (class_square sheet) (totals-alike sheet) (squares-alike sheet))
       (variance-encloses (in_classes (class_grains sheet)) (in_classes (class_square_grains sheet))))
 
-  pub variance-node-encloses : NodeEncloses nodes.Variance
+  pub variance-node-encloses : NodeEncloses (nodes.Whole wholes.Variance)
   variance-node-encloses f is = told 1_000_000 _ _ f is variance-holds
 
   -- the mask of the bands has the bit of the one that decides by the exact variance
-  pub band-has-decisive : IsBitSet (amount_of (figure nodes.DefaultBand)) (default_band sheet)
+  pub band-has-decisive : IsBitSet (amount_of (figure (nodes.Whole wholes.DefaultBand))) (default_band sheet)
   band-has-decisive =
       subst (λ (e : Ends). IsBitSet (amount_of e) (default_band sheet)) (sym (band-is factors sheet valid))
-      (subst (λ (band : ℕ). IsBitSet (type1_mask (total_grains sheet) (figure nodes.Variance)) band) (band-alike (grains (total_grains sheet)) (total_loss sheet) (default_variance sheet) (grains-least (total_grains sheet)) (total-alike sheet))
-      (type1-bit (total_grains sheet) (figure nodes.Variance) (default_variance sheet) variance-holds))
+      (subst (λ (band : ℕ). IsBitSet (type1_mask (total_grains sheet) (figure (nodes.Whole wholes.Variance))) band) (band-alike (grains (total_grains sheet)) (total_loss sheet) (default_variance sheet) (grains-least (total_grains sheet)) (total-alike sheet))
+      (type1-bit (total_grains sheet) (figure (nodes.Whole wholes.Variance)) (default_variance sheet) variance-holds))
 
-  type1-holds : Holds 1000 (figure nodes.DefaultType1) (type1_exact sheet)
+  type1-holds : Holds 1000 (figure (nodes.Whole wholes.DefaultType1)) (type1_exact sheet)
   unfolding type1_exact
   type1-holds =
       subst (λ (e : Ends). Holds 1000 e (type1_exact sheet)) (sym (type1-is factors sheet valid))
       (type1-alike 1000 _ _ (grains (total_grains sheet)) (total_loss sheet) (default_variance sheet) (grains-least (total_grains sheet)) (total-alike sheet)
-      (type1-encloses (total_grains sheet) (figure nodes.Variance) (default_variance sheet) variance-holds))
+      (type1-encloses (total_grains sheet) (figure (nodes.Whole wholes.Variance)) (default_variance sheet) variance-holds))
 
-  pub type1-node-encloses : NodeEncloses nodes.DefaultType1
+  pub type1-node-encloses : NodeEncloses (nodes.Whole wholes.DefaultType1)
   type1-node-encloses f is = told 1000 _ _ f is type1-holds
 
-  type2-holds : Holds 1000 (figure nodes.DefaultType2) (due_exact sheet)
+  type2-holds : Holds 1000 (figure (nodes.Whole wholes.DefaultType2)) (due_exact sheet)
   type2-holds = subst (λ (e : Ends). Holds 1000 e (due_exact sheet)) (sym (type2-is factors sheet valid)) (type2-encloses (overdue_cents sheet) (other_due_cents sheet))
 
-  pub type2-node-encloses : NodeEncloses nodes.DefaultType2
+  pub type2-node-encloses : NodeEncloses (nodes.Whole wholes.DefaultType2)
   type2-node-encloses f is = told 1000 _ _ f is type2-holds
 
-  default-holds : Holds 1000 (figure nodes.Default) (default_exact sheet)
+  default-holds : Holds 1000 (figure (nodes.Whole wholes.Default)) (default_exact sheet)
   unfolding default_exact
   default-holds =
       subst (λ (e : Ends). Holds 1000 e (default_exact sheet)) (sym (default-is factors sheet valid))
-      (default-encloses 1000 (figure nodes.DefaultType1) (figure nodes.DefaultType2) (type1_exact sheet) (due_exact sheet) (lit< tt) (type1-amount factors sheet valid).not_negative (type2-amount factors sheet valid).not_negative type1-holds type2-holds)
+      (default-encloses 1000 (figure (nodes.Whole wholes.DefaultType1)) (figure (nodes.Whole wholes.DefaultType2)) (type1_exact sheet) (due_exact sheet) (lit< tt) (type1-amount factors sheet valid).not_negative (type2-amount factors sheet valid).not_negative type1-holds type2-holds)
 
-  pub default-node-encloses : NodeEncloses nodes.Default
+  pub default-node-encloses : NodeEncloses (nodes.Whole wholes.Default)
   default-node-encloses f is = told 1000 _ _ f is default-holds
 
-  pub net-node-encloses : NodeEncloses (nodes.NetPart risks.Default)
+  pub net-node-encloses : NodeEncloses (nodes.Whole (wholes.NetPart risks.Default))
   net-node-encloses f is =
       told 1000 _ _ f is
       (subst (λ (e : Ends). Holds 1000 e (net_figure (default_exact sheet) (absorbed (risk_key risks.Default) sheet.numbers))) (sym (net-is factors sheet valid))
-      (Encloses-net (figure nodes.Default) (absorbed (risk_key risks.Default) sheet.numbers) (default_exact sheet) default-holds))
+      (Encloses-net (figure (nodes.Whole wholes.Default)) (absorbed (risk_key risks.Default) sheet.numbers) (default_exact sheet) default-holds))

@@ -15,6 +15,8 @@ use Rattle.scr_sheet.specs.declared.{rows.Bank.Bank, rows.Group.Group, sheet.Bal
 use Rattle.scr_sheet.proofs.Amounts.{absorbed-within}
 use Rattle.scr_nodes.specs.declared.node.Node.{Node}
 use Rattle.scr_nodes.specs.declared.node.Node.TheVariants as nodes
+use Rattle.scr_nodes.specs.declared.node.OfGroup.TheVariants as of_groups
+use Rattle.scr_nodes.specs.declared.node.Whole.TheVariants as wholes
 use Rattle.scr_nodes.specs.declared.node.Risk.TheVariants as risks
 use Rattle.scr_nodes.specs.OwnOf.{own_of, reinsured, risk_key}
 use Rattle.scr_nodes.specs.Rows.{is_bank_of, is_reinsurer_of, is_of_default_class}
@@ -39,7 +41,7 @@ chosen-all test shown P Q (row ∷ rows) tells all = by (test row) (tells row al
     by true own rest = (own, rest)
     by false own rest = rest
 
-every-figure : (figure : Node → Ends) (P : Ends → Type 0) (groups : List Group) → ((name : List ℕ) → P (figure (nodes.GroupLoss name))) → AllByRecursion P (map figure (map group_loss groups))
+every-figure : (figure : Node → Ends) (P : Ends → Type 0) (groups : List Group) → ((name : List ℕ) → P (figure (nodes.Group name of_groups.Loss))) → AllByRecursion P (map figure (map group_loss groups))
 every-figure figure P [] each = tt
 every-figure figure P (group ∷ groups) each = (each group.name, every-figure figure P groups each)
 
@@ -50,7 +52,7 @@ module _ (factors : FactorValues) (sheet : BalanceSheet) (valid : Valid sheet) w
   abbrev NodeFits : Node → Type 0
   NodeFits node = Fits (own_of factors sheet node) (map figure (sources_of sheet node))
 
-  pub group-fits : (name : List ℕ) → NodeFits (nodes.GroupLoss name)
+  pub group-fits : (name : List ℕ) → NodeFits (nodes.Group name of_groups.Loss)
   group-fits name = record {
     banks_within = All-from_recursion (λ cents. cents ≤ MAX_AMOUNT) (map (λ (b : Bank). b.cents) (filter (is_bank_of name) sheet.banks))
         (chosen-all (is_bank_of name) (λ (b : Bank). b.cents) IsBank (λ cents. cents ≤ MAX_AMOUNT) sheet.banks (λ b own. own.2) valid.banks);
@@ -59,7 +61,7 @@ module _ (factors : FactorValues) (sheet : BalanceSheet) (valid : Valid sheet) w
     together = subst (λ n. n ≤ MAX_LOSS) (sym (losses-are factors sheet valid name)) (group-small sheet valid name);
   }
 
-  pub class-fits : (class : ℕ) → NodeFits (nodes.ClassLoss class)
+  pub class-fits : (class : ℕ) → NodeFits (nodes.Whole (wholes.ClassLoss class))
   class-fits class =
       together-wider _ _ _
       (omega (arith, where-at-most (is_of_default_class class) (λ (g : Group). group_grains sheet g.name) sheet.groups, groups-small sheet valid))
@@ -70,15 +72,15 @@ module _ (factors : FactorValues) (sheet : BalanceSheet) (valid : Valid sheet) w
       each [] = tt
       each (g ∷ groups) = ((λ passed. subst (IsWithin (group_grains sheet g.name)) (sym (group-is factors sheet valid g.name)) (record { low = omega arith; high = omega arith })), each groups)
 
-  pub squares-fit : (class : ℕ) → NodeFits (nodes.ClassSquare class)
+  pub squares-fit : (class : ℕ) → NodeFits (nodes.Whole (wholes.ClassSquare class))
   squares-fit class = record {
     each = All-from_recursion (IsAmount MAX_LOSS) (map figure (losses_of_class class sheet)) (every-figure figure (IsAmount MAX_LOSS) (filter (is_of_default_class class) sheet.groups) (λ name. group-amount factors sheet valid name));
     together = subst (λ n. n ≤ MAX_LOSS) (sym (losses-sum factors sheet valid class)) (class-small sheet valid class);
   }
 
-  pub variance-fits : NodeFits nodes.Variance
+  pub variance-fits : NodeFits (nodes.Whole wholes.Variance)
   variance-fits =
-      let figures = map figure (sources_of sheet nodes.Variance) in
+      let figures = map figure (sources_of sheet (nodes.Whole wholes.Variance)) in
       let loss = class-amount factors sheet valid in
       let square = square-amount factors sheet valid in
       record {
@@ -86,34 +88,34 @@ module _ (factors : FactorValues) (sheet : BalanceSheet) (valid : Valid sheet) w
         squares = six (λ k. IsAmount (amount_at figures k * amount_at figures k) (figure_at figures (6 + k))) (square 0) (square 1) (square 2) (square 3) (square 4) (square 5);
       }
 
-  pub band-fits : NodeFits nodes.DefaultBand
+  pub band-fits : NodeFits (nodes.Whole wholes.DefaultBand)
   band-fits =
-      let figures = map figure (sources_of sheet nodes.DefaultBand) in
+      let figures = map figure (sources_of sheet (nodes.Whole wholes.DefaultBand)) in
       let loss = class-amount factors sheet valid in
       let variance = variance-amount factors sheet valid in
       record {
         losses = six (λ k. IsAmount MAX_LOSS (figure_at figures k)) (loss 0) (loss 1) (loss 2) (loss 3) (loss 4) (loss 5);
         together = subst (λ n. n ≤ MAX_LOSS) (sym (total-is factors sheet valid)) (total-small sheet valid);
         low = variance.not_negative;
-        high = omega (arith, ints, amount-high (105 * 10 ^ 30) (figure nodes.Variance) variance);
+        high = omega (arith, ints, amount-high (105 * 10 ^ 30) (figure (nodes.Whole wholes.Variance)) variance);
       }
 
-  pub type1-fits : NodeFits nodes.DefaultType1
+  pub type1-fits : NodeFits (nodes.Whole wholes.DefaultType1)
   type1-fits =
-      let figures = map figure (sources_of sheet nodes.DefaultType1) in
+      let figures = map figure (sources_of sheet (nodes.Whole wholes.DefaultType1)) in
       let loss = class-amount factors sheet valid in
       let variance = variance-amount factors sheet valid in
       record {
         losses = six (λ k. IsAmount MAX_LOSS (figure_at figures k)) (loss 0) (loss 1) (loss 2) (loss 3) (loss 4) (loss 5);
         together = subst (λ n. n ≤ MAX_LOSS) (sym (total-is factors sheet valid)) (total-small sheet valid);
         low = variance.not_negative;
-        high = omega (arith, ints, amount-high (105 * 10 ^ 30) (figure nodes.Variance) variance);
+        high = omega (arith, ints, amount-high (105 * 10 ^ 30) (figure (nodes.Whole wholes.Variance)) variance);
       }
 
-  pub type2-fits : NodeFits nodes.DefaultType2
+  pub type2-fits : NodeFits (nodes.Whole wholes.DefaultType2)
   type2-fits = record { overdue_within = overdue-small sheet valid; other_within = other-small sheet valid }
 
-  pub default-fits : NodeFits nodes.Default
+  pub default-fits : NodeFits (nodes.Whole wholes.Default)
   default-fits =
       let a = type1-amount factors sheet valid in
       let b = type2-amount factors sheet valid in
@@ -121,7 +123,7 @@ module _ (factors : FactorValues) (sheet : BalanceSheet) (valid : Valid sheet) w
       let second = high-part _ _ b in
       record { lows = (a.not_negative, (b.not_negative, tt)); highs = omega (arith, first, second) }
 
-  pub net-fits : NodeFits (nodes.NetPart risks.Default)
+  pub net-fits : NodeFits (nodes.Whole (wholes.NetPart risks.Default))
   net-fits =
       let gross = default-amount factors sheet valid in
       record {

@@ -22,6 +22,8 @@ use Rattle.scr_sheet.specs.Validity as validity
 use Rattle.scr_sheet.specs.declared.{rows.Bank.Bank, rows.Group.Group, sheet.BalanceSheet.BalanceSheet}
 use Rattle.scr_nodes.specs.declared.node.Node.{Node}
 use Rattle.scr_nodes.specs.declared.node.Node.TheVariants as nodes
+use Rattle.scr_nodes.specs.declared.node.OfGroup.TheVariants as of_groups
+use Rattle.scr_nodes.specs.declared.node.Whole.TheVariants as wholes
 use Rattle.scr_nodes.specs.declared.node.Risk.TheVariants as risks
 use Rattle.scr_nodes.specs.OwnOf.{reinsured, risk_key}
 use Rattle.scr_nodes.specs.Rows.{is_bank_of, is_reinsurer_of, is_of_default_class}
@@ -73,20 +75,20 @@ module _ (factors : FactorValues) (sheet : BalanceSheet) (valid : Valid sheet) w
   losses-are name =
       ap₂ ◌+◌ (where-mapped (is_bank_of name) (λ (b : Bank). b.cents) lgd_bank_grains sheet.banks) (where-mapped (is_reinsurer_of name) reinsured reinsured_grains sheet.reinsurers)
 
-  pub group-is : (name : List ℕ) → figure (nodes.GroupLoss name) ≡ exact_ends (pos (group_grains sheet name))
-  group-is name = worked-equation factors sheet valid (nodes.GroupLoss name) ∙ ap (λ n. exact_ends (pos n)) (losses-are name)
+  pub group-is : (name : List ℕ) → figure (nodes.Group name of_groups.Loss) ≡ exact_ends (pos (group_grains sheet name))
+  group-is name = worked-equation factors sheet valid (nodes.Group name of_groups.Loss) ∙ ap (λ n. exact_ends (pos n)) (losses-are name)
 
-  pub group-amount : (name : List ℕ) → IsAmount MAX_LOSS (figure (nodes.GroupLoss name))
+  pub group-amount : (name : List ℕ) → IsAmount MAX_LOSS (figure (nodes.Group name of_groups.Loss))
   group-amount name = subst (IsAmount MAX_LOSS) (sym (group-is name)) (amount-exact MAX_LOSS (group_grains sheet name) (group-small sheet valid name))
 
-  pub class-is : (class : ℕ) → figure (nodes.ClassLoss class) ≡ exact_ends (pos (class_grains sheet class))
+  pub class-is : (class : ℕ) → figure (nodes.Whole (wholes.ClassLoss class)) ≡ exact_ends (pos (class_grains sheet class))
   unfolding class_grains
   class-is class =
-      worked-equation factors sheet valid (nodes.ClassLoss class)
+      worked-equation factors sheet valid (nodes.Whole (wholes.ClassLoss class))
       ∙ rows-sum figure group_loss (is_of_default_class class) (λ g. group_grains sheet g.name) sheet.groups
       (every (λ (g : Group). figure (group_loss g) ≡ exact_ends (pos (group_grains sheet g.name))) sheet.groups (λ g. group-is g.name))
 
-  pub class-amount : (class : ℕ) → IsAmount MAX_LOSS (figure (nodes.ClassLoss class))
+  pub class-amount : (class : ℕ) → IsAmount MAX_LOSS (figure (nodes.Whole (wholes.ClassLoss class)))
   class-amount class = subst (IsAmount MAX_LOSS) (sym (class-is class)) (amount-exact MAX_LOSS (class_grains sheet class) (class-small sheet valid class))
 
   pub losses-sum : (class : ℕ) → sum_by amount_of (map figure (losses_of_class class sheet)) ≡ class_grains sheet class
@@ -95,28 +97,28 @@ module _ (factors : FactorValues) (sheet : BalanceSheet) (valid : Valid sheet) w
       where-measured figure group_loss (is_of_default_class class) amount_of (λ g. group_grains sheet g.name) sheet.groups
       (every (λ (g : Group). amount_of (figure (group_loss g)) ≡ group_grains sheet g.name) sheet.groups (λ g. ap amount_of (group-is g.name)))
 
-  pub square-is : (class : ℕ) → figure (nodes.ClassSquare class) ≡ exact_ends (pos (class_square_grains sheet class))
+  pub square-is : (class : ℕ) → figure (nodes.Whole (wholes.ClassSquare class)) ≡ exact_ends (pos (class_square_grains sheet class))
   unfolding class_square_grains
   square-is class =
-      worked-equation factors sheet valid (nodes.ClassSquare class)
+      worked-equation factors sheet valid (nodes.Whole (wholes.ClassSquare class))
       ∙ ap (λ n. exact_ends (pos n))
       (where-measured figure group_loss (is_of_default_class class) (λ e. amount_of e * amount_of e) (λ g. group_grains sheet g.name * group_grains sheet g.name) sheet.groups
       (every (λ (g : Group). amount_of (figure (group_loss g)) * amount_of (figure (group_loss g)) ≡ group_grains sheet g.name * group_grains sheet g.name) sheet.groups
       (λ g. ap (λ e. amount_of e * amount_of e) (group-is g.name))))
 
-  pub square-amount : (class : ℕ) → IsAmount (amount_of (figure (nodes.ClassLoss class)) * amount_of (figure (nodes.ClassLoss class))) (figure (nodes.ClassSquare class))
+  pub square-amount : (class : ℕ) → IsAmount (amount_of (figure (nodes.Whole (wholes.ClassLoss class))) * amount_of (figure (nodes.Whole (wholes.ClassLoss class)))) (figure (nodes.Whole (wholes.ClassSquare class)))
   square-amount class =
-      subst (λ (e : Ends). IsAmount (amount_of e * amount_of e) (figure (nodes.ClassSquare class))) (sym (class-is class))
+      subst (λ (e : Ends). IsAmount (amount_of e * amount_of e) (figure (nodes.Whole (wholes.ClassSquare class)))) (sym (class-is class))
       (subst (IsAmount (class_grains sheet class * class_grains sheet class)) (sym (square-is class)) (amount-exact (class_grains sheet class * class_grains sheet class) (class_square_grains sheet class) (squares-small sheet valid class)))
 
   -- ---- their variance
-  pub variance-is : figure nodes.Variance ≡ variance_ends (in_classes (class_grains sheet)) (in_classes (class_square_grains sheet))
+  pub variance-is : figure (nodes.Whole wholes.Variance) ≡ variance_ends (in_classes (class_grains sheet)) (in_classes (class_square_grains sheet))
   variance-is =
-      worked-equation factors sheet valid nodes.Variance
-      ∙ ap₂ variance_ends (in_classes-same (λ class. amount_of (figure (nodes.ClassLoss class))) (class_grains sheet) (λ class. ap amount_of (class-is class)))
-      (in_classes-same (λ class. amount_of (figure (nodes.ClassSquare class))) (class_square_grains sheet) (λ class. ap amount_of (square-is class)))
+      worked-equation factors sheet valid (nodes.Whole wholes.Variance)
+      ∙ ap₂ variance_ends (in_classes-same (λ class. amount_of (figure (nodes.Whole (wholes.ClassLoss class)))) (class_grains sheet) (λ class. ap amount_of (class-is class)))
+      (in_classes-same (λ class. amount_of (figure (nodes.Whole (wholes.ClassSquare class)))) (class_square_grains sheet) (λ class. ap amount_of (square-is class)))
 
-  pub variance-amount : IsAmount (105 * 10 ^ 30) (figure nodes.Variance)
+  pub variance-amount : IsAmount (105 * 10 ^ 30) (figure (nodes.Whole wholes.Variance))
   variance-amount =
       let totals = in_classes (class_grains sheet) in
       let squares = in_classes (class_square_grains sheet) in
@@ -125,42 +127,42 @@ module _ (factors : FactorValues) (sheet : BalanceSheet) (valid : Valid sheet) w
       subst (IsAmount (105 * 10 ^ 30)) (sym variance-is) (variance-size totals squares small (squares-size totals squares small squared))
 
   -- ---- type 1 and type 2 exposures
-  pub total-is : amount_of (figure (nodes.ClassLoss 0)) + amount_of (figure (nodes.ClassLoss 1)) + amount_of (figure (nodes.ClassLoss 2)) + amount_of (figure (nodes.ClassLoss 3))
-      + amount_of (figure (nodes.ClassLoss 4)) + amount_of (figure (nodes.ClassLoss 5)) ≡ total_grains sheet
+  pub total-is : amount_of (figure (nodes.Whole (wholes.ClassLoss 0))) + amount_of (figure (nodes.Whole (wholes.ClassLoss 1))) + amount_of (figure (nodes.Whole (wholes.ClassLoss 2))) + amount_of (figure (nodes.Whole (wholes.ClassLoss 3)))
+      + amount_of (figure (nodes.Whole (wholes.ClassLoss 4))) + amount_of (figure (nodes.Whole (wholes.ClassLoss 5))) ≡ total_grains sheet
   total-is = rw (class-is 0, class-is 1, class-is 2, class-is 3, class-is 4, class-is 5) refl
 
-  pub band-is : figure nodes.DefaultBand ≡ exact_ends (pos (type1_mask (total_grains sheet) (figure nodes.Variance)))
-  band-is = worked-equation factors sheet valid nodes.DefaultBand ∙ ap (λ n. exact_ends (pos (type1_mask n (figure nodes.Variance)))) total-is
+  pub band-is : figure (nodes.Whole wholes.DefaultBand) ≡ exact_ends (pos (type1_mask (total_grains sheet) (figure (nodes.Whole wholes.Variance))))
+  band-is = worked-equation factors sheet valid (nodes.Whole wholes.DefaultBand) ∙ ap (λ n. exact_ends (pos (type1_mask n (figure (nodes.Whole wholes.Variance))))) total-is
 
-  pub type1-is : figure nodes.DefaultType1 ≡ type1_ends (total_grains sheet) (figure nodes.Variance)
-  type1-is = worked-equation factors sheet valid nodes.DefaultType1 ∙ ap (λ n. type1_ends n (figure nodes.Variance)) total-is
+  pub type1-is : figure (nodes.Whole wholes.DefaultType1) ≡ type1_ends (total_grains sheet) (figure (nodes.Whole wholes.Variance))
+  type1-is = worked-equation factors sheet valid (nodes.Whole wholes.DefaultType1) ∙ ap (λ n. type1_ends n (figure (nodes.Whole wholes.Variance))) total-is
 
-  pub type1-amount : IsAmount (16 * 10 ^ 16) (figure nodes.DefaultType1)
+  pub type1-amount : IsAmount (16 * 10 ^ 16) (figure (nodes.Whole wholes.DefaultType1))
   type1-amount =
       subst (IsAmount (16 * 10 ^ 16)) (sym type1-is)
-      (type1-size (total_grains sheet) (figure nodes.Variance) (total-small sheet valid) (amount-wider (105 * 10 ^ 30) (10 ^ 33) (figure nodes.Variance) (omega arith) variance-amount))
+      (type1-size (total_grains sheet) (figure (nodes.Whole wholes.Variance)) (total-small sheet valid) (amount-wider (105 * 10 ^ 30) (10 ^ 33) (figure (nodes.Whole wholes.Variance)) (omega arith) variance-amount))
 
-  pub type2-is : figure nodes.DefaultType2 ≡ type2_ends (overdue_cents sheet) (other_due_cents sheet)
-  type2-is = worked-equation factors sheet valid nodes.DefaultType2
+  pub type2-is : figure (nodes.Whole wholes.DefaultType2) ≡ type2_ends (overdue_cents sheet) (other_due_cents sheet)
+  type2-is = worked-equation factors sheet valid (nodes.Whole wholes.DefaultType2)
 
-  pub type2-amount : IsAmount (2 * 10 ^ 16) (figure nodes.DefaultType2)
+  pub type2-amount : IsAmount (2 * 10 ^ 16) (figure (nodes.Whole wholes.DefaultType2))
   type2-amount =
       subst (IsAmount (2 * 10 ^ 16)) (sym type2-is)
       (amount-wider (900 * overdue_cents sheet + 150 * other_due_cents sheet) (2 * 10 ^ 16) (type2_ends (overdue_cents sheet) (other_due_cents sheet)) (omega (arith, overdue-small sheet valid, other-small sheet valid)) (type2-size (overdue_cents sheet) (other_due_cents sheet)))
 
   -- ---- the module
-  pub default-is : figure nodes.Default ≡ default_ends (figure nodes.DefaultType1) (figure nodes.DefaultType2)
-  default-is = worked-equation factors sheet valid nodes.Default
+  pub default-is : figure (nodes.Whole wholes.Default) ≡ default_ends (figure (nodes.Whole wholes.DefaultType1)) (figure (nodes.Whole wholes.DefaultType2))
+  default-is = worked-equation factors sheet valid (nodes.Whole wholes.Default)
 
-  pub default-amount : IsAmount (18 * 10 ^ 16) (figure nodes.Default)
+  pub default-amount : IsAmount (18 * 10 ^ 16) (figure (nodes.Whole wholes.Default))
   default-amount =
       subst (IsAmount (18 * 10 ^ 16)) (sym default-is)
-      (amount-wider (16 * 10 ^ 16 + 2 * 10 ^ 16) (18 * 10 ^ 16) (default_ends (figure nodes.DefaultType1) (figure nodes.DefaultType2)) (omega arith) (default-size (16 * 10 ^ 16) (2 * 10 ^ 16) (figure nodes.DefaultType1) (figure nodes.DefaultType2) type1-amount type2-amount))
+      (amount-wider (16 * 10 ^ 16 + 2 * 10 ^ 16) (18 * 10 ^ 16) (default_ends (figure (nodes.Whole wholes.DefaultType1)) (figure (nodes.Whole wholes.DefaultType2))) (omega arith) (default-size (16 * 10 ^ 16) (2 * 10 ^ 16) (figure (nodes.Whole wholes.DefaultType1)) (figure (nodes.Whole wholes.DefaultType2)) type1-amount type2-amount))
 
-  pub net-is : figure (nodes.NetPart risks.Default) ≡ net_ends (figure nodes.Default) (absorbed (risk_key risks.Default) sheet.numbers)
-  net-is = worked-equation factors sheet valid (nodes.NetPart risks.Default)
+  pub net-is : figure (nodes.Whole (wholes.NetPart risks.Default)) ≡ net_ends (figure (nodes.Whole wholes.Default)) (absorbed (risk_key risks.Default) sheet.numbers)
+  net-is = worked-equation factors sheet valid (nodes.Whole (wholes.NetPart risks.Default))
 
-  pub net-amount : IsAmount (18 * 10 ^ 16) (figure (nodes.NetPart risks.Default))
+  pub net-amount : IsAmount (18 * 10 ^ 16) (figure (nodes.Whole (wholes.NetPart risks.Default)))
   net-amount =
       subst (IsAmount (18 * 10 ^ 16)) (sym net-is)
-      (amount-net (18 * 10 ^ 16) (figure nodes.Default) (absorbed (risk_key risks.Default) sheet.numbers) default-amount.ordered (amount-high (18 * 10 ^ 16) (figure nodes.Default) default-amount))
+      (amount-net (18 * 10 ^ 16) (figure (nodes.Whole wholes.Default)) (absorbed (risk_key risks.Default) sheet.numbers) default-amount.ordered (amount-high (18 * 10 ^ 16) (figure (nodes.Whole wholes.Default)) default-amount))

@@ -48,6 +48,12 @@ use Rattle.scr_nodes.specs.declared.node.Direction.TheVariants as directions
 use Rattle.scr_nodes.specs.declared.node.Equities.TheVariants as equities
 use Rattle.scr_nodes.specs.declared.node.Measure.TheVariants as measures
 use Rattle.scr_nodes.specs.declared.node.Node.TheVariants as nodes
+use Rattle.scr_nodes.specs.declared.node.OfFund.TheVariants as of_funds
+use Rattle.scr_nodes.specs.declared.node.OfSecurity.TheVariants as of_securities
+use Rattle.scr_nodes.specs.declared.node.OfLiability.TheVariants as of_liabilities
+use Rattle.scr_nodes.specs.declared.node.OfCurrency.TheVariants as of_currencies
+use Rattle.scr_nodes.specs.declared.node.OfGroup.TheVariants as of_groups
+use Rattle.scr_nodes.specs.declared.node.Whole.TheVariants as wholes
 use Rattle.scr_nodes.specs.declared.node.Risk.TheVariants as risks
 use Rattle.scr_nodes.specs.Live.{is_live}
 use Rattle.scr_nodes.specs.OwnOf.{paid_by_security, paid_by_liability, interest_key, risk_key}
@@ -153,19 +159,19 @@ not-second false b h is = absurd (true≢false (sym is))
 
 -- a figure of market risk which a cell shows
 abbrev pub is_of_market : Node → Bool
-is_of_market (nodes.InterestScenario direction measure) = true
-is_of_market (nodes.Picked alternatives.Interest measure) = true
-is_of_market (nodes.EquityPart kind) = true
-is_of_market nodes.EquityRoot = true
-is_of_market (nodes.NetPart risks.Equity) = true
-is_of_market (nodes.NetPart risks.Property) = true
-is_of_market (nodes.NetPart risks.Spread) = true
-is_of_market (nodes.NetPart risks.Concentration) = true
-is_of_market (nodes.Currency measure) = true
-is_of_market nodes.Property = true
-is_of_market nodes.Spread = true
-is_of_market nodes.Concentration = true
-is_of_market (nodes.Market measure) = true
+is_of_market (nodes.Whole (wholes.InterestScenario direction measure)) = true
+is_of_market (nodes.Whole (wholes.Picked alternatives.Interest measure)) = true
+is_of_market (nodes.Whole (wholes.EquityPart kind)) = true
+is_of_market (nodes.Whole wholes.EquityRoot) = true
+is_of_market (nodes.Whole (wholes.NetPart risks.Equity)) = true
+is_of_market (nodes.Whole (wholes.NetPart risks.Property)) = true
+is_of_market (nodes.Whole (wholes.NetPart risks.Spread)) = true
+is_of_market (nodes.Whole (wholes.NetPart risks.Concentration)) = true
+is_of_market (nodes.Whole (wholes.Currency measure)) = true
+is_of_market (nodes.Whole wholes.Property) = true
+is_of_market (nodes.Whole wholes.Spread) = true
+is_of_market (nodes.Whole wholes.Concentration) = true
+is_of_market (nodes.Whole (wholes.Market measure)) = true
 is_of_market node = false
 
 module _ (factors : FactorValues) (sheet : BalanceSheet) (valid : Valid sheet) where
@@ -174,7 +180,7 @@ module _ (factors : FactorValues) (sheet : BalanceSheet) (valid : Valid sheet) w
 
   -- ---- payments
   unit-encloses : (direction : Direction) (name : List ℕ) (p : Position) → position_of name sheet.securities ≡ Some p
-      → Enclosed (figure (nodes.UnitLoss name direction)) (security_unit_loss sheet direction p)
+      → Enclosed (figure (nodes.Security name (of_securities.UnitLoss direction))) (security_unit_loss sheet direction p)
   unfolding security_unit_loss
   unit-encloses direction name p is =
       let fits = security-fits sheet valid direction p (security-known sheet valid name p is) in
@@ -184,13 +190,13 @@ module _ (factors : FactorValues) (sheet : BalanceSheet) (valid : Valid sheet) w
   own-name name p is = same_name-is name (position_name p) (name_of-row_of position_name name sheet.securities p is)
 
   rate-encloses : (direction : Direction) (name : List ℕ) (p : Position) → position_of name sheet.securities ≡ Some p
-      → Enclosed (figure (nodes.SecurityRate name direction)) (security_loss sheet direction p)
+      → Enclosed (figure (nodes.Security name (of_securities.Rate direction))) (security_loss sheet direction p)
   unfolding security_loss
   rate-encloses direction name p is =
-      let e = figure (nodes.UnitLoss name direction) in
+      let e = figure (nodes.Security name (of_securities.UnitLoss direction)) in
       let held = security_cents sheet p in
       let share : Share = record { num = held; den = 1000000; positive = lit< tt } in
-      let worked_as : figure (nodes.SecurityRate name direction) ≡ scaled_ends e held =
+      let worked_as : figure (nodes.Security name (of_securities.Rate direction)) ≡ scaled_ends e held =
       rate-worked factors sheet valid direction name p is ∙ ap (λ (n : List ℕ). scaled_ends e (total_of sheet n)) (own-name name p is) in
       subst (λ (f : Ends). Enclosed f (product (over (pos held) 1_000_000 (lit< tt)) (security_unit_loss sheet direction p))) (sym worked_as)
       (Encloses-share one _ _ (security_unit_loss sheet direction p) share
@@ -198,7 +204,7 @@ module _ (factors : FactorValues) (sheet : BalanceSheet) (valid : Valid sheet) w
       (unit-encloses direction name p is)))
 
   cost-encloses : (direction : Direction) (name : List ℕ) (l : Liability) → liability_of name sheet.liabilities ≡ Some l
-      → Enclosed (figure (nodes.LiabilityRate name direction)) (liability_loss sheet direction l)
+      → Enclosed (figure (nodes.Liability name (of_liabilities.Rate direction))) (liability_loss sheet direction l)
   unfolding liability_loss
   cost-encloses direction name l is =
       let fits = liability-fits sheet valid direction l (liability-known sheet valid name l is) in
@@ -236,7 +242,7 @@ module _ (factors : FactorValues) (sheet : BalanceSheet) (valid : Valid sheet) w
       let split : sum_ends (map figure (xs ++ ys)) ≡ add_ends (sum_ends (map figure xs)) (sum_ends (map figure ys)) = ap sum_ends (map-append figure xs ys) ∙ sum_ends-append (map figure xs) (map figure ys) in
       subst (λ (e : Ends). Enclosed e (interest.currency_loss sheet direction currency)) (sym split) (sum-encloses one (lit< tt) (sum_ends (map figure xs)) (sum_ends (map figure ys)) _ _ securities liabilities)
 
-  lost-encloses : (direction : Direction) (currency : List ℕ) → Enclosed (figure (nodes.CurrencyLoss currency direction)) (counted (interest.currency_loss sheet direction currency))
+  lost-encloses : (direction : Direction) (currency : List ℕ) → Enclosed (figure (nodes.Currency currency (of_currencies.Loss direction))) (counted (interest.currency_loss sheet direction currency))
   lost-encloses direction currency =
       subst (λ (e : Ends). Enclosed e (counted (interest.currency_loss sheet direction currency))) (sym (lost-worked factors sheet valid direction currency))
       (counted-encloses (sum_ends (map figure (rates_in currency direction sheet))) (interest.currency_loss sheet direction currency) (rates-enclose direction currency))
@@ -246,27 +252,27 @@ module _ (factors : FactorValues) (sheet : BalanceSheet) (valid : Valid sheet) w
   losses-enclose direction (c ∷ curves) = (lost-encloses direction c.currency, losses-enclose direction curves)
 
   -- ---- the scenarios and the one that decides
-  gross-encloses : (direction : Direction) → Holds 1000 (figure (nodes.InterestScenario direction measures.Gross)) (Frac (gross_exact (losses sheet direction)))
+  gross-encloses : (direction : Direction) → Holds 1000 (figure (nodes.Whole (wholes.InterestScenario direction measures.Gross))) (Frac (gross_exact (losses sheet direction)))
   gross-encloses direction =
       subst (λ (e : Ends). Holds 1000 e (Frac (gross_exact (losses sheet direction)))) (sym (gross-worked factors sheet valid direction))
       (costs.gross_encloses (map figure (map (currency_loss direction) sheet.curves)) (losses sheet direction) (losses-enclose direction sheet.curves))
 
-  net-worked : (direction : Direction) → figure (nodes.InterestScenario direction measures.Net) ≡ net_ends (figure (nodes.InterestScenario direction measures.Gross)) (absorbed (interest_key direction) sheet.numbers)
-  net-worked direction = worked-equation factors sheet valid (nodes.InterestScenario direction measures.Net)
+  net-worked : (direction : Direction) → figure (nodes.Whole (wholes.InterestScenario direction measures.Net)) ≡ net_ends (figure (nodes.Whole (wholes.InterestScenario direction measures.Gross))) (absorbed (interest_key direction) sheet.numbers)
+  net-worked direction = worked-equation factors sheet valid (nodes.Whole (wholes.InterestScenario direction measures.Net))
 
   abbrev alternative_of : Direction → Alternative
-  alternative_of direction = record { gross = figure (nodes.InterestScenario direction measures.Gross); net = figure (nodes.InterestScenario direction measures.Net) }
+  alternative_of direction = record { gross = figure (nodes.Whole (wholes.InterestScenario direction measures.Gross)); net = figure (nodes.Whole (wholes.InterestScenario direction measures.Net)) }
 
-  absorb-is : (direction : Direction) → Holds 1000 (net_ends (figure (nodes.InterestScenario direction measures.Gross)) (absorbed (interest_key direction) sheet.numbers)) (Frac (scenario_of sheet direction).net)
+  absorb-is : (direction : Direction) → Holds 1000 (net_ends (figure (nodes.Whole (wholes.InterestScenario direction measures.Gross))) (absorbed (interest_key direction) sheet.numbers)) (Frac (scenario_of sheet direction).net)
   unfolding scenario_of
   absorb-is directions.Up =
-      let e = figure (nodes.InterestScenario directions.Up measures.Gross) in
+      let e = figure (nodes.Whole (wholes.InterestScenario directions.Up measures.Gross)) in
       Encloses-net_exact 1000 _ _ (gross_exact (losses sheet directions.Up)) (up_absorption sheet) (Encloses-net e (up_absorption sheet) (Frac (gross_exact (losses sheet directions.Up))) (gross-encloses directions.Up))
   absorb-is directions.Down =
-      let e = figure (nodes.InterestScenario directions.Down measures.Gross) in
+      let e = figure (nodes.Whole (wholes.InterestScenario directions.Down measures.Gross)) in
       Encloses-net_exact 1000 _ _ (gross_exact (losses sheet directions.Down)) (down_absorption sheet) (Encloses-net e (down_absorption sheet) (Frac (gross_exact (losses sheet directions.Down))) (gross-encloses directions.Down))
 
-  scenario-gross : (direction : Direction) → Holds 1000 (figure (nodes.InterestScenario direction measures.Gross)) (Frac (scenario_of sheet direction).gross)
+  scenario-gross : (direction : Direction) → Holds 1000 (figure (nodes.Whole (wholes.InterestScenario direction measures.Gross))) (Frac (scenario_of sheet direction).gross)
   unfolding scenario_of
   scenario-gross directions.Up = gross-encloses directions.Up
   scenario-gross directions.Down = gross-encloses directions.Down
@@ -290,18 +296,18 @@ module _ (factors : FactorValues) (sheet : BalanceSheet) (valid : Valid sheet) w
   unfolding decisive_outcome scenario_of
   decisive-is = refl
 
-  picked-encloses : (measure : Measure) → Holds 1000 (figure (nodes.Picked alternatives.Interest measure)) (Frac (measured measure (decisive_outcome sheet)))
+  picked-encloses : (measure : Measure) → Holds 1000 (figure (nodes.Whole (wholes.Picked alternatives.Interest measure))) (Frac (measured measure (decisive_outcome sheet)))
   picked-encloses measures.Gross =
-      subst (λ (e : Ends). Holds 1000 e (Frac (decisive_outcome sheet).gross)) (sym (worked-equation factors sheet valid (nodes.Picked alternatives.Interest measures.Gross)))
+      subst (λ (e : Ends). Holds 1000 e (Frac (decisive_outcome sheet).gross)) (sym (worked-equation factors sheet valid (nodes.Whole (wholes.Picked alternatives.Interest measures.Gross))))
       (rw decisive-is (gross_encloses 1000 rise_and_fall outcomes (chosen outcomes) both-enclose (chosen-is outcomes (lit< tt))))
   picked-encloses measures.Net =
-      subst (λ (e : Ends). Holds 1000 e (Frac (decisive_outcome sheet).net)) (sym (worked-equation factors sheet valid (nodes.Picked alternatives.Interest measures.Net)))
+      subst (λ (e : Ends). Holds 1000 e (Frac (decisive_outcome sheet).net)) (sym (worked-equation factors sheet valid (nodes.Whole (wholes.Picked alternatives.Interest measures.Net))))
       (rw decisive-is (net_encloses 1000 rise_and_fall outcomes (chosen outcomes) both-enclose (chosen-is outcomes (lit< tt))))
 
   -- the mask of the choice has the bit of the one that decides by the exact requirements
-  pub choice-has-decisive : IsBitSet (amount_of (figure (nodes.Choice alternatives.Interest))) (chosen outcomes)
+  pub choice-has-decisive : IsBitSet (amount_of (figure (nodes.Whole (wholes.Choice alternatives.Interest)))) (chosen outcomes)
   choice-has-decisive =
-      subst (λ (e : Ends). IsBitSet (or_zero e.low) (chosen outcomes)) (sym (worked-equation factors sheet valid (nodes.Choice alternatives.Interest)))
+      subst (λ (e : Ends). IsBitSet (or_zero e.low) (chosen outcomes)) (sym (worked-equation factors sheet valid (nodes.Whole (wholes.Choice alternatives.Interest))))
       ((mask_bits rise_and_fall (chosen outcomes) (chosen-is outcomes (lit< tt)).listed).1
       (chosen_unbeaten 1000 rise_and_fall outcomes (chosen outcomes) both-enclose (chosen-is outcomes (lit< tt))))
 
@@ -312,16 +318,16 @@ module _ (factors : FactorValues) (sheet : BalanceSheet) (valid : Valid sheet) w
   part-encloses equities.Infrastructure = infra-encloses (class_total classes.Infrastructure sheet) sheet.numbers.sym
   part-encloses equities.InfrastructureCorporate = infracorp-encloses (class_total classes.InfrastructureCorporate sheet) sheet.numbers.sym
 
-  equities-enclose : (kind : Equities) → Holds 1000 (figure (nodes.EquityPart kind)) (equities_exact sheet kind)
+  equities-enclose : (kind : Equities) → Holds 1000 (figure (nodes.Whole (wholes.EquityPart kind))) (equities_exact sheet kind)
   equities-enclose kind = subst (λ (e : Ends). Holds 1000 e (equities_exact sheet kind)) (sym (part-worked factors sheet valid kind)) (part-encloses kind)
 
-  equity-encloses : Holds 1000 (figure nodes.EquityRoot) (equity_exact sheet)
+  equity-encloses : Holds 1000 (figure (nodes.Whole wholes.EquityRoot)) (equity_exact sheet)
   unfolding equity_exact
   equity-encloses =
-      let a = figure (nodes.EquityPart equities.Type1) in
-      let b = figure (nodes.EquityPart equities.Type2) in
-      let c = figure (nodes.EquityPart equities.Infrastructure) in
-      let d = figure (nodes.EquityPart equities.InfrastructureCorporate) in
+      let a = figure (nodes.Whole (wholes.EquityPart equities.Type1)) in
+      let b = figure (nodes.Whole (wholes.EquityPart equities.Type2)) in
+      let c = figure (nodes.Whole (wholes.EquityPart equities.Infrastructure)) in
+      let d = figure (nodes.Whole (wholes.EquityPart equities.InfrastructureCorporate)) in
       let others = add_ends (add_ends b c) d in
       let size = amount-add (MAX_EQUITY_PART + MAX_EQUITY_PART) MAX_EQUITY_PART _ _
       (amount-add MAX_EQUITY_PART MAX_EQUITY_PART _ _ (part-amount factors sheet valid equities.Type2) (part-amount factors sheet valid equities.Infrastructure))
@@ -331,17 +337,17 @@ module _ (factors : FactorValues) (sheet : BalanceSheet) (valid : Valid sheet) w
       subst (λ (e : Ends). Holds 1000 e (equity_exact sheet)) (sym (root-worked factors sheet valid))
       (root-encloses a others _ _ (part-amount factors sheet valid equities.Type1).not_negative size.not_negative (equities-enclose equities.Type1) three)
 
-  equity-net : Holds 1000 (figure (nodes.NetPart risks.Equity)) (net_figure (equity_exact sheet) (absorbed (risk_key risks.Equity) sheet.numbers))
+  equity-net : Holds 1000 (figure (nodes.Whole (wholes.NetPart risks.Equity))) (net_figure (equity_exact sheet) (absorbed (risk_key risks.Equity) sheet.numbers))
   equity-net =
-      subst (λ (e : Ends). Holds 1000 e (net_figure (equity_exact sheet) (absorbed (risk_key risks.Equity) sheet.numbers))) (sym (worked-equation factors sheet valid (nodes.NetPart risks.Equity)))
-      (Encloses-net (figure nodes.EquityRoot) (absorbed (risk_key risks.Equity) sheet.numbers) (equity_exact sheet) equity-encloses)
+      subst (λ (e : Ends). Holds 1000 e (net_figure (equity_exact sheet) (absorbed (risk_key risks.Equity) sheet.numbers))) (sym (worked-equation factors sheet valid (nodes.Whole (wholes.NetPart risks.Equity))))
+      (Encloses-net (figure (nodes.Whole wholes.EquityRoot)) (absorbed (risk_key risks.Equity) sheet.numbers) (equity_exact sheet) equity-encloses)
 
   -- ---- whole cents
   cents-enclose : (e : Ends) (n : ℕ) → e ≡ exact_ends (pos n) → Holds 1 e (Frac (whole (pos n)))
   cents-enclose e n is = subst (λ (f : Ends). Holds 1 f (Frac (whole (pos n)))) (sym is) (Encloses-exact 1 (pos n) (whole (pos n)) (record { positive = lit< tt; equal = refl }))
 
   -- ---- the market risk module
-  market-encloses : (measure : Measure) → Holds 1000 (figure (nodes.Market measure)) (market_exact factors sheet measure)
+  market-encloses : (measure : Measure) → Holds 1000 (figure (nodes.Whole (wholes.Market measure))) (market_exact factors sheet measure)
   unfolding market_exact
   market-encloses measure =
       market-enclosed factors sheet valid measure (Frac (measured measure (decisive_outcome sheet))) (equity_exact sheet) (chosen outcomes) (chosen-is outcomes (lit< tt)).listed
@@ -350,20 +356,20 @@ module _ (factors : FactorValues) (sheet : BalanceSheet) (valid : Valid sheet) w
   -- ---- the figures of market risk, which hold for all factors
 
   pub market-node-encloses : (node : Node) → is_of_market node ≡ true → (f : Figure) → exact factors sheet node ≡ Some f → Holds (unit_of node) (figure node) f
-  market-node-encloses (nodes.InterestScenario direction measures.Gross) of f is = told 1000 _ _ f is (scenario-encloses direction).gross
-  market-node-encloses (nodes.InterestScenario direction measures.Net) of f is = told 1000 _ _ f is (scenario-encloses direction).net
-  market-node-encloses (nodes.Picked alternatives.Interest measure) of f is = told 1000 _ _ f is (picked-encloses measure)
-  market-node-encloses (nodes.EquityPart kind) of f is = told 1000 _ _ f is (equities-enclose kind)
-  market-node-encloses nodes.EquityRoot of f is = told 1000 _ _ f is equity-encloses
-  market-node-encloses (nodes.NetPart risks.Equity) of f is = told 1000 _ _ f is equity-net
-  market-node-encloses (nodes.NetPart risks.Property) of f is = told 1000 _ _ f is (net-enclosed factors sheet valid risks.Property _ (property-enclosed factors sheet valid))
-  market-node-encloses (nodes.NetPart risks.Spread) of f is = told 1000 _ _ f is (net-enclosed factors sheet valid risks.Spread _ (spread-enclosed factors sheet valid))
-  market-node-encloses (nodes.NetPart risks.Concentration) of f is = told 1000 _ _ f is (net-enclosed factors sheet valid risks.Concentration _ (concentration-enclosed factors sheet valid))
-  market-node-encloses (nodes.Currency measure) of f is = told 1000 _ _ f is (currency-encloses factors sheet valid measure)
-  market-node-encloses nodes.Property of f is = told 1000 _ _ f is (property-enclosed factors sheet valid)
-  market-node-encloses nodes.Spread of f is = told 1000 _ _ f is (spread-enclosed factors sheet valid)
-  market-node-encloses nodes.Concentration of f is = told 1000 _ _ f is (concentration-enclosed factors sheet valid)
-  market-node-encloses (nodes.Market measure) of f is = told 1000 _ _ f is (market-encloses measure)
+  market-node-encloses (nodes.Whole (wholes.InterestScenario direction measures.Gross)) of f is = told 1000 _ _ f is (scenario-encloses direction).gross
+  market-node-encloses (nodes.Whole (wholes.InterestScenario direction measures.Net)) of f is = told 1000 _ _ f is (scenario-encloses direction).net
+  market-node-encloses (nodes.Whole (wholes.Picked alternatives.Interest measure)) of f is = told 1000 _ _ f is (picked-encloses measure)
+  market-node-encloses (nodes.Whole (wholes.EquityPart kind)) of f is = told 1000 _ _ f is (equities-enclose kind)
+  market-node-encloses (nodes.Whole wholes.EquityRoot) of f is = told 1000 _ _ f is equity-encloses
+  market-node-encloses (nodes.Whole (wholes.NetPart risks.Equity)) of f is = told 1000 _ _ f is equity-net
+  market-node-encloses (nodes.Whole (wholes.NetPart risks.Property)) of f is = told 1000 _ _ f is (net-enclosed factors sheet valid risks.Property _ (property-enclosed factors sheet valid))
+  market-node-encloses (nodes.Whole (wholes.NetPart risks.Spread)) of f is = told 1000 _ _ f is (net-enclosed factors sheet valid risks.Spread _ (spread-enclosed factors sheet valid))
+  market-node-encloses (nodes.Whole (wholes.NetPart risks.Concentration)) of f is = told 1000 _ _ f is (net-enclosed factors sheet valid risks.Concentration _ (concentration-enclosed factors sheet valid))
+  market-node-encloses (nodes.Whole (wholes.Currency measure)) of f is = told 1000 _ _ f is (currency-encloses factors sheet valid measure)
+  market-node-encloses (nodes.Whole wholes.Property) of f is = told 1000 _ _ f is (property-enclosed factors sheet valid)
+  market-node-encloses (nodes.Whole wholes.Spread) of f is = told 1000 _ _ f is (spread-enclosed factors sheet valid)
+  market-node-encloses (nodes.Whole wholes.Concentration) of f is = told 1000 _ _ f is (concentration-enclosed factors sheet valid)
+  market-node-encloses (nodes.Whole (wholes.Market measure)) of f is = told 1000 _ _ f is (market-encloses measure)
   market-node-encloses node of f is = absurd (cc)
 
 -- ---- every live node with a figure, where the factors are in form
@@ -385,72 +391,72 @@ module _ (factors : FactorValues) (known : IsInForm factors) (sheet : BalanceShe
   }
 
   pub node-encloses : (node : Node) → is_live sheet node ≡ true → (f : Figure) → exact factors sheet node ≡ Some f → Holds (unit_of node) (figure_of node) f
-  node-encloses (nodes.FundTotal name) live f is = told 1 _ _ f is (cents-enclose factors sheet valid _ _ (fund-worked factors sheet valid name live))
-  node-encloses (nodes.SecurityTotal name) live f is = told 1 _ _ f is (cents-enclose factors sheet valid _ _ (security-worked factors sheet valid name live))
-  node-encloses (nodes.UnitLoss name direction) live f is =
+  node-encloses (nodes.Fund name of_funds.Total) live f is = told 1 _ _ f is (cents-enclose factors sheet valid _ _ (fund-worked factors sheet valid name live))
+  node-encloses (nodes.Security name of_securities.Total) live f is = told 1 _ _ f is (cents-enclose factors sheet valid _ _ (security-worked factors sheet valid name live))
+  node-encloses (nodes.Security name (of_securities.UnitLoss direction)) live f is =
       let p = position-there (position_of name sheet.securities) live in
       told one _ _ f (ap (λ found. Some (Frac (option_map_or (security_unit_loss sheet direction) found zero_fraction))) (sym p.1) ∙ is) (unit-encloses factors sheet valid direction name p.0 p.1)
-  node-encloses (nodes.SecurityRate name direction) live f is =
+  node-encloses (nodes.Security name (of_securities.Rate direction)) live f is =
       let p = position-there (position_of name sheet.securities) live in
       told one _ _ f (ap (λ found. Some (Frac (option_map_or (security_loss sheet direction) found zero_fraction))) (sym p.1) ∙ is) (rate-encloses factors sheet valid direction name p.0 p.1)
-  node-encloses (nodes.LiabilityRate name direction) live f is =
+  node-encloses (nodes.Liability name (of_liabilities.Rate direction)) live f is =
       let l = row-there liability_name name sheet.liabilities live in
       told one _ _ f (ap (λ found. Some (Frac (option_map_or (liability_loss sheet direction) found zero_fraction))) (sym l.1) ∙ is) (cost-encloses factors sheet valid direction name l.0 l.1)
-  node-encloses (nodes.CurrencyLoss currency direction) live f is = told one _ _ f is (lost-encloses factors sheet valid direction currency)
-  node-encloses (nodes.InterestScenario direction measures.Gross) live f is = market-node-encloses factors sheet valid (nodes.InterestScenario direction measures.Gross) refl f is
-  node-encloses (nodes.Choice which) live f is = absurd (let clash : None ≡ Some f = is in cc)
-  node-encloses (nodes.ClassSum class) live f is = told 1 _ _ f is (cents-enclose factors sheet valid _ _ (class-worked factors sheet valid class))
-  node-encloses (nodes.LiabilityPresent name) live f is =
+  node-encloses (nodes.Currency currency (of_currencies.Loss direction)) live f is = told one _ _ f is (lost-encloses factors sheet valid direction currency)
+  node-encloses (nodes.Whole (wholes.InterestScenario direction measures.Gross)) live f is = market-node-encloses factors sheet valid (nodes.Whole (wholes.InterestScenario direction measures.Gross)) refl f is
+  node-encloses (nodes.Whole (wholes.Choice which)) live f is = absurd (let clash : None ≡ Some f = is in cc)
+  node-encloses (nodes.Whole (wholes.ClassSum class)) live f is = told 1 _ _ f is (cents-enclose factors sheet valid _ _ (class-worked factors sheet valid class))
+  node-encloses (nodes.Liability name of_liabilities.Present) live f is =
       let l = row-there liability_name name sheet.liabilities live in
       told one _ _ f (ap (λ found. Some (Frac (option_map_or (liability_worth sheet) found zero_fraction))) (sym l.1) ∙ is) (present-encloses factors sheet valid name l.0 l.1)
-  node-encloses (nodes.CurrencyScenario currency direction measure) live f is = told 1000 _ _ f is (change-encloses factors sheet valid direction measure currency)
-  node-encloses (nodes.CurrencyChoice currency) live f is = absurd (let clash : None ≡ Some f = is in cc)
-  node-encloses (nodes.CurrencyPicked currency measure) live f is = told 1000 _ _ f is (change-picked-encloses factors sheet valid measure currency)
-  node-encloses (nodes.SecuritySpread name) live f is =
+  node-encloses (nodes.Currency currency (of_currencies.Scenario direction measure)) live f is = told 1000 _ _ f is (change-encloses factors sheet valid direction measure currency)
+  node-encloses (nodes.Currency currency of_currencies.Choice) live f is = absurd (let clash : None ≡ Some f = is in cc)
+  node-encloses (nodes.Currency currency (of_currencies.Picked measure)) live f is = told 1000 _ _ f is (change-picked-encloses factors sheet valid measure currency)
+  node-encloses (nodes.Security name of_securities.Spread) live f is =
       let p = bond-there (position_of name sheet.securities) live in
       told 1_000_000_000 _ _ f (ap (λ found. Some (Frac (option_map_or (bond_exact factors sheet) found zero_fraction))) (sym p.1) ∙ is) (bond-enclosed factors sheet valid name p.0 p.1)
-  node-encloses (nodes.GroupTotal name) live f is = told 1 _ _ f is (cents-enclose factors sheet valid _ _ (group-worked factors sheet valid name))
-  node-encloses nodes.Assets live f is = told 1 _ _ f is (cents-enclose factors sheet valid _ _ (assets-worked factors sheet valid))
-  node-encloses (nodes.ConcentrationSquare name) live f is =
+  node-encloses (nodes.Group name of_groups.Total) live f is = told 1 _ _ f is (cents-enclose factors sheet valid _ _ (group-worked factors sheet valid name))
+  node-encloses (nodes.Whole wholes.Assets) live f is = told 1 _ _ f is (cents-enclose factors sheet valid _ _ (assets-worked factors sheet valid))
+  node-encloses (nodes.Group name of_groups.ConcentrationSquare) live f is =
       let g = row-there group_name name sheet.groups live in
       told 10_000_000_000 _ _ f (ap (λ found. Some (Frac (option_map_or (group_square_exact sheet) found zero_fraction))) (sym g.1) ∙ is) (square-enclosed factors sheet valid name g.0 g.1)
-  node-encloses (nodes.LiabilityLoss name projection) live f is = life.liability-encloses factors sheet valid name projection live f is
-  node-encloses (nodes.BioScenario biometric projection measure) live f is = life.scenario-encloses factors sheet valid biometric projection measure f is
-  node-encloses (nodes.Picked alternatives.LifeLapse measure) live f is = life.life_picked-encloses factors sheet valid measure f is
-  node-encloses (nodes.Picked alternatives.HealthLapse measure) live f is = life.health_picked-encloses factors sheet valid measure f is
-  node-encloses (nodes.Life measure) live f is = life.life-encloses factors sheet valid measure f is
-  node-encloses (nodes.Slt measure) live f is = life.slt-encloses factors sheet valid measure f is
-  node-encloses (nodes.GroupLoss name) live f is = defaults.group-encloses factors sheet valid name f is
-  node-encloses (nodes.ClassLoss class) live f is = defaults.class-encloses factors sheet valid class f is
-  node-encloses (nodes.ClassSquare class) live f is = defaults.square-encloses factors sheet valid class f is
-  node-encloses nodes.Variance live f is = defaults.variance-node-encloses factors sheet valid f is
-  node-encloses nodes.DefaultBand live f is = absurd (let clash : None ≡ Some f = is in cc)
-  node-encloses nodes.DefaultType1 live f is = defaults.type1-node-encloses factors sheet valid f is
-  node-encloses nodes.DefaultType2 live f is = defaults.type2-node-encloses factors sheet valid f is
-  node-encloses nodes.Default live f is = defaults.default-node-encloses factors sheet valid f is
-  node-encloses (nodes.NetPart risks.Default) live f is = defaults.net-node-encloses factors sheet valid f is
-  node-encloses (nodes.NetPart risks.HealthCatastrophe) live f is = told 1000 _ _ f is (nonlife.health_catastrophe-holds factors known sheet valid measures.Net)
-  node-encloses (nodes.Segment set number) live f is = told 1000 _ _ f is (nonlife.segment-holds factors known sheet valid set number)
-  node-encloses (nodes.PremiumReserve set) live f is = told 1000 _ _ f is (nonlife.premium_reserve-holds factors known sheet valid set)
-  node-encloses (nodes.CatCharge key) live f is = told 1000 _ _ f is (nonlife.charge-encloses factors known sheet valid key)
-  node-encloses (nodes.Lapse set) live f is = told 1000 _ _ f is (nonlife.lapse-encloses factors known sheet valid set)
-  node-encloses nodes.Natural live f is = told 1000 _ _ f is (nonlife.natural-holds factors known sheet valid)
-  node-encloses nodes.ManMade live f is = told 1000 _ _ f is (nonlife.man_made-holds factors known sheet valid)
-  node-encloses nodes.NonlifeCatastrophe live f is = told 1000 _ _ f is (nonlife.catastrophe-holds factors known sheet valid)
-  node-encloses nodes.HealthCatastrophe live f is = told 1000 _ _ f is (nonlife.health_catastrophe-holds factors known sheet valid measures.Gross)
-  node-encloses (nodes.Nslt measure) live f is = told 1000 _ _ f is (nonlife.nslt-holds factors known sheet valid measure)
-  node-encloses (nodes.Health measure) live f is =
+  node-encloses (nodes.Liability name (of_liabilities.Loss projection)) live f is = life.liability-encloses factors sheet valid name projection live f is
+  node-encloses (nodes.Whole (wholes.BioScenario biometric projection measure)) live f is = life.scenario-encloses factors sheet valid biometric projection measure f is
+  node-encloses (nodes.Whole (wholes.Picked alternatives.LifeLapse measure)) live f is = life.life_picked-encloses factors sheet valid measure f is
+  node-encloses (nodes.Whole (wholes.Picked alternatives.HealthLapse measure)) live f is = life.health_picked-encloses factors sheet valid measure f is
+  node-encloses (nodes.Whole (wholes.Life measure)) live f is = life.life-encloses factors sheet valid measure f is
+  node-encloses (nodes.Whole (wholes.Slt measure)) live f is = life.slt-encloses factors sheet valid measure f is
+  node-encloses (nodes.Group name of_groups.Loss) live f is = defaults.group-encloses factors sheet valid name f is
+  node-encloses (nodes.Whole (wholes.ClassLoss class)) live f is = defaults.class-encloses factors sheet valid class f is
+  node-encloses (nodes.Whole (wholes.ClassSquare class)) live f is = defaults.square-encloses factors sheet valid class f is
+  node-encloses (nodes.Whole wholes.Variance) live f is = defaults.variance-node-encloses factors sheet valid f is
+  node-encloses (nodes.Whole wholes.DefaultBand) live f is = absurd (let clash : None ≡ Some f = is in cc)
+  node-encloses (nodes.Whole wholes.DefaultType1) live f is = defaults.type1-node-encloses factors sheet valid f is
+  node-encloses (nodes.Whole wholes.DefaultType2) live f is = defaults.type2-node-encloses factors sheet valid f is
+  node-encloses (nodes.Whole wholes.Default) live f is = defaults.default-node-encloses factors sheet valid f is
+  node-encloses (nodes.Whole (wholes.NetPart risks.Default)) live f is = defaults.net-node-encloses factors sheet valid f is
+  node-encloses (nodes.Whole (wholes.NetPart risks.HealthCatastrophe)) live f is = told 1000 _ _ f is (nonlife.health_catastrophe-holds factors known sheet valid measures.Net)
+  node-encloses (nodes.Whole (wholes.Segment set number)) live f is = told 1000 _ _ f is (nonlife.segment-holds factors known sheet valid set number)
+  node-encloses (nodes.Whole (wholes.PremiumReserve set)) live f is = told 1000 _ _ f is (nonlife.premium_reserve-holds factors known sheet valid set)
+  node-encloses (nodes.Whole (wholes.CatCharge key)) live f is = told 1000 _ _ f is (nonlife.charge-encloses factors known sheet valid key)
+  node-encloses (nodes.Whole (wholes.Lapse set)) live f is = told 1000 _ _ f is (nonlife.lapse-encloses factors known sheet valid set)
+  node-encloses (nodes.Whole wholes.Natural) live f is = told 1000 _ _ f is (nonlife.natural-holds factors known sheet valid)
+  node-encloses (nodes.Whole wholes.ManMade) live f is = told 1000 _ _ f is (nonlife.man_made-holds factors known sheet valid)
+  node-encloses (nodes.Whole wholes.NonlifeCatastrophe) live f is = told 1000 _ _ f is (nonlife.catastrophe-holds factors known sheet valid)
+  node-encloses (nodes.Whole wholes.HealthCatastrophe) live f is = told 1000 _ _ f is (nonlife.health_catastrophe-holds factors known sheet valid measures.Gross)
+  node-encloses (nodes.Whole (wholes.Nslt measure)) live f is = told 1000 _ _ f is (nonlife.nslt-holds factors known sheet valid measure)
+  node-encloses (nodes.Whole (wholes.Health measure)) live f is =
       told 1000 _ _ f is (loss.module-health-holds factors known sheet valid _ _ _ _ (others-within factors sheet valid) (other_modules factors sheet) others-enclosed measure)
-  node-encloses (nodes.Nonlife measure) live f is = told 1000 _ _ f is (nonlife.nonlife-holds factors known sheet valid measure)
-  node-encloses nodes.Intangible live f is = told 1000 _ _ f is (loss.intangible-holds factors known sheet valid)
-  node-encloses (nodes.Bscr measure) live f is =
+  node-encloses (nodes.Whole (wholes.Nonlife measure)) live f is = told 1000 _ _ f is (nonlife.nonlife-holds factors known sheet valid measure)
+  node-encloses (nodes.Whole wholes.Intangible) live f is = told 1000 _ _ f is (loss.intangible-holds factors known sheet valid)
+  node-encloses (nodes.Whole (wholes.Bscr measure)) live f is =
       told 1000 _ _ f is (loss.bscr-holds factors known sheet valid _ _ _ _ (others-within factors sheet valid) (other_modules factors sheet) others-enclosed measure)
-  node-encloses (nodes.OpPart part) live f is =
+  node-encloses (nodes.Whole (wholes.OpPart part)) live f is =
       told 1000 _ _ f is (loss.operational-holds factors known sheet valid _ _ _ _ (others-within factors sheet valid) (other_modules factors sheet) others-enclosed part)
-  node-encloses (nodes.Adjust adjustment) live f is =
+  node-encloses (nodes.Whole (wholes.Adjust adjustment)) live f is =
       told 1000 _ _ f is (loss.adjustment-holds factors known sheet valid _ _ _ _ (others-within factors sheet valid) (other_modules factors sheet) others-enclosed adjustment)
-  node-encloses nodes.Scr live f is =
+  node-encloses (nodes.Whole wholes.Scr) live f is =
       told 1000 _ _ f is (loss.scr-holds factors known sheet valid _ _ _ _ (others-within factors sheet valid) (other_modules factors sheet) others-enclosed)
-  node-encloses nodes.Diversification live f is =
+  node-encloses (nodes.Whole wholes.Diversification) live f is =
       told 1000 _ _ f is (loss.diversification-holds factors known sheet valid _ _ _ _ (others-within factors sheet valid) (other_modules factors sheet) others-enclosed)
   node-encloses node live f is = market-node-encloses factors sheet valid node refl f is

@@ -22,6 +22,11 @@ use Rattle.scr_sheet.specs.Validity.{Valid, IsCurve}
 use Rattle.scr_nodes.specs.declared.{node.Direction.Direction, node.Node.Node}
 use Rattle.scr_nodes.specs.declared.node.Measure.TheVariants as measures
 use Rattle.scr_nodes.specs.declared.node.Node.TheVariants as nodes
+use Rattle.scr_nodes.specs.declared.node.OfSecurity.TheVariants as of_securities
+use Rattle.scr_nodes.specs.declared.node.OfLiability.TheVariants as of_liabilities
+use Rattle.scr_nodes.specs.declared.node.OfCurrency.TheVariants as of_currencies
+use Rattle.scr_nodes.specs.declared.node.OfGroup.TheVariants as of_groups
+use Rattle.scr_nodes.specs.declared.node.Whole.TheVariants as wholes
 use Rattle.scr_nodes.specs.OwnOf.{own_of, paid_by_security, paid_by_liability, nothing_paid, valued, bond_stressed, group_square}
 use Rattle.scr_nodes.specs.Own.{Valued}
 use Rattle.scr_nodes.specs.Own.Own.{Stressed, Square}
@@ -117,15 +122,15 @@ stressed-row sheet projection (Some l) fits = currency-row sheet l.currency fits
 -- of each figure whose rule fits
 pub own-row : (factors : FactorValues) (sheet : BalanceSheet) (node : Node) (figures : List Ends) → Fits (own_of factors sheet node) figures
     → discounts_in sheet (all_discounts sheet) node ≡ own_discounts (own_of factors sheet node)
-own-row factors sheet (nodes.UnitLoss name direction) figures fits = security-row sheet direction (position_of name sheet.securities) fits
-own-row factors sheet (nodes.LiabilityRate name direction) figures fits = liability-row sheet direction (liability_of name sheet.liabilities) fits
-own-row factors sheet (nodes.InterestScenario direction measures.Gross) figures fits = refl
-own-row factors sheet (nodes.LiabilityPresent name) figures fits = worth-row sheet (liability_of name sheet.liabilities) fits
-own-row factors sheet (nodes.CurrencyScenario currency direction measures.Gross) figures fits = refl
-own-row factors sheet (nodes.SecuritySpread name) figures fits = bond-row factors sheet (position_of name sheet.securities)
-own-row factors sheet (nodes.ConcentrationSquare name) figures fits = group-row (group_of name sheet.groups)
-own-row factors sheet (nodes.LiabilityLoss name projection) figures fits = stressed-row sheet projection (liability_of name sheet.liabilities) fits
-own-row factors sheet (nodes.BioScenario biometric projection measures.Gross) figures fits = refl
-own-row factors sheet (nodes.OpPart operations.Premiums) figures fits = refl
-own-row factors sheet (nodes.Adjust adjustments.TechnicalProvisions) figures fits = refl
+own-row factors sheet (nodes.Security name (of_securities.UnitLoss direction)) figures fits = security-row sheet direction (position_of name sheet.securities) fits
+own-row factors sheet (nodes.Liability name (of_liabilities.Rate direction)) figures fits = liability-row sheet direction (liability_of name sheet.liabilities) fits
+own-row factors sheet (nodes.Whole (wholes.InterestScenario direction measures.Gross)) figures fits = refl
+own-row factors sheet (nodes.Liability name of_liabilities.Present) figures fits = worth-row sheet (liability_of name sheet.liabilities) fits
+own-row factors sheet (nodes.Currency currency (of_currencies.Scenario direction measures.Gross)) figures fits = refl
+own-row factors sheet (nodes.Security name of_securities.Spread) figures fits = bond-row factors sheet (position_of name sheet.securities)
+own-row factors sheet (nodes.Group name of_groups.ConcentrationSquare) figures fits = group-row (group_of name sheet.groups)
+own-row factors sheet (nodes.Liability name (of_liabilities.Loss projection)) figures fits = stressed-row sheet projection (liability_of name sheet.liabilities) fits
+own-row factors sheet (nodes.Whole (wholes.BioScenario biometric projection measures.Gross)) figures fits = refl
+own-row factors sheet (nodes.Whole (wholes.OpPart operations.Premiums)) figures fits = refl
+own-row factors sheet (nodes.Whole (wholes.Adjust adjustments.TechnicalProvisions)) figures fits = refl
 own-row factors sheet node figures fits = refl

@@ -26,6 +26,8 @@ use Rattle.scr_nodes.specs.declared.{node.Biometric.Biometric, node.Measure.Meas
 use Rattle.scr_nodes.specs.declared.node.Biometric.TheVariants as biometrics
 use Rattle.scr_nodes.specs.declared.node.Measure.TheVariants as measures
 use Rattle.scr_nodes.specs.declared.node.Node.TheVariants as nodes
+use Rattle.scr_nodes.specs.declared.node.OfLiability.TheVariants as of_liabilities
+use Rattle.scr_nodes.specs.declared.node.Whole.TheVariants as wholes
 use Rattle.scr_nodes.specs.Live.{is_live}
 use Rattle.scr_nodes.specs.OwnOf.{stress_absorbed}
 use Rattle.scr_nodes.specs.Rows.{liability_of, is_stress, is_stressed}
@@ -55,7 +57,7 @@ module _ (factors : FactorValues) (sheet : BalanceSheet) (valid : Valid sheet) w
   told : (unit : ℕ) (e : Ends) (g f : Figure) → Some g ≡ Some f → Holds unit e g → Holds unit e f
   told unit e g f is h = let same : g ≡ f = cc in subst (Holds unit e) same h
 
-  pub liability-encloses : (name : List ℕ) (projection : Projection) → is_live sheet (nodes.LiabilityLoss name projection) ≡ true → NodeEncloses (nodes.LiabilityLoss name projection)
+  pub liability-encloses : (name : List ℕ) (projection : Projection) → is_live sheet (nodes.Liability name (of_liabilities.Loss projection)) ≡ true → NodeEncloses (nodes.Liability name (of_liabilities.Loss projection))
   liability-encloses name projection live f is =
       let l = stressed-there (is_stress projection) projection (liability_of name sheet.liabilities) live in
       told one _ _ f (ap (λ found. Some (Frac (option_map_or (stress_loss sheet projection) found zero_fraction))) (sym l.1) ∙ is) (loss-encloses factors sheet valid projection name l.0 l.1)
@@ -67,7 +69,7 @@ module _ (factors : FactorValues) (sheet : BalanceSheet) (valid : Valid sheet) w
       where-encloses figure (liability_loss projection) (is_stressed biometric projection) one (lit< tt) (stress_loss sheet projection) sheet.liabilities
       (All-map (λ l. liability_of (liability_name l) sheet.liabilities ≡ Some l) _ sheet.liabilities (λ l own e. loss-encloses factors sheet valid projection (liability_name l) l own) (own-liabilities sheet valid))
 
-  gross-encloses : (biometric : Biometric) (projection : Projection) → Enclosed 1000 (figure (nodes.BioScenario biometric projection measures.Gross)) (stress_total sheet biometric projection)
+  gross-encloses : (biometric : Biometric) (projection : Projection) → Enclosed 1000 (figure (nodes.Whole (wholes.BioScenario biometric projection measures.Gross))) (stress_total sheet biometric projection)
   gross-encloses biometric projection =
       subst (λ (e : Ends). Enclosed 1000 e (stress_total sheet biometric projection)) (sym (stress-worked factors sheet valid biometric projection))
       (bio.loss-encloses (sum_ends (map figure (losses_under biometric projection sheet))) (Frac (stress_total sheet biometric projection)) (total-encloses biometric projection))
@@ -77,15 +79,15 @@ module _ (factors : FactorValues) (sheet : BalanceSheet) (valid : Valid sheet) w
   outcome-encloses biometric projection = record {
     gross = gross-encloses biometric projection;
     net = subst (λ (e : Ends). Enclosed 1000 e (stress_outcome sheet biometric projection).net) (sym (net-worked factors sheet valid biometric projection))
-        (Encloses-left (figure (nodes.BioScenario biometric projection measures.Gross)) (stress_absorbed sheet biometric projection) (stress_total sheet biometric projection) (gross-encloses biometric projection));
+        (Encloses-left (figure (nodes.Whole (wholes.BioScenario biometric projection measures.Gross))) (stress_absorbed sheet biometric projection) (stress_total sheet biometric projection) (gross-encloses biometric projection));
   }
 
   stress-encloses : (biometric : Biometric) (projection : Projection) (measure : Measure)
-      → Enclosed 1000 (figure (nodes.BioScenario biometric projection measure)) (measured measure (stress_outcome sheet biometric projection))
+      → Enclosed 1000 (figure (nodes.Whole (wholes.BioScenario biometric projection measure))) (measured measure (stress_outcome sheet biometric projection))
   stress-encloses biometric projection measures.Gross = (outcome-encloses biometric projection).gross
   stress-encloses biometric projection measures.Net = (outcome-encloses biometric projection).net
 
-  pub scenario-encloses : (biometric : Biometric) (projection : Projection) (measure : Measure) → NodeEncloses (nodes.BioScenario biometric projection measure)
+  pub scenario-encloses : (biometric : Biometric) (projection : Projection) (measure : Measure) → NodeEncloses (nodes.Whole (wholes.BioScenario biometric projection measure))
   scenario-encloses biometric projection measure f is = told 1000 _ _ f is (stress-encloses biometric projection measure)
 
   -- ---- lapses
@@ -96,26 +98,26 @@ module _ (factors : FactorValues) (sheet : BalanceSheet) (valid : Valid sheet) w
   unfolding lapse_outcome
   decisive-is biometric = refl
 
-  life_lapse-encloses : (measure : Measure) → Enclosed 1000 (figure (nodes.Picked alternatives.LifeLapse measure)) (measured measure (lapse_outcome sheet biometrics.Life))
+  life_lapse-encloses : (measure : Measure) → Enclosed 1000 (figure (nodes.Whole (wholes.Picked alternatives.LifeLapse measure))) (measured measure (lapse_outcome sheet biometrics.Life))
   life_lapse-encloses measures.Gross =
-      subst (λ (e : Ends). Enclosed 1000 e (lapse_outcome sheet biometrics.Life).gross) (sym (worked-equation factors sheet valid (nodes.Picked alternatives.LifeLapse measures.Gross)))
+      subst (λ (e : Ends). Enclosed 1000 e (lapse_outcome sheet biometrics.Life).gross) (sym (worked-equation factors sheet valid (nodes.Whole (wholes.Picked alternatives.LifeLapse measures.Gross))))
       (rw (decisive-is biometrics.Life) (gross_encloses 1000 (lapse_alternatives factors sheet valid biometrics.Life) (lapse_outcomes sheet biometrics.Life) _ (lapses-enclose biometrics.Life) (chosen-is (lapse_outcomes sheet biometrics.Life) (lit< tt))))
   life_lapse-encloses measures.Net =
-      subst (λ (e : Ends). Enclosed 1000 e (lapse_outcome sheet biometrics.Life).net) (sym (worked-equation factors sheet valid (nodes.Picked alternatives.LifeLapse measures.Net)))
+      subst (λ (e : Ends). Enclosed 1000 e (lapse_outcome sheet biometrics.Life).net) (sym (worked-equation factors sheet valid (nodes.Whole (wholes.Picked alternatives.LifeLapse measures.Net))))
       (rw (decisive-is biometrics.Life) (net_encloses 1000 (lapse_alternatives factors sheet valid biometrics.Life) (lapse_outcomes sheet biometrics.Life) _ (lapses-enclose biometrics.Life) (chosen-is (lapse_outcomes sheet biometrics.Life) (lit< tt))))
 
-  health_lapse-encloses : (measure : Measure) → Enclosed 1000 (figure (nodes.Picked alternatives.HealthLapse measure)) (measured measure (lapse_outcome sheet biometrics.Health))
+  health_lapse-encloses : (measure : Measure) → Enclosed 1000 (figure (nodes.Whole (wholes.Picked alternatives.HealthLapse measure))) (measured measure (lapse_outcome sheet biometrics.Health))
   health_lapse-encloses measures.Gross =
-      subst (λ (e : Ends). Enclosed 1000 e (lapse_outcome sheet biometrics.Health).gross) (sym (worked-equation factors sheet valid (nodes.Picked alternatives.HealthLapse measures.Gross)))
+      subst (λ (e : Ends). Enclosed 1000 e (lapse_outcome sheet biometrics.Health).gross) (sym (worked-equation factors sheet valid (nodes.Whole (wholes.Picked alternatives.HealthLapse measures.Gross))))
       (rw (decisive-is biometrics.Health) (gross_encloses 1000 (lapse_alternatives factors sheet valid biometrics.Health) (lapse_outcomes sheet biometrics.Health) _ (lapses-enclose biometrics.Health) (chosen-is (lapse_outcomes sheet biometrics.Health) (lit< tt))))
   health_lapse-encloses measures.Net =
-      subst (λ (e : Ends). Enclosed 1000 e (lapse_outcome sheet biometrics.Health).net) (sym (worked-equation factors sheet valid (nodes.Picked alternatives.HealthLapse measures.Net)))
+      subst (λ (e : Ends). Enclosed 1000 e (lapse_outcome sheet biometrics.Health).net) (sym (worked-equation factors sheet valid (nodes.Whole (wholes.Picked alternatives.HealthLapse measures.Net))))
       (rw (decisive-is biometrics.Health) (net_encloses 1000 (lapse_alternatives factors sheet valid biometrics.Health) (lapse_outcomes sheet biometrics.Health) _ (lapses-enclose biometrics.Health) (chosen-is (lapse_outcomes sheet biometrics.Health) (lit< tt))))
 
-  pub life_picked-encloses : (measure : Measure) → NodeEncloses (nodes.Picked alternatives.LifeLapse measure)
+  pub life_picked-encloses : (measure : Measure) → NodeEncloses (nodes.Whole (wholes.Picked alternatives.LifeLapse measure))
   life_picked-encloses measure f is = told 1000 _ _ f is (life_lapse-encloses measure)
 
-  pub health_picked-encloses : (measure : Measure) → NodeEncloses (nodes.Picked alternatives.HealthLapse measure)
+  pub health_picked-encloses : (measure : Measure) → NodeEncloses (nodes.Whole (wholes.Picked alternatives.HealthLapse measure))
   health_picked-encloses measure f is = told 1000 _ _ f is (health_lapse-encloses measure)
 
   -- the masks of the choices have the bits of those that decide by the exact requirements
@@ -126,15 +128,15 @@ module _ (factors : FactorValues) (sheet : BalanceSheet) (valid : Valid sheet) w
       subst (λ (m : ℕ). IsBitSet m (chosen outcomes)) (sym is)
       ((mask_bits list (chosen outcomes) (chosen-is outcomes (lit< tt)).listed).1 (chosen_unbeaten 1000 list outcomes (chosen outcomes) (lapses-enclose biometric) (chosen-is outcomes (lit< tt))))
 
-  pub life_choice-has-decisive : IsBitSet (amount_of (figure (nodes.Choice alternatives.LifeLapse))) (chosen (lapse_outcomes sheet biometrics.Life))
-  life_choice-has-decisive = lapse-bit biometrics.Life (figure (nodes.Choice alternatives.LifeLapse)) (ap amount_of (worked-equation factors sheet valid (nodes.Choice alternatives.LifeLapse)))
+  pub life_choice-has-decisive : IsBitSet (amount_of (figure (nodes.Whole (wholes.Choice alternatives.LifeLapse)))) (chosen (lapse_outcomes sheet biometrics.Life))
+  life_choice-has-decisive = lapse-bit biometrics.Life (figure (nodes.Whole (wholes.Choice alternatives.LifeLapse))) (ap amount_of (worked-equation factors sheet valid (nodes.Whole (wholes.Choice alternatives.LifeLapse))))
 
-  pub health_choice-has-decisive : IsBitSet (amount_of (figure (nodes.Choice alternatives.HealthLapse))) (chosen (lapse_outcomes sheet biometrics.Health))
-  health_choice-has-decisive = lapse-bit biometrics.Health (figure (nodes.Choice alternatives.HealthLapse)) (ap amount_of (worked-equation factors sheet valid (nodes.Choice alternatives.HealthLapse)))
+  pub health_choice-has-decisive : IsBitSet (amount_of (figure (nodes.Whole (wholes.Choice alternatives.HealthLapse)))) (chosen (lapse_outcomes sheet biometrics.Health))
+  health_choice-has-decisive = lapse-bit biometrics.Health (figure (nodes.Whole (wholes.Choice alternatives.HealthLapse))) (ap amount_of (worked-equation factors sheet valid (nodes.Whole (wholes.Choice alternatives.HealthLapse))))
 
   -- ---- the roots
 
-  stress-low : (biometric : Biometric) (projection : Projection) (measure : Measure) → pos 0 ≤ℤ (figure (nodes.BioScenario biometric projection measure)).low
+  stress-low : (biometric : Biometric) (projection : Projection) (measure : Measure) → pos 0 ≤ℤ (figure (nodes.Whole (wholes.BioScenario biometric projection measure))).low
   stress-low biometric projection measure = (stress-amount factors sheet valid biometric projection measure).not_negative
 
   life-all : (measure : Measure) → EncloseAll 1000 (map figure (life_parts measure)) (life_risks sheet measure)
@@ -151,13 +153,13 @@ module _ (factors : FactorValues) (sheet : BalanceSheet) (valid : Valid sheet) w
     (stress-low biometrics.Health projections.Longevity measure, stress-encloses biometrics.Health projections.Longevity measure, (stress-low biometrics.Health projections.Disability measure, stress-encloses biometrics.Health projections.Disability measure, (stress-low biometrics.Health projections.Expense measure, stress-encloses biometrics.Health projections.Expense measure, (stress-low biometrics.Health projections.Revision measure, stress-encloses biometrics.Health projections.Revision measure, ((health_lapse-amount factors sheet valid measure).not_negative, health_lapse-encloses measure, tt))))),
   )
 
-  pub life-encloses : (measure : Measure) → NodeEncloses (nodes.Life measure)
+  pub life-encloses : (measure : Measure) → NodeEncloses (nodes.Whole (wholes.Life measure))
   unfolding life_exact
   life-encloses measure f is =
       told 1000 _ _ f is
       (subst (λ (e : Ends). Holds 1000 e (life_exact sheet measure)) (sym (life-worked factors sheet valid measure)) (bio.life-encloses (map figure (life_parts measure)) (life_risks sheet measure) refl (life-all measure)))
 
-  pub slt-encloses : (measure : Measure) → NodeEncloses (nodes.Slt measure)
+  pub slt-encloses : (measure : Measure) → NodeEncloses (nodes.Whole (wholes.Slt measure))
   unfolding slt_exact
   slt-encloses measure f is =
       told 1000 _ _ f is

@@ -14,6 +14,8 @@ use Rattle.scr_nodes.specs.declared.node.Alternatives.TheVariants as alternative
 use Rattle.scr_nodes.specs.declared.{node.Biometric.Biometric, node.Measure.Measure, node.Node.Node}
 use Rattle.scr_nodes.specs.declared.node.Measure.TheVariants as measures
 use Rattle.scr_nodes.specs.declared.node.Node.TheVariants as nodes
+use Rattle.scr_nodes.specs.declared.node.OfLiability.TheVariants as of_liabilities
+use Rattle.scr_nodes.specs.declared.node.Whole.TheVariants as wholes
 use Rattle.scr_nodes.specs.Live.{is_live}
 use Rattle.scr_nodes.specs.Own.{Valued}
 use Rattle.scr_nodes.specs.OwnOf.{own_of, valued, stress_key, stress_absorbed}
@@ -38,7 +40,7 @@ module _ (factors : FactorValues) (sheet : BalanceSheet) (valid : Valid sheet) w
   abbrev NodeFits : Node → Type 0
   NodeFits node = Fits (own_of factors sheet node) (map figure (sources_of sheet node))
 
-  pub loss-fits : (name : List ℕ) (projection : Projection) → is_live sheet (nodes.LiabilityLoss name projection) ≡ true → NodeFits (nodes.LiabilityLoss name projection)
+  pub loss-fits : (name : List ℕ) (projection : Projection) → is_live sheet (nodes.Liability name (of_liabilities.Loss projection)) ≡ true → NodeFits (nodes.Liability name (of_liabilities.Loss projection))
   loss-fits name projection live =
       let l = stressed-there (is_stress projection) projection (liability_of name sheet.liabilities) live in
       let none : Valued = record { asof = sheet.numbers.asof.number; payments = []; rates = [] } in
@@ -53,31 +55,31 @@ module _ (factors : FactorValues) (sheet : BalanceSheet) (valid : Valid sheet) w
       by None = omega arith
       by (Some key) = absorbed-within key sheet.numbers valid.numbers.absorb
 
-  pub stress-fits : (biometric : Biometric) (projection : Projection) (measure : Measure) → NodeFits (nodes.BioScenario biometric projection measure)
+  pub stress-fits : (biometric : Biometric) (projection : Projection) (measure : Measure) → NodeFits (nodes.Whole (wholes.BioScenario biometric projection measure))
   stress-fits biometric projection measures.Gross = losses-together factors sheet valid biometric projection
   stress-fits biometric projection measures.Net =
       let gross = stress-amount factors sheet valid biometric projection measures.Gross in
       record { absorbed = stress-absorbed biometric projection; gross = record { low = omega (arith, gross.low_size); high = omega (arith, gross.high_size) } }
 
-  pub life_choice-fits : NodeFits (nodes.Choice alternatives.LifeLapse)
+  pub life_choice-fits : NodeFits (nodes.Whole (wholes.Choice alternatives.LifeLapse))
   life_choice-fits = record { some = omega arith; few = omega arith }
 
-  pub health_choice-fits : NodeFits (nodes.Choice alternatives.HealthLapse)
+  pub health_choice-fits : NodeFits (nodes.Whole (wholes.Choice alternatives.HealthLapse))
   health_choice-fits = record { some = omega arith; few = omega arith }
 
-  pub life_picked-fits : (measure : Measure) → NodeFits (nodes.Picked alternatives.LifeLapse measure)
+  pub life_picked-fits : (measure : Measure) → NodeFits (nodes.Whole (wholes.Picked alternatives.LifeLapse measure))
   life_picked-fits measure = record { some = omega arith; few = omega arith }
 
-  pub health_picked-fits : (measure : Measure) → NodeFits (nodes.Picked alternatives.HealthLapse measure)
+  pub health_picked-fits : (measure : Measure) → NodeFits (nodes.Whole (wholes.Picked alternatives.HealthLapse measure))
   health_picked-fits measure = record { some = omega arith; few = omega arith }
 
-  pub life-fits : (measure : Measure) → NodeFits (nodes.Life measure)
+  pub life-fits : (measure : Measure) → NodeFits (nodes.Whole (wholes.Life measure))
   life-fits measure =
       let all = life-amounts factors sheet valid measure in
       let highs = highs-of most_of_scenario (map figure (life_parts measure)) all in
       record { lows = lows-of most_of_scenario (map figure (life_parts measure)) all; highs = omega (arith, highs) }
 
-  pub slt-fits : (measure : Measure) → NodeFits (nodes.Slt measure)
+  pub slt-fits : (measure : Measure) → NodeFits (nodes.Whole (wholes.Slt measure))
   slt-fits measure =
       let all = slt-amounts factors sheet valid measure in
       let highs = highs-of most_of_scenario (map figure (slt_parts measure)) all in

@@ -53,6 +53,8 @@ use Rattle.scr_nodes.specs.declared.node.Biometric.TheVariants as biometrics
 use Rattle.scr_nodes.specs.declared.node.Direction.TheVariants as directions
 use Rattle.scr_nodes.specs.declared.node.Measure.TheVariants as measures
 use Rattle.scr_nodes.specs.declared.node.Node.TheVariants as nodes
+use Rattle.scr_nodes.specs.declared.node.OfLiability.TheVariants as of_liabilities
+use Rattle.scr_nodes.specs.declared.node.Whole.TheVariants as wholes
 use Rattle.scr_nodes.specs.Own.{Valued}
 use Rattle.scr_nodes.specs.OwnOf.{valued, stress_absorbed}
 use Rattle.scr_nodes.specs.Rows.{liability_of, rates_of, is_stressed}
@@ -183,16 +185,16 @@ module _ (factors : FactorValues) (sheet : BalanceSheet) (valid : Valid sheet) w
   nothing_valued = record { asof = sheet.numbers.asof.number; payments = []; rates = [] }
 
   excess-worked : (projection : Projection) (name : List ℕ) (l : Liability) → liability_of name sheet.liabilities ≡ Some l
-      → figure (nodes.LiabilityLoss name projection) ≡ excess_of projection l
+      → figure (nodes.Liability name (of_liabilities.Loss projection)) ≡ excess_of projection l
   excess-worked projection name l is =
-      worked-equation factors sheet valid (nodes.LiabilityLoss name projection)
+      worked-equation factors sheet valid (nodes.Liability name (of_liabilities.Loss projection))
       ∙ ap (λ found. let v = option_map_or (valued sheet) found nothing_valued in excess_ends v (option_map_or (λ liability. flows_under projection liability.flows) found []) (discounts_at v.rates)) is
 
   abbrev pub loss_most : Projection → Liability → ℕ
   loss_most projection l = MAX_DISCOUNT * (total (flows_under projection l.flows) + total l.flows.base)
 
   pub loss-encloses : (projection : Projection) (name : List ℕ) (l : Liability) → liability_of name sheet.liabilities ≡ Some l
-      → Enclosed one (figure (nodes.LiabilityLoss name projection)) (stress_loss sheet projection l)
+      → Enclosed one (figure (nodes.Liability name (of_liabilities.Loss projection))) (stress_loss sheet projection l)
   unfolding stress_loss excess_ends
   loss-encloses projection name l is =
       let fits = excess-fits sheet valid projection name l is in
@@ -201,7 +203,7 @@ module _ (factors : FactorValues) (sheet : BalanceSheet) (valid : Valid sheet) w
       (difference-encloses sheet.numbers.asof.number (flows_under projection l.flows) l.flows.base (rates_of l.currency sheet) fits.rates fits.stressed_flows.near fits.base.near))
 
   pub loss-amount : (projection : Projection) (name : List ℕ) (l : Liability) → liability_of name sheet.liabilities ≡ Some l
-      → IsAmount (loss_most projection l) (figure (nodes.LiabilityLoss name projection))
+      → IsAmount (loss_most projection l) (figure (nodes.Liability name (of_liabilities.Loss projection)))
   unfolding excess_ends
   loss-amount projection name l is =
       let fits = excess-fits sheet valid projection name l is in
@@ -249,53 +251,53 @@ module _ (factors : FactorValues) (sheet : BalanceSheet) (valid : Valid sheet) w
       (λ l own e. amount-within (loss_most projection l) _ (loss-amount projection (liability_name l) l own)) (own-liabilities sheet valid)))
 
   pub stress-worked : (biometric : Biometric) (projection : Projection)
-      → figure (nodes.BioScenario biometric projection measures.Gross) ≡ gross_ends (map figure (losses_under biometric projection sheet))
-  stress-worked biometric projection = worked-equation factors sheet valid (nodes.BioScenario biometric projection measures.Gross)
+      → figure (nodes.Whole (wholes.BioScenario biometric projection measures.Gross)) ≡ gross_ends (map figure (losses_under biometric projection sheet))
+  stress-worked biometric projection = worked-equation factors sheet valid (nodes.Whole (wholes.BioScenario biometric projection measures.Gross))
 
   pub net-worked : (biometric : Biometric) (projection : Projection)
-      → figure (nodes.BioScenario biometric projection measures.Net) ≡ net_ends (figure (nodes.BioScenario biometric projection measures.Gross)) (stress_absorbed sheet biometric projection)
-  net-worked biometric projection = worked-equation factors sheet valid (nodes.BioScenario biometric projection measures.Net)
+      → figure (nodes.Whole (wholes.BioScenario biometric projection measures.Net)) ≡ net_ends (figure (nodes.Whole (wholes.BioScenario biometric projection measures.Gross))) (stress_absorbed sheet biometric projection)
+  net-worked biometric projection = worked-equation factors sheet valid (nodes.Whole (wholes.BioScenario biometric projection measures.Net))
 
-  gross-amount : (biometric : Biometric) (projection : Projection) → IsAmount most_of_scenario (figure (nodes.BioScenario biometric projection measures.Gross))
+  gross-amount : (biometric : Biometric) (projection : Projection) → IsAmount most_of_scenario (figure (nodes.Whole (wholes.BioScenario biometric projection measures.Gross)))
   gross-amount biometric projection =
       subst (IsAmount most_of_scenario) (sym (stress-worked biometric projection))
       (loss-size most_of_scenario (sum_ends (map figure (losses_under biometric projection sheet)))
       (amount-wider _ _ (sum_ends (map figure (losses_under biometric projection sheet))) (let small = scenario-small biometric projection in omega (arith, small)) (losses-amount biometric projection)))
 
-  pub stress-amount : (biometric : Biometric) (projection : Projection) (measure : Measure) → IsAmount most_of_scenario (figure (nodes.BioScenario biometric projection measure))
+  pub stress-amount : (biometric : Biometric) (projection : Projection) (measure : Measure) → IsAmount most_of_scenario (figure (nodes.Whole (wholes.BioScenario biometric projection measure)))
   stress-amount biometric projection measures.Gross = gross-amount biometric projection
   stress-amount biometric projection measures.Net =
       let gross = gross-amount biometric projection in
-      let e = figure (nodes.BioScenario biometric projection measures.Gross) in
+      let e = figure (nodes.Whole (wholes.BioScenario biometric projection measures.Gross)) in
       subst (IsAmount most_of_scenario) (sym (net-worked biometric projection))
       (amount-net most_of_scenario e (stress_absorbed sheet biometric projection) gross.ordered (amount-high most_of_scenario e gross))
 
   -- ---- lapses
   abbrev pub alternative_of : Biometric → Projection → Alternative
-  alternative_of biometric projection = record { gross = figure (nodes.BioScenario biometric projection measures.Gross); net = figure (nodes.BioScenario biometric projection measures.Net) }
+  alternative_of biometric projection = record { gross = figure (nodes.Whole (wholes.BioScenario biometric projection measures.Gross)); net = figure (nodes.Whole (wholes.BioScenario biometric projection measures.Net)) }
 
   abbrev pub lapse_alternatives : Biometric → List Alternative
   lapse_alternatives biometric = alternative_of biometric projections.LapseUp ∷ alternative_of biometric projections.LapseDown ∷ alternative_of biometric projections.LapseMass ∷ []
 
   lapse-amounts : (biometric : Biometric) (measure : Measure) → AllByRecursion (IsAmount most_of_scenario)
-      (figure (nodes.BioScenario biometric projections.LapseUp measure) ∷ figure (nodes.BioScenario biometric projections.LapseDown measure) ∷ figure (nodes.BioScenario biometric projections.LapseMass measure) ∷ [])
+      (figure (nodes.Whole (wholes.BioScenario biometric projections.LapseUp measure)) ∷ figure (nodes.Whole (wholes.BioScenario biometric projections.LapseDown measure)) ∷ figure (nodes.Whole (wholes.BioScenario biometric projections.LapseMass measure)) ∷ [])
   lapse-amounts biometric measure =
       (stress-amount biometric projections.LapseUp measure, (stress-amount biometric projections.LapseDown measure, (stress-amount biometric projections.LapseMass measure, tt)))
 
-  pub life_lapse-amount : (measure : Measure) → IsAmount most_of_scenario (figure (nodes.Picked alternatives.LifeLapse measure))
+  pub life_lapse-amount : (measure : Measure) → IsAmount most_of_scenario (figure (nodes.Whole (wholes.Picked alternatives.LifeLapse measure)))
   life_lapse-amount measures.Gross =
-      subst (IsAmount most_of_scenario) (sym (worked-equation factors sheet valid (nodes.Picked alternatives.LifeLapse measures.Gross)))
+      subst (IsAmount most_of_scenario) (sym (worked-equation factors sheet valid (nodes.Whole (wholes.Picked alternatives.LifeLapse measures.Gross))))
       (amount-chosen_gross most_of_scenario (lapse_alternatives biometrics.Life) (lapse-amounts biometrics.Life measures.Gross))
   life_lapse-amount measures.Net =
-      subst (IsAmount most_of_scenario) (sym (worked-equation factors sheet valid (nodes.Picked alternatives.LifeLapse measures.Net)))
+      subst (IsAmount most_of_scenario) (sym (worked-equation factors sheet valid (nodes.Whole (wholes.Picked alternatives.LifeLapse measures.Net))))
       (amount-chosen_net most_of_scenario (lapse_alternatives biometrics.Life) (lapse-amounts biometrics.Life measures.Net))
 
-  pub health_lapse-amount : (measure : Measure) → IsAmount most_of_scenario (figure (nodes.Picked alternatives.HealthLapse measure))
+  pub health_lapse-amount : (measure : Measure) → IsAmount most_of_scenario (figure (nodes.Whole (wholes.Picked alternatives.HealthLapse measure)))
   health_lapse-amount measures.Gross =
-      subst (IsAmount most_of_scenario) (sym (worked-equation factors sheet valid (nodes.Picked alternatives.HealthLapse measures.Gross)))
+      subst (IsAmount most_of_scenario) (sym (worked-equation factors sheet valid (nodes.Whole (wholes.Picked alternatives.HealthLapse measures.Gross))))
       (amount-chosen_gross most_of_scenario (lapse_alternatives biometrics.Health) (lapse-amounts biometrics.Health measures.Gross))
   health_lapse-amount measures.Net =
-      subst (IsAmount most_of_scenario) (sym (worked-equation factors sheet valid (nodes.Picked alternatives.HealthLapse measures.Net)))
+      subst (IsAmount most_of_scenario) (sym (worked-equation factors sheet valid (nodes.Whole (wholes.Picked alternatives.HealthLapse measures.Net))))
       (amount-chosen_net most_of_scenario (lapse_alternatives biometrics.Health) (lapse-amounts biometrics.Health measures.Net))
 
   -- ---- the roots
@@ -311,8 +313,8 @@ module _ (factors : FactorValues) (sheet : BalanceSheet) (valid : Valid sheet) w
     (stress-amount biometrics.Health projections.Longevity measure, (stress-amount biometrics.Health projections.Disability measure, (stress-amount biometrics.Health projections.Expense measure, (stress-amount biometrics.Health projections.Revision measure, (health_lapse-amount measure, tt))))),
   )
 
-  pub life-worked : (measure : Measure) → figure (nodes.Life measure) ≡ life_ends (map figure (life_parts measure))
-  life-worked measure = worked-equation factors sheet valid (nodes.Life measure)
+  pub life-worked : (measure : Measure) → figure (nodes.Whole (wholes.Life measure)) ≡ life_ends (map figure (life_parts measure))
+  life-worked measure = worked-equation factors sheet valid (nodes.Whole (wholes.Life measure))
 
-  pub slt-worked : (measure : Measure) → figure (nodes.Slt measure) ≡ slt_ends (map figure (slt_parts measure))
-  slt-worked measure = worked-equation factors sheet valid (nodes.Slt measure)
+  pub slt-worked : (measure : Measure) → figure (nodes.Whole (wholes.Slt measure)) ≡ slt_ends (map figure (slt_parts measure))
+  slt-worked measure = worked-equation factors sheet valid (nodes.Whole (wholes.Slt measure))

@@ -17,6 +17,7 @@ use Rattle.scr_nodes.specs.declared.node.Alternatives.TheVariants as alternative
 use Rattle.scr_nodes.specs.declared.node.Biometric.TheVariants as biometrics
 use Rattle.scr_nodes.specs.declared.node.Measure.TheVariants as measures
 use Rattle.scr_nodes.specs.declared.node.Node.TheVariants as nodes
+use Rattle.scr_nodes.specs.declared.node.Whole.TheVariants as wholes
 use Rattle.scr_nodes.specs.OwnOf.{stress_absorbed}
 use Rattle.scr_nodes.specs.Sources.{losses_under, life_parts, slt_parts}
 use Rattle.scr_plan.proofs.NonlifeSizes.{net-amount}
@@ -49,13 +50,13 @@ pub record AreStresses (figure : Node → Ends) (sheet : BalanceSheet) (most : B
   pub together : (projection : Projection)
       → most biometrics.Life projection + most biometrics.Health projection ≤ 274_000_000_000_000_000_000_000_000_000_000
   pub gross : (biometric : Biometric) (projection : Projection)
-      → figure (nodes.BioScenario biometric projection measures.Gross) ≡ loss_ends (sum_ends (map figure (losses_under biometric projection sheet)))
+      → figure (nodes.Whole (wholes.BioScenario biometric projection measures.Gross)) ≡ loss_ends (sum_ends (map figure (losses_under biometric projection sheet)))
   pub net : (biometric : Biometric) (projection : Projection)
-      → figure (nodes.BioScenario biometric projection measures.Net)
-      ≡ net_ends (figure (nodes.BioScenario biometric projection measures.Gross)) (stress_absorbed sheet biometric projection)
-  pub lapse : (biometric : Biometric) (measure : Measure) → IsAmount 274_000_000_000_000_000 (figure (nodes.Picked (lapse_of biometric) measure))
-  pub life : (measure : Measure) → figure (nodes.Life measure) ≡ life_ends (map figure (life_parts measure))
-  pub slt : (measure : Measure) → figure (nodes.Slt measure) ≡ slt_ends (map figure (slt_parts measure))
+      → figure (nodes.Whole (wholes.BioScenario biometric projection measures.Net))
+      ≡ net_ends (figure (nodes.Whole (wholes.BioScenario biometric projection measures.Gross))) (stress_absorbed sheet biometric projection)
+  pub lapse : (biometric : Biometric) (measure : Measure) → IsAmount 274_000_000_000_000_000 (figure (nodes.Whole (wholes.Picked (lapse_of biometric) measure)))
+  pub life : (measure : Measure) → figure (nodes.Whole (wholes.Life measure)) ≡ life_ends (map figure (life_parts measure))
+  pub slt : (measure : Measure) → figure (nodes.Whole (wholes.Slt measure)) ≡ slt_ends (map figure (slt_parts measure))
 
 module _ (figure : Node → Ends) (sheet : BalanceSheet) (most : Biometric → Projection → ℕ) (stresses : AreStresses figure sheet most) where
   -- in grains
@@ -65,13 +66,13 @@ module _ (figure : Node → Ends) (sheet : BalanceSheet) (most : Biometric → P
   rounded : (n : ℕ) → n ≤ (n / units_of_a_grain + 1) * units_of_a_grain
   rounded n = omega arith
 
-  gross-amount : (biometric : Biometric) (projection : Projection) → IsAmount (grains biometric projection) (figure (nodes.BioScenario biometric projection measures.Gross))
+  gross-amount : (biometric : Biometric) (projection : Projection) → IsAmount (grains biometric projection) (figure (nodes.Whole (wholes.BioScenario biometric projection measures.Gross)))
   gross-amount biometric projection =
       subst (IsAmount (grains biometric projection)) (sym (stresses.gross biometric projection))
       (loss-size (grains biometric projection) (sum_ends (map figure (losses_under biometric projection sheet)))
       (amount-wider (most biometric projection) (grains biometric projection * units_of_a_grain) _ (rounded (most biometric projection)) (stresses.losses biometric projection)))
 
-  stress-amount : (biometric : Biometric) (projection : Projection) (measure : Measure) → IsAmount (grains biometric projection) (figure (nodes.BioScenario biometric projection measure))
+  stress-amount : (biometric : Biometric) (projection : Projection) (measure : Measure) → IsAmount (grains biometric projection) (figure (nodes.Whole (wholes.BioScenario biometric projection measure)))
   stress-amount biometric projection measures.Gross = gross-amount biometric projection
   stress-amount biometric projection measures.Net =
       subst (IsAmount (grains biometric projection)) (sym (stresses.net biometric projection))
@@ -95,14 +96,14 @@ module _ (figure : Node → Ends) (sheet : BalanceSheet) (most : Biometric → P
   abbrev pub slt_most : ℕ
   slt_most = sum_by (λ n. n) (common biometrics.Health [])
 
-  pub life-within : (measure : Measure) → IsAmount life_most (figure (nodes.Life measure))
+  pub life-within : (measure : Measure) → IsAmount life_most (figure (nodes.Whole (wholes.Life measure)))
   life-within measure =
       let s = λ (projection : Projection). stress-amount biometrics.Life projection measure in
       subst (IsAmount life_most) (sym (stresses.life measure))
       (life-size (common biometrics.Life (grains biometrics.Life projections.Catastrophe ∷ [])) (map figure (life_parts measure)) refl
       (s projections.Mortality, (s projections.Longevity, (s projections.Disability, (s projections.Expense, (s projections.Revision, (stresses.lapse biometrics.Life measure, (s projections.Catastrophe, tt))))))))
 
-  pub slt-within : (measure : Measure) → IsAmount slt_most (figure (nodes.Slt measure))
+  pub slt-within : (measure : Measure) → IsAmount slt_most (figure (nodes.Whole (wholes.Slt measure)))
   slt-within measure =
       let s = λ (projection : Projection). stress-amount biometrics.Health projection measure in
       subst (IsAmount slt_most) (sym (stresses.slt measure))

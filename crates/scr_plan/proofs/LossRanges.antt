@@ -9,6 +9,7 @@ use Rattle.scr_nodes.specs.declared.{node.Adjustment.Adjustment, node.Measure.Me
 use Rattle.scr_nodes.specs.declared.node.Adjustment.TheVariants as adjustments
 use Rattle.scr_nodes.specs.declared.node.Measure.TheVariants as measures
 use Rattle.scr_nodes.specs.declared.node.Node.TheVariants as nodes
+use Rattle.scr_nodes.specs.declared.node.Whole.TheVariants as wholes
 use Rattle.scr_nodes.specs.declared.node.Operational.TheVariants as operations
 use Rattle.scr_nodes.specs.OwnOf.{own_of}
 use Rattle.scr_nodes.specs.Sources.{sources_of, modules, diversification_sources}
@@ -26,12 +27,12 @@ module _ (factors : FactorValues) (known : IsInForm factors) (sheet : BalanceShe
   NodeFits node = Fits (own_of factors sheet node) (map figure (sources_of sheet node))
 
   -- value of intangible assets
-  pub intangible-fits : NodeFits nodes.Intangible
+  pub intangible-fits : NodeFits (nodes.Whole wholes.Intangible)
   intangible-fits = record { small = omega (arith, valid.numbers.intangible) }
 
   -- where the other modules are within the limits of a valid book
   module _ (market default_risk life slt : ℕ) (within : sizes.AreOthersWithin figure market default_risk life slt) where
-    pub module-health-fits : (measure : Measure) → NodeFits (nodes.Health measure)
+    pub module-health-fits : (measure : Measure) → NodeFits (nodes.Whole (wholes.Health measure))
     module-health-fits measure =
         let h = within.slt_amount measure in
         health-fits factors known sheet valid measure
@@ -54,10 +55,10 @@ module _ (factors : FactorValues) (known : IsInForm factors) (sheet : BalanceShe
           highs = omega (arith, high_0, high_1, high_2, high_3, high_4, within.together);
         }
 
-    pub bscr-fits : (measure : Measure) → NodeFits (nodes.Bscr measure)
+    pub bscr-fits : (measure : Measure) → NodeFits (nodes.Whole (wholes.Bscr measure))
     bscr-fits measure = record { amount = valid.numbers.intangible; modules = modules-fit measure }
 
-    pub diversification-fits : NodeFits nodes.Diversification
+    pub diversification-fits : NodeFits (nodes.Whole wholes.Diversification)
     diversification-fits = record {
       amount = valid.numbers.intangible;
       modules = with-basic (modules-fit measures.Gross);
@@ -74,7 +75,7 @@ module _ (factors : FactorValues) (known : IsInForm factors) (sheet : BalanceShe
           highs = fit.highs;
         }
 
-    pub operational-fits : (part : Operational) → NodeFits (nodes.OpPart part)
+    pub operational-fits : (part : Operational) → NodeFits (nodes.Whole (wholes.OpPart part))
     operational-fits operations.Premiums = sizes.premiums-within factors known sheet valid
     operational-fits operations.Provisions = sizes.provisions-within factors known sheet valid
     operational-fits operations.Cap = sizes.bscr-within factors known sheet valid market default_risk life slt within measures.Gross
@@ -85,7 +86,7 @@ module _ (factors : FactorValues) (known : IsInForm factors) (sheet : BalanceShe
       most = amount-within _ MAX_REQUIREMENT _ (lit≤ tt) (sizes.cap-amount factors known sheet valid market default_risk life slt within);
     }
 
-    pub adjustment-fits : (adjustment : Adjustment) → NodeFits (nodes.Adjust adjustment)
+    pub adjustment-fits : (adjustment : Adjustment) → NodeFits (nodes.Whole (wholes.Adjust adjustment))
     adjustment-fits adjustments.TechnicalProvisions = record {
       amount = valid.numbers.fdb;
       gross = sizes.bscr-within factors known sheet valid market default_risk life slt within measures.Gross;
@@ -99,7 +100,7 @@ module _ (factors : FactorValues) (known : IsInForm factors) (sheet : BalanceShe
       operational = sizes.charge-within factors known sheet valid market default_risk life slt within;
     }
 
-    pub requirement-fits : NodeFits nodes.Scr
+    pub requirement-fits : NodeFits (nodes.Whole wholes.Scr)
     requirement-fits = record {
       basic = sizes.bscr-within factors known sheet valid market default_risk life slt within measures.Gross;
       provisions = sizes.absorbing-within factors known sheet valid market default_risk life slt within;

@@ -26,6 +26,7 @@ use Rattle.scr_nodes.specs.declared.node.Adjustment.TheVariants as adjustments
 use Rattle.scr_nodes.specs.declared.{node.Measure.Measure, node.Node.Node}
 use Rattle.scr_nodes.specs.declared.node.Measure.TheVariants as measures
 use Rattle.scr_nodes.specs.declared.node.Node.TheVariants as nodes
+use Rattle.scr_nodes.specs.declared.node.Whole.TheVariants as wholes
 use Rattle.scr_nodes.specs.declared.node.Operational.TheVariants as operations
 use Rattle.scr_nodes.specs.declared.node.Risk.TheVariants as risks
 use Rattle.scr_nodes.specs.OwnOf.{premiums_of, provisions_of}
@@ -88,10 +89,10 @@ wider-within m n e le h = record { low = omega (arith, le, h.low); high = omega 
 
 -- the requirements for market, default and life risk and for health similar to life are amounts, together within a limit
 pub record AreOthersWithin (figure : Node → Ends) (market default_risk life slt : ℕ) : Type 0 where
-  pub market_amount : (measure : Measure) → IsAmount market (figure (nodes.Market measure))
+  pub market_amount : (measure : Measure) → IsAmount market (figure (nodes.Whole (wholes.Market measure)))
   pub default_amount : (measure : Measure) → IsAmount default_risk (figure (risk_part risks.Default measure))
-  pub life_amount : (measure : Measure) → IsAmount life (figure (nodes.Life measure))
-  pub slt_amount : (measure : Measure) → IsAmount slt (figure (nodes.Slt measure))
+  pub life_amount : (measure : Measure) → IsAmount life (figure (nodes.Whole (wholes.Life measure)))
+  pub slt_amount : (measure : Measure) → IsAmount slt (figure (nodes.Whole (wholes.Slt measure)))
   pub together : market + default_risk + life + slt ≤ 4_700_000_000_000_000_000
 
 module _ (factors : FactorValues) (known : IsInForm factors) (sheet : BalanceSheet) (valid : Valid sheet) where
@@ -140,51 +141,51 @@ module _ (factors : FactorValues) (known : IsInForm factors) (sheet : BalanceShe
     expul = lit≤ tt;
   }
 
-  pub premiums-worked : figure (nodes.OpPart operations.Premiums) ≡ prem_ends (premiums_of sheet.numbers)
-  premiums-worked = worked-equation factors sheet valid (nodes.OpPart operations.Premiums)
+  pub premiums-worked : figure (nodes.Whole (wholes.OpPart operations.Premiums)) ≡ prem_ends (premiums_of sheet.numbers)
+  premiums-worked = worked-equation factors sheet valid (nodes.Whole (wholes.OpPart operations.Premiums))
 
-  pub provisions-worked : figure (nodes.OpPart operations.Provisions) ≡ prov_ends (provisions_of sheet.numbers)
-  provisions-worked = worked-equation factors sheet valid (nodes.OpPart operations.Provisions)
+  pub provisions-worked : figure (nodes.Whole (wholes.OpPart operations.Provisions)) ≡ prov_ends (provisions_of sheet.numbers)
+  provisions-worked = worked-equation factors sheet valid (nodes.Whole (wholes.OpPart operations.Provisions))
 
-  pub premiums-size : IsWithin 20_000_000_000_000_000 (figure (nodes.OpPart operations.Premiums))
+  pub premiums-size : IsWithin 20_000_000_000_000_000 (figure (nodes.Whole (wholes.OpPart operations.Premiums)))
   premiums-size = subst (IsWithin 20_000_000_000_000_000) (sym premiums-worked) (prem-within (premiums_of sheet.numbers) premiums-within)
 
-  premiums-ordered : (figure (nodes.OpPart operations.Premiums)).low ≤ℤ (figure (nodes.OpPart operations.Premiums)).high
+  premiums-ordered : (figure (nodes.Whole (wholes.OpPart operations.Premiums))).low ≤ℤ (figure (nodes.Whole (wholes.OpPart operations.Premiums))).high
   premiums-ordered =
       subst (λ (e : Ends). e.low ≤ℤ e.high) (sym premiums-worked)
       (enclosing-in_order 1000 _ _ _ (prem-encloses (premiums_of sheet.numbers)))
 
-  pub provisions-amount : IsAmount 390_000_000_000_000 (figure (nodes.OpPart operations.Provisions))
+  pub provisions-amount : IsAmount 390_000_000_000_000 (figure (nodes.Whole (wholes.OpPart operations.Provisions)))
   provisions-amount = subst (IsAmount 390_000_000_000_000) (sym provisions-worked) (prov-size (provisions_of sheet.numbers) provisions-within)
 
   -- ---- the Basic Solvency Capital Requirement
-  pub bscr-worked : (measure : Measure) → figure (nodes.Bscr measure) ≡ bscr_ends (map figure (modules measure)) sheet.numbers.intangible
-  bscr-worked measure = worked-equation factors sheet valid (nodes.Bscr measure)
+  pub bscr-worked : (measure : Measure) → figure (nodes.Whole (wholes.Bscr measure)) ≡ bscr_ends (map figure (modules measure)) sheet.numbers.intangible
+  bscr-worked measure = worked-equation factors sheet valid (nodes.Whole (wholes.Bscr measure))
 
-  pub diversification-worked : figure nodes.Diversification
+  pub diversification-worked : figure (nodes.Whole wholes.Diversification)
       ≡ diversification_ends (map figure (modules measures.Gross)) (bscr_ends (map figure (modules measures.Gross)) sheet.numbers.intangible) sheet.numbers.intangible
   diversification-worked =
-      worked-equation factors sheet valid nodes.Diversification
+      worked-equation factors sheet valid (nodes.Whole wholes.Diversification)
       ∙ ap (λ (basic : Ends). diversification_ends (map figure (modules measures.Gross)) basic sheet.numbers.intangible) (bscr-worked measures.Gross)
 
-  pub cap-worked : figure (nodes.OpPart operations.Cap) ≡ cap_ends (figure (nodes.Bscr measures.Gross))
-  cap-worked = worked-equation factors sheet valid (nodes.OpPart operations.Cap)
+  pub cap-worked : figure (nodes.Whole (wholes.OpPart operations.Cap)) ≡ cap_ends (figure (nodes.Whole (wholes.Bscr measures.Gross)))
+  cap-worked = worked-equation factors sheet valid (nodes.Whole (wholes.OpPart operations.Cap))
 
-  pub charge-worked : figure (nodes.OpPart operations.Charge)
-      ≡ op_ends (figure (nodes.OpPart operations.Cap)) (figure (nodes.OpPart operations.Premiums)) (figure (nodes.OpPart operations.Provisions)) (slice_index_or sheet.numbers.earned 6 0)
-  charge-worked = worked-equation factors sheet valid (nodes.OpPart operations.Charge)
+  pub charge-worked : figure (nodes.Whole (wholes.OpPart operations.Charge))
+      ≡ op_ends (figure (nodes.Whole (wholes.OpPart operations.Cap))) (figure (nodes.Whole (wholes.OpPart operations.Premiums))) (figure (nodes.Whole (wholes.OpPart operations.Provisions))) (slice_index_or sheet.numbers.earned 6 0)
+  charge-worked = worked-equation factors sheet valid (nodes.Whole (wholes.OpPart operations.Charge))
 
-  pub absorbing-worked : figure (nodes.Adjust adjustments.TechnicalProvisions)
-      ≡ adj_tp_ends (figure (nodes.Bscr measures.Gross)) (figure (nodes.Bscr measures.Net)) sheet.numbers.fdb
-  absorbing-worked = worked-equation factors sheet valid (nodes.Adjust adjustments.TechnicalProvisions)
+  pub absorbing-worked : figure (nodes.Whole (wholes.Adjust adjustments.TechnicalProvisions))
+      ≡ adj_tp_ends (figure (nodes.Whole (wholes.Bscr measures.Gross))) (figure (nodes.Whole (wholes.Bscr measures.Net))) sheet.numbers.fdb
+  absorbing-worked = worked-equation factors sheet valid (nodes.Whole (wholes.Adjust adjustments.TechnicalProvisions))
 
-  pub taxed-worked : figure (nodes.Adjust adjustments.DeferredTaxes)
-      ≡ adj_dt_ends (figure (nodes.Bscr measures.Gross)) (figure (nodes.Adjust adjustments.TechnicalProvisions)) (figure (nodes.OpPart operations.Charge)) sheet.numbers.tax sheet.numbers.cap
-  taxed-worked = worked-equation factors sheet valid (nodes.Adjust adjustments.DeferredTaxes)
+  pub taxed-worked : figure (nodes.Whole (wholes.Adjust adjustments.DeferredTaxes))
+      ≡ adj_dt_ends (figure (nodes.Whole (wholes.Bscr measures.Gross))) (figure (nodes.Whole (wholes.Adjust adjustments.TechnicalProvisions))) (figure (nodes.Whole (wholes.OpPart operations.Charge))) sheet.numbers.tax sheet.numbers.cap
+  taxed-worked = worked-equation factors sheet valid (nodes.Whole (wholes.Adjust adjustments.DeferredTaxes))
 
-  pub scr-worked : figure nodes.Scr
-      ≡ scr_ends (figure (nodes.Bscr measures.Gross)) (figure (nodes.Adjust adjustments.TechnicalProvisions)) (figure (nodes.Adjust adjustments.DeferredTaxes)) (figure (nodes.OpPart operations.Charge))
-  scr-worked = worked-equation factors sheet valid nodes.Scr
+  pub scr-worked : figure (nodes.Whole wholes.Scr)
+      ≡ scr_ends (figure (nodes.Whole (wholes.Bscr measures.Gross))) (figure (nodes.Whole (wholes.Adjust adjustments.TechnicalProvisions))) (figure (nodes.Whole (wholes.Adjust adjustments.DeferredTaxes))) (figure (nodes.Whole (wholes.OpPart operations.Charge)))
+  scr-worked = worked-equation factors sheet valid (nodes.Whole wholes.Scr)
 
   pub tax-within : sheet.numbers.tax ≤ 1_000_000
   tax-within = let h = valid.numbers.tax in omega (arith, ints, h)
@@ -209,7 +210,7 @@ module _ (factors : FactorValues) (known : IsInForm factors) (sheet : BalanceShe
     pub modules-together : sum_by (λ most. most) module_grains ≤ 4_940_000_000_000_000_000
     modules-together = omega (arith, within.together)
 
-    pub bscr-amount : (measure : Measure) → IsAmount MAX_REQUIREMENT (figure (nodes.Bscr measure))
+    pub bscr-amount : (measure : Measure) → IsAmount MAX_REQUIREMENT (figure (nodes.Whole (wholes.Bscr measure)))
     bscr-amount measure =
         subst (IsAmount MAX_REQUIREMENT) (sym (bscr-worked measure))
         (amount-wider (sum_by (λ most. most) module_grains + 800 * sheet.numbers.intangible) MAX_REQUIREMENT _
@@ -217,28 +218,28 @@ module _ (factors : FactorValues) (known : IsInForm factors) (sheet : BalanceShe
         (bscr-size module_grains (map figure (modules measure)) sheet.numbers.intangible refl (modules-amounts measure)))
 
     -- ---- operational risk
-    pub cap-amount : IsAmount 1_500_000_000_000_000_000 (figure (nodes.OpPart operations.Cap))
+    pub cap-amount : IsAmount 1_500_000_000_000_000_000 (figure (nodes.Whole (wholes.OpPart operations.Cap)))
     cap-amount =
         subst (IsAmount 1_500_000_000_000_000_000) (sym cap-worked)
-        (cap-size MAX_REQUIREMENT 1_500_000_000_000_000_000 (figure (nodes.Bscr measures.Gross)) (lit≤ tt) (bscr-amount measures.Gross))
+        (cap-size MAX_REQUIREMENT 1_500_000_000_000_000_000 (figure (nodes.Whole (wholes.Bscr measures.Gross))) (lit≤ tt) (bscr-amount measures.Gross))
 
-    pub charge-amount : IsAmount 1_502_500_000_000_000_000 (figure (nodes.OpPart operations.Charge))
+    pub charge-amount : IsAmount 1_502_500_000_000_000_000 (figure (nodes.Whole (wholes.OpPart operations.Charge)))
     charge-amount =
         subst (IsAmount 1_502_500_000_000_000_000) (sym charge-worked)
         (amount-wider _ 1_502_500_000_000_000_000 _ (omega (arith, expenses-within))
         (op-size 1_500_000_000_000_000_000 390_000_000_000_000 _ _ _ (slice_index_or sheet.numbers.earned 6 0) cap-amount premiums-ordered provisions-amount))
 
     -- ---- adjustments
-    pub absorbing-size : IsNegativeAmount (1000 * sheet.numbers.fdb) (figure (nodes.Adjust adjustments.TechnicalProvisions))
+    pub absorbing-size : IsNegativeAmount (1000 * sheet.numbers.fdb) (figure (nodes.Whole (wholes.Adjust adjustments.TechnicalProvisions)))
     absorbing-size =
         subst (IsNegativeAmount (1000 * sheet.numbers.fdb)) (sym absorbing-worked)
-        (adj_tp-size (figure (nodes.Bscr measures.Gross)) (figure (nodes.Bscr measures.Net)) sheet.numbers.fdb (bscr-amount measures.Gross).ordered (bscr-amount measures.Net).ordered)
+        (adj_tp-size (figure (nodes.Whole (wholes.Bscr measures.Gross))) (figure (nodes.Whole (wholes.Bscr measures.Net))) sheet.numbers.fdb (bscr-amount measures.Gross).ordered (bscr-amount measures.Net).ordered)
 
-    pub taxed-size : IsNegativeAmount (1000 * sheet.numbers.cap) (figure (nodes.Adjust adjustments.DeferredTaxes))
+    pub taxed-size : IsNegativeAmount (1000 * sheet.numbers.cap) (figure (nodes.Whole (wholes.Adjust adjustments.DeferredTaxes)))
     taxed-size =
-        let bscr = figure (nodes.Bscr measures.Gross) in
-        let tp = figure (nodes.Adjust adjustments.TechnicalProvisions) in
-        let op = figure (nodes.OpPart operations.Charge) in
+        let bscr = figure (nodes.Whole (wholes.Bscr measures.Gross)) in
+        let tp = figure (nodes.Whole (wholes.Adjust adjustments.TechnicalProvisions)) in
+        let op = figure (nodes.Whole (wholes.OpPart operations.Charge)) in
         subst (IsNegativeAmount (1000 * sheet.numbers.cap)) (sym taxed-worked)
         (adj_dt-size 7_000_000_000_000_000_000 bscr tp op sheet.numbers.tax sheet.numbers.cap tax-within
         (sums-in-order bscr.low bscr.high tp.low tp.high op.low op.high (bscr-amount measures.Gross).ordered absorbing-size.ordered charge-amount.ordered)
@@ -246,14 +247,14 @@ module _ (factors : FactorValues) (known : IsInForm factors) (sheet : BalanceShe
         (amount-high MAX_REQUIREMENT bscr (bscr-amount measures.Gross)) absorbing-size.not_positive (amount-high 1_502_500_000_000_000_000 op charge-amount) (lit≤ tt)))
 
     -- ---- each within the limit of a requirement
-    pub bscr-within : (measure : Measure) → IsWithin MAX_REQUIREMENT (figure (nodes.Bscr measure))
+    pub bscr-within : (measure : Measure) → IsWithin MAX_REQUIREMENT (figure (nodes.Whole (wholes.Bscr measure)))
     bscr-within measure = amount-within MAX_REQUIREMENT MAX_REQUIREMENT _ (lit≤ tt) (bscr-amount measure)
 
-    pub charge-within : IsWithin MAX_REQUIREMENT (figure (nodes.OpPart operations.Charge))
+    pub charge-within : IsWithin MAX_REQUIREMENT (figure (nodes.Whole (wholes.OpPart operations.Charge)))
     charge-within = amount-within _ MAX_REQUIREMENT _ (lit≤ tt) charge-amount
 
-    pub absorbing-within : IsWithin MAX_REQUIREMENT (figure (nodes.Adjust adjustments.TechnicalProvisions))
+    pub absorbing-within : IsWithin MAX_REQUIREMENT (figure (nodes.Whole (wholes.Adjust adjustments.TechnicalProvisions)))
     absorbing-within = negative-within _ MAX_REQUIREMENT _ (omega (arith, valid.numbers.fdb)) absorbing-size
 
-    pub taxed-within : IsWithin MAX_REQUIREMENT (figure (nodes.Adjust adjustments.DeferredTaxes))
+    pub taxed-within : IsWithin MAX_REQUIREMENT (figure (nodes.Whole (wholes.Adjust adjustments.DeferredTaxes)))
     taxed-within = negative-within _ MAX_REQUIREMENT _ (omega (arith, valid.numbers.cap)) taxed-size

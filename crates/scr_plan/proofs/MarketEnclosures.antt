@@ -38,6 +38,11 @@ use Rattle.scr_nodes.specs.declared.{node.Direction.Direction, node.Measure.Meas
 use Rattle.scr_nodes.specs.declared.node.Direction.TheVariants as directions
 use Rattle.scr_nodes.specs.declared.node.Measure.TheVariants as measures
 use Rattle.scr_nodes.specs.declared.node.Node.TheVariants as nodes
+use Rattle.scr_nodes.specs.declared.node.OfSecurity.TheVariants as of_securities
+use Rattle.scr_nodes.specs.declared.node.OfLiability.TheVariants as of_liabilities
+use Rattle.scr_nodes.specs.declared.node.OfCurrency.TheVariants as of_currencies
+use Rattle.scr_nodes.specs.declared.node.OfGroup.TheVariants as of_groups
+use Rattle.scr_nodes.specs.declared.node.Whole.TheVariants as wholes
 use Rattle.scr_nodes.specs.declared.node.Risk.TheVariants as risks
 use Rattle.scr_nodes.specs.OwnOf.{currency_absorbed, risk_key, valued}
 use Rattle.scr_nodes.specs.Rows.{has_class, is_foreign, is_owed_in, group_of, liability_of, step_of}
@@ -63,7 +68,7 @@ module _ (factors : FactorValues) (sheet : BalanceSheet) (valid : Valid sheet) w
   figure node = worked factors sheet node
 
   -- ---- present values
-  pub present-encloses : (name : List ℕ) (l : Liability) → liability_of name sheet.liabilities ≡ Some l → Holds one (figure (nodes.LiabilityPresent name)) (Frac (liability_worth sheet l))
+  pub present-encloses : (name : List ℕ) (l : Liability) → liability_of name sheet.liabilities ≡ Some l → Holds one (figure (nodes.Liability name of_liabilities.Present)) (Frac (liability_worth sheet l))
   unfolding liability_worth
   present-encloses name l is =
       let fits = liability-fits sheet valid directions.Up l (liability-known sheet valid name l is) in
@@ -81,22 +86,22 @@ module _ (factors : FactorValues) (sheet : BalanceSheet) (valid : Valid sheet) w
   cost-encloses directions.Up currency = rise-encloses (assets_in currency sheet) (sum_ends (owed_ends factors sheet valid currency)) (liabilities_in currency sheet) (owed-encloses currency)
   cost-encloses directions.Down currency = fall-encloses (assets_in currency sheet) (sum_ends (owed_ends factors sheet valid currency)) (liabilities_in currency sheet) (owed-encloses currency)
 
-  change-gross : (direction : Direction) (currency : List ℕ) → Holds 1000 (figure (nodes.CurrencyScenario currency direction measures.Gross)) (Frac (change_outcome sheet currency direction).gross)
+  change-gross : (direction : Direction) (currency : List ℕ) → Holds 1000 (figure (nodes.Currency currency (of_currencies.Scenario direction measures.Gross))) (Frac (change_outcome sheet currency direction).gross)
   unfolding change_outcome
   change-gross direction currency =
       subst (λ (e : Ends). Holds 1000 e (Frac (change_outcome sheet currency direction).gross)) (sym (change-worked factors sheet valid direction currency)) (cost-encloses direction currency)
 
-  change-net : (direction : Direction) (currency : List ℕ) → Holds 1000 (figure (nodes.CurrencyScenario currency direction measures.Net)) (Frac (change_outcome sheet currency direction).net)
+  change-net : (direction : Direction) (currency : List ℕ) → Holds 1000 (figure (nodes.Currency currency (of_currencies.Scenario direction measures.Net))) (Frac (change_outcome sheet currency direction).net)
   unfolding change_outcome
   change-net direction currency =
-      let e = figure (nodes.CurrencyScenario currency direction measures.Gross) in
+      let e = figure (nodes.Currency currency (of_currencies.Scenario direction measures.Gross)) in
       let absorb = currency_absorbed sheet currency direction in
       let gross = (change_outcome sheet currency direction).gross in
-      subst (λ (f : Ends). Holds 1000 f (Frac (change_outcome sheet currency direction).net)) (sym (worked-equation factors sheet valid (nodes.CurrencyScenario currency direction measures.Net)))
+      subst (λ (f : Ends). Holds 1000 f (Frac (change_outcome sheet currency direction).net)) (sym (worked-equation factors sheet valid (nodes.Currency currency (of_currencies.Scenario direction measures.Net))))
       (Encloses-net_exact 1000 _ _ gross absorb (Encloses-net e absorb (Frac gross) (change-gross direction currency)))
 
   pub change-encloses : (direction : Direction) (measure : Measure) (currency : List ℕ)
-      → Holds 1000 (figure (nodes.CurrencyScenario currency direction measure)) (Frac (measured measure (change_outcome sheet currency direction)))
+      → Holds 1000 (figure (nodes.Currency currency (of_currencies.Scenario direction measure))) (Frac (measured measure (change_outcome sheet currency direction)))
   change-encloses direction measures.Gross currency = change-gross direction currency
   change-encloses direction measures.Net currency = change-net direction currency
 
@@ -110,22 +115,22 @@ module _ (factors : FactorValues) (sheet : BalanceSheet) (valid : Valid sheet) w
   unfolding decisive_change
   decisive-is currency = refl
 
-  pub change-picked-encloses : (measure : Measure) (currency : List ℕ) → Holds 1000 (figure (nodes.CurrencyPicked currency measure)) (Frac (measured measure (decisive_change sheet currency)))
+  pub change-picked-encloses : (measure : Measure) (currency : List ℕ) → Holds 1000 (figure (nodes.Currency currency (of_currencies.Picked measure))) (Frac (measured measure (decisive_change sheet currency)))
   change-picked-encloses measures.Gross currency =
       let outcomes = change_outcomes sheet currency in
-      subst (λ (e : Ends). Holds 1000 e (Frac (decisive_change sheet currency).gross)) (sym (worked-equation factors sheet valid (nodes.CurrencyPicked currency measures.Gross)))
+      subst (λ (e : Ends). Holds 1000 e (Frac (decisive_change sheet currency).gross)) (sym (worked-equation factors sheet valid (nodes.Currency currency (of_currencies.Picked measures.Gross))))
       (rw (decisive-is currency) (gross_encloses 1000 (change_alternatives factors sheet valid currency) outcomes (chosen outcomes) (both-enclose currency) (chosen-is outcomes (lit< tt))))
   change-picked-encloses measures.Net currency =
       let outcomes = change_outcomes sheet currency in
-      subst (λ (e : Ends). Holds 1000 e (Frac (decisive_change sheet currency).net)) (sym (worked-equation factors sheet valid (nodes.CurrencyPicked currency measures.Net)))
+      subst (λ (e : Ends). Holds 1000 e (Frac (decisive_change sheet currency).net)) (sym (worked-equation factors sheet valid (nodes.Currency currency (of_currencies.Picked measures.Net))))
       (rw (decisive-is currency) (net_encloses 1000 (change_alternatives factors sheet valid currency) outcomes (chosen outcomes) (both-enclose currency) (chosen-is outcomes (lit< tt))))
 
   -- the mask of the choice has the bit of the one that decides by the exact requirements
-  pub change-choice-has-decisive : (currency : List ℕ) → IsBitSet (amount_of (figure (nodes.CurrencyChoice currency))) (chosen (change_outcomes sheet currency))
+  pub change-choice-has-decisive : (currency : List ℕ) → IsBitSet (amount_of (figure (nodes.Currency currency of_currencies.Choice))) (chosen (change_outcomes sheet currency))
   change-choice-has-decisive currency =
       let outcomes = change_outcomes sheet currency in
       let list = change_alternatives factors sheet valid currency in
-      subst (λ (e : Ends). IsBitSet (amount_of e) (chosen outcomes)) (sym (worked-equation factors sheet valid (nodes.CurrencyChoice currency)))
+      subst (λ (e : Ends). IsBitSet (amount_of e) (chosen outcomes)) (sym (worked-equation factors sheet valid (nodes.Currency currency of_currencies.Choice)))
       ((mask_bits list (chosen outcomes) (chosen-is outcomes (lit< tt)).listed).1
       (chosen_unbeaten 1000 list outcomes (chosen outcomes) (both-enclose currency) (chosen-is outcomes (lit< tt))))
 
@@ -138,7 +143,7 @@ module _ (factors : FactorValues) (sheet : BalanceSheet) (valid : Valid sheet) w
   each-net [] = tt
   each-net (c ∷ curves) = (λ e. change-picked-encloses measures.Net c.currency, each-net curves)
 
-  pub currency-encloses : (measure : Measure) → Holds 1000 (figure (nodes.Currency measure)) (Frac (currency_exact measure sheet))
+  pub currency-encloses : (measure : Measure) → Holds 1000 (figure (nodes.Whole (wholes.Currency measure))) (Frac (currency_exact measure sheet))
   unfolding currency_exact
   currency-encloses measures.Gross =
       subst (λ (e : Ends). Holds 1000 e (Frac (currency_exact measures.Gross sheet))) (sym (currency-worked factors sheet valid measures.Gross))
@@ -148,21 +153,21 @@ module _ (factors : FactorValues) (sheet : BalanceSheet) (valid : Valid sheet) w
       (rows-sum_enclosed figure (currency_picked measures.Net) 1000 (lit< tt) (is_foreign sheet) (λ (c : Curve). (decisive_change sheet c.currency).net) sheet.curves (each-net sheet.curves))
 
   -- ---- property and spread risk
-  pub property-enclosed : Holds 1000 (figure nodes.Property) (property_exact sheet)
+  pub property-enclosed : Holds 1000 (figure (nodes.Whole wholes.Property)) (property_exact sheet)
   property-enclosed =
       subst (λ (e : Ends). Holds 1000 e (property_exact sheet)) (sym (property-worked factors sheet valid)) (property-encloses (class_total classes.Property sheet))
 
   own-name : (name : List ℕ) (p : Position) → position_of name sheet.securities ≡ Some p → name ≡ position_name p
   own-name name p is = same_name-is name (position_name p) (name_of-row_of position_name name sheet.securities p is)
 
-  pub bond-enclosed : (name : List ℕ) (p : Position) → position_of name sheet.securities ≡ Some p → Holds 1_000_000_000 (figure (nodes.SecuritySpread name)) (Frac (bond_exact factors sheet p))
+  pub bond-enclosed : (name : List ℕ) (p : Position) → position_of name sheet.securities ≡ Some p → Holds 1_000_000_000 (figure (nodes.Security name of_securities.Spread)) (Frac (bond_exact factors sheet p))
   bond-enclosed name p is =
       let row = factor_row (step_of sheet p) in
-      subst (λ (n : List ℕ). Holds 1_000_000_000 (figure (nodes.SecuritySpread name)) (Frac (bond_loss_exact factors (total_of sheet n) row p.security.duration))) (own-name name p is)
+      subst (λ (n : List ℕ). Holds 1_000_000_000 (figure (nodes.Security name of_securities.Spread)) (Frac (bond_loss_exact factors (total_of sheet n) row p.security.duration))) (own-name name p is)
       (subst (λ (e : Ends). Holds 1_000_000_000 e (Frac (bond_loss_exact factors (total_of sheet name) row p.security.duration))) (sym (bond-worked factors sheet valid name p is))
       (bond-encloses factors (total_of sheet name) row p.security.duration))
 
-  pub spread-enclosed : Holds 1000 (figure nodes.Spread) (spread_exact factors sheet)
+  pub spread-enclosed : Holds 1000 (figure (nodes.Whole wholes.Spread)) (spread_exact factors sheet)
   unfolding spread_exact
   spread-enclosed =
       subst (λ (e : Ends). Holds 1000 e (spread_exact factors sheet)) (sym (spread-worked factors sheet valid))
@@ -171,21 +176,21 @@ module _ (factors : FactorValues) (sheet : BalanceSheet) (valid : Valid sheet) w
       (All-map (λ p. position_of (position_name p) sheet.securities ≡ Some p) _ sheet.securities (λ p own e. bond-enclosed (position_name p) p own) (own-securities sheet valid))))
 
   -- ---- market risk concentrations
-  pub square-enclosed : (name : List ℕ) (g : Group) → group_of name sheet.groups ≡ Some g → Holds 10_000_000_000 (figure (nodes.ConcentrationSquare name)) (Frac (group_square_exact sheet g))
+  pub square-enclosed : (name : List ℕ) (g : Group) → group_of name sheet.groups ≡ Some g → Holds 10_000_000_000 (figure (nodes.Group name of_groups.ConcentrationSquare)) (Frac (group_square_exact sheet g))
   square-enclosed name g is =
       subst (λ (e : Ends). Holds 10_000_000_000 e (Frac (group_square_exact sheet g))) (sym (square-worked factors sheet valid name g is))
       (Encloses-exact 10_000_000_000 (pos (square_cents factors sheet valid g)) (group_square_exact sheet g)
       (square-exact (assets_cents sheet) (group_cents sheet g.name) (threshold_units g.kind g.step) (factor_units g.kind g.step) (threshold_exact g.kind g.step) (factor_exact g.kind g.step)
       (threshold-exact g.kind g.step) (factor-exact g.kind g.step)))
 
-  pub concentration-enclosed : Holds 1000 (figure nodes.Concentration) (concentration_exact sheet)
+  pub concentration-enclosed : Holds 1000 (figure (nodes.Whole wholes.Concentration)) (concentration_exact sheet)
   unfolding concentration_exact
   concentration-enclosed =
       subst (λ (e : Ends). Holds 1000 e (concentration_exact sheet)) (sym (concentration-worked factors sheet valid))
       (concentration-encloses (assets_cents sheet) (exposures factors sheet valid))
 
   -- ---- what absorption leaves
-  pub net-enclosed : (risk : Risk) (f : Figure) → Holds 1000 (figure (gross_of risk)) f → Holds 1000 (figure (nodes.NetPart risk)) (net_figure f (absorbed (risk_key risk) sheet.numbers))
+  pub net-enclosed : (risk : Risk) (f : Figure) → Holds 1000 (figure (gross_of risk)) f → Holds 1000 (figure (nodes.Whole (wholes.NetPart risk))) (net_figure f (absorbed (risk_key risk) sheet.numbers))
   net-enclosed risk f h =
       let absorb = absorbed (risk_key risk) sheet.numbers in
       subst (λ (e : Ends). Holds 1000 e (net_figure f absorb)) (sym (net-worked factors sheet valid risk)) (Encloses-net (figure (gross_of risk)) absorb f h)
@@ -197,13 +202,13 @@ module _ (factors : FactorValues) (sheet : BalanceSheet) (valid : Valid sheet) w
   -- ---- the module
   -- where the interest scenario and equity risk are enclosed, and the mask has the bit of the scenario that decides
   pub market-enclosed : (measure : Measure) (interest equity : Figure) (place : ℕ) → place < 2
-      → Holds 1000 (figure (nodes.Picked alternatives.Interest measure)) interest → Holds 1000 (figure (gross_of risks.Equity)) equity
-      → IsBitSet (amount_of (figure (nodes.Choice alternatives.Interest))) place
-      → Holds 1000 (figure (nodes.Market measure)) (market_figure place (parts_of (interest ∷ absorbed_part sheet measure risks.Equity equity
+      → Holds 1000 (figure (nodes.Whole (wholes.Picked alternatives.Interest measure))) interest → Holds 1000 (figure (gross_of risks.Equity)) equity
+      → IsBitSet (amount_of (figure (nodes.Whole (wholes.Choice alternatives.Interest)))) place
+      → Holds 1000 (figure (nodes.Whole (wholes.Market measure))) (market_figure place (parts_of (interest ∷ absorbed_part sheet measure risks.Equity equity
       ∷ absorbed_part sheet measure risks.Property (property_exact sheet) ∷ absorbed_part sheet measure risks.Spread (spread_exact factors sheet)
       ∷ absorbed_part sheet measure risks.Concentration (concentration_exact sheet) ∷ Frac (currency_exact measure sheet) ∷ [])))
   market-enclosed measure interest equity place two h k bit =
-      let mask = interest-mask factors sheet valid (figure (nodes.Choice alternatives.Interest)) refl in
+      let mask = interest-mask factors sheet valid (figure (nodes.Whole (wholes.Choice alternatives.Interest))) refl in
       let figures = parts_of (interest ∷ absorbed_part sheet measure risks.Equity equity
       ∷ absorbed_part sheet measure risks.Property (property_exact sheet) ∷ absorbed_part sheet measure risks.Spread (spread_exact factors sheet)
       ∷ absorbed_part sheet measure risks.Concentration (concentration_exact sheet) ∷ Frac (currency_exact measure sheet) ∷ []) in
@@ -233,4 +238,4 @@ module _ (factors : FactorValues) (sheet : BalanceSheet) (valid : Valid sheet) w
         ),
       ) in
       subst (λ (e : Ends). Holds 1000 e (market_figure place figures)) (sym (market-worked factors sheet valid measure))
-      (market-encloses (six factors sheet valid measure) figures refl all (amount_of (figure (nodes.Choice alternatives.Interest))) place mask.some mask.most two bit)
+      (market-encloses (six factors sheet valid measure) figures refl all (amount_of (figure (nodes.Whole (wholes.Choice alternatives.Interest)))) place mask.some mask.most two bit)

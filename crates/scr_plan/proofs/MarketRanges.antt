@@ -26,6 +26,11 @@ use Rattle.scr_nodes.specs.declared.{node.Direction.Direction, node.Measure.Meas
 use Rattle.scr_nodes.specs.declared.node.Direction.TheVariants as directions
 use Rattle.scr_nodes.specs.declared.node.Measure.TheVariants as measures
 use Rattle.scr_nodes.specs.declared.node.Node.TheVariants as nodes
+use Rattle.scr_nodes.specs.declared.node.OfSecurity.TheVariants as of_securities
+use Rattle.scr_nodes.specs.declared.node.OfLiability.TheVariants as of_liabilities
+use Rattle.scr_nodes.specs.declared.node.OfCurrency.TheVariants as of_currencies
+use Rattle.scr_nodes.specs.declared.node.OfGroup.TheVariants as of_groups
+use Rattle.scr_nodes.specs.declared.node.Whole.TheVariants as wholes
 use Rattle.scr_nodes.specs.declared.node.Risk.TheVariants as risks
 use Rattle.scr_nodes.specs.Live.{is_bond, is_group}
 use Rattle.scr_nodes.specs.Own.Own.{Stressed, Square}
@@ -53,7 +58,7 @@ module _ (factors : FactorValues) (sheet : BalanceSheet) (valid : Valid sheet) w
   abbrev NodeFits : Node → Type 0
   NodeFits node = Fits (own_of factors sheet node) (map figure (sources_of sheet node))
 
-  pub present-fits : (name : List ℕ) → has_row liability_name name sheet.liabilities ≡ true → NodeFits (nodes.LiabilityPresent name)
+  pub present-fits : (name : List ℕ) → has_row liability_name name sheet.liabilities ≡ true → NodeFits (nodes.Liability name of_liabilities.Present)
   present-fits name live =
       let l = row-there liability_name name sheet.liabilities live in
       subst (λ found. FitsWorth (option_map_or (valued sheet) found (record { asof = sheet.numbers.asof.number; payments = []; rates = [] }))) (sym l.1) (by l.0 l.1)
@@ -64,7 +69,7 @@ module _ (factors : FactorValues) (sheet : BalanceSheet) (valid : Valid sheet) w
           record { asof = fits.asof; days = fits.days; near = fits.near; small = fits.small; rates = fits.rates; count = fits.count }
 
   -- ---- currencies
-  pub change-fits : (currency : List ℕ) (direction : Direction) → NodeFits (nodes.CurrencyScenario currency direction measures.Gross)
+  pub change-fits : (currency : List ℕ) (direction : Direction) → NodeFits (nodes.Currency currency (of_currencies.Scenario direction measures.Gross))
   change-fits currency direction = record {
     count = worths-count factors sheet valid currency;
     held = subst (AreTogether (10 ^ 33)) (sym (first-are factors sheet valid currency)) (tested-together factors sheet valid _);
@@ -84,24 +89,24 @@ module _ (factors : FactorValues) (sheet : BalanceSheet) (valid : Valid sheet) w
   wide : (most : ℕ) (e : Ends) → most ≤ 2 ^ 100 → IsAmount most e → IsWithin (2 ^ 100) e
   wide most e le h = record { low = omega (arith, le, h.low_size); high = omega (arith, le, h.high_size) }
 
-  pub change-net-fits : (currency : List ℕ) (direction : Direction) → NodeFits (nodes.CurrencyScenario currency direction measures.Net)
+  pub change-net-fits : (currency : List ℕ) (direction : Direction) → NodeFits (nodes.Currency currency (of_currencies.Scenario direction measures.Net))
   change-net-fits currency direction = record {
     absorbed = absorbed-small currency direction;
-    gross = wide (10 ^ 18) (figure (nodes.CurrencyScenario currency direction measures.Gross)) (lit≤ tt)
+    gross = wide (10 ^ 18) (figure (nodes.Currency currency (of_currencies.Scenario direction measures.Gross))) (lit≤ tt)
         (amount-wider _ _ _ (change-most-small factors sheet valid currency) (change-amount factors sheet valid direction measures.Gross currency));
   }
 
-  pub change-choice-fits : (currency : List ℕ) → NodeFits (nodes.CurrencyChoice currency)
+  pub change-choice-fits : (currency : List ℕ) → NodeFits (nodes.Currency currency of_currencies.Choice)
   change-choice-fits currency = record { some = omega arith; few = omega arith }
 
-  pub change-picked-fits : (currency : List ℕ) (measure : Measure) → NodeFits (nodes.CurrencyPicked currency measure)
+  pub change-picked-fits : (currency : List ℕ) (measure : Measure) → NodeFits (nodes.Currency currency (of_currencies.Picked measure))
   change-picked-fits currency measure = record { some = omega arith; few = omega arith }
 
-  pub currency-fits : (measure : Measure) → NodeFits (nodes.Currency measure)
+  pub currency-fits : (measure : Measure) → NodeFits (nodes.Whole (wholes.Currency measure))
   currency-fits measure = picked-together factors sheet valid measure
 
   -- ---- property and spread risk
-  pub property-fits : NodeFits nodes.Property
+  pub property-fits : NodeFits (nodes.Whole wholes.Property)
   property-fits = record { cents = class-amount factors sheet valid classes.Property }
 
   -- no step is above 6
@@ -123,30 +128,30 @@ module _ (factors : FactorValues) (sheet : BalanceSheet) (valid : Valid sheet) w
       by None = omega arith
       by (Some name) = row (step_of_group sheet name) (group-step name)
 
-  pub bond-fits : (name : List ℕ) → is_bond sheet name ≡ true → NodeFits (nodes.SecuritySpread name)
+  pub bond-fits : (name : List ℕ) → is_bond sheet name ≡ true → NodeFits (nodes.Security name of_securities.Spread)
   bond-fits name live =
       let p = bond-there (position_of name sheet.securities) live in
-      subst (λ found. Fits (option_map_or (bond_stressed factors sheet) found (Stressed factors None 0)) (figure (nodes.SecurityTotal name) ∷ [])) (sym p.1)
+      subst (λ found. Fits (option_map_or (bond_stressed factors sheet) found (Stressed factors None 0)) (figure (nodes.Security name of_securities.Total) ∷ [])) (sym p.1)
       (record {
         row = bond-step p.0;
         long = (All-row_of position_name IsSecurity name sheet.securities p.0 p.1 valid.securities).3;
         cents = security-amount factors sheet valid name (ap is_some p.1);
       })
 
-  pub spread-fits : NodeFits nodes.Spread
+  pub spread-fits : NodeFits (nodes.Whole wholes.Spread)
   spread-fits = bonds-together factors sheet valid
 
   -- ---- concentrations
-  pub group-fits : (name : List ℕ) → NodeFits (nodes.GroupTotal name)
+  pub group-fits : (name : List ℕ) → NodeFits (nodes.Group name of_groups.Total)
   group-fits name = tested-together factors sheet valid (is_of_group name)
 
-  pub assets-fits : NodeFits nodes.Assets
+  pub assets-fits : NodeFits (nodes.Whole wholes.Assets)
   assets-fits = tested-together factors sheet valid has_group
 
-  pub square-fits : (name : List ℕ) → is_group sheet name ≡ true → NodeFits (nodes.ConcentrationSquare name)
+  pub square-fits : (name : List ℕ) → is_group sheet name ≡ true → NodeFits (nodes.Group name of_groups.ConcentrationSquare)
   square-fits name live =
       let g = row-there group_name name sheet.groups live in
-      subst (λ found. Fits (option_map_or group_square found (Square kinds.Name None)) (figure nodes.Assets ∷ figure (nodes.GroupTotal name) ∷ [])) (sym g.1)
+      subst (λ found. Fits (option_map_or group_square found (Square kinds.Name None)) (figure (nodes.Whole wholes.Assets) ∷ figure (nodes.Group name of_groups.Total) ∷ [])) (sym g.1)
       (record {
         at_most_6 = step g.0.step (All-row_of group_name IsGroup name sheet.groups g.0 g.1 valid.groups).1;
         assets = subst (IsAmount MAX_HELD) (sym (assets-worked factors sheet valid)) (amount-exact MAX_HELD _ (all-assets-small factors sheet valid));
@@ -158,25 +163,25 @@ module _ (factors : FactorValues) (sheet : BalanceSheet) (valid : Valid sheet) w
       step None h = omega arith
       step (Some n) h = h
 
-  pub concentration-fits : NodeFits nodes.Concentration
+  pub concentration-fits : NodeFits (nodes.Whole wholes.Concentration)
   concentration-fits = record { together = squares-together factors sheet valid; sum = squares-amount factors sheet valid }
 
   -- ---- what absorption leaves, and the module
-  net-fits : (risk : Risk) (most : ℕ) → most ≤ 2 ^ 100 → IsAmount most (figure (gross_of risk)) → NodeFits (nodes.NetPart risk)
+  net-fits : (risk : Risk) (most : ℕ) → most ≤ 2 ^ 100 → IsAmount most (figure (gross_of risk)) → NodeFits (nodes.Whole (wholes.NetPart risk))
   net-fits risk most le h = record { absorbed = absorbed-within (risk_key risk) sheet.numbers valid.numbers.absorb; gross = wide most (figure (gross_of risk)) le h }
 
-  pub property-net-fits : NodeFits (nodes.NetPart risks.Property)
+  pub property-net-fits : NodeFits (nodes.Whole (wholes.NetPart risks.Property))
   property-net-fits = net-fits risks.Property _ (lit≤ tt) (property-amount factors sheet valid)
 
-  pub spread-net-fits : NodeFits (nodes.NetPart risks.Spread)
+  pub spread-net-fits : NodeFits (nodes.Whole (wholes.NetPart risks.Spread))
   spread-net-fits = net-fits risks.Spread _ (lit≤ tt) (spread-amount factors sheet valid)
 
-  pub concentration-net-fits : NodeFits (nodes.NetPart risks.Concentration)
+  pub concentration-net-fits : NodeFits (nodes.Whole (wholes.NetPart risks.Concentration))
   concentration-net-fits = net-fits risks.Concentration _ (lit≤ tt) (concentration-amount factors sheet valid)
 
-  pub market-fits : (measure : Measure) → NodeFits (nodes.Market measure)
+  pub market-fits : (measure : Measure) → NodeFits (nodes.Whole (wholes.Market measure))
   market-fits measure = record {
-    parts = root-fits 6 (six_most factors sheet valid) (map figure (sources_of sheet (nodes.Market measure))) (six-amounts factors sheet valid measure) (omega arith);
+    parts = root-fits 6 (six_most factors sheet valid) (map figure (sources_of sheet (nodes.Whole (wholes.Market measure)))) (six-amounts factors sheet valid measure) (omega arith);
     mask = mask-amount factors sheet valid;
-    some = (interest-mask factors sheet valid (figure (nodes.Choice alternatives.Interest)) refl).some;
+    some = (interest-mask factors sheet valid (figure (nodes.Whole (wholes.Choice alternatives.Interest))) refl).some;
   }

@@ -55,6 +55,11 @@ use Rattle.scr_nodes.specs.declared.{node.Direction.Direction, node.Measure.Meas
 use Rattle.scr_nodes.specs.declared.node.Direction.TheVariants as directions
 use Rattle.scr_nodes.specs.declared.node.Measure.TheVariants as measures
 use Rattle.scr_nodes.specs.declared.node.Node.TheVariants as nodes
+use Rattle.scr_nodes.specs.declared.node.OfSecurity.TheVariants as of_securities
+use Rattle.scr_nodes.specs.declared.node.OfLiability.TheVariants as of_liabilities
+use Rattle.scr_nodes.specs.declared.node.OfCurrency.TheVariants as of_currencies
+use Rattle.scr_nodes.specs.declared.node.OfGroup.TheVariants as of_groups
+use Rattle.scr_nodes.specs.declared.node.Whole.TheVariants as wholes
 use Rattle.scr_nodes.specs.declared.node.Risk.TheVariants as risks
 use Rattle.scr_nodes.specs.OwnOf.{interest_key, risk_key, valued, currency_absorbed, held_in, paid_by_security, paid_by_liability, bond_stressed, group_square}
 use Rattle.scr_nodes.specs.Own.Own.{Stressed, Square}
@@ -154,9 +159,9 @@ module _ (factors : FactorValues) (sheet : BalanceSheet) (valid : Valid sheet) w
 
   -- ---- present values
   pub present-worked : (name : List ℕ) (l : Liability) → liability_of name sheet.liabilities ≡ Some l
-      → figure (nodes.LiabilityPresent name) ≡ worth_ends (valued sheet l) (discounts_at (valued sheet l).rates)
+      → figure (nodes.Liability name of_liabilities.Present) ≡ worth_ends (valued sheet l) (discounts_at (valued sheet l).rates)
   present-worked name l is =
-      worked-equation factors sheet valid (nodes.LiabilityPresent name)
+      worked-equation factors sheet valid (nodes.Liability name of_liabilities.Present)
       ∙ ap (λ found. let v = option_map_or (valued sheet) found (record { asof = sheet.numbers.asof.number; payments = []; rates = [] }) in worth_ends v (discounts_at v.rates)) is
 
   -- a multiple of what a quarter of a grain's worth is
@@ -164,13 +169,13 @@ module _ (factors : FactorValues) (sheet : BalanceSheet) (valid : Valid sheet) w
   owed_most l = 685 * total l.flows.base
 
   pub present-within : (name : List ℕ) (l : Liability) → liability_of name sheet.liabilities ≡ Some l
-      → IsWithin (4_000_000_000_000_000 * owed_most l) (figure (nodes.LiabilityPresent name))
+      → IsWithin (4_000_000_000_000_000 * owed_most l) (figure (nodes.Liability name of_liabilities.Present))
   present-within name l is =
       let fits = liability-fits sheet valid directions.Up l (liability-known sheet valid name l is) in
       let own = worth-within (valued sheet l) fits.rates (total l.flows.base) (omega arith) in
       subst (IsWithin (4_000_000_000_000_000 * owed_most l)) (sym (present-worked name l is)) (record { low = omega (arith, own.low); high = omega (arith, own.high) })
 
-  pub present-ordered : (name : List ℕ) (l : Liability) → liability_of name sheet.liabilities ≡ Some l → IsOrdered (figure (nodes.LiabilityPresent name))
+  pub present-ordered : (name : List ℕ) (l : Liability) → liability_of name sheet.liabilities ≡ Some l → IsOrdered (figure (nodes.Liability name of_liabilities.Present))
   present-ordered name l is =
       let fits = liability-fits sheet valid directions.Up l (liability-known sheet valid name l is) in
       subst IsOrdered (sym (present-worked name l is)) (enclosing-in_order one _ _ _ (worth-encloses (valued sheet l) fits.rates fits.near))
@@ -245,10 +250,10 @@ module _ (factors : FactorValues) (sheet : BalanceSheet) (valid : Valid sheet) w
   unfolding assets_in
   held-times currency = tested-times 250 (is_held_in currency) (security_cents sheet) sheet.securities
 
-  pub change-worked : (direction : Direction) (currency : List ℕ) → figure (nodes.CurrencyScenario currency direction measures.Gross)
+  pub change-worked : (direction : Direction) (currency : List ℕ) → figure (nodes.Currency currency (of_currencies.Scenario direction measures.Gross))
       ≡ foreign_ends direction (assets_in currency sheet) (sum_ends (owed_ends currency))
   change-worked direction currency =
-      worked-equation factors sheet valid (nodes.CurrencyScenario currency direction measures.Gross)
+      worked-equation factors sheet valid (nodes.Currency currency (of_currencies.Scenario direction measures.Gross))
       ∙ ap₂ (λ (a b : Ends). foreign_ends direction (amount_of a) b) (ap sum_ends (first-are currency) ∙ held-sum currency) (ap sum_ends (others-are currency))
 
   change-size : (direction : Direction) (currency : List ℕ) → IsAmount (change_most currency) (foreign_ends direction (assets_in currency sheet) (sum_ends (owed_ends currency)))
@@ -267,28 +272,28 @@ module _ (factors : FactorValues) (sheet : BalanceSheet) (valid : Valid sheet) w
       by directions.Up = rise-size (assets_in currency sheet) (change_most currency) (sum_ends (owed_ends currency)) (owed-ordered currency) low high
       by directions.Down = fall-size (assets_in currency sheet) (change_most currency) (sum_ends (owed_ends currency)) (owed-ordered currency) low high
 
-  change-gross : (direction : Direction) (currency : List ℕ) → IsAmount (change_most currency) (figure (nodes.CurrencyScenario currency direction measures.Gross))
+  change-gross : (direction : Direction) (currency : List ℕ) → IsAmount (change_most currency) (figure (nodes.Currency currency (of_currencies.Scenario direction measures.Gross)))
   change-gross direction currency = subst (IsAmount (change_most currency)) (sym (change-worked direction currency)) (change-size direction currency)
 
-  pub change-amount : (direction : Direction) (measure : Measure) (currency : List ℕ) → IsAmount (change_most currency) (figure (nodes.CurrencyScenario currency direction measure))
+  pub change-amount : (direction : Direction) (measure : Measure) (currency : List ℕ) → IsAmount (change_most currency) (figure (nodes.Currency currency (of_currencies.Scenario direction measure)))
   change-amount direction measures.Gross currency = change-gross direction currency
   change-amount direction measures.Net currency =
-      subst (IsAmount (change_most currency)) (sym (worked-equation factors sheet valid (nodes.CurrencyScenario currency direction measures.Net)))
-      (net-amount (change_most currency) (currency_absorbed sheet currency direction) (figure (nodes.CurrencyScenario currency direction measures.Gross)) (change-gross direction currency))
+      subst (IsAmount (change_most currency)) (sym (worked-equation factors sheet valid (nodes.Currency currency (of_currencies.Scenario direction measures.Net))))
+      (net-amount (change_most currency) (currency_absorbed sheet currency direction) (figure (nodes.Currency currency (of_currencies.Scenario direction measures.Gross))) (change-gross direction currency))
 
   abbrev pub change_alternative : List ℕ → Direction → Alternative
   change_alternative currency direction =
-      record { gross = figure (nodes.CurrencyScenario currency direction measures.Gross); net = figure (nodes.CurrencyScenario currency direction measures.Net) }
+      record { gross = figure (nodes.Currency currency (of_currencies.Scenario direction measures.Gross)); net = figure (nodes.Currency currency (of_currencies.Scenario direction measures.Net)) }
 
   abbrev pub change_alternatives : List ℕ → List Alternative
   change_alternatives currency = change_alternative currency directions.Up ∷ change_alternative currency directions.Down ∷ []
 
-  pub change-picked : (measure : Measure) (currency : List ℕ) → IsAmount (change_most currency) (figure (nodes.CurrencyPicked currency measure))
+  pub change-picked : (measure : Measure) (currency : List ℕ) → IsAmount (change_most currency) (figure (nodes.Currency currency (of_currencies.Picked measure)))
   change-picked measures.Gross currency =
-      subst (IsAmount (change_most currency)) (sym (worked-equation factors sheet valid (nodes.CurrencyPicked currency measures.Gross)))
+      subst (IsAmount (change_most currency)) (sym (worked-equation factors sheet valid (nodes.Currency currency (of_currencies.Picked measures.Gross))))
       (amount-chosen_gross (change_most currency) (change_alternatives currency) (change-amount directions.Up measures.Gross currency, (change-amount directions.Down measures.Gross currency, tt)))
   change-picked measures.Net currency =
-      subst (IsAmount (change_most currency)) (sym (worked-equation factors sheet valid (nodes.CurrencyPicked currency measures.Net)))
+      subst (IsAmount (change_most currency)) (sym (worked-equation factors sheet valid (nodes.Currency currency (of_currencies.Picked measures.Net))))
       (amount-chosen_net (change_most currency) (change_alternatives currency) (change-amount directions.Up measures.Net currency, (change-amount directions.Down measures.Net currency, tt)))
 
   -- ---- all foreign currencies
@@ -328,36 +333,36 @@ module _ (factors : FactorValues) (sheet : BalanceSheet) (valid : Valid sheet) w
       together-wider _ _ _ (let most = changes-most in omega (arith, most))
       (rows-together figure (currency_picked measure) (is_foreign sheet) (λ c. change_most c.currency) sheet.curves (picked-within measure sheet.curves))
 
-  pub currency-worked : (measure : Measure) → figure (nodes.Currency measure) ≡ sum_ends (map figure (map (currency_picked measure) (filter (is_foreign sheet) sheet.curves)))
-  currency-worked measure = worked-equation factors sheet valid (nodes.Currency measure)
+  pub currency-worked : (measure : Measure) → figure (nodes.Whole (wholes.Currency measure)) ≡ sum_ends (map figure (map (currency_picked measure) (filter (is_foreign sheet) sheet.curves)))
+  currency-worked measure = worked-equation factors sheet valid (nodes.Whole (wholes.Currency measure))
 
-  pub currency-amount : (measure : Measure) → IsAmount (10 ^ 17) (figure (nodes.Currency measure))
+  pub currency-amount : (measure : Measure) → IsAmount (10 ^ 17) (figure (nodes.Whole (wholes.Currency measure)))
   currency-amount measure =
       subst (IsAmount (10 ^ 17)) (sym (currency-worked measure))
       (amount-wider _ _ _ changes-most
       (rows-amount figure (currency_picked measure) (is_foreign sheet) (λ c. change_most c.currency) sheet.curves (picked-amounts measure sheet.curves)))
 
   -- ---- property and spread risk
-  pub property-worked : figure nodes.Property ≡ property_ends (class_total classes.Property sheet)
-  property-worked = worked-equation factors sheet valid nodes.Property ∙ ap (λ (e : Ends). property_ends (or_zero e.low)) (class-worked factors sheet valid classes.Property)
+  pub property-worked : figure (nodes.Whole wholes.Property) ≡ property_ends (class_total classes.Property sheet)
+  property-worked = worked-equation factors sheet valid (nodes.Whole wholes.Property) ∙ ap (λ (e : Ends). property_ends (or_zero e.low)) (class-worked factors sheet valid classes.Property)
 
-  pub property-amount : IsAmount MAX_PROPERTY (figure nodes.Property)
+  pub property-amount : IsAmount MAX_PROPERTY (figure (nodes.Whole wholes.Property))
   property-amount = subst (IsAmount MAX_PROPERTY) (sym property-worked) (property-size _ (class-small factors sheet valid classes.Property))
 
   -- what a bond loses
   pub bond-worked : (name : List ℕ) (p : Position) → position_of name sheet.securities ≡ Some p
-      → figure (nodes.SecuritySpread name) ≡ bond_loss_ends factors (total_of sheet name) (factor_row (step_of sheet p)) p.security.duration
-  bond-worked name p is = bond-equation (position_of name sheet.securities) is (worked-equation factors sheet valid (nodes.SecuritySpread name))
+      → figure (nodes.Security name of_securities.Spread) ≡ bond_loss_ends factors (total_of sheet name) (factor_row (step_of sheet p)) p.security.duration
+  bond-worked name p is = bond-equation (position_of name sheet.securities) is (worked-equation factors sheet valid (nodes.Security name of_securities.Spread))
       ∙ ap (λ (e : Ends). bond_loss_ends factors (or_zero e.low) (factor_row (step_of sheet p)) p.security.duration) (security-worked factors sheet valid name (ap is_some is))
     where
       bond-equation : (found : Option Position) → found ≡ Some p
-          → figure (nodes.SecuritySpread name) ≡ (let own = option_map_or (bond_stressed factors sheet) found (Stressed factors None 0) in rule own (own_discounts own) (figure (nodes.SecurityTotal name) ∷ []))
-          → figure (nodes.SecuritySpread name) ≡ bond_loss_ends factors (amount_of (figure (nodes.SecurityTotal name))) (factor_row (step_of sheet p)) p.security.duration
+          → figure (nodes.Security name of_securities.Spread) ≡ (let own = option_map_or (bond_stressed factors sheet) found (Stressed factors None 0) in rule own (own_discounts own) (figure (nodes.Security name of_securities.Total) ∷ []))
+          → figure (nodes.Security name of_securities.Spread) ≡ bond_loss_ends factors (amount_of (figure (nodes.Security name of_securities.Total))) (factor_row (step_of sheet p)) p.security.duration
       bond-equation found e is_rule =
-          is_rule ∙ ap (λ o. let own = option_map_or (bond_stressed factors sheet) o (Stressed factors None 0) in rule own (own_discounts own) (figure (nodes.SecurityTotal name) ∷ [])) e
+          is_rule ∙ ap (λ o. let own = option_map_or (bond_stressed factors sheet) o (Stressed factors None 0) in rule own (own_discounts own) (figure (nodes.Security name of_securities.Total) ∷ [])) e
 
   pub bond-amount : (name : List ℕ) (p : Position) → position_of name sheet.securities ≡ Some p
-      → IsAmount (1_000_000_000 * total_of sheet name) (figure (nodes.SecuritySpread name))
+      → IsAmount (1_000_000_000 * total_of sheet name) (figure (nodes.Security name of_securities.Spread))
   bond-amount name p is =
       subst (IsAmount (1_000_000_000 * total_of sheet name)) (sym (bond-worked name p is))
       (amount-wider _ _ _ (omega arith) (bond-size factors (total_of sheet name) (factor_row (step_of sheet p)) p.security.duration))
@@ -374,10 +379,10 @@ module _ (factors : FactorValues) (sheet : BalanceSheet) (valid : Valid sheet) w
       (rows-together figure security_spread (has_class classes.Bond) (λ p. 1_000_000_000 * security_cents sheet p) sheet.securities
       (All-map (λ p. position_of (position_name p) sheet.securities ≡ Some p) _ sheet.securities (λ p own e. amount-within _ _ (bond-amount (position_name p) p own)) (own-securities sheet valid)))
 
-  pub spread-worked : figure nodes.Spread ≡ spread_ends (sum_ends bond_ends_of)
-  spread-worked = worked-equation factors sheet valid nodes.Spread
+  pub spread-worked : figure (nodes.Whole wholes.Spread) ≡ spread_ends (sum_ends bond_ends_of)
+  spread-worked = worked-equation factors sheet valid (nodes.Whole wholes.Spread)
 
-  pub spread-amount : IsAmount 50_000_000_000_000_000 (figure nodes.Spread)
+  pub spread-amount : IsAmount 50_000_000_000_000_000 (figure (nodes.Whole wholes.Spread))
   spread-amount =
       subst (IsAmount 50_000_000_000_000_000) (sym spread-worked)
       (spread-size 50_000_000_000_000_000 (sum_ends bond_ends_of)
@@ -386,17 +391,17 @@ module _ (factors : FactorValues) (sheet : BalanceSheet) (valid : Valid sheet) w
       (All-map (λ p. position_of (position_name p) sheet.securities ≡ Some p) _ sheet.securities (λ p own e. bond-amount (position_name p) p own) (own-securities sheet valid)))))
 
   -- ---- market risk concentrations
-  pub group-worked : (name : List ℕ) → figure (nodes.GroupTotal name) ≡ exact_ends (pos (group_cents sheet name))
+  pub group-worked : (name : List ℕ) → figure (nodes.Group name of_groups.Total) ≡ exact_ends (pos (group_cents sheet name))
   unfolding group_cents
-  group-worked name = worked-equation factors sheet valid (nodes.GroupTotal name) ∙ tested-sum (is_of_group name)
+  group-worked name = worked-equation factors sheet valid (nodes.Group name of_groups.Total) ∙ tested-sum (is_of_group name)
 
   pub group-small : (name : List ℕ) → group_cents sheet name ≤ MAX_HELD
   unfolding group_cents
   group-small name = tested-small (is_of_group name)
 
-  pub assets-worked : figure nodes.Assets ≡ exact_ends (pos (assets_cents sheet))
+  pub assets-worked : figure (nodes.Whole wholes.Assets) ≡ exact_ends (pos (assets_cents sheet))
   unfolding assets_cents
-  assets-worked = worked-equation factors sheet valid nodes.Assets ∙ tested-sum has_group
+  assets-worked = worked-equation factors sheet valid (nodes.Whole wholes.Assets) ∙ tested-sum has_group
 
   pub all-assets-small : assets_cents sheet ≤ MAX_HELD
   unfolding assets_cents
@@ -419,17 +424,17 @@ module _ (factors : FactorValues) (sheet : BalanceSheet) (valid : Valid sheet) w
   abbrev pub square_cents : Group → ℕ
   square_cents g = exposure_square_units (assets_cents sheet) (exposure_to sheet g)
 
-  pub square-worked : (name : List ℕ) (g : Group) → group_of name sheet.groups ≡ Some g → figure (nodes.ConcentrationSquare name) ≡ exact_ends (pos (square_cents g))
+  pub square-worked : (name : List ℕ) (g : Group) → group_of name sheet.groups ≡ Some g → figure (nodes.Group name of_groups.ConcentrationSquare) ≡ exact_ends (pos (square_cents g))
   square-worked name g is =
-      square-equation (group_of name sheet.groups) is (worked-equation factors sheet valid (nodes.ConcentrationSquare name))
+      square-equation (group_of name sheet.groups) is (worked-equation factors sheet valid (nodes.Group name of_groups.ConcentrationSquare))
       ∙ ap₂ (λ (a b : Ends). group_square_ends g.kind g.step (or_zero a.low) (or_zero b.low)) assets-worked (group-worked name)
       ∙ ap (λ (n : List ℕ). group_square_ends g.kind g.step (assets_cents sheet) (group_cents sheet n)) (own-group name g is)
     where
       square-equation : (found : Option Group) → found ≡ Some g
-          → figure (nodes.ConcentrationSquare name) ≡ (let own = option_map_or group_square found (Square kinds.Name None) in rule own (own_discounts own) (figure nodes.Assets ∷ figure (nodes.GroupTotal name) ∷ []))
-          → figure (nodes.ConcentrationSquare name) ≡ group_square_ends g.kind g.step (amount_of (figure nodes.Assets)) (amount_of (figure (nodes.GroupTotal name)))
+          → figure (nodes.Group name of_groups.ConcentrationSquare) ≡ (let own = option_map_or group_square found (Square kinds.Name None) in rule own (own_discounts own) (figure (nodes.Whole wholes.Assets) ∷ figure (nodes.Group name of_groups.Total) ∷ []))
+          → figure (nodes.Group name of_groups.ConcentrationSquare) ≡ group_square_ends g.kind g.step (amount_of (figure (nodes.Whole wholes.Assets))) (amount_of (figure (nodes.Group name of_groups.Total)))
       square-equation found e is_rule =
-          is_rule ∙ ap (λ o. let own = option_map_or group_square o (Square kinds.Name None) in rule own (own_discounts own) (figure nodes.Assets ∷ figure (nodes.GroupTotal name) ∷ [])) e
+          is_rule ∙ ap (λ o. let own = option_map_or group_square o (Square kinds.Name None) in rule own (own_discounts own) (figure (nodes.Whole wholes.Assets) ∷ figure (nodes.Group name of_groups.Total) ∷ [])) e
 
   squares-are : AllByRecursion (λ g. figure (concentration_square g) ≡ exact_ends (pos (square_cents g))) sheet.groups
   squares-are = All-map (λ g. group_of (group_name g) sheet.groups ≡ Some g) _ sheet.groups (λ g own. square-worked (group_name g) g own) (own-groups sheet valid)
@@ -484,20 +489,20 @@ module _ (factors : FactorValues) (sheet : BalanceSheet) (valid : Valid sheet) w
   pub squares-amount : IsAmount MAX_SQUARES (sum_ends square_ends_of)
   squares-amount = subst (IsAmount MAX_SQUARES) (sym squares-sum) (amount-exact MAX_SQUARES _ squares-small)
 
-  pub concentration-worked : figure nodes.Concentration ≡ concentration_ends (squares_units (assets_cents sheet) exposures)
-  concentration-worked = worked-equation factors sheet valid nodes.Concentration ∙ ap (λ (e : Ends). concentration_ends (or_zero e.low)) squares-sum
+  pub concentration-worked : figure (nodes.Whole wholes.Concentration) ≡ concentration_ends (squares_units (assets_cents sheet) exposures)
+  concentration-worked = worked-equation factors sheet valid (nodes.Whole wholes.Concentration) ∙ ap (λ (e : Ends). concentration_ends (or_zero e.low)) squares-sum
 
-  pub concentration-amount : IsAmount (38 * 10 ^ 15) (figure nodes.Concentration)
+  pub concentration-amount : IsAmount (38 * 10 ^ 15) (figure (nodes.Whole wholes.Concentration))
   concentration-amount = subst (IsAmount (38 * 10 ^ 15)) (sym concentration-worked) (root-size _ squares-small)
 
   -- ---- interest rate risk: its ends are in order, and none is negative
-  rate-ordered : (direction : Direction) (name : List ℕ) (p : Position) → position_of name sheet.securities ≡ Some p → IsOrdered (figure (nodes.SecurityRate name direction))
+  rate-ordered : (direction : Direction) (name : List ℕ) (p : Position) → position_of name sheet.securities ≡ Some p → IsOrdered (figure (nodes.Security name (of_securities.Rate direction)))
   rate-ordered direction name p is =
       let fits = security-fits sheet valid direction p (security-known sheet valid name p is) in
       let unit = subst IsOrdered (sym (unit-worked factors sheet valid direction name p is)) (enclosing-in_order one _ _ _ (paid-encloses (paid_by_security sheet direction p) fits.near fits.rates)) in
-      subst IsOrdered (sym (rate-worked factors sheet valid direction name p is)) (ordered-scaled (figure (nodes.UnitLoss name direction)) (total_of sheet name) 1_000_000 (lit< tt) unit)
+      subst IsOrdered (sym (rate-worked factors sheet valid direction name p is)) (ordered-scaled (figure (nodes.Security name (of_securities.UnitLoss direction))) (total_of sheet name) 1_000_000 (lit< tt) unit)
 
-  cost-ordered : (direction : Direction) (name : List ℕ) (l : Liability) → liability_of name sheet.liabilities ≡ Some l → IsOrdered (figure (nodes.LiabilityRate name direction))
+  cost-ordered : (direction : Direction) (name : List ℕ) (l : Liability) → liability_of name sheet.liabilities ≡ Some l → IsOrdered (figure (nodes.Liability name (of_liabilities.Rate direction)))
   cost-ordered direction name l is =
       let fits = liability-fits sheet valid direction l (liability-known sheet valid name l is) in
       subst IsOrdered (sym (cost-worked factors sheet valid direction name l is))
@@ -512,14 +517,14 @@ module _ (factors : FactorValues) (sheet : BalanceSheet) (valid : Valid sheet) w
       (each-chosen (λ l. liability_of (liability_name l) sheet.liabilities ≡ Some l) (λ n. IsOrdered (figure n)) (is_owed_in currency) (liability_rate direction) sheet.liabilities
       (own-liabilities sheet valid) (λ l own e. cost-ordered direction (liability_name l) l own)))
 
-  lost-ordered : (direction : Direction) (currency : List ℕ) → IsOrdered (figure (nodes.CurrencyLoss currency direction))
+  lost-ordered : (direction : Direction) (currency : List ℕ) → IsOrdered (figure (nodes.Currency currency (of_currencies.Loss direction)))
   lost-ordered direction currency = subst IsOrdered (sym (lost-worked factors sheet valid direction currency)) (ordered-lost _ (rates-ordered direction currency))
 
-  lost-low : (direction : Direction) (currency : List ℕ) → pos 0 ≤ℤ (figure (nodes.CurrencyLoss currency direction)).low
+  lost-low : (direction : Direction) (currency : List ℕ) → pos 0 ≤ℤ (figure (nodes.Currency currency (of_currencies.Loss direction))).low
   lost-low direction currency =
       subst (λ (e : Ends). pos 0 ≤ℤ e.low) (sym (lost-worked factors sheet valid direction currency)) (low-lost (sum_ends (map figure (rates_in currency direction sheet))))
 
-  gross-amount : (direction : Direction) → IsAmount (10 ^ 18) (figure (nodes.InterestScenario direction measures.Gross))
+  gross-amount : (direction : Direction) → IsAmount (10 ^ 18) (figure (nodes.Whole (wholes.InterestScenario direction measures.Gross)))
   gross-amount direction = record {
     not_negative = subst (λ (e : Ends). pos 0 ≤ℤ e.low) (sym (gross-worked factors sheet valid direction)) (gross-low (map figure (map (currency_loss direction) sheet.curves)) (lows sheet.curves));
     ordered = subst IsOrdered (sym (gross-worked factors sheet valid direction))
@@ -536,25 +541,25 @@ module _ (factors : FactorValues) (sheet : BalanceSheet) (valid : Valid sheet) w
       orders [] = tt
       orders (c ∷ curves) = (lost-ordered direction c.currency, orders curves)
 
-  pub scenario-amount : (direction : Direction) (measure : Measure) → IsAmount (10 ^ 18) (figure (nodes.InterestScenario direction measure))
+  pub scenario-amount : (direction : Direction) (measure : Measure) → IsAmount (10 ^ 18) (figure (nodes.Whole (wholes.InterestScenario direction measure)))
   scenario-amount direction measures.Gross = gross-amount direction
   scenario-amount direction measures.Net =
-      subst (IsAmount (10 ^ 18)) (sym (worked-equation factors sheet valid (nodes.InterestScenario direction measures.Net)))
-      (net-amount (10 ^ 18) (absorbed (interest_key direction) sheet.numbers) (figure (nodes.InterestScenario direction measures.Gross)) (gross-amount direction))
+      subst (IsAmount (10 ^ 18)) (sym (worked-equation factors sheet valid (nodes.Whole (wholes.InterestScenario direction measures.Net))))
+      (net-amount (10 ^ 18) (absorbed (interest_key direction) sheet.numbers) (figure (nodes.Whole (wholes.InterestScenario direction measures.Gross))) (gross-amount direction))
 
   abbrev interest_alternative : Direction → Alternative
   interest_alternative direction =
-      record { gross = figure (nodes.InterestScenario direction measures.Gross); net = figure (nodes.InterestScenario direction measures.Net) }
+      record { gross = figure (nodes.Whole (wholes.InterestScenario direction measures.Gross)); net = figure (nodes.Whole (wholes.InterestScenario direction measures.Net)) }
 
   abbrev interest_alternatives : List Alternative
   interest_alternatives = interest_alternative directions.Up ∷ interest_alternative directions.Down ∷ []
 
-  pub interest-amount : (measure : Measure) → IsAmount (10 ^ 18) (figure (nodes.Picked alternatives.Interest measure))
+  pub interest-amount : (measure : Measure) → IsAmount (10 ^ 18) (figure (nodes.Whole (wholes.Picked alternatives.Interest measure)))
   interest-amount measures.Gross =
-      subst (IsAmount (10 ^ 18)) (sym (worked-equation factors sheet valid (nodes.Picked alternatives.Interest measures.Gross)))
+      subst (IsAmount (10 ^ 18)) (sym (worked-equation factors sheet valid (nodes.Whole (wholes.Picked alternatives.Interest measures.Gross))))
       (amount-chosen_gross (10 ^ 18) interest_alternatives (scenario-amount directions.Up measures.Gross, (scenario-amount directions.Down measures.Gross, tt)))
   interest-amount measures.Net =
-      subst (IsAmount (10 ^ 18)) (sym (worked-equation factors sheet valid (nodes.Picked alternatives.Interest measures.Net)))
+      subst (IsAmount (10 ^ 18)) (sym (worked-equation factors sheet valid (nodes.Whole (wholes.Picked alternatives.Interest measures.Net))))
       (amount-chosen_net (10 ^ 18) interest_alternatives (scenario-amount directions.Up measures.Net, (scenario-amount directions.Down measures.Net, tt)))
 
   -- the mask of the choice
@@ -564,19 +569,19 @@ module _ (factors : FactorValues) (sheet : BalanceSheet) (valid : Valid sheet) w
       orders : (direction : Direction) → AreOrdered (interest_alternative direction)
       orders direction = record { gross = (scenario-amount direction measures.Gross).ordered; net = (scenario-amount direction measures.Net).ordered }
 
-  pub interest-mask : (mask : Ends) → mask ≡ figure (nodes.Choice alternatives.Interest) → IsMaskOfTwo (amount_of mask)
+  pub interest-mask : (mask : Ends) → mask ≡ figure (nodes.Whole (wholes.Choice alternatives.Interest)) → IsMaskOfTwo (amount_of mask)
   interest-mask mask is =
-      subst (λ (e : Ends). IsMaskOfTwo (or_zero e.low)) (sym (is ∙ worked-equation factors sheet valid (nodes.Choice alternatives.Interest)))
+      subst (λ (e : Ends). IsMaskOfTwo (or_zero e.low)) (sym (is ∙ worked-equation factors sheet valid (nodes.Whole (wholes.Choice alternatives.Interest))))
       interest-two
 
-  pub mask-amount : IsAmount 3 (figure (nodes.Choice alternatives.Interest))
+  pub mask-amount : IsAmount 3 (figure (nodes.Whole (wholes.Choice alternatives.Interest)))
   mask-amount =
       let two = interest-two in
-      subst (IsAmount 3) (sym (worked-equation factors sheet valid (nodes.Choice alternatives.Interest))) (amount-exact 3 _ two.most)
+      subst (IsAmount 3) (sym (worked-equation factors sheet valid (nodes.Whole (wholes.Choice alternatives.Interest)))) (amount-exact 3 _ two.most)
 
   -- ---- what absorption leaves of a risk, and the module
-  pub net-worked : (risk : Risk) → figure (nodes.NetPart risk) ≡ net_ends (figure (gross_of risk)) (absorbed (risk_key risk) sheet.numbers)
-  net-worked risk = worked-equation factors sheet valid (nodes.NetPart risk)
+  pub net-worked : (risk : Risk) → figure (nodes.Whole (wholes.NetPart risk)) ≡ net_ends (figure (gross_of risk)) (absorbed (risk_key risk) sheet.numbers)
+  net-worked risk = worked-equation factors sheet valid (nodes.Whole (wholes.NetPart risk))
 
   pub part-amount : (risk : Risk) (measure : Measure) (most : ℕ) → IsAmount most (figure (gross_of risk)) → IsAmount most (figure (risk_part risk measure))
   part-amount risk measures.Gross most h = h
@@ -585,8 +590,8 @@ module _ (factors : FactorValues) (sheet : BalanceSheet) (valid : Valid sheet) w
 
   abbrev pub six : Measure → List Ends
   six measure =
-      figure (nodes.Picked alternatives.Interest measure) ∷ figure (risk_part risks.Equity measure) ∷ figure (risk_part risks.Property measure)
-      ∷ figure (risk_part risks.Spread measure) ∷ figure (risk_part risks.Concentration measure) ∷ figure (nodes.Currency measure) ∷ []
+      figure (nodes.Whole (wholes.Picked alternatives.Interest measure)) ∷ figure (risk_part risks.Equity measure) ∷ figure (risk_part risks.Property measure)
+      ∷ figure (risk_part risks.Spread measure) ∷ figure (risk_part risks.Concentration measure) ∷ figure (nodes.Whole (wholes.Currency measure)) ∷ []
 
   -- 1.4·10^18 grains together
   abbrev pub six_most : List ℕ
@@ -608,11 +613,11 @@ module _ (factors : FactorValues) (sheet : BalanceSheet) (valid : Valid sheet) w
     ),
   )
 
-  pub market-worked : (measure : Measure) → figure (nodes.Market measure) ≡ market_ends (six measure) (amount_of (figure (nodes.Choice alternatives.Interest)))
-  market-worked measure = worked-equation factors sheet valid (nodes.Market measure)
+  pub market-worked : (measure : Measure) → figure (nodes.Whole (wholes.Market measure)) ≡ market_ends (six measure) (amount_of (figure (nodes.Whole (wholes.Choice alternatives.Interest))))
+  market-worked measure = worked-equation factors sheet valid (nodes.Whole (wholes.Market measure))
 
-  pub market-amount : (measure : Measure) → IsAmount (2 * 10 ^ 18) (figure (nodes.Market measure))
+  pub market-amount : (measure : Measure) → IsAmount (2 * 10 ^ 18) (figure (nodes.Whole (wholes.Market measure)))
   market-amount measure =
       subst (IsAmount (2 * 10 ^ 18)) (sym (market-worked measure))
       (amount-wider _ _ _ (lit≤ tt)
-      (market-size six_most (six measure) (amount_of (figure (nodes.Choice alternatives.Interest))) refl (six-amounts measure)))
+      (market-size six_most (six measure) (amount_of (figure (nodes.Whole (wholes.Choice alternatives.Interest)))) refl (six-amounts measure)))

@@ -15,6 +15,7 @@ use Rattle.scr_nodes.specs.declared.{node.Biometric.Biometric, node.Measure.Meas
 use Rattle.scr_nodes.specs.declared.node.Biometric.TheVariants as biometrics
 use Rattle.scr_nodes.specs.declared.node.Measure.TheVariants as measures
 use Rattle.scr_nodes.specs.declared.node.Node.TheVariants as nodes
+use Rattle.scr_nodes.specs.declared.node.Whole.TheVariants as wholes
 use Rattle.scr_nodes.specs.declared.node.Risk.TheVariants as risks
 use Rattle.scr_nodes.specs.Rows.{has_flows, is_of_kind, is_stressed}
 use Rattle.scr_nodes.specs.Sources.{risk_part}
@@ -48,7 +49,7 @@ module _ (factors : FactorValues) (sheet : BalanceSheet) (valid : Valid sheet) w
       at-most factors sheet valid (λ l. true) projection sheet.liabilities in
       omega (arith, both, all, valid.within.liability_flows projection, valid.within.liability_flows projections.Base)
 
-  lapse-amount : (biometric : Biometric) (measure : Measure) → IsAmount 274_000_000_000_000_000 (figure (nodes.Picked (lapse_of biometric) measure))
+  lapse-amount : (biometric : Biometric) (measure : Measure) → IsAmount 274_000_000_000_000_000 (figure (nodes.Whole (wholes.Picked (lapse_of biometric) measure)))
   lapse-amount biometrics.Life measure = life_lapse-amount factors sheet valid measure
   lapse-amount biometrics.Health measure = health_lapse-amount factors sheet valid measure
 

@@ -24,6 +24,7 @@ use Rattle.scr_sheet.specs.declared.keys.CatKey.TheVariants as cats
 use Rattle.scr_nodes.specs.declared.{node.Measure.Measure, node.Node.Node}
 use Rattle.scr_nodes.specs.declared.node.Measure.TheVariants as measures
 use Rattle.scr_nodes.specs.declared.node.Node.TheVariants as nodes
+use Rattle.scr_nodes.specs.declared.node.Whole.TheVariants as wholes
 use Rattle.scr_nodes.specs.declared.node.Risk.TheVariants as risks
 use Rattle.scr_nodes.specs.OwnOf.{risk_key, catastrophe_cents, lapse_cents, volumes_in_regions, segment_correlations}
 use Rattle.scr_nodes.specs.Sources.{risk_part, segments_of}
@@ -48,20 +49,20 @@ module _ (factors : FactorValues) (known : IsInForm factors) (sheet : BalanceShe
   figure node = worked factors sheet node
 
   -- ---- charges that are handed in
-  pub charge-encloses : (key : CatKey) → Holds (figure (nodes.CatCharge key)) (catastrophe_charge sheet key)
+  pub charge-encloses : (key : CatKey) → Holds (figure (nodes.Whole (wholes.CatCharge key))) (catastrophe_charge sheet key)
   charge-encloses key = is-enclosed _ _ _ (sizes.charge-worked factors known sheet valid key) (Encloses-cents (catastrophe_cents key sheet.numbers))
 
-  pub lapse-encloses : (set : Set) → Holds (figure (nodes.Lapse set)) (lapse_charge sheet set)
+  pub lapse-encloses : (set : Set) → Holds (figure (nodes.Whole (wholes.Lapse set))) (lapse_charge sheet set)
   lapse-encloses set = is-enclosed _ _ _ (sizes.lapse-worked factors known sheet valid set) (Encloses-cents (lapse_cents set sheet.numbers))
 
   -- ---- premium and reserve risk
-  pub segment-holds : (set : Set) (number : ℕ) → Holds (figure (nodes.Segment set number)) (segment_exact factors sheet set number)
+  pub segment-holds : (set : Set) (number : ℕ) → Holds (figure (nodes.Whole (wholes.Segment set number))) (segment_exact factors sheet set number)
   unfolding segment_exact
   segment-holds set number =
       is-enclosed _ _ _ (sizes.segment-worked factors known sheet valid set number)
       (segment-encloses (volumes_in_regions set number sheet.numbers) (sigma_of factors set number).0 (sigma_of factors set number).1)
 
-  low : (set : Set) (number : ℕ) → number ≤ segments set → pos 0 ≤ℤ (figure (nodes.Segment set number)).low
+  low : (set : Set) (number : ℕ) → number ≤ segments set → pos 0 ≤ℤ (figure (nodes.Whole (wholes.Segment set number))).low
   low set number le = (sizes.segment-amount factors known sheet valid set number le).not_negative
 
   segments-hold : (set : Set) → EncloseAll 1000 (map figure (segments_of set)) (segments_exact factors sheet set)
@@ -84,7 +85,7 @@ module _ (factors : FactorValues) (known : IsInForm factors) (sheet : BalanceShe
   tables sets.Nl = refl
   tables sets.Nslt = refl
 
-  pub premium_reserve-holds : (set : Set) → Holds (figure (nodes.PremiumReserve set)) (premium_reserve_exact factors sheet set)
+  pub premium_reserve-holds : (set : Set) → Holds (figure (nodes.Whole (wholes.PremiumReserve set))) (premium_reserve_exact factors sheet set)
   unfolding premium_reserve_exact
   premium_reserve-holds set =
       is-enclosed _ _ _ (sizes.premium_reserve-worked factors known sheet valid set)
@@ -94,10 +95,10 @@ module _ (factors : FactorValues) (known : IsInForm factors) (sheet : BalanceShe
       (positive (segment_correlations factors set).den (sizes.correlations-positive factors known sheet valid set)) (square set) (segments-hold set)))
 
   -- ---- catastrophes
-  charge-low : (key : CatKey) → pos 0 ≤ℤ (figure (nodes.CatCharge key)).low
+  charge-low : (key : CatKey) → pos 0 ≤ℤ (figure (nodes.Whole (wholes.CatCharge key))).low
   charge-low key = (sizes.charge-amount factors known sheet valid key).not_negative
 
-  pub natural-holds : Holds (figure nodes.Natural) (natural_exact sheet)
+  pub natural-holds : Holds (figure (nodes.Whole wholes.Natural)) (natural_exact sheet)
   unfolding natural_exact
   natural-holds =
       let p = charge-low in
@@ -105,7 +106,7 @@ module _ (factors : FactorValues) (known : IsInForm factors) (sheet : BalanceShe
       is-enclosed _ _ _ (sizes.natural-worked factors known sheet valid) (nat-encloses (sizes.natural_charges factors known sheet valid) _ refl
       (p cats.Windstorm, e cats.Windstorm, (p cats.Earthquake, e cats.Earthquake, (p cats.Flood, e cats.Flood, (p cats.Hail, e cats.Hail, (p cats.Subsidence, e cats.Subsidence, tt))))))
 
-  pub man_made-holds : Holds (figure nodes.ManMade) (man_made_exact sheet)
+  pub man_made-holds : Holds (figure (nodes.Whole wholes.ManMade)) (man_made_exact sheet)
   unfolding man_made_exact
   man_made-holds =
       let p = charge-low in
@@ -113,17 +114,17 @@ module _ (factors : FactorValues) (known : IsInForm factors) (sheet : BalanceShe
       is-enclosed _ _ _ (sizes.man_made-worked factors known sheet valid) (manmade-encloses (sizes.man_made_charges factors known sheet valid) _ refl
       (p cats.Motor, e cats.Motor, (p cats.Marine, e cats.Marine, (p cats.Aviation, e cats.Aviation, (p cats.Fire, e cats.Fire, (p cats.Liability, e cats.Liability, (p cats.Credit, e cats.Credit, tt)))))))
 
-  pub catastrophe-holds : Holds (figure nodes.NonlifeCatastrophe) (catastrophe_exact sheet)
+  pub catastrophe-holds : Holds (figure (nodes.Whole wholes.NonlifeCatastrophe)) (catastrophe_exact sheet)
   unfolding catastrophe_exact
   catastrophe-holds =
       is-enclosed _ _ _ (sizes.catastrophe-worked factors known sheet valid)
-      (cat-encloses (figure nodes.Natural) (figure nodes.ManMade) (figure (nodes.CatCharge cats.NonProportionalProperty)) (figure (nodes.CatCharge cats.Other))
+      (cat-encloses (figure (nodes.Whole wholes.Natural)) (figure (nodes.Whole wholes.ManMade)) (figure (nodes.Whole (wholes.CatCharge cats.NonProportionalProperty))) (figure (nodes.Whole (wholes.CatCharge cats.Other)))
       (natural_exact sheet) (man_made_exact sheet) (catastrophe_charge sheet cats.NonProportionalProperty) (catastrophe_charge sheet cats.Other)
       (sizes.natural-amount factors known sheet valid).not_negative (sizes.man_made-amount factors known sheet valid).not_negative
       (charge-low cats.NonProportionalProperty) (charge-low cats.Other)
       natural-holds man_made-holds (charge-encloses cats.NonProportionalProperty) (charge-encloses cats.Other))
 
-  health_gross-holds : Holds (figure nodes.HealthCatastrophe) (health_charges sheet)
+  health_gross-holds : Holds (figure (nodes.Whole wholes.HealthCatastrophe)) (health_charges sheet)
   health_gross-holds =
       let p = charge-low in
       let e = charge-encloses in
@@ -135,30 +136,30 @@ module _ (factors : FactorValues) (known : IsInForm factors) (sheet : BalanceShe
   health_catastrophe-holds measures.Gross = health_gross-holds
   health_catastrophe-holds measures.Net =
       is-enclosed _ _ _ (sizes.health_net-worked factors known sheet valid)
-      (Encloses-net (figure nodes.HealthCatastrophe) (absorbed (risk_key risks.HealthCatastrophe) sheet.numbers) _ health_gross-holds)
+      (Encloses-net (figure (nodes.Whole wholes.HealthCatastrophe)) (absorbed (risk_key risks.HealthCatastrophe) sheet.numbers) _ health_gross-holds)
 
   -- ---- modules
-  pub nonlife-holds : (measure : Measure) → Holds (figure (nodes.Nonlife measure)) (nonlife_exact factors sheet)
+  pub nonlife-holds : (measure : Measure) → Holds (figure (nodes.Whole (wholes.Nonlife measure))) (nonlife_exact factors sheet)
   unfolding nonlife_exact
   nonlife-holds measure =
       is-enclosed _ _ _ (sizes.nonlife-worked factors known sheet valid measure)
-      (nonlife-encloses (figure (nodes.PremiumReserve sets.Nl)) (figure nodes.NonlifeCatastrophe) (premium_reserve_exact factors sheet sets.Nl) (catastrophe_exact sheet)
+      (nonlife-encloses (figure (nodes.Whole (wholes.PremiumReserve sets.Nl))) (figure (nodes.Whole wholes.NonlifeCatastrophe)) (premium_reserve_exact factors sheet sets.Nl) (catastrophe_exact sheet)
       (lapse_cents sets.Nl sheet.numbers) (sizes.premium_reserve-amount factors known sheet valid sets.Nl).not_negative
       (sizes.catastrophe-amount factors known sheet valid).not_negative (premium_reserve-holds sets.Nl) catastrophe-holds)
 
-  pub nslt-holds : (measure : Measure) → Holds (figure (nodes.Nslt measure)) (nslt_exact factors sheet)
+  pub nslt-holds : (measure : Measure) → Holds (figure (nodes.Whole (wholes.Nslt measure))) (nslt_exact factors sheet)
   unfolding nslt_exact
   nslt-holds measure =
       is-enclosed _ _ _ (sizes.nslt-worked factors known sheet valid measure)
-      (nslt-encloses (figure (nodes.PremiumReserve sets.Nslt)) (premium_reserve_exact factors sheet sets.Nslt) (lapse_cents sets.Nslt sheet.numbers)
+      (nslt-encloses (figure (nodes.Whole (wholes.PremiumReserve sets.Nslt))) (premium_reserve_exact factors sheet sets.Nslt) (lapse_cents sets.Nslt sheet.numbers)
       (sizes.premium_reserve-amount factors known sheet valid sets.Nslt).not_negative (premium_reserve-holds sets.Nslt))
 
   -- where what is similar to life encloses its own figure
-  pub health-holds : (slt : Figure) (measure : Measure) → pos 0 ≤ℤ (figure (nodes.Slt measure)).low → Holds (figure (nodes.Slt measure)) slt
-      → Holds (figure (nodes.Health measure)) (health_exact slt factors sheet measure)
+  pub health-holds : (slt : Figure) (measure : Measure) → pos 0 ≤ℤ (figure (nodes.Whole (wholes.Slt measure))).low → Holds (figure (nodes.Whole (wholes.Slt measure))) slt
+      → Holds (figure (nodes.Whole (wholes.Health measure))) (health_exact slt factors sheet measure)
   unfolding health_exact
   health-holds slt measure least h =
       is-enclosed _ _ _ (sizes.health-worked factors known sheet valid measure)
-      (health-encloses (figure (nodes.Slt measure)) (figure (nodes.Nslt measure)) (figure (risk_part risks.HealthCatastrophe measure)) slt (nslt_exact factors sheet)
+      (health-encloses (figure (nodes.Whole (wholes.Slt measure))) (figure (nodes.Whole (wholes.Nslt measure))) (figure (risk_part risks.HealthCatastrophe measure)) slt (nslt_exact factors sheet)
       (health_catastrophe_exact sheet measure) least (sizes.nslt-amount factors known sheet valid measure).not_negative
       (sizes.health_part-amount factors known sheet valid measure).not_negative h (nslt-holds measure) (health_catastrophe-holds measure))

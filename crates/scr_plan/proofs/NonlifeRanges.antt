@@ -20,6 +20,7 @@ use Rattle.scr_sheet.specs.declared.{keys.CatKey.CatKey, sheet.BalanceSheet.Bala
 use Rattle.scr_sheet.specs.declared.keys.CatKey.TheVariants as cats
 use Rattle.scr_nodes.specs.declared.{node.Measure.Measure, node.Node.Node}
 use Rattle.scr_nodes.specs.declared.node.Node.TheVariants as nodes
+use Rattle.scr_nodes.specs.declared.node.Whole.TheVariants as wholes
 use Rattle.scr_nodes.specs.declared.node.Risk.TheVariants as risks
 use Rattle.scr_nodes.specs.Live.{is_segment}
 use Rattle.scr_nodes.specs.OwnOf.{own_of, risk_key, segment_correlations}
@@ -64,17 +65,17 @@ module _ (factors : FactorValues) (known : IsInForm factors) (sheet : BalanceShe
   NodeFits node = Fits (own_of factors sheet node) (map figure (sources_of sheet node))
 
   -- ---- charges that are handed in
-  pub charge-fits : (key : CatKey) → NodeFits (nodes.CatCharge key)
+  pub charge-fits : (key : CatKey) → NodeFits (nodes.Whole (wholes.CatCharge key))
   charge-fits key = record { small = omega (arith, sizes.catastrophe-within factors known sheet valid key) }
 
-  pub lapse-fits : (set : Set) → NodeFits (nodes.Lapse set)
+  pub lapse-fits : (set : Set) → NodeFits (nodes.Whole (wholes.Lapse set))
   lapse-fits set = record { small = omega (arith, sizes.lapse-within factors known sheet valid set) }
 
   -- ---- premium and reserve risk
   numbered : (set : Set) (number : ℕ) → is_segment set number ≡ true → number ≤ segments set
   numbered set number live = leb-true number (segments set) (and_parts _ _ live).1
 
-  pub segment-fits : (set : Set) (number : ℕ) → is_segment set number ≡ true → NodeFits (nodes.Segment set number)
+  pub segment-fits : (set : Set) (number : ℕ) → is_segment set number ≡ true → NodeFits (nodes.Whole (wholes.Segment set number))
   segment-fits set number live =
       let small = sizes.deviations-within factors known sheet valid set number (numbered set number live) in
       record { volume = sizes.volumes-within factors known sheet valid set number; premium_deviation = small.0; reserve_deviation = small.1 }
@@ -90,7 +91,7 @@ module _ (factors : FactorValues) (known : IsInForm factors) (sheet : BalanceShe
   rooted : (den highs : ℕ) → den ≤ 100 → highs ≤ MAX_CHARGE → den * (highs * highs) < 2 ^ 127
   rooted den highs few le = square-small den highs MAX_CHARGE le (omega (arith, few))
 
-  pub premium_reserve-fits : (set : Set) → NodeFits (nodes.PremiumReserve set)
+  pub premium_reserve-fits : (set : Set) → NodeFits (nodes.Whole (wholes.PremiumReserve set))
   premium_reserve-fits set =
       let amounts = sizes.segments-amounts factors known sheet valid set in
       let mosts = sizes.segment_grains factors known sheet valid set in
@@ -106,46 +107,46 @@ module _ (factors : FactorValues) (known : IsInForm factors) (sheet : BalanceShe
       }
 
   -- ---- catastrophes
-  charge : (key : CatKey) → IsAmount MAX_CHARGE (figure (nodes.CatCharge key))
+  charge : (key : CatKey) → IsAmount MAX_CHARGE (figure (nodes.Whole (wholes.CatCharge key)))
   charge key = sizes.charge-amount factors known sheet valid key
 
-  pub natural-fits : NodeFits nodes.Natural
-  natural-fits = root-fits 5 (sizes.most_charges 5) (map figure (sources_of sheet nodes.Natural)) (sizes.natural-amounts factors known sheet valid) (omega arith)
+  pub natural-fits : NodeFits (nodes.Whole wholes.Natural)
+  natural-fits = root-fits 5 (sizes.most_charges 5) (map figure (sources_of sheet (nodes.Whole wholes.Natural))) (sizes.natural-amounts factors known sheet valid) (omega arith)
 
-  pub man_made-fits : NodeFits nodes.ManMade
-  man_made-fits = root-fits 6 (sizes.most_charges 6) (map figure (sources_of sheet nodes.ManMade)) (sizes.man_made-amounts factors known sheet valid) (omega arith)
+  pub man_made-fits : NodeFits (nodes.Whole wholes.ManMade)
+  man_made-fits = root-fits 6 (sizes.most_charges 6) (map figure (sources_of sheet (nodes.Whole wholes.ManMade))) (sizes.man_made-amounts factors known sheet valid) (omega arith)
 
-  pub catastrophe-fits : NodeFits nodes.NonlifeCatastrophe
+  pub catastrophe-fits : NodeFits (nodes.Whole wholes.NonlifeCatastrophe)
   catastrophe-fits =
-      root-fits 4 (50 * 10 ^ 15 ∷ 60 * 10 ^ 15 ∷ MAX_CHARGE ∷ MAX_CHARGE ∷ []) (map figure (sources_of sheet nodes.NonlifeCatastrophe))
+      root-fits 4 (50 * 10 ^ 15 ∷ 60 * 10 ^ 15 ∷ MAX_CHARGE ∷ MAX_CHARGE ∷ []) (map figure (sources_of sheet (nodes.Whole wholes.NonlifeCatastrophe)))
       (sizes.natural-amount factors known sheet valid, (sizes.man_made-amount factors known sheet valid, (charge cats.NonProportionalProperty, (charge cats.Other, tt))))
       (omega arith)
 
-  pub health_catastrophe-fits : NodeFits nodes.HealthCatastrophe
-  health_catastrophe-fits = root-fits 3 (sizes.most_charges 3) (map figure (sources_of sheet nodes.HealthCatastrophe)) (sizes.health-amounts factors known sheet valid) (omega arith)
+  pub health_catastrophe-fits : NodeFits (nodes.Whole wholes.HealthCatastrophe)
+  health_catastrophe-fits = root-fits 3 (sizes.most_charges 3) (map figure (sources_of sheet (nodes.Whole wholes.HealthCatastrophe))) (sizes.health-amounts factors known sheet valid) (omega arith)
 
-  pub health_net-fits : NodeFits (nodes.NetPart risks.HealthCatastrophe)
+  pub health_net-fits : NodeFits (nodes.Whole (wholes.NetPart risks.HealthCatastrophe))
   health_net-fits = record {
     absorbed = absorbed-within (risk_key risks.HealthCatastrophe) sheet.numbers valid.numbers.absorb;
     gross = amount-within _ (2 ^ 100) _ (omega arith) (sizes.health_catastrophe-amount factors known sheet valid);
   }
 
   -- ---- modules
-  pub nonlife-fits : (measure : Measure) → NodeFits (nodes.Nonlife measure)
+  pub nonlife-fits : (measure : Measure) → NodeFits (nodes.Whole (wholes.Nonlife measure))
   nonlife-fits measure = record {
     charge = sizes.lapse-within factors known sheet valid sets.Nl;
-    parts = root-fits 2 (30_000_000_000_000_000 ∷ 130 * 10 ^ 15 ∷ []) (map figure (sources_of sheet (nodes.Nonlife measure)))
+    parts = root-fits 2 (30_000_000_000_000_000 ∷ 130 * 10 ^ 15 ∷ []) (map figure (sources_of sheet (nodes.Whole (wholes.Nonlife measure))))
         (sizes.premium_reserve-amount factors known sheet valid sets.Nl, (sizes.catastrophe-amount factors known sheet valid, tt)) (omega arith);
   }
 
-  pub nslt-fits : (measure : Measure) → NodeFits (nodes.Nslt measure)
+  pub nslt-fits : (measure : Measure) → NodeFits (nodes.Whole (wholes.Nslt measure))
   nslt-fits measure =
       let all = sizes.premium_reserve-amount factors known sheet valid sets.Nslt in
       let high = amount-high _ _ all in
       record { charge = sizes.lapse-within factors known sheet valid sets.Nslt; low = all.not_negative; high = omega (arith, ints, high) }
 
   -- where what is similar to life is no more than the limit
-  pub health-fits : (measure : Measure) → IsAmount 5_000_000_000_000_000_000 (figure (nodes.Slt measure)) → NodeFits (nodes.Health measure)
+  pub health-fits : (measure : Measure) → IsAmount 5_000_000_000_000_000_000 (figure (nodes.Whole (wholes.Slt measure))) → NodeFits (nodes.Whole (wholes.Health measure))
   health-fits measure h =
-      root-fits 3 (5_000_000_000_000_000_000 ∷ 40 * 10 ^ 15 ∷ 30 * 10 ^ 15 ∷ []) (map figure (sources_of sheet (nodes.Health measure)))
+      root-fits 3 (5_000_000_000_000_000_000 ∷ 40 * 10 ^ 15 ∷ 30 * 10 ^ 15 ∷ []) (map figure (sources_of sheet (nodes.Whole (wholes.Health measure))))
       (h, (sizes.nslt-amount factors known sheet valid measure, (sizes.health_part-amount factors known sheet valid measure, tt))) (omega arith)

@@ -35,6 +35,7 @@ use Rattle.scr_sheet.specs.declared.keys.CatKey.TheVariants as cats
 use Rattle.scr_nodes.specs.declared.{node.Measure.Measure, node.Node.Node}
 use Rattle.scr_nodes.specs.declared.node.Measure.TheVariants as measures
 use Rattle.scr_nodes.specs.declared.node.Node.TheVariants as nodes
+use Rattle.scr_nodes.specs.declared.node.Whole.TheVariants as wholes
 use Rattle.scr_nodes.specs.declared.node.Risk.TheVariants as risks
 use Rattle.scr_nodes.specs.OwnOf.{risk_key, catastrophe_cents, lapse_cents, volumes_in_regions, segment_correlations}
 use Rattle.scr_nodes.specs.Sources.{risk_part, segments_of}
@@ -108,8 +109,8 @@ module _ (factors : FactorValues) (known : IsInForm factors) (sheet : BalanceShe
   figure node = worked factors sheet node
 
   -- ---- charges that are handed in
-  pub charge-worked : (key : CatKey) → figure (nodes.CatCharge key) ≡ exact_ends (pos (1000 * catastrophe_cents key sheet.numbers))
-  charge-worked key = worked-equation factors sheet valid (nodes.CatCharge key)
+  pub charge-worked : (key : CatKey) → figure (nodes.Whole (wholes.CatCharge key)) ≡ exact_ends (pos (1000 * catastrophe_cents key sheet.numbers))
+  charge-worked key = worked-equation factors sheet valid (nodes.Whole (wholes.CatCharge key))
 
   pub catastrophe-within : (key : CatKey) → catastrophe_cents key sheet.numbers ≤ MAX_AMOUNT
   catastrophe-within key = by (cat_place key) (health_cat_place key)
@@ -120,7 +121,7 @@ module _ (factors : FactorValues) (known : IsInForm factors) (sheet : BalanceShe
       by None (Some k) = each-at validity.IsAmount sheet.numbers.health_cat k 0 (omega arith) valid.numbers.health_cat
       by None None = omega arith
 
-  pub charge-amount : (key : CatKey) → IsAmount MAX_CHARGE (figure (nodes.CatCharge key))
+  pub charge-amount : (key : CatKey) → IsAmount MAX_CHARGE (figure (nodes.Whole (wholes.CatCharge key)))
   charge-amount key =
       subst (IsAmount MAX_CHARGE) (sym (charge-worked key))
       (amount-exact MAX_CHARGE (1000 * catastrophe_cents key sheet.numbers) (omega (arith, catastrophe-within key)))
@@ -128,13 +129,13 @@ module _ (factors : FactorValues) (known : IsInForm factors) (sheet : BalanceShe
   pub lapse-within : (set : Set) → lapse_cents set sheet.numbers ≤ MAX_AMOUNT
   lapse-within set = each-at validity.IsAmount sheet.numbers.lapse (lapse_place set) 0 (omega arith) valid.numbers.lapse
 
-  pub lapse-worked : (set : Set) → figure (nodes.Lapse set) ≡ exact_ends (pos (1000 * lapse_cents set sheet.numbers))
-  lapse-worked set = worked-equation factors sheet valid (nodes.Lapse set)
+  pub lapse-worked : (set : Set) → figure (nodes.Whole (wholes.Lapse set)) ≡ exact_ends (pos (1000 * lapse_cents set sheet.numbers))
+  lapse-worked set = worked-equation factors sheet valid (nodes.Whole (wholes.Lapse set))
 
   -- ---- segments
-  pub segment-worked : (set : Set) (number : ℕ) → figure (nodes.Segment set number)
+  pub segment-worked : (set : Set) (number : ℕ) → figure (nodes.Whole (wholes.Segment set number))
       ≡ segment_ends (volumes_in_regions set number sheet.numbers) (sigma_of factors set number).0 (sigma_of factors set number).1
-  segment-worked set number = worked-equation factors sheet valid (nodes.Segment set number)
+  segment-worked set number = worked-equation factors sheet valid (nodes.Whole (wholes.Segment set number))
 
   pub deviations-within : (set : Set) (number : ℕ) → number ≤ segments set
       → ((sigma_of factors set number).0 ≤ 1_000_000) × ((sigma_of factors set number).1 ≤ 1_000_000)
@@ -151,7 +152,7 @@ module _ (factors : FactorValues) (known : IsInForm factors) (sheet : BalanceShe
   volumes-within set number = omega (arith, volume-within (volumes_of set sheet.numbers) (number - 1), valid.within.volumes set)
 
   pub segment-amount : (set : Set) (number : ℕ) → number ≤ segments set
-      → IsAmount (1000 * total_volume (volumes_in_regions set number sheet.numbers)) (figure (nodes.Segment set number))
+      → IsAmount (1000 * total_volume (volumes_in_regions set number sheet.numbers)) (figure (nodes.Whole (wholes.Segment set number)))
   segment-amount set number le =
       let small = deviations-within set number le in
       subst (IsAmount (1000 * total_volume (volumes_in_regions set number sheet.numbers))) (sym (segment-worked set number))
@@ -185,11 +186,11 @@ module _ (factors : FactorValues) (known : IsInForm factors) (sheet : BalanceShe
   segments-counted sets.Nl = sym known.nl_segments
   segments-counted sets.Nslt = refl
 
-  pub premium_reserve-worked : (set : Set) → figure (nodes.PremiumReserve set)
+  pub premium_reserve-worked : (set : Set) → figure (nodes.Whole (wholes.PremiumReserve set))
       ≡ premium_reserve_ends (map figure (segments_of set)) (table_of (segment_correlations factors set))
-  premium_reserve-worked set = worked-equation factors sheet valid (nodes.PremiumReserve set)
+  premium_reserve-worked set = worked-equation factors sheet valid (nodes.Whole (wholes.PremiumReserve set))
 
-  pub premium_reserve-amount : (set : Set) → IsAmount 30_000_000_000_000_000 (figure (nodes.PremiumReserve set))
+  pub premium_reserve-amount : (set : Set) → IsAmount 30_000_000_000_000_000 (figure (nodes.Whole (wholes.PremiumReserve set)))
   premium_reserve-amount set =
       subst (IsAmount 30_000_000_000_000_000) (sym (premium_reserve-worked set))
       (amount-wider (3 * sum_by (λ most. most) (segment_grains set)) 30_000_000_000_000_000 _ (omega (arith, segments-within set))
@@ -198,7 +199,7 @@ module _ (factors : FactorValues) (known : IsInForm factors) (sheet : BalanceShe
 
   -- ---- catastrophes of non-life
   abbrev charge : CatKey → Ends
-  charge key = figure (nodes.CatCharge key)
+  charge key = figure (nodes.Whole (wholes.CatCharge key))
 
   abbrev pub natural_charges : List Ends
   natural_charges = charge cats.Windstorm ∷ charge cats.Earthquake ∷ charge cats.Flood ∷ charge cats.Hail ∷ charge cats.Subsidence ∷ []
@@ -206,10 +207,10 @@ module _ (factors : FactorValues) (known : IsInForm factors) (sheet : BalanceShe
   pub natural-amounts : AreAmounts (most_charges 5) natural_charges
   natural-amounts = (charge-amount cats.Windstorm, (charge-amount cats.Earthquake, (charge-amount cats.Flood, (charge-amount cats.Hail, (charge-amount cats.Subsidence, tt)))))
 
-  pub natural-worked : figure nodes.Natural ≡ nat_ends natural_charges
-  natural-worked = worked-equation factors sheet valid nodes.Natural
+  pub natural-worked : figure (nodes.Whole wholes.Natural) ≡ nat_ends natural_charges
+  natural-worked = worked-equation factors sheet valid (nodes.Whole wholes.Natural)
 
-  pub natural-amount : IsAmount (50 * 10 ^ 15) (figure nodes.Natural)
+  pub natural-amount : IsAmount (50 * 10 ^ 15) (figure (nodes.Whole wholes.Natural))
   natural-amount =
       subst (IsAmount (50 * 10 ^ 15)) (sym natural-worked)
       (amount-wider _ (50 * 10 ^ 15) _ (omega arith) (nat-size (most_charges 5) natural_charges refl natural-amounts))
@@ -220,30 +221,30 @@ module _ (factors : FactorValues) (known : IsInForm factors) (sheet : BalanceShe
   pub man_made-amounts : AreAmounts (most_charges 6) man_made_charges
   man_made-amounts = (charge-amount cats.Motor, (charge-amount cats.Marine, (charge-amount cats.Aviation, (charge-amount cats.Fire, (charge-amount cats.Liability, (charge-amount cats.Credit, tt))))))
 
-  pub man_made-worked : figure nodes.ManMade ≡ manmade_ends man_made_charges
-  man_made-worked = worked-equation factors sheet valid nodes.ManMade
+  pub man_made-worked : figure (nodes.Whole wholes.ManMade) ≡ manmade_ends man_made_charges
+  man_made-worked = worked-equation factors sheet valid (nodes.Whole wholes.ManMade)
 
-  pub man_made-amount : IsAmount (60 * 10 ^ 15) (figure nodes.ManMade)
+  pub man_made-amount : IsAmount (60 * 10 ^ 15) (figure (nodes.Whole wholes.ManMade))
   man_made-amount =
       subst (IsAmount (60 * 10 ^ 15)) (sym man_made-worked)
       (amount-wider _ (60 * 10 ^ 15) _ (omega arith) (manmade-size (most_charges 6) man_made_charges refl man_made-amounts))
 
-  pub catastrophe-worked : figure nodes.NonlifeCatastrophe
-      ≡ cat_ends (figure nodes.Natural) (figure nodes.ManMade) (charge cats.NonProportionalProperty) (charge cats.Other)
-  catastrophe-worked = worked-equation factors sheet valid nodes.NonlifeCatastrophe
+  pub catastrophe-worked : figure (nodes.Whole wholes.NonlifeCatastrophe)
+      ≡ cat_ends (figure (nodes.Whole wholes.Natural)) (figure (nodes.Whole wholes.ManMade)) (charge cats.NonProportionalProperty) (charge cats.Other)
+  catastrophe-worked = worked-equation factors sheet valid (nodes.Whole wholes.NonlifeCatastrophe)
 
-  pub catastrophe-amount : IsAmount (130 * 10 ^ 15) (figure nodes.NonlifeCatastrophe)
+  pub catastrophe-amount : IsAmount (130 * 10 ^ 15) (figure (nodes.Whole wholes.NonlifeCatastrophe))
   catastrophe-amount =
       subst (IsAmount (130 * 10 ^ 15)) (sym catastrophe-worked)
       (amount-wider _ (130 * 10 ^ 15) _ (omega arith)
       (cat-size (50 * 10 ^ 15) (60 * 10 ^ 15) MAX_CHARGE MAX_CHARGE _ _ _ _ natural-amount man_made-amount (charge-amount cats.NonProportionalProperty) (charge-amount cats.Other)))
 
   -- ---- non-life
-  pub nonlife-worked : (measure : Measure) → figure (nodes.Nonlife measure)
-      ≡ nonlife_ends (figure (nodes.PremiumReserve sets.Nl)) (figure nodes.NonlifeCatastrophe) (lapse_cents sets.Nl sheet.numbers)
-  nonlife-worked measure = worked-equation factors sheet valid (nodes.Nonlife measure)
+  pub nonlife-worked : (measure : Measure) → figure (nodes.Whole (wholes.Nonlife measure))
+      ≡ nonlife_ends (figure (nodes.Whole (wholes.PremiumReserve sets.Nl))) (figure (nodes.Whole wholes.NonlifeCatastrophe)) (lapse_cents sets.Nl sheet.numbers)
+  nonlife-worked measure = worked-equation factors sheet valid (nodes.Whole (wholes.Nonlife measure))
 
-  pub nonlife-amount : (measure : Measure) → IsAmount (170 * 10 ^ 15) (figure (nodes.Nonlife measure))
+  pub nonlife-amount : (measure : Measure) → IsAmount (170 * 10 ^ 15) (figure (nodes.Whole (wholes.Nonlife measure)))
   nonlife-amount measure =
       subst (IsAmount (170 * 10 ^ 15)) (sym (nonlife-worked measure))
       (amount-wider _ (170 * 10 ^ 15) _ (omega (arith, lapse-within sets.Nl))
@@ -256,17 +257,17 @@ module _ (factors : FactorValues) (known : IsInForm factors) (sheet : BalanceShe
   pub health-amounts : AreAmounts (most_charges 3) health_charges
   health-amounts = (charge-amount cats.MassAccident, (charge-amount cats.AccidentConcentration, (charge-amount cats.Pandemic, tt)))
 
-  pub health_catastrophe-worked : figure nodes.HealthCatastrophe ≡ health_cat_ends health_charges
-  health_catastrophe-worked = worked-equation factors sheet valid nodes.HealthCatastrophe
+  pub health_catastrophe-worked : figure (nodes.Whole wholes.HealthCatastrophe) ≡ health_cat_ends health_charges
+  health_catastrophe-worked = worked-equation factors sheet valid (nodes.Whole wholes.HealthCatastrophe)
 
-  pub health_catastrophe-amount : IsAmount (30 * 10 ^ 15) (figure nodes.HealthCatastrophe)
+  pub health_catastrophe-amount : IsAmount (30 * 10 ^ 15) (figure (nodes.Whole wholes.HealthCatastrophe))
   health_catastrophe-amount =
       subst (IsAmount (30 * 10 ^ 15)) (sym health_catastrophe-worked)
       (amount-wider _ (30 * 10 ^ 15) _ (omega arith) (health_cat-size (most_charges 3) health_charges refl health-amounts))
 
-  pub health_net-worked : figure (nodes.NetPart risks.HealthCatastrophe)
-      ≡ net_ends (figure nodes.HealthCatastrophe) (absorbed (risk_key risks.HealthCatastrophe) sheet.numbers)
-  health_net-worked = worked-equation factors sheet valid (nodes.NetPart risks.HealthCatastrophe)
+  pub health_net-worked : figure (nodes.Whole (wholes.NetPart risks.HealthCatastrophe))
+      ≡ net_ends (figure (nodes.Whole wholes.HealthCatastrophe)) (absorbed (risk_key risks.HealthCatastrophe) sheet.numbers)
+  health_net-worked = worked-equation factors sheet valid (nodes.Whole (wholes.NetPart risks.HealthCatastrophe))
 
   pub health_part-amount : (measure : Measure) → IsAmount (30 * 10 ^ 15) (figure (risk_part risks.HealthCatastrophe measure))
   health_part-amount measures.Gross = health_catastrophe-amount
@@ -274,23 +275,23 @@ module _ (factors : FactorValues) (known : IsInForm factors) (sheet : BalanceShe
       subst (IsAmount (30 * 10 ^ 15)) (sym health_net-worked)
       (net-amount (30 * 10 ^ 15) (absorbed (risk_key risks.HealthCatastrophe) sheet.numbers) _ health_catastrophe-amount)
 
-  pub nslt-worked : (measure : Measure) → figure (nodes.Nslt measure)
-      ≡ nslt_ends (figure (nodes.PremiumReserve sets.Nslt)) (lapse_cents sets.Nslt sheet.numbers)
-  nslt-worked measure = worked-equation factors sheet valid (nodes.Nslt measure)
+  pub nslt-worked : (measure : Measure) → figure (nodes.Whole (wholes.Nslt measure))
+      ≡ nslt_ends (figure (nodes.Whole (wholes.PremiumReserve sets.Nslt))) (lapse_cents sets.Nslt sheet.numbers)
+  nslt-worked measure = worked-equation factors sheet valid (nodes.Whole (wholes.Nslt measure))
 
-  pub nslt-amount : (measure : Measure) → IsAmount (40 * 10 ^ 15) (figure (nodes.Nslt measure))
+  pub nslt-amount : (measure : Measure) → IsAmount (40 * 10 ^ 15) (figure (nodes.Whole (wholes.Nslt measure)))
   nslt-amount measure =
       subst (IsAmount (40 * 10 ^ 15)) (sym (nslt-worked measure))
       (amount-wider _ (40 * 10 ^ 15) _ (omega (arith, lapse-within sets.Nslt))
       (nslt-size 30_000_000_000_000_000 _ (lapse_cents sets.Nslt sheet.numbers) (premium_reserve-amount sets.Nslt)))
 
-  pub health-worked : (measure : Measure) → figure (nodes.Health measure)
-      ≡ health_ends (figure (nodes.Slt measure)) (figure (nodes.Nslt measure)) (figure (risk_part risks.HealthCatastrophe measure))
-  health-worked measure = worked-equation factors sheet valid (nodes.Health measure)
+  pub health-worked : (measure : Measure) → figure (nodes.Whole (wholes.Health measure))
+      ≡ health_ends (figure (nodes.Whole (wholes.Slt measure))) (figure (nodes.Whole (wholes.Nslt measure))) (figure (risk_part risks.HealthCatastrophe measure))
+  health-worked measure = worked-equation factors sheet valid (nodes.Whole (wholes.Health measure))
 
   -- of which so much is similar to life
-  pub health-amount : (most : ℕ) (measure : Measure) → IsAmount most (figure (nodes.Slt measure))
-      → IsAmount (most + 70 * 10 ^ 15) (figure (nodes.Health measure))
+  pub health-amount : (most : ℕ) (measure : Measure) → IsAmount most (figure (nodes.Whole (wholes.Slt measure)))
+      → IsAmount (most + 70 * 10 ^ 15) (figure (nodes.Whole (wholes.Health measure)))
   health-amount most measure h =
       subst (IsAmount (most + 70 * 10 ^ 15)) (sym (health-worked measure))
       (amount-wider _ (most + 70 * 10 ^ 15) _ (omega arith)

@@ -36,6 +36,10 @@ use Rattle.scr_nodes.specs.declared.{node.Direction.Direction, node.Equities.Equ
 use Rattle.scr_nodes.specs.declared.node.Equities.TheVariants as equities
 use Rattle.scr_nodes.specs.declared.node.Measure.TheVariants as measures
 use Rattle.scr_nodes.specs.declared.node.Node.TheVariants as nodes
+use Rattle.scr_nodes.specs.declared.node.OfSecurity.TheVariants as of_securities
+use Rattle.scr_nodes.specs.declared.node.OfLiability.TheVariants as of_liabilities
+use Rattle.scr_nodes.specs.declared.node.OfCurrency.TheVariants as of_currencies
+use Rattle.scr_nodes.specs.declared.node.Whole.TheVariants as wholes
 use Rattle.scr_nodes.specs.OwnOf.{paid_by_security, paid_by_liability, nothing_paid}
 use Rattle.scr_nodes.specs.Rows.{is_closed, is_paying, is_paying_in, is_owed_in, has_class, liability_of}
 use Rattle.scr_nodes.specs.Sources.{fund_total, security_total, security_rate, liability_rate, currency_loss, rates_in, held_of_class, funds_of_class}
@@ -89,39 +93,39 @@ module _ (factors : FactorValues) (sheet : BalanceSheet) (valid : Valid sheet) w
 
   -- ---- payments
   pub unit-worked : (direction : Direction) (name : List ℕ) (p : Position) → position_of name sheet.securities ≡ Some p
-      → figure (nodes.UnitLoss name direction) ≡ paid_ends (paid_by_security sheet direction p) (discounts_at (paid_by_security sheet direction p).rates)
+      → figure (nodes.Security name (of_securities.UnitLoss direction)) ≡ paid_ends (paid_by_security sheet direction p) (discounts_at (paid_by_security sheet direction p).rates)
   unit-worked direction name p is =
-      worked-equation factors sheet valid (nodes.UnitLoss name direction)
+      worked-equation factors sheet valid (nodes.Security name (of_securities.UnitLoss direction))
       ∙ ap (λ found. let paid = option_map_or (paid_by_security sheet direction) found (nothing_paid sheet direction) in paid_ends paid (discounts_at paid.rates)) is
 
   pub unit-within : (direction : Direction) (name : List ℕ) (p : Position) → position_of name sheet.securities ≡ Some p
-      → IsWithin 13_700_000_000_000_000_000_000_000 (figure (nodes.UnitLoss name direction))
+      → IsWithin 13_700_000_000_000_000_000_000_000 (figure (nodes.Security name (of_securities.UnitLoss direction)))
   unit-within direction name p is =
       let known = security-known sheet valid name p is in
       subst (IsWithin 13_700_000_000_000_000_000_000_000) (sym (unit-worked direction name p is))
       (paid-within (paid_by_security sheet direction p) 5_000_000 (security-fits sheet valid direction p known).rates known.formed.4.3)
 
   pub rate-worked : (direction : Direction) (name : List ℕ) (p : Position) → position_of name sheet.securities ≡ Some p
-      → figure (nodes.SecurityRate name direction) ≡ scaled_ends (figure (nodes.UnitLoss name direction)) (total_of sheet name)
+      → figure (nodes.Security name (of_securities.Rate direction)) ≡ scaled_ends (figure (nodes.Security name (of_securities.UnitLoss direction))) (total_of sheet name)
   rate-worked direction name p is =
-      worked-equation factors sheet valid (nodes.SecurityRate name direction)
-      ∙ ap (λ (e : Ends). scaled_ends (figure (nodes.UnitLoss name direction)) (or_zero e.low)) (security-worked factors sheet valid name (ap is_some is))
+      worked-equation factors sheet valid (nodes.Security name (of_securities.Rate direction))
+      ∙ ap (λ (e : Ends). scaled_ends (figure (nodes.Security name (of_securities.UnitLoss direction))) (or_zero e.low)) (security-worked factors sheet valid name (ap is_some is))
 
   pub rate-within : (direction : Direction) (name : List ℕ) (p : Position) → position_of name sheet.securities ≡ Some p
-      → IsWithin (13_700_000_000_000_000_000 * total_of sheet name) (figure (nodes.SecurityRate name direction))
+      → IsWithin (13_700_000_000_000_000_000 * total_of sheet name) (figure (nodes.Security name (of_securities.Rate direction)))
   rate-within direction name p is =
       subst (IsWithin (13_700_000_000_000_000_000 * total_of sheet name)) (sym (rate-worked direction name p is))
-      (scaled-within (figure (nodes.UnitLoss name direction)) (total_of sheet name) (unit-within direction name p is))
+      (scaled-within (figure (nodes.Security name (of_securities.UnitLoss direction))) (total_of sheet name) (unit-within direction name p is))
 
   pub cost-worked : (direction : Direction) (name : List ℕ) (l : Liability) → liability_of name sheet.liabilities ≡ Some l
-      → figure (nodes.LiabilityRate name direction)
+      → figure (nodes.Liability name (of_liabilities.Rate direction))
       ≡ sub_ends (exact_ends (pos 0)) (paid_ends (paid_by_liability sheet direction l) (discounts_at (paid_by_liability sheet direction l).rates))
   cost-worked direction name l is =
-      worked-equation factors sheet valid (nodes.LiabilityRate name direction)
+      worked-equation factors sheet valid (nodes.Liability name (of_liabilities.Rate direction))
       ∙ ap (λ found. let paid = option_map_or (paid_by_liability sheet direction) found (nothing_paid sheet direction) in sub_ends (exact_ends (pos 0)) (paid_ends paid (discounts_at paid.rates))) is
 
   pub cost-within : (direction : Direction) (name : List ℕ) (l : Liability) → liability_of name sheet.liabilities ≡ Some l
-      → IsWithin (MAX_DISCOUNT * total l.flows.base) (figure (nodes.LiabilityRate name direction))
+      → IsWithin (MAX_DISCOUNT * total l.flows.base) (figure (nodes.Liability name (of_liabilities.Rate direction)))
   cost-within direction name l is =
       let known = liability-known sheet valid name l is in
       subst (IsWithin (MAX_DISCOUNT * total l.flows.base)) (sym (cost-worked direction name l is))
@@ -151,10 +155,10 @@ module _ (factors : FactorValues) (sheet : BalanceSheet) (valid : Valid sheet) w
       subst (AreTogether (currency_most currency)) (sym (map-append figure (map (security_rate direction) (filter (is_paying_in currency) sheet.securities)) (map (liability_rate direction) (filter (is_owed_in currency) sheet.liabilities))))
       (together-wider _ _ _ (omega (arith, fewer)) (together-append _ _ _ _ securities liabilities))
 
-  pub lost-worked : (direction : Direction) (currency : List ℕ) → figure (nodes.CurrencyLoss currency direction) ≡ max_ends (exact_ends (pos 0)) (sum_ends (map figure (rates_in currency direction sheet)))
-  lost-worked direction currency = worked-equation factors sheet valid (nodes.CurrencyLoss currency direction)
+  pub lost-worked : (direction : Direction) (currency : List ℕ) → figure (nodes.Currency currency (of_currencies.Loss direction)) ≡ max_ends (exact_ends (pos 0)) (sum_ends (map figure (rates_in currency direction sheet)))
+  lost-worked direction currency = worked-equation factors sheet valid (nodes.Currency currency (of_currencies.Loss direction))
 
-  lost-within : (direction : Direction) (currency : List ℕ) → IsWithin (currency_most currency) (figure (nodes.CurrencyLoss currency direction))
+  lost-within : (direction : Direction) (currency : List ℕ) → IsWithin (currency_most currency) (figure (nodes.Currency currency (of_currencies.Loss direction)))
   lost-within direction currency =
       subst (IsWithin (currency_most currency)) (sym (lost-worked direction currency))
       (within-lost _ _ (sum-within (currency_most currency) (map figure (rates_in currency direction sheet)) (rates-together direction currency)))
@@ -207,10 +211,10 @@ module _ (factors : FactorValues) (sheet : BalanceSheet) (valid : Valid sheet) w
       at-most true n = omega arith
       at-most false n = omega arith
 
-  pub gross-worked : (direction : Direction) → figure (nodes.InterestScenario direction measures.Gross) ≡ gross_ends (map figure (map (currency_loss direction) sheet.curves))
-  gross-worked direction = worked-equation factors sheet valid (nodes.InterestScenario direction measures.Gross)
+  pub gross-worked : (direction : Direction) → figure (nodes.Whole (wholes.InterestScenario direction measures.Gross)) ≡ gross_ends (map figure (map (currency_loss direction) sheet.curves))
+  gross-worked direction = worked-equation factors sheet valid (nodes.Whole (wholes.InterestScenario direction measures.Gross))
 
-  pub gross-small : (direction : Direction) → IsWithin (10 ^ 18) (figure (nodes.InterestScenario direction measures.Gross))
+  pub gross-small : (direction : Direction) → IsWithin (10 ^ 18) (figure (nodes.Whole (wholes.InterestScenario direction measures.Gross)))
   gross-small direction = subst (IsWithin (10 ^ 18)) (sym (gross-worked direction)) (gross-within (map figure (map (currency_loss direction) sheet.curves)) (losses-together direction))
 
   -- ---- what is held of a class
@@ -242,9 +246,9 @@ module _ (factors : FactorValues) (sheet : BalanceSheet) (valid : Valid sheet) w
       plus-none : (n : ℕ) → n ≡ n + 0
       plus-none n = omega arith
 
-  pub class-worked : (class : Class) → figure (nodes.ClassSum class) ≡ exact_ends (pos (class_total class sheet))
+  pub class-worked : (class : Class) → figure (nodes.Whole (wholes.ClassSum class)) ≡ exact_ends (pos (class_total class sheet))
   class-worked class =
-      worked-equation factors sheet valid (nodes.ClassSum class)
+      worked-equation factors sheet valid (nodes.Whole (wholes.ClassSum class))
       ∙ ap sum_ends (map-append figure (map security_total (filter (has_class class) sheet.securities)) (funds_of_class class sheet))
       ∙ sum_ends-append (map figure (map security_total (filter (has_class class) sheet.securities))) (map figure (funds_of_class class sheet))
       ∙ ap₂ add_ends (securities-sum class) (funds-sum class) ∙ ap exact_ends (whole _ _ _ (class-is class))
@@ -265,7 +269,7 @@ module _ (factors : FactorValues) (sheet : BalanceSheet) (valid : Valid sheet) w
       at-most true n = omega arith
       at-most false n = omega arith
 
-  pub class-amount : (class : Class) → IsAmount MAX_HELD (figure (nodes.ClassSum class))
+  pub class-amount : (class : Class) → IsAmount MAX_HELD (figure (nodes.Whole (wholes.ClassSum class)))
   class-amount class = subst (IsAmount MAX_HELD) (sym (class-worked class)) (amount-exact MAX_HELD (class_total class sheet) (class-small class))
 
   pub class-together : (class : Class) → AreTogether (10 ^ 33) (map figure (held_of_class class sheet))
@@ -298,18 +302,18 @@ module _ (factors : FactorValues) (sheet : BalanceSheet) (valid : Valid sheet) w
   pub greatest : sheet.numbers.sym ≤ℤ pos 100_000
   greatest = let h = valid.numbers.sym.1 in omega (arith, ints, h)
 
-  pub part-worked : (kind : Equities) → figure (nodes.EquityPart kind) ≡ part_ends sheet kind
+  pub part-worked : (kind : Equities) → figure (nodes.Whole (wholes.EquityPart kind)) ≡ part_ends sheet kind
   part-worked equities.Type1 =
-      worked-equation factors sheet valid (nodes.EquityPart equities.Type1)
+      worked-equation factors sheet valid (nodes.Whole (wholes.EquityPart equities.Type1))
       ∙ ap₂ (λ (a : Ends) (b : Ends). type1_ends (or_zero a.low) (or_zero b.low) sheet.numbers.sym) (class-worked classes.Type1Equity) (class-worked classes.Type1Strategic)
   part-worked equities.Type2 =
-      worked-equation factors sheet valid (nodes.EquityPart equities.Type2)
+      worked-equation factors sheet valid (nodes.Whole (wholes.EquityPart equities.Type2))
       ∙ ap₂ (λ (a : Ends) (b : Ends). type2_ends (or_zero a.low) (or_zero b.low) sheet.numbers.sym) (class-worked classes.Type2Equity) (class-worked classes.Type2Strategic)
   part-worked equities.Infrastructure =
-      worked-equation factors sheet valid (nodes.EquityPart equities.Infrastructure)
+      worked-equation factors sheet valid (nodes.Whole (wholes.EquityPart equities.Infrastructure))
       ∙ ap (λ (a : Ends). infra_ends (or_zero a.low) sheet.numbers.sym) (class-worked classes.Infrastructure)
   part-worked equities.InfrastructureCorporate =
-      worked-equation factors sheet valid (nodes.EquityPart equities.InfrastructureCorporate)
+      worked-equation factors sheet valid (nodes.Whole (wholes.EquityPart equities.InfrastructureCorporate))
       ∙ ap (λ (a : Ends). infracorp_ends (or_zero a.low) sheet.numbers.sym) (class-worked classes.InfrastructureCorporate)
 
   part-size : (kind : Equities) → IsAmount MAX_EQUITY_PART (part_ends sheet kind)
@@ -318,14 +322,14 @@ module _ (factors : FactorValues) (sheet : BalanceSheet) (valid : Valid sheet) w
   part-size equities.Infrastructure = infra-size sheet.numbers.sym least greatest _ (class-small classes.Infrastructure)
   part-size equities.InfrastructureCorporate = infracorp-size sheet.numbers.sym least greatest _ (class-small classes.InfrastructureCorporate)
 
-  pub part-amount : (kind : Equities) → IsAmount MAX_EQUITY_PART (figure (nodes.EquityPart kind))
+  pub part-amount : (kind : Equities) → IsAmount MAX_EQUITY_PART (figure (nodes.Whole (wholes.EquityPart kind)))
   part-amount kind = subst (IsAmount MAX_EQUITY_PART) (sym (part-worked kind)) (part-size kind)
 
-  pub root-worked : figure nodes.EquityRoot ≡ equity_root_ends (figure (nodes.EquityPart equities.Type1))
-      (add_ends (add_ends (figure (nodes.EquityPart equities.Type2)) (figure (nodes.EquityPart equities.Infrastructure))) (figure (nodes.EquityPart equities.InfrastructureCorporate)))
-  root-worked = worked-equation factors sheet valid nodes.EquityRoot
+  pub root-worked : figure (nodes.Whole wholes.EquityRoot) ≡ equity_root_ends (figure (nodes.Whole (wholes.EquityPart equities.Type1)))
+      (add_ends (add_ends (figure (nodes.Whole (wholes.EquityPart equities.Type2))) (figure (nodes.Whole (wholes.EquityPart equities.Infrastructure)))) (figure (nodes.Whole (wholes.EquityPart equities.InfrastructureCorporate))))
+  root-worked = worked-equation factors sheet valid (nodes.Whole wholes.EquityRoot)
 
-  pub root-amount : IsAmount (MAX_EQUITY_PART + (MAX_EQUITY_PART + MAX_EQUITY_PART + MAX_EQUITY_PART)) (figure nodes.EquityRoot)
+  pub root-amount : IsAmount (MAX_EQUITY_PART + (MAX_EQUITY_PART + MAX_EQUITY_PART + MAX_EQUITY_PART)) (figure (nodes.Whole wholes.EquityRoot))
   root-amount =
       subst (IsAmount (MAX_EQUITY_PART + (MAX_EQUITY_PART + MAX_EQUITY_PART + MAX_EQUITY_PART))) (sym root-worked)
       (root-size MAX_EQUITY_PART (MAX_EQUITY_PART + MAX_EQUITY_PART + MAX_EQUITY_PART) _ _ (part-amount equities.Type1)

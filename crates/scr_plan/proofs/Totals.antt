@@ -18,6 +18,8 @@ use Rattle.scr_sheet.proofs.SeenThrough.{each-map, total-equation, fund-small, s
 use Rattle.scr_profile.specs.declared.limits.TheConstants.{MAX_HELD}
 use Rattle.scr_nodes.specs.declared.node.Node.{Node}
 use Rattle.scr_nodes.specs.declared.node.Node.TheVariants as nodes
+use Rattle.scr_nodes.specs.declared.node.OfFund.TheVariants as of_funds
+use Rattle.scr_nodes.specs.declared.node.OfSecurity.TheVariants as of_securities
 use Rattle.scr_nodes.specs.Rows.{holds, share_in, security_held, fund_held}
 use Rattle.scr_nodes.specs.Sources.{sources_of, fund_total, holder_totals}
 use Rattle.scr_nodes.proofs.Chosen.{each-chosen}
@@ -37,13 +39,13 @@ module _ (factors : FactorValues) (sheet : BalanceSheet) (valid : Valid sheet) w
   cents_of name = exact_ends (pos (total_of sheet name))
 
   found : Node → Ends
-  found (nodes.FundTotal name) = cents_of name
-  found (nodes.SecurityTotal name) = cents_of name
+  found (nodes.Fund name of_funds.Total) = cents_of name
+  found (nodes.Security name of_securities.Total) = cents_of name
   found node = exact_ends (pos 0)
 
   IsTotal : Node → Type 0
-  IsTotal (nodes.FundTotal name) = has_row stake_name name sheet.funds ≡ true
-  IsTotal (nodes.SecurityTotal name) = has_row position_name name sheet.securities ≡ true
+  IsTotal (nodes.Fund name of_funds.Total) = has_row stake_name name sheet.funds ≡ true
+  IsTotal (nodes.Security name of_securities.Total) = has_row position_name name sheet.securities ≡ true
   IsTotal node = ⊥
 
   holders-are : (name : List ℕ) → AllByRecursion IsTotal (holder_totals name sheet)
@@ -53,8 +55,8 @@ module _ (factors : FactorValues) (sheet : BalanceSheet) (valid : Valid sheet) w
 
   closed : (node : Node) → IsTotal node → AllByRecursion IsTotal (sources_of sheet node)
   unfolding IsTotal
-  closed (nodes.FundTotal name) h = holders-are name
-  closed (nodes.SecurityTotal name) h = holders-are name
+  closed (nodes.Fund name of_funds.Total) h = holders-are name
+  closed (nodes.Security name of_securities.Total) h = holders-are name
   closed node h = absurd h
 
   -- the parts of all holders, where the figure of each is its total
@@ -70,24 +72,24 @@ module _ (factors : FactorValues) (sheet : BalanceSheet) (valid : Valid sheet) w
 
   equation : (node : Node) → IsTotal node → found node ≡ node_rule factors sheet node (map found (sources_of sheet node))
   unfolding IsTotal found
-  equation (nodes.FundTotal name) h =
+  equation (nodes.Fund name of_funds.Total) h =
       ap (λ n. exact_ends (pos n)) (sym (ap (λ n. n + parts_held (map (share_in name) (filter (holds name) sheet.funds)) (map found (holder_totals name sheet))) (sym (held-of-fund sheet valid.named_once name h)) ∙ holders-parts name found found-funds))
-  equation (nodes.SecurityTotal name) h =
+  equation (nodes.Security name of_securities.Total) h =
       ap (λ n. exact_ends (pos n)) (sym (ap (λ n. n + parts_held (map (share_in name) (filter (holds name) sheet.funds)) (map found (holder_totals name sheet))) (sym (held-of-security sheet valid.named_once name h)) ∙ holders-parts name found found-funds))
   equation node h = absurd h
 
-  pub fund-worked : (name : List ℕ) → has_row stake_name name sheet.funds ≡ true → figure (nodes.FundTotal name) ≡ cents_of name
+  pub fund-worked : (name : List ℕ) → has_row stake_name name sheet.funds ≡ true → figure (nodes.Fund name of_funds.Total) ≡ cents_of name
   unfolding IsTotal found
-  fund-worked name has = sym (worked-only factors sheet valid IsTotal closed found equation (nodes.FundTotal name) has)
+  fund-worked name has = sym (worked-only factors sheet valid IsTotal closed found equation (nodes.Fund name of_funds.Total) has)
 
-  pub security-worked : (name : List ℕ) → has_row position_name name sheet.securities ≡ true → figure (nodes.SecurityTotal name) ≡ cents_of name
+  pub security-worked : (name : List ℕ) → has_row position_name name sheet.securities ≡ true → figure (nodes.Security name of_securities.Total) ≡ cents_of name
   unfolding IsTotal found
-  security-worked name has = sym (worked-only factors sheet valid IsTotal closed found equation (nodes.SecurityTotal name) has)
+  security-worked name has = sym (worked-only factors sheet valid IsTotal closed found equation (nodes.Security name of_securities.Total) has)
 
-  pub fund-amount : (name : List ℕ) → has_row stake_name name sheet.funds ≡ true → IsAmount MAX_HELD (figure (nodes.FundTotal name))
+  pub fund-amount : (name : List ℕ) → has_row stake_name name sheet.funds ≡ true → IsAmount MAX_HELD (figure (nodes.Fund name of_funds.Total))
   fund-amount name has = subst (IsAmount MAX_HELD) (sym (fund-worked name has)) (amount-exact MAX_HELD (total_of sheet name) (fund-small sheet valid name has))
 
-  pub security-amount : (name : List ℕ) → has_row position_name name sheet.securities ≡ true → IsAmount MAX_HELD (figure (nodes.SecurityTotal name))
+  pub security-amount : (name : List ℕ) → has_row position_name name sheet.securities ≡ true → IsAmount MAX_HELD (figure (nodes.Security name of_securities.Total))
   security-amount name has = subst (IsAmount MAX_HELD) (sym (security-worked name has)) (amount-exact MAX_HELD (total_of sheet name) (security-small sheet valid name has))
 
   -- ---- the rule of a total fits

@@ -28,6 +28,12 @@ use Rattle.scr_nodes.specs.declared.node.Measure.{Measure}
 use Rattle.scr_nodes.specs.declared.node.Measure.TheVariants as measures
 use Rattle.scr_nodes.specs.declared.node.Node.{Node}
 use Rattle.scr_nodes.specs.declared.node.Node.TheVariants as nodes
+use Rattle.scr_nodes.specs.declared.node.OfFund.TheVariants as of_funds
+use Rattle.scr_nodes.specs.declared.node.OfSecurity.TheVariants as of_securities
+use Rattle.scr_nodes.specs.declared.node.OfLiability.TheVariants as of_liabilities
+use Rattle.scr_nodes.specs.declared.node.OfCurrency.TheVariants as of_currencies
+use Rattle.scr_nodes.specs.declared.node.OfGroup.TheVariants as of_groups
+use Rattle.scr_nodes.specs.declared.node.Whole.TheVariants as wholes
 use Rattle.scr_nodes.specs.declared.node.Risk.{Risk}
 use Rattle.scr_nodes.specs.declared.node.Risk.TheVariants as risks
 use Rattle.scr_nodes.specs.OwnOf.{risk_key}
@@ -101,99 +107,99 @@ other_modules factors sheet = record {
 -- In cents, and for the payments of a security per 1,000,000 of its value. Which alternative decides is no figure. What
 -- a name that no row has would lose is nothing.
 abbrev pub exact : FactorValues → BalanceSheet → Node → Option Figure
-exact factors sheet (nodes.FundTotal name) = Some (Frac (whole (pos (total_of sheet name))))
-exact factors sheet (nodes.SecurityTotal name) = Some (Frac (whole (pos (total_of sheet name))))
-exact factors sheet (nodes.UnitLoss name direction) =
+exact factors sheet (nodes.Fund name of_funds.Total) = Some (Frac (whole (pos (total_of sheet name))))
+exact factors sheet (nodes.Security name of_securities.Total) = Some (Frac (whole (pos (total_of sheet name))))
+exact factors sheet (nodes.Security name (of_securities.UnitLoss direction)) =
     Some (Frac (option_map_or (security_unit_loss sheet direction) (position_of name sheet.securities) zero_fraction))
-exact factors sheet (nodes.SecurityRate name direction) =
+exact factors sheet (nodes.Security name (of_securities.Rate direction)) =
     Some (Frac (option_map_or (security_loss sheet direction) (position_of name sheet.securities) zero_fraction))
-exact factors sheet (nodes.LiabilityRate name direction) =
+exact factors sheet (nodes.Liability name (of_liabilities.Rate direction)) =
     Some (Frac (option_map_or (liability_loss sheet direction) (liability_of name sheet.liabilities) zero_fraction))
-exact factors sheet (nodes.CurrencyLoss currency direction) = Some (Frac (counted (currency_loss sheet direction currency)))
-exact factors sheet (nodes.InterestScenario direction measure) = Some (Frac (measured measure (scenario_of sheet direction)))
-exact factors sheet (nodes.Choice which) = None
-exact factors sheet (nodes.Picked alternatives.Interest measure) = Some (Frac (measured measure (decisive_outcome sheet)))
-exact factors sheet (nodes.ClassSum class) = Some (Frac (whole (pos (class_total class sheet))))
-exact factors sheet (nodes.EquityPart kind) = Some (equities_exact sheet kind)
-exact factors sheet nodes.EquityRoot = Some (equity_exact sheet)
-exact factors sheet (nodes.NetPart risks.Equity) = Some (net_figure (equity_exact sheet) (absorbed (risk_key risks.Equity) sheet.numbers))
-exact factors sheet (nodes.NetPart risks.Property) =
+exact factors sheet (nodes.Currency currency (of_currencies.Loss direction)) = Some (Frac (counted (currency_loss sheet direction currency)))
+exact factors sheet (nodes.Whole (wholes.InterestScenario direction measure)) = Some (Frac (measured measure (scenario_of sheet direction)))
+exact factors sheet (nodes.Whole (wholes.Choice which)) = None
+exact factors sheet (nodes.Whole (wholes.Picked alternatives.Interest measure)) = Some (Frac (measured measure (decisive_outcome sheet)))
+exact factors sheet (nodes.Whole (wholes.ClassSum class)) = Some (Frac (whole (pos (class_total class sheet))))
+exact factors sheet (nodes.Whole (wholes.EquityPart kind)) = Some (equities_exact sheet kind)
+exact factors sheet (nodes.Whole wholes.EquityRoot) = Some (equity_exact sheet)
+exact factors sheet (nodes.Whole (wholes.NetPart risks.Equity)) = Some (net_figure (equity_exact sheet) (absorbed (risk_key risks.Equity) sheet.numbers))
+exact factors sheet (nodes.Whole (wholes.NetPart risks.Property)) =
     Some (net_figure (property_exact sheet) (absorbed (risk_key risks.Property) sheet.numbers))
-exact factors sheet (nodes.NetPart risks.Spread) =
+exact factors sheet (nodes.Whole (wholes.NetPart risks.Spread)) =
     Some (net_figure (spread_exact factors sheet) (absorbed (risk_key risks.Spread) sheet.numbers))
-exact factors sheet (nodes.NetPart risks.Concentration) =
+exact factors sheet (nodes.Whole (wholes.NetPart risks.Concentration)) =
     Some (net_figure (concentration_exact sheet) (absorbed (risk_key risks.Concentration) sheet.numbers))
-exact factors sheet (nodes.LiabilityPresent name) =
+exact factors sheet (nodes.Liability name of_liabilities.Present) =
     Some (Frac (option_map_or (liability_worth sheet) (liability_of name sheet.liabilities) zero_fraction))
-exact factors sheet (nodes.CurrencyScenario currency direction measure) =
+exact factors sheet (nodes.Currency currency (of_currencies.Scenario direction measure)) =
     Some (Frac (measured measure (change_outcome sheet currency direction)))
-exact factors sheet (nodes.CurrencyChoice currency) = None
-exact factors sheet (nodes.CurrencyPicked currency measure) =
+exact factors sheet (nodes.Currency currency of_currencies.Choice) = None
+exact factors sheet (nodes.Currency currency (of_currencies.Picked measure)) =
     Some (Frac (measured measure (decisive_change sheet currency)))
-exact factors sheet (nodes.Currency measure) = Some (Frac (currency_exact measure sheet))
-exact factors sheet nodes.Property = Some (property_exact sheet)
-exact factors sheet (nodes.SecuritySpread name) =
+exact factors sheet (nodes.Whole (wholes.Currency measure)) = Some (Frac (currency_exact measure sheet))
+exact factors sheet (nodes.Whole wholes.Property) = Some (property_exact sheet)
+exact factors sheet (nodes.Security name of_securities.Spread) =
     Some (Frac (option_map_or (bond_exact factors sheet) (position_of name sheet.securities) zero_fraction))
-exact factors sheet nodes.Spread = Some (spread_exact factors sheet)
-exact factors sheet (nodes.GroupTotal name) = Some (Frac (whole (pos (group_cents sheet name))))
-exact factors sheet nodes.Assets = Some (Frac (whole (pos (assets_cents sheet))))
-exact factors sheet (nodes.ConcentrationSquare name) =
+exact factors sheet (nodes.Whole wholes.Spread) = Some (spread_exact factors sheet)
+exact factors sheet (nodes.Group name of_groups.Total) = Some (Frac (whole (pos (group_cents sheet name))))
+exact factors sheet (nodes.Whole wholes.Assets) = Some (Frac (whole (pos (assets_cents sheet))))
+exact factors sheet (nodes.Group name of_groups.ConcentrationSquare) =
     Some (Frac (option_map_or (group_square_exact sheet) (group_of name sheet.groups) zero_fraction))
-exact factors sheet nodes.Concentration = Some (concentration_exact sheet)
-exact factors sheet (nodes.Market measure) = Some (market_exact factors sheet measure)
-exact factors sheet (nodes.LiabilityLoss name projection) =
+exact factors sheet (nodes.Whole wholes.Concentration) = Some (concentration_exact sheet)
+exact factors sheet (nodes.Whole (wholes.Market measure)) = Some (market_exact factors sheet measure)
+exact factors sheet (nodes.Liability name (of_liabilities.Loss projection)) =
     Some (Frac (option_map_or (stress_loss sheet projection) (liability_of name sheet.liabilities) zero_fraction))
-exact factors sheet (nodes.BioScenario biometric projection measure) =
+exact factors sheet (nodes.Whole (wholes.BioScenario biometric projection measure)) =
     Some (Frac (measured measure (stress_outcome sheet biometric projection)))
-exact factors sheet (nodes.Picked alternatives.LifeLapse measure) = Some (Frac (measured measure (lapse_outcome sheet biometrics.Life)))
-exact factors sheet (nodes.Picked alternatives.HealthLapse measure) =
+exact factors sheet (nodes.Whole (wholes.Picked alternatives.LifeLapse measure)) = Some (Frac (measured measure (lapse_outcome sheet biometrics.Life)))
+exact factors sheet (nodes.Whole (wholes.Picked alternatives.HealthLapse measure)) =
     Some (Frac (measured measure (lapse_outcome sheet biometrics.Health)))
-exact factors sheet (nodes.Life measure) = Some (life_exact sheet measure)
-exact factors sheet (nodes.Slt measure) = Some (slt_exact sheet measure)
-exact factors sheet (nodes.GroupLoss name) = Some (Frac (group_loss sheet name))
-exact factors sheet (nodes.ClassLoss class) = Some (Frac (class_loss sheet class))
-exact factors sheet (nodes.ClassSquare class) = Some (Frac (class_square sheet class))
-exact factors sheet nodes.Variance = Some (Frac (default_variance sheet))
-exact factors sheet nodes.DefaultBand = None
-exact factors sheet nodes.DefaultType1 = Some (type1_exact sheet)
-exact factors sheet nodes.DefaultType2 = Some (due_exact sheet)
-exact factors sheet nodes.Default = Some (default_exact sheet)
-exact factors sheet (nodes.NetPart risks.Default) = Some (net_figure (default_exact sheet) (absorbed (risk_key risks.Default) sheet.numbers))
-exact factors sheet (nodes.Segment set number) = Some (segment_exact factors sheet set number)
-exact factors sheet (nodes.PremiumReserve set) = Some (premium_reserve_exact factors sheet set)
-exact factors sheet (nodes.CatCharge key) = Some (catastrophe_charge sheet key)
-exact factors sheet (nodes.Lapse set) = Some (lapse_charge sheet set)
-exact factors sheet nodes.Natural = Some (natural_exact sheet)
-exact factors sheet nodes.ManMade = Some (man_made_exact sheet)
-exact factors sheet nodes.NonlifeCatastrophe = Some (catastrophe_exact sheet)
-exact factors sheet nodes.HealthCatastrophe = Some (health_catastrophe_exact sheet measures.Gross)
-exact factors sheet (nodes.NetPart risks.HealthCatastrophe) = Some (health_catastrophe_exact sheet measures.Net)
-exact factors sheet (nodes.Nslt measure) = Some (nslt_exact factors sheet)
-exact factors sheet (nodes.Health measure) =
+exact factors sheet (nodes.Whole (wholes.Life measure)) = Some (life_exact sheet measure)
+exact factors sheet (nodes.Whole (wholes.Slt measure)) = Some (slt_exact sheet measure)
+exact factors sheet (nodes.Group name of_groups.Loss) = Some (Frac (group_loss sheet name))
+exact factors sheet (nodes.Whole (wholes.ClassLoss class)) = Some (Frac (class_loss sheet class))
+exact factors sheet (nodes.Whole (wholes.ClassSquare class)) = Some (Frac (class_square sheet class))
+exact factors sheet (nodes.Whole wholes.Variance) = Some (Frac (default_variance sheet))
+exact factors sheet (nodes.Whole wholes.DefaultBand) = None
+exact factors sheet (nodes.Whole wholes.DefaultType1) = Some (type1_exact sheet)
+exact factors sheet (nodes.Whole wholes.DefaultType2) = Some (due_exact sheet)
+exact factors sheet (nodes.Whole wholes.Default) = Some (default_exact sheet)
+exact factors sheet (nodes.Whole (wholes.NetPart risks.Default)) = Some (net_figure (default_exact sheet) (absorbed (risk_key risks.Default) sheet.numbers))
+exact factors sheet (nodes.Whole (wholes.Segment set number)) = Some (segment_exact factors sheet set number)
+exact factors sheet (nodes.Whole (wholes.PremiumReserve set)) = Some (premium_reserve_exact factors sheet set)
+exact factors sheet (nodes.Whole (wholes.CatCharge key)) = Some (catastrophe_charge sheet key)
+exact factors sheet (nodes.Whole (wholes.Lapse set)) = Some (lapse_charge sheet set)
+exact factors sheet (nodes.Whole wholes.Natural) = Some (natural_exact sheet)
+exact factors sheet (nodes.Whole wholes.ManMade) = Some (man_made_exact sheet)
+exact factors sheet (nodes.Whole wholes.NonlifeCatastrophe) = Some (catastrophe_exact sheet)
+exact factors sheet (nodes.Whole wholes.HealthCatastrophe) = Some (health_catastrophe_exact sheet measures.Gross)
+exact factors sheet (nodes.Whole (wholes.NetPart risks.HealthCatastrophe)) = Some (health_catastrophe_exact sheet measures.Net)
+exact factors sheet (nodes.Whole (wholes.Nslt measure)) = Some (nslt_exact factors sheet)
+exact factors sheet (nodes.Whole (wholes.Health measure)) =
     Some (health_exact ((other_modules factors sheet).slt measure) factors sheet measure)
-exact factors sheet (nodes.Nonlife measure) = Some (nonlife_exact factors sheet)
-exact factors sheet nodes.Intangible = Some (intangible_figure sheet.numbers.intangible)
-exact factors sheet (nodes.Bscr measure) = Some (bscr_exact (other_modules factors sheet) factors sheet measure)
-exact factors sheet (nodes.OpPart part) = Some (operational_exact (other_modules factors sheet) factors sheet part)
-exact factors sheet (nodes.Adjust adjustment) = Some (adjustment_exact (other_modules factors sheet) factors sheet adjustment)
-exact factors sheet nodes.Scr = Some (scr_exact (other_modules factors sheet) factors sheet)
-exact factors sheet nodes.Diversification = Some (diversification_exact (other_modules factors sheet) factors sheet)
+exact factors sheet (nodes.Whole (wholes.Nonlife measure)) = Some (nonlife_exact factors sheet)
+exact factors sheet (nodes.Whole wholes.Intangible) = Some (intangible_figure sheet.numbers.intangible)
+exact factors sheet (nodes.Whole (wholes.Bscr measure)) = Some (bscr_exact (other_modules factors sheet) factors sheet measure)
+exact factors sheet (nodes.Whole (wholes.OpPart part)) = Some (operational_exact (other_modules factors sheet) factors sheet part)
+exact factors sheet (nodes.Whole (wholes.Adjust adjustment)) = Some (adjustment_exact (other_modules factors sheet) factors sheet adjustment)
+exact factors sheet (nodes.Whole wholes.Scr) = Some (scr_exact (other_modules factors sheet) factors sheet)
+exact factors sheet (nodes.Whole wholes.Diversification) = Some (diversification_exact (other_modules factors sheet) factors sheet)
 
 -- how many of its units make one of the figure's: 1 where it is in whole cents, 1000 where it is in grains
 abbrev pub unit_of : Node → ℕ
-unit_of (nodes.FundTotal name) = 1
-unit_of (nodes.SecurityTotal name) = 1
-unit_of (nodes.UnitLoss name direction) = 1_000_000_000_000_000_000
-unit_of (nodes.SecurityRate name direction) = 1_000_000_000_000_000_000
-unit_of (nodes.LiabilityRate name direction) = 1_000_000_000_000_000_000
-unit_of (nodes.CurrencyLoss currency direction) = 1_000_000_000_000_000_000
-unit_of (nodes.ClassSum class) = 1
-unit_of (nodes.LiabilityPresent name) = 1_000_000_000_000_000_000
-unit_of (nodes.SecuritySpread name) = 1_000_000_000
-unit_of (nodes.GroupTotal name) = 1
-unit_of nodes.Assets = 1
-unit_of (nodes.ConcentrationSquare name) = 10_000_000_000
-unit_of (nodes.LiabilityLoss name projection) = 1_000_000_000_000_000_000
-unit_of (nodes.ClassSquare class) = 1_000_000
-unit_of nodes.Variance = 1_000_000
+unit_of (nodes.Fund name of_funds.Total) = 1
+unit_of (nodes.Security name of_securities.Total) = 1
+unit_of (nodes.Security name (of_securities.UnitLoss direction)) = 1_000_000_000_000_000_000
+unit_of (nodes.Security name (of_securities.Rate direction)) = 1_000_000_000_000_000_000
+unit_of (nodes.Liability name (of_liabilities.Rate direction)) = 1_000_000_000_000_000_000
+unit_of (nodes.Currency currency (of_currencies.Loss direction)) = 1_000_000_000_000_000_000
+unit_of (nodes.Whole (wholes.ClassSum class)) = 1
+unit_of (nodes.Liability name of_liabilities.Present) = 1_000_000_000_000_000_000
+unit_of (nodes.Security name of_securities.Spread) = 1_000_000_000
+unit_of (nodes.Group name of_groups.Total) = 1
+unit_of (nodes.Whole wholes.Assets) = 1
+unit_of (nodes.Group name of_groups.ConcentrationSquare) = 10_000_000_000
+unit_of (nodes.Liability name (of_liabilities.Loss projection)) = 1_000_000_000_000_000_000
+unit_of (nodes.Whole (wholes.ClassSquare class)) = 1_000_000
+unit_of (nodes.Whole wholes.Variance) = 1_000_000
 unit_of node = 1000

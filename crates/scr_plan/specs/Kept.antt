@@ -16,6 +16,8 @@ use Rattle.scr_sheet.specs.declared.rows.Liability.{Liability}
 use Rattle.scr_sheet.specs.declared.sheet.BalanceSheet.{BalanceSheet}
 use Rattle.scr_nodes.specs.declared.node.Node.{Node}
 use Rattle.scr_nodes.specs.declared.node.Node.TheVariants as nodes
+use Rattle.scr_nodes.specs.declared.node.OfSecurity.TheVariants as of_securities
+use Rattle.scr_nodes.specs.declared.node.OfLiability.TheVariants as of_liabilities
 use Rattle.scr_nodes.specs.Rows.{liability_of}
 use Rattle.scr_plan.specs.Discounts.{CurrencyDiscounts, discounts_at, no_discounts}
 
@@ -57,12 +59,12 @@ row_in currency (curve ∷ curves) (row ∷ rows) = if same_name currency curve.
 
 -- the discounts of a figure's payments, by the currency in which they are paid; none of a figure without payments
 abbrev pub discounts_in : BalanceSheet → List CurrencyDiscounts → Node → CurrencyDiscounts
-discounts_in sheet rows (nodes.UnitLoss name direction) =
+discounts_in sheet rows (nodes.Security name (of_securities.UnitLoss direction)) =
     option_map_or (λ (p : Position). row_in p.security.currency sheet.curves rows) (position_of name sheet.securities) no_discounts
-discounts_in sheet rows (nodes.LiabilityRate name direction) =
+discounts_in sheet rows (nodes.Liability name (of_liabilities.Rate direction)) =
     option_map_or (λ (l : Liability). row_in l.currency sheet.curves rows) (liability_of name sheet.liabilities) no_discounts
-discounts_in sheet rows (nodes.LiabilityPresent name) =
+discounts_in sheet rows (nodes.Liability name of_liabilities.Present) =
     option_map_or (λ (l : Liability). row_in l.currency sheet.curves rows) (liability_of name sheet.liabilities) no_discounts
-discounts_in sheet rows (nodes.LiabilityLoss name projection) =
+discounts_in sheet rows (nodes.Liability name (of_liabilities.Loss projection)) =
     option_map_or (λ (l : Liability). row_in l.currency sheet.curves rows) (liability_of name sheet.liabilities) no_discounts
 discounts_in sheet rows node = no_discounts

@@ -30,7 +30,10 @@ use scr_book::{BalanceSheet, Book, Name};
 use scr_factors::{Factors, Set};
 use scr_io::Steps;
 use scr_nodes::single_numbers::{catastrophe_cents, interest_key, lapse_cents, risk_key};
-use scr_nodes::{Adjustment, Direction, Measure, Node, Operational};
+use scr_nodes::{
+    Adjustment, Direction, Measure, Node, OfCurrency, OfFund, OfGroup, OfLiability, OfSecurity,
+    Operational, Whole,
+};
 use scr_num::Span;
 use scr_rate::{gross, total};
 use std::sync::ledger::Ledger;
@@ -107,7 +110,7 @@ fn figure_with(
     ensures { ends result
         ≡ rule (own_of factors.now sheet.now node.now) (discounts_in sheet.now (rows_of curves.now) node.now) (map ends spans.now) }
 {
-    if let Node::GroupLoss(name) = node {
+    if let Node::Group(name, OfGroup::Loss) = node {
         if let Some(place) = sheet.groups.place(name) {
             return grains(losses.at(place));
         }
@@ -130,78 +133,95 @@ fn figure(
         ≡ rule (own_of factors.now sheet.now node.now) (discounts_in sheet.now (rows_of curves.now) node.now) (map ends spans.now) }
 {
     match node {
-        Node::FundTotal(name) => held(sheet, name, sheet.fund_hold(name), spans),
-        Node::SecurityTotal(name) => held(sheet, name, sheet.security_hold(name), spans),
-        Node::UnitLoss(name, direction) => unit(sheet, curves, name, *direction),
-        Node::SecurityRate(_, _) => scaled(spans),
-        Node::LiabilityRate(name, direction) => cost(sheet, curves, name, *direction),
-        Node::CurrencyLoss(_, _) => lost(spans),
-        Node::InterestScenario(direction, measure) => match measure {
+        Node::Fund(name, OfFund::Total) => held(sheet, name, sheet.fund_hold(name), spans),
+        Node::Security(name, OfSecurity::Total) => held(
+            sheet,
+            name,
+            sheet.security_hold(name),
+            spans,
+        ),
+        Node::Security(name, OfSecurity::UnitLoss(direction)) => unit(
+            sheet, curves, name, *direction,
+        ),
+        Node::Security(_, OfSecurity::Rate(_)) => scaled(spans),
+        Node::Liability(name, OfLiability::Rate(direction)) => cost(
+            sheet, curves, name, *direction,
+        ),
+        Node::Currency(_, OfCurrency::Loss(_)) => lost(spans),
+        Node::Whole(Whole::InterestScenario(direction, measure)) => match measure {
             Measure::Gross => gross(spans),
             Measure::Net => net(spans, sheet.numbers.absorbed(interest_key(*direction))),
         },
-        Node::Choice(_) => choice(spans),
-        Node::Picked(_, measure) => picked(spans, *measure),
-        Node::ClassSum(_) => total(spans),
-        Node::EquityPart(kind) => fall(spans, *kind, sheet.numbers.sym),
-        Node::EquityRoot => equities(spans),
-        Node::NetPart(risk) => net(spans, sheet.numbers.absorbed(risk_key(*risk))),
-        Node::LiabilityPresent(name) => worth(sheet, curves, name),
-        Node::CurrencyScenario(currency, direction, measure) => match measure {
+        Node::Whole(Whole::Choice(_)) => choice(spans),
+        Node::Whole(Whole::Picked(_, measure)) => picked(spans, *measure),
+        Node::Whole(Whole::ClassSum(_)) => total(spans),
+        Node::Whole(Whole::EquityPart(kind)) => fall(spans, *kind, sheet.numbers.sym),
+        Node::Whole(Whole::EquityRoot) => equities(spans),
+        Node::Whole(Whole::NetPart(risk)) => net(spans, sheet.numbers.absorbed(risk_key(*risk))),
+        Node::Liability(name, OfLiability::Present) => worth(sheet, curves, name),
+        Node::Currency(currency, OfCurrency::Scenario(direction, measure)) => match measure {
             Measure::Gross => foreign(sheet, currency, *direction, spans),
             Measure::Net => net(spans, change_absorbed(sheet, currency, *direction)),
         },
-        Node::CurrencyChoice(_) => choice(spans),
-        Node::CurrencyPicked(_, measure) => picked(spans, *measure),
-        Node::Currency(_) => total(spans),
-        Node::Property => property(spans),
-        Node::SecuritySpread(name) => stressed(factors, sheet, name, spans),
-        Node::Spread => spread(spans),
-        Node::GroupTotal(_) => total(spans),
-        Node::Assets => total(spans),
-        Node::ConcentrationSquare(name) => square(factors, sheet, name, spans),
-        Node::Concentration => squares_root(spans),
-        Node::Market(_) => market(spans),
-        Node::LiabilityLoss(name, projection) => excess(sheet, curves, name, *projection),
-        Node::BioScenario(biometric, projection, measure) => match measure {
+        Node::Currency(_, OfCurrency::Choice) => choice(spans),
+        Node::Currency(_, OfCurrency::Picked(measure)) => picked(spans, *measure),
+        Node::Whole(Whole::Currency(_)) => total(spans),
+        Node::Whole(Whole::Property) => property(spans),
+        Node::Security(name, OfSecurity::Spread) => stressed(factors, sheet, name, spans),
+        Node::Whole(Whole::Spread) => spread(spans),
+        Node::Group(_, OfGroup::Total) => total(spans),
+        Node::Whole(Whole::Assets) => total(spans),
+        Node::Group(name, OfGroup::ConcentrationSquare) => square(factors, sheet, name, spans),
+        Node::Whole(Whole::Concentration) => squares_root(spans),
+        Node::Whole(Whole::Market(_)) => market(spans),
+        Node::Liability(name, OfLiability::Loss(projection)) => excess(
+            sheet,
+            curves,
+            name,
+            *projection,
+        ),
+        Node::Whole(Whole::BioScenario(biometric, projection, measure)) => match measure {
             Measure::Gross => gross(spans),
             Measure::Net => net(spans, stress_absorbed(sheet, *biometric, *projection)),
         },
-        Node::Life(_) => life(spans),
-        Node::Slt(_) => slt(spans),
-        Node::GroupLoss(name) => losses(sheet, name),
-        Node::ClassLoss(_) => total(spans),
-        Node::ClassSquare(_) => squares(spans),
-        Node::Variance => variance(spans),
-        Node::DefaultBand => bands(spans),
-        Node::DefaultType1 => banded(spans),
-        Node::DefaultType2 => due(sheet),
-        Node::Default => default(spans),
-        Node::Segment(set, number) => segment(factors, &sheet.numbers, *set, *number),
-        Node::PremiumReserve(set) => premium_reserve(factors, spans, *set),
-        Node::CatCharge(key) => charged(1000, catastrophe_cents(&sheet.numbers, *key)),
-        Node::Lapse(set) => charged(1000, lapse_cents(&sheet.numbers, *set)),
-        Node::Natural => natural(spans),
-        Node::ManMade => man_made(spans),
-        Node::NonlifeCatastrophe => catastrophes(spans),
-        Node::HealthCatastrophe => health_catastrophe(spans),
-        Node::Nslt(_) => nslt(spans, lapse_cents(&sheet.numbers, Set::Nslt)),
-        Node::Health(_) => health(spans),
-        Node::Nonlife(_) => nonlife(spans, lapse_cents(&sheet.numbers, Set::Nl)),
-        Node::Intangible => charged(800, sheet.numbers.intangible),
-        Node::Bscr(_) => bscr(spans, sheet.numbers.intangible),
-        Node::OpPart(part) => match part {
+        Node::Whole(Whole::Life(_)) => life(spans),
+        Node::Whole(Whole::Slt(_)) => slt(spans),
+        Node::Group(name, OfGroup::Loss) => losses(sheet, name),
+        Node::Whole(Whole::ClassLoss(_)) => total(spans),
+        Node::Whole(Whole::ClassSquare(_)) => squares(spans),
+        Node::Whole(Whole::Variance) => variance(spans),
+        Node::Whole(Whole::DefaultBand) => bands(spans),
+        Node::Whole(Whole::DefaultType1) => banded(spans),
+        Node::Whole(Whole::DefaultType2) => due(sheet),
+        Node::Whole(Whole::Default) => default(spans),
+        Node::Whole(Whole::Segment(set, number)) => segment(factors, &sheet.numbers, *set, *number),
+        Node::Whole(Whole::PremiumReserve(set)) => premium_reserve(factors, spans, *set),
+        Node::Whole(Whole::CatCharge(key)) => charged(
+            1000,
+            catastrophe_cents(&sheet.numbers, *key),
+        ),
+        Node::Whole(Whole::Lapse(set)) => charged(1000, lapse_cents(&sheet.numbers, *set)),
+        Node::Whole(Whole::Natural) => natural(spans),
+        Node::Whole(Whole::ManMade) => man_made(spans),
+        Node::Whole(Whole::NonlifeCatastrophe) => catastrophes(spans),
+        Node::Whole(Whole::HealthCatastrophe) => health_catastrophe(spans),
+        Node::Whole(Whole::Nslt(_)) => nslt(spans, lapse_cents(&sheet.numbers, Set::Nslt)),
+        Node::Whole(Whole::Health(_)) => health(spans),
+        Node::Whole(Whole::Nonlife(_)) => nonlife(spans, lapse_cents(&sheet.numbers, Set::Nl)),
+        Node::Whole(Whole::Intangible) => charged(800, sheet.numbers.intangible),
+        Node::Whole(Whole::Bscr(_)) => bscr(spans, sheet.numbers.intangible),
+        Node::Whole(Whole::OpPart(part)) => match part {
             Operational::Premiums => premiums(&sheet.numbers),
             Operational::Provisions => provisions(&sheet.numbers),
             Operational::Cap => cap(spans),
             Operational::Charge => charge(spans, sheet.numbers.earned[6]),
         },
-        Node::Adjust(adjustment) => match adjustment {
+        Node::Whole(Whole::Adjust(adjustment)) => match adjustment {
             Adjustment::TechnicalProvisions => absorbing(spans, sheet.numbers.fdb),
             Adjustment::DeferredTaxes => taxed(spans, sheet.numbers.tax, sheet.numbers.cap),
         },
-        Node::Scr => requirement(spans),
-        Node::Diversification => diversification(spans, sheet.numbers.intangible),
+        Node::Whole(Whole::Scr) => requirement(spans),
+        Node::Whole(Whole::Diversification) => diversification(spans, sheet.numbers.intangible),
     }
 }
 

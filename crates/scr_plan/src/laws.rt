@@ -17,6 +17,10 @@ ghost use Rattle.scr_nodes.specs.declared.node.Biometric.TheVariants as biometri
 ghost use Rattle.scr_nodes.specs.declared.node.Direction.TheVariants as directions;
 ghost use Rattle.scr_nodes.specs.declared.node.Node.{Node};
 ghost use Rattle.scr_nodes.specs.declared.node.Node.TheVariants as nodes;
+ghost use Rattle.scr_nodes.specs.declared.node.OfFund.TheVariants as of_funds;
+ghost use Rattle.scr_nodes.specs.declared.node.OfSecurity.TheVariants as of_securities;
+ghost use Rattle.scr_nodes.specs.declared.node.OfCurrency.TheVariants as of_currencies;
+ghost use Rattle.scr_nodes.specs.declared.node.Whole.TheVariants as wholes;
 ghost use Rattle.scr_nodes.specs.Live.{is_live};
 ghost use Rattle.scr_nodes.specs.OwnOf.{own_of};
 ghost use Rattle.scr_nodes.specs.Sources.{sources_of};
@@ -53,10 +57,10 @@ pub fn recursion()
 pub fn totals()
     ensures fund { (factors : FactorValues) (sheet : BalanceSheet) → Valid sheet → (name : List ℕ)
         → has_row stake_name name sheet.funds ≡ true
-        → worked factors sheet (nodes.FundTotal name) ≡ exact_ends (pos (total_of sheet name)) }
+        → worked factors sheet (nodes.Fund name of_funds.Total) ≡ exact_ends (pos (total_of sheet name)) }
     ensures security { (factors : FactorValues) (sheet : BalanceSheet) → Valid sheet → (name : List ℕ)
         → has_row position_name name sheet.securities ≡ true
-        → worked factors sheet (nodes.SecurityTotal name) ≡ exact_ends (pos (total_of sheet name)) }
+        → worked factors sheet (nodes.Security name of_securities.Total) ≡ exact_ends (pos (total_of sheet name)) }
 {}
 
 /// For factors in form, every valid balance sheet and every live node the rule fits the node's own data and the worked
@@ -75,10 +79,10 @@ pub fn enclosure()
         → is_live sheet node ≡ true → (figure : Figure) → exact factors sheet node ≡ Some figure
         → Encloses (unit_of node) (worked factors sheet node).low (worked factors sheet node).high figure }
     ensures interest { (factors : FactorValues) (sheet : BalanceSheet) → Valid sheet
-        → IsBitSet (amount_of (worked factors sheet (nodes.Choice alternatives.Interest)))
+        → IsBitSet (amount_of (worked factors sheet (nodes.Whole (wholes.Choice alternatives.Interest))))
         (chosen (scenario_of sheet directions.Up ∷ scenario_of sheet directions.Down ∷ [])) }
     ensures currency { (factors : FactorValues) (sheet : BalanceSheet) → Valid sheet → (currency : List ℕ)
-        → IsBitSet (amount_of (worked factors sheet (nodes.CurrencyChoice currency)))
+        → IsBitSet (amount_of (worked factors sheet (nodes.Currency currency of_currencies.Choice)))
         (chosen (change_outcomes sheet currency)) }
 {}
 
@@ -86,10 +90,10 @@ pub fn enclosure()
 /// requirements after absorption (Delegated Regulation (EU) 2015/35, Articles 142(1), 159(1) and 206(2)).
 pub fn lapses()
     ensures life { (factors : FactorValues) (sheet : BalanceSheet) → Valid sheet
-        → IsBitSet (amount_of (worked factors sheet (nodes.Choice alternatives.LifeLapse)))
+        → IsBitSet (amount_of (worked factors sheet (nodes.Whole (wholes.Choice alternatives.LifeLapse))))
         (chosen (lapse_outcomes sheet biometrics.Life)) }
     ensures health { (factors : FactorValues) (sheet : BalanceSheet) → Valid sheet
-        → IsBitSet (amount_of (worked factors sheet (nodes.Choice alternatives.HealthLapse)))
+        → IsBitSet (amount_of (worked factors sheet (nodes.Whole (wholes.Choice alternatives.HealthLapse))))
         (chosen (lapse_outcomes sheet biometrics.Health)) }
 {}
 
@@ -97,7 +101,7 @@ pub fn lapses()
 /// variance (Article 200).
 pub fn default_bands()
     ensures decisive { (factors : FactorValues) (sheet : BalanceSheet) → Valid sheet
-        → IsBitSet (amount_of (worked factors sheet nodes.DefaultBand)) (default_band sheet) }
+        → IsBitSet (amount_of (worked factors sheet (nodes.Whole wholes.DefaultBand))) (default_band sheet) }
 {}
 
 /// The losses given default in grains, of which the variance is worked out, are exactly those of Article 192.

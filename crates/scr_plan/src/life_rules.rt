@@ -5,6 +5,7 @@ ghost use Rattle.scr_num.specs.Rounding.{ends};
 ghost use Rattle.scr_bio.specs.BiometricEnds.{life_ends, slt_ends};
 ghost use Rattle.scr_nodes.specs.OwnOf.{liability_valued, paid_under, stress_absorbed as absorbed_of_stress};
 ghost use Rattle.scr_nodes.specs.declared.node.Node.TheVariants as nodes;
+ghost use Rattle.scr_nodes.specs.declared.node.OfLiability.TheVariants as of_liabilities;
 ghost use Rattle.scr_sheet.specs.Validity.{Valid};
 ghost use Rattle.scr_plan.specs.Figures.{figures_from};
 ghost use Rattle.scr_plan.specs.Kept.{rows_of, row_in, discounts_in, AreDiscountsOf};
@@ -37,7 +38,7 @@ pub(crate) fn excess(
     requires rows { AreDiscountsOf sheet.now.curves (rows_of curves.now) }
     ensures { ends result
         ≡ excess_ends (liability_valued sheet.now name.now) (paid_under sheet.now name.now projection)
-        (discounts_in sheet.now (rows_of curves.now) (nodes.LiabilityLoss name.now projection)) }
+        (discounts_in sheet.now (rows_of curves.now) (nodes.Liability name.now (of_liabilities.Loss projection))) }
 {
     let Some(liability) = sheet.liabilities.get(name) else {
         unreachable!()

@@ -15,6 +15,9 @@ ghost use Rattle.scr_sheet.specs.Validity.{Valid};
 ghost use Rattle.scr_nodes.specs.OwnOf.{own_of, held_in, liability_valued};
 ghost use Rattle.scr_nodes.specs.Rows.{is_held_in, step_of};
 ghost use Rattle.scr_nodes.specs.declared.node.Node.TheVariants as nodes;
+ghost use Rattle.scr_nodes.specs.declared.node.OfSecurity.TheVariants as of_securities;
+ghost use Rattle.scr_nodes.specs.declared.node.OfLiability.TheVariants as of_liabilities;
+ghost use Rattle.scr_nodes.specs.declared.node.OfGroup.TheVariants as of_groups;
 ghost use Rattle.scr_plan.specs.Discounts.{no_discounts};
 ghost use Rattle.scr_plan.specs.Fits.{Fits};
 ghost use Rattle.scr_plan.specs.Kept.{rows_of, row_in, discounts_in, AreDiscountsOf};
@@ -41,7 +44,7 @@ pub(crate) fn worth(sheet: &BalanceSheet, curves: &Curves, name: &Name) -> Span
     requires fits { FitsWorth (liability_valued sheet.now name.now) }
     requires rows { AreDiscountsOf sheet.now.curves (rows_of curves.now) }
     ensures { ends result ≡ worth_ends (liability_valued sheet.now name.now)
-        (discounts_in sheet.now (rows_of curves.now) (nodes.LiabilityPresent name.now)) }
+        (discounts_in sheet.now (rows_of curves.now) (nodes.Liability name.now of_liabilities.Present)) }
 {
     let Some(liability) = sheet.liabilities.get(name) else {
         unreachable!()
@@ -123,9 +126,9 @@ pub(crate) fn property(spans: &[Span]) -> Span
 
 /// What a bond loses, by its step, or none, and its duration.
 pub(crate) fn stressed(factors: &Factors, sheet: &BalanceSheet, name: &Name, spans: &[Span]) -> Span
-    requires { Fits (own_of factors.now sheet.now (nodes.SecuritySpread name.now))
+    requires { Fits (own_of factors.now sheet.now (nodes.Security name.now of_securities.Spread))
         (map ends spans.now) }
-    ensures { ends result ≡ rule (own_of factors.now sheet.now (nodes.SecuritySpread name.now))
+    ensures { ends result ≡ rule (own_of factors.now sheet.now (nodes.Security name.now of_securities.Spread))
         no_discounts (map ends spans.now) }
 {
     let cents = at(spans, 0);
@@ -186,9 +189,9 @@ pub(crate) fn spread(spans: &[Span]) -> Span
 
 /// The square of the requirement for a group, by its kind and its step, or none.
 pub(crate) fn square(factors: &Factors, sheet: &BalanceSheet, name: &Name, spans: &[Span]) -> Span
-    requires { Fits (own_of factors.now sheet.now (nodes.ConcentrationSquare name.now))
+    requires { Fits (own_of factors.now sheet.now (nodes.Group name.now of_groups.ConcentrationSquare))
         (map ends spans.now) }
-    ensures { ends result ≡ rule (own_of factors.now sheet.now (nodes.ConcentrationSquare name.now))
+    ensures { ends result ≡ rule (own_of factors.now sheet.now (nodes.Group name.now of_groups.ConcentrationSquare))
         no_discounts (map ends spans.now) }
 {
     let assets = at(spans, 0);

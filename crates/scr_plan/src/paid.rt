@@ -13,6 +13,8 @@ ghost use Rattle.scr_plan.specs.Kept.{rows_of, row_in, discounts_in, IsTable, Ar
 ghost use Rattle.scr_plan.specs.Rules.{paid_ends};
 ghost use Rattle.scr_plan.specs.Paid.{paid_in};
 ghost use Rattle.scr_nodes.specs.declared.node.Node.TheVariants as nodes;
+ghost use Rattle.scr_nodes.specs.declared.node.OfSecurity.TheVariants as of_securities;
+ghost use Rattle.scr_nodes.specs.declared.node.OfLiability.TheVariants as of_liabilities;
 
 use crate::Curves;
 use scr_book::{BalanceSheet, Name};
@@ -28,7 +30,7 @@ pub(crate) fn unit(sheet: &BalanceSheet, curves: &Curves, name: &Name, direction
     requires fits { FitsPaid (security_paid sheet.now name.now direction) }
     requires rows { AreDiscountsOf sheet.now.curves (rows_of curves.now) }
     ensures { ends result ≡ paid_ends (security_paid sheet.now name.now direction)
-        (discounts_in sheet.now (rows_of curves.now) (nodes.UnitLoss name.now direction)) }
+        (discounts_in sheet.now (rows_of curves.now) (nodes.Security name.now (of_securities.UnitLoss direction))) }
 {
     let Some(position) = sheet.securities.get(name) else {
         unreachable!()
@@ -49,7 +51,7 @@ pub(crate) fn cost(sheet: &BalanceSheet, curves: &Curves, name: &Name, direction
     requires fits { FitsPaid (liability_paid sheet.now name.now direction) }
     requires rows { AreDiscountsOf sheet.now.curves (rows_of curves.now) }
     ensures { ends result ≡ sub_ends (exact_ends (pos 0)) (paid_ends (liability_paid sheet.now name.now direction)
-        (discounts_in sheet.now (rows_of curves.now) (nodes.LiabilityRate name.now direction))) }
+        (discounts_in sheet.now (rows_of curves.now) (nodes.Liability name.now (of_liabilities.Rate direction)))) }
 {
     let Some(liability) = sheet.liabilities.get(name) else {
         unreachable!()

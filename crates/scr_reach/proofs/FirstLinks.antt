@@ -17,6 +17,8 @@ use Rattle.scr_sheet.specs.declared.sheet.BalanceSheet.{BalanceSheet}
 use Rattle.scr_sheet.proofs.HeldNames.{member-row, names-once}
 use Rattle.scr_nodes.specs.declared.node.Node.{Node}
 use Rattle.scr_nodes.specs.declared.node.Node.TheVariants as nodes
+use Rattle.scr_nodes.specs.declared.node.OfFund.TheVariants as of_funds
+use Rattle.scr_nodes.specs.declared.node.OfSecurity.TheVariants as of_securities
 use Rattle.scr_nodes.specs.Live.{is_live}
 use Rattle.scr_nodes.specs.LiveNodes.{HasNoRepeats, constant_nodes, families, flat, foreigns, losses_of, payings, rest_nodes, total_nodes}
 use Rattle.scr_nodes.specs.Rows.{has_class, has_flows, holds, is_component}
@@ -219,22 +221,22 @@ total-is places name has p n at is = has.one p n at is ∙ sym (total-placed pla
 
 -- a figure that is a total of a name
 total-cases : (name : List ℕ) (n : Node) → is_total_of name n ≡ true
-    → (n ≡ nodes.FundTotal name) ⊎ (n ≡ nodes.SecurityTotal name)
-total-cases name (nodes.FundTotal own) is = inl (ap (λ (x : List ℕ). nodes.FundTotal x) (sym
+    → (n ≡ nodes.Fund name of_funds.Total) ⊎ (n ≡ nodes.Security name of_securities.Total)
+total-cases name (nodes.Fund own of_funds.Total) is = inl (ap (λ (x : List ℕ). nodes.Fund x of_funds.Total) (sym
     (same_name-is name own is)))
-total-cases name (nodes.SecurityTotal own) is = inr (ap (λ (x : List ℕ). nodes.SecurityTotal x) (sym
+total-cases name (nodes.Security own of_securities.Total) is = inr (ap (λ (x : List ℕ). nodes.Security x of_securities.Total) (sym
     (same_name-is name own is)))
 total-cases name node is = absurd (cc)
 
 -- one of the two is found
 pub total-none : (places : List Node) (name : List ℕ) → HasTotal places name
-    → (Contains places (nodes.SecurityTotal name) → ⊥)
-    → (Contains places (nodes.FundTotal name) → ⊥) → ⊥
+    → (Contains places (nodes.Security name of_securities.Total) → ⊥)
+    → (Contains places (nodes.Fund name of_funds.Total) → ⊥) → ⊥
 total-none places name has not_security not_fund = by (total-cases name has.node has.of)
   where
-    by : (has.node ≡ nodes.FundTotal name) ⊎ (has.node ≡ nodes.SecurityTotal name) → ⊥
-    by (inl e) = not_fund (get-contains places has.place (nodes.FundTotal name) (has.at ∙ ap Some e))
-    by (inr e) = not_security (get-contains places has.place (nodes.SecurityTotal name) (has.at ∙ ap Some e))
+    by : (has.node ≡ nodes.Fund name of_funds.Total) ⊎ (has.node ≡ nodes.Security name of_securities.Total) → ⊥
+    by (inl e) = not_fund (get-contains places has.place (nodes.Fund name of_funds.Total) (has.at ∙ ap Some e))
+    by (inr e) = not_security (get-contains places has.place (nodes.Security name of_securities.Total) (has.at ∙ ap Some e))
 
 apart-append : (xs ys : List (List ℕ)) → IsDistinct same_name (xs ++ ys) → (x : List ℕ) → IsMember x xs
     → IsMember x ys → ⊥
@@ -252,13 +254,13 @@ apart-append (z ∷ xs) ys once x (inr h) k = apart-append xs ys once.1 x h k
 -- ---- no total is in the list of the others
 
 abbrev is_total : Node → Bool
-is_total (nodes.FundTotal name) = true
-is_total (nodes.SecurityTotal name) = true
+is_total (nodes.Fund name of_funds.Total) = true
+is_total (nodes.Security name of_securities.Total) = true
 is_total node = false
 
 no-total-of : (n : Node) → is_total n ≡ false → (name : List ℕ) → is_total_of name n ≡ false
-no-total-of (nodes.FundTotal own) not_so name = absurd (cc)
-no-total-of (nodes.SecurityTotal own) not_so name = absurd (cc)
+no-total-of (nodes.Fund own of_funds.Total) not_so name = absurd (cc)
+no-total-of (nodes.Security own of_securities.Total) not_so name = absurd (cc)
 no-total-of node not_so name = refl
 
 abbrev IsOther : Node → Type 0
@@ -445,8 +447,8 @@ module _ (sheet : BalanceSheet) (valid : Valid sheet) where
         → is_live sheet m ≡ true → is_live sheet n ≡ true → m ≡ n
     one-total name m n is also there live = by (total-cases name m is) (total-cases name n also)
       where
-        by : (m ≡ nodes.FundTotal name) ⊎ (m ≡ nodes.SecurityTotal name)
-            → (n ≡ nodes.FundTotal name) ⊎ (n ≡ nodes.SecurityTotal name) → m ≡ n
+        by : (m ≡ nodes.Fund name of_funds.Total) ⊎ (m ≡ nodes.Security name of_securities.Total)
+            → (n ≡ nodes.Fund name of_funds.Total) ⊎ (n ≡ nodes.Security name of_securities.Total) → m ≡ n
         by (inl e) (inl f) = e ∙ sym f
         by (inl e) (inr f) = absurd (names-apart name (sym (ap (is_live sheet) e)
             ∙ there) (sym (ap (is_live sheet) f) ∙ live))
@@ -473,8 +475,8 @@ module _ (sheet : BalanceSheet) (valid : Valid sheet) where
       where
         by : (has_row position_name name sheet.securities ≡ true) ⊎ (has_row stake_name name sheet.funds ≡ true)
             → HasTotal places name
-        by (inl e) = has-total name (nodes.SecurityTotal name) (same_name-itself name) e
-        by (inr e) = has-total name (nodes.FundTotal name) (same_name-itself name) e
+        by (inl e) = has-total name (nodes.Security name of_securities.Total) (same_name-itself name) e
+        by (inr e) = has-total name (nodes.Fund name of_funds.Total) (same_name-itself name) e
 
     -- ---- what leads to the place of a figure
 
@@ -620,10 +622,10 @@ module _ (sheet : BalanceSheet) (valid : Valid sheet) where
 
       sources-at : (place : ℕ) (node : Node) → slice_get places place ≡ Some node
           → AreAt places (sources_in edges place) (sources_of sheet node)
-      sources-at place (nodes.FundTotal name) at =
-          of-total place (nodes.FundTotal name) at name (λ other. same_name-flip other name) refl
-      sources-at place (nodes.SecurityTotal name) at =
-          of-total place (nodes.SecurityTotal name) at name (λ other. same_name-flip other name) refl
+      sources-at place (nodes.Fund name of_funds.Total) at =
+          of-total place (nodes.Fund name of_funds.Total) at name (λ other. same_name-flip other name) refl
+      sources-at place (nodes.Security name of_securities.Total) at =
+          of-total place (nodes.Security name of_securities.Total) at name (λ other. same_name-flip other name) refl
       sources-at place node at = of-rest place node at (in-rest sheet valid node (λ name. refl)
           (first.live place node at))
 

@@ -14,6 +14,12 @@ use Rattle.scr_nodes.specs.declared.node.Equities.{Equities}
 use Rattle.scr_nodes.specs.declared.node.Measure.TheVariants as measures
 use Rattle.scr_nodes.specs.declared.node.Measure.{Measure}
 use Rattle.scr_nodes.specs.declared.node.Node.TheVariants as nodes
+use Rattle.scr_nodes.specs.declared.node.OfFund.TheVariants as of_funds
+use Rattle.scr_nodes.specs.declared.node.OfSecurity.TheVariants as of_securities
+use Rattle.scr_nodes.specs.declared.node.OfLiability.TheVariants as of_liabilities
+use Rattle.scr_nodes.specs.declared.node.OfCurrency.TheVariants as of_currencies
+use Rattle.scr_nodes.specs.declared.node.OfGroup.TheVariants as of_groups
+use Rattle.scr_nodes.specs.declared.node.Whole.TheVariants as wholes
 use Rattle.scr_nodes.specs.declared.node.Node.{Node}
 use Rattle.scr_nodes.specs.declared.node.Operational.TheVariants as operationals
 use Rattle.scr_nodes.specs.declared.node.Operational.{Operational}
@@ -173,61 +179,61 @@ set-back sets.Nslt = refl
 -- ---- the figure of a key
 
 abbrev node_at : Family → List ℕ → ℕ → ℕ → ℕ → Node
-node_at families.FundTotal name a b c = nodes.FundTotal name
-node_at families.SecurityTotal name a b c = nodes.SecurityTotal name
-node_at families.UnitLoss name a b c = nodes.UnitLoss name (direction_of a)
-node_at families.SecurityRate name a b c = nodes.SecurityRate name (direction_of a)
-node_at families.LiabilityRate name a b c = nodes.LiabilityRate name (direction_of a)
-node_at families.LiabilityPresent name a b c = nodes.LiabilityPresent name
-node_at families.LiabilityLoss name a b c = nodes.LiabilityLoss name (projection_of a)
-node_at families.CurrencyLoss name a b c = nodes.CurrencyLoss name (direction_of a)
-node_at families.InterestScenario name a b c = nodes.InterestScenario (direction_of a) (measure_of b)
-node_at families.Choice name a b c = nodes.Choice (alternatives_of a)
-node_at families.Picked name a b c = nodes.Picked (alternatives_of a) (measure_of b)
-node_at families.CurrencyScenario name a b c = nodes.CurrencyScenario name (direction_of a) (measure_of b)
-node_at families.CurrencyChoice name a b c = nodes.CurrencyChoice name
-node_at families.CurrencyPicked name a b c = nodes.CurrencyPicked name (measure_of a)
-node_at families.Currency name a b c = nodes.Currency (measure_of a)
-node_at families.ClassSum name a b c = nodes.ClassSum (class_of a)
-node_at families.EquityPart name a b c = nodes.EquityPart (equities_of a)
-node_at families.EquityRoot name a b c = nodes.EquityRoot
-node_at families.Property name a b c = nodes.Property
-node_at families.SecuritySpread name a b c = nodes.SecuritySpread name
-node_at families.Spread name a b c = nodes.Spread
-node_at families.GroupTotal name a b c = nodes.GroupTotal name
-node_at families.Assets name a b c = nodes.Assets
-node_at families.ConcentrationSquare name a b c = nodes.ConcentrationSquare name
-node_at families.Concentration name a b c = nodes.Concentration
-node_at families.NetPart name a b c = nodes.NetPart (risk_of a)
-node_at families.Market name a b c = nodes.Market (measure_of a)
-node_at families.GroupLoss name a b c = nodes.GroupLoss name
-node_at families.ClassLoss name a b c = nodes.ClassLoss a
-node_at families.ClassSquare name a b c = nodes.ClassSquare a
-node_at families.Variance name a b c = nodes.Variance
-node_at families.DefaultBand name a b c = nodes.DefaultBand
-node_at families.DefaultType1 name a b c = nodes.DefaultType1
-node_at families.DefaultType2 name a b c = nodes.DefaultType2
-node_at families.Default name a b c = nodes.Default
-node_at families.BioScenario name a b c = nodes.BioScenario (biometric_of a) (projection_of b) (measure_of c)
-node_at families.Life name a b c = nodes.Life (measure_of a)
-node_at families.Slt name a b c = nodes.Slt (measure_of a)
-node_at families.Segment name a b c = nodes.Segment (set_of a) b
-node_at families.PremiumReserve name a b c = nodes.PremiumReserve (set_of a)
-node_at families.CatCharge name a b c = nodes.CatCharge (catastrophe_of a)
-node_at families.Lapse name a b c = nodes.Lapse (set_of a)
-node_at families.Natural name a b c = nodes.Natural
-node_at families.ManMade name a b c = nodes.ManMade
-node_at families.NonlifeCatastrophe name a b c = nodes.NonlifeCatastrophe
-node_at families.HealthCatastrophe name a b c = nodes.HealthCatastrophe
-node_at families.Nslt name a b c = nodes.Nslt (measure_of a)
-node_at families.Health name a b c = nodes.Health (measure_of a)
-node_at families.Nonlife name a b c = nodes.Nonlife (measure_of a)
-node_at families.Intangible name a b c = nodes.Intangible
-node_at families.Bscr name a b c = nodes.Bscr (measure_of a)
-node_at families.OpPart name a b c = nodes.OpPart (operational_of a)
-node_at families.Adjust name a b c = nodes.Adjust (adjustment_of a)
-node_at families.Scr name a b c = nodes.Scr
-node_at families.Diversification name a b c = nodes.Diversification
+node_at families.FundTotal name a b c = nodes.Fund name of_funds.Total
+node_at families.SecurityTotal name a b c = nodes.Security name of_securities.Total
+node_at families.UnitLoss name a b c = nodes.Security name (of_securities.UnitLoss (direction_of a))
+node_at families.SecurityRate name a b c = nodes.Security name (of_securities.Rate (direction_of a))
+node_at families.LiabilityRate name a b c = nodes.Liability name (of_liabilities.Rate (direction_of a))
+node_at families.LiabilityPresent name a b c = nodes.Liability name of_liabilities.Present
+node_at families.LiabilityLoss name a b c = nodes.Liability name (of_liabilities.Loss (projection_of a))
+node_at families.CurrencyLoss name a b c = nodes.Currency name (of_currencies.Loss (direction_of a))
+node_at families.InterestScenario name a b c = nodes.Whole (wholes.InterestScenario (direction_of a) (measure_of b))
+node_at families.Choice name a b c = nodes.Whole (wholes.Choice (alternatives_of a))
+node_at families.Picked name a b c = nodes.Whole (wholes.Picked (alternatives_of a) (measure_of b))
+node_at families.CurrencyScenario name a b c = nodes.Currency name (of_currencies.Scenario (direction_of a) (measure_of b))
+node_at families.CurrencyChoice name a b c = nodes.Currency name of_currencies.Choice
+node_at families.CurrencyPicked name a b c = nodes.Currency name (of_currencies.Picked (measure_of a))
+node_at families.Currency name a b c = nodes.Whole (wholes.Currency (measure_of a))
+node_at families.ClassSum name a b c = nodes.Whole (wholes.ClassSum (class_of a))
+node_at families.EquityPart name a b c = nodes.Whole (wholes.EquityPart (equities_of a))
+node_at families.EquityRoot name a b c = (nodes.Whole wholes.EquityRoot)
+node_at families.Property name a b c = (nodes.Whole wholes.Property)
+node_at families.SecuritySpread name a b c = nodes.Security name of_securities.Spread
+node_at families.Spread name a b c = (nodes.Whole wholes.Spread)
+node_at families.GroupTotal name a b c = nodes.Group name of_groups.Total
+node_at families.Assets name a b c = (nodes.Whole wholes.Assets)
+node_at families.ConcentrationSquare name a b c = nodes.Group name of_groups.ConcentrationSquare
+node_at families.Concentration name a b c = (nodes.Whole wholes.Concentration)
+node_at families.NetPart name a b c = nodes.Whole (wholes.NetPart (risk_of a))
+node_at families.Market name a b c = nodes.Whole (wholes.Market (measure_of a))
+node_at families.GroupLoss name a b c = nodes.Group name of_groups.Loss
+node_at families.ClassLoss name a b c = nodes.Whole (wholes.ClassLoss a)
+node_at families.ClassSquare name a b c = nodes.Whole (wholes.ClassSquare a)
+node_at families.Variance name a b c = (nodes.Whole wholes.Variance)
+node_at families.DefaultBand name a b c = (nodes.Whole wholes.DefaultBand)
+node_at families.DefaultType1 name a b c = (nodes.Whole wholes.DefaultType1)
+node_at families.DefaultType2 name a b c = (nodes.Whole wholes.DefaultType2)
+node_at families.Default name a b c = (nodes.Whole wholes.Default)
+node_at families.BioScenario name a b c = nodes.Whole (wholes.BioScenario (biometric_of a) (projection_of b) (measure_of c))
+node_at families.Life name a b c = nodes.Whole (wholes.Life (measure_of a))
+node_at families.Slt name a b c = nodes.Whole (wholes.Slt (measure_of a))
+node_at families.Segment name a b c = nodes.Whole (wholes.Segment (set_of a) b)
+node_at families.PremiumReserve name a b c = nodes.Whole (wholes.PremiumReserve (set_of a))
+node_at families.CatCharge name a b c = nodes.Whole (wholes.CatCharge (catastrophe_of a))
+node_at families.Lapse name a b c = nodes.Whole (wholes.Lapse (set_of a))
+node_at families.Natural name a b c = (nodes.Whole wholes.Natural)
+node_at families.ManMade name a b c = (nodes.Whole wholes.ManMade)
+node_at families.NonlifeCatastrophe name a b c = (nodes.Whole wholes.NonlifeCatastrophe)
+node_at families.HealthCatastrophe name a b c = (nodes.Whole wholes.HealthCatastrophe)
+node_at families.Nslt name a b c = nodes.Whole (wholes.Nslt (measure_of a))
+node_at families.Health name a b c = nodes.Whole (wholes.Health (measure_of a))
+node_at families.Nonlife name a b c = nodes.Whole (wholes.Nonlife (measure_of a))
+node_at families.Intangible name a b c = (nodes.Whole wholes.Intangible)
+node_at families.Bscr name a b c = nodes.Whole (wholes.Bscr (measure_of a))
+node_at families.OpPart name a b c = nodes.Whole (wholes.OpPart (operational_of a))
+node_at families.Adjust name a b c = nodes.Whole (wholes.Adjust (adjustment_of a))
+node_at families.Scr name a b c = (nodes.Whole wholes.Scr)
+node_at families.Diversification name a b c = (nodes.Whole wholes.Diversification)
 
 abbrev pub node_of : Key → Node
 node_of key =
@@ -235,60 +241,60 @@ node_of key =
 
 -- it is the figure whose key it is
 pub node_of-key : (node : Node) → node_of (key_of node) ≡ node
-node_of-key (nodes.FundTotal name) = refl
-node_of-key (nodes.SecurityTotal name) = refl
-node_of-key (nodes.UnitLoss name way) = ap (nodes.UnitLoss name) (direction-back way)
-node_of-key (nodes.SecurityRate name way) = ap (nodes.SecurityRate name) (direction-back way)
-node_of-key (nodes.LiabilityRate name way) = ap (nodes.LiabilityRate name) (direction-back way)
-node_of-key (nodes.LiabilityPresent name) = refl
-node_of-key (nodes.LiabilityLoss name stress) = ap (nodes.LiabilityLoss name) (projection-back stress)
-node_of-key (nodes.CurrencyLoss currency way) = ap (nodes.CurrencyLoss currency) (direction-back way)
-node_of-key (nodes.InterestScenario way taken) = ap₂ (λ (d : Direction) (m : Measure). nodes.InterestScenario d m) (direction-back way) (measure-back taken)
-node_of-key (nodes.Choice which) = ap nodes.Choice (alternatives-back which)
-node_of-key (nodes.Picked which taken) = ap₂ (λ (a : Alternatives) (m : Measure). nodes.Picked a m) (alternatives-back which) (measure-back taken)
-node_of-key (nodes.CurrencyScenario currency way taken) = ap₂ (λ (d : Direction) (m : Measure). nodes.CurrencyScenario currency d m) (direction-back way) (measure-back taken)
-node_of-key (nodes.CurrencyChoice currency) = refl
-node_of-key (nodes.CurrencyPicked currency taken) = ap (nodes.CurrencyPicked currency) (measure-back taken)
-node_of-key (nodes.Currency taken) = ap nodes.Currency (measure-back taken)
-node_of-key (nodes.ClassSum of) = ap nodes.ClassSum (class-back of)
-node_of-key (nodes.EquityPart kind) = ap nodes.EquityPart (equities-back kind)
-node_of-key nodes.EquityRoot = refl
-node_of-key nodes.Property = refl
-node_of-key (nodes.SecuritySpread name) = refl
-node_of-key nodes.Spread = refl
-node_of-key (nodes.GroupTotal name) = refl
-node_of-key nodes.Assets = refl
-node_of-key (nodes.ConcentrationSquare name) = refl
-node_of-key nodes.Concentration = refl
-node_of-key (nodes.NetPart of) = ap nodes.NetPart (risk-back of)
-node_of-key (nodes.Market taken) = ap nodes.Market (measure-back taken)
-node_of-key (nodes.GroupLoss name) = refl
-node_of-key (nodes.ClassLoss number) = refl
-node_of-key (nodes.ClassSquare number) = refl
-node_of-key nodes.Variance = refl
-node_of-key nodes.DefaultBand = refl
-node_of-key nodes.DefaultType1 = refl
-node_of-key nodes.DefaultType2 = refl
-node_of-key nodes.Default = refl
-node_of-key (nodes.BioScenario obligations stress taken) =
-    ap₂ (λ (b : Biometric) (p : Projection). nodes.BioScenario b p (measure_of (measure_number taken))) (biometric-back obligations) (projection-back stress)
-    ∙ ap (nodes.BioScenario obligations stress) (measure-back taken)
-node_of-key (nodes.Life taken) = ap nodes.Life (measure-back taken)
-node_of-key (nodes.Slt taken) = ap nodes.Slt (measure-back taken)
-node_of-key (nodes.Segment of number) = ap (λ (s : Set). nodes.Segment s number) (set-back of)
-node_of-key (nodes.PremiumReserve of) = ap nodes.PremiumReserve (set-back of)
-node_of-key (nodes.CatCharge of) = ap nodes.CatCharge (catastrophe-back of)
-node_of-key (nodes.Lapse of) = ap nodes.Lapse (set-back of)
-node_of-key nodes.Natural = refl
-node_of-key nodes.ManMade = refl
-node_of-key nodes.NonlifeCatastrophe = refl
-node_of-key nodes.HealthCatastrophe = refl
-node_of-key (nodes.Nslt taken) = ap nodes.Nslt (measure-back taken)
-node_of-key (nodes.Health taken) = ap nodes.Health (measure-back taken)
-node_of-key (nodes.Nonlife taken) = ap nodes.Nonlife (measure-back taken)
-node_of-key nodes.Intangible = refl
-node_of-key (nodes.Bscr taken) = ap nodes.Bscr (measure-back taken)
-node_of-key (nodes.OpPart of) = ap nodes.OpPart (operational-back of)
-node_of-key (nodes.Adjust by) = ap nodes.Adjust (adjustment-back by)
-node_of-key nodes.Scr = refl
-node_of-key nodes.Diversification = refl
+node_of-key (nodes.Fund name of_funds.Total) = refl
+node_of-key (nodes.Security name of_securities.Total) = refl
+node_of-key (nodes.Security name (of_securities.UnitLoss way)) = ap ((λ one. nodes.Security name (of_securities.UnitLoss one))) (direction-back way)
+node_of-key (nodes.Security name (of_securities.Rate way)) = ap ((λ one. nodes.Security name (of_securities.Rate one))) (direction-back way)
+node_of-key (nodes.Liability name (of_liabilities.Rate way)) = ap ((λ one. nodes.Liability name (of_liabilities.Rate one))) (direction-back way)
+node_of-key (nodes.Liability name of_liabilities.Present) = refl
+node_of-key (nodes.Liability name (of_liabilities.Loss stress)) = ap ((λ one. nodes.Liability name (of_liabilities.Loss one))) (projection-back stress)
+node_of-key (nodes.Currency currency (of_currencies.Loss way)) = ap ((λ one. nodes.Currency currency (of_currencies.Loss one))) (direction-back way)
+node_of-key (nodes.Whole (wholes.InterestScenario way taken)) = ap₂ (λ (d : Direction) (m : Measure). nodes.Whole (wholes.InterestScenario d m)) (direction-back way) (measure-back taken)
+node_of-key (nodes.Whole (wholes.Choice which)) = ap (λ name. nodes.Whole (wholes.Choice name)) (alternatives-back which)
+node_of-key (nodes.Whole (wholes.Picked which taken)) = ap₂ (λ (a : Alternatives) (m : Measure). nodes.Whole (wholes.Picked a m)) (alternatives-back which) (measure-back taken)
+node_of-key (nodes.Currency currency (of_currencies.Scenario way taken)) = ap₂ (λ (d : Direction) (m : Measure). nodes.Currency currency (of_currencies.Scenario d m)) (direction-back way) (measure-back taken)
+node_of-key (nodes.Currency currency of_currencies.Choice) = refl
+node_of-key (nodes.Currency currency (of_currencies.Picked taken)) = ap ((λ one. nodes.Currency currency (of_currencies.Picked one))) (measure-back taken)
+node_of-key (nodes.Whole (wholes.Currency taken)) = ap (λ name. nodes.Whole (wholes.Currency name)) (measure-back taken)
+node_of-key (nodes.Whole (wholes.ClassSum of)) = ap (λ name. nodes.Whole (wholes.ClassSum name)) (class-back of)
+node_of-key (nodes.Whole (wholes.EquityPart kind)) = ap (λ name. nodes.Whole (wholes.EquityPart name)) (equities-back kind)
+node_of-key (nodes.Whole wholes.EquityRoot) = refl
+node_of-key (nodes.Whole wholes.Property) = refl
+node_of-key (nodes.Security name of_securities.Spread) = refl
+node_of-key (nodes.Whole wholes.Spread) = refl
+node_of-key (nodes.Group name of_groups.Total) = refl
+node_of-key (nodes.Whole wholes.Assets) = refl
+node_of-key (nodes.Group name of_groups.ConcentrationSquare) = refl
+node_of-key (nodes.Whole wholes.Concentration) = refl
+node_of-key (nodes.Whole (wholes.NetPart of)) = ap (λ name. nodes.Whole (wholes.NetPart name)) (risk-back of)
+node_of-key (nodes.Whole (wholes.Market taken)) = ap (λ name. nodes.Whole (wholes.Market name)) (measure-back taken)
+node_of-key (nodes.Group name of_groups.Loss) = refl
+node_of-key (nodes.Whole (wholes.ClassLoss number)) = refl
+node_of-key (nodes.Whole (wholes.ClassSquare number)) = refl
+node_of-key (nodes.Whole wholes.Variance) = refl
+node_of-key (nodes.Whole wholes.DefaultBand) = refl
+node_of-key (nodes.Whole wholes.DefaultType1) = refl
+node_of-key (nodes.Whole wholes.DefaultType2) = refl
+node_of-key (nodes.Whole wholes.Default) = refl
+node_of-key (nodes.Whole (wholes.BioScenario obligations stress taken)) =
+    ap₂ (λ (b : Biometric) (p : Projection). nodes.Whole (wholes.BioScenario b p (measure_of (measure_number taken)))) (biometric-back obligations) (projection-back stress)
+    ∙ ap ((λ other. nodes.Whole (wholes.BioScenario obligations stress other))) (measure-back taken)
+node_of-key (nodes.Whole (wholes.Life taken)) = ap (λ name. nodes.Whole (wholes.Life name)) (measure-back taken)
+node_of-key (nodes.Whole (wholes.Slt taken)) = ap (λ name. nodes.Whole (wholes.Slt name)) (measure-back taken)
+node_of-key (nodes.Whole (wholes.Segment of number)) = ap (λ (s : Set). nodes.Whole (wholes.Segment s number)) (set-back of)
+node_of-key (nodes.Whole (wholes.PremiumReserve of)) = ap (λ name. nodes.Whole (wholes.PremiumReserve name)) (set-back of)
+node_of-key (nodes.Whole (wholes.CatCharge of)) = ap (λ name. nodes.Whole (wholes.CatCharge name)) (catastrophe-back of)
+node_of-key (nodes.Whole (wholes.Lapse of)) = ap (λ name. nodes.Whole (wholes.Lapse name)) (set-back of)
+node_of-key (nodes.Whole wholes.Natural) = refl
+node_of-key (nodes.Whole wholes.ManMade) = refl
+node_of-key (nodes.Whole wholes.NonlifeCatastrophe) = refl
+node_of-key (nodes.Whole wholes.HealthCatastrophe) = refl
+node_of-key (nodes.Whole (wholes.Nslt taken)) = ap (λ name. nodes.Whole (wholes.Nslt name)) (measure-back taken)
+node_of-key (nodes.Whole (wholes.Health taken)) = ap (λ name. nodes.Whole (wholes.Health name)) (measure-back taken)
+node_of-key (nodes.Whole (wholes.Nonlife taken)) = ap (λ name. nodes.Whole (wholes.Nonlife name)) (measure-back taken)
+node_of-key (nodes.Whole wholes.Intangible) = refl
+node_of-key (nodes.Whole (wholes.Bscr taken)) = ap (λ name. nodes.Whole (wholes.Bscr name)) (measure-back taken)
+node_of-key (nodes.Whole (wholes.OpPart of)) = ap (λ name. nodes.Whole (wholes.OpPart name)) (operational-back of)
+node_of-key (nodes.Whole (wholes.Adjust by)) = ap (λ name. nodes.Whole (wholes.Adjust name)) (adjustment-back by)
+node_of-key (nodes.Whole wholes.Scr) = refl
+node_of-key (nodes.Whole wholes.Diversification) = refl

@@ -8,6 +8,8 @@ use Rattle.scr_sheet.specs.declared.rows.Stake.{Stake}
 use Rattle.scr_sheet.specs.declared.sheet.BalanceSheet.{BalanceSheet}
 use Rattle.scr_nodes.specs.declared.node.Node.{Node}
 use Rattle.scr_nodes.specs.declared.node.Node.TheVariants as nodes
+use Rattle.scr_nodes.specs.declared.node.OfFund.TheVariants as of_funds
+use Rattle.scr_nodes.specs.declared.node.OfSecurity.TheVariants as of_securities
 use Rattle.scr_nodes.specs.Live.{is_live}
 use Rattle.scr_nodes.specs.LiveNodes.{rest_nodes}
 use Rattle.scr_reach.specs.Dues.{AreDues, numbers_of}
@@ -25,8 +27,8 @@ pairs_due dues = flat_map (λ (due : Due). pairs_to due.number due.sources.items
 
 -- the figure is the total of what has this name
 abbrev pub is_total_of : List ℕ → Node → Bool
-is_total_of name (nodes.FundTotal own) = same_name name own
-is_total_of name (nodes.SecurityTotal own) = same_name name own
+is_total_of name (nodes.Fund own of_funds.Total) = same_name name own
+is_total_of name (nodes.Security own of_securities.Total) = same_name name own
 is_total_of name node = false
 
 -- the first place at which such a total stands

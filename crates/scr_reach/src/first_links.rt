@@ -10,7 +10,7 @@ ghost use Rattle.scr_reach.specs.Linked.{AreLinked};
 
 use crate::places::Places;
 use scr_links::Links;
-use scr_nodes::Node;
+use scr_nodes::{Node, OfFund, OfSecurity};
 use scr_rounds::Due;
 use scr_sheet::{BalanceSheet, Name, Stake};
 use std::alloc::{AllocError as NoMemory, Global};
@@ -136,9 +136,9 @@ fn total_place(places: &Places, name: &Name) -> u32
     ensures place { result ≡ place_of_total places.now name.now }
     ensures within { result < length places.now }
 {
-    match places.find(&Node::SecurityTotal(*name)) {
+    match places.find(&Node::Security(*name, OfSecurity::Total)) {
         Some(place) => place,
-        None => match places.find(&Node::FundTotal(*name)) {
+        None => match places.find(&Node::Fund(*name, OfFund::Total)) {
             Some(place) => place,
             None => unreachable!(),
         },

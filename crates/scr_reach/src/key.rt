@@ -8,7 +8,7 @@ use crate::numbers::{
     operational, projection, risk, set,
 };
 use scr_names::Name;
-use scr_nodes::Node;
+use scr_nodes::{Node, OfCurrency, OfFund, OfGroup, OfLiability, OfSecurity, Whole};
 
 /// The family of a figure, the name that it has, and the numbers of what else tells it from the others of its family:
 /// in their order, and then zeros.
@@ -24,22 +24,34 @@ pub(crate) fn key_of(node: &Node) -> Key
     ensures { result ≡ spec.key_of node.now }
 {
     match node {
-        Node::FundTotal(name) => named(Family::FundTotal, name, [0, 0, 0]),
-        Node::SecurityTotal(name) => named(Family::SecurityTotal, name, [0, 0, 0]),
-        Node::UnitLoss(name, way) => named(Family::UnitLoss, name, [direction(*way), 0, 0]),
-        Node::SecurityRate(name, way) => named(Family::SecurityRate, name, [direction(*way), 0, 0]),
-        Node::LiabilityRate(name, way) => named(
+        Node::Fund(name, OfFund::Total) => named(Family::FundTotal, name, [0, 0, 0]),
+        Node::Security(name, OfSecurity::Total) => named(Family::SecurityTotal, name, [0, 0, 0]),
+        Node::Security(name, OfSecurity::UnitLoss(way)) => named(
+            Family::UnitLoss,
+            name,
+            [direction(*way), 0, 0],
+        ),
+        Node::Security(name, OfSecurity::Rate(way)) => named(
+            Family::SecurityRate,
+            name,
+            [direction(*way), 0, 0],
+        ),
+        Node::Liability(name, OfLiability::Rate(way)) => named(
             Family::LiabilityRate,
             name,
             [direction(*way), 0, 0],
         ),
-        Node::LiabilityPresent(name) => named(Family::LiabilityPresent, name, [0, 0, 0]),
-        Node::LiabilityLoss(name, stress) => named(
+        Node::Liability(name, OfLiability::Present) => named(
+            Family::LiabilityPresent,
+            name,
+            [0, 0, 0],
+        ),
+        Node::Liability(name, OfLiability::Loss(stress)) => named(
             Family::LiabilityLoss,
             name,
             [projection(*stress), 0, 0],
         ),
-        Node::SecuritySpread(name) => named(Family::SecuritySpread, name, [0, 0, 0]),
+        Node::Security(name, OfSecurity::Spread) => named(Family::SecuritySpread, name, [0, 0, 0]),
         _ => shared_key(node),
     }
 }
@@ -49,25 +61,33 @@ fn shared_key(node: &Node) -> Key
     ensures { result ≡ spec.shared_key node.now }
 {
     match node {
-        Node::CurrencyLoss(currency, way) => named(
+        Node::Currency(currency, OfCurrency::Loss(way)) => named(
             Family::CurrencyLoss,
             currency,
             [direction(*way), 0, 0],
         ),
-        Node::CurrencyScenario(currency, way, taken) => named(
+        Node::Currency(currency, OfCurrency::Scenario(way, taken)) => named(
             Family::CurrencyScenario,
             currency,
             [direction(*way), measure(*taken), 0],
         ),
-        Node::CurrencyChoice(currency) => named(Family::CurrencyChoice, currency, [0, 0, 0]),
-        Node::CurrencyPicked(currency, taken) => named(
+        Node::Currency(currency, OfCurrency::Choice) => named(
+            Family::CurrencyChoice,
+            currency,
+            [0, 0, 0],
+        ),
+        Node::Currency(currency, OfCurrency::Picked(taken)) => named(
             Family::CurrencyPicked,
             currency,
             [measure(*taken), 0, 0],
         ),
-        Node::GroupTotal(name) => named(Family::GroupTotal, name, [0, 0, 0]),
-        Node::ConcentrationSquare(name) => named(Family::ConcentrationSquare, name, [0, 0, 0]),
-        Node::GroupLoss(name) => named(Family::GroupLoss, name, [0, 0, 0]),
+        Node::Group(name, OfGroup::Total) => named(Family::GroupTotal, name, [0, 0, 0]),
+        Node::Group(name, OfGroup::ConcentrationSquare) => named(
+            Family::ConcentrationSquare,
+            name,
+            [0, 0, 0],
+        ),
+        Node::Group(name, OfGroup::Loss) => named(Family::GroupLoss, name, [0, 0, 0]),
         _ => market_key(node),
     }
 }
@@ -77,25 +97,25 @@ fn market_key(node: &Node) -> Key
     ensures { result ≡ spec.market_key node.now }
 {
     match node {
-        Node::InterestScenario(way, taken) => single(
+        Node::Whole(Whole::InterestScenario(way, taken)) => single(
             Family::InterestScenario,
             [direction(*way), measure(*taken), 0],
         ),
-        Node::Choice(which) => single(Family::Choice, [alternatives(*which), 0, 0]),
-        Node::Picked(which, taken) => single(
+        Node::Whole(Whole::Choice(which)) => single(Family::Choice, [alternatives(*which), 0, 0]),
+        Node::Whole(Whole::Picked(which, taken)) => single(
             Family::Picked,
             [alternatives(*which), measure(*taken), 0],
         ),
-        Node::Currency(taken) => single(Family::Currency, [measure(*taken), 0, 0]),
-        Node::ClassSum(of) => single(Family::ClassSum, [class(*of), 0, 0]),
-        Node::EquityPart(kind) => single(Family::EquityPart, [equities(*kind), 0, 0]),
-        Node::EquityRoot => alone(Family::EquityRoot),
-        Node::Property => alone(Family::Property),
-        Node::Spread => alone(Family::Spread),
-        Node::Assets => alone(Family::Assets),
-        Node::Concentration => alone(Family::Concentration),
-        Node::NetPart(of) => single(Family::NetPart, [risk(*of), 0, 0]),
-        Node::Market(taken) => single(Family::Market, [measure(*taken), 0, 0]),
+        Node::Whole(Whole::Currency(taken)) => single(Family::Currency, [measure(*taken), 0, 0]),
+        Node::Whole(Whole::ClassSum(of)) => single(Family::ClassSum, [class(*of), 0, 0]),
+        Node::Whole(Whole::EquityPart(kind)) => single(Family::EquityPart, [equities(*kind), 0, 0]),
+        Node::Whole(Whole::EquityRoot) => alone(Family::EquityRoot),
+        Node::Whole(Whole::Property) => alone(Family::Property),
+        Node::Whole(Whole::Spread) => alone(Family::Spread),
+        Node::Whole(Whole::Assets) => alone(Family::Assets),
+        Node::Whole(Whole::Concentration) => alone(Family::Concentration),
+        Node::Whole(Whole::NetPart(of)) => single(Family::NetPart, [risk(*of), 0, 0]),
+        Node::Whole(Whole::Market(taken)) => single(Family::Market, [measure(*taken), 0, 0]),
         _ => default_key(node),
     }
 }
@@ -105,13 +125,13 @@ fn default_key(node: &Node) -> Key
     ensures { result ≡ spec.default_key node.now }
 {
     match node {
-        Node::ClassLoss(number) => single(Family::ClassLoss, [*number, 0, 0]),
-        Node::ClassSquare(number) => single(Family::ClassSquare, [*number, 0, 0]),
-        Node::Variance => alone(Family::Variance),
-        Node::DefaultBand => alone(Family::DefaultBand),
-        Node::DefaultType1 => alone(Family::DefaultType1),
-        Node::DefaultType2 => alone(Family::DefaultType2),
-        Node::Default => alone(Family::Default),
+        Node::Whole(Whole::ClassLoss(number)) => single(Family::ClassLoss, [*number, 0, 0]),
+        Node::Whole(Whole::ClassSquare(number)) => single(Family::ClassSquare, [*number, 0, 0]),
+        Node::Whole(Whole::Variance) => alone(Family::Variance),
+        Node::Whole(Whole::DefaultBand) => alone(Family::DefaultBand),
+        Node::Whole(Whole::DefaultType1) => alone(Family::DefaultType1),
+        Node::Whole(Whole::DefaultType2) => alone(Family::DefaultType2),
+        Node::Whole(Whole::Default) => alone(Family::Default),
         _ => underwriting_key(node),
     }
 }
@@ -121,7 +141,7 @@ fn underwriting_key(node: &Node) -> Key
     ensures { result ≡ spec.underwriting_key node.now }
 {
     match node {
-        Node::BioScenario(obligations, stress, taken) => single(
+        Node::Whole(Whole::BioScenario(obligations, stress, taken)) => single(
             Family::BioScenario,
             [
                 biometric(*obligations),
@@ -129,19 +149,19 @@ fn underwriting_key(node: &Node) -> Key
                 measure(*taken),
             ],
         ),
-        Node::Life(taken) => single(Family::Life, [measure(*taken), 0, 0]),
-        Node::Slt(taken) => single(Family::Slt, [measure(*taken), 0, 0]),
-        Node::Segment(of, number) => single(Family::Segment, [set(*of), *number, 0]),
-        Node::PremiumReserve(of) => single(Family::PremiumReserve, [set(*of), 0, 0]),
-        Node::CatCharge(of) => single(Family::CatCharge, [catastrophe(*of), 0, 0]),
-        Node::Lapse(of) => single(Family::Lapse, [set(*of), 0, 0]),
-        Node::Natural => alone(Family::Natural),
-        Node::ManMade => alone(Family::ManMade),
-        Node::NonlifeCatastrophe => alone(Family::NonlifeCatastrophe),
-        Node::HealthCatastrophe => alone(Family::HealthCatastrophe),
-        Node::Nslt(taken) => single(Family::Nslt, [measure(*taken), 0, 0]),
-        Node::Health(taken) => single(Family::Health, [measure(*taken), 0, 0]),
-        Node::Nonlife(taken) => single(Family::Nonlife, [measure(*taken), 0, 0]),
+        Node::Whole(Whole::Life(taken)) => single(Family::Life, [measure(*taken), 0, 0]),
+        Node::Whole(Whole::Slt(taken)) => single(Family::Slt, [measure(*taken), 0, 0]),
+        Node::Whole(Whole::Segment(of, number)) => single(Family::Segment, [set(*of), *number, 0]),
+        Node::Whole(Whole::PremiumReserve(of)) => single(Family::PremiumReserve, [set(*of), 0, 0]),
+        Node::Whole(Whole::CatCharge(of)) => single(Family::CatCharge, [catastrophe(*of), 0, 0]),
+        Node::Whole(Whole::Lapse(of)) => single(Family::Lapse, [set(*of), 0, 0]),
+        Node::Whole(Whole::Natural) => alone(Family::Natural),
+        Node::Whole(Whole::ManMade) => alone(Family::ManMade),
+        Node::Whole(Whole::NonlifeCatastrophe) => alone(Family::NonlifeCatastrophe),
+        Node::Whole(Whole::HealthCatastrophe) => alone(Family::HealthCatastrophe),
+        Node::Whole(Whole::Nslt(taken)) => single(Family::Nslt, [measure(*taken), 0, 0]),
+        Node::Whole(Whole::Health(taken)) => single(Family::Health, [measure(*taken), 0, 0]),
+        Node::Whole(Whole::Nonlife(taken)) => single(Family::Nonlife, [measure(*taken), 0, 0]),
         _ => whole_key(node),
     }
 }
@@ -151,11 +171,11 @@ fn whole_key(node: &Node) -> Key
     ensures { result ≡ spec.whole_key node.now }
 {
     match node {
-        Node::Intangible => alone(Family::Intangible),
-        Node::Bscr(taken) => single(Family::Bscr, [measure(*taken), 0, 0]),
-        Node::OpPart(of) => single(Family::OpPart, [operational(*of), 0, 0]),
-        Node::Adjust(by) => single(Family::Adjust, [adjustment(*by), 0, 0]),
-        Node::Scr => alone(Family::Scr),
+        Node::Whole(Whole::Intangible) => alone(Family::Intangible),
+        Node::Whole(Whole::Bscr(taken)) => single(Family::Bscr, [measure(*taken), 0, 0]),
+        Node::Whole(Whole::OpPart(of)) => single(Family::OpPart, [operational(*of), 0, 0]),
+        Node::Whole(Whole::Adjust(by)) => single(Family::Adjust, [adjustment(*by), 0, 0]),
+        Node::Whole(Whole::Scr) => alone(Family::Scr),
         _ => alone(Family::Diversification),
     }
 }

@@ -6,7 +6,7 @@ ghost use Rattle.scr_nodes.specs.Rows.{has_flows, has_stress, is_stress, liabili
 ghost use Rattle.scr_profile.specs.Segments.{segments};
 
 use scr_nodes::rows::{has_class, has_flows, is_foreign, is_paying};
-use scr_nodes::{Biometric, Node};
+use scr_nodes::{Biometric, Node, OfCurrency, OfFund, OfGroup, OfLiability, OfSecurity, Whole};
 use scr_profile::Set;
 use scr_sheet::{BalanceSheet, Class, Name, Projection};
 
@@ -15,60 +15,67 @@ pub fn is_live(sheet: &BalanceSheet, node: &Node) -> bool
     ensures { result ≡ is_live sheet.now node.now }
 {
     match node {
-        Node::FundTotal(name) => sheet.funds.contains(name),
-        Node::SecurityTotal(name) => sheet.securities.contains(name),
-        Node::UnitLoss(name, _) | Node::SecurityRate(name, _) => pays(sheet, name),
-        Node::LiabilityRate(name, _) | Node::LiabilityPresent(name) => sheet
-            .liabilities
-            .contains(name),
-        Node::LiabilityLoss(name, projection) => is_stressed_liability(sheet, name, *projection),
-        Node::CurrencyLoss(currency, _) => sheet.curves.contains(currency),
-        Node::CurrencyScenario(currency, _, _)
-        | Node::CurrencyChoice(currency)
-        | Node::CurrencyPicked(currency, _) => is_foreign_currency(sheet, currency),
-        Node::SecuritySpread(name) => is_bond(sheet, name),
-        Node::GroupTotal(name) | Node::ConcentrationSquare(name) | Node::GroupLoss(name) => {
-            sheet.groups.contains(name)
-        }
-        Node::ClassLoss(class) | Node::ClassSquare(class) => *class < 6,
-        Node::BioScenario(biometric, projection, _) => has_stress(*biometric, *projection),
-        Node::Segment(set, number) => is_segment(*set, *number),
-        Node::InterestScenario(_, _)
-        | Node::Choice(_)
-        | Node::Picked(_, _)
-        | Node::Currency(_)
-        | Node::ClassSum(_)
-        | Node::EquityPart(_)
-        | Node::EquityRoot
-        | Node::Property
-        | Node::Spread
-        | Node::Assets
-        | Node::Concentration
-        | Node::NetPart(_)
-        | Node::Market(_)
-        | Node::Variance
-        | Node::DefaultBand
-        | Node::DefaultType1
-        | Node::DefaultType2
-        | Node::Default
-        | Node::Life(_)
-        | Node::Slt(_)
-        | Node::PremiumReserve(_)
-        | Node::CatCharge(_)
-        | Node::Lapse(_)
-        | Node::Natural
-        | Node::ManMade
-        | Node::NonlifeCatastrophe
-        | Node::HealthCatastrophe
-        | Node::Nslt(_)
-        | Node::Health(_)
-        | Node::Nonlife(_)
-        | Node::Intangible
-        | Node::Bscr(_)
-        | Node::OpPart(_)
-        | Node::Adjust(_)
-        | Node::Scr
-        | Node::Diversification => true,
+        Node::Fund(name, OfFund::Total) => sheet.funds.contains(name),
+        Node::Security(name, OfSecurity::Total) => sheet.securities.contains(name),
+        Node::Security(name, OfSecurity::UnitLoss(_)) | Node::Security(name, OfSecurity::Rate(_)) =>
+            pays(sheet, name),
+        Node::Liability(name, OfLiability::Rate(_)) | Node::Liability(name, OfLiability::Present) =>
+            sheet.liabilities.contains(name),
+        Node::Liability(name, OfLiability::Loss(projection)) => is_stressed_liability(
+            sheet,
+            name,
+            *projection,
+        ),
+        Node::Currency(currency, OfCurrency::Loss(_)) => sheet.curves.contains(currency),
+        Node::Currency(currency, OfCurrency::Scenario(_, _))
+        | Node::Currency(currency, OfCurrency::Choice)
+        | Node::Currency(currency, OfCurrency::Picked(_)) => is_foreign_currency(sheet, currency),
+        Node::Security(name, OfSecurity::Spread) => is_bond(sheet, name),
+        Node::Group(name, OfGroup::Total)
+        | Node::Group(name, OfGroup::ConcentrationSquare)
+        | Node::Group(name, OfGroup::Loss) => { sheet.groups.contains(name) }
+        Node::Whole(Whole::ClassLoss(class)) | Node::Whole(Whole::ClassSquare(class)) => *class < 6,
+        Node::Whole(Whole::BioScenario(biometric, projection, _)) => has_stress(
+            *biometric,
+            *projection,
+        ),
+        Node::Whole(Whole::Segment(set, number)) => is_segment(*set, *number),
+        Node::Whole(Whole::InterestScenario(_, _))
+        | Node::Whole(Whole::Choice(_))
+        | Node::Whole(Whole::Picked(_, _))
+        | Node::Whole(Whole::Currency(_))
+        | Node::Whole(Whole::ClassSum(_))
+        | Node::Whole(Whole::EquityPart(_))
+        | Node::Whole(Whole::EquityRoot)
+        | Node::Whole(Whole::Property)
+        | Node::Whole(Whole::Spread)
+        | Node::Whole(Whole::Assets)
+        | Node::Whole(Whole::Concentration)
+        | Node::Whole(Whole::NetPart(_))
+        | Node::Whole(Whole::Market(_))
+        | Node::Whole(Whole::Variance)
+        | Node::Whole(Whole::DefaultBand)
+        | Node::Whole(Whole::DefaultType1)
+        | Node::Whole(Whole::DefaultType2)
+        | Node::Whole(Whole::Default)
+        | Node::Whole(Whole::Life(_))
+        | Node::Whole(Whole::Slt(_))
+        | Node::Whole(Whole::PremiumReserve(_))
+        | Node::Whole(Whole::CatCharge(_))
+        | Node::Whole(Whole::Lapse(_))
+        | Node::Whole(Whole::Natural)
+        | Node::Whole(Whole::ManMade)
+        | Node::Whole(Whole::NonlifeCatastrophe)
+        | Node::Whole(Whole::HealthCatastrophe)
+        | Node::Whole(Whole::Nslt(_))
+        | Node::Whole(Whole::Health(_))
+        | Node::Whole(Whole::Nonlife(_))
+        | Node::Whole(Whole::Intangible)
+        | Node::Whole(Whole::Bscr(_))
+        | Node::Whole(Whole::OpPart(_))
+        | Node::Whole(Whole::Adjust(_))
+        | Node::Whole(Whole::Scr)
+        | Node::Whole(Whole::Diversification) => true,
     }
 }
 

@@ -7,6 +7,7 @@ use Rattle.scr_sheet.specs.declared.sheet.BalanceSheet.{BalanceSheet}
 use Rattle.scr_nodes.specs.Rows.{has_class, is_closed}
 use Rattle.scr_nodes.specs.Sources.{security_total, fund_total, funds_of_class}
 use Rattle.scr_nodes.specs.declared.node.Node.TheVariants as nodes
+use Rattle.scr_nodes.specs.declared.node.Whole.TheVariants as wholes
 use Rattle.scr_touched.specs.Touched.{IsSame}
 use Rattle.scr_touched.specs.Comparisons.{is_touched}
 
@@ -14,7 +15,7 @@ use Rattle.scr_touched.specs.Comparisons.{is_touched}
 
 -- a class of securities, where securities and funds stay
 pub same-class : (factors : FactorValues) (s t : BalanceSheet) (class : Class) → s.securities ≡ t.securities
-    → s.funds ≡ t.funds → IsSame factors s t (nodes.ClassSum class)
+    → s.funds ≡ t.funds → IsSame factors s t (nodes.Whole (wholes.ClassSum class))
 same-class factors s t class e f = record {
   live = refl;
   own = refl;

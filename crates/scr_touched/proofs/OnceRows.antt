@@ -16,6 +16,12 @@ use Rattle.scr_nodes.specs.declared.node.Node.{Node}
 use Rattle.scr_nodes.specs.declared.node.Direction.TheVariants.{Up, Down}
 use Rattle.scr_nodes.specs.declared.node.Measure.TheVariants.{Gross, Net}
 use Rattle.scr_nodes.specs.declared.node.Node.TheVariants as nodes
+use Rattle.scr_nodes.specs.declared.node.OfFund.TheVariants as of_funds
+use Rattle.scr_nodes.specs.declared.node.OfSecurity.TheVariants as of_securities
+use Rattle.scr_nodes.specs.declared.node.OfLiability.TheVariants as of_liabilities
+use Rattle.scr_nodes.specs.declared.node.OfCurrency.TheVariants as of_currencies
+use Rattle.scr_nodes.specs.declared.node.OfGroup.TheVariants as of_groups
+use Rattle.scr_nodes.specs.declared.node.Whole.TheVariants as wholes
 use Rattle.scr_nodes.proofs.Apart.{AreApart, apart-append, apart-chosen, chosen-member}
 use Rattle.scr_nodes.proofs.Parts.{loss_place, part_of}
 use Rattle.scr_nodes.proofs.Told.{told-spread}
@@ -32,39 +38,39 @@ use Rattle.scr_touched.proofs.Once.{AreSplit, apart-back, apart-between, apart-b
 
 -- a number for each family, and for each direction and measure of it
 abbrev pub kind : Node → ℕ
-kind (nodes.FundTotal x) = 1
-kind (nodes.SecurityTotal x) = 2
-kind (nodes.UnitLoss x Up) = 3
-kind (nodes.UnitLoss x Down) = 4
-kind (nodes.SecurityRate x Up) = 5
-kind (nodes.SecurityRate x Down) = 6
-kind (nodes.LiabilityRate x Up) = 7
-kind (nodes.LiabilityRate x Down) = 8
-kind (nodes.LiabilityPresent x) = 9
-kind (nodes.LiabilityLoss x projection) = 10 + loss_place projection
-kind (nodes.CurrencyLoss x Up) = 20
-kind (nodes.CurrencyLoss x Down) = 21
-kind (nodes.CurrencyScenario x Up Gross) = 22
-kind (nodes.CurrencyScenario x Up Net) = 23
-kind (nodes.CurrencyScenario x Down Gross) = 24
-kind (nodes.CurrencyScenario x Down Net) = 25
-kind (nodes.CurrencyChoice x) = 26
-kind (nodes.CurrencyPicked x Gross) = 27
-kind (nodes.CurrencyPicked x Net) = 28
-kind (nodes.ClassSum class) = 29
-kind (nodes.SecuritySpread x) = 30
-kind nodes.Spread = 31
-kind nodes.Assets = 32
-kind (nodes.GroupTotal x) = 33
-kind (nodes.ConcentrationSquare x) = 34
-kind (nodes.GroupLoss x) = 35
-kind nodes.Concentration = 36
-kind (nodes.ClassLoss class) = 37
-kind (nodes.ClassSquare class) = 38
-kind (nodes.InterestScenario Up measure) = 39
-kind (nodes.InterestScenario Down measure) = 40
-kind (nodes.Currency Gross) = 41
-kind (nodes.Currency Net) = 42
+kind (nodes.Fund x of_funds.Total) = 1
+kind (nodes.Security x of_securities.Total) = 2
+kind (nodes.Security x (of_securities.UnitLoss Up)) = 3
+kind (nodes.Security x (of_securities.UnitLoss Down)) = 4
+kind (nodes.Security x (of_securities.Rate Up)) = 5
+kind (nodes.Security x (of_securities.Rate Down)) = 6
+kind (nodes.Liability x (of_liabilities.Rate Up)) = 7
+kind (nodes.Liability x (of_liabilities.Rate Down)) = 8
+kind (nodes.Liability x of_liabilities.Present) = 9
+kind (nodes.Liability x (of_liabilities.Loss projection)) = 10 + loss_place projection
+kind (nodes.Currency x (of_currencies.Loss Up)) = 20
+kind (nodes.Currency x (of_currencies.Loss Down)) = 21
+kind (nodes.Currency x (of_currencies.Scenario Up Gross)) = 22
+kind (nodes.Currency x (of_currencies.Scenario Up Net)) = 23
+kind (nodes.Currency x (of_currencies.Scenario Down Gross)) = 24
+kind (nodes.Currency x (of_currencies.Scenario Down Net)) = 25
+kind (nodes.Currency x of_currencies.Choice) = 26
+kind (nodes.Currency x (of_currencies.Picked Gross)) = 27
+kind (nodes.Currency x (of_currencies.Picked Net)) = 28
+kind (nodes.Whole (wholes.ClassSum class)) = 29
+kind (nodes.Security x of_securities.Spread) = 30
+kind (nodes.Whole wholes.Spread) = 31
+kind (nodes.Whole wholes.Assets) = 32
+kind (nodes.Group x of_groups.Total) = 33
+kind (nodes.Group x of_groups.ConcentrationSquare) = 34
+kind (nodes.Group x of_groups.Loss) = 35
+kind (nodes.Whole wholes.Concentration) = 36
+kind (nodes.Whole (wholes.ClassLoss class)) = 37
+kind (nodes.Whole (wholes.ClassSquare class)) = 38
+kind (nodes.Whole (wholes.InterestScenario Up measure)) = 39
+kind (nodes.Whole (wholes.InterestScenario Down measure)) = 40
+kind (nodes.Whole (wholes.Currency Gross)) = 41
+kind (nodes.Whole (wholes.Currency Net)) = 42
 kind node = 50 + part_of node
 
 -- a row that passes a test has a figure
@@ -94,9 +100,9 @@ class-itself classes.Type1Equity = refl
 class-itself class = refl
 
 in-group : (group : List ℕ) (own : Option (List ℕ)) → option_map_or (same_name group) own false ≡ true
-    → IsMember (nodes.GroupTotal group) (securities.group_nodes own)
+    → IsMember (nodes.Group group of_groups.Total) (securities.group_nodes own)
 in-group group None e = absurd (cc)
-in-group group (Some own) e = inl (ap nodes.GroupTotal (same_name-is group own e))
+in-group group (Some own) e = inl (ap (λ name. nodes.Group name of_groups.Total) (same_name-is group own e))
 
 security-apart : (name : List ℕ) (row : Option Position) → AreApart (security_nodes name row)
 security-apart name None = apart-by kind (security_nodes name None) refl
@@ -104,9 +110,9 @@ security-apart name (Some p) = by p.security.group
   where
     figures : Option (List ℕ) → List Node
     figures group =
-        securities.own_nodes name ++ (nodes.CurrencyLoss p.security.currency Up
-        ∷ nodes.CurrencyLoss p.security.currency Down ∷ nodes.CurrencyScenario p.security.currency Up Gross
-        ∷ nodes.CurrencyScenario p.security.currency Down Gross ∷ nodes.ClassSum p.security.class
+        securities.own_nodes name ++ (nodes.Currency p.security.currency (of_currencies.Loss Up)
+        ∷ nodes.Currency p.security.currency (of_currencies.Loss Down) ∷ nodes.Currency p.security.currency (of_currencies.Scenario Up Gross)
+        ∷ nodes.Currency p.security.currency (of_currencies.Scenario Down Gross) ∷ nodes.Whole (wholes.ClassSum p.security.class)
         ∷ securities.group_nodes group)
 
     by : (group : Option (List ℕ)) → AreApart (figures group)
@@ -130,31 +136,31 @@ position-known p x (inr (inr (inr (inr (inr m))))) = by p.security.group refl m
 
 position-there : (name : List ℕ) (old : Option Position) (x : Node) → is_of_position old x ≡ true
     → IsMember x (security_nodes name old)
-position-there name old (nodes.CurrencyLoss currency Up) e =
-    IsMember-right (securities.own_nodes name) (row_nodes old) (nodes.CurrencyLoss currency Up)
-    (given-row (is_held_in currency) row_nodes (nodes.CurrencyLoss currency Up)
-    (λ row f. inl (ap (λ n. nodes.CurrencyLoss n Up) (same_name-is currency row.security.currency f))) old e)
-position-there name old (nodes.CurrencyLoss currency Down) e =
-    IsMember-right (securities.own_nodes name) (row_nodes old) (nodes.CurrencyLoss currency Down)
-    (given-row (is_held_in currency) row_nodes (nodes.CurrencyLoss currency Down)
-    (λ row f. inr (inl (ap (λ n. nodes.CurrencyLoss n Down) (same_name-is currency row.security.currency f)))) old e)
-position-there name old (nodes.CurrencyScenario currency Up Gross) e =
-    IsMember-right (securities.own_nodes name) (row_nodes old) (nodes.CurrencyScenario currency Up Gross)
-    (given-row (is_held_in currency) row_nodes (nodes.CurrencyScenario currency Up Gross)
-    (λ row f. inr (inr (inl (ap (λ n. nodes.CurrencyScenario n Up Gross)
+position-there name old (nodes.Currency currency (of_currencies.Loss Up)) e =
+    IsMember-right (securities.own_nodes name) (row_nodes old) (nodes.Currency currency (of_currencies.Loss Up))
+    (given-row (is_held_in currency) row_nodes (nodes.Currency currency (of_currencies.Loss Up))
+    (λ row f. inl (ap (λ n. nodes.Currency n (of_currencies.Loss Up)) (same_name-is currency row.security.currency f))) old e)
+position-there name old (nodes.Currency currency (of_currencies.Loss Down)) e =
+    IsMember-right (securities.own_nodes name) (row_nodes old) (nodes.Currency currency (of_currencies.Loss Down))
+    (given-row (is_held_in currency) row_nodes (nodes.Currency currency (of_currencies.Loss Down))
+    (λ row f. inr (inl (ap (λ n. nodes.Currency n (of_currencies.Loss Down)) (same_name-is currency row.security.currency f)))) old e)
+position-there name old (nodes.Currency currency (of_currencies.Scenario Up Gross)) e =
+    IsMember-right (securities.own_nodes name) (row_nodes old) (nodes.Currency currency (of_currencies.Scenario Up Gross))
+    (given-row (is_held_in currency) row_nodes (nodes.Currency currency (of_currencies.Scenario Up Gross))
+    (λ row f. inr (inr (inl (ap (λ n. nodes.Currency n (of_currencies.Scenario Up Gross))
     (same_name-is currency row.security.currency f))))) old e)
-position-there name old (nodes.CurrencyScenario currency Down Gross) e =
-    IsMember-right (securities.own_nodes name) (row_nodes old) (nodes.CurrencyScenario currency Down Gross)
-    (given-row (is_held_in currency) row_nodes (nodes.CurrencyScenario currency Down Gross)
-    (λ row f. inr (inr (inr (inl (ap (λ n. nodes.CurrencyScenario n Down Gross)
+position-there name old (nodes.Currency currency (of_currencies.Scenario Down Gross)) e =
+    IsMember-right (securities.own_nodes name) (row_nodes old) (nodes.Currency currency (of_currencies.Scenario Down Gross))
+    (given-row (is_held_in currency) row_nodes (nodes.Currency currency (of_currencies.Scenario Down Gross))
+    (λ row f. inr (inr (inr (inl (ap (λ n. nodes.Currency n (of_currencies.Scenario Down Gross))
     (same_name-is currency row.security.currency f)))))) old e)
-position-there name old (nodes.ClassSum class) e =
-    IsMember-right (securities.own_nodes name) (row_nodes old) (nodes.ClassSum class)
-    (given-row (has_class class) row_nodes (nodes.ClassSum class)
-    (λ row f. inr (inr (inr (inr (inl (ap nodes.ClassSum (same_class class row.security.class f))))))) old e)
-position-there name old (nodes.GroupTotal group) e =
-    IsMember-right (securities.own_nodes name) (row_nodes old) (nodes.GroupTotal group)
-    (given-row (is_of_group group) row_nodes (nodes.GroupTotal group)
+position-there name old (nodes.Whole (wholes.ClassSum class)) e =
+    IsMember-right (securities.own_nodes name) (row_nodes old) (nodes.Whole (wholes.ClassSum class))
+    (given-row (has_class class) row_nodes (nodes.Whole (wholes.ClassSum class))
+    (λ row f. inr (inr (inr (inr (inl (ap (λ name. nodes.Whole (wholes.ClassSum name)) (same_class class row.security.class f))))))) old e)
+position-there name old (nodes.Group group of_groups.Total) e =
+    IsMember-right (securities.own_nodes name) (row_nodes old) (nodes.Group group of_groups.Total)
+    (given-row (is_of_group group) row_nodes (nodes.Group group of_groups.Total)
     (λ row f. inr (inr (inr (inr (inr (in-group group row.security.group f)))))) old e)
 position-there name old x e = absurd (cc)
 
@@ -192,23 +198,23 @@ liability-known l x (inr (inr (inr (inr m)))) = absurd m
 
 liability-there : (name : List ℕ) (old : Option Liability) (x : Node) → is_of_liability old x ≡ true
     → IsMember x (liability_figures name ++ owed_nodes old)
-liability-there name old (nodes.CurrencyLoss currency Up) e =
-    IsMember-right (liability_figures name) (owed_nodes old) (nodes.CurrencyLoss currency Up)
-    (given-row (is_owed_in currency) owed_nodes (nodes.CurrencyLoss currency Up)
-    (λ row f. inl (ap (λ n. nodes.CurrencyLoss n Up) (same_name-is currency row.currency f))) old e)
-liability-there name old (nodes.CurrencyLoss currency Down) e =
-    IsMember-right (liability_figures name) (owed_nodes old) (nodes.CurrencyLoss currency Down)
-    (given-row (is_owed_in currency) owed_nodes (nodes.CurrencyLoss currency Down)
-    (λ row f. inr (inl (ap (λ n. nodes.CurrencyLoss n Down) (same_name-is currency row.currency f)))) old e)
-liability-there name old (nodes.CurrencyScenario currency Up Gross) e =
-    IsMember-right (liability_figures name) (owed_nodes old) (nodes.CurrencyScenario currency Up Gross)
-    (given-row (is_owed_in currency) owed_nodes (nodes.CurrencyScenario currency Up Gross)
-    (λ row f. inr (inr (inl (ap (λ n. nodes.CurrencyScenario n Up Gross) (same_name-is currency row.currency f)))))
+liability-there name old (nodes.Currency currency (of_currencies.Loss Up)) e =
+    IsMember-right (liability_figures name) (owed_nodes old) (nodes.Currency currency (of_currencies.Loss Up))
+    (given-row (is_owed_in currency) owed_nodes (nodes.Currency currency (of_currencies.Loss Up))
+    (λ row f. inl (ap (λ n. nodes.Currency n (of_currencies.Loss Up)) (same_name-is currency row.currency f))) old e)
+liability-there name old (nodes.Currency currency (of_currencies.Loss Down)) e =
+    IsMember-right (liability_figures name) (owed_nodes old) (nodes.Currency currency (of_currencies.Loss Down))
+    (given-row (is_owed_in currency) owed_nodes (nodes.Currency currency (of_currencies.Loss Down))
+    (λ row f. inr (inl (ap (λ n. nodes.Currency n (of_currencies.Loss Down)) (same_name-is currency row.currency f)))) old e)
+liability-there name old (nodes.Currency currency (of_currencies.Scenario Up Gross)) e =
+    IsMember-right (liability_figures name) (owed_nodes old) (nodes.Currency currency (of_currencies.Scenario Up Gross))
+    (given-row (is_owed_in currency) owed_nodes (nodes.Currency currency (of_currencies.Scenario Up Gross))
+    (λ row f. inr (inr (inl (ap (λ n. nodes.Currency n (of_currencies.Scenario Up Gross)) (same_name-is currency row.currency f)))))
     old e)
-liability-there name old (nodes.CurrencyScenario currency Down Gross) e =
-    IsMember-right (liability_figures name) (owed_nodes old) (nodes.CurrencyScenario currency Down Gross)
-    (given-row (is_owed_in currency) owed_nodes (nodes.CurrencyScenario currency Down Gross)
-    (λ row f. inr (inr (inr (inl (ap (λ n. nodes.CurrencyScenario n Down Gross)
+liability-there name old (nodes.Currency currency (of_currencies.Scenario Down Gross)) e =
+    IsMember-right (liability_figures name) (owed_nodes old) (nodes.Currency currency (of_currencies.Scenario Down Gross))
+    (given-row (is_owed_in currency) owed_nodes (nodes.Currency currency (of_currencies.Scenario Down Gross))
+    (λ row f. inr (inr (inr (inl (ap (λ n. nodes.Currency n (of_currencies.Scenario Down Gross))
     (same_name-is currency row.currency f)))))) old e)
 liability-there name old x e = absurd (cc)
 
@@ -243,14 +249,14 @@ group-known g x (inr (inr m)) = absurd m
 
 group-there : (name : List ℕ) (old : Option Group) (x : Node) → is_of_class_of old x ≡ true
     → IsMember x (groups.group_nodes name old)
-group-there name old (nodes.ClassLoss class) e =
-    IsMember-right (groups.own_nodes name) (class_nodes old) (nodes.ClassLoss class)
-    (given-row (is_of_default_class class) class_nodes (nodes.ClassLoss class)
-    (λ row f. inl (ap nodes.ClassLoss (sym ((Decides-eqb (class_of_step row.step) class).0 f)))) old e)
-group-there name old (nodes.ClassSquare class) e =
-    IsMember-right (groups.own_nodes name) (class_nodes old) (nodes.ClassSquare class)
-    (given-row (is_of_default_class class) class_nodes (nodes.ClassSquare class)
-    (λ row f. inr (inl (ap nodes.ClassSquare (sym ((Decides-eqb (class_of_step row.step) class).0 f))))) old e)
+group-there name old (nodes.Whole (wholes.ClassLoss class)) e =
+    IsMember-right (groups.own_nodes name) (class_nodes old) (nodes.Whole (wholes.ClassLoss class))
+    (given-row (is_of_default_class class) class_nodes (nodes.Whole (wholes.ClassLoss class))
+    (λ row f. inl (ap (λ name. nodes.Whole (wholes.ClassLoss name)) (sym ((Decides-eqb (class_of_step row.step) class).0 f)))) old e)
+group-there name old (nodes.Whole (wholes.ClassSquare class)) e =
+    IsMember-right (groups.own_nodes name) (class_nodes old) (nodes.Whole (wholes.ClassSquare class))
+    (given-row (is_of_default_class class) class_nodes (nodes.Whole (wholes.ClassSquare class))
+    (λ row f. inr (inl (ap (λ name. nodes.Whole (wholes.ClassSquare name)) (sym ((Decides-eqb (class_of_step row.step) class).0 f))))) old e)
 group-there name old x e = absurd (cc)
 
 -- a figure of a bond is no other
@@ -322,7 +328,7 @@ debt-split old new = record {
     known (Some debt) x (inr m) = absurd m
 
     there : (x : Node) → is_of_debtor old x ≡ true → IsMember x (debt_losses old)
-    there (nodes.GroupLoss group) e =
-        given-row (is_owed_by group) debt_losses (nodes.GroupLoss group)
-        (λ debt f. inl (ap nodes.GroupLoss (same_name-is group debt.group f))) old e
+    there (nodes.Group group of_groups.Loss) e =
+        given-row (is_owed_by group) debt_losses (nodes.Group group of_groups.Loss)
+        (λ debt f. inl (ap (λ name. nodes.Group name of_groups.Loss) (same_name-is group debt.group f))) old e
     there x e = absurd (cc)

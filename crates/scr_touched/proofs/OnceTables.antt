@@ -27,6 +27,11 @@ use Rattle.scr_nodes.specs.declared.node.Node.{Node}
 use Rattle.scr_nodes.specs.declared.node.Direction.TheVariants.{Up, Down}
 use Rattle.scr_nodes.specs.declared.node.Measure.TheVariants.{Gross, Net}
 use Rattle.scr_nodes.specs.declared.node.Node.TheVariants as nodes
+use Rattle.scr_nodes.specs.declared.node.OfFund.TheVariants as of_funds
+use Rattle.scr_nodes.specs.declared.node.OfSecurity.TheVariants as of_securities
+use Rattle.scr_nodes.specs.declared.node.OfLiability.TheVariants as of_liabilities
+use Rattle.scr_nodes.specs.declared.node.OfCurrency.TheVariants as of_currencies
+use Rattle.scr_nodes.specs.declared.node.Whole.TheVariants as wholes
 use Rattle.scr_nodes.proofs.Apart.{AreApart, apart-append}
 use Rattle.scr_nodes.proofs.OwnRows.{distinct-liabilities}
 use Rattle.scr_nodes.proofs.Parts.{each-tested}
@@ -46,12 +51,12 @@ use Rattle.scr_touched.proofs.ToldFunds.{has-share, in-components}
 
 -- the name of what a figure is of
 abbrev name_in : Node → List ℕ
-name_in (nodes.FundTotal x) = x
-name_in (nodes.SecurityTotal x) = x
-name_in (nodes.UnitLoss x direction) = x
-name_in (nodes.LiabilityRate x direction) = x
-name_in (nodes.LiabilityPresent x) = x
-name_in (nodes.LiabilityLoss x projection) = x
+name_in (nodes.Fund x of_funds.Total) = x
+name_in (nodes.Security x of_securities.Total) = x
+name_in (nodes.Security x (of_securities.UnitLoss direction)) = x
+name_in (nodes.Liability x (of_liabilities.Rate direction)) = x
+name_in (nodes.Liability x of_liabilities.Present) = x
+name_in (nodes.Liability x (of_liabilities.Loss projection)) = x
 name_in node = []
 
 -- ---- the figures of all rows of a table
@@ -95,13 +100,13 @@ module _ {Row : Type 0} (name_of : Row → List ℕ) (figures : Row → List Nod
 -- ---- payments
 
 abbrev is_unit : Node → Bool
-is_unit (nodes.UnitLoss x direction) = true
+is_unit (nodes.Security x (of_securities.UnitLoss direction)) = true
 is_unit node = false
 
 abbrev is_owed : Node → Bool
-is_owed (nodes.LiabilityRate x direction) = true
-is_owed (nodes.LiabilityPresent x) = true
-is_owed (nodes.LiabilityLoss x projection) = true
+is_owed (nodes.Liability x (of_liabilities.Rate direction)) = true
+is_owed (nodes.Liability x of_liabilities.Present) = true
+is_owed (nodes.Liability x (of_liabilities.Loss projection)) = true
 is_owed node = false
 
 security-own : (p : Position) → AllByRecursion (λ n. name_in n ≡ position_name p) (security_figures p)
@@ -118,7 +123,7 @@ liability-apart : (l : Liability) → AreApart (liability_figures l)
 liability-apart l = apart-by kind (liability_figures l) refl
 
 unit-or-owed : (x : Node) → is_unit x ≡ true → is_owed x ≡ true → ⊥
-unit-or-owed (nodes.UnitLoss x direction) e f = absurd (cc)
+unit-or-owed (nodes.Security x (of_securities.UnitLoss direction)) e f = absurd (cc)
 unit-or-owed x e f = absurd (cc)
 
 -- it is a figure of payments
@@ -207,20 +212,20 @@ module _ (sheet : BalanceSheet) where
 
   foreign-there : (currency : List ℕ) (x : Node) → is_of_currency currency x ≡ true
       → IsMember x (foreign_nodes currency)
-  foreign-there currency (nodes.CurrencyScenario x Up Gross) e =
-      inl (ap (λ n. nodes.CurrencyScenario n Up Gross) (same_name-is x currency e))
-  foreign-there currency (nodes.CurrencyScenario x Up Net) e =
-      inr (inl (ap (λ n. nodes.CurrencyScenario n Up Net) (same_name-is x currency e)))
-  foreign-there currency (nodes.CurrencyScenario x Down Gross) e =
-      inr (inr (inl (ap (λ n. nodes.CurrencyScenario n Down Gross) (same_name-is x currency e))))
-  foreign-there currency (nodes.CurrencyScenario x Down Net) e =
-      inr (inr (inr (inl (ap (λ n. nodes.CurrencyScenario n Down Net) (same_name-is x currency e)))))
-  foreign-there currency (nodes.CurrencyChoice x) e =
-      inr (inr (inr (inr (inl (ap nodes.CurrencyChoice (same_name-is x currency e))))))
-  foreign-there currency (nodes.CurrencyPicked x Gross) e =
-      inr (inr (inr (inr (inr (inl (ap (λ n. nodes.CurrencyPicked n Gross) (same_name-is x currency e)))))))
-  foreign-there currency (nodes.CurrencyPicked x Net) e =
-      inr (inr (inr (inr (inr (inr (inl (ap (λ n. nodes.CurrencyPicked n Net) (same_name-is x currency e))))))))
+  foreign-there currency (nodes.Currency x (of_currencies.Scenario Up Gross)) e =
+      inl (ap (λ n. nodes.Currency n (of_currencies.Scenario Up Gross)) (same_name-is x currency e))
+  foreign-there currency (nodes.Currency x (of_currencies.Scenario Up Net)) e =
+      inr (inl (ap (λ n. nodes.Currency n (of_currencies.Scenario Up Net)) (same_name-is x currency e)))
+  foreign-there currency (nodes.Currency x (of_currencies.Scenario Down Gross)) e =
+      inr (inr (inl (ap (λ n. nodes.Currency n (of_currencies.Scenario Down Gross)) (same_name-is x currency e))))
+  foreign-there currency (nodes.Currency x (of_currencies.Scenario Down Net)) e =
+      inr (inr (inr (inl (ap (λ n. nodes.Currency n (of_currencies.Scenario Down Net)) (same_name-is x currency e)))))
+  foreign-there currency (nodes.Currency x of_currencies.Choice) e =
+      inr (inr (inr (inr (inl (ap (λ name. nodes.Currency name of_currencies.Choice) (same_name-is x currency e))))))
+  foreign-there currency (nodes.Currency x (of_currencies.Picked Gross)) e =
+      inr (inr (inr (inr (inr (inl (ap (λ n. nodes.Currency n (of_currencies.Picked Gross)) (same_name-is x currency e)))))))
+  foreign-there currency (nodes.Currency x (of_currencies.Picked Net)) e =
+      inr (inr (inr (inr (inr (inr (inl (ap (λ n. nodes.Currency n (of_currencies.Picked Net)) (same_name-is x currency e))))))))
   foreign-there currency x e = absurd (cc)
 
   pub date-split : Valid sheet → (date : Day) (currency : List ℕ)
@@ -249,8 +254,8 @@ module _ (sheet : BalanceSheet) where
 -- ---- funds
 
 abbrev is_total : Node → Bool
-is_total (nodes.FundTotal x) = true
-is_total (nodes.SecurityTotal x) = true
+is_total (nodes.Fund x of_funds.Total) = true
+is_total (nodes.Security x of_securities.Total) = true
 is_total node = false
 
 component-own : (c : List ℕ × ℤ) → AllByRecursion (λ n. name_in n ≡ c.0) (totals_of c.0)
@@ -294,12 +299,12 @@ components-apart (Some s) distinct =
     apart-flat (λ c. c.0) (λ c. totals_of c.0) component-own component-apart s.fund.components distinct
 
 -- a component's figure is a total
-not-class : (stake : Option Stake) → IsMember (nodes.ClassSum classes.Type2Equity) (component_nodes stake) → ⊥
+not-class : (stake : Option Stake) → IsMember (nodes.Whole (wholes.ClassSum classes.Type2Equity)) (component_nodes stake) → ⊥
 not-class None m = m
 not-class (Some s) m =
-    let total : is_total (nodes.ClassSum classes.Type2Equity) ≡ true =
+    let total : is_total (nodes.Whole (wholes.ClassSum classes.Type2Equity)) ≡ true =
     tested-flat (λ c. c.0) (λ c. totals_of c.0) component-own component-apart is_total (λ c. refl) s.fund.components
-    (nodes.ClassSum classes.Type2Equity) m in
+    (nodes.Whole (wholes.ClassSum classes.Type2Equity)) m in
     absurd (cc)
 
 module _ (sheet : BalanceSheet) (valid : Valid sheet) (name : List ℕ) where
@@ -308,12 +313,12 @@ module _ (sheet : BalanceSheet) (valid : Valid sheet) (name : List ℕ) where
 
   -- the fund is none of its components
   not-itself : (stake : Option Stake) → row_of stake_name name sheet.funds ≡ stake
-      → IsMember (nodes.FundTotal name) (component_nodes stake) → ⊥
+      → IsMember (nodes.Fund name of_funds.Total) (component_nodes stake) → ⊥
   not-itself None is m = m
   not-itself (Some s) is m =
       let found = row-in (λ c. c.0) (λ c. totals_of c.0) component-own component-apart s.fund.components
-      (nodes.FundTotal name) m in
-      let own : name ≡ found.0.0 = named (λ c. c.0) (λ c. totals_of c.0) component-own component-apart found.0 (nodes.FundTotal name) found.2 in
+      (nodes.Fund name of_funds.Total) m in
+      let own : name ≡ found.0.0 = named (λ c. c.0) (λ c. totals_of c.0) component-own component-apart found.0 (nodes.Fund name of_funds.Total) found.2 in
       let among : IsMember name (map (λ c. c.0) s.fund.components) =
       subst (λ n. IsMember n (map (λ c. c.0) s.fund.components)) (sym own)
       (IsMember-mapped (λ c. c.0) s.fund.components found.0 found.1) in
@@ -340,7 +345,7 @@ module _ (sheet : BalanceSheet) (valid : Valid sheet) (name : List ℕ) where
     there = λ x e. there old x e;
   }
     where
-      first : IsMember (nodes.FundTotal name) (nodes.ClassSum classes.Type2Equity ∷ component_nodes old) → ⊥
+      first : IsMember (nodes.Fund name of_funds.Total) (nodes.Whole (wholes.ClassSum classes.Type2Equity) ∷ component_nodes old) → ⊥
       first (inl e) = absurd (cc)
       first (inr m) = not-itself old refl m
 
@@ -352,16 +357,16 @@ module _ (sheet : BalanceSheet) (valid : Valid sheet) (name : List ℕ) where
       known (Some s) x (inr (inr m)) n = component-known name s x m
 
       held : (stake : Option Stake) (y : List ℕ) → is_some (share_of y stake) ≡ true
-          → IsMember (nodes.FundTotal y) (component_nodes stake) × IsMember (nodes.SecurityTotal y) (component_nodes stake)
+          → IsMember (nodes.Fund y of_funds.Total) (component_nodes stake) × IsMember (nodes.Security y of_securities.Total) (component_nodes stake)
       held None y e = absurd (cc)
       held (Some s) y e = in-components y s.fund.components (sym (has-share y (Some s)) ∙ e)
 
       there : (stake : Option Stake) (x : Node) → is_of_stake name stake x ≡ true → IsMember x (fund_nodes name stake)
-      there stake (nodes.FundTotal y) e =
+      there stake (nodes.Fund y of_funds.Total) e =
           passes_or_fails (same_name y name)
-          (λ f. inl (ap nodes.FundTotal (same_name-is y name f)))
+          (λ f. inl (ap (λ name. nodes.Fund name of_funds.Total) (same_name-is y name f)))
           (λ f. inr (inr ((held stake y (ap (λ b. b || is_some (share_of y stake)) (sym f) ∙ e)).0)))
-      there stake (nodes.SecurityTotal y) e = inr (inr ((held stake y e).1))
+      there stake (nodes.Security y of_securities.Total) e = inr (inr ((held stake y e).1))
       there stake x e = absurd (cc)
 
 -- what a fund becomes has no component twice

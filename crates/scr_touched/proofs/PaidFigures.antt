@@ -20,6 +20,8 @@ use Rattle.scr_nodes.specs.declared.node.Direction.{Direction}
 use Rattle.scr_nodes.specs.declared.node.Direction.TheVariants as directions
 use Rattle.scr_nodes.specs.declared.node.Node.{Node}
 use Rattle.scr_nodes.specs.declared.node.Node.TheVariants as nodes
+use Rattle.scr_nodes.specs.declared.node.OfSecurity.TheVariants as of_securities
+use Rattle.scr_nodes.specs.declared.node.OfLiability.TheVariants as of_liabilities
 use Rattle.scr_changes.specs.Comparisons.{same_payments, same_rates}
 use Rattle.scr_touched.specs.Payments.{liability_figures, loss_figures, payment_figures, security_figures, stresses, value_figures}
 use Rattle.scr_changes.proofs.Compared.{Decides-payments, Decides-rates}
@@ -123,28 +125,28 @@ stress-in projections.LapseMass e = inr (inr (inr (inr (inr (inr (inr (inl refl)
 stress-in projections.Catastrophe e = inr (inr (inr (inr (inr (inr (inr (inr (inl refl))))))))
 
 pub rate-in : (name : List ℕ) (direction : Direction)
-    → IsMember (nodes.LiabilityRate name direction) (value_figures name)
+    → IsMember (nodes.Liability name (of_liabilities.Rate direction)) (value_figures name)
 rate-in name directions.Up = inl refl
 rate-in name directions.Down = inr (inl refl)
 
-pub present-in : (name : List ℕ) → IsMember (nodes.LiabilityPresent name) (value_figures name)
+pub present-in : (name : List ℕ) → IsMember (nodes.Liability name of_liabilities.Present) (value_figures name)
 present-in name = inr (inr (inl refl))
 
 pub loss-in : (name : List ℕ) (projection : Projection) → is_stress projection ≡ true
-    → IsMember (nodes.LiabilityLoss name projection) (loss_figures name)
+    → IsMember (nodes.Liability name (of_liabilities.Loss projection)) (loss_figures name)
 loss-in name projection e =
-    IsMember-mapped (λ p. nodes.LiabilityLoss name p) stresses projection (stress-in projection e)
+    IsMember-mapped (λ p. nodes.Liability name (of_liabilities.Loss p)) stresses projection (stress-in projection e)
 
 module _ (sheet : BalanceSheet) (name : List ℕ) where
   pub unit-listed : (position : Position) → position_of name sheet.securities ≡ Some position
-      → (direction : Direction) → IsMember (nodes.UnitLoss name direction) (payment_figures sheet)
+      → (direction : Direction) → IsMember (nodes.Security name (of_securities.UnitLoss direction)) (payment_figures sheet)
   unit-listed position found direction =
       IsMember-left (flat_map security_figures sheet.securities) _ _
-      (found-figure position_name name sheet.securities position found security_figures (nodes.UnitLoss name direction)
-      (subst (λ n. IsMember (nodes.UnitLoss n direction) (security_figures position))
+      (found-figure position_name name sheet.securities position found security_figures (nodes.Security name (of_securities.UnitLoss direction))
+      (subst (λ n. IsMember (nodes.Security n (of_securities.UnitLoss direction)) (security_figures position))
       (sym (found-name position_name name sheet.securities position found)) (of direction)))
     where
-      of : (d : Direction) → IsMember (nodes.UnitLoss position.security.name d) (security_figures position)
+      of : (d : Direction) → IsMember (nodes.Security position.security.name (of_securities.UnitLoss d)) (security_figures position)
       of directions.Up = inl refl
       of directions.Down = inr (inl refl)
 
@@ -161,9 +163,9 @@ module _ (sheet : BalanceSheet) (name : List ℕ) where
     value-listed node m = listed-one node (IsMember-left (value_figures name) (loss_figures name) node m)
 
     pub loss-listed : (projection : Projection) → is_stress projection ≡ true
-        → IsMember (nodes.LiabilityLoss name projection) (payment_figures sheet)
+        → IsMember (nodes.Liability name (of_liabilities.Loss projection)) (payment_figures sheet)
     loss-listed projection e =
-        listed-one (nodes.LiabilityLoss name projection)
+        listed-one (nodes.Liability name (of_liabilities.Loss projection))
         (IsMember-right (value_figures name) (loss_figures name) _ (loss-in name projection e))
 
 -- ---- a loop that pushes the figures of each row

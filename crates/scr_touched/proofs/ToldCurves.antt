@@ -28,6 +28,10 @@ use Rattle.scr_nodes.specs.declared.node.Direction.TheVariants as directions
 use Rattle.scr_nodes.specs.declared.node.Measure.TheVariants as measures
 use Rattle.scr_nodes.specs.declared.node.Node.{Node}
 use Rattle.scr_nodes.specs.declared.node.Node.TheVariants as nodes
+use Rattle.scr_nodes.specs.declared.node.OfSecurity.TheVariants as of_securities
+use Rattle.scr_nodes.specs.declared.node.OfLiability.TheVariants as of_liabilities
+use Rattle.scr_nodes.specs.declared.node.OfCurrency.TheVariants as of_currencies
+use Rattle.scr_nodes.specs.declared.node.Whole.TheVariants as wholes
 use Rattle.scr_changes.specs.Readings.{keeps_liability, keeps_rates, keeps_security, rates_by}
 use Rattle.scr_touched.specs.Curves.{absorption_by, currency_nodes, currency_touched, curve_nodes, curve_touches, foreign_nodes, foreign_touched, loss_moved, moved_nodes, net_touched, unit_moved, value_moved}
 use Rattle.scr_changes.specs.Changes.{after}
@@ -149,75 +153,75 @@ module _ (factors : FactorValues) (sheet : BalanceSheet) (name : List ℕ) (new 
 
   pub told : (node : Node)
       → Tells factors sheet (after (changes.Curve name new) sheet) node (curve_touches sheet name old new node)
-  told (nodes.UnitLoss x direction) =
-      told-by factors sheet later (nodes.UnitLoss x direction) _ _
+  told (nodes.Security x (of_securities.UnitLoss direction)) =
+      told-by factors sheet later (nodes.Security x (of_securities.UnitLoss direction)) _ _
       (keeps_security name old new (position_of x sheet.securities)) true refl refl
       (loss-told (keeps_security name old new (position_of x sheet.securities))
       (paid_of direction sheet (position_of x sheet.securities))
       (paid_of direction later (position_of x sheet.securities))
       (security-same direction (position_of x sheet.securities))) (always refl)
-  told (nodes.LiabilityRate x direction) =
-      told-by factors sheet later (nodes.LiabilityRate x direction) _ _
+  told (nodes.Liability x (of_liabilities.Rate direction)) =
+      told-by factors sheet later (nodes.Liability x (of_liabilities.Rate direction)) _ _
       (keeps_liability name old new (liability_of x sheet.liabilities)) true refl refl
       (cost-told (keeps_liability name old new (liability_of x sheet.liabilities))
       (owed_of direction sheet (liability_of x sheet.liabilities))
       (owed_of direction later (liability_of x sheet.liabilities))
       (liability-same direction (liability_of x sheet.liabilities))) (always refl)
-  told (nodes.LiabilityPresent x) =
-      told-by factors sheet later (nodes.LiabilityPresent x) _ _
+  told (nodes.Liability x of_liabilities.Present) =
+      told-by factors sheet later (nodes.Liability x of_liabilities.Present) _ _
       (keeps_liability name old new (liability_of x sheet.liabilities)) true refl refl
       (worth-told (keeps_liability name old new (liability_of x sheet.liabilities))
       (worth_of sheet (liability_of x sheet.liabilities)) (worth_of later (liability_of x sheet.liabilities))
       (worth-same (liability_of x sheet.liabilities))) (always refl)
-  told (nodes.LiabilityLoss x projection) =
-      told-by factors sheet later (nodes.LiabilityLoss x projection) _ _
+  told (nodes.Liability x (of_liabilities.Loss projection)) =
+      told-by factors sheet later (nodes.Liability x (of_liabilities.Loss projection)) _ _
       (keeps_liability name old new (liability_of x sheet.liabilities)) true refl refl
       (excess-told (keeps_liability name old new (liability_of x sheet.liabilities))
       (worth_of sheet (liability_of x sheet.liabilities)) (worth_of later (liability_of x sheet.liabilities))
       (paid_under sheet x projection) (worth-same (liability_of x sheet.liabilities))) (always refl)
-  told (nodes.CurrencyLoss x direction) =
-      own-row currency_touched currency-still (nodes.CurrencyLoss x direction) x
-      (told-by factors sheet later (nodes.CurrencyLoss x direction) (is_some (found x)) (is_some (found_after x))
+  told (nodes.Currency x (of_currencies.Loss direction)) =
+      own-row currency_touched currency-still (nodes.Currency x (of_currencies.Loss direction)) x
+      (told-by factors sheet later (nodes.Currency x (of_currencies.Loss direction)) (is_some (found x)) (is_some (found_after x))
       true true refl refl (always refl) (always refl))
-  told (nodes.InterestScenario direction measures.Gross) =
-      told-by factors sheet later (nodes.InterestScenario direction measures.Gross) true true true
+  told (nodes.Whole (wholes.InterestScenario direction measures.Gross)) =
+      told-by factors sheet later (nodes.Whole (wholes.InterestScenario direction measures.Gross)) true true true
       (beq (is_some old) (is_some new)) refl refl (always refl)
       (listed_all curve_name name new sheet.curves named (currency_loss direction)
-      (λ a b e. ap (λ n. nodes.CurrencyLoss n direction) e))
-  told (nodes.CurrencyScenario x direction measures.Gross) =
-      own-row (foreign_touched sheet) foreign-still (nodes.CurrencyScenario x direction measures.Gross) x
-      (told-by factors sheet later (nodes.CurrencyScenario x direction measures.Gross)
+      (λ a b e. ap (λ n. nodes.Currency n (of_currencies.Loss direction)) e))
+  told (nodes.Currency x (of_currencies.Scenario direction measures.Gross)) =
+      own-row (foreign_touched sheet) foreign-still (nodes.Currency x (of_currencies.Scenario direction measures.Gross)) x
+      (told-by factors sheet later (nodes.Currency x (of_currencies.Scenario direction measures.Gross))
       (passes (is_foreign sheet) (found x)) (passes (is_foreign sheet) (found_after x)) true true refl refl
       (always refl) (always refl))
-  told (nodes.CurrencyScenario x direction measures.Net) =
-      own-row (net_touched sheet direction) (net-still direction) (nodes.CurrencyScenario x direction measures.Net) x
-      (told-by factors sheet later (nodes.CurrencyScenario x direction measures.Net)
+  told (nodes.Currency x (of_currencies.Scenario direction measures.Net)) =
+      own-row (net_touched sheet direction) (net-still direction) (nodes.Currency x (of_currencies.Scenario direction measures.Net)) x
+      (told-by factors sheet later (nodes.Currency x (of_currencies.Scenario direction measures.Net))
       (passes (is_foreign sheet) (found x)) (passes (is_foreign sheet) (found_after x))
       (absorption_by direction (found x) == absorption_by direction (found_after x)) true refl refl
       (net-told (absorption_by direction (found x)) (absorption_by direction (found_after x))) (always refl))
-  told (nodes.CurrencyChoice x) =
-      own-row (foreign_touched sheet) foreign-still (nodes.CurrencyChoice x) x
-      (told-by factors sheet later (nodes.CurrencyChoice x)
+  told (nodes.Currency x of_currencies.Choice) =
+      own-row (foreign_touched sheet) foreign-still (nodes.Currency x of_currencies.Choice) x
+      (told-by factors sheet later (nodes.Currency x of_currencies.Choice)
       (passes (is_foreign sheet) (found x)) (passes (is_foreign sheet) (found_after x)) true true refl refl
       (always refl) (always refl))
-  told (nodes.CurrencyPicked x measure) =
-      own-row (foreign_touched sheet) foreign-still (nodes.CurrencyPicked x measure) x
-      (told-by factors sheet later (nodes.CurrencyPicked x measure)
+  told (nodes.Currency x (of_currencies.Picked measure)) =
+      own-row (foreign_touched sheet) foreign-still (nodes.Currency x (of_currencies.Picked measure)) x
+      (told-by factors sheet later (nodes.Currency x (of_currencies.Picked measure))
       (passes (is_foreign sheet) (found x)) (passes (is_foreign sheet) (found_after x)) true true refl refl
       (always refl) (always refl))
-  told (nodes.Currency measure) =
-      told-by factors sheet later (nodes.Currency measure) true true true (is_kept (is_foreign sheet) old new) refl refl
+  told (nodes.Whole (wholes.Currency measure)) =
+      told-by factors sheet later (nodes.Whole (wholes.Currency measure)) true true true (is_kept (is_foreign sheet) old new) refl refl
       (always refl)
       (listed curve_name name new sheet.curves named (is_foreign sheet) (currency_picked measure)
-      (λ a b e. ap (λ n. nodes.CurrencyPicked n measure) e))
-  told (nodes.ClassSum classes.Type2Equity) =
-      unread factors sheet later (nodes.ClassSum classes.Type2Equity)
+      (λ a b e. ap (λ n. nodes.Currency n (of_currencies.Picked measure)) e))
+  told (nodes.Whole (wholes.ClassSum classes.Type2Equity)) =
+      unread factors sheet later (nodes.Whole (wholes.ClassSum classes.Type2Equity))
       (record { live = refl; own = refl; sources = refl })
-  told (nodes.BioScenario biometric projection measures.Gross) =
-      unread factors sheet later (nodes.BioScenario biometric projection measures.Gross)
+  told (nodes.Whole (wholes.BioScenario biometric projection measures.Gross)) =
+      unread factors sheet later (nodes.Whole (wholes.BioScenario biometric projection measures.Gross))
       (record { live = refl; own = refl; sources = refl })
-  told (nodes.Adjust adjustments.TechnicalProvisions) =
-      unread factors sheet later (nodes.Adjust adjustments.TechnicalProvisions)
+  told (nodes.Whole (wholes.Adjust adjustments.TechnicalProvisions)) =
+      unread factors sheet later (nodes.Whole (wholes.Adjust adjustments.TechnicalProvisions))
       (record { live = refl; own = refl; sources = refl })
   told node = unread factors sheet later node (record { live = refl; own = refl; sources = refl })
 
@@ -238,10 +242,10 @@ module _ (factors : FactorValues) (sheet : BalanceSheet) (name : List ℕ) (new 
   of-currency node m = IsMember-right (moved_nodes sheet same) (currency_nodes name) node m
 
   unit-covered : (x : List ℕ) (direction : Direction) (p : Option Position) → position_of x sheet.securities ≡ p
-      → unit_moved name old new p ≡ true → IsMember (nodes.UnitLoss x direction) (curve_nodes sheet name old new)
+      → unit_moved name old new p ≡ true → IsMember (nodes.Security x (of_securities.UnitLoss direction)) (curve_nodes sheet name old new)
   unit-covered x direction None found e = absurd (cc)
   unit-covered x direction (Some p) found e =
-      of-payments (nodes.UnitLoss x direction)
+      of-payments (nodes.Security x (of_securities.UnitLoss direction))
       (not-either (not (same_name p.security.currency name)) same
       (not-same (is_paying p) (keeps_rates name old new p.security.currency) e))
       (unit-listed sheet x p found direction)
@@ -257,11 +261,11 @@ module _ (factors : FactorValues) (sheet : BalanceSheet) (name : List ℕ) (new 
 
   loss-covered : (x : List ℕ) (projection : Projection) (l : Option Liability) → liability_of x sheet.liabilities ≡ l
       → loss_moved name old new projection l ≡ true
-      → IsMember (nodes.LiabilityLoss x projection) (curve_nodes sheet name old new)
+      → IsMember (nodes.Liability x (of_liabilities.Loss projection)) (curve_nodes sheet name old new)
   loss-covered x projection None found e =
       let never : true ≡ false = not-same (is_under projection None) true e in absurd (cc)
   loss-covered x projection (Some l) found e =
-      of-payments (nodes.LiabilityLoss x projection)
+      of-payments (nodes.Liability x (of_liabilities.Loss projection))
       (not-either (not (same_name l.currency name)) same
       (not-same (is_under projection (Some l)) (keeps_rates name old new l.currency) e))
       (loss-listed sheet x l found projection
@@ -275,45 +279,45 @@ module _ (factors : FactorValues) (sheet : BalanceSheet) (name : List ℕ) (new 
 
   pub covers : (node : Node) → curve_touches sheet name old new node ≡ true
       → IsMember node (curve_nodes sheet name old new)
-  covers (nodes.UnitLoss x direction) e = unit-covered x direction (position_of x sheet.securities) refl e
-  covers (nodes.LiabilityRate x direction) e =
-      value-covered x (nodes.LiabilityRate x direction) (rate-in x direction) (liability_of x sheet.liabilities) refl e
-  covers (nodes.LiabilityPresent x) e =
-      value-covered x (nodes.LiabilityPresent x) (present-in x) (liability_of x sheet.liabilities) refl e
-  covers (nodes.LiabilityLoss x projection) e =
+  covers (nodes.Security x (of_securities.UnitLoss direction)) e = unit-covered x direction (position_of x sheet.securities) refl e
+  covers (nodes.Liability x (of_liabilities.Rate direction)) e =
+      value-covered x (nodes.Liability x (of_liabilities.Rate direction)) (rate-in x direction) (liability_of x sheet.liabilities) refl e
+  covers (nodes.Liability x of_liabilities.Present) e =
+      value-covered x (nodes.Liability x of_liabilities.Present) (present-in x) (liability_of x sheet.liabilities) refl e
+  covers (nodes.Liability x (of_liabilities.Loss projection)) e =
       loss-covered x projection (liability_of x sheet.liabilities) refl e
-  covers (nodes.CurrencyLoss x directions.Up) e =
-      of-currency (nodes.CurrencyLoss x directions.Up)
-      (inl (ap (λ n. nodes.CurrencyLoss n directions.Up) (name-is x (currency_touched old new) e)))
-  covers (nodes.CurrencyLoss x directions.Down) e =
-      of-currency (nodes.CurrencyLoss x directions.Down)
-      (inr (inl (ap (λ n. nodes.CurrencyLoss n directions.Down) (name-is x (currency_touched old new) e))))
-  covers (nodes.InterestScenario directions.Up measures.Gross) e =
-      of-currency (nodes.InterestScenario directions.Up measures.Gross) (inr (inr (inl refl)))
-  covers (nodes.InterestScenario directions.Down measures.Gross) e =
-      of-currency (nodes.InterestScenario directions.Down measures.Gross) (inr (inr (inr (inl refl))))
-  covers (nodes.Currency measures.Gross) e =
-      of-currency (nodes.Currency measures.Gross) (inr (inr (inr (inr (inl refl)))))
-  covers (nodes.Currency measures.Net) e =
-      of-currency (nodes.Currency measures.Net) (inr (inr (inr (inr (inr (inl refl))))))
-  covers (nodes.CurrencyScenario x directions.Up measures.Gross) e =
-      foreign-covered x (λ n. nodes.CurrencyScenario n directions.Up measures.Gross) (foreign_touched sheet old new) e
+  covers (nodes.Currency x (of_currencies.Loss directions.Up)) e =
+      of-currency (nodes.Currency x (of_currencies.Loss directions.Up))
+      (inl (ap (λ n. nodes.Currency n (of_currencies.Loss directions.Up)) (name-is x (currency_touched old new) e)))
+  covers (nodes.Currency x (of_currencies.Loss directions.Down)) e =
+      of-currency (nodes.Currency x (of_currencies.Loss directions.Down))
+      (inr (inl (ap (λ n. nodes.Currency n (of_currencies.Loss directions.Down)) (name-is x (currency_touched old new) e))))
+  covers (nodes.Whole (wholes.InterestScenario directions.Up measures.Gross)) e =
+      of-currency (nodes.Whole (wholes.InterestScenario directions.Up measures.Gross)) (inr (inr (inl refl)))
+  covers (nodes.Whole (wholes.InterestScenario directions.Down measures.Gross)) e =
+      of-currency (nodes.Whole (wholes.InterestScenario directions.Down measures.Gross)) (inr (inr (inr (inl refl))))
+  covers (nodes.Whole (wholes.Currency measures.Gross)) e =
+      of-currency (nodes.Whole (wholes.Currency measures.Gross)) (inr (inr (inr (inr (inl refl)))))
+  covers (nodes.Whole (wholes.Currency measures.Net)) e =
+      of-currency (nodes.Whole (wholes.Currency measures.Net)) (inr (inr (inr (inr (inr (inl refl))))))
+  covers (nodes.Currency x (of_currencies.Scenario directions.Up measures.Gross)) e =
+      foreign-covered x (λ n. nodes.Currency n (of_currencies.Scenario directions.Up measures.Gross)) (foreign_touched sheet old new) e
       (λ n. inl refl)
-  covers (nodes.CurrencyScenario x directions.Up measures.Net) e =
-      foreign-covered x (λ n. nodes.CurrencyScenario n directions.Up measures.Net)
+  covers (nodes.Currency x (of_currencies.Scenario directions.Up measures.Net)) e =
+      foreign-covered x (λ n. nodes.Currency n (of_currencies.Scenario directions.Up measures.Net))
       (net_touched sheet directions.Up old new) e (λ n. inr (inl refl))
-  covers (nodes.CurrencyScenario x directions.Down measures.Gross) e =
-      foreign-covered x (λ n. nodes.CurrencyScenario n directions.Down measures.Gross) (foreign_touched sheet old new) e
+  covers (nodes.Currency x (of_currencies.Scenario directions.Down measures.Gross)) e =
+      foreign-covered x (λ n. nodes.Currency n (of_currencies.Scenario directions.Down measures.Gross)) (foreign_touched sheet old new) e
       (λ n. inr (inr (inl refl)))
-  covers (nodes.CurrencyScenario x directions.Down measures.Net) e =
-      foreign-covered x (λ n. nodes.CurrencyScenario n directions.Down measures.Net)
+  covers (nodes.Currency x (of_currencies.Scenario directions.Down measures.Net)) e =
+      foreign-covered x (λ n. nodes.Currency n (of_currencies.Scenario directions.Down measures.Net))
       (net_touched sheet directions.Down old new) e (λ n. inr (inr (inr (inl refl))))
-  covers (nodes.CurrencyChoice x) e =
-      foreign-covered x nodes.CurrencyChoice (foreign_touched sheet old new) e (λ n. inr (inr (inr (inr (inl refl)))))
-  covers (nodes.CurrencyPicked x measures.Gross) e =
-      foreign-covered x (λ n. nodes.CurrencyPicked n measures.Gross) (foreign_touched sheet old new) e
+  covers (nodes.Currency x of_currencies.Choice) e =
+      foreign-covered x (λ name. nodes.Currency name of_currencies.Choice) (foreign_touched sheet old new) e (λ n. inr (inr (inr (inr (inl refl)))))
+  covers (nodes.Currency x (of_currencies.Picked measures.Gross)) e =
+      foreign-covered x (λ n. nodes.Currency n (of_currencies.Picked measures.Gross)) (foreign_touched sheet old new) e
       (λ n. inr (inr (inr (inr (inr (inl refl))))))
-  covers (nodes.CurrencyPicked x measures.Net) e =
-      foreign-covered x (λ n. nodes.CurrencyPicked n measures.Net) (foreign_touched sheet old new) e
+  covers (nodes.Currency x (of_currencies.Picked measures.Net)) e =
+      foreign-covered x (λ n. nodes.Currency n (of_currencies.Picked measures.Net)) (foreign_touched sheet old new) e
       (λ n. inr (inr (inr (inr (inr (inr (inl refl)))))))
   covers node e = absurd (cc)

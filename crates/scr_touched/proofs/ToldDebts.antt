@@ -27,6 +27,8 @@ use Rattle.scr_nodes.specs.OwnOf.{reinsured}
 use Rattle.scr_nodes.specs.Rows.{is_bank_of, is_reinsurer_of}
 use Rattle.scr_nodes.specs.declared.node.Node.{Node}
 use Rattle.scr_nodes.specs.declared.node.Node.TheVariants as nodes
+use Rattle.scr_nodes.specs.declared.node.OfGroup.TheVariants as of_groups
+use Rattle.scr_nodes.specs.declared.node.Whole.TheVariants as wholes
 use Rattle.scr_touched.specs.Debts.{debt_touches, debt_losses}
 use Rattle.scr_touched.proofs.Decided.{Tells, told-by, unread}
 use Rattle.scr_touched.proofs.Given.{own-moved, same-class}
@@ -97,16 +99,16 @@ module _ (factors : FactorValues) (sheet : BalanceSheet) (name : List ℕ) where
   pub told-bank : (new : Option Bank) → HasName bank_name name new → (node : Node)
       → Tells factors sheet (bank_after new) node
       (debt_touches sheet (bank_debt (row_of bank_name name sheet.banks)) (bank_debt new) node)
-  told-bank new named (nodes.GroupLoss group) =
-      told-by factors sheet (bank_after new) (nodes.GroupLoss group) (is_group sheet group) (is_group sheet group)
+  told-bank new named (nodes.Group group of_groups.Loss) =
+      told-by factors sheet (bank_after new) (nodes.Group group of_groups.Loss) (is_group sheet group) (is_group sheet group)
       (gives_same (is_owed_by group) same_debt (bank_debt (row_of bank_name name sheet.banks)) (bank_debt new)) true
       refl refl
       (Decides-like _
       (λ e. ap (λ cents. Losses cents (map reinsured (filter (is_reinsurer_of group) sheet.reinsurers))) e)
       (λ e. ap banks_of e) (owed-by-bank new named group))
       (always refl)
-  told-bank new named (nodes.ClassSum class) =
-      unread factors sheet (bank_after new) (nodes.ClassSum class)
+  told-bank new named (nodes.Whole (wholes.ClassSum class)) =
+      unread factors sheet (bank_after new) (nodes.Whole (wholes.ClassSum class))
       (same-class factors sheet (bank_after new) class refl refl)
   told-bank new named node =
       unread factors sheet (bank_after new) node (record { live = refl; own = refl; sources = refl })
@@ -114,23 +116,23 @@ module _ (factors : FactorValues) (sheet : BalanceSheet) (name : List ℕ) where
   pub told-rein : (new : Option Rein) → HasName rein_name name new → (node : Node)
       → Tells factors sheet (rein_after new) node
       (debt_touches sheet (rein_debt (row_of rein_name name sheet.reinsurers)) (rein_debt new) node)
-  told-rein new named (nodes.GroupLoss group) =
-      told-by factors sheet (rein_after new) (nodes.GroupLoss group) (is_group sheet group) (is_group sheet group)
+  told-rein new named (nodes.Group group of_groups.Loss) =
+      told-by factors sheet (rein_after new) (nodes.Group group of_groups.Loss) (is_group sheet group) (is_group sheet group)
       (gives_same (is_owed_by group) same_debt (rein_debt (row_of rein_name name sheet.reinsurers)) (rein_debt new)) true
       refl refl
       (Decides-like _ (λ e. ap (Losses (map bank_cents (filter (is_bank_of group) sheet.banks))) e)
       (λ e. ap reinsurers_of e) (owed-by-rein new named group))
       (always refl)
-  told-rein new named (nodes.ClassSum class) =
-      unread factors sheet (rein_after new) (nodes.ClassSum class)
+  told-rein new named (nodes.Whole (wholes.ClassSum class)) =
+      unread factors sheet (rein_after new) (nodes.Whole (wholes.ClassSum class))
       (same-class factors sheet (rein_after new) class refl refl)
   told-rein new named node =
       unread factors sheet (rein_after new) node (record { live = refl; own = refl; sources = refl })
 
 pub covers : (sheet : BalanceSheet) (old new : Option Debt) (node : Node) → debt_touches sheet old new node ≡ true
     → IsMember node (debt_losses old ++ debt_losses new)
-covers sheet old new (nodes.GroupLoss group) touched =
-    in-given (is_owed_by group) same_debt debt_losses (nodes.GroupLoss group)
-    (λ debt e. inl (ap nodes.GroupLoss (same_name-is group debt.group e))) old new
+covers sheet old new (nodes.Group group of_groups.Loss) touched =
+    in-given (is_owed_by group) same_debt debt_losses (nodes.Group group of_groups.Loss)
+    (λ debt e. inl (ap (λ name. nodes.Group name of_groups.Loss) (same_name-is group debt.group e))) old new
     (own-moved (is_group sheet group) (gives_same (is_owed_by group) same_debt old new) touched)
 covers sheet old new node touched = absurd (cc)

@@ -21,6 +21,9 @@ use Rattle.scr_nodes.specs.Rows.{holders, holds, is_closed, is_component, securi
 use Rattle.scr_nodes.specs.Sources.{fund_total, holder_totals}
 use Rattle.scr_nodes.specs.declared.node.Node.{Node}
 use Rattle.scr_nodes.specs.declared.node.Node.TheVariants as nodes
+use Rattle.scr_nodes.specs.declared.node.OfFund.TheVariants as of_funds
+use Rattle.scr_nodes.specs.declared.node.OfSecurity.TheVariants as of_securities
+use Rattle.scr_nodes.specs.declared.node.Whole.TheVariants as wholes
 use Rattle.scr_changes.specs.Readings.{held_kept, stake_held, is_fund_after}
 use Rattle.scr_touched.specs.Funds.{component_nodes, fund_nodes, fund_touches, share_kept, is_same_share, holder_kept, share_of, totals_of}
 use Rattle.scr_changes.specs.Parts.{gives_same}
@@ -90,12 +93,12 @@ holder-is : (x : List ℕ) (old new : Option Stake) → holder_kept x old new �
 holder-is x old new = λ i. beq (has-share x old i) (has-share x new i)
 
 pub in-components : (x : List ℕ) (components : List (List ℕ × ℤ)) → list_any (is_component x) components ≡ true
-    → IsMember (nodes.FundTotal x) (flat_map (λ c. totals_of c.0) components)
-    × IsMember (nodes.SecurityTotal x) (flat_map (λ c. totals_of c.0) components)
+    → IsMember (nodes.Fund x of_funds.Total) (flat_map (λ c. totals_of c.0) components)
+    × IsMember (nodes.Security x of_securities.Total) (flat_map (λ c. totals_of c.0) components)
 in-components x [] e = absurd (cc)
 in-components x (c ∷ cs) e =
     same_or_other x c.0
-    (λ h. (inl (ap nodes.FundTotal (same_name-is x c.0 h)), inr (inl (ap nodes.SecurityTotal (same_name-is x c.0 h)))))
+    (λ h. (inl (ap (λ name. nodes.Fund name of_funds.Total) (same_name-is x c.0 h)), inr (inl (ap (λ name. nodes.Security name of_securities.Total) (same_name-is x c.0 h)))))
     (λ h. let later = in-components x cs (ap (λ b. b || list_any (is_component x) cs) (sym h) ∙ e) in
     (inr (inr later.0), inr (inr later.1)))
 
@@ -159,26 +162,26 @@ module _ (factors : FactorValues) (sheet : BalanceSheet) (name : List ℕ) (new 
   holders-told : (x : List ℕ) → Decides (holder_kept x old new) (holder_totals x sheet ≡ holder_totals x later)
   holders-told x =
       Decides-at (holder_kept x old new) (is_kept (holds x) old new) (holder-is x old new)
-      (listed stake_name name new sheet.funds named (holds x) fund_total (λ a b e. ap nodes.FundTotal e))
+      (listed stake_name name new sheet.funds named (holds x) fund_total (λ a b e. ap (λ name. nodes.Fund name of_funds.Total) e))
 
   pub told : (node : Node) → Tells factors sheet later node (fund_touches sheet name old new node)
-  told (nodes.FundTotal x) =
-      told-by factors sheet later (nodes.FundTotal x) (is_some (found x)) (is_fund_after sheet name new x)
+  told (nodes.Fund x of_funds.Total) =
+      told-by factors sheet later (nodes.Fund x of_funds.Total) (is_some (found x)) (is_fund_after sheet name new x)
       (held_kept name old new x && share_kept x old new) (holder_kept x old new) refl (live-after x)
       (held-same (held_kept name old new x) (share_kept x old new) (stake_held (found x)) (stake_held (found_after x))
       (map (share_in x) (holders x sheet)) (map (share_in x) (holders x later)) (held-told x) (shares-told x))
       (holders-told x)
-  told (nodes.SecurityTotal x) =
-      told-by factors sheet later (nodes.SecurityTotal x) (has_row position_name x sheet.securities)
+  told (nodes.Security x of_securities.Total) =
+      told-by factors sheet later (nodes.Security x of_securities.Total) (has_row position_name x sheet.securities)
       (has_row position_name x sheet.securities) (share_kept x old new) (holder_kept x old new) refl refl
       (held-same true (share_kept x old new) (security_held x sheet) (security_held x sheet)
       (map (share_in x) (holders x sheet)) (map (share_in x) (holders x later)) (always refl) (shares-told x))
       (holders-told x)
-  told (nodes.ClassSum classes.Type2Equity) =
-      told-by factors sheet later (nodes.ClassSum classes.Type2Equity) true true true (is_kept is_closed old new)
+  told (nodes.Whole (wholes.ClassSum classes.Type2Equity)) =
+      told-by factors sheet later (nodes.Whole (wholes.ClassSum classes.Type2Equity)) true true true (is_kept is_closed old new)
       refl refl (always refl)
       (preceded (is_kept is_closed old new) _ _ _
-      (listed stake_name name new sheet.funds named is_closed fund_total (λ a b e. ap nodes.FundTotal e)))
+      (listed stake_name name new sheet.funds named is_closed fund_total (λ a b e. ap (λ name. nodes.Fund name of_funds.Total) e)))
   told node = unread factors sheet later node (record { live = refl; own = refl; sources = refl })
 
   -- ---- candidates
@@ -193,15 +196,15 @@ module _ (factors : FactorValues) (sheet : BalanceSheet) (name : List ℕ) (new 
 
   pub covers : (node : Node) → fund_touches sheet name old new node ≡ true
       → IsMember node (fund_nodes name old ++ component_nodes new)
-  covers (nodes.FundTotal x) touched =
+  covers (nodes.Fund x of_funds.Total) touched =
       same_or_other x name
-      (λ h. inl (ap nodes.FundTotal (same_name-is x name h)))
-      (λ h. in-held (nodes.FundTotal x) x (λ stake f. (in-components x stake.fund.components f).0)
+      (λ h. inl (ap (λ name. nodes.Fund name of_funds.Total) (same_name-is x name h)))
+      (λ h. in-held (nodes.Fund x of_funds.Total) x (λ stake f. (in-components x stake.fund.components f).0)
       (moved (is_some (found x)) (share_kept x old new) (holder_kept x old new)
       (ap (λ b. is_touched (is_some (found x)) (cond b (is_some new) (is_some (found x)))
       ((not b || (stake_held old == stake_held new)) && share_kept x old new) (holder_kept x old new)) (sym h) ∙ touched)))
-  covers (nodes.SecurityTotal x) touched =
-      in-held (nodes.SecurityTotal x) x (λ stake f. (in-components x stake.fund.components f).1)
+  covers (nodes.Security x of_securities.Total) touched =
+      in-held (nodes.Security x of_securities.Total) x (λ stake f. (in-components x stake.fund.components f).1)
       (moved (has_row position_name x sheet.securities) (share_kept x old new) (holder_kept x old new) touched)
-  covers (nodes.ClassSum classes.Type2Equity) touched = inr (inl refl)
+  covers (nodes.Whole (wholes.ClassSum classes.Type2Equity)) touched = inr (inl refl)
   covers node touched = absurd (cc)

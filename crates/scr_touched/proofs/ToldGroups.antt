@@ -24,6 +24,9 @@ use Rattle.scr_nodes.specs.Rows.{class_of_step, is_of_default_class, is_of_group
 use Rattle.scr_nodes.specs.Sources.{concentration_square, group_loss, security_spread, sources_of}
 use Rattle.scr_nodes.specs.declared.node.Node.{Node}
 use Rattle.scr_nodes.specs.declared.node.Node.TheVariants as nodes
+use Rattle.scr_nodes.specs.declared.node.OfSecurity.TheVariants as of_securities
+use Rattle.scr_nodes.specs.declared.node.OfGroup.TheVariants as of_groups
+use Rattle.scr_nodes.specs.declared.node.Whole.TheVariants as wholes
 use Rattle.scr_changes.specs.Readings.{is_same_kind, kind_of, step_of, same_step}
 use Rattle.scr_touched.specs.Groups.{group_touches, group_nodes, later_group_nodes, own_nodes, class_nodes, spread_nodes, counts_in, is_moved, square_touched}
 use Rattle.scr_changes.specs.Changes.{after}
@@ -129,42 +132,42 @@ module _ (factors : FactorValues) (sheet : BalanceSheet) (name : List ℕ) (new 
   -- ---- all figures
 
   of-class : (class : ℕ) → Decides (is_kept (is_of_default_class class) old new)
-      (sources_of sheet (nodes.ClassLoss class) ≡ sources_of later (nodes.ClassLoss class))
+      (sources_of sheet (nodes.Whole (wholes.ClassLoss class)) ≡ sources_of later (nodes.Whole (wholes.ClassLoss class)))
   of-class class =
       listed group_name name new sheet.groups named (is_of_default_class class) group_loss
-      (λ a b e. ap nodes.GroupLoss e)
+      (λ a b e. ap (λ name. nodes.Group name of_groups.Loss) e)
 
   pub told : (node : Node) → Tells factors sheet later node (group_touches sheet name old new node)
-  told (nodes.SecuritySpread x) =
-      told-by factors sheet later (nodes.SecuritySpread x) (is_bond sheet x) (is_bond sheet x)
+  told (nodes.Security x of_securities.Spread) =
+      told-by factors sheet later (nodes.Security x of_securities.Spread) (is_bond sheet x) (is_bond sheet x)
       (not (counts_in sheet name x) || same_step old new) true refl refl
       (spread-same (position_of x sheet.securities)) (always refl)
-  told (nodes.GroupTotal x) =
-      own-row is_moved moved-still (nodes.GroupTotal x) x
-      (told-by factors sheet later (nodes.GroupTotal x) (is_some (found x)) (is_some (found_after x)) true true refl
+  told (nodes.Group x of_groups.Total) =
+      own-row is_moved moved-still (nodes.Group x of_groups.Total) x
+      (told-by factors sheet later (nodes.Group x of_groups.Total) (is_some (found x)) (is_some (found_after x)) true true refl
       refl
       (always refl) (always refl))
-  told (nodes.ConcentrationSquare x) =
-      own-row square_touched square-still (nodes.ConcentrationSquare x) x
-      (told-by factors sheet later (nodes.ConcentrationSquare x) (is_some (found x)) (is_some (found_after x))
+  told (nodes.Group x of_groups.ConcentrationSquare) =
+      own-row square_touched square-still (nodes.Group x of_groups.ConcentrationSquare) x
+      (told-by factors sheet later (nodes.Group x of_groups.ConcentrationSquare) (is_some (found x)) (is_some (found_after x))
       (is_same_kind (kind_of (found x)) (kind_of (found_after x)) && same_step (found x) (found_after x)) true refl refl
       (square-same (found x) (found_after x)) (always refl))
-  told nodes.Concentration =
-      told-by factors sheet later nodes.Concentration true true true (beq (is_some old) (is_some new)) refl refl
+  told (nodes.Whole wholes.Concentration) =
+      told-by factors sheet later (nodes.Whole wholes.Concentration) true true true (beq (is_some old) (is_some new)) refl refl
       (always refl)
-      (listed_all group_name name new sheet.groups named concentration_square (λ a b e. ap nodes.ConcentrationSquare e))
-  told (nodes.GroupLoss x) =
-      own-row is_moved moved-still (nodes.GroupLoss x) x
-      (told-by factors sheet later (nodes.GroupLoss x) (is_some (found x)) (is_some (found_after x)) true true refl refl
+      (listed_all group_name name new sheet.groups named concentration_square (λ a b e. ap (λ name. nodes.Group name of_groups.ConcentrationSquare) e))
+  told (nodes.Group x of_groups.Loss) =
+      own-row is_moved moved-still (nodes.Group x of_groups.Loss) x
+      (told-by factors sheet later (nodes.Group x of_groups.Loss) (is_some (found x)) (is_some (found_after x)) true true refl refl
       (always refl) (always refl))
-  told (nodes.ClassLoss class) =
-      told-by factors sheet later (nodes.ClassLoss class) (nat_lt class 6) (nat_lt class 6) true
+  told (nodes.Whole (wholes.ClassLoss class)) =
+      told-by factors sheet later (nodes.Whole (wholes.ClassLoss class)) (nat_lt class 6) (nat_lt class 6) true
       (is_kept (is_of_default_class class) old new) refl refl (always refl) (of-class class)
-  told (nodes.ClassSquare class) =
-      told-by factors sheet later (nodes.ClassSquare class) (nat_lt class 6) (nat_lt class 6) true
+  told (nodes.Whole (wholes.ClassSquare class)) =
+      told-by factors sheet later (nodes.Whole (wholes.ClassSquare class)) (nat_lt class 6) (nat_lt class 6) true
       (is_kept (is_of_default_class class) old new) refl refl (always refl) (of-class class)
-  told (nodes.ClassSum class) =
-      unread factors sheet later (nodes.ClassSum class) (same-class factors sheet later class refl refl)
+  told (nodes.Whole (wholes.ClassSum class)) =
+      unread factors sheet later (nodes.Whole (wholes.ClassSum class)) (same-class factors sheet later class refl refl)
   told node = unread factors sheet later node (record { live = refl; own = refl; sources = refl })
 
   -- ---- candidates
@@ -195,23 +198,23 @@ module _ (factors : FactorValues) (sheet : BalanceSheet) (name : List ℕ) (new 
 
   whole-covers : (node : Node) → group_touches sheet name old new node ≡ true
       → IsMember node whole
-  whole-covers (nodes.SecuritySpread x) e =
-      IsMember-right (own_nodes name) others (nodes.SecuritySpread x)
-      (IsMember-right (class_nodes old ++ class_nodes new) (spread_nodes sheet name) (nodes.SecuritySpread x)
-      (in-chosen position_name (is_of_group name) security_spread nodes.SecuritySpread (λ row. refl) x sheet.securities
+  whole-covers (nodes.Security x of_securities.Spread) e =
+      IsMember-right (own_nodes name) others (nodes.Security x of_securities.Spread)
+      (IsMember-right (class_nodes old ++ class_nodes new) (spread_nodes sheet name) (nodes.Security x of_securities.Spread)
+      (in-chosen position_name (is_of_group name) security_spread (λ name. nodes.Security name of_securities.Spread) (λ row. refl) x sheet.securities
       (not-either (counts_in sheet name x) (same_step old new)
       (own-moved (is_bond sheet x) (not (counts_in sheet name x) || same_step old new) e))))
-  whole-covers (nodes.GroupTotal x) e = inl (ap nodes.GroupTotal (name-is x (is_moved old new) e))
-  whole-covers (nodes.ConcentrationSquare x) e =
-      inr (inl (ap nodes.ConcentrationSquare (name-is x (square_touched old new) e)))
-  whole-covers (nodes.GroupLoss x) e = inr (inr (inl (ap nodes.GroupLoss (name-is x (is_moved old new) e))))
-  whole-covers nodes.Concentration e = inr (inr (inr (inl refl)))
-  whole-covers (nodes.ClassLoss class) e =
-      in-class (nodes.ClassLoss class) class e
-      (λ group f. inl (ap nodes.ClassLoss (sym ((Decides-eqb (class_of_step group.step) class).0 f))))
-  whole-covers (nodes.ClassSquare class) e =
-      in-class (nodes.ClassSquare class) class e
-      (λ group f. inr (inl (ap nodes.ClassSquare (sym ((Decides-eqb (class_of_step group.step) class).0 f)))))
+  whole-covers (nodes.Group x of_groups.Total) e = inl (ap (λ name. nodes.Group name of_groups.Total) (name-is x (is_moved old new) e))
+  whole-covers (nodes.Group x of_groups.ConcentrationSquare) e =
+      inr (inl (ap (λ name. nodes.Group name of_groups.ConcentrationSquare) (name-is x (square_touched old new) e)))
+  whole-covers (nodes.Group x of_groups.Loss) e = inr (inr (inl (ap (λ name. nodes.Group name of_groups.Loss) (name-is x (is_moved old new) e))))
+  whole-covers (nodes.Whole wholes.Concentration) e = inr (inr (inr (inl refl)))
+  whole-covers (nodes.Whole (wholes.ClassLoss class)) e =
+      in-class (nodes.Whole (wholes.ClassLoss class)) class e
+      (λ group f. inl (ap (λ name. nodes.Whole (wholes.ClassLoss name)) (sym ((Decides-eqb (class_of_step group.step) class).0 f))))
+  whole-covers (nodes.Whole (wholes.ClassSquare class)) e =
+      in-class (nodes.Whole (wholes.ClassSquare class)) class e
+      (λ group f. inr (inl (ap (λ name. nodes.Whole (wholes.ClassSquare name)) (sym ((Decides-eqb (class_of_step group.step) class).0 f)))))
   whole-covers node e = absurd (cc)
 
   pub covers : (node : Node) → group_touches sheet name old new node ≡ true

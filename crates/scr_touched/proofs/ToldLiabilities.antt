@@ -30,6 +30,9 @@ use Rattle.scr_nodes.specs.declared.node.Direction.TheVariants as directions
 use Rattle.scr_nodes.specs.declared.node.Measure.TheVariants as measures
 use Rattle.scr_nodes.specs.declared.node.Node.{Node}
 use Rattle.scr_nodes.specs.declared.node.Node.TheVariants as nodes
+use Rattle.scr_nodes.specs.declared.node.OfLiability.TheVariants as of_liabilities
+use Rattle.scr_nodes.specs.declared.node.OfCurrency.TheVariants as of_currencies
+use Rattle.scr_nodes.specs.declared.node.Whole.TheVariants as wholes
 use Rattle.scr_changes.specs.Changes.{after}
 use Rattle.scr_changes.specs.Comparisons.{is_kept, same_payments}
 use Rattle.scr_touched.specs.Comparisons.{is_touched}
@@ -120,51 +123,51 @@ module _ (factors : FactorValues) (sheet : BalanceSheet) (name : List ℕ) (new 
 
   pub told : (node : Node)
       → Tells factors sheet (after (changes.Liability name new) sheet) node (liability_touches sheet name old new node)
-  told (nodes.LiabilityRate x direction) =
-      own-row (value_touched sheet) value-still (nodes.LiabilityRate x direction) x
-      (told-by factors sheet later (nodes.LiabilityRate x direction) (is_some (found x)) (is_some (found_after x))
+  told (nodes.Liability x (of_liabilities.Rate direction)) =
+      own-row (value_touched sheet) value-still (nodes.Liability x (of_liabilities.Rate direction)) x
+      (told-by factors sheet later (nodes.Liability x (of_liabilities.Rate direction)) (is_some (found x)) (is_some (found_after x))
       (same_value sheet (found x) (found_after x)) true refl refl
       (cost-told (same_value sheet (found x) (found_after x)) (paid_of direction (found x))
       (paid_of direction (found_after x)) (paid-same direction (found x) (found_after x))) (always refl))
-  told (nodes.LiabilityPresent x) =
-      own-row (value_touched sheet) value-still (nodes.LiabilityPresent x) x
-      (told-by factors sheet later (nodes.LiabilityPresent x) (is_some (found x)) (is_some (found_after x))
+  told (nodes.Liability x of_liabilities.Present) =
+      own-row (value_touched sheet) value-still (nodes.Liability x of_liabilities.Present) x
+      (told-by factors sheet later (nodes.Liability x of_liabilities.Present) (is_some (found x)) (is_some (found_after x))
       (same_value sheet (found x) (found_after x)) true refl refl
       (worth-told (same_value sheet (found x) (found_after x)) (worth_of (found x)) (worth_of (found_after x))
       (worth-same (found x) (found_after x))) (always refl))
-  told (nodes.LiabilityLoss x projection) =
-      own-row (loss_touched sheet projection) (loss-still projection) (nodes.LiabilityLoss x projection) x
-      (told-by factors sheet later (nodes.LiabilityLoss x projection) (is_under projection (found x))
+  told (nodes.Liability x (of_liabilities.Loss projection)) =
+      own-row (loss_touched sheet projection) (loss-still projection) (nodes.Liability x (of_liabilities.Loss projection)) x
+      (told-by factors sheet later (nodes.Liability x (of_liabilities.Loss projection)) (is_under projection (found x))
       (is_under projection (found_after x)) _ true refl refl (loss-same projection (found x) (found_after x))
       (always refl))
-  told (nodes.CurrencyLoss currency direction) =
-      told-by factors sheet later (nodes.CurrencyLoss currency direction) _ _ true
+  told (nodes.Currency currency (of_currencies.Loss direction)) =
+      told-by factors sheet later (nodes.Currency currency (of_currencies.Loss direction)) _ _ true
       (is_kept (is_owed_in currency) old new) refl refl (always refl)
       (preceded (is_kept (is_owed_in currency) old new) _ _ _
       (listed liability_name name new sheet.liabilities named (is_owed_in currency) (liability_rate direction)
-      (λ a b e. ap (λ n. nodes.LiabilityRate n direction) e)))
-  told (nodes.CurrencyScenario currency direction measures.Gross) =
-      told-by factors sheet later (nodes.CurrencyScenario currency direction measures.Gross) _ _ true
+      (λ a b e. ap (λ n. nodes.Liability n (of_liabilities.Rate direction)) e)))
+  told (nodes.Currency currency (of_currencies.Scenario direction measures.Gross)) =
+      told-by factors sheet later (nodes.Currency currency (of_currencies.Scenario direction measures.Gross)) _ _ true
       (is_kept (is_owed_in currency) old new) refl refl (always refl)
       (preceded (is_kept (is_owed_in currency) old new) _ _ _
       (listed liability_name name new sheet.liabilities named (is_owed_in currency) liability_present
-      (λ a b e. ap nodes.LiabilityPresent e)))
-  told (nodes.BioScenario biometric projection measures.Gross) =
-      told-by factors sheet later (nodes.BioScenario biometric projection measures.Gross) _ _ true
+      (λ a b e. ap (λ name. nodes.Liability name of_liabilities.Present) e)))
+  told (nodes.Whole (wholes.BioScenario biometric projection measures.Gross)) =
+      told-by factors sheet later (nodes.Whole (wholes.BioScenario biometric projection measures.Gross)) _ _ true
       (is_kept (is_stressed biometric projection) old new) refl refl (always refl)
       (listed liability_name name new sheet.liabilities named (is_stressed biometric projection)
-      (liability_loss projection) (λ a b e. ap (λ n. nodes.LiabilityLoss n projection) e))
-  told (nodes.CurrencyScenario currency direction measures.Net) =
-      unread factors sheet later (nodes.CurrencyScenario currency direction measures.Net)
+      (liability_loss projection) (λ a b e. ap (λ n. nodes.Liability n (of_liabilities.Loss projection)) e))
+  told (nodes.Currency currency (of_currencies.Scenario direction measures.Net)) =
+      unread factors sheet later (nodes.Currency currency (of_currencies.Scenario direction measures.Net))
       (record { live = refl; own = refl; sources = refl })
-  told (nodes.InterestScenario direction measures.Gross) =
-      unread factors sheet later (nodes.InterestScenario direction measures.Gross)
+  told (nodes.Whole (wholes.InterestScenario direction measures.Gross)) =
+      unread factors sheet later (nodes.Whole (wholes.InterestScenario direction measures.Gross))
       (record { live = refl; own = refl; sources = refl })
-  told (nodes.ClassSum classes.Type2Equity) =
-      unread factors sheet later (nodes.ClassSum classes.Type2Equity)
+  told (nodes.Whole (wholes.ClassSum classes.Type2Equity)) =
+      unread factors sheet later (nodes.Whole (wholes.ClassSum classes.Type2Equity))
       (record { live = refl; own = refl; sources = refl })
-  told (nodes.Adjust adjustments.TechnicalProvisions) =
-      unread factors sheet later (nodes.Adjust adjustments.TechnicalProvisions)
+  told (nodes.Whole (wholes.Adjust adjustments.TechnicalProvisions)) =
+      unread factors sheet later (nodes.Whole (wholes.Adjust adjustments.TechnicalProvisions))
       (record { live = refl; own = refl; sources = refl })
   told node = unread factors sheet later node (record { live = refl; own = refl; sources = refl })
 
@@ -212,9 +215,9 @@ module _ (factors : FactorValues) (sheet : BalanceSheet) (name : List ℕ) (new 
 
   in-stresses : (biometric : Biometric) (projection : Projection) → (kept : Bool)
       → is_touched (has_stress biometric projection) (has_stress biometric projection) true kept ≡ true
-      → IsMember (nodes.BioScenario biometric projection measures.Gross) (stress_nodes biometric)
+      → IsMember (nodes.Whole (wholes.BioScenario biometric projection measures.Gross)) (stress_nodes biometric)
   in-stresses biometric projection kept e =
-      IsMember-mapped (λ p. nodes.BioScenario biometric p measures.Gross) stresses projection
+      IsMember-mapped (λ p. nodes.Whole (wholes.BioScenario biometric p measures.Gross)) stresses projection
       (stress-in projection (of biometric projection e))
     where
       of : (b : Biometric) (p : Projection) → is_touched (has_stress b p) (has_stress b p) true kept ≡ true
@@ -224,42 +227,42 @@ module _ (factors : FactorValues) (sheet : BalanceSheet) (name : List ℕ) (new 
 
   pub covers : (node : Node) → liability_touches sheet name old new node ≡ true
       → IsMember node (liability_nodes name old ++ owed_nodes new)
-  covers (nodes.LiabilityRate x direction) e =
-      of-value (nodes.LiabilityRate x direction)
-      (subst (λ n. IsMember (nodes.LiabilityRate x direction) (value_figures n)) (name-is x _ e) (rate-in x direction))
-  covers (nodes.LiabilityPresent x) e =
-      of-value (nodes.LiabilityPresent x)
-      (subst (λ n. IsMember (nodes.LiabilityPresent x) (value_figures n)) (name-is x _ e) (present-in x))
-  covers (nodes.LiabilityLoss x projection) e =
-      IsMember-right (value_figures name) (loss_figures name ++ stress_figures) (nodes.LiabilityLoss x projection)
-      (IsMember-left (loss_figures name) stress_figures (nodes.LiabilityLoss x projection)
-      (subst (λ n. IsMember (nodes.LiabilityLoss x projection) (loss_figures n)) (name-is x _ e)
+  covers (nodes.Liability x (of_liabilities.Rate direction)) e =
+      of-value (nodes.Liability x (of_liabilities.Rate direction))
+      (subst (λ n. IsMember (nodes.Liability x (of_liabilities.Rate direction)) (value_figures n)) (name-is x _ e) (rate-in x direction))
+  covers (nodes.Liability x of_liabilities.Present) e =
+      of-value (nodes.Liability x of_liabilities.Present)
+      (subst (λ n. IsMember (nodes.Liability x of_liabilities.Present) (value_figures n)) (name-is x _ e) (present-in x))
+  covers (nodes.Liability x (of_liabilities.Loss projection)) e =
+      IsMember-right (value_figures name) (loss_figures name ++ stress_figures) (nodes.Liability x (of_liabilities.Loss projection))
+      (IsMember-left (loss_figures name) stress_figures (nodes.Liability x (of_liabilities.Loss projection))
+      (subst (λ n. IsMember (nodes.Liability x (of_liabilities.Loss projection)) (loss_figures n)) (name-is x _ e)
       (loss-in x projection
       (is-stress projection (second_of_both (same_name x name) (loss_touched sheet projection old new) e)))))
-  covers (nodes.CurrencyLoss currency directions.Up) e =
-      of-owed (nodes.CurrencyLoss currency directions.Up) currency (has_row curve_name currency sheet.curves) e
-      (λ row f. inl (ap (λ n. nodes.CurrencyLoss n directions.Up) f))
-  covers (nodes.CurrencyLoss currency directions.Down) e =
-      of-owed (nodes.CurrencyLoss currency directions.Down) currency (has_row curve_name currency sheet.curves) e
-      (λ row f. inr (inl (ap (λ n. nodes.CurrencyLoss n directions.Down) f)))
-  covers (nodes.CurrencyScenario currency directions.Up measures.Gross) e =
-      of-owed (nodes.CurrencyScenario currency directions.Up measures.Gross) currency
+  covers (nodes.Currency currency (of_currencies.Loss directions.Up)) e =
+      of-owed (nodes.Currency currency (of_currencies.Loss directions.Up)) currency (has_row curve_name currency sheet.curves) e
+      (λ row f. inl (ap (λ n. nodes.Currency n (of_currencies.Loss directions.Up)) f))
+  covers (nodes.Currency currency (of_currencies.Loss directions.Down)) e =
+      of-owed (nodes.Currency currency (of_currencies.Loss directions.Down)) currency (has_row curve_name currency sheet.curves) e
+      (λ row f. inr (inl (ap (λ n. nodes.Currency n (of_currencies.Loss directions.Down)) f)))
+  covers (nodes.Currency currency (of_currencies.Scenario directions.Up measures.Gross)) e =
+      of-owed (nodes.Currency currency (of_currencies.Scenario directions.Up measures.Gross)) currency
       (is_foreign_currency sheet currency) e
-      (λ row f. inr (inr (inl (ap (λ n. nodes.CurrencyScenario n directions.Up measures.Gross) f))))
-  covers (nodes.CurrencyScenario currency directions.Down measures.Gross) e =
-      of-owed (nodes.CurrencyScenario currency directions.Down measures.Gross) currency
+      (λ row f. inr (inr (inl (ap (λ n. nodes.Currency n (of_currencies.Scenario directions.Up measures.Gross)) f))))
+  covers (nodes.Currency currency (of_currencies.Scenario directions.Down measures.Gross)) e =
+      of-owed (nodes.Currency currency (of_currencies.Scenario directions.Down measures.Gross)) currency
       (is_foreign_currency sheet currency) e
-      (λ row f. inr (inr (inr (inl (ap (λ n. nodes.CurrencyScenario n directions.Down measures.Gross) f)))))
-  covers (nodes.BioScenario biometrics.Life projection measures.Gross) e =
-      of-stress (nodes.BioScenario biometrics.Life projection measures.Gross)
+      (λ row f. inr (inr (inr (inl (ap (λ n. nodes.Currency n (of_currencies.Scenario directions.Down measures.Gross)) f)))))
+  covers (nodes.Whole (wholes.BioScenario biometrics.Life projection measures.Gross)) e =
+      of-stress (nodes.Whole (wholes.BioScenario biometrics.Life projection measures.Gross))
       (IsMember-left life (health ++ owed)
-      (nodes.BioScenario biometrics.Life projection measures.Gross)
+      (nodes.Whole (wholes.BioScenario biometrics.Life projection measures.Gross))
       (in-stresses biometrics.Life projection (is_kept (is_stressed biometrics.Life projection) old new) e))
-  covers (nodes.BioScenario biometrics.Health projection measures.Gross) e =
-      of-stress (nodes.BioScenario biometrics.Health projection measures.Gross)
+  covers (nodes.Whole (wholes.BioScenario biometrics.Health projection measures.Gross)) e =
+      of-stress (nodes.Whole (wholes.BioScenario biometrics.Health projection measures.Gross))
       (IsMember-right life (health ++ owed)
-      (nodes.BioScenario biometrics.Health projection measures.Gross)
+      (nodes.Whole (wholes.BioScenario biometrics.Health projection measures.Gross))
       (IsMember-left health owed
-      (nodes.BioScenario biometrics.Health projection measures.Gross)
+      (nodes.Whole (wholes.BioScenario biometrics.Health projection measures.Gross))
       (in-stresses biometrics.Health projection (is_kept (is_stressed biometrics.Health projection) old new) e)))
   covers node e = absurd (cc)

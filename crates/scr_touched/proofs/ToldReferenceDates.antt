@@ -32,6 +32,10 @@ use Rattle.scr_nodes.specs.declared.node.Measure.{Measure}
 use Rattle.scr_nodes.specs.declared.node.Measure.TheVariants as measures
 use Rattle.scr_nodes.specs.declared.node.Node.{Node}
 use Rattle.scr_nodes.specs.declared.node.Node.TheVariants as nodes
+use Rattle.scr_nodes.specs.declared.node.OfSecurity.TheVariants as of_securities
+use Rattle.scr_nodes.specs.declared.node.OfLiability.TheVariants as of_liabilities
+use Rattle.scr_nodes.specs.declared.node.OfCurrency.TheVariants as of_currencies
+use Rattle.scr_nodes.specs.declared.node.Whole.TheVariants as wholes
 use Rattle.scr_nodes.specs.declared.node.Operational.TheVariants as operations
 use Rattle.scr_changes.specs.Changes.{after}
 use Rattle.scr_changes.specs.Comparisons.{passes}
@@ -141,55 +145,55 @@ module _ (factors : FactorValues) (sheet : BalanceSheet) (date : Day) (currency 
 
   pub told : (node : Node)
       → Tells factors sheet (after (changes.Asof date currency) sheet) node (date_touches sheet date currency node)
-  told (nodes.UnitLoss x direction) =
-      told-by factors sheet later (nodes.UnitLoss x direction) _ _ same true refl refl
+  told (nodes.Security x (of_securities.UnitLoss direction)) =
+      told-by factors sheet later (nodes.Security x (of_securities.UnitLoss direction)) _ _ same true refl refl
       (loss-told same (paid_of direction sheet (position_of x sheet.securities))
       (paid_of direction later (position_of x sheet.securities))
       (security-same direction (position_of x sheet.securities))) (always refl)
-  told (nodes.LiabilityRate x direction) =
-      told-by factors sheet later (nodes.LiabilityRate x direction) _ _ same true refl refl
+  told (nodes.Liability x (of_liabilities.Rate direction)) =
+      told-by factors sheet later (nodes.Liability x (of_liabilities.Rate direction)) _ _ same true refl refl
       (cost-told same (owed_of direction sheet (liability_of x sheet.liabilities))
       (owed_of direction later (liability_of x sheet.liabilities))
       (liability-same direction (liability_of x sheet.liabilities))) (always refl)
-  told (nodes.LiabilityPresent x) =
-      told-by factors sheet later (nodes.LiabilityPresent x) _ _ same true refl refl
+  told (nodes.Liability x of_liabilities.Present) =
+      told-by factors sheet later (nodes.Liability x of_liabilities.Present) _ _ same true refl refl
       (worth-told same (worth_of sheet (liability_of x sheet.liabilities))
       (worth_of later (liability_of x sheet.liabilities)) (worth-same (liability_of x sheet.liabilities)))
       (always refl)
-  told (nodes.LiabilityLoss x projection) =
-      told-by factors sheet later (nodes.LiabilityLoss x projection) _ _ same true refl refl
+  told (nodes.Liability x (of_liabilities.Loss projection)) =
+      told-by factors sheet later (nodes.Liability x (of_liabilities.Loss projection)) _ _ same true refl refl
       (excess-told same (worth_of sheet (liability_of x sheet.liabilities))
       (worth_of later (liability_of x sheet.liabilities)) (paid_under sheet x projection)
       (worth-same (liability_of x sheet.liabilities))) (always refl)
-  told (nodes.CurrencyScenario x direction measures.Gross) =
-      told-by factors sheet later (nodes.CurrencyScenario x direction measures.Gross) _ _ true true refl refl
+  told (nodes.Currency x (of_currencies.Scenario direction measures.Gross)) =
+      told-by factors sheet later (nodes.Currency x (of_currencies.Scenario direction measures.Gross)) _ _ true true refl refl
       (always refl) (always refl)
-  told (nodes.CurrencyScenario x direction measures.Net) =
-      told-by factors sheet later (nodes.CurrencyScenario x direction measures.Net) _ _ true true refl refl
+  told (nodes.Currency x (of_currencies.Scenario direction measures.Net)) =
+      told-by factors sheet later (nodes.Currency x (of_currencies.Scenario direction measures.Net)) _ _ true true refl refl
       (always refl) (always refl)
-  told (nodes.CurrencyChoice x) =
-      told-by factors sheet later (nodes.CurrencyChoice x) _ _ true true refl refl (always refl) (always refl)
-  told (nodes.CurrencyPicked x measure) =
-      told-by factors sheet later (nodes.CurrencyPicked x measure) _ _ true true refl refl (always refl) (always refl)
-  told (nodes.Currency measure) =
-      told-by factors sheet later (nodes.Currency measure) true true true (same_name reporting currency) refl refl
+  told (nodes.Currency x of_currencies.Choice) =
+      told-by factors sheet later (nodes.Currency x of_currencies.Choice) _ _ true true refl refl (always refl) (always refl)
+  told (nodes.Currency x (of_currencies.Picked measure)) =
+      told-by factors sheet later (nodes.Currency x (of_currencies.Picked measure)) _ _ true true refl refl (always refl) (always refl)
+  told (nodes.Whole (wholes.Currency measure)) =
+      told-by factors sheet later (nodes.Whole (wholes.Currency measure)) true true true (same_name reporting currency) refl refl
       (always refl) (lists-told measure)
-  told (nodes.InterestScenario direction measures.Gross) =
-      unread factors sheet later (nodes.InterestScenario direction measures.Gross)
+  told (nodes.Whole (wholes.InterestScenario direction measures.Gross)) =
+      unread factors sheet later (nodes.Whole (wholes.InterestScenario direction measures.Gross))
       (record { live = refl; own = refl; sources = refl })
-  told (nodes.ClassSum classes.Type2Equity) =
-      unread factors sheet later (nodes.ClassSum classes.Type2Equity)
+  told (nodes.Whole (wholes.ClassSum classes.Type2Equity)) =
+      unread factors sheet later (nodes.Whole (wholes.ClassSum classes.Type2Equity))
       (record { live = refl; own = refl; sources = refl })
-  told (nodes.BioScenario biometric projection measures.Gross) =
-      unread factors sheet later (nodes.BioScenario biometric projection measures.Gross)
+  told (nodes.Whole (wholes.BioScenario biometric projection measures.Gross)) =
+      unread factors sheet later (nodes.Whole (wholes.BioScenario biometric projection measures.Gross))
       (record { live = refl; own = refl; sources = refl })
-  told (nodes.Segment sets.Nl number) =
-      unread factors sheet later (nodes.Segment sets.Nl number) (record { live = refl; own = refl; sources = refl })
-  told (nodes.OpPart operations.Premiums) =
-      unread factors sheet later (nodes.OpPart operations.Premiums)
+  told (nodes.Whole (wholes.Segment sets.Nl number)) =
+      unread factors sheet later (nodes.Whole (wholes.Segment sets.Nl number)) (record { live = refl; own = refl; sources = refl })
+  told (nodes.Whole (wholes.OpPart operations.Premiums)) =
+      unread factors sheet later (nodes.Whole (wholes.OpPart operations.Premiums))
       (record { live = refl; own = refl; sources = refl })
-  told (nodes.Adjust adjustments.TechnicalProvisions) =
-      unread factors sheet later (nodes.Adjust adjustments.TechnicalProvisions)
+  told (nodes.Whole (wholes.Adjust adjustments.TechnicalProvisions)) =
+      unread factors sheet later (nodes.Whole (wholes.Adjust adjustments.TechnicalProvisions))
       (record { live = refl; own = refl; sources = refl })
   told node = unread factors sheet later node (record { live = refl; own = refl; sources = refl })
 
@@ -198,7 +202,7 @@ module _ (factors : FactorValues) (sheet : BalanceSheet) (date : Day) (currency 
   abbrev reporting_figures : List Node
   reporting_figures =
       foreign_nodes reporting ++ (foreign_nodes currency
-      ++ nodes.Currency measures.Gross ∷ nodes.Currency measures.Net ∷ [])
+      ++ nodes.Whole (wholes.Currency measures.Gross) ∷ nodes.Whole (wholes.Currency measures.Net) ∷ [])
 
   abbrev whole : List Node
   whole = moved_nodes sheet same ++ reporting_figures
@@ -209,10 +213,10 @@ module _ (factors : FactorValues) (sheet : BalanceSheet) (date : Day) (currency 
 
   unit-covered : (x : List ℕ) (direction : Direction) (p : Option Position) → position_of x sheet.securities ≡ p
       → dated_touched sheet date (passes is_paying p) ≡ true
-      → IsMember (nodes.UnitLoss x direction) whole
+      → IsMember (nodes.Security x (of_securities.UnitLoss direction)) whole
   unit-covered x direction None found e = absurd (cc)
   unit-covered x direction (Some p) found e =
-      of-payments (nodes.UnitLoss x direction) (not-same (is_paying p) same e) (unit-listed sheet x p found direction)
+      of-payments (nodes.Security x (of_securities.UnitLoss direction)) (not-same (is_paying p) same e) (unit-listed sheet x p found direction)
 
   value-covered : (x : List ℕ) (node : Node) → IsMember node (value_figures x) → (l : Option Liability)
       → liability_of x sheet.liabilities ≡ l → dated_touched sheet date (is_some l) ≡ true
@@ -223,14 +227,14 @@ module _ (factors : FactorValues) (sheet : BalanceSheet) (date : Day) (currency 
 
   loss-covered : (x : List ℕ) (projection : Projection) (l : Option Liability) → liability_of x sheet.liabilities ≡ l
       → dated_touched sheet date (is_under projection l) ≡ true
-      → IsMember (nodes.LiabilityLoss x projection) whole
+      → IsMember (nodes.Liability x (of_liabilities.Loss projection)) whole
   loss-covered x projection None found e = absurd (never (is_stress projection) e)
     where
       never : (b : Bool) → dated_touched sheet date (b && false) ≡ true → ⊥
       never true f = absurd (cc)
       never false f = absurd (cc)
   loss-covered x projection (Some l) found e =
-      of-payments (nodes.LiabilityLoss x projection) (not-same (is_under projection (Some l)) same e)
+      of-payments (nodes.Liability x (of_liabilities.Loss projection)) (not-same (is_under projection (Some l)) same e)
       (loss-listed sheet x l found projection (under-stress projection _ same e))
 
   -- a figure of a currency that becomes foreign, or ceases to be so
@@ -252,54 +256,54 @@ module _ (factors : FactorValues) (sheet : BalanceSheet) (date : Day) (currency 
           → IsMember (f x) reporting_figures
       by (inl g) =
           IsMember-left (foreign_nodes reporting) (foreign_nodes currency
-          ++ nodes.Currency measures.Gross ∷ nodes.Currency measures.Net ∷ []) (f x) (one reporting g)
+          ++ nodes.Whole (wholes.Currency measures.Gross) ∷ nodes.Whole (wholes.Currency measures.Net) ∷ []) (f x) (one reporting g)
       by (inr g) =
           IsMember-right (foreign_nodes reporting) (foreign_nodes currency
-          ++ nodes.Currency measures.Gross ∷ nodes.Currency measures.Net ∷ []) (f x)
-          (IsMember-left (foreign_nodes currency) (nodes.Currency measures.Gross ∷ nodes.Currency measures.Net ∷ [])
+          ++ nodes.Whole (wholes.Currency measures.Gross) ∷ nodes.Whole (wholes.Currency measures.Net) ∷ []) (f x)
+          (IsMember-left (foreign_nodes currency) (nodes.Whole (wholes.Currency measures.Gross) ∷ nodes.Whole (wholes.Currency measures.Net) ∷ [])
           (f x) (one currency g))
 
-  sum-covered : (node : Node) → IsMember node (nodes.Currency measures.Gross ∷ nodes.Currency measures.Net ∷ [])
+  sum-covered : (node : Node) → IsMember node (nodes.Whole (wholes.Currency measures.Gross) ∷ nodes.Whole (wholes.Currency measures.Net) ∷ [])
       → IsMember node whole
   sum-covered node m =
       IsMember-right (moved_nodes sheet same) reporting_figures node
       (IsMember-right (foreign_nodes reporting) (foreign_nodes currency
-      ++ nodes.Currency measures.Gross ∷ nodes.Currency measures.Net ∷ []) node
-      (IsMember-right (foreign_nodes currency) (nodes.Currency measures.Gross ∷ nodes.Currency measures.Net ∷ [])
+      ++ nodes.Whole (wholes.Currency measures.Gross) ∷ nodes.Whole (wholes.Currency measures.Net) ∷ []) node
+      (IsMember-right (foreign_nodes currency) (nodes.Whole (wholes.Currency measures.Gross) ∷ nodes.Whole (wholes.Currency measures.Net) ∷ [])
       node m))
 
   whole-covers : (node : Node) → date_touches sheet date currency node ≡ true
       → IsMember node whole
-  whole-covers (nodes.UnitLoss x direction) e = unit-covered x direction (position_of x sheet.securities) refl e
-  whole-covers (nodes.LiabilityRate x direction) e =
-      value-covered x (nodes.LiabilityRate x direction) (rate-in x direction) (liability_of x sheet.liabilities) refl e
-  whole-covers (nodes.LiabilityPresent x) e =
-      value-covered x (nodes.LiabilityPresent x) (present-in x) (liability_of x sheet.liabilities) refl e
-  whole-covers (nodes.LiabilityLoss x projection) e =
+  whole-covers (nodes.Security x (of_securities.UnitLoss direction)) e = unit-covered x direction (position_of x sheet.securities) refl e
+  whole-covers (nodes.Liability x (of_liabilities.Rate direction)) e =
+      value-covered x (nodes.Liability x (of_liabilities.Rate direction)) (rate-in x direction) (liability_of x sheet.liabilities) refl e
+  whole-covers (nodes.Liability x of_liabilities.Present) e =
+      value-covered x (nodes.Liability x of_liabilities.Present) (present-in x) (liability_of x sheet.liabilities) refl e
+  whole-covers (nodes.Liability x (of_liabilities.Loss projection)) e =
       loss-covered x projection (liability_of x sheet.liabilities) refl e
-  whole-covers (nodes.CurrencyScenario x directions.Up measures.Gross) e =
-      foreign-covered x (λ n. nodes.CurrencyScenario n directions.Up measures.Gross) (λ n. inl refl)
+  whole-covers (nodes.Currency x (of_currencies.Scenario directions.Up measures.Gross)) e =
+      foreign-covered x (λ n. nodes.Currency n (of_currencies.Scenario directions.Up measures.Gross)) (λ n. inl refl)
       (row_of curve_name x sheet.curves) refl e
-  whole-covers (nodes.CurrencyScenario x directions.Up measures.Net) e =
-      foreign-covered x (λ n. nodes.CurrencyScenario n directions.Up measures.Net) (λ n. inr (inl refl))
+  whole-covers (nodes.Currency x (of_currencies.Scenario directions.Up measures.Net)) e =
+      foreign-covered x (λ n. nodes.Currency n (of_currencies.Scenario directions.Up measures.Net)) (λ n. inr (inl refl))
       (row_of curve_name x sheet.curves) refl e
-  whole-covers (nodes.CurrencyScenario x directions.Down measures.Gross) e =
-      foreign-covered x (λ n. nodes.CurrencyScenario n directions.Down measures.Gross) (λ n. inr (inr (inl refl)))
+  whole-covers (nodes.Currency x (of_currencies.Scenario directions.Down measures.Gross)) e =
+      foreign-covered x (λ n. nodes.Currency n (of_currencies.Scenario directions.Down measures.Gross)) (λ n. inr (inr (inl refl)))
       (row_of curve_name x sheet.curves) refl e
-  whole-covers (nodes.CurrencyScenario x directions.Down measures.Net) e =
-      foreign-covered x (λ n. nodes.CurrencyScenario n directions.Down measures.Net) (λ n. inr (inr (inr (inl refl))))
+  whole-covers (nodes.Currency x (of_currencies.Scenario directions.Down measures.Net)) e =
+      foreign-covered x (λ n. nodes.Currency n (of_currencies.Scenario directions.Down measures.Net)) (λ n. inr (inr (inr (inl refl))))
       (row_of curve_name x sheet.curves) refl e
-  whole-covers (nodes.CurrencyChoice x) e =
-      foreign-covered x nodes.CurrencyChoice (λ n. inr (inr (inr (inr (inl refl)))))
+  whole-covers (nodes.Currency x of_currencies.Choice) e =
+      foreign-covered x (λ name. nodes.Currency name of_currencies.Choice) (λ n. inr (inr (inr (inr (inl refl)))))
       (row_of curve_name x sheet.curves) refl e
-  whole-covers (nodes.CurrencyPicked x measures.Gross) e =
-      foreign-covered x (λ n. nodes.CurrencyPicked n measures.Gross) (λ n. inr (inr (inr (inr (inr (inl refl))))))
+  whole-covers (nodes.Currency x (of_currencies.Picked measures.Gross)) e =
+      foreign-covered x (λ n. nodes.Currency n (of_currencies.Picked measures.Gross)) (λ n. inr (inr (inr (inr (inr (inl refl))))))
       (row_of curve_name x sheet.curves) refl e
-  whole-covers (nodes.CurrencyPicked x measures.Net) e =
-      foreign-covered x (λ n. nodes.CurrencyPicked n measures.Net) (λ n. inr (inr (inr (inr (inr (inr (inl refl)))))))
+  whole-covers (nodes.Currency x (of_currencies.Picked measures.Net)) e =
+      foreign-covered x (λ n. nodes.Currency n (of_currencies.Picked measures.Net)) (λ n. inr (inr (inr (inr (inr (inr (inl refl)))))))
       (row_of curve_name x sheet.curves) refl e
-  whole-covers (nodes.Currency measures.Gross) e = sum-covered (nodes.Currency measures.Gross) (inl refl)
-  whole-covers (nodes.Currency measures.Net) e = sum-covered (nodes.Currency measures.Net) (inr (inl refl))
+  whole-covers (nodes.Whole (wholes.Currency measures.Gross)) e = sum-covered (nodes.Whole (wholes.Currency measures.Gross)) (inl refl)
+  whole-covers (nodes.Whole (wholes.Currency measures.Net)) e = sum-covered (nodes.Whole (wholes.Currency measures.Net)) (inr (inl refl))
   whole-covers node e = absurd (cc)
 
   pub covers : (node : Node) → date_touches sheet date currency node ≡ true

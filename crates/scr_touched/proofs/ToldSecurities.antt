@@ -28,6 +28,10 @@ use Rattle.scr_nodes.specs.declared.node.Direction.TheVariants as directions
 use Rattle.scr_nodes.specs.declared.node.Measure.TheVariants as measures
 use Rattle.scr_nodes.specs.declared.node.Node.{Node}
 use Rattle.scr_nodes.specs.declared.node.Node.TheVariants as nodes
+use Rattle.scr_nodes.specs.declared.node.OfSecurity.TheVariants as of_securities
+use Rattle.scr_nodes.specs.declared.node.OfCurrency.TheVariants as of_currencies
+use Rattle.scr_nodes.specs.declared.node.OfGroup.TheVariants as of_groups
+use Rattle.scr_nodes.specs.declared.node.Whole.TheVariants as wholes
 use Rattle.scr_changes.specs.Changes.{after}
 use Rattle.scr_changes.specs.Comparisons.{passes, is_kept, same_payments, same_rates}
 use Rattle.scr_touched.specs.Comparisons.{is_touched}
@@ -85,9 +89,9 @@ same_class classes.Other classes.Other e = refl
 same_class a b e = absurd (cc)
 
 in-group : (group : List ℕ) (own : Option (List ℕ)) → option_map_or (same_name group) own false ≡ true
-    → IsMember (nodes.GroupTotal group) (group_nodes own)
+    → IsMember (nodes.Group group of_groups.Total) (group_nodes own)
 in-group group None e = absurd (cc)
-in-group group (Some own) e = inl (ap nodes.GroupTotal (same_name-is group own e))
+in-group group (Some own) e = inl (ap (λ name. nodes.Group name of_groups.Total) (same_name-is group own e))
 
 twice : (b : Bool) → (b && b) ≡ false → b ≡ false
 twice true e = absurd (cc)
@@ -170,75 +174,75 @@ module _ (factors : FactorValues) (sheet : BalanceSheet) (name : List ℕ) (new 
   spread-still p = untouched (passes (has_class classes.Bond) p) _ true ((spread-same p p).1 refl) refl
 
   total-of : (a b : Position) → position_name a ≡ position_name b → security_total a ≡ security_total b
-  total-of a b e = ap nodes.SecurityTotal e
+  total-of a b e = ap (λ name. nodes.Security name of_securities.Total) e
 
   totals : (test : Position → Bool) → Decides (is_kept test old new)
       (map security_total (filter test sheet.securities) ≡ map security_total (filter test later.securities))
   totals test = listed position_name name new sheet.securities named test security_total total-of
 
   pub told : (node : Node) → Tells factors sheet later node (security_touches sheet name old new node)
-  told (nodes.SecurityTotal x) =
-      own-row total_touched total-still (nodes.SecurityTotal x) x
-      (told-by factors sheet later (nodes.SecurityTotal x) (is_some (found x)) (is_some (found_after x))
+  told (nodes.Security x of_securities.Total) =
+      own-row total_touched total-still (nodes.Security x of_securities.Total) x
+      (told-by factors sheet later (nodes.Security x of_securities.Total) (is_some (found x)) (is_some (found_after x))
       (position_held (found x) == position_held (found_after x)) true refl refl
       (held-same (map (share_in x) (holders x sheet)) (position_held (found x)) (position_held (found_after x))) (always refl))
-  told (nodes.UnitLoss x direction) =
-      own-row (unit_touched sheet) unit-still (nodes.UnitLoss x direction) x
-      (told-by factors sheet later (nodes.UnitLoss x direction) (passes is_paying (found x))
+  told (nodes.Security x (of_securities.UnitLoss direction)) =
+      own-row (unit_touched sheet) unit-still (nodes.Security x (of_securities.UnitLoss direction)) x
+      (told-by factors sheet later (nodes.Security x (of_securities.UnitLoss direction)) (passes is_paying (found x))
       (passes is_paying (found_after x)) _ true refl refl
       (unit-same direction (found x) (found_after x)) (always refl))
-  told (nodes.SecurityRate x direction) =
-      own-row rate_touched rate-still (nodes.SecurityRate x direction) x
-      (told-by factors sheet later (nodes.SecurityRate x direction) (passes is_paying (found x))
+  told (nodes.Security x (of_securities.Rate direction)) =
+      own-row rate_touched rate-still (nodes.Security x (of_securities.Rate direction)) x
+      (told-by factors sheet later (nodes.Security x (of_securities.Rate direction)) (passes is_paying (found x))
       (passes is_paying (found_after x)) true true refl refl (always refl) (always refl))
-  told (nodes.CurrencyLoss currency direction) =
-      told-by factors sheet later (nodes.CurrencyLoss currency direction) _ _ true
+  told (nodes.Currency currency (of_currencies.Loss direction)) =
+      told-by factors sheet later (nodes.Currency currency (of_currencies.Loss direction)) _ _ true
       (is_kept (is_paying_in currency) old new) refl refl (always refl)
       (followed (is_kept (is_paying_in currency) old new) _ _ _
       (listed position_name name new sheet.securities named (is_paying_in currency) (security_rate direction)
-      (λ a b e. ap (λ n. nodes.SecurityRate n direction) e)))
-  told (nodes.CurrencyScenario currency direction measures.Gross) =
-      told-by factors sheet later (nodes.CurrencyScenario currency direction measures.Gross) _ _
+      (λ a b e. ap (λ n. nodes.Security n (of_securities.Rate direction)) e)))
+  told (nodes.Currency currency (of_currencies.Scenario direction measures.Gross)) =
+      told-by factors sheet later (nodes.Currency currency (of_currencies.Scenario direction measures.Gross)) _ _
       (is_kept (is_held_in currency) old new) (is_kept (is_held_in currency) old new) refl refl
       (foreign-same direction (is_kept (is_held_in currency) old new) _ _
       (counted position_name name new sheet.securities named (is_held_in currency)))
       (followed (is_kept (is_held_in currency) old new) _ _ _ (totals (is_held_in currency)))
-  told (nodes.CurrencyScenario currency direction measures.Net) =
-      unread factors sheet later (nodes.CurrencyScenario currency direction measures.Net)
+  told (nodes.Currency currency (of_currencies.Scenario direction measures.Net)) =
+      unread factors sheet later (nodes.Currency currency (of_currencies.Scenario direction measures.Net))
       (record { live = refl; own = refl; sources = refl })
-  told (nodes.ClassSum class) =
-      told-by factors sheet later (nodes.ClassSum class) true true true (is_kept (has_class class) old new) refl refl
+  told (nodes.Whole (wholes.ClassSum class)) =
+      told-by factors sheet later (nodes.Whole (wholes.ClassSum class)) true true true (is_kept (has_class class) old new) refl refl
       (always refl) (of-class class)
     where
       of-class : (c : Class) → Decides (is_kept (has_class c) old new)
-          (sources_of sheet (nodes.ClassSum c) ≡ sources_of later (nodes.ClassSum c))
+          (sources_of sheet (nodes.Whole (wholes.ClassSum c)) ≡ sources_of later (nodes.Whole (wholes.ClassSum c)))
       of-class classes.Type2Equity =
           followed (is_kept (has_class classes.Type2Equity) old new) _ _ _ (totals (has_class classes.Type2Equity))
       of-class c = followed (is_kept (has_class c) old new) _ _ _ (totals (has_class c))
-  told (nodes.SecuritySpread x) =
-      own-row (spread_touched sheet) spread-still (nodes.SecuritySpread x) x
-      (told-by factors sheet later (nodes.SecuritySpread x) (passes (has_class classes.Bond) (found x))
+  told (nodes.Security x of_securities.Spread) =
+      own-row (spread_touched sheet) spread-still (nodes.Security x of_securities.Spread) x
+      (told-by factors sheet later (nodes.Security x of_securities.Spread) (passes (has_class classes.Bond) (found x))
       (passes (has_class classes.Bond) (found_after x)) _ true refl refl
       (spread-same (found x) (found_after x)) (always refl))
-  told nodes.Spread =
-      told-by factors sheet later nodes.Spread true true true (is_kept (has_class classes.Bond) old new) refl refl
+  told (nodes.Whole wholes.Spread) =
+      told-by factors sheet later (nodes.Whole wholes.Spread) true true true (is_kept (has_class classes.Bond) old new) refl refl
       (always refl)
       (listed position_name name new sheet.securities named (has_class classes.Bond) security_spread
-      (λ a b e. ap nodes.SecuritySpread e))
-  told (nodes.GroupTotal group) =
-      told-by factors sheet later (nodes.GroupTotal group) _ _ true (is_kept (is_of_group group) old new) refl refl
+      (λ a b e. ap (λ name. nodes.Security name of_securities.Spread) e))
+  told (nodes.Group group of_groups.Total) =
+      told-by factors sheet later (nodes.Group group of_groups.Total) _ _ true (is_kept (is_of_group group) old new) refl refl
       (always refl) (totals (is_of_group group))
-  told nodes.Assets =
-      told-by factors sheet later nodes.Assets true true true (is_kept has_group old new) refl refl (always refl)
+  told (nodes.Whole wholes.Assets) =
+      told-by factors sheet later (nodes.Whole wholes.Assets) true true true (is_kept has_group old new) refl refl (always refl)
       (totals has_group)
-  told (nodes.InterestScenario direction measures.Gross) =
-      unread factors sheet later (nodes.InterestScenario direction measures.Gross)
+  told (nodes.Whole (wholes.InterestScenario direction measures.Gross)) =
+      unread factors sheet later (nodes.Whole (wholes.InterestScenario direction measures.Gross))
       (record { live = refl; own = refl; sources = refl })
-  told (nodes.BioScenario biometric projection measures.Gross) =
-      unread factors sheet later (nodes.BioScenario biometric projection measures.Gross)
+  told (nodes.Whole (wholes.BioScenario biometric projection measures.Gross)) =
+      unread factors sheet later (nodes.Whole (wholes.BioScenario biometric projection measures.Gross))
       (record { live = refl; own = refl; sources = refl })
-  told (nodes.Adjust adjustments.TechnicalProvisions) =
-      unread factors sheet later (nodes.Adjust adjustments.TechnicalProvisions)
+  told (nodes.Whole (wholes.Adjust adjustments.TechnicalProvisions)) =
+      unread factors sheet later (nodes.Whole (wholes.Adjust adjustments.TechnicalProvisions))
       (record { live = refl; own = refl; sources = refl })
   told node = unread factors sheet later node (record { live = refl; own = refl; sources = refl })
 
@@ -264,7 +268,7 @@ module _ (factors : FactorValues) (sheet : BalanceSheet) (name : List ℕ) (new 
 
   -- where both what is held and how many are changes
   not-kept : (currency : List ℕ) → security_touches sheet name old new
-      (nodes.CurrencyScenario currency directions.Up measures.Gross) ≡ true
+      (nodes.Currency currency (of_currencies.Scenario directions.Up measures.Gross)) ≡ true
       → is_kept (is_held_in currency) old new ≡ false
   not-kept currency e =
       let kept : Bool = is_kept (is_held_in currency) old new in
@@ -272,44 +276,44 @@ module _ (factors : FactorValues) (sheet : BalanceSheet) (name : List ℕ) (new 
 
   pub covers : (node : Node) → security_touches sheet name old new node ≡ true
       → IsMember node (security_nodes name old ++ row_nodes new)
-  covers (nodes.SecurityTotal x) e = inl (ap nodes.SecurityTotal (name-is x _ e))
-  covers (nodes.UnitLoss x directions.Up) e = inr (inl (ap (λ n. nodes.UnitLoss n directions.Up) (name-is x _ e)))
-  covers (nodes.UnitLoss x directions.Down) e =
-      inr (inr (inl (ap (λ n. nodes.UnitLoss n directions.Down) (name-is x _ e))))
-  covers (nodes.SecurityRate x directions.Up) e =
-      inr (inr (inr (inl (ap (λ n. nodes.SecurityRate n directions.Up) (name-is x _ e)))))
-  covers (nodes.SecurityRate x directions.Down) e =
-      inr (inr (inr (inr (inl (ap (λ n. nodes.SecurityRate n directions.Down) (name-is x _ e))))))
-  covers (nodes.SecuritySpread x) e = inr (inr (inr (inr (inr (inl (ap nodes.SecuritySpread (name-is x _ e)))))))
-  covers nodes.Spread e = inr (inr (inr (inr (inr (inr (inl refl))))))
-  covers nodes.Assets e = inr (inr (inr (inr (inr (inr (inr (inl refl)))))))
-  covers (nodes.CurrencyLoss currency directions.Up) e =
-      of-rows (nodes.CurrencyLoss currency directions.Up) (is_paying_in currency)
+  covers (nodes.Security x of_securities.Total) e = inl (ap (λ name. nodes.Security name of_securities.Total) (name-is x _ e))
+  covers (nodes.Security x (of_securities.UnitLoss directions.Up)) e = inr (inl (ap (λ n. nodes.Security n (of_securities.UnitLoss directions.Up)) (name-is x _ e)))
+  covers (nodes.Security x (of_securities.UnitLoss directions.Down)) e =
+      inr (inr (inl (ap (λ n. nodes.Security n (of_securities.UnitLoss directions.Down)) (name-is x _ e))))
+  covers (nodes.Security x (of_securities.Rate directions.Up)) e =
+      inr (inr (inr (inl (ap (λ n. nodes.Security n (of_securities.Rate directions.Up)) (name-is x _ e)))))
+  covers (nodes.Security x (of_securities.Rate directions.Down)) e =
+      inr (inr (inr (inr (inl (ap (λ n. nodes.Security n (of_securities.Rate directions.Down)) (name-is x _ e))))))
+  covers (nodes.Security x of_securities.Spread) e = inr (inr (inr (inr (inr (inl (ap (λ name. nodes.Security name of_securities.Spread) (name-is x _ e)))))))
+  covers (nodes.Whole wholes.Spread) e = inr (inr (inr (inr (inr (inr (inl refl))))))
+  covers (nodes.Whole wholes.Assets) e = inr (inr (inr (inr (inr (inr (inr (inl refl)))))))
+  covers (nodes.Currency currency (of_currencies.Loss directions.Up)) e =
+      of-rows (nodes.Currency currency (of_currencies.Loss directions.Up)) (is_paying_in currency)
       (has_row curve_name currency sheet.curves)
       true e refl
-      (λ row f. inl (ap (λ n. nodes.CurrencyLoss n directions.Up)
+      (λ row f. inl (ap (λ n. nodes.Currency n (of_currencies.Loss directions.Up))
       (same_name-is currency row.security.currency (first_of_both _ _ f))))
-  covers (nodes.CurrencyLoss currency directions.Down) e =
-      of-rows (nodes.CurrencyLoss currency directions.Down) (is_paying_in currency)
+  covers (nodes.Currency currency (of_currencies.Loss directions.Down)) e =
+      of-rows (nodes.Currency currency (of_currencies.Loss directions.Down)) (is_paying_in currency)
       (has_row curve_name currency sheet.curves) true e refl
-      (λ row f. inr (inl (ap (λ n. nodes.CurrencyLoss n directions.Down)
+      (λ row f. inr (inl (ap (λ n. nodes.Currency n (of_currencies.Loss directions.Down))
       (same_name-is currency row.security.currency (first_of_both _ _ f)))))
-  covers (nodes.CurrencyScenario currency directions.Up measures.Gross) e =
-      in-rows (nodes.CurrencyScenario currency directions.Up measures.Gross)
-      (in-either (is_held_in currency) row_nodes (nodes.CurrencyScenario currency directions.Up measures.Gross)
-      (λ row f. inr (inr (inl (ap (λ n. nodes.CurrencyScenario n directions.Up measures.Gross)
+  covers (nodes.Currency currency (of_currencies.Scenario directions.Up measures.Gross)) e =
+      in-rows (nodes.Currency currency (of_currencies.Scenario directions.Up measures.Gross))
+      (in-either (is_held_in currency) row_nodes (nodes.Currency currency (of_currencies.Scenario directions.Up measures.Gross))
+      (λ row f. inr (inr (inl (ap (λ n. nodes.Currency n (of_currencies.Scenario directions.Up measures.Gross))
       (same_name-is currency row.security.currency f)))))
       old new (not-kept currency e))
-  covers (nodes.CurrencyScenario currency directions.Down measures.Gross) e =
-      in-rows (nodes.CurrencyScenario currency directions.Down measures.Gross)
-      (in-either (is_held_in currency) row_nodes (nodes.CurrencyScenario currency directions.Down measures.Gross)
-      (λ row f. inr (inr (inr (inl (ap (λ n. nodes.CurrencyScenario n directions.Down measures.Gross)
+  covers (nodes.Currency currency (of_currencies.Scenario directions.Down measures.Gross)) e =
+      in-rows (nodes.Currency currency (of_currencies.Scenario directions.Down measures.Gross))
+      (in-either (is_held_in currency) row_nodes (nodes.Currency currency (of_currencies.Scenario directions.Down measures.Gross))
+      (λ row f. inr (inr (inr (inl (ap (λ n. nodes.Currency n (of_currencies.Scenario directions.Down measures.Gross))
       (same_name-is currency row.security.currency f))))))
       old new (not-kept currency e))
-  covers (nodes.ClassSum class) e =
-      of-rows (nodes.ClassSum class) (has_class class) true true e refl
-      (λ row f. inr (inr (inr (inr (inl (ap nodes.ClassSum (same_class class row.security.class f)))))))
-  covers (nodes.GroupTotal group) e =
-      of-rows (nodes.GroupTotal group) (is_of_group group) (is_group sheet group) true e refl
+  covers (nodes.Whole (wholes.ClassSum class)) e =
+      of-rows (nodes.Whole (wholes.ClassSum class)) (has_class class) true true e refl
+      (λ row f. inr (inr (inr (inr (inl (ap (λ name. nodes.Whole (wholes.ClassSum name)) (same_class class row.security.class f)))))))
+  covers (nodes.Group group of_groups.Total) e =
+      of-rows (nodes.Group group of_groups.Total) (is_of_group group) (is_group sheet group) true e refl
       (λ row f. inr (inr (inr (inr (inr (in-group group row.security.group f))))))
   covers node e = absurd (cc)

@@ -27,6 +27,8 @@ use Rattle.scr_nodes.specs.declared.node.Equities.TheVariants as equities
 use Rattle.scr_nodes.specs.declared.node.Measure.TheVariants.{Gross, Net}
 use Rattle.scr_nodes.specs.declared.node.Node.{Node}
 use Rattle.scr_nodes.specs.declared.node.Node.TheVariants as nodes
+use Rattle.scr_nodes.specs.declared.node.OfCurrency.TheVariants as of_currencies
+use Rattle.scr_nodes.specs.declared.node.Whole.TheVariants as wholes
 use Rattle.scr_nodes.specs.declared.node.Operational.TheVariants as operations
 use Rattle.scr_nodes.specs.declared.node.Risk.TheVariants as risks
 use Rattle.scr_nodes.proofs.Apart.{member-at}
@@ -196,32 +198,32 @@ of-first P (suc k) n l all = by (eqb_tells n k) (of-first P k n)
 in-place : (place : ℕ) (node : Node) → slice_get number_nodes place ≡ Some node → IsMember node number_nodes
 in-place place node at = member-at number_nodes place node at
 
-nl-listed : (number : ℕ) → number < 13 → 1 ≤ number → IsMember (nodes.Segment sets.Nl number) number_nodes
+nl-listed : (number : ℕ) → number < 13 → 1 ≤ number → IsMember (nodes.Whole (wholes.Segment sets.Nl number)) number_nodes
 nl-listed number l =
-    of-first (λ n. 1 ≤ n → IsMember (nodes.Segment sets.Nl n) number_nodes) 13 number l (
-      (λ l. in-place 50 (nodes.Segment sets.Nl 12) refl),
+    of-first (λ n. 1 ≤ n → IsMember (nodes.Whole (wholes.Segment sets.Nl n)) number_nodes) 13 number l (
+      (λ l. in-place 50 (nodes.Whole (wholes.Segment sets.Nl 12)) refl),
       (
-        (λ l. in-place 49 (nodes.Segment sets.Nl 11) refl),
+        (λ l. in-place 49 (nodes.Whole (wholes.Segment sets.Nl 11)) refl),
         (
-          (λ l. in-place 48 (nodes.Segment sets.Nl 10) refl),
+          (λ l. in-place 48 (nodes.Whole (wholes.Segment sets.Nl 10)) refl),
           (
-            (λ l. in-place 47 (nodes.Segment sets.Nl 9) refl),
+            (λ l. in-place 47 (nodes.Whole (wholes.Segment sets.Nl 9)) refl),
             (
-              (λ l. in-place 46 (nodes.Segment sets.Nl 8) refl),
+              (λ l. in-place 46 (nodes.Whole (wholes.Segment sets.Nl 8)) refl),
               (
-                (λ l. in-place 45 (nodes.Segment sets.Nl 7) refl),
+                (λ l. in-place 45 (nodes.Whole (wholes.Segment sets.Nl 7)) refl),
                 (
-                  (λ l. in-place 44 (nodes.Segment sets.Nl 6) refl),
+                  (λ l. in-place 44 (nodes.Whole (wholes.Segment sets.Nl 6)) refl),
                   (
-                    (λ l. in-place 43 (nodes.Segment sets.Nl 5) refl),
+                    (λ l. in-place 43 (nodes.Whole (wholes.Segment sets.Nl 5)) refl),
                     (
-                      (λ l. in-place 42 (nodes.Segment sets.Nl 4) refl),
+                      (λ l. in-place 42 (nodes.Whole (wholes.Segment sets.Nl 4)) refl),
                       (
-                        (λ l. in-place 41 (nodes.Segment sets.Nl 3) refl),
+                        (λ l. in-place 41 (nodes.Whole (wholes.Segment sets.Nl 3)) refl),
                         (
-                          (λ l. in-place 40 (nodes.Segment sets.Nl 2) refl),
+                          (λ l. in-place 40 (nodes.Whole (wholes.Segment sets.Nl 2)) refl),
                           (
-                            (λ l. in-place 39 (nodes.Segment sets.Nl 1) refl),
+                            (λ l. in-place 39 (nodes.Whole (wholes.Segment sets.Nl 1)) refl),
                             ((λ l. absurd (omega (arith, l))), tt),
                           ),
                         ),
@@ -236,16 +238,16 @@ nl-listed number l =
       ),
     )
 
-nslt-listed : (number : ℕ) → number < 5 → 1 ≤ number → IsMember (nodes.Segment sets.Nslt number) number_nodes
+nslt-listed : (number : ℕ) → number < 5 → 1 ≤ number → IsMember (nodes.Whole (wholes.Segment sets.Nslt number)) number_nodes
 nslt-listed number l =
-    of-first (λ n. 1 ≤ n → IsMember (nodes.Segment sets.Nslt n) number_nodes) 5 number l (
-      (λ l. in-place 54 (nodes.Segment sets.Nslt 4) refl),
+    of-first (λ n. 1 ≤ n → IsMember (nodes.Whole (wholes.Segment sets.Nslt n)) number_nodes) 5 number l (
+      (λ l. in-place 54 (nodes.Whole (wholes.Segment sets.Nslt 4)) refl),
       (
-        (λ l. in-place 53 (nodes.Segment sets.Nslt 3) refl),
+        (λ l. in-place 53 (nodes.Whole (wholes.Segment sets.Nslt 3)) refl),
         (
-          (λ l. in-place 52 (nodes.Segment sets.Nslt 2) refl),
+          (λ l. in-place 52 (nodes.Whole (wholes.Segment sets.Nslt 2)) refl),
           (
-            (λ l. in-place 51 (nodes.Segment sets.Nslt 1) refl),
+            (λ l. in-place 51 (nodes.Whole (wholes.Segment sets.Nslt 1)) refl),
             ((λ l. absurd (omega (arith, l))), tt),
           ),
         ),
@@ -253,7 +255,7 @@ nslt-listed number l =
     )
 
 segment-listed : (set : Set) (number : ℕ) → is_segment set number ≡ true
-    → IsMember (nodes.Segment set number) number_nodes
+    → IsMember (nodes.Whole (wholes.Segment set number)) number_nodes
 segment-listed sets.Nl number e =
     let least : 1 ≤ number = leb→le 1 number (passes (nat_le 1 number) (first_of_both (nat_le 1 number) _ e)) in
     let most : number ≤ 12 = leb→le number 12
@@ -273,136 +275,136 @@ module _ (factors : FactorValues) (sheet : BalanceSheet) (new : Numbers) where
   old = sheet.numbers
 
   pub told : (node : Node) → Tells factors sheet later node (numbers_touch sheet.numbers new node)
-  told (nodes.InterestScenario direction Net) =
-      told-always factors sheet later (nodes.InterestScenario direction Net) _ refl refl
+  told (nodes.Whole (wholes.InterestScenario direction Net)) =
+      told-always factors sheet later (nodes.Whole (wholes.InterestScenario direction Net)) _ refl refl
       (net-same (absorbed (interest_key direction) old) (absorbed (interest_key direction) new)) refl
-  told (nodes.EquityPart equities) =
-      told-always factors sheet later (nodes.EquityPart equities) _ refl refl
+  told (nodes.Whole (wholes.EquityPart equities)) =
+      told-always factors sheet later (nodes.Whole (wholes.EquityPart equities)) _ refl refl
       (Decides-like (int_eq old.sym new.sym) (λ e. ap (Fall equities) e) (λ e. cc)
       (Decides-int_eq old.sym new.sym)) refl
-  told (nodes.NetPart risk) =
-      told-always factors sheet later (nodes.NetPart risk) _ refl refl
+  told (nodes.Whole (wholes.NetPart risk)) =
+      told-always factors sheet later (nodes.Whole (wholes.NetPart risk)) _ refl refl
       (net-same (absorbed (risk_key risk) old) (absorbed (risk_key risk) new)) refl
-  told nodes.DefaultType2 =
-      told-always factors sheet later nodes.DefaultType2 _ refl refl (due-same old new _ _ _ _) refl
-  told (nodes.BioScenario biometric projection Net) =
-      told-moved factors sheet later (nodes.BioScenario biometric projection Net) (has_stress biometric projection) _
+  told (nodes.Whole wholes.DefaultType2) =
+      told-always factors sheet later (nodes.Whole wholes.DefaultType2) _ refl refl (due-same old new _ _ _ _) refl
+  told (nodes.Whole (wholes.BioScenario biometric projection Net)) =
+      told-moved factors sheet later (nodes.Whole (wholes.BioScenario biometric projection Net)) (has_stress biometric projection) _
       refl refl (net-same (stress_cents biometric projection old) (stress_cents biometric projection new)) refl
-  told (nodes.Segment sets.Nl number) =
-      told-moved factors sheet later (nodes.Segment sets.Nl number) (is_segment sets.Nl number) _ refl refl
+  told (nodes.Whole (wholes.Segment sets.Nl number)) =
+      told-moved factors sheet later (nodes.Whole (wholes.Segment sets.Nl number)) (is_segment sets.Nl number) _ refl refl
       (segment-same _ _ (volumes_in_regions sets.Nl number old) (volumes_in_regions sets.Nl number new)) refl
-  told (nodes.Segment sets.Nslt number) =
-      told-moved factors sheet later (nodes.Segment sets.Nslt number) (is_segment sets.Nslt number) _ refl refl
+  told (nodes.Whole (wholes.Segment sets.Nslt number)) =
+      told-moved factors sheet later (nodes.Whole (wholes.Segment sets.Nslt number)) (is_segment sets.Nslt number) _ refl refl
       (segment-same _ _ (volumes_in_regions sets.Nslt number old) (volumes_in_regions sets.Nslt number new)) refl
-  told (nodes.CatCharge key) =
-      told-always factors sheet later (nodes.CatCharge key) _ refl refl
+  told (nodes.Whole (wholes.CatCharge key)) =
+      told-always factors sheet later (nodes.Whole (wholes.CatCharge key)) _ refl refl
       (charged-same 1000 (catastrophe_cents key old) (catastrophe_cents key new)) refl
-  told (nodes.Lapse set) =
-      told-always factors sheet later (nodes.Lapse set) _ refl refl
+  told (nodes.Whole (wholes.Lapse set)) =
+      told-always factors sheet later (nodes.Whole (wholes.Lapse set)) _ refl refl
       (charged-same 1000 (lapse_cents set old) (lapse_cents set new)) refl
-  told (nodes.Nslt measure) =
-      told-always factors sheet later (nodes.Nslt measure) _ refl refl
+  told (nodes.Whole (wholes.Nslt measure)) =
+      told-always factors sheet later (nodes.Whole (wholes.Nslt measure)) _ refl refl
       (nslt-same (lapse_cents sets.Nslt old) (lapse_cents sets.Nslt new)) refl
-  told (nodes.Nonlife measure) =
-      told-always factors sheet later (nodes.Nonlife measure) _ refl refl
+  told (nodes.Whole (wholes.Nonlife measure)) =
+      told-always factors sheet later (nodes.Whole (wholes.Nonlife measure)) _ refl refl
       (nonlife-same (lapse_cents sets.Nl old) (lapse_cents sets.Nl new)) refl
-  told nodes.Intangible =
-      told-always factors sheet later nodes.Intangible _ refl refl (charged-same 800 old.intangible new.intangible) refl
-  told (nodes.Bscr measure) =
-      told-always factors sheet later (nodes.Bscr measure) _ refl refl (bscr-same old.intangible new.intangible) refl
-  told nodes.Diversification =
-      told-always factors sheet later nodes.Diversification _ refl refl
+  told (nodes.Whole wholes.Intangible) =
+      told-always factors sheet later (nodes.Whole wholes.Intangible) _ refl refl (charged-same 800 old.intangible new.intangible) refl
+  told (nodes.Whole (wholes.Bscr measure)) =
+      told-always factors sheet later (nodes.Whole (wholes.Bscr measure)) _ refl refl (bscr-same old.intangible new.intangible) refl
+  told (nodes.Whole wholes.Diversification) =
+      told-always factors sheet later (nodes.Whole wholes.Diversification) _ refl refl
       (diversified-same old.intangible new.intangible) refl
-  told (nodes.OpPart operations.Premiums) =
-      told-always factors sheet later (nodes.OpPart operations.Premiums) _ refl refl (premiums-same old new) refl
-  told (nodes.OpPart operations.Provisions) =
-      told-always factors sheet later (nodes.OpPart operations.Provisions) _ refl refl (provisions-same old new) refl
-  told (nodes.OpPart operations.Cap) =
-      told-always factors sheet later (nodes.OpPart operations.Cap) true refl refl (always refl) refl
-  told (nodes.OpPart operations.Charge) =
-      told-always factors sheet later (nodes.OpPart operations.Charge) _ refl refl
+  told (nodes.Whole (wholes.OpPart operations.Premiums)) =
+      told-always factors sheet later (nodes.Whole (wholes.OpPart operations.Premiums)) _ refl refl (premiums-same old new) refl
+  told (nodes.Whole (wholes.OpPart operations.Provisions)) =
+      told-always factors sheet later (nodes.Whole (wholes.OpPart operations.Provisions)) _ refl refl (provisions-same old new) refl
+  told (nodes.Whole (wholes.OpPart operations.Cap)) =
+      told-always factors sheet later (nodes.Whole (wholes.OpPart operations.Cap)) true refl refl (always refl) refl
+  told (nodes.Whole (wholes.OpPart operations.Charge)) =
+      told-always factors sheet later (nodes.Whole (wholes.OpPart operations.Charge)) _ refl refl
       (charge-same (earned_at 6 old) (earned_at 6 new)) refl
-  told (nodes.Adjust adjustments.TechnicalProvisions) =
-      told-always factors sheet later (nodes.Adjust adjustments.TechnicalProvisions) _ refl refl
+  told (nodes.Whole (wholes.Adjust adjustments.TechnicalProvisions)) =
+      told-always factors sheet later (nodes.Whole (wholes.Adjust adjustments.TechnicalProvisions)) _ refl refl
       (absorbing-same old.fdb new.fdb) refl
-  told (nodes.Adjust adjustments.DeferredTaxes) =
-      told-always factors sheet later (nodes.Adjust adjustments.DeferredTaxes) _ refl refl
+  told (nodes.Whole (wholes.Adjust adjustments.DeferredTaxes)) =
+      told-always factors sheet later (nodes.Whole (wholes.Adjust adjustments.DeferredTaxes)) _ refl refl
       (taxed-same old new old.tax old.cap new.tax new.cap) refl
-  told (nodes.CurrencyScenario currency direction Gross) =
-      unread factors sheet later (nodes.CurrencyScenario currency direction Gross)
+  told (nodes.Currency currency (of_currencies.Scenario direction Gross)) =
+      unread factors sheet later (nodes.Currency currency (of_currencies.Scenario direction Gross))
       (record { live = refl; own = refl; sources = refl })
-  told (nodes.CurrencyScenario currency direction Net) =
-      unread factors sheet later (nodes.CurrencyScenario currency direction Net)
+  told (nodes.Currency currency (of_currencies.Scenario direction Net)) =
+      unread factors sheet later (nodes.Currency currency (of_currencies.Scenario direction Net))
       (record { live = refl; own = refl; sources = refl })
-  told (nodes.ClassSum classes.Type2Equity) =
-      unread factors sheet later (nodes.ClassSum classes.Type2Equity)
+  told (nodes.Whole (wholes.ClassSum classes.Type2Equity)) =
+      unread factors sheet later (nodes.Whole (wholes.ClassSum classes.Type2Equity))
       (record { live = refl; own = refl; sources = refl })
   told node = unread factors sheet later node (record { live = refl; own = refl; sources = refl })
 
   pub covers : (node : Node) → numbers_touch sheet.numbers new node ≡ true → IsMember node number_nodes
-  covers (nodes.Segment set number) e = segment-listed set number (first_of_both (is_segment set number) _ e)
-  covers (nodes.InterestScenario Up Net) e = in-place 1 _ refl
-  covers (nodes.InterestScenario Down Net) e = in-place 3 _ refl
-  covers (nodes.EquityPart equities.Type1) e = in-place 4 _ refl
-  covers (nodes.EquityPart equities.Type2) e = in-place 5 _ refl
-  covers (nodes.EquityPart equities.Infrastructure) e = in-place 6 _ refl
-  covers (nodes.EquityPart equities.InfrastructureCorporate) e = in-place 7 _ refl
-  covers (nodes.NetPart risks.Equity) e = in-place 8 _ refl
-  covers (nodes.NetPart risks.Property) e = in-place 9 _ refl
-  covers (nodes.NetPart risks.Spread) e = in-place 10 _ refl
-  covers (nodes.NetPart risks.Concentration) e = in-place 11 _ refl
-  covers (nodes.NetPart risks.Default) e = in-place 12 _ refl
-  covers (nodes.NetPart risks.HealthCatastrophe) e = in-place 13 _ refl
-  covers nodes.DefaultType2 e = in-place 14 _ refl
-  covers (nodes.BioScenario biometrics.Life projections.Mortality Net) e = in-place 15 _ refl
-  covers (nodes.BioScenario biometrics.Life projections.Longevity Net) e = in-place 16 _ refl
-  covers (nodes.BioScenario biometrics.Life projections.Disability Net) e = in-place 17 _ refl
-  covers (nodes.BioScenario biometrics.Life projections.Expense Net) e = in-place 18 _ refl
-  covers (nodes.BioScenario biometrics.Life projections.Revision Net) e = in-place 19 _ refl
-  covers (nodes.BioScenario biometrics.Life projections.Catastrophe Net) e = in-place 20 _ refl
-  covers (nodes.BioScenario biometrics.Life projections.LapseUp Net) e = in-place 22 _ refl
-  covers (nodes.BioScenario biometrics.Life projections.LapseDown Net) e = in-place 24 _ refl
-  covers (nodes.BioScenario biometrics.Life projections.LapseMass Net) e = in-place 26 _ refl
-  covers (nodes.BioScenario biometrics.Health projections.Mortality Net) e = in-place 27 _ refl
-  covers (nodes.BioScenario biometrics.Health projections.Longevity Net) e = in-place 28 _ refl
-  covers (nodes.BioScenario biometrics.Health projections.Disability Net) e = in-place 29 _ refl
-  covers (nodes.BioScenario biometrics.Health projections.Expense Net) e = in-place 30 _ refl
-  covers (nodes.BioScenario biometrics.Health projections.Revision Net) e = in-place 31 _ refl
-  covers (nodes.BioScenario biometrics.Health projections.LapseUp Net) e = in-place 34 _ refl
-  covers (nodes.BioScenario biometrics.Health projections.LapseDown Net) e = in-place 36 _ refl
-  covers (nodes.BioScenario biometrics.Health projections.LapseMass Net) e = in-place 38 _ refl
-  covers (nodes.CatCharge cats.Windstorm) e = in-place 55 _ refl
-  covers (nodes.CatCharge cats.Earthquake) e = in-place 56 _ refl
-  covers (nodes.CatCharge cats.Flood) e = in-place 57 _ refl
-  covers (nodes.CatCharge cats.Hail) e = in-place 58 _ refl
-  covers (nodes.CatCharge cats.Subsidence) e = in-place 59 _ refl
-  covers (nodes.CatCharge cats.Motor) e = in-place 60 _ refl
-  covers (nodes.CatCharge cats.Marine) e = in-place 61 _ refl
-  covers (nodes.CatCharge cats.Aviation) e = in-place 62 _ refl
-  covers (nodes.CatCharge cats.Fire) e = in-place 63 _ refl
-  covers (nodes.CatCharge cats.Liability) e = in-place 64 _ refl
-  covers (nodes.CatCharge cats.Credit) e = in-place 65 _ refl
-  covers (nodes.CatCharge cats.MassAccident) e = in-place 66 _ refl
-  covers (nodes.CatCharge cats.AccidentConcentration) e = in-place 67 _ refl
-  covers (nodes.CatCharge cats.Pandemic) e = in-place 68 _ refl
-  covers (nodes.CatCharge cats.NonProportionalProperty) e = in-place 69 _ refl
-  covers (nodes.CatCharge cats.Other) e = in-place 70 _ refl
-  covers (nodes.Lapse sets.Nl) e = in-place 71 _ refl
-  covers (nodes.Lapse sets.Nslt) e = in-place 72 _ refl
-  covers (nodes.Nslt Gross) e = in-place 73 _ refl
-  covers (nodes.Nslt Net) e = in-place 74 _ refl
-  covers (nodes.Nonlife Gross) e = in-place 75 _ refl
-  covers (nodes.Nonlife Net) e = in-place 76 _ refl
-  covers nodes.Intangible e = in-place 77 _ refl
-  covers (nodes.Bscr Gross) e = in-place 78 _ refl
-  covers (nodes.Bscr Net) e = in-place 79 _ refl
-  covers (nodes.OpPart operations.Premiums) e = in-place 80 _ refl
-  covers (nodes.OpPart operations.Provisions) e = in-place 81 _ refl
-  covers (nodes.OpPart operations.Charge) e = in-place 82 _ refl
-  covers (nodes.Adjust adjustments.TechnicalProvisions) e = in-place 83 _ refl
-  covers (nodes.Adjust adjustments.DeferredTaxes) e = in-place 84 _ refl
-  covers nodes.Diversification e = in-place 85 _ refl
-  covers (nodes.BioScenario biometrics.Life projections.Base Net) e = absurd (cc)
-  covers (nodes.BioScenario biometrics.Health projections.Base Net) e = absurd (cc)
-  covers (nodes.BioScenario biometrics.Health projections.Catastrophe Net) e = absurd (cc)
+  covers (nodes.Whole (wholes.Segment set number)) e = segment-listed set number (first_of_both (is_segment set number) _ e)
+  covers (nodes.Whole (wholes.InterestScenario Up Net)) e = in-place 1 _ refl
+  covers (nodes.Whole (wholes.InterestScenario Down Net)) e = in-place 3 _ refl
+  covers (nodes.Whole (wholes.EquityPart equities.Type1)) e = in-place 4 _ refl
+  covers (nodes.Whole (wholes.EquityPart equities.Type2)) e = in-place 5 _ refl
+  covers (nodes.Whole (wholes.EquityPart equities.Infrastructure)) e = in-place 6 _ refl
+  covers (nodes.Whole (wholes.EquityPart equities.InfrastructureCorporate)) e = in-place 7 _ refl
+  covers (nodes.Whole (wholes.NetPart risks.Equity)) e = in-place 8 _ refl
+  covers (nodes.Whole (wholes.NetPart risks.Property)) e = in-place 9 _ refl
+  covers (nodes.Whole (wholes.NetPart risks.Spread)) e = in-place 10 _ refl
+  covers (nodes.Whole (wholes.NetPart risks.Concentration)) e = in-place 11 _ refl
+  covers (nodes.Whole (wholes.NetPart risks.Default)) e = in-place 12 _ refl
+  covers (nodes.Whole (wholes.NetPart risks.HealthCatastrophe)) e = in-place 13 _ refl
+  covers (nodes.Whole wholes.DefaultType2) e = in-place 14 _ refl
+  covers (nodes.Whole (wholes.BioScenario biometrics.Life projections.Mortality Net)) e = in-place 15 _ refl
+  covers (nodes.Whole (wholes.BioScenario biometrics.Life projections.Longevity Net)) e = in-place 16 _ refl
+  covers (nodes.Whole (wholes.BioScenario biometrics.Life projections.Disability Net)) e = in-place 17 _ refl
+  covers (nodes.Whole (wholes.BioScenario biometrics.Life projections.Expense Net)) e = in-place 18 _ refl
+  covers (nodes.Whole (wholes.BioScenario biometrics.Life projections.Revision Net)) e = in-place 19 _ refl
+  covers (nodes.Whole (wholes.BioScenario biometrics.Life projections.Catastrophe Net)) e = in-place 20 _ refl
+  covers (nodes.Whole (wholes.BioScenario biometrics.Life projections.LapseUp Net)) e = in-place 22 _ refl
+  covers (nodes.Whole (wholes.BioScenario biometrics.Life projections.LapseDown Net)) e = in-place 24 _ refl
+  covers (nodes.Whole (wholes.BioScenario biometrics.Life projections.LapseMass Net)) e = in-place 26 _ refl
+  covers (nodes.Whole (wholes.BioScenario biometrics.Health projections.Mortality Net)) e = in-place 27 _ refl
+  covers (nodes.Whole (wholes.BioScenario biometrics.Health projections.Longevity Net)) e = in-place 28 _ refl
+  covers (nodes.Whole (wholes.BioScenario biometrics.Health projections.Disability Net)) e = in-place 29 _ refl
+  covers (nodes.Whole (wholes.BioScenario biometrics.Health projections.Expense Net)) e = in-place 30 _ refl
+  covers (nodes.Whole (wholes.BioScenario biometrics.Health projections.Revision Net)) e = in-place 31 _ refl
+  covers (nodes.Whole (wholes.BioScenario biometrics.Health projections.LapseUp Net)) e = in-place 34 _ refl
+  covers (nodes.Whole (wholes.BioScenario biometrics.Health projections.LapseDown Net)) e = in-place 36 _ refl
+  covers (nodes.Whole (wholes.BioScenario biometrics.Health projections.LapseMass Net)) e = in-place 38 _ refl
+  covers (nodes.Whole (wholes.CatCharge cats.Windstorm)) e = in-place 55 _ refl
+  covers (nodes.Whole (wholes.CatCharge cats.Earthquake)) e = in-place 56 _ refl
+  covers (nodes.Whole (wholes.CatCharge cats.Flood)) e = in-place 57 _ refl
+  covers (nodes.Whole (wholes.CatCharge cats.Hail)) e = in-place 58 _ refl
+  covers (nodes.Whole (wholes.CatCharge cats.Subsidence)) e = in-place 59 _ refl
+  covers (nodes.Whole (wholes.CatCharge cats.Motor)) e = in-place 60 _ refl
+  covers (nodes.Whole (wholes.CatCharge cats.Marine)) e = in-place 61 _ refl
+  covers (nodes.Whole (wholes.CatCharge cats.Aviation)) e = in-place 62 _ refl
+  covers (nodes.Whole (wholes.CatCharge cats.Fire)) e = in-place 63 _ refl
+  covers (nodes.Whole (wholes.CatCharge cats.Liability)) e = in-place 64 _ refl
+  covers (nodes.Whole (wholes.CatCharge cats.Credit)) e = in-place 65 _ refl
+  covers (nodes.Whole (wholes.CatCharge cats.MassAccident)) e = in-place 66 _ refl
+  covers (nodes.Whole (wholes.CatCharge cats.AccidentConcentration)) e = in-place 67 _ refl
+  covers (nodes.Whole (wholes.CatCharge cats.Pandemic)) e = in-place 68 _ refl
+  covers (nodes.Whole (wholes.CatCharge cats.NonProportionalProperty)) e = in-place 69 _ refl
+  covers (nodes.Whole (wholes.CatCharge cats.Other)) e = in-place 70 _ refl
+  covers (nodes.Whole (wholes.Lapse sets.Nl)) e = in-place 71 _ refl
+  covers (nodes.Whole (wholes.Lapse sets.Nslt)) e = in-place 72 _ refl
+  covers (nodes.Whole (wholes.Nslt Gross)) e = in-place 73 _ refl
+  covers (nodes.Whole (wholes.Nslt Net)) e = in-place 74 _ refl
+  covers (nodes.Whole (wholes.Nonlife Gross)) e = in-place 75 _ refl
+  covers (nodes.Whole (wholes.Nonlife Net)) e = in-place 76 _ refl
+  covers (nodes.Whole wholes.Intangible) e = in-place 77 _ refl
+  covers (nodes.Whole (wholes.Bscr Gross)) e = in-place 78 _ refl
+  covers (nodes.Whole (wholes.Bscr Net)) e = in-place 79 _ refl
+  covers (nodes.Whole (wholes.OpPart operations.Premiums)) e = in-place 80 _ refl
+  covers (nodes.Whole (wholes.OpPart operations.Provisions)) e = in-place 81 _ refl
+  covers (nodes.Whole (wholes.OpPart operations.Charge)) e = in-place 82 _ refl
+  covers (nodes.Whole (wholes.Adjust adjustments.TechnicalProvisions)) e = in-place 83 _ refl
+  covers (nodes.Whole (wholes.Adjust adjustments.DeferredTaxes)) e = in-place 84 _ refl
+  covers (nodes.Whole wholes.Diversification) e = in-place 85 _ refl
+  covers (nodes.Whole (wholes.BioScenario biometrics.Life projections.Base Net)) e = absurd (cc)
+  covers (nodes.Whole (wholes.BioScenario biometrics.Health projections.Base Net)) e = absurd (cc)
+  covers (nodes.Whole (wholes.BioScenario biometrics.Health projections.Catastrophe Net)) e = absurd (cc)
   covers node e = absurd (cc)

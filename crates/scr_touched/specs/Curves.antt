@@ -16,6 +16,10 @@ use Rattle.scr_nodes.specs.declared.node.Direction.TheVariants as directions
 use Rattle.scr_nodes.specs.declared.node.Measure.TheVariants as measures
 use Rattle.scr_nodes.specs.declared.node.Node.{Node}
 use Rattle.scr_nodes.specs.declared.node.Node.TheVariants as nodes
+use Rattle.scr_nodes.specs.declared.node.OfSecurity.TheVariants as of_securities
+use Rattle.scr_nodes.specs.declared.node.OfLiability.TheVariants as of_liabilities
+use Rattle.scr_nodes.specs.declared.node.OfCurrency.TheVariants as of_currencies
+use Rattle.scr_nodes.specs.declared.node.Whole.TheVariants as wholes
 use Rattle.scr_changes.specs.Comparisons.{passes, is_kept, same_rates}
 use Rattle.scr_changes.specs.Readings.{keeps_liability, keeps_security, rates_by}
 use Rattle.scr_touched.specs.Comparisons.{is_touched}
@@ -63,24 +67,24 @@ net_touched sheet direction old new =
 
 -- the curve of this name becomes another, or comes or goes
 abbrev pub curve_touches : BalanceSheet → List ℕ → Option Curve → Option Curve → Node → Bool
-curve_touches sheet name old new (nodes.UnitLoss x direction) =
+curve_touches sheet name old new (nodes.Security x (of_securities.UnitLoss direction)) =
     unit_moved name old new (position_of x sheet.securities)
-curve_touches sheet name old new (nodes.LiabilityRate x direction) =
+curve_touches sheet name old new (nodes.Liability x (of_liabilities.Rate direction)) =
     value_moved name old new (liability_of x sheet.liabilities)
-curve_touches sheet name old new (nodes.LiabilityPresent x) =
+curve_touches sheet name old new (nodes.Liability x of_liabilities.Present) =
     value_moved name old new (liability_of x sheet.liabilities)
-curve_touches sheet name old new (nodes.LiabilityLoss x projection) =
+curve_touches sheet name old new (nodes.Liability x (of_liabilities.Loss projection)) =
     loss_moved name old new projection (liability_of x sheet.liabilities)
-curve_touches sheet name old new (nodes.CurrencyLoss x direction) = same_name x name && currency_touched old new
-curve_touches sheet name old new (nodes.InterestScenario direction measures.Gross) =
+curve_touches sheet name old new (nodes.Currency x (of_currencies.Loss direction)) = same_name x name && currency_touched old new
+curve_touches sheet name old new (nodes.Whole (wholes.InterestScenario direction measures.Gross)) =
     is_touched true true true (beq (is_some old) (is_some new))
-curve_touches sheet name old new (nodes.CurrencyScenario x direction measures.Gross) =
+curve_touches sheet name old new (nodes.Currency x (of_currencies.Scenario direction measures.Gross)) =
     same_name x name && foreign_touched sheet old new
-curve_touches sheet name old new (nodes.CurrencyScenario x direction measures.Net) =
+curve_touches sheet name old new (nodes.Currency x (of_currencies.Scenario direction measures.Net)) =
     same_name x name && net_touched sheet direction old new
-curve_touches sheet name old new (nodes.CurrencyChoice x) = same_name x name && foreign_touched sheet old new
-curve_touches sheet name old new (nodes.CurrencyPicked x measure) = same_name x name && foreign_touched sheet old new
-curve_touches sheet name old new (nodes.Currency measure) =
+curve_touches sheet name old new (nodes.Currency x of_currencies.Choice) = same_name x name && foreign_touched sheet old new
+curve_touches sheet name old new (nodes.Currency x (of_currencies.Picked measure)) = same_name x name && foreign_touched sheet old new
+curve_touches sheet name old new (nodes.Whole (wholes.Currency measure)) =
     is_touched true true true (is_kept (is_foreign sheet) old new)
 curve_touches sheet name old new node = false
 
@@ -89,17 +93,17 @@ curve_touches sheet name old new node = false
 -- the figures of the currency as a foreign one
 abbrev pub foreign_nodes : List ℕ → List Node
 foreign_nodes name =
-    nodes.CurrencyScenario name directions.Up measures.Gross ∷ nodes.CurrencyScenario name directions.Up measures.Net
-    ∷ nodes.CurrencyScenario name directions.Down measures.Gross
-    ∷ nodes.CurrencyScenario name directions.Down measures.Net
-    ∷ nodes.CurrencyChoice name ∷ nodes.CurrencyPicked name measures.Gross ∷ nodes.CurrencyPicked name measures.Net
+    nodes.Currency name (of_currencies.Scenario directions.Up measures.Gross) ∷ nodes.Currency name (of_currencies.Scenario directions.Up measures.Net)
+    ∷ nodes.Currency name (of_currencies.Scenario directions.Down measures.Gross)
+    ∷ nodes.Currency name (of_currencies.Scenario directions.Down measures.Net)
+    ∷ nodes.Currency name of_currencies.Choice ∷ nodes.Currency name (of_currencies.Picked measures.Gross) ∷ nodes.Currency name (of_currencies.Picked measures.Net)
     ∷ []
 
 abbrev pub currency_nodes : List ℕ → List Node
 currency_nodes name =
-    nodes.CurrencyLoss name directions.Up ∷ nodes.CurrencyLoss name directions.Down
-    ∷ nodes.InterestScenario directions.Up measures.Gross ∷ nodes.InterestScenario directions.Down measures.Gross
-    ∷ nodes.Currency measures.Gross ∷ nodes.Currency measures.Net ∷ foreign_nodes name
+    nodes.Currency name (of_currencies.Loss directions.Up) ∷ nodes.Currency name (of_currencies.Loss directions.Down)
+    ∷ nodes.Whole (wholes.InterestScenario directions.Up measures.Gross) ∷ nodes.Whole (wholes.InterestScenario directions.Down measures.Gross)
+    ∷ nodes.Whole (wholes.Currency measures.Gross) ∷ nodes.Whole (wholes.Currency measures.Net) ∷ foreign_nodes name
 
 -- the figures of payments, unless the rates stay
 abbrev pub moved_nodes : BalanceSheet → Bool → List Node

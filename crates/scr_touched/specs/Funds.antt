@@ -13,6 +13,9 @@ use Rattle.scr_nodes.specs.Own.{Share}
 use Rattle.scr_nodes.specs.Rows.{holds, is_closed, share_in}
 use Rattle.scr_nodes.specs.declared.node.Node.{Node}
 use Rattle.scr_nodes.specs.declared.node.Node.TheVariants as nodes
+use Rattle.scr_nodes.specs.declared.node.OfFund.TheVariants as of_funds
+use Rattle.scr_nodes.specs.declared.node.OfSecurity.TheVariants as of_securities
+use Rattle.scr_nodes.specs.declared.node.Whole.TheVariants as wholes
 use Rattle.scr_changes.specs.Comparisons.{is_kept}
 use Rattle.scr_changes.specs.Readings.{held_kept, is_fund_after}
 use Rattle.scr_touched.specs.Comparisons.{is_touched}
@@ -51,9 +54,9 @@ holding_touched sheet old new x =
 
 -- the fund of this name becomes another, or comes or goes
 abbrev pub fund_touches : BalanceSheet → List ℕ → Option Stake → Option Stake → Node → Bool
-fund_touches sheet name old new (nodes.FundTotal x) = fund_touched sheet name old new x
-fund_touches sheet name old new (nodes.SecurityTotal x) = holding_touched sheet old new x
-fund_touches sheet name old new (nodes.ClassSum classes.Type2Equity) =
+fund_touches sheet name old new (nodes.Fund x of_funds.Total) = fund_touched sheet name old new x
+fund_touches sheet name old new (nodes.Security x of_securities.Total) = holding_touched sheet old new x
+fund_touches sheet name old new (nodes.Whole (wholes.ClassSum classes.Type2Equity)) =
     is_touched true true true (is_kept is_closed old new)
 fund_touches sheet name old new node = false
 
@@ -61,7 +64,7 @@ fund_touches sheet name old new node = false
 
 -- a fund or a security of this name
 abbrev pub totals_of : List ℕ → List Node
-totals_of name = nodes.FundTotal name ∷ nodes.SecurityTotal name ∷ []
+totals_of name = nodes.Fund name of_funds.Total ∷ nodes.Security name of_securities.Total ∷ []
 
 -- what is held of the components
 abbrev pub component_nodes : Option Stake → List Node
@@ -69,10 +72,10 @@ component_nodes None = []
 component_nodes (Some stake) = flat_map (λ c. totals_of c.0) stake.fund.components
 
 abbrev pub fund_nodes : List ℕ → Option Stake → List Node
-fund_nodes name old = nodes.FundTotal name ∷ nodes.ClassSum classes.Type2Equity ∷ component_nodes old
+fund_nodes name old = nodes.Fund name of_funds.Total ∷ nodes.Whole (wholes.ClassSum classes.Type2Equity) ∷ component_nodes old
 
 -- it is a total of the fund of this name, or of one of its components
 abbrev pub is_of_stake : List ℕ → Option Stake → Node → Bool
-is_of_stake name stake (nodes.FundTotal x) = same_name x name || is_some (share_of x stake)
-is_of_stake name stake (nodes.SecurityTotal x) = is_some (share_of x stake)
+is_of_stake name stake (nodes.Fund x of_funds.Total) = same_name x name || is_some (share_of x stake)
+is_of_stake name stake (nodes.Security x of_securities.Total) = is_some (share_of x stake)
 is_of_stake name stake node = false

@@ -12,6 +12,9 @@ use Rattle.scr_nodes.specs.Rows.{is_of_group, is_of_default_class, class_of_step
 use Rattle.scr_nodes.specs.Sources.{security_spread}
 use Rattle.scr_nodes.specs.declared.node.Node.{Node}
 use Rattle.scr_nodes.specs.declared.node.Node.TheVariants as nodes
+use Rattle.scr_nodes.specs.declared.node.OfSecurity.TheVariants as of_securities
+use Rattle.scr_nodes.specs.declared.node.OfGroup.TheVariants as of_groups
+use Rattle.scr_nodes.specs.declared.node.Whole.TheVariants as wholes
 use Rattle.scr_changes.specs.Comparisons.{is_kept, passes}
 use Rattle.scr_changes.specs.Readings.{is_same_kind, kind_of, same_step}
 use Rattle.scr_touched.specs.Comparisons.{is_touched}
@@ -46,13 +49,13 @@ step_touched sheet name old new security =
 
 -- the group of counterparties of this name becomes another, or comes or goes
 abbrev pub group_touches : BalanceSheet → List ℕ → Option Group → Option Group → Node → Bool
-group_touches sheet name old new (nodes.SecuritySpread x) = step_touched sheet name old new x
-group_touches sheet name old new (nodes.GroupTotal x) = same_name x name && is_moved old new
-group_touches sheet name old new (nodes.ConcentrationSquare x) = same_name x name && square_touched old new
-group_touches sheet name old new nodes.Concentration = is_touched true true true (beq (is_some old) (is_some new))
-group_touches sheet name old new (nodes.GroupLoss x) = same_name x name && is_moved old new
-group_touches sheet name old new (nodes.ClassLoss class) = class_touched old new class
-group_touches sheet name old new (nodes.ClassSquare class) = class_touched old new class
+group_touches sheet name old new (nodes.Security x of_securities.Spread) = step_touched sheet name old new x
+group_touches sheet name old new (nodes.Group x of_groups.Total) = same_name x name && is_moved old new
+group_touches sheet name old new (nodes.Group x of_groups.ConcentrationSquare) = same_name x name && square_touched old new
+group_touches sheet name old new (nodes.Whole wholes.Concentration) = is_touched true true true (beq (is_some old) (is_some new))
+group_touches sheet name old new (nodes.Group x of_groups.Loss) = same_name x name && is_moved old new
+group_touches sheet name old new (nodes.Whole (wholes.ClassLoss class)) = class_touched old new class
+group_touches sheet name old new (nodes.Whole (wholes.ClassSquare class)) = class_touched old new class
 group_touches sheet name old new node = false
 
 -- ---- what may be touched
@@ -60,13 +63,13 @@ group_touches sheet name old new node = false
 -- the figures of the group itself, and the one over all groups
 abbrev pub own_nodes : List ℕ → List Node
 own_nodes name =
-    nodes.GroupTotal name ∷ nodes.ConcentrationSquare name ∷ nodes.GroupLoss name ∷ nodes.Concentration ∷ []
+    nodes.Group name of_groups.Total ∷ nodes.Group name of_groups.ConcentrationSquare ∷ nodes.Group name of_groups.Loss ∷ nodes.Whole wholes.Concentration ∷ []
 
 -- those of its class of probabilities of default
 abbrev pub class_nodes : Option Group → List Node
 class_nodes None = []
 class_nodes (Some group) =
-    nodes.ClassLoss (class_of_step group.step) ∷ nodes.ClassSquare (class_of_step group.step) ∷ []
+    nodes.Whole (wholes.ClassLoss (class_of_step group.step)) ∷ nodes.Whole (wholes.ClassSquare (class_of_step group.step)) ∷ []
 
 -- those of its securities
 abbrev pub spread_nodes : BalanceSheet → List ℕ → List Node
@@ -80,6 +83,6 @@ later_group_nodes sheet name new = class_nodes new ++ spread_nodes sheet name
 
 -- it is a figure of the class of the group
 abbrev pub is_of_class_of : Option Group → Node → Bool
-is_of_class_of row (nodes.ClassLoss class) = passes (is_of_default_class class) row
-is_of_class_of row (nodes.ClassSquare class) = passes (is_of_default_class class) row
+is_of_class_of row (nodes.Whole (wholes.ClassLoss class)) = passes (is_of_default_class class) row
+is_of_class_of row (nodes.Whole (wholes.ClassSquare class)) = passes (is_of_default_class class) row
 is_of_class_of row node = false

@@ -15,6 +15,9 @@ use Rattle.scr_nodes.specs.declared.node.Direction.TheVariants as directions
 use Rattle.scr_nodes.specs.declared.node.Measure.TheVariants as measures
 use Rattle.scr_nodes.specs.declared.node.Node.{Node}
 use Rattle.scr_nodes.specs.declared.node.Node.TheVariants as nodes
+use Rattle.scr_nodes.specs.declared.node.OfLiability.TheVariants as of_liabilities
+use Rattle.scr_nodes.specs.declared.node.OfCurrency.TheVariants as of_currencies
+use Rattle.scr_nodes.specs.declared.node.Whole.TheVariants as wholes
 use Rattle.scr_changes.specs.Comparisons.{passes, is_kept, same_payments, same_rates}
 use Rattle.scr_changes.specs.Readings.{best_estimate_of, paid_for}
 use Rattle.scr_touched.specs.Comparisons.{is_touched}
@@ -49,17 +52,17 @@ loss_touched sheet projection old new =
 
 -- the liability of this name becomes another, or comes or goes
 abbrev pub liability_touches : BalanceSheet → List ℕ → Option Liability → Option Liability → Node → Bool
-liability_touches sheet name old new (nodes.LiabilityRate x direction) = same_name x name && value_touched sheet old new
-liability_touches sheet name old new (nodes.LiabilityPresent x) = same_name x name && value_touched sheet old new
-liability_touches sheet name old new (nodes.LiabilityLoss x projection) =
+liability_touches sheet name old new (nodes.Liability x (of_liabilities.Rate direction)) = same_name x name && value_touched sheet old new
+liability_touches sheet name old new (nodes.Liability x of_liabilities.Present) = same_name x name && value_touched sheet old new
+liability_touches sheet name old new (nodes.Liability x (of_liabilities.Loss projection)) =
     same_name x name && loss_touched sheet projection old new
-liability_touches sheet name old new (nodes.CurrencyLoss currency direction) =
+liability_touches sheet name old new (nodes.Currency currency (of_currencies.Loss direction)) =
     let has = has_row curve_name currency sheet.curves in
     is_touched has has true (is_kept (is_owed_in currency) old new)
-liability_touches sheet name old new (nodes.CurrencyScenario currency direction measures.Gross) =
+liability_touches sheet name old new (nodes.Currency currency (of_currencies.Scenario direction measures.Gross)) =
     let foreign = is_foreign_currency sheet currency in
     is_touched foreign foreign true (is_kept (is_owed_in currency) old new)
-liability_touches sheet name old new (nodes.BioScenario biometric projection measures.Gross) =
+liability_touches sheet name old new (nodes.Whole (wholes.BioScenario biometric projection measures.Gross)) =
     let has = has_stress biometric projection in
     is_touched has has true (is_kept (is_stressed biometric projection) old new)
 liability_touches sheet name old new node = false
@@ -68,15 +71,15 @@ liability_touches sheet name old new node = false
 
 -- the requirements for the stresses of a kind of obligations
 abbrev pub stress_nodes : Biometric → List Node
-stress_nodes biometric = map (λ projection. nodes.BioScenario biometric projection measures.Gross) stresses
+stress_nodes biometric = map (λ projection. nodes.Whole (wholes.BioScenario biometric projection measures.Gross)) stresses
 
 -- the figures of its currency
 abbrev pub owed_nodes : Option Liability → List Node
 owed_nodes None = []
 owed_nodes (Some liability) =
-    nodes.CurrencyLoss liability.currency directions.Up ∷ nodes.CurrencyLoss liability.currency directions.Down
-    ∷ nodes.CurrencyScenario liability.currency directions.Up measures.Gross
-    ∷ nodes.CurrencyScenario liability.currency directions.Down measures.Gross ∷ []
+    nodes.Currency liability.currency (of_currencies.Loss directions.Up) ∷ nodes.Currency liability.currency (of_currencies.Loss directions.Down)
+    ∷ nodes.Currency liability.currency (of_currencies.Scenario directions.Up measures.Gross)
+    ∷ nodes.Currency liability.currency (of_currencies.Scenario directions.Down measures.Gross) ∷ []
 
 abbrev pub liability_nodes : List ℕ → Option Liability → List Node
 liability_nodes name old =
@@ -85,6 +88,6 @@ liability_nodes name old =
 
 -- it is a figure of the currency of the liability
 abbrev pub is_of_liability : Option Liability → Node → Bool
-is_of_liability row (nodes.CurrencyLoss currency direction) = passes (is_owed_in currency) row
-is_of_liability row (nodes.CurrencyScenario currency direction measures.Gross) = passes (is_owed_in currency) row
+is_of_liability row (nodes.Currency currency (of_currencies.Loss direction)) = passes (is_owed_in currency) row
+is_of_liability row (nodes.Currency currency (of_currencies.Scenario direction measures.Gross)) = passes (is_owed_in currency) row
 is_of_liability row node = false

@@ -8,6 +8,8 @@ use Rattle.scr_sheet.specs.declared.sheet.BalanceSheet.{BalanceSheet}
 use Rattle.scr_nodes.specs.declared.node.Direction.TheVariants as directions
 use Rattle.scr_nodes.specs.declared.node.Node.{Node}
 use Rattle.scr_nodes.specs.declared.node.Node.TheVariants as nodes
+use Rattle.scr_nodes.specs.declared.node.OfSecurity.TheVariants as of_securities
+use Rattle.scr_nodes.specs.declared.node.OfLiability.TheVariants as of_liabilities
 
 -- every projection but the best estimate
 abbrev pub stresses : List Projection
@@ -17,16 +19,16 @@ stresses =
 
 abbrev pub security_figures : Position → List Node
 security_figures position =
-    nodes.UnitLoss position.security.name directions.Up ∷ nodes.UnitLoss position.security.name directions.Down ∷ []
+    nodes.Security position.security.name (of_securities.UnitLoss directions.Up) ∷ nodes.Security position.security.name (of_securities.UnitLoss directions.Down) ∷ []
 
 -- by the best estimate
 abbrev pub value_figures : List ℕ → List Node
 value_figures name =
-    nodes.LiabilityRate name directions.Up ∷ nodes.LiabilityRate name directions.Down ∷ nodes.LiabilityPresent name ∷ []
+    nodes.Liability name (of_liabilities.Rate directions.Up) ∷ nodes.Liability name (of_liabilities.Rate directions.Down) ∷ nodes.Liability name of_liabilities.Present ∷ []
 
 -- under each stress
 abbrev pub loss_figures : List ℕ → List Node
-loss_figures name = map (λ projection. nodes.LiabilityLoss name projection) stresses
+loss_figures name = map (λ projection. nodes.Liability name (of_liabilities.Loss projection)) stresses
 
 abbrev pub liability_figures : Liability → List Node
 liability_figures liability = value_figures liability.name ++ loss_figures liability.name

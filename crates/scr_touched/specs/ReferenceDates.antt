@@ -12,6 +12,10 @@ use Rattle.scr_nodes.specs.Live.{is_foreign_currency, is_stressed_liability, pay
 use Rattle.scr_nodes.specs.declared.node.Measure.TheVariants as measures
 use Rattle.scr_nodes.specs.declared.node.Node.{Node}
 use Rattle.scr_nodes.specs.declared.node.Node.TheVariants as nodes
+use Rattle.scr_nodes.specs.declared.node.OfSecurity.TheVariants as of_securities
+use Rattle.scr_nodes.specs.declared.node.OfLiability.TheVariants as of_liabilities
+use Rattle.scr_nodes.specs.declared.node.OfCurrency.TheVariants as of_currencies
+use Rattle.scr_nodes.specs.declared.node.Whole.TheVariants as wholes
 use Rattle.scr_touched.specs.Comparisons.{is_touched}
 use Rattle.scr_touched.specs.Curves.{foreign_nodes, moved_nodes}
 
@@ -33,17 +37,17 @@ reporting_touched sheet reporting currency =
     is_touched (is_foreign_currency sheet currency) (is_foreign_to sheet reporting currency) true true
 
 abbrev pub date_touches : BalanceSheet → Day → List ℕ → Node → Bool
-date_touches sheet date currency (nodes.UnitLoss x direction) = dated_touched sheet date (pays sheet x)
-date_touches sheet date currency (nodes.LiabilityRate x direction) =
+date_touches sheet date currency (nodes.Security x (of_securities.UnitLoss direction)) = dated_touched sheet date (pays sheet x)
+date_touches sheet date currency (nodes.Liability x (of_liabilities.Rate direction)) =
     dated_touched sheet date (has_row liability_name x sheet.liabilities)
-date_touches sheet date currency (nodes.LiabilityPresent x) =
+date_touches sheet date currency (nodes.Liability x of_liabilities.Present) =
     dated_touched sheet date (has_row liability_name x sheet.liabilities)
-date_touches sheet date currency (nodes.LiabilityLoss x projection) =
+date_touches sheet date currency (nodes.Liability x (of_liabilities.Loss projection)) =
     dated_touched sheet date (is_stressed_liability sheet x projection)
-date_touches sheet date currency (nodes.CurrencyScenario x direction measure) = reporting_touched sheet currency x
-date_touches sheet date currency (nodes.CurrencyChoice x) = reporting_touched sheet currency x
-date_touches sheet date currency (nodes.CurrencyPicked x measure) = reporting_touched sheet currency x
-date_touches sheet date currency (nodes.Currency measure) =
+date_touches sheet date currency (nodes.Currency x (of_currencies.Scenario direction measure)) = reporting_touched sheet currency x
+date_touches sheet date currency (nodes.Currency x of_currencies.Choice) = reporting_touched sheet currency x
+date_touches sheet date currency (nodes.Currency x (of_currencies.Picked measure)) = reporting_touched sheet currency x
+date_touches sheet date currency (nodes.Whole (wholes.Currency measure)) =
     is_touched true true true (same_name sheet.numbers.currency currency)
 date_touches sheet date currency node = false
 
@@ -54,11 +58,11 @@ abbrev pub date_nodes : BalanceSheet → Day → List Node
 date_nodes sheet date = moved_nodes sheet (same_date sheet date) ++ foreign_nodes sheet.numbers.currency
 
 abbrev pub reporting_nodes : List ℕ → List Node
-reporting_nodes currency = foreign_nodes currency ++ nodes.Currency measures.Gross ∷ nodes.Currency measures.Net ∷ []
+reporting_nodes currency = foreign_nodes currency ++ nodes.Whole (wholes.Currency measures.Gross) ∷ nodes.Whole (wholes.Currency measures.Net) ∷ []
 
 -- it is a figure of the currency as a foreign one
 abbrev pub is_of_currency : List ℕ → Node → Bool
-is_of_currency currency (nodes.CurrencyScenario x direction measure) = same_name x currency
-is_of_currency currency (nodes.CurrencyChoice x) = same_name x currency
-is_of_currency currency (nodes.CurrencyPicked x measure) = same_name x currency
+is_of_currency currency (nodes.Currency x (of_currencies.Scenario direction measure)) = same_name x currency
+is_of_currency currency (nodes.Currency x of_currencies.Choice) = same_name x currency
+is_of_currency currency (nodes.Currency x (of_currencies.Picked measure)) = same_name x currency
 is_of_currency currency node = false

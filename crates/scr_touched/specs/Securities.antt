@@ -13,6 +13,10 @@ use Rattle.scr_nodes.specs.declared.node.Direction.TheVariants as directions
 use Rattle.scr_nodes.specs.declared.node.Measure.TheVariants as measures
 use Rattle.scr_nodes.specs.declared.node.Node.{Node}
 use Rattle.scr_nodes.specs.declared.node.Node.TheVariants as nodes
+use Rattle.scr_nodes.specs.declared.node.OfSecurity.TheVariants as of_securities
+use Rattle.scr_nodes.specs.declared.node.OfCurrency.TheVariants as of_currencies
+use Rattle.scr_nodes.specs.declared.node.OfGroup.TheVariants as of_groups
+use Rattle.scr_nodes.specs.declared.node.Whole.TheVariants as wholes
 use Rattle.scr_changes.specs.Comparisons.{passes, is_kept, same_payments, same_rates}
 use Rattle.scr_changes.specs.Readings.{duration_of, flows_of, position_held}
 use Rattle.scr_touched.specs.Comparisons.{is_touched}
@@ -49,24 +53,24 @@ spread_touched sheet old new =
 
 -- the security of this name becomes another, or comes or goes
 abbrev pub security_touches : BalanceSheet → List ℕ → Option Position → Option Position → Node → Bool
-security_touches sheet name old new (nodes.SecurityTotal x) = same_name x name && total_touched old new
-security_touches sheet name old new (nodes.UnitLoss x direction) = same_name x name && unit_touched sheet old new
-security_touches sheet name old new (nodes.SecurityRate x direction) = same_name x name && rate_touched old new
-security_touches sheet name old new (nodes.CurrencyLoss currency direction) =
+security_touches sheet name old new (nodes.Security x of_securities.Total) = same_name x name && total_touched old new
+security_touches sheet name old new (nodes.Security x (of_securities.UnitLoss direction)) = same_name x name && unit_touched sheet old new
+security_touches sheet name old new (nodes.Security x (of_securities.Rate direction)) = same_name x name && rate_touched old new
+security_touches sheet name old new (nodes.Currency currency (of_currencies.Loss direction)) =
     let has = has_row curve_name currency sheet.curves in
     is_touched has has true (is_kept (is_paying_in currency) old new)
-security_touches sheet name old new (nodes.CurrencyScenario currency direction measures.Gross) =
+security_touches sheet name old new (nodes.Currency currency (of_currencies.Scenario direction measures.Gross)) =
     let foreign = is_foreign_currency sheet currency in
     let kept = is_kept (is_held_in currency) old new in
     is_touched foreign foreign kept kept
-security_touches sheet name old new (nodes.ClassSum class) =
+security_touches sheet name old new (nodes.Whole (wholes.ClassSum class)) =
     is_touched true true true (is_kept (has_class class) old new)
-security_touches sheet name old new (nodes.SecuritySpread x) = same_name x name && spread_touched sheet old new
-security_touches sheet name old new nodes.Spread = is_touched true true true (is_kept (has_class classes.Bond) old new)
-security_touches sheet name old new (nodes.GroupTotal group) =
+security_touches sheet name old new (nodes.Security x of_securities.Spread) = same_name x name && spread_touched sheet old new
+security_touches sheet name old new (nodes.Whole wholes.Spread) = is_touched true true true (is_kept (has_class classes.Bond) old new)
+security_touches sheet name old new (nodes.Group group of_groups.Total) =
     let has = is_group sheet group in
     is_touched has has true (is_kept (is_of_group group) old new)
-security_touches sheet name old new nodes.Assets = is_touched true true true (is_kept has_group old new)
+security_touches sheet name old new (nodes.Whole wholes.Assets) = is_touched true true true (is_kept has_group old new)
 security_touches sheet name old new node = false
 
 -- ---- what may be touched
@@ -74,31 +78,31 @@ security_touches sheet name old new node = false
 -- the figures of the security itself, and those of which there is one for all
 abbrev pub own_nodes : List ℕ → List Node
 own_nodes name =
-    nodes.SecurityTotal name ∷ nodes.UnitLoss name directions.Up ∷ nodes.UnitLoss name directions.Down
-    ∷ nodes.SecurityRate name directions.Up ∷ nodes.SecurityRate name directions.Down
-    ∷ nodes.SecuritySpread name ∷ nodes.Spread ∷ nodes.Assets ∷ []
+    nodes.Security name of_securities.Total ∷ nodes.Security name (of_securities.UnitLoss directions.Up) ∷ nodes.Security name (of_securities.UnitLoss directions.Down)
+    ∷ nodes.Security name (of_securities.Rate directions.Up) ∷ nodes.Security name (of_securities.Rate directions.Down)
+    ∷ nodes.Security name of_securities.Spread ∷ nodes.Whole wholes.Spread ∷ nodes.Whole wholes.Assets ∷ []
 
 abbrev pub group_nodes : Option (List ℕ) → List Node
 group_nodes None = []
-group_nodes (Some group) = nodes.GroupTotal group ∷ []
+group_nodes (Some group) = nodes.Group group of_groups.Total ∷ []
 
 -- the figures of its currency, its class and its group
 abbrev pub row_nodes : Option Position → List Node
 row_nodes None = []
 row_nodes (Some position) =
-    nodes.CurrencyLoss position.security.currency directions.Up
-    ∷ nodes.CurrencyLoss position.security.currency directions.Down
-    ∷ nodes.CurrencyScenario position.security.currency directions.Up measures.Gross
-    ∷ nodes.CurrencyScenario position.security.currency directions.Down measures.Gross
-    ∷ nodes.ClassSum position.security.class ∷ group_nodes position.security.group
+    nodes.Currency position.security.currency (of_currencies.Loss directions.Up)
+    ∷ nodes.Currency position.security.currency (of_currencies.Loss directions.Down)
+    ∷ nodes.Currency position.security.currency (of_currencies.Scenario directions.Up measures.Gross)
+    ∷ nodes.Currency position.security.currency (of_currencies.Scenario directions.Down measures.Gross)
+    ∷ nodes.Whole (wholes.ClassSum position.security.class) ∷ group_nodes position.security.group
 
 abbrev pub security_nodes : List ℕ → Option Position → List Node
 security_nodes name old = own_nodes name ++ row_nodes old
 
 -- it is a figure of the currency, the class or the group of the security
 abbrev pub is_of_position : Option Position → Node → Bool
-is_of_position row (nodes.CurrencyLoss currency direction) = passes (is_held_in currency) row
-is_of_position row (nodes.CurrencyScenario currency direction measures.Gross) = passes (is_held_in currency) row
-is_of_position row (nodes.ClassSum class) = passes (has_class class) row
-is_of_position row (nodes.GroupTotal group) = passes (is_of_group group) row
+is_of_position row (nodes.Currency currency (of_currencies.Loss direction)) = passes (is_held_in currency) row
+is_of_position row (nodes.Currency currency (of_currencies.Scenario direction measures.Gross)) = passes (is_held_in currency) row
+is_of_position row (nodes.Whole (wholes.ClassSum class)) = passes (has_class class) row
+is_of_position row (nodes.Group group of_groups.Total) = passes (is_of_group group) row
 is_of_position row node = false

@@ -19,6 +19,7 @@ use Rattle.scr_nodes.specs.declared.node.Biometric.TheVariants as biometrics
 use Rattle.scr_nodes.specs.declared.node.Measure.TheVariants.{Gross, Net}
 use Rattle.scr_nodes.specs.declared.node.Node.{Node}
 use Rattle.scr_nodes.specs.declared.node.Node.TheVariants as nodes
+use Rattle.scr_nodes.specs.declared.node.Whole.TheVariants as wholes
 use Rattle.scr_nodes.specs.declared.node.Operational.{Operational}
 use Rattle.scr_nodes.specs.declared.node.Operational.TheVariants as operations
 use Rattle.scr_nodes.specs.declared.node.Risk.TheVariants as risks
@@ -61,55 +62,55 @@ same_operations operations.Cap old new = true
 same_operations operations.Charge old new = same_earned 6 old new
 
 abbrev pub numbers_touch : Numbers → Numbers → Node → Bool
-numbers_touch old new (nodes.InterestScenario direction Net) =
+numbers_touch old new (nodes.Whole (wholes.InterestScenario direction Net)) =
     not (absorbed (interest_key direction) old == absorbed (interest_key direction) new)
-numbers_touch old new (nodes.EquityPart equities) = not (int_eq old.sym new.sym)
-numbers_touch old new (nodes.NetPart risk) = not (absorbed (risk_key risk) old == absorbed (risk_key risk) new)
-numbers_touch old new nodes.DefaultType2 = not (same_due 0 old new && same_due 1 old new)
-numbers_touch old new (nodes.BioScenario biometric projection Net) =
+numbers_touch old new (nodes.Whole (wholes.EquityPart equities)) = not (int_eq old.sym new.sym)
+numbers_touch old new (nodes.Whole (wholes.NetPart risk)) = not (absorbed (risk_key risk) old == absorbed (risk_key risk) new)
+numbers_touch old new (nodes.Whole wholes.DefaultType2) = not (same_due 0 old new && same_due 1 old new)
+numbers_touch old new (nodes.Whole (wholes.BioScenario biometric projection Net)) =
     has_stress biometric projection
     && not (stress_cents biometric projection old == stress_cents biometric projection new)
-numbers_touch old new (nodes.Segment set number) =
+numbers_touch old new (nodes.Whole (wholes.Segment set number)) =
     is_segment set number
     && not (same_volumes (volumes_in_regions set number old) (volumes_in_regions set number new))
-numbers_touch old new (nodes.CatCharge key) = not (catastrophe_cents key old == catastrophe_cents key new)
-numbers_touch old new (nodes.Lapse set) = not (lapse_cents set old == lapse_cents set new)
-numbers_touch old new (nodes.Nslt measure) = not (lapse_cents sets.Nslt old == lapse_cents sets.Nslt new)
-numbers_touch old new (nodes.Nonlife measure) = not (lapse_cents sets.Nl old == lapse_cents sets.Nl new)
-numbers_touch old new nodes.Intangible = not (old.intangible == new.intangible)
-numbers_touch old new (nodes.Bscr measure) = not (old.intangible == new.intangible)
-numbers_touch old new nodes.Diversification = not (old.intangible == new.intangible)
-numbers_touch old new (nodes.OpPart part) = not (same_operations part old new)
-numbers_touch old new (nodes.Adjust adjustments.TechnicalProvisions) = not (old.fdb == new.fdb)
-numbers_touch old new (nodes.Adjust adjustments.DeferredTaxes) = not ((old.tax == new.tax) && (old.cap == new.cap))
+numbers_touch old new (nodes.Whole (wholes.CatCharge key)) = not (catastrophe_cents key old == catastrophe_cents key new)
+numbers_touch old new (nodes.Whole (wholes.Lapse set)) = not (lapse_cents set old == lapse_cents set new)
+numbers_touch old new (nodes.Whole (wholes.Nslt measure)) = not (lapse_cents sets.Nslt old == lapse_cents sets.Nslt new)
+numbers_touch old new (nodes.Whole (wholes.Nonlife measure)) = not (lapse_cents sets.Nl old == lapse_cents sets.Nl new)
+numbers_touch old new (nodes.Whole wholes.Intangible) = not (old.intangible == new.intangible)
+numbers_touch old new (nodes.Whole (wholes.Bscr measure)) = not (old.intangible == new.intangible)
+numbers_touch old new (nodes.Whole wholes.Diversification) = not (old.intangible == new.intangible)
+numbers_touch old new (nodes.Whole (wholes.OpPart part)) = not (same_operations part old new)
+numbers_touch old new (nodes.Whole (wholes.Adjust adjustments.TechnicalProvisions)) = not (old.fdb == new.fdb)
+numbers_touch old new (nodes.Whole (wholes.Adjust adjustments.DeferredTaxes)) = not ((old.tax == new.tax) && (old.cap == new.cap))
 numbers_touch old new node = false
 
 -- ---- what may be touched
 
 abbrev pub risk_nodes : List Node
 risk_nodes =
-    nodes.NetPart risks.Equity ∷ nodes.NetPart risks.Property ∷ nodes.NetPart risks.Spread
-    ∷ nodes.NetPart risks.Concentration ∷ nodes.NetPart risks.Default ∷ nodes.NetPart risks.HealthCatastrophe
-    ∷ nodes.DefaultType2 ∷ []
+    nodes.Whole (wholes.NetPart risks.Equity) ∷ nodes.Whole (wholes.NetPart risks.Property) ∷ nodes.Whole (wholes.NetPart risks.Spread)
+    ∷ nodes.Whole (wholes.NetPart risks.Concentration) ∷ nodes.Whole (wholes.NetPart risks.Default) ∷ nodes.Whole (wholes.NetPart risks.HealthCatastrophe)
+    ∷ nodes.Whole wholes.DefaultType2 ∷ []
 
 abbrev pub stress_nodes : Biometric → List Node
 stress_nodes biometric =
-    nodes.BioScenario biometric projections.Mortality Net ∷ nodes.BioScenario biometric projections.Longevity Net
-    ∷ nodes.BioScenario biometric projections.Disability Net ∷ nodes.BioScenario biometric projections.Expense Net
-    ∷ nodes.BioScenario biometric projections.Revision Net ∷ nodes.BioScenario biometric projections.Catastrophe Net
+    nodes.Whole (wholes.BioScenario biometric projections.Mortality Net) ∷ nodes.Whole (wholes.BioScenario biometric projections.Longevity Net)
+    ∷ nodes.Whole (wholes.BioScenario biometric projections.Disability Net) ∷ nodes.Whole (wholes.BioScenario biometric projections.Expense Net)
+    ∷ nodes.Whole (wholes.BioScenario biometric projections.Revision Net) ∷ nodes.Whole (wholes.BioScenario biometric projections.Catastrophe Net)
     ∷ []
 
 abbrev pub charge_nodes : List Node
 charge_nodes =
-    nodes.CatCharge cats.NonProportionalProperty ∷ nodes.CatCharge cats.Other
-    ∷ nodes.Lapse sets.Nl ∷ nodes.Lapse sets.Nslt ∷ nodes.Nslt Gross ∷ nodes.Nslt Net
-    ∷ nodes.Nonlife Gross ∷ nodes.Nonlife Net ∷ []
+    nodes.Whole (wholes.CatCharge cats.NonProportionalProperty) ∷ nodes.Whole (wholes.CatCharge cats.Other)
+    ∷ nodes.Whole (wholes.Lapse sets.Nl) ∷ nodes.Whole (wholes.Lapse sets.Nslt) ∷ nodes.Whole (wholes.Nslt Gross) ∷ nodes.Whole (wholes.Nslt Net)
+    ∷ nodes.Whole (wholes.Nonlife Gross) ∷ nodes.Whole (wholes.Nonlife Net) ∷ []
 
 abbrev pub requirement_nodes : List Node
 requirement_nodes =
-    nodes.Intangible ∷ nodes.Bscr Gross ∷ nodes.Bscr Net ∷ nodes.OpPart operations.Premiums
-    ∷ nodes.OpPart operations.Provisions ∷ nodes.OpPart operations.Charge
-    ∷ nodes.Adjust adjustments.TechnicalProvisions ∷ nodes.Adjust adjustments.DeferredTaxes ∷ nodes.Diversification
+    nodes.Whole wholes.Intangible ∷ nodes.Whole (wholes.Bscr Gross) ∷ nodes.Whole (wholes.Bscr Net) ∷ nodes.Whole (wholes.OpPart operations.Premiums)
+    ∷ nodes.Whole (wholes.OpPart operations.Provisions) ∷ nodes.Whole (wholes.OpPart operations.Charge)
+    ∷ nodes.Whole (wholes.Adjust adjustments.TechnicalProvisions) ∷ nodes.Whole (wholes.Adjust adjustments.DeferredTaxes) ∷ nodes.Whole wholes.Diversification
     ∷ []
 
 abbrev pub scenario_nodes : List Node

@@ -13,7 +13,7 @@ use crate::securities::pays;
 use scr_changes::comparisons::same_rates;
 use scr_changes::readings::{keeps_liability, keeps_security, rates_by};
 use scr_nodes::rows::{is_foreign, is_paying};
-use scr_nodes::{Direction, Measure, Node};
+use scr_nodes::{Direction, Measure, Node, OfCurrency, OfLiability, OfSecurity, Whole};
 use scr_sheet::{BalanceSheet, Curve, Liability, Name, Position, Projection};
 use std::alloc::{AllocError as NoMemory, Global};
 
@@ -29,25 +29,40 @@ pub(crate) fn curve_touches(
         (option_copied new.entry) node.now }
 {
     match node {
-        Node::UnitLoss(x, _) => unit_moved(name, old, new, sheet.securities.get(x)),
-        Node::LiabilityRate(x, _) => value_moved(name, old, new, sheet.liabilities.get(x)),
-        Node::LiabilityPresent(x) => value_moved(name, old, new, sheet.liabilities.get(x)),
-        Node::LiabilityLoss(x, projection) => {
+        Node::Security(x, OfSecurity::UnitLoss(_)) => unit_moved(
+            name,
+            old,
+            new,
+            sheet.securities.get(x),
+        ),
+        Node::Liability(x, OfLiability::Rate(_)) => value_moved(
+            name,
+            old,
+            new,
+            sheet.liabilities.get(x),
+        ),
+        Node::Liability(x, OfLiability::Present) => value_moved(
+            name,
+            old,
+            new,
+            sheet.liabilities.get(x),
+        ),
+        Node::Liability(x, OfLiability::Loss(projection)) => {
             loss_moved(name, old, new, *projection, sheet.liabilities.get(x))
         }
-        Node::CurrencyLoss(x, _) => {
+        Node::Currency(x, OfCurrency::Loss(_)) => {
             x == name && is_touched(old.is_some(), new.is_some(), true, true)
         }
-        Node::InterestScenario(_, Measure::Gross) => old.is_some() != new.is_some(),
-        Node::CurrencyScenario(x, _, Measure::Gross) => {
+        Node::Whole(Whole::InterestScenario(_, Measure::Gross)) => old.is_some() != new.is_some(),
+        Node::Currency(x, OfCurrency::Scenario(_, Measure::Gross)) => {
             x == name && foreign_touched(sheet, old, new)
         }
-        Node::CurrencyScenario(x, direction, Measure::Net) => {
+        Node::Currency(x, OfCurrency::Scenario(direction, Measure::Net)) => {
             x == name && net_touched(sheet, *direction, old, new)
         }
-        Node::CurrencyChoice(x) => x == name && foreign_touched(sheet, old, new),
-        Node::CurrencyPicked(x, _) => x == name && foreign_touched(sheet, old, new),
-        Node::Currency(_) => is_other(sheet, old) != is_other(sheet, new),
+        Node::Currency(x, OfCurrency::Choice) => x == name && foreign_touched(sheet, old, new),
+        Node::Currency(x, OfCurrency::Picked(_)) => x == name && foreign_touched(sheet, old, new),
+        Node::Whole(Whole::Currency(_)) => is_other(sheet, old) != is_other(sheet, new),
         _ => false,
     }
 }
@@ -180,12 +195,12 @@ fn push_currency(list: &mut Vec<Node>, name: &Name) -> Result<(), NoMemory>
     ensures { OnOk result (list.new.items ≡ list.old.items ++ currency_nodes name.now) }
 {
     list.extend_from_slice(&[
-        Node::CurrencyLoss(*name, Direction::Up),
-        Node::CurrencyLoss(*name, Direction::Down),
-        Node::InterestScenario(Direction::Up, Measure::Gross),
-        Node::InterestScenario(Direction::Down, Measure::Gross),
-        Node::Currency(Measure::Gross),
-        Node::Currency(Measure::Net),
+        Node::Currency(*name, OfCurrency::Loss(Direction::Up)),
+        Node::Currency(*name, OfCurrency::Loss(Direction::Down)),
+        Node::Whole(Whole::InterestScenario(Direction::Up, Measure::Gross)),
+        Node::Whole(Whole::InterestScenario(Direction::Down, Measure::Gross)),
+        Node::Whole(Whole::Currency(Measure::Gross)),
+        Node::Whole(Whole::Currency(Measure::Net)),
     ])?;
     push_foreign(list, name)
 }
@@ -195,12 +210,12 @@ pub(crate) fn push_foreign(list: &mut Vec<Node>, name: &Name) -> Result<(), NoMe
     ensures { OnOk result (list.new.items ≡ list.old.items ++ foreign_nodes name.now) }
 {
     list.extend_from_slice(&[
-        Node::CurrencyScenario(*name, Direction::Up, Measure::Gross),
-        Node::CurrencyScenario(*name, Direction::Up, Measure::Net),
-        Node::CurrencyScenario(*name, Direction::Down, Measure::Gross),
-        Node::CurrencyScenario(*name, Direction::Down, Measure::Net),
-        Node::CurrencyChoice(*name),
-        Node::CurrencyPicked(*name, Measure::Gross),
-        Node::CurrencyPicked(*name, Measure::Net),
+        Node::Currency(*name, OfCurrency::Scenario(Direction::Up, Measure::Gross)),
+        Node::Currency(*name, OfCurrency::Scenario(Direction::Up, Measure::Net)),
+        Node::Currency(*name, OfCurrency::Scenario(Direction::Down, Measure::Gross)),
+        Node::Currency(*name, OfCurrency::Scenario(Direction::Down, Measure::Net)),
+        Node::Currency(*name, OfCurrency::Choice),
+        Node::Currency(*name, OfCurrency::Picked(Measure::Gross)),
+        Node::Currency(*name, OfCurrency::Picked(Measure::Net)),
     ])
 }

@@ -5,7 +5,7 @@ ghost use Rattle.scr_touched.specs.Debts.{debt_touches, debt_losses, is_of_debto
 
 use crate::comparisons::is_touched;
 use scr_changes::debts::{Debt, owes_same};
-use scr_nodes::Node;
+use scr_nodes::{Node, OfGroup};
 use scr_sheet::BalanceSheet;
 use std::alloc::{AllocError as NoMemory, Global};
 
@@ -21,7 +21,7 @@ pub(crate) fn debt_touches(
         (option_copied new.entry) node.now }
 {
     match node {
-        Node::GroupLoss(group) => {
+        Node::Group(group, OfGroup::Loss) => {
             let has = sheet.groups.contains(group);
             is_touched(has, has, owes_same(group, old, new), true)
         }
@@ -35,7 +35,7 @@ pub(crate) fn debt_losses(alloc: Global, debt: Option<&Debt>) -> Result<Vec<Node
 {
     let mut list = Vec::new(alloc);
     if let Some(debt) = debt {
-        list.push(Node::GroupLoss(debt.group))?;
+        list.push(Node::Group(debt.group, OfGroup::Loss))?;
     }
     Ok(list)
 }
@@ -45,7 +45,7 @@ pub(crate) fn is_of_debtor(debt: Option<&Debt>, node: &Node) -> bool
     ensures { result ≡ is_of_debtor (option_copied debt.entry) node.now }
 {
     match (node, debt) {
-        (Node::GroupLoss(group), Some(debt)) => *group == debt.group,
+        (Node::Group(group, OfGroup::Loss), Some(debt)) => *group == debt.group,
         _ => false,
     }
 }

@@ -12,8 +12,8 @@ use crate::comparisons::is_touched;
 use crate::component::Shares;
 use crate::weighed::{is_held, kept, weighed};
 use scr_changes::readings::{held_kept, is_fund_after};
-use scr_nodes::Node;
 use scr_nodes::rows::is_closed;
+use scr_nodes::{Node, OfFund, OfSecurity, Whole};
 use scr_sheet::{BalanceSheet, Class, Name, Stake};
 use std::alloc::{AllocError as NoMemory, Global};
 use std::mem::drop;
@@ -51,9 +51,9 @@ pub(crate) fn fund_touches(
         (option_copied new.entry) node.now }
 {
     match node {
-        Node::FundTotal(x) => fund_touched(sheet, name, shares, old, new, x),
-        Node::SecurityTotal(x) => holding_touched(sheet, shares, old, new, x),
-        Node::ClassSum(Class::Type2Equity) => closed(old) != closed(new),
+        Node::Fund(x, OfFund::Total) => fund_touched(sheet, name, shares, old, new, x),
+        Node::Security(x, OfSecurity::Total) => holding_touched(sheet, shares, old, new, x),
+        Node::Whole(Whole::ClassSum(Class::Type2Equity)) => closed(old) != closed(new),
         _ => false,
     }
 }
@@ -112,7 +112,10 @@ pub(crate) fn fund_nodes(
 ) -> Result<Vec<Node>, NoMemory>
     ensures { IfOk result (λ list. list.items ≡ fund_nodes name.now (option_copied old.entry)) }
 {
-    let mut list = vec![in alloc; Node::FundTotal(*name), Node::ClassSum(Class::Type2Equity)]?;
+    let mut list = vec![in alloc;
+        Node::Fund(*name, OfFund::Total),
+        Node::Whole(Whole::ClassSum(Class::Type2Equity)),
+    ]?;
     push_components(&mut list, old)?;
     Ok(list)
 }
@@ -138,8 +141,8 @@ pub(crate) fn is_of_stake(
     ensures { result ≡ is_of_stake name.now (option_copied _old.entry) node.now }
 {
     match node {
-        Node::FundTotal(x) => x == name || is_held(x, &shares.old, _old),
-        Node::SecurityTotal(x) => is_held(x, &shares.old, _old),
+        Node::Fund(x, OfFund::Total) => x == name || is_held(x, &shares.old, _old),
+        Node::Security(x, OfSecurity::Total) => is_held(x, &shares.old, _old),
         _ => false,
     }
 }
@@ -159,7 +162,10 @@ fn push_totals(list: &mut Vec<Node>, stake: &Stake) -> Result<(), NoMemory>
         ≡ list.old.items ++ flat_map (λ c. totals_of c.0) stake.now.fund.components) }
 {
     for (name, _) in stake.fund.components.as_slice() {
-        list.extend_from_slice(&[Node::FundTotal(*name), Node::SecurityTotal(*name)])?;
+        list.extend_from_slice(&[
+            Node::Fund(*name, OfFund::Total),
+            Node::Security(*name, OfSecurity::Total),
+        ])?;
     }
     Ok(())
 }

@@ -9,9 +9,9 @@ ghost use Rattle.scr_touched.specs.Groups.{group_touches, group_nodes, later_gro
 
 use crate::comparisons::is_touched;
 use scr_changes::readings::{kind_of, same_step};
-use scr_nodes::Node;
 use scr_nodes::live::is_bond;
 use scr_nodes::rows::{class_of_step, is_of_default_class, is_of_group};
+use scr_nodes::{Node, OfGroup, OfSecurity, Whole};
 use scr_sheet::{BalanceSheet, Group, Name};
 use std::alloc::{AllocError as NoMemory, Global};
 
@@ -28,13 +28,13 @@ pub(crate) fn group_touches(
         (option_copied new.entry) node.now }
 {
     match node {
-        Node::SecuritySpread(x) => step_touched(sheet, name, old, new, x),
-        Node::GroupTotal(x) => x == name && is_moved(old, new),
-        Node::ConcentrationSquare(x) => x == name && square_touched(old, new),
-        Node::Concentration => old.is_some() != new.is_some(),
-        Node::GroupLoss(x) => x == name && is_moved(old, new),
-        Node::ClassLoss(class) => class_touched(old, new, *class),
-        Node::ClassSquare(class) => class_touched(old, new, *class),
+        Node::Security(x, OfSecurity::Spread) => step_touched(sheet, name, old, new, x),
+        Node::Group(x, OfGroup::Total) => x == name && is_moved(old, new),
+        Node::Group(x, OfGroup::ConcentrationSquare) => x == name && square_touched(old, new),
+        Node::Whole(Whole::Concentration) => old.is_some() != new.is_some(),
+        Node::Group(x, OfGroup::Loss) => x == name && is_moved(old, new),
+        Node::Whole(Whole::ClassLoss(class)) => class_touched(old, new, *class),
+        Node::Whole(Whole::ClassSquare(class)) => class_touched(old, new, *class),
         _ => false,
     }
 }
@@ -108,10 +108,10 @@ pub(crate) fn group_nodes(
     ensures { IfOk result (λ list. list.items ≡ group_nodes name.now (option_copied old.entry)) }
 {
     let mut list = vec![in alloc;
-        Node::GroupTotal(*name),
-        Node::ConcentrationSquare(*name),
-        Node::GroupLoss(*name),
-        Node::Concentration,
+        Node::Group(*name, OfGroup::Total),
+        Node::Group(*name, OfGroup::ConcentrationSquare),
+        Node::Group(*name, OfGroup::Loss),
+        Node::Whole(Whole::Concentration),
     ]?;
     push_class(&mut list, old)?;
     Ok(list)
@@ -138,7 +138,8 @@ pub(crate) fn is_of_class_of(group: Option<&Group>, node: &Node) -> bool
     ensures { result ≡ is_of_class_of (option_copied group.entry) node.now }
 {
     match node {
-        Node::ClassLoss(class) | Node::ClassSquare(class) => is_of_class(*class, group),
+        Node::Whole(Whole::ClassLoss(class)) | Node::Whole(Whole::ClassSquare(class)) =>
+            is_of_class(*class, group),
         _ => false,
     }
 }
@@ -151,7 +152,10 @@ fn push_class(list: &mut Vec<Node>, group: Option<&Group>) -> Result<(), NoMemor
         return Ok(());
     };
     let class = class_of_step(group.step);
-    list.extend_from_slice(&[Node::ClassLoss(class), Node::ClassSquare(class)])?;
+    list.extend_from_slice(&[
+        Node::Whole(Whole::ClassLoss(class)),
+        Node::Whole(Whole::ClassSquare(class)),
+    ])?;
     Ok(())
 }
 
@@ -162,7 +166,7 @@ fn push_spreads(list: &mut Vec<Node>, sheet: &BalanceSheet, name: &Name) -> Resu
     for k in 0..sheet.securities.len() {
         let position = sheet.securities.at(k);
         if is_of_group(name, position) {
-            list.push(Node::SecuritySpread(position.security.name))?;
+            list.push(Node::Security(position.security.name, OfSecurity::Spread))?;
         }
     }
     Ok(())

@@ -13,7 +13,7 @@ use scr_changes::comparisons::{same_payments, same_rates};
 use scr_changes::readings::{best_estimate_of, paid_for};
 use scr_nodes::live::{has_stress, is_foreign_currency, is_stress};
 use scr_nodes::rows::{has_flows, is_owed_in, is_stressed};
-use scr_nodes::{Biometric, Direction, Measure, Node};
+use scr_nodes::{Biometric, Direction, Measure, Node, OfCurrency, OfLiability, Whole};
 use scr_sheet::{BalanceSheet, Liability, Name, Projection};
 use std::alloc::{AllocError as NoMemory, Global};
 
@@ -29,20 +29,20 @@ pub(crate) fn liability_touches(
         (option_copied new.entry) node.now }
 {
     match node {
-        Node::LiabilityRate(x, _) => x == name && value_touched(sheet, old, new),
-        Node::LiabilityPresent(x) => x == name && value_touched(sheet, old, new),
-        Node::LiabilityLoss(x, projection) => {
+        Node::Liability(x, OfLiability::Rate(_)) => x == name && value_touched(sheet, old, new),
+        Node::Liability(x, OfLiability::Present) => x == name && value_touched(sheet, old, new),
+        Node::Liability(x, OfLiability::Loss(projection)) => {
             x == name && loss_touched(sheet, *projection, old, new)
         }
-        Node::CurrencyLoss(currency, _) => {
+        Node::Currency(currency, OfCurrency::Loss(_)) => {
             let has = sheet.curves.contains(currency);
             is_touched(has, has, true, is_kept_owed(currency, old, new))
         }
-        Node::CurrencyScenario(currency, _, Measure::Gross) => {
+        Node::Currency(currency, OfCurrency::Scenario(_, Measure::Gross)) => {
             let foreign = is_foreign_currency(sheet, currency);
             is_touched(foreign, foreign, true, is_kept_owed(currency, old, new))
         }
-        Node::BioScenario(biometric, projection, Measure::Gross) => {
+        Node::Whole(Whole::BioScenario(biometric, projection, Measure::Gross)) => {
             let has = has_stress(*biometric, *projection);
             let before = suffers(*biometric, *projection, old);
             let after = suffers(*biometric, *projection, new);
@@ -169,7 +169,8 @@ pub(crate) fn is_of_liability(liability: Option<&Liability>, node: &Node) -> boo
     ensures { result ≡ is_of_liability (option_copied liability.entry) node.now }
 {
     match node {
-        Node::CurrencyLoss(currency, _) | Node::CurrencyScenario(currency, _, Measure::Gross) => {
+        Node::Currency(currency, OfCurrency::Loss(_))
+        | Node::Currency(currency, OfCurrency::Scenario(_, Measure::Gross)) => {
             is_owed(currency, liability)
         }
         _ => false,
@@ -180,15 +181,15 @@ fn push_stresses(list: &mut Vec<Node>, biometric: Biometric) -> Result<(), NoMem
     ensures { OnOk result (list.new.items ≡ list.old.items ++ stress_nodes biometric) }
 {
     list.extend_from_slice(&[
-        Node::BioScenario(biometric, Projection::Mortality, Measure::Gross),
-        Node::BioScenario(biometric, Projection::Longevity, Measure::Gross),
-        Node::BioScenario(biometric, Projection::Disability, Measure::Gross),
-        Node::BioScenario(biometric, Projection::Expense, Measure::Gross),
-        Node::BioScenario(biometric, Projection::Revision, Measure::Gross),
-        Node::BioScenario(biometric, Projection::LapseUp, Measure::Gross),
-        Node::BioScenario(biometric, Projection::LapseDown, Measure::Gross),
-        Node::BioScenario(biometric, Projection::LapseMass, Measure::Gross),
-        Node::BioScenario(biometric, Projection::Catastrophe, Measure::Gross),
+        Node::Whole(Whole::BioScenario(biometric, Projection::Mortality, Measure::Gross)),
+        Node::Whole(Whole::BioScenario(biometric, Projection::Longevity, Measure::Gross)),
+        Node::Whole(Whole::BioScenario(biometric, Projection::Disability, Measure::Gross)),
+        Node::Whole(Whole::BioScenario(biometric, Projection::Expense, Measure::Gross)),
+        Node::Whole(Whole::BioScenario(biometric, Projection::Revision, Measure::Gross)),
+        Node::Whole(Whole::BioScenario(biometric, Projection::LapseUp, Measure::Gross)),
+        Node::Whole(Whole::BioScenario(biometric, Projection::LapseDown, Measure::Gross)),
+        Node::Whole(Whole::BioScenario(biometric, Projection::LapseMass, Measure::Gross)),
+        Node::Whole(Whole::BioScenario(biometric, Projection::Catastrophe, Measure::Gross)),
     ])
 }
 
@@ -201,9 +202,15 @@ fn push_owed(list: &mut Vec<Node>, liability: Option<&Liability>) -> Result<(), 
     };
     let currency = liability.currency;
     list.extend_from_slice(&[
-        Node::CurrencyLoss(currency, Direction::Up),
-        Node::CurrencyLoss(currency, Direction::Down),
-        Node::CurrencyScenario(currency, Direction::Up, Measure::Gross),
-        Node::CurrencyScenario(currency, Direction::Down, Measure::Gross),
+        Node::Currency(currency, OfCurrency::Loss(Direction::Up)),
+        Node::Currency(currency, OfCurrency::Loss(Direction::Down)),
+        Node::Currency(
+            currency,
+            OfCurrency::Scenario(Direction::Up, Measure::Gross),
+        ),
+        Node::Currency(
+            currency,
+            OfCurrency::Scenario(Direction::Down, Measure::Gross),
+        ),
     ])
 }

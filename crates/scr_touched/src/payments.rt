@@ -2,7 +2,7 @@
 ghost use Rattle.std.specs.Prelude.{◌≡◌, ◌++◌, flat_map, IfOk, OnOk};
 ghost use Rattle.scr_touched.specs.Payments.{security_figures, value_figures, loss_figures, liability_figures, payment_figures};
 
-use scr_nodes::{Direction, Node};
+use scr_nodes::{Direction, Node, OfLiability, OfSecurity};
 use scr_sheet::{BalanceSheet, Liability, Name, Projection};
 use std::alloc::{AllocError as NoMemory, Global};
 
@@ -24,8 +24,8 @@ fn push_securities(list: &mut Vec<Node>, sheet: &BalanceSheet) -> Result<(), NoM
         let position = sheet.securities.at(k);
         let name = position.security.name;
         list.extend_from_slice(&[
-            Node::UnitLoss(name, Direction::Up),
-            Node::UnitLoss(name, Direction::Down),
+            Node::Security(name, OfSecurity::UnitLoss(Direction::Up)),
+            Node::Security(name, OfSecurity::UnitLoss(Direction::Down)),
         ])?;
     }
     Ok(())
@@ -54,9 +54,9 @@ pub(crate) fn push_values(list: &mut Vec<Node>, name: &Name) -> Result<(), NoMem
     ensures { OnOk result (list.new.items ≡ list.old.items ++ value_figures name.now) }
 {
     list.extend_from_slice(&[
-        Node::LiabilityRate(*name, Direction::Up),
-        Node::LiabilityRate(*name, Direction::Down),
-        Node::LiabilityPresent(*name),
+        Node::Liability(*name, OfLiability::Rate(Direction::Up)),
+        Node::Liability(*name, OfLiability::Rate(Direction::Down)),
+        Node::Liability(*name, OfLiability::Present),
     ])
 }
 
@@ -66,14 +66,14 @@ pub(crate) fn push_losses(list: &mut Vec<Node>, name: &Name) -> Result<(), NoMem
 {
     let name = *name;
     list.extend_from_slice(&[
-        Node::LiabilityLoss(name, Projection::Mortality),
-        Node::LiabilityLoss(name, Projection::Longevity),
-        Node::LiabilityLoss(name, Projection::Disability),
-        Node::LiabilityLoss(name, Projection::Expense),
-        Node::LiabilityLoss(name, Projection::Revision),
-        Node::LiabilityLoss(name, Projection::LapseUp),
-        Node::LiabilityLoss(name, Projection::LapseDown),
-        Node::LiabilityLoss(name, Projection::LapseMass),
-        Node::LiabilityLoss(name, Projection::Catastrophe),
+        Node::Liability(name, OfLiability::Loss(Projection::Mortality)),
+        Node::Liability(name, OfLiability::Loss(Projection::Longevity)),
+        Node::Liability(name, OfLiability::Loss(Projection::Disability)),
+        Node::Liability(name, OfLiability::Loss(Projection::Expense)),
+        Node::Liability(name, OfLiability::Loss(Projection::Revision)),
+        Node::Liability(name, OfLiability::Loss(Projection::LapseUp)),
+        Node::Liability(name, OfLiability::Loss(Projection::LapseDown)),
+        Node::Liability(name, OfLiability::Loss(Projection::LapseMass)),
+        Node::Liability(name, OfLiability::Loss(Projection::Catastrophe)),
     ])
 }

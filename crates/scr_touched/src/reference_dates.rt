@@ -7,7 +7,7 @@ use crate::comparisons::is_touched;
 use crate::curves::{moved_nodes, push_foreign};
 use scr_dates::Day;
 use scr_nodes::live::{is_foreign_currency, is_stressed_liability, pays};
-use scr_nodes::{Measure, Node};
+use scr_nodes::{Measure, Node, OfCurrency, OfLiability, OfSecurity, Whole};
 use scr_sheet::{BalanceSheet, Name, Projection};
 use std::alloc::{AllocError as NoMemory, Global};
 
@@ -16,16 +16,24 @@ pub(crate) fn date_touches(sheet: &BalanceSheet, date: Day, currency: &Name, nod
     ensures { result ≡ date_touches sheet.now date currency.now node.now }
 {
     match node {
-        Node::UnitLoss(x, _) => dated_touched(sheet, date, pays(sheet, x)),
-        Node::LiabilityRate(x, _) => dated_touched(sheet, date, sheet.liabilities.contains(x)),
-        Node::LiabilityPresent(x) => dated_touched(sheet, date, sheet.liabilities.contains(x)),
-        Node::LiabilityLoss(x, projection) => {
+        Node::Security(x, OfSecurity::UnitLoss(_)) => dated_touched(sheet, date, pays(sheet, x)),
+        Node::Liability(x, OfLiability::Rate(_)) => dated_touched(
+            sheet,
+            date,
+            sheet.liabilities.contains(x),
+        ),
+        Node::Liability(x, OfLiability::Present) => dated_touched(
+            sheet,
+            date,
+            sheet.liabilities.contains(x),
+        ),
+        Node::Liability(x, OfLiability::Loss(projection)) => {
             dated_touched(sheet, date, is_stressed_liability(sheet, x, *projection))
         }
-        Node::CurrencyScenario(x, _, _) => reporting_touched(sheet, currency, x),
-        Node::CurrencyChoice(x) => reporting_touched(sheet, currency, x),
-        Node::CurrencyPicked(x, _) => reporting_touched(sheet, currency, x),
-        Node::Currency(_) => sheet.numbers.currency != *currency,
+        Node::Currency(x, OfCurrency::Scenario(_, _)) => reporting_touched(sheet, currency, x),
+        Node::Currency(x, OfCurrency::Choice) => reporting_touched(sheet, currency, x),
+        Node::Currency(x, OfCurrency::Picked(_)) => reporting_touched(sheet, currency, x),
+        Node::Whole(Whole::Currency(_)) => sheet.numbers.currency != *currency,
         _ => false,
     }
 }
@@ -82,7 +90,10 @@ pub(crate) fn reporting_nodes(alloc: Global, currency: &Name) -> Result<Vec<Node
 {
     let mut list = Vec::new(alloc);
     push_foreign(&mut list, currency)?;
-    list.extend_from_slice(&[Node::Currency(Measure::Gross), Node::Currency(Measure::Net)])?;
+    list.extend_from_slice(&[
+        Node::Whole(Whole::Currency(Measure::Gross)),
+        Node::Whole(Whole::Currency(Measure::Net)),
+    ])?;
     Ok(list)
 }
 
@@ -91,8 +102,9 @@ pub(crate) fn is_of_currency(currency: &Name, node: &Node) -> bool
     ensures { result ≡ is_of_currency currency.now node.now }
 {
     match node {
-        Node::CurrencyScenario(x, _, _) | Node::CurrencyChoice(x) | Node::CurrencyPicked(x, _) => x
-            == currency,
+        Node::Currency(x, OfCurrency::Scenario(_, _))
+        | Node::Currency(x, OfCurrency::Choice)
+        | Node::Currency(x, OfCurrency::Picked(_)) => x == currency,
         _ => false,
     }
 }

@@ -15,7 +15,7 @@ use scr_changes::readings::{duration_of, flows_of, position_held};
 use scr_nodes::live::is_foreign_currency;
 use scr_nodes::rows::{has_class, is_paying, is_paying_in};
 use scr_nodes::selections::{Holdings, is_counted};
-use scr_nodes::{Direction, Measure, Node};
+use scr_nodes::{Direction, Measure, Node, OfCurrency, OfGroup, OfSecurity, Whole};
 use scr_sheet::{BalanceSheet, Class, Name, Position};
 use std::alloc::{AllocError as NoMemory, Global};
 
@@ -31,28 +31,29 @@ pub(crate) fn security_touches(
         (option_copied new.entry) node.now }
 {
     match node {
-        Node::SecurityTotal(x) => x == name && total_touched(old, new),
-        Node::UnitLoss(x, _) => x == name && unit_touched(sheet, old, new),
-        Node::SecurityRate(x, _) => x == name && is_touched(pays(old), pays(new), true, true),
-        Node::CurrencyLoss(currency, _) => {
+        Node::Security(x, OfSecurity::Total) => x == name && total_touched(old, new),
+        Node::Security(x, OfSecurity::UnitLoss(_)) => x == name && unit_touched(sheet, old, new),
+        Node::Security(x, OfSecurity::Rate(_)) => x == name
+            && is_touched(pays(old), pays(new), true, true),
+        Node::Currency(currency, OfCurrency::Loss(_)) => {
             let has = sheet.curves.contains(currency);
             let kept = pays_in(currency, old) == pays_in(currency, new);
             is_touched(has, has, true, kept)
         }
-        Node::CurrencyScenario(currency, _, Measure::Gross) => {
+        Node::Currency(currency, OfCurrency::Scenario(_, Measure::Gross)) => {
             let foreign = is_foreign_currency(sheet, currency);
             let kept = is_kept(&Holdings::In(*currency), old, new);
             is_touched(foreign, foreign, kept, kept)
         }
-        Node::ClassSum(class) => !is_kept(&Holdings::OfClass(*class), old, new),
-        Node::SecuritySpread(x) => x == name && spread_touched(sheet, old, new),
-        Node::Spread => !is_kept(&Holdings::OfClass(Class::Bond), old, new),
-        Node::GroupTotal(group) => {
+        Node::Whole(Whole::ClassSum(class)) => !is_kept(&Holdings::OfClass(*class), old, new),
+        Node::Security(x, OfSecurity::Spread) => x == name && spread_touched(sheet, old, new),
+        Node::Whole(Whole::Spread) => !is_kept(&Holdings::OfClass(Class::Bond), old, new),
+        Node::Group(group, OfGroup::Total) => {
             let has = sheet.groups.contains(group);
             let kept = is_kept(&Holdings::OfGroup(*group), old, new);
             is_touched(has, has, true, kept)
         }
-        Node::Assets => !is_kept(&Holdings::Grouped, old, new),
+        Node::Whole(Whole::Assets) => !is_kept(&Holdings::Grouped, old, new),
         _ => false,
     }
 }
@@ -166,11 +167,12 @@ pub(crate) fn is_of_position(position: Option<&Position>, node: &Node) -> bool
     ensures { result ≡ is_of_position (option_copied position.entry) node.now }
 {
     match node {
-        Node::CurrencyLoss(currency, _) | Node::CurrencyScenario(currency, _, Measure::Gross) => {
+        Node::Currency(currency, OfCurrency::Loss(_))
+        | Node::Currency(currency, OfCurrency::Scenario(_, Measure::Gross)) => {
             is_counted_of(&Holdings::In(*currency), position)
         }
-        Node::ClassSum(class) => is_counted_of(&Holdings::OfClass(*class), position),
-        Node::GroupTotal(group) => is_counted_of(&Holdings::OfGroup(*group), position),
+        Node::Whole(Whole::ClassSum(class)) => is_counted_of(&Holdings::OfClass(*class), position),
+        Node::Group(group, OfGroup::Total) => is_counted_of(&Holdings::OfGroup(*group), position),
         _ => false,
     }
 }
@@ -179,14 +181,14 @@ fn own_nodes(alloc: Global, name: &Name) -> Result<Vec<Node>, NoMemory>
     ensures { IfOk result (λ list. list.items ≡ own_nodes name.now) }
 {
     let list = vec![in alloc;
-        Node::SecurityTotal(*name),
-        Node::UnitLoss(*name, Direction::Up),
-        Node::UnitLoss(*name, Direction::Down),
-        Node::SecurityRate(*name, Direction::Up),
-        Node::SecurityRate(*name, Direction::Down),
-        Node::SecuritySpread(*name),
-        Node::Spread,
-        Node::Assets,
+        Node::Security(*name, OfSecurity::Total),
+        Node::Security(*name, OfSecurity::UnitLoss(Direction::Up)),
+        Node::Security(*name, OfSecurity::UnitLoss(Direction::Down)),
+        Node::Security(*name, OfSecurity::Rate(Direction::Up)),
+        Node::Security(*name, OfSecurity::Rate(Direction::Down)),
+        Node::Security(*name, OfSecurity::Spread),
+        Node::Whole(Whole::Spread),
+        Node::Whole(Whole::Assets),
     ]?;
     Ok(list)
 }
@@ -200,14 +202,20 @@ fn push_row(list: &mut Vec<Node>, position: Option<&Position>) -> Result<(), NoM
     };
     let currency = position.security.currency;
     list.extend_from_slice(&[
-        Node::CurrencyLoss(currency, Direction::Up),
-        Node::CurrencyLoss(currency, Direction::Down),
-        Node::CurrencyScenario(currency, Direction::Up, Measure::Gross),
-        Node::CurrencyScenario(currency, Direction::Down, Measure::Gross),
-        Node::ClassSum(position.security.class),
+        Node::Currency(currency, OfCurrency::Loss(Direction::Up)),
+        Node::Currency(currency, OfCurrency::Loss(Direction::Down)),
+        Node::Currency(
+            currency,
+            OfCurrency::Scenario(Direction::Up, Measure::Gross),
+        ),
+        Node::Currency(
+            currency,
+            OfCurrency::Scenario(Direction::Down, Measure::Gross),
+        ),
+        Node::Whole(Whole::ClassSum(position.security.class)),
     ])?;
     if let Some(group) = position.security.group {
-        list.push(Node::GroupTotal(group))?;
+        list.push(Node::Group(group, OfGroup::Total))?;
     }
     Ok(())
 }

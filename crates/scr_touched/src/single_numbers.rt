@@ -5,6 +5,7 @@ ghost use Rattle.scr_nodes.specs.OwnOf.{volumes_in_regions};
 ghost use Rattle.scr_nodes.specs.Rows.{has_stress};
 ghost use Rattle.scr_nodes.specs.declared.node.Measure.TheVariants.{Net};
 ghost use Rattle.scr_nodes.specs.declared.node.Node.TheVariants as nodes;
+ghost use Rattle.scr_nodes.specs.declared.node.Whole.TheVariants as wholes;
 ghost use Rattle.scr_touched.specs.SingleNumbers.{same_volumes, stress_cents, same_operations, numbers_touch, scenario_nodes, nonlife_nodes, number_nodes, risk_nodes, stress_nodes, charge_nodes, requirement_nodes};
 
 use scr_nodes::live::{has_stress, is_segment};
@@ -15,7 +16,7 @@ use scr_nodes::words::{
     equity_parts, health_perils, interest_scenarios, lapse_scenarios, man_made_perils,
     natural_perils, nonlife_segments, nslt_segments,
 };
-use scr_nodes::{Adjustment, Biometric, Measure, Node, Operational, Risk};
+use scr_nodes::{Adjustment, Biometric, Measure, Node, Operational, Risk, Whole};
 use scr_profile::Set;
 use scr_sheet::{CatKey, Numbers, Projection};
 use std::alloc::{AllocError as NoMemory, Global};
@@ -25,30 +26,32 @@ pub(crate) fn numbers_touch(old: &Numbers, new: &Numbers, node: &Node) -> bool
     ensures { result ≡ numbers_touch old.now new.now node.now }
 {
     match node {
-        Node::InterestScenario(direction, Measure::Net) => {
+        Node::Whole(Whole::InterestScenario(direction, Measure::Net)) => {
             let key = interest_key(*direction);
             old.absorbed(key) != new.absorbed(key)
         }
-        Node::EquityPart(_) => old.sym != new.sym,
-        Node::NetPart(risk) => {
+        Node::Whole(Whole::EquityPart(_)) => old.sym != new.sym,
+        Node::Whole(Whole::NetPart(risk)) => {
             let key = risk_key(*risk);
             old.absorbed(key) != new.absorbed(key)
         }
-        Node::DefaultType2 => !(old.due[0] == new.due[0] && old.due[1] == new.due[1]),
-        Node::BioScenario(biometric, projection, Measure::Net) => {
+        Node::Whole(Whole::DefaultType2) => !(old.due[0] == new.due[0] && old.due[1] == new.due[1]),
+        Node::Whole(Whole::BioScenario(biometric, projection, Measure::Net)) => {
             is_stress_touched(old, new, *biometric, *projection)
         }
-        Node::Segment(set, number) => is_segment_touched(old, new, *set, *number),
-        Node::CatCharge(key) => catastrophe_cents(old, *key) != catastrophe_cents(new, *key),
-        Node::Lapse(set) => lapse_cents(old, *set) != lapse_cents(new, *set),
-        Node::Nslt(_) => lapse_cents(old, Set::Nslt) != lapse_cents(new, Set::Nslt),
-        Node::Nonlife(_) => lapse_cents(old, Set::Nl) != lapse_cents(new, Set::Nl),
-        Node::Intangible | Node::Bscr(_) | Node::Diversification => {
-            old.intangible != new.intangible
-        }
-        Node::OpPart(part) => !are_operations_same(old, new, *part),
-        Node::Adjust(Adjustment::TechnicalProvisions) => old.fdb != new.fdb,
-        Node::Adjust(Adjustment::DeferredTaxes) => !(old.tax == new.tax && old.cap == new.cap),
+        Node::Whole(Whole::Segment(set, number)) => is_segment_touched(old, new, *set, *number),
+        Node::Whole(Whole::CatCharge(key)) => catastrophe_cents(old, *key)
+            != catastrophe_cents(new, *key),
+        Node::Whole(Whole::Lapse(set)) => lapse_cents(old, *set) != lapse_cents(new, *set),
+        Node::Whole(Whole::Nslt(_)) => lapse_cents(old, Set::Nslt) != lapse_cents(new, Set::Nslt),
+        Node::Whole(Whole::Nonlife(_)) => lapse_cents(old, Set::Nl) != lapse_cents(new, Set::Nl),
+        Node::Whole(Whole::Intangible)
+        | Node::Whole(Whole::Bscr(_))
+        | Node::Whole(Whole::Diversification) => { old.intangible != new.intangible }
+        Node::Whole(Whole::OpPart(part)) => !are_operations_same(old, new, *part),
+        Node::Whole(Whole::Adjust(Adjustment::TechnicalProvisions)) => old.fdb != new.fdb,
+        Node::Whole(Whole::Adjust(Adjustment::DeferredTaxes)) => !(old.tax == new.tax
+            && old.cap == new.cap),
         _ => false,
     }
 }
@@ -59,7 +62,7 @@ fn is_stress_touched(
     biometric: Biometric,
     projection: Projection,
 ) -> bool
-    ensures { result ≡ numbers_touch old.now new.now (nodes.BioScenario biometric projection Net) }
+    ensures { result ≡ numbers_touch old.now new.now (nodes.Whole (wholes.BioScenario biometric projection Net)) }
 {
     has_stress(biometric, projection)
         && stress_cents(old, biometric, projection) != stress_cents(new, biometric, projection)
@@ -76,7 +79,7 @@ fn stress_cents(numbers: &Numbers, biometric: Biometric, projection: Projection)
 }
 
 fn is_segment_touched(old: &Numbers, new: &Numbers, set: Set, number: u8) -> bool
-    ensures { result ≡ numbers_touch old.now new.now (nodes.Segment set number) }
+    ensures { result ≡ numbers_touch old.now new.now (nodes.Whole (wholes.Segment set number)) }
 {
     is_segment(set, number) && !are_volumes_same(old, new, set, number)
 }
@@ -155,13 +158,13 @@ fn risk_nodes() -> [Node; 7]
     ensures { result ≡ risk_nodes }
 {
     [
-        Node::NetPart(Risk::Equity),
-        Node::NetPart(Risk::Property),
-        Node::NetPart(Risk::Spread),
-        Node::NetPart(Risk::Concentration),
-        Node::NetPart(Risk::Default),
-        Node::NetPart(Risk::HealthCatastrophe),
-        Node::DefaultType2,
+        Node::Whole(Whole::NetPart(Risk::Equity)),
+        Node::Whole(Whole::NetPart(Risk::Property)),
+        Node::Whole(Whole::NetPart(Risk::Spread)),
+        Node::Whole(Whole::NetPart(Risk::Concentration)),
+        Node::Whole(Whole::NetPart(Risk::Default)),
+        Node::Whole(Whole::NetPart(Risk::HealthCatastrophe)),
+        Node::Whole(Whole::DefaultType2),
     ]
 }
 
@@ -169,12 +172,12 @@ fn stress_nodes(biometric: Biometric) -> [Node; 6]
     ensures { result ≡ stress_nodes biometric }
 {
     [
-        Node::BioScenario(biometric, Projection::Mortality, Measure::Net),
-        Node::BioScenario(biometric, Projection::Longevity, Measure::Net),
-        Node::BioScenario(biometric, Projection::Disability, Measure::Net),
-        Node::BioScenario(biometric, Projection::Expense, Measure::Net),
-        Node::BioScenario(biometric, Projection::Revision, Measure::Net),
-        Node::BioScenario(biometric, Projection::Catastrophe, Measure::Net),
+        Node::Whole(Whole::BioScenario(biometric, Projection::Mortality, Measure::Net)),
+        Node::Whole(Whole::BioScenario(biometric, Projection::Longevity, Measure::Net)),
+        Node::Whole(Whole::BioScenario(biometric, Projection::Disability, Measure::Net)),
+        Node::Whole(Whole::BioScenario(biometric, Projection::Expense, Measure::Net)),
+        Node::Whole(Whole::BioScenario(biometric, Projection::Revision, Measure::Net)),
+        Node::Whole(Whole::BioScenario(biometric, Projection::Catastrophe, Measure::Net)),
     ]
 }
 
@@ -182,14 +185,14 @@ fn charge_nodes() -> [Node; 8]
     ensures { result ≡ charge_nodes }
 {
     [
-        Node::CatCharge(CatKey::NonProportionalProperty),
-        Node::CatCharge(CatKey::Other),
-        Node::Lapse(Set::Nl),
-        Node::Lapse(Set::Nslt),
-        Node::Nslt(Measure::Gross),
-        Node::Nslt(Measure::Net),
-        Node::Nonlife(Measure::Gross),
-        Node::Nonlife(Measure::Net),
+        Node::Whole(Whole::CatCharge(CatKey::NonProportionalProperty)),
+        Node::Whole(Whole::CatCharge(CatKey::Other)),
+        Node::Whole(Whole::Lapse(Set::Nl)),
+        Node::Whole(Whole::Lapse(Set::Nslt)),
+        Node::Whole(Whole::Nslt(Measure::Gross)),
+        Node::Whole(Whole::Nslt(Measure::Net)),
+        Node::Whole(Whole::Nonlife(Measure::Gross)),
+        Node::Whole(Whole::Nonlife(Measure::Net)),
     ]
 }
 
@@ -197,14 +200,14 @@ fn requirement_nodes() -> [Node; 9]
     ensures { result ≡ requirement_nodes }
 {
     [
-        Node::Intangible,
-        Node::Bscr(Measure::Gross),
-        Node::Bscr(Measure::Net),
-        Node::OpPart(Operational::Premiums),
-        Node::OpPart(Operational::Provisions),
-        Node::OpPart(Operational::Charge),
-        Node::Adjust(Adjustment::TechnicalProvisions),
-        Node::Adjust(Adjustment::DeferredTaxes),
-        Node::Diversification,
+        Node::Whole(Whole::Intangible),
+        Node::Whole(Whole::Bscr(Measure::Gross)),
+        Node::Whole(Whole::Bscr(Measure::Net)),
+        Node::Whole(Whole::OpPart(Operational::Premiums)),
+        Node::Whole(Whole::OpPart(Operational::Provisions)),
+        Node::Whole(Whole::OpPart(Operational::Charge)),
+        Node::Whole(Whole::Adjust(Adjustment::TechnicalProvisions)),
+        Node::Whole(Whole::Adjust(Adjustment::DeferredTaxes)),
+        Node::Whole(Whole::Diversification),
     ]
 }

@@ -9,6 +9,8 @@ use Rattle.scr_factors.specs.Values.{FactorValues}
 use Rattle.scr_sheet.specs.declared.sheet.BalanceSheet.{BalanceSheet}
 use Rattle.scr_nodes.specs.declared.node.Node.{Node}
 use Rattle.scr_nodes.specs.declared.node.Node.TheVariants as nodes
+use Rattle.scr_nodes.specs.declared.node.OfCurrency.TheVariants as of_currencies
+use Rattle.scr_nodes.specs.declared.node.Whole.TheVariants as wholes
 use Rattle.scr_nodes.specs.Sources.{sources_of}
 use Rattle.scr_plan.specs.Close.{close_under, is_open_choice}
 use Rattle.scr_plan.specs.Worked.{worked}
@@ -90,9 +92,9 @@ read-off factors sheet places kept fresh node numbers below spans at is known sp
     (ap (map ends) spanned ∙ spans-worked factors sheet below (sources_of sheet node) worths, close-below factors sheet below (sources_of sheet node) worths)
 
 pub opens-is : (factors : FactorValues) (sheet : BalanceSheet) (node : Node) → opens node (worked factors sheet node) ≡ is_open_choice factors sheet node
-opens-is factors sheet (nodes.Choice which) = refl
-opens-is factors sheet (nodes.CurrencyChoice currency) = refl
-opens-is factors sheet nodes.DefaultBand = refl
+opens-is factors sheet (nodes.Whole (wholes.Choice which)) = refl
+opens-is factors sheet (nodes.Currency currency of_currencies.Choice) = refl
+opens-is factors sheet (nodes.Whole wholes.DefaultBand) = refl
 opens-is factors sheet node = refl
 
 pub if-ok : {A E : Type 0} (P Q : A → Type 0) (r : Result A E) → ((a : A) → P a → Q a) → IfOk r P → IfOk r Q

@@ -14,6 +14,8 @@ use Rattle.scr_sheet.specs.declared.sheet.BalanceSheet.{BalanceSheet}
 use Rattle.scr_sheet.specs.Validity.{Valid}
 use Rattle.scr_nodes.specs.declared.node.Node.{Node}
 use Rattle.scr_nodes.specs.declared.node.Node.TheVariants as nodes
+use Rattle.scr_nodes.specs.declared.node.OfFund.TheVariants as of_funds
+use Rattle.scr_nodes.specs.declared.node.OfSecurity.TheVariants as of_securities
 use Rattle.scr_nodes.specs.Rows.{holders}
 use Rattle.scr_nodes.specs.Sources.{sources_of, fund_total, security_total}
 use Rattle.scr_nodes.proofs.Reckoning.{reckoned-only}
@@ -24,8 +26,8 @@ use Rattle.scr_tree.specs.Figures.{total_worth, worth_at}
 -- ---- no choice lies under a total
 
 data IsTotal : Node → Type 0 where
-  a_fund : (name : List ℕ) → IsTotal (nodes.FundTotal name)
-  a_security : (name : List ℕ) → IsTotal (nodes.SecurityTotal name)
+  a_fund : (name : List ℕ) → IsTotal (nodes.Fund name of_funds.Total)
+  a_security : (name : List ℕ) → IsTotal (nodes.Security name of_securities.Total)
 
 funds-are : (stakes : List Stake) → AllByRecursion IsTotal (map fund_total stakes)
 funds-are [] = tt
@@ -41,8 +43,8 @@ sources-are sheet _ (a_security name) = funds-are (holders name sheet)
 
 closed-step : (factors : FactorValues) (sheet : BalanceSheet) (node : Node) → IsTotal node
     → false ≡ (is_open_choice factors sheet node || list_any (λ b. b) (map (λ n. false) (sources_of sheet node)))
-closed-step factors sheet _ (a_fund name) = sym (none-open (sources_of sheet (nodes.FundTotal name)))
-closed-step factors sheet _ (a_security name) = sym (none-open (sources_of sheet (nodes.SecurityTotal name)))
+closed-step factors sheet _ (a_fund name) = sym (none-open (sources_of sheet (nodes.Fund name of_funds.Total)))
+closed-step factors sheet _ (a_security name) = sym (none-open (sources_of sheet (nodes.Security name of_securities.Total)))
 
 never-close : (factors : FactorValues) (sheet : BalanceSheet) → Valid sheet → (node : Node) → IsTotal node
     → close_under factors sheet node ≡ false
@@ -74,15 +76,15 @@ pub fund-worth : (factors : FactorValues) (sheet : BalanceSheet) → Valid sheet
 fund-worth factors sheet valid k s is =
     ap₂ (λ (e : Ends) (b : Bool). record { worked = e; close = b })
     (sym (fund-worked factors sheet valid s.fund.name (own-row stake_name sheet.funds k s is)))
-    (sym (never-close factors sheet valid (nodes.FundTotal s.fund.name) (a_fund s.fund.name)))
+    (sym (never-close factors sheet valid (nodes.Fund s.fund.name of_funds.Total) (a_fund s.fund.name)))
 
 pub security-worth : (factors : FactorValues) (sheet : BalanceSheet) → Valid sheet → (k : ℕ) (p : Position)
     → slice_get sheet.securities k ≡ Some p
-    → total_worth (total_of sheet p.security.name) ≡ worth_at factors sheet (nodes.SecurityTotal p.security.name)
+    → total_worth (total_of sheet p.security.name) ≡ worth_at factors sheet (nodes.Security p.security.name of_securities.Total)
 security-worth factors sheet valid k p is =
     ap₂ (λ (e : Ends) (b : Bool). record { worked = e; close = b })
     (sym (security-worked factors sheet valid p.security.name (own-row position_name sheet.securities k p is)))
-    (sym (never-close factors sheet valid (nodes.SecurityTotal p.security.name) (a_security p.security.name)))
+    (sym (never-close factors sheet valid (nodes.Security p.security.name of_securities.Total) (a_security p.security.name)))
 
 -- the number at the place of a row
 pub value-at : {Row : Type 0} (f : Row → ℕ) (rows : List Row) (k : ℕ) (row : Row) (values : List ℕ)

@@ -7,6 +7,8 @@ use Rattle.scr_factors.specs.Values.{FactorValues}
 use Rattle.scr_sheet.specs.declared.sheet.BalanceSheet.{BalanceSheet}
 use Rattle.scr_nodes.specs.declared.node.Node.{Node}
 use Rattle.scr_nodes.specs.declared.node.Node.TheVariants as nodes
+use Rattle.scr_nodes.specs.declared.node.OfCurrency.TheVariants as of_currencies
+use Rattle.scr_nodes.specs.declared.node.Whole.TheVariants as wholes
 use Rattle.scr_nodes.specs.Live.{is_live}
 use Rattle.scr_plan.specs.Close.{close_under, is_open}
 use Rattle.scr_plan.specs.Worked.{worked}
@@ -51,9 +53,9 @@ AreSettled factors sheet places kept fresh =
 
 -- these ends are the mask of a choice that is open
 abbrev pub opens : Node → Ends → Bool
-opens (nodes.Choice which) mask = is_open mask
-opens (nodes.CurrencyChoice currency) mask = is_open mask
-opens nodes.DefaultBand mask = is_open mask
+opens (nodes.Whole (wholes.Choice which)) mask = is_open mask
+opens (nodes.Currency currency of_currencies.Choice) mask = is_open mask
+opens (nodes.Whole wholes.DefaultBand) mask = is_open mask
 opens node mask = false
 
 -- so many cents, which rest on no choice

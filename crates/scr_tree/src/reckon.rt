@@ -17,7 +17,7 @@ use crate::figures::{Figure, Fresh};
 use scr_book::Book;
 use scr_factors::Factors;
 use scr_io::{Gate, Steps};
-use scr_nodes::Node;
+use scr_nodes::{Node, OfCurrency, Whole};
 use scr_num::Span;
 use scr_plan::{Curves, GroupLosses, evaluate, evaluate_with};
 use scr_reach::Places;
@@ -110,7 +110,9 @@ fn is_open_choice(node: &Node, span: Span) -> bool
     ensures { result ≡ opens node.now (ends span) }
 {
     match node {
-        Node::Choice(_) | Node::CurrencyChoice(_) | Node::DefaultBand => is_open(span),
+        Node::Whole(Whole::Choice(_))
+        | Node::Currency(_, OfCurrency::Choice)
+        | Node::Whole(Whole::DefaultBand) => is_open(span),
         _ => false,
     }
 }

@@ -13,7 +13,7 @@ ghost use Rattle.scr_tree.specs.Figures.{total_worth, worth_of};
 use crate::edits::enter;
 use crate::figures::Figure;
 use scr_io::Gate;
-use scr_nodes::Node;
+use scr_nodes::{Node, OfFund, OfSecurity};
 use scr_num::{Span, exact};
 use scr_reach::Places;
 use scr_sheet::BalanceSheet;
@@ -55,7 +55,7 @@ fn put_funds<G: Gate>(
         figures.new.items) }
 {
     for k in 0..sheet.funds.len() {
-        let node = Node::FundTotal(sheet.funds.at(k).fund.name);
+        let node = Node::Fund(sheet.funds.at(k).fund.name, OfFund::Total);
         put_total(alloc, places, figures, &node, totals[k], gate)?;
     }
     Ok(())
@@ -79,7 +79,7 @@ fn put_securities<G: Gate>(
         figures.new.items) }
 {
     for k in 0..sheet.securities.len() {
-        let node = Node::SecurityTotal(sheet.securities.at(k).security.name);
+        let node = Node::Security(sheet.securities.at(k).security.name, OfSecurity::Total);
         put_total(alloc, places, figures, &node, totals[k], gate)?;
     }
     Ok(())
