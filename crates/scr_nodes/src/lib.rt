@@ -14,6 +14,7 @@ pub mod single_numbers;
 pub mod words;
 
 pub use node::{
-    Adjustment, Alternatives, Biometric, Direction, Equities, Measure, Node, Operational, Risk,
+    Adjustment, Alternatives, Biometric, Direction, Equities, Measure, Node, OfCurrency, OfFund,
+    OfGroup, OfLiability, OfSecurity, Operational, Risk, Whole,
 };
 pub use one_source::source;

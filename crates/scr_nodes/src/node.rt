@@ -73,40 +73,86 @@ pub enum Adjustment {
     DeferredTaxes,
 }
 
-/// A figure of a balance sheet. Where nothing else is told, it is a requirement in grains,
-/// thousandths of a cent.
+/// A figure of a balance sheet: of a fund, a security, a liability, a currency or a group of
+/// counterparties, by its name and what is reckoned of it, or of the whole sheet. Where nothing else
+/// is told, it is a requirement in grains, thousandths of a cent.
 #[derive(Clone, Copy, PartialEq, Eq)]
 pub enum Node {
+    Fund(Name, OfFund),
+    Security(Name, OfSecurity),
+    Liability(Name, OfLiability),
+    Currency(Name, OfCurrency),
+    Group(Name, OfGroup),
+    Whole(Whole),
+}
+
+/// What is reckoned of a fund.
+#[derive(Clone, Copy, PartialEq, Eq)]
+pub enum OfFund {
     /// What is held of a fund, directly and through funds, in cents (Article 84).
-    FundTotal(Name),
-    /// The same of a security.
-    SecurityTotal(Name),
+    Total,
+}
+
+/// What is reckoned of a security.
+#[derive(Clone, Copy, PartialEq, Eq)]
+pub enum OfSecurity {
+    /// What is held of a security, directly and through funds, in cents (Article 84).
+    Total,
     /// What a security's payments lose, per 1,000,000 of its value in 10^-18 (Article 165).
-    UnitLoss(Name, Direction),
+    UnitLoss(Direction),
     /// What is held of a security loses, in 10^-18 cents.
-    SecurityRate(Name, Direction),
+    Rate(Direction),
+    /// What a bond loses by spread risk, in 10^-9 cents (Article 176).
+    Spread,
+}
+
+/// What is reckoned of a liability.
+#[derive(Clone, Copy, PartialEq, Eq)]
+pub enum OfLiability {
     /// What a liability costs more, in 10^-18 cents.
-    LiabilityRate(Name, Direction),
+    Rate(Direction),
     /// The present value of a liability by the best estimate, in 10^-18 cents.
-    LiabilityPresent(Name),
+    Present,
     /// What a liability is worth more under a biometric stress, in 10^-18 cents, a gain counting as
     /// nil (Articles 137 to 143 and 152 to 159).
-    LiabilityLoss(Name, Projection),
+    Loss(Projection),
+}
+
+/// What is reckoned of a currency.
+#[derive(Clone, Copy, PartialEq, Eq)]
+pub enum OfCurrency {
     /// What a currency's securities and liabilities lose together, a gain counting as nil, in
     /// 10^-18 cents.
-    CurrencyLoss(Name, Direction),
+    Loss(Direction),
+    /// The requirement for a rise or a fall of a foreign currency (Article 188(3) and (4)).
+    Scenario(Direction, Measure),
+    /// Which of the two may be the one that decides, one bit for each (Article 188(2)).
+    Choice,
+    /// The requirement for a foreign currency, by the one that decides.
+    Picked(Measure),
+}
+
+/// What is reckoned of a group of counterparties.
+#[derive(Clone, Copy, PartialEq, Eq)]
+pub enum OfGroup {
+    /// The exposure to a group of counterparties, in cents (Article 182).
+    Total,
+    /// The square of the requirement for a group, in squares of 10^-5 cents (Articles 184(1) and
+    /// 187).
+    ConcentrationSquare,
+    /// What is lost where a group defaults (Article 192).
+    Loss,
+}
+
+/// A figure of the whole sheet.
+#[derive(Clone, Copy, PartialEq, Eq)]
+pub enum Whole {
     /// The requirement for a change of interest rates (Articles 166 and 167).
     InterestScenario(Direction, Measure),
     /// Which of the alternatives may be the one that decides, one bit for each (Article 206(2)).
     Choice(Alternatives),
     /// The requirement by the alternative that decides.
     Picked(Alternatives, Measure),
-    /// The requirement for a rise or a fall of a foreign currency (Article 188(3) and (4)).
-    CurrencyScenario(Name, Direction, Measure),
-    /// Which of the two may be the one that decides, one bit for each (Article 188(2)).
-    CurrencyChoice(Name),
-    /// The requirement for a foreign currency, by the one that decides.
-    CurrencyPicked(Name, Measure),
     /// The requirement for currency risk, the sum over foreign currencies (Article 188(1)).
     Currency(Measure),
     /// What is held of a class of securities, in cents; closed funds count in type 2 equities
@@ -118,25 +164,16 @@ pub enum Node {
     EquityRoot,
     /// The requirement for property risk before absorption (Article 174).
     Property,
-    /// What a bond loses by spread risk, in 10^-9 cents (Article 176).
-    SecuritySpread(Name),
     /// The requirement for spread risk before absorption (Article 175).
     Spread,
-    /// The exposure to a group of counterparties, in cents (Article 182).
-    GroupTotal(Name),
     /// The assets of which concentrations are measured, in cents (Article 184(2)).
     Assets,
-    /// The square of the requirement for a group, in squares of 10^-5 cents (Articles 184(1) and
-    /// 187).
-    ConcentrationSquare(Name),
     /// The requirement for market risk concentrations before absorption (Article 183).
     Concentration,
     /// What absorption leaves of a risk's requirement.
     NetPart(Risk),
     /// The requirement for market risk (Article 164).
     Market(Measure),
-    /// What is lost where a group defaults (Article 192).
-    GroupLoss(Name),
     /// The sum of the losses of all groups of a class of probabilities of default, from 0 to 5
     /// (Article 201).
     ClassLoss(u8),

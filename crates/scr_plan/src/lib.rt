@@ -22,4 +22,7 @@ pub use all_losses::{GroupLosses, group_losses};
 pub use discounting::curves;
 pub use evaluation::{evaluate, evaluate_with, source};
 pub use kept::Curves;
-pub use scr_nodes::{Alternatives, Biometric, Direction, Equities, Measure, Node, Risk};
+pub use scr_nodes::{
+    Alternatives, Biometric, Direction, Equities, Measure, Node, OfCurrency, OfFund, OfGroup,
+    OfLiability, OfSecurity, Risk, Whole,
+};
