@@ -16,6 +16,7 @@ use Rattle.scr_nodes.specs.declared.node.Measure.TheVariants.{Gross, Net}
 use Rattle.scr_nodes.specs.declared.node.Node.TheVariants as nodes
 use Rattle.scr_nodes.specs.declared.node.OfFund.TheVariants as of_funds
 use Rattle.scr_nodes.specs.declared.node.OfSecurity.TheVariants as of_securities
+use Rattle.scr_nodes.specs.declared.node.OfLiability.TheVariants as of_liabilities
 use Rattle.scr_nodes.specs.declared.node.OfCurrency.TheVariants as of_currencies
 use Rattle.scr_nodes.specs.declared.node.OfGroup.TheVariants as of_groups
 use Rattle.scr_nodes.specs.declared.node.Whole.TheVariants as wholes
@@ -101,6 +102,7 @@ module _ (sheet : BalanceSheet) where
   sources-earlier (nodes.Fund name of_funds.Total) h = absurd (omega arith)
   sources-earlier (nodes.Security name of_securities.Total) h = below-chosen 1 (holds name) fund_total sheet.funds (λ s. omega arith)
   sources-earlier (nodes.Security name (of_securities.Rate Up)) h = tested (nodes.Security name (of_securities.Rate Up)) refl
+  sources-earlier (nodes.Liability name of_liabilities.Present) h = tested (nodes.Liability name of_liabilities.Present) refl
   sources-earlier (nodes.Currency currency (of_currencies.Loss direction)) h =
       below-weaker 8 (part_of (nodes.Currency currency (of_currencies.Loss direction))) (omega arith) (rates_in currency direction sheet)
       (below-rates currency direction)

@@ -21,6 +21,7 @@ use Rattle.scr_nodes.specs.declared.node.Measure.TheVariants.{Gross, Net}
 use Rattle.scr_nodes.specs.declared.node.Node.TheVariants as nodes
 use Rattle.scr_nodes.specs.declared.node.OfFund.TheVariants as of_funds
 use Rattle.scr_nodes.specs.declared.node.OfSecurity.TheVariants as of_securities
+use Rattle.scr_nodes.specs.declared.node.OfLiability.TheVariants as of_liabilities
 use Rattle.scr_nodes.specs.declared.node.OfCurrency.TheVariants as of_currencies
 use Rattle.scr_nodes.specs.declared.node.OfGroup.TheVariants as of_groups
 use Rattle.scr_nodes.specs.declared.node.Whole.TheVariants as wholes
@@ -168,6 +169,7 @@ module _ (sheet : BalanceSheet) (valid : Valid sheet) where
   sources-live (nodes.Fund name of_funds.Total) h = live-funds (holds name)
   sources-live (nodes.Security name of_securities.Total) h = live-funds (holds name)
   sources-live (nodes.Security name (of_securities.Rate direction)) h = (there is_paying (position_of name sheet.securities) h, (h, tt))
+  sources-live (nodes.Liability name of_liabilities.Present) h = tt
   sources-live (nodes.Currency currency (of_currencies.Loss direction)) h = live-rates currency direction
   sources-live (nodes.Whole (wholes.InterestScenario direction Gross)) h =
       each-mapped (λ c. row_of curve_name (curve_name c) sheet.curves ≡ Some c) (IsLive sheet) (λ c. true)

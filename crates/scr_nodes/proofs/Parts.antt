@@ -255,6 +255,11 @@ class-place-most x = omega arith
 -- the last part
 pub last-part : (node : Node) → part_of node ≤ 184
 last-part (nodes.Fund name of_funds.Total) = omega arith
+last-part (nodes.Security name of_securities.Total) = omega arith
+last-part (nodes.Liability name of_liabilities.Present) = omega arith
+last-part (nodes.Currency currency of_currencies.Choice) = omega arith
+last-part (nodes.Group name of_groups.Total) = omega arith
+last-part (nodes.Whole wholes.Assets) = omega arith
 last-part node =
     omega (
       arith,
@@ -406,6 +411,10 @@ below-weaker least most h list below =
 -- a fund, or of a part above the first
 pub fund-or-above : (node : Node) → ((name : List ℕ) × (node ≡ nodes.Fund name of_funds.Total)) ⊎ (0 < part_of node)
 fund-or-above (nodes.Fund name of_funds.Total) = inl (name, refl)
+fund-or-above (nodes.Security name of_securities.Total) = inr (omega arith)
+fund-or-above (nodes.Liability name of_liabilities.Present) = inr (omega arith)
+fund-or-above (nodes.Currency currency of_currencies.Choice) = inr (omega arith)
+fund-or-above (nodes.Group name of_groups.Total) = inr (omega arith)
 fund-or-above (nodes.Whole (wholes.Choice alternatives.Interest)) = inr (omega arith)
 fund-or-above (nodes.Whole (wholes.NetPart risks.Equity)) = inr (omega arith)
 fund-or-above (nodes.Whole (wholes.BioScenario biometrics.Life projection measure)) = inr (omega arith)

@@ -15,6 +15,7 @@ use Rattle.scr_nodes.specs.declared.node.Measure.TheVariants.{Gross}
 use Rattle.scr_nodes.specs.declared.node.Node.TheVariants as nodes
 use Rattle.scr_nodes.specs.declared.node.OfFund.TheVariants as of_funds
 use Rattle.scr_nodes.specs.declared.node.OfSecurity.TheVariants as of_securities
+use Rattle.scr_nodes.specs.declared.node.OfLiability.TheVariants as of_liabilities
 use Rattle.scr_nodes.specs.declared.node.OfCurrency.TheVariants as of_currencies
 use Rattle.scr_nodes.specs.declared.node.OfGroup.TheVariants as of_groups
 use Rattle.scr_nodes.specs.declared.node.Whole.TheVariants as wholes
@@ -110,6 +111,7 @@ module _ (sheet : BalanceSheet) (valid : Valid sheet) where
   apart-sources (nodes.Fund name of_funds.Total) = apart-funds (holds name)
   apart-sources (nodes.Security name of_securities.Total) = apart-funds (holds name)
   apart-sources (nodes.Security name (of_securities.Rate direction)) = two _ _ (λ e. absurd (cc))
+  apart-sources (nodes.Liability name of_liabilities.Present) = apart-words (nodes.Liability name of_liabilities.Present) refl
   apart-sources (nodes.Currency currency (of_currencies.Loss direction)) = apart-rates currency direction
   apart-sources (nodes.Whole (wholes.InterestScenario direction Gross)) =
       apart-mapped (currency_loss direction) (λ c. true) curve_name (told-currency direction) sheet.curves
