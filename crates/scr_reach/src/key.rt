@@ -25,34 +25,22 @@ pub(crate) fn key_of(node: &Node) -> Key
 {
     match node {
         Node::Fund(name, OfFund::Total) => named(Family::FundTotal, name, [0, 0, 0]),
-        Node::Security(name, OfSecurity::Total) => named(Family::SecurityTotal, name, [0, 0, 0]),
-        Node::Security(name, OfSecurity::UnitLoss(way)) => named(
-            Family::UnitLoss,
-            name,
-            [direction(*way), 0, 0],
-        ),
-        Node::Security(name, OfSecurity::Rate(way)) => named(
-            Family::SecurityRate,
-            name,
-            [direction(*way), 0, 0],
-        ),
-        Node::Liability(name, OfLiability::Rate(way)) => named(
-            Family::LiabilityRate,
-            name,
-            [direction(*way), 0, 0],
-        ),
-        Node::Liability(name, OfLiability::Present) => named(
-            Family::LiabilityPresent,
-            name,
-            [0, 0, 0],
-        ),
-        Node::Liability(name, OfLiability::Loss(stress)) => named(
-            Family::LiabilityLoss,
-            name,
-            [projection(*stress), 0, 0],
-        ),
-        Node::Security(name, OfSecurity::Spread) => named(Family::SecuritySpread, name, [0, 0, 0]),
-        _ => shared_key(node),
+        Node::Security(name, what) => match what {
+            OfSecurity::Total => named(Family::SecurityTotal, name, [0, 0, 0]),
+            OfSecurity::UnitLoss(way) => named(Family::UnitLoss, name, [direction(*way), 0, 0]),
+            OfSecurity::Rate(way) => named(Family::SecurityRate, name, [direction(*way), 0, 0]),
+            OfSecurity::Spread => named(Family::SecuritySpread, name, [0, 0, 0]),
+        },
+        Node::Liability(name, what) => match what {
+            OfLiability::Rate(way) => named(Family::LiabilityRate, name, [direction(*way), 0, 0]),
+            OfLiability::Present => named(Family::LiabilityPresent, name, [0, 0, 0]),
+            OfLiability::Loss(stress) => named(
+                Family::LiabilityLoss,
+                name,
+                [projection(*stress), 0, 0],
+            ),
+        },
+        Node::Currency(_, _) | Node::Group(_, _) | Node::Whole(_) => shared_key(node),
     }
 }
 
@@ -61,34 +49,27 @@ fn shared_key(node: &Node) -> Key
     ensures { result ≡ spec.shared_key node.now }
 {
     match node {
-        Node::Currency(currency, OfCurrency::Loss(way)) => named(
-            Family::CurrencyLoss,
-            currency,
-            [direction(*way), 0, 0],
-        ),
-        Node::Currency(currency, OfCurrency::Scenario(way, taken)) => named(
-            Family::CurrencyScenario,
-            currency,
-            [direction(*way), measure(*taken), 0],
-        ),
-        Node::Currency(currency, OfCurrency::Choice) => named(
-            Family::CurrencyChoice,
-            currency,
-            [0, 0, 0],
-        ),
-        Node::Currency(currency, OfCurrency::Picked(taken)) => named(
-            Family::CurrencyPicked,
-            currency,
-            [measure(*taken), 0, 0],
-        ),
-        Node::Group(name, OfGroup::Total) => named(Family::GroupTotal, name, [0, 0, 0]),
-        Node::Group(name, OfGroup::ConcentrationSquare) => named(
-            Family::ConcentrationSquare,
-            name,
-            [0, 0, 0],
-        ),
-        Node::Group(name, OfGroup::Loss) => named(Family::GroupLoss, name, [0, 0, 0]),
-        _ => market_key(node),
+        Node::Currency(currency, what) => match what {
+            OfCurrency::Loss(way) => named(Family::CurrencyLoss, currency, [direction(*way), 0, 0]),
+            OfCurrency::Scenario(way, taken) => named(
+                Family::CurrencyScenario,
+                currency,
+                [direction(*way), measure(*taken), 0],
+            ),
+            OfCurrency::Choice => named(Family::CurrencyChoice, currency, [0, 0, 0]),
+            OfCurrency::Picked(taken) => named(
+                Family::CurrencyPicked,
+                currency,
+                [measure(*taken), 0, 0],
+            ),
+        },
+        Node::Group(name, what) => match what {
+            OfGroup::Total => named(Family::GroupTotal, name, [0, 0, 0]),
+            OfGroup::ConcentrationSquare => named(Family::ConcentrationSquare, name, [0, 0, 0]),
+            OfGroup::Loss => named(Family::GroupLoss, name, [0, 0, 0]),
+        },
+        Node::Fund(_, _) | Node::Security(_, _) | Node::Liability(_, _) | Node::Whole(_) =>
+            market_key(node),
     }
 }
 
