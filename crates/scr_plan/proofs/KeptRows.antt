@@ -22,6 +22,7 @@ use Rattle.scr_sheet.specs.Validity.{Valid, IsCurve}
 use Rattle.scr_nodes.specs.declared.{node.Direction.Direction, node.Node.Node}
 use Rattle.scr_nodes.specs.declared.node.Measure.TheVariants as measures
 use Rattle.scr_nodes.specs.declared.node.Node.TheVariants as nodes
+use Rattle.scr_nodes.specs.declared.node.OfFund.TheVariants as of_funds
 use Rattle.scr_nodes.specs.declared.node.OfSecurity.TheVariants as of_securities
 use Rattle.scr_nodes.specs.declared.node.OfLiability.TheVariants as of_liabilities
 use Rattle.scr_nodes.specs.declared.node.OfCurrency.TheVariants as of_currencies
@@ -122,6 +123,7 @@ stressed-row sheet projection (Some l) fits = currency-row sheet l.currency fits
 -- of each figure whose rule fits
 pub own-row : (factors : FactorValues) (sheet : BalanceSheet) (node : Node) (figures : List Ends) → Fits (own_of factors sheet node) figures
     → discounts_in sheet (all_discounts sheet) node ≡ own_discounts (own_of factors sheet node)
+own-row factors sheet (nodes.Fund name of_funds.Total) figures fits = refl
 own-row factors sheet (nodes.Security name (of_securities.UnitLoss direction)) figures fits = security-row sheet direction (position_of name sheet.securities) fits
 own-row factors sheet (nodes.Liability name (of_liabilities.Rate direction)) figures fits = liability-row sheet direction (liability_of name sheet.liabilities) fits
 own-row factors sheet (nodes.Whole (wholes.InterestScenario direction measures.Gross)) figures fits = refl

@@ -110,9 +110,11 @@ fn figure_with(
     ensures { ends result
         ≡ rule (own_of factors.now sheet.now node.now) (discounts_in sheet.now (rows_of curves.now) node.now) (map ends spans.now) }
 {
-    if let Node::Group(name, OfGroup::Loss) = node {
-        if let Some(place) = sheet.groups.place(name) {
-            return grains(losses.at(place));
+    if let Node::Group(name, what) = node {
+        if let OfGroup::Loss = what {
+            if let Some(place) = sheet.groups.place(name) {
+                return grains(losses.at(place));
+            }
         }
     }
     figure(factors, sheet, curves, node, spans)
@@ -169,9 +171,12 @@ fn figure(
         Node::Whole(Whole::Property) => property(spans),
         Node::Security(name, OfSecurity::Spread) => stressed(factors, sheet, name, spans),
         Node::Whole(Whole::Spread) => spread(spans),
-        Node::Group(_, OfGroup::Total) => total(spans),
+        Node::Group(name, what) => match what {
+            OfGroup::Total => total(spans),
+            OfGroup::ConcentrationSquare => square(factors, sheet, name, spans),
+            OfGroup::Loss => losses(sheet, name),
+        },
         Node::Whole(Whole::Assets) => total(spans),
-        Node::Group(name, OfGroup::ConcentrationSquare) => square(factors, sheet, name, spans),
         Node::Whole(Whole::Concentration) => squares_root(spans),
         Node::Whole(Whole::Market(_)) => market(spans),
         Node::Liability(name, OfLiability::Loss(projection)) => excess(
@@ -186,7 +191,6 @@ fn figure(
         },
         Node::Whole(Whole::Life(_)) => life(spans),
         Node::Whole(Whole::Slt(_)) => slt(spans),
-        Node::Group(name, OfGroup::Loss) => losses(sheet, name),
         Node::Whole(Whole::ClassLoss(_)) => total(spans),
         Node::Whole(Whole::ClassSquare(_)) => squares(spans),
         Node::Whole(Whole::Variance) => variance(spans),
