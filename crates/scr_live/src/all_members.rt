@@ -49,9 +49,11 @@ pub fn sources_with(
     requires { AreMembersOf sheet.now members.now }
     ensures { IfOk result (λ list. list.items ≡ sources_of sheet.now node.now) }
 {
-    if let Node::Group(name, OfGroup::Total) = node {
-        if let Some(place) = sheet.groups.place(name) {
-            return Vec::from_slice(alloc, &members.lists[place]);
+    if let Node::Group(name, what) = node {
+        if let OfGroup::Total = what {
+            if let Some(place) = sheet.groups.place(name) {
+                return Vec::from_slice(alloc, &members.lists[place]);
+            }
         }
     }
     sources(alloc, sheet, node)
