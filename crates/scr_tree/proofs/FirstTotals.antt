@@ -2,10 +2,11 @@
 use Rattle.std.proofs.Common.{◌≡◌, ◌⊎◌, inl, inr, ℕ, zero, suc, ◌+◌, ◌<◌, ◌≤◌, ◌++◌, true, false, nat_eq, List, [], ◌∷◌, map, take, length, Some, None, slice_get, Contains, Result, Ok, Err, IfOk, refl, sym, ap, ap₂, subst, ◌∙◌, append_assoc, arith}
 use Rattle.std.specs.List.{AllByRecursion, IsDistinct}
 use Rattle.std.specs.Option.{option_map}
-use Rattle.std.proofs.lemmas.Bool.{ne_eqb}
+use Rattle.std.proofs.lemmas.Bool.{eqb-true, eq-eqb, ne_eqb}
 use Rattle.std.proofs.lemmas.List.{length-append, map-append}
 use Rattle.std.proofs.lemmas.Option.{slice_get_within}
 use Rattle.scr_funds.proofs.Members.{IsMember, IsMember-cases, IsMember-left, IsMember-right, IsMember-from_Contains, Contains-from_IsMember, at_member, each-from_members, each_push}
+use Rattle.scr_names.proofs.TableRows.{passes_or_fails}
 use Rattle.scr_factors.specs.Values.{FactorValues}
 use Rattle.scr_sheet.specs.Validity.{Valid}
 use Rattle.scr_sheet.specs.declared.sheet.BalanceSheet.{BalanceSheet}
@@ -78,6 +79,45 @@ module _ (sheet : BalanceSheet) (nodes : List Node) (node : Node) (cents : ℕ) 
           → option_map worth_of (slice_get figures place) ≡ Some (worth_at factors sheet n)
       figure factors place n (inl h) = h.1 ∙ ap Some (worth factors ∙ ap (worth_at factors sheet) (sym h.0))
       figure factors place n (inr h) = ap (option_map worth_of) h.1 ∙ known.known factors place n h.0
+
+-- a figure that is written at a node's place
+module _ (node : Node) (cents : ℕ) (old_places : List Node) (old : List Figure) (places : List Node)
+    (entered figures : List Figure) (place : ℕ) where
+  pub total-put : Grows old_places places → length places ≤ length figures → HasNoRepeats places
+      → ((p : ℕ) → p < length old_places → slice_get entered p ≡ slice_get old p)
+      → ((p : ℕ) (other : Node) → slice_get places p ≡ Some other
+      → (slice_get old_places p ≡ Some other) ⊎ (other ≡ node))
+      → slice_get places place ≡ Some node
+      → option_map worth_of (slice_get figures place) ≡ Some (total_worth cents)
+      → ((p : ℕ) → (p ≡ place → ⊥) → slice_get figures p ≡ slice_get entered p)
+      → IsTotalPut node cents old_places old places figures
+  total-put grown room once kept only there written others = record {
+    room = room;
+    grown = grown;
+    placed = get-contains places place node there;
+    each = λ p other at.
+        passes_or_fails (nat_eq p place) (λ e. here p other at (eqb-true p place e)) (λ e. elsewhere p other at e (only p other at));
+  }
+    where
+      here : (p : ℕ) (other : Node) → slice_get places p ≡ Some other → p ≡ place
+          → ((other ≡ node) × (option_map worth_of (slice_get figures p) ≡ Some (total_worth cents)))
+          ⊎ ((slice_get old_places p ≡ Some other) × (slice_get figures p ≡ slice_get old p))
+      here p other at is =
+          let one : slice_get places place ≡ Some other = subst (λ n. slice_get places n ≡ Some other) is at in
+          let same : other ≡ node = cc in
+          inl (same, subst (λ n. option_map worth_of (slice_get figures n) ≡ Some (total_worth cents)) (sym is) written)
+
+      apart : (p : ℕ) → nat_eq p place ≡ false → p ≡ place → ⊥
+      apart p e is = let clash : true ≡ false = sym (eq-eqb p place is) ∙ e in absurd (cc)
+
+      elsewhere : (p : ℕ) (other : Node) → slice_get places p ≡ Some other → nat_eq p place ≡ false
+          → (slice_get old_places p ≡ Some other) ⊎ (other ≡ node)
+          → ((other ≡ node) × (option_map worth_of (slice_get figures p) ≡ Some (total_worth cents)))
+          ⊎ ((slice_get old_places p ≡ Some other) × (slice_get figures p ≡ slice_get old p))
+      elsewhere p other at e (inl before) =
+          inr (before, others p (apart p e) ∙ kept p (slice_get_within old_places p other before))
+      elsewhere p other at e (inr same) =
+          absurd (apart p e (once p place other at (there ∙ ap Some (sym same))))
 
 -- the nodes of rows up to the next
 pub map-next : {Row : Type 0} (f : Row → Node) (start : List Node) (rows : List Row) (k : ℕ) (row : Row)
