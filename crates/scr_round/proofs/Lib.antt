@@ -1,0 +1,10 @@
+pub mod Totals
+pub mod Members
+pub mod Arriving
+pub mod Standing
+pub mod Drawing
+pub mod Storing
+pub mod Delivering
+pub mod Sharing
+pub mod Running
+pub mod Ending

@@ -1,0 +1,34 @@
+-- A round of nodes, each reckoned from its sources.
+use Rattle.std.specs.Prelude.{◌≡◌, ℕ, ◌<◌, ◌≤◌, List, [], length, slice_index_or}
+use Rattle.scr_round.specs.declared.lists.Round.{Round}
+use Rattle.scr_round.specs.Counts.{times}
+
+-- Each node's sources stand in the round, each once, and lead to no cycle: a rank falls from each node to its sources. A
+-- node stands among the dependants of another exactly where that one stands among its sources. The starts are the nodes
+-- without a source, each once.
+pub record IsRound (count : ℕ) (sources dependants : ℕ → List ℕ) (starts : List ℕ) : Type 0 where
+  pub within : (n m : ℕ) → 0 < times m (sources n) → (n < count) × (m < count)
+  pub once : (n m : ℕ) → times m (sources n) ≤ 1
+  pub pairs : (n m : ℕ) → times n (dependants m) ≡ times m (sources n)
+  pub low : (n : ℕ) → 0 < times n starts → n < count
+  pub single : (n : ℕ) → times n starts ≤ 1
+  pub free : (n : ℕ) → 0 < times n starts → sources n ≡ []
+  pub begins : (n : ℕ) → n < count → sources n ≡ [] → 0 < times n starts
+  pub rank : ℕ → ℕ
+  pub falls : (n m : ℕ) → 0 < times m (sources n) → rank m < rank n
+
+abbrev pub count_of : Round → ℕ
+count_of round = length round.sources
+
+abbrev pub sources_of : Round → ℕ → List ℕ
+sources_of round n = slice_index_or round.sources n []
+
+abbrev pub dependants_of : Round → ℕ → List ℕ
+dependants_of round n = slice_index_or round.dependants n []
+
+-- word j of the figure that is listed for node n
+abbrev pub word_of : Round → ℕ → ℕ → ℕ
+word_of round n j = slice_index_or (slice_index_or round.words n []) j 0
+
+abbrev pub IsFormed : Round → Type 0
+IsFormed round = IsRound (count_of round) (sources_of round) (dependants_of round) round.starts
