@@ -1,0 +1,14 @@
+pub mod Running
+pub mod Allowed
+pub mod Seats
+pub mod Puts
+pub mod Figures
+pub mod Passing
+pub mod Opening
+pub mod Stacks
+pub mod Joining
+pub mod Delivered
+pub mod Unused
+pub mod Shown
+pub mod Reading
+pub mod Rows

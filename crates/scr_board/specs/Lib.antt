@@ -1,0 +1,10 @@
+pub mod Views
+pub mod Rule
+pub mod Plays
+pub mod Words
+pub mod Rounds
+pub mod Places
+pub mod Passes
+pub mod Working
+pub mod Making
+pub mod Closing
