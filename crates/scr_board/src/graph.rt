@@ -5,8 +5,8 @@ ghost use Rattle.scr_board.specs.Places.{spot_of};
 ghost use Rattle.scr_board.specs.Rounds.{AreGiven, BoardRound, IsBoardRound, IsRoundWorked, places_at};
 
 use crate::places::Place;
+use scr_io::Steps;
 use scr_num::Span;
-use scr_steps::Steps;
 use std::sync::ledger::Ledger;
 
 /// The nodes of one round, by their numbers, and the rule that gives each its figure. A figure that

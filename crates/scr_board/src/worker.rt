@@ -12,9 +12,8 @@ ghost use Rattle.scr_board.specs.Working.{HasTaken, IsBetween, IsDelivering, IsD
 use crate::board::{Board, Pass};
 use crate::graph::Graph;
 use crate::places::Place;
-use scr_io::Gate;
+use scr_io::{Gate, Steps};
 use scr_num::Span;
-use scr_steps::Steps;
 use std::marker::Brand;
 use std::sync::ledger::{Blank, Ledger};
 use std::thread;
