@@ -1,0 +1,4 @@
+pub mod Places
+pub mod PartLemmas
+pub mod BlockTests
+pub mod Regrouped

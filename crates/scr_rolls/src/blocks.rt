@@ -1,0 +1,83 @@
+//! The Blocks of a roll: how many there are, and which change where a name comes or leaves.
+ghost use Rattle.std.specs.Prelude.{◌≡◌};
+ghost use Rattle.scr_rolls.specs.Blocks as spec;
+ghost use Rattle.scr_rolls.specs.ChangedBlocks as changes;
+
+/// The level of a Block: one of the first sums up members, one of the second sums up Blocks of the first.
+#[derive(Clone, Copy)]
+pub enum Level {
+    First,
+    Second,
+}
+
+/// How many neighbouring places a part has.
+const WIDTH: usize = 32;
+
+/// In how many parts so many places fall.
+pub fn parts(count: usize) -> usize
+    ensures { result ≡ spec.parts count }
+{
+    count.div_ceil(WIDTH)
+}
+
+/// Whether there is a Block for this part of so many.
+fn is_block_over(count: usize, index: usize) -> bool
+    ensures { result ≡ spec.is_block_over count index }
+{
+    count > WIDTH && index < parts(count)
+}
+
+/// Whether a roll of so many members has this Block.
+pub fn is_block(count: usize, level: Level, index: usize) -> bool
+    ensures { result ≡ spec.is_block count level index }
+{
+    match level {
+        Level::First => is_block_over(count, index),
+        Level::Second => is_block_over(parts(count), index),
+    }
+}
+
+/// How many members or Blocks are left at the top of a roll of so many members.
+pub fn top_count(count: usize) -> usize
+    ensures { result ≡ spec.top_count count }
+{
+    if count <= WIDTH {
+        count
+    } else if parts(count) <= WIDTH {
+        parts(count)
+    } else {
+        parts(parts(count))
+    }
+}
+
+/// Whether a Block over so many changes where one more comes last: the level begins, or it is the Block of the new place.
+fn grew(count: usize, index: usize) -> bool
+    ensures { result ≡ changes.grew count index }
+{
+    count >= WIDTH && index <= count / WIDTH && (count == WIDTH || index == count / WIDTH)
+}
+
+/// Whether a Block changes where a name comes to a roll of so many members, by `IsChangedBlock`: a level begins, or it is the Block
+/// of the new place.
+pub fn came(count: usize, level: Level, index: usize) -> bool
+    ensures { result ≡ changes.came count level index }
+{
+    match level {
+        Level::First => grew(count, index),
+        Level::Second => count % WIDTH == 0 && grew(count / WIDTH, index),
+    }
+}
+
+/// Whether a Block changes where the name at a place of so many leaves, by `IsChangedBlock`: a level ends, or it is the Block of that
+/// place, or of the last, which takes the place.
+pub fn went(count: usize, place: usize, level: Level, index: usize) -> bool
+    ensures { result ≡ changes.went count place level index }
+{
+    match level {
+        Level::First => {
+            is_block_over(count, index)
+                && (count == WIDTH + 1 || index == place / WIDTH || index == count.saturating_sub(1) / WIDTH)
+        }
+        Level::Second => came(count.saturating_sub(1), level, index),
+    }
+}

@@ -1,0 +1,13 @@
+//! Rolls: lists of names in which each name has a place, as the large sums run over them, and the Blocks of neighbouring places
+//! by which such a sum is regrouped.
+#![tactic(auto)]
+
+mod blocks;
+mod members;
+mod rolls;
+mod sharing;
+
+pub use blocks::{Level, came, is_block, parts, top_count, went};
+pub use members::Members;
+pub use rolls::Rolls;
+pub use sharing::threads_share_rolls;
