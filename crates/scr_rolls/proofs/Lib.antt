@@ -2,3 +2,5 @@ pub mod Places
 pub mod PartLemmas
 pub mod BlockTests
 pub mod Regrouped
+pub mod SameMembers
+pub mod BlockChanges
