@@ -43,9 +43,6 @@ one_there false false h left_ right_ = absurd (cc)
 -- ---- one comes last
 
 module _ {X : Type 0} (xs zs : List X) (y : X) (count : ℕ) (pushed : zs ≡ xs ++ y ∷ []) (long : length xs ≡ count) (i : ℕ) where
-  Grows : Type 0
-  Grows = ((32 < count + 1) × (i < parts (count + 1))) × ((count ≡ 32) ⊎ (i ≡ count / 32))
-
   grew-tells : Decides (grew count i) (((32 < count + 1) × (i < parts (count + 1))) × ((count ≡ 32) ⊎ (i ≡ count / 32)))
   grew-tells = Decides-and (is_block_over (count + 1) i) (eqb count 32 || eqb i (count / 32)) (Decides-is_block_over (count + 1) i)
       (Decides-or (eqb count 32) (eqb i (count / 32)) (Decides-eqb count 32) (Decides-eqb i (count / 32)))
@@ -83,3 +80,88 @@ module _ {X : Type 0} (xs zs : List X) (y : X) (count : ℕ) (pushed : zs ≡ xs
       now h = one_there (is_block_over count i) (is_block_over (count + 1) i) h.0
           (λ e. let was = (Decides-is_block_over count i).0 e in (omega (arith, was.0), omega (arith, was.1)))
           (λ e. (Decides-is_block_over (count + 1) i).0 e)
+
+-- ---- the second level, which only the length decides
+
+module _ {Node : Type 0} (block : Level → ℕ → Node) (few many : ℕ) (more : many ≡ few + 1) (i : ℕ) where
+  abbrev SecondDiffers : Type 0
+  SecondDiffers = Differs (is_block_over (parts few) i) (is_block_over (parts many) i) (part i (firsts block few)) (part i (firsts block many))
+
+  second_begins : few % 32 ≡ 0 → Decides (grew (few / 32) i) SecondDiffers
+  second_begins whole =
+      subst (λ n. Decides (grew n i) SecondDiffers) before
+      (subst (λ n. Decides (grew (parts few) i) (Differs (is_block_over (parts few) i) (is_block_over n i) (part i (firsts block few)) (part i (firsts block many)))) (sym after)
+      (grown-told (firsts block few) (firsts block many) (block levels.First (parts few)) (parts few) pushed
+      (length-map-range_with_len (block levels.First) 0 (parts few)) i))
+    where
+      before : parts few ≡ few / 32
+      before = omega arith
+
+      after : parts many ≡ parts few + 1
+      after = omega arith
+
+      pushed : firsts block many ≡ firsts block few ++ block levels.First (parts few) ∷ []
+      pushed = ap (λ n. map (block levels.First) (range_with_len 0 n)) after ∙ map-range_with_len_more (block levels.First) 0 (parts few) (parts few) (omega arith)
+
+  second_stays : few % 32 ≢ 0 → SecondDiffers → ⊥
+  second_stays within differs = differs.1 (ap (λ n. is_block_over n i) same, ap (λ n. part i (map (block levels.First) (range_with_len 0 n))) same)
+    where
+      same : parts few ≡ parts many
+      same = omega arith
+
+  pub second-told : Decides (came few levels.Second i) SecondDiffers
+  second-told = settled (eqb (few % 32) 0)
+      (λ e. let begins = second_begins ((Decides-eqb (few % 32) 0).0 e) in
+      (λ t. begins.0 (sym (ap (λ s. s && grew (few / 32) i) e) ∙ t), λ h. ap (λ s. s && grew (few / 32) i) e ∙ begins.1 h))
+      (λ e. (λ t. let never : false ≡ true = sym (ap (λ s. s && grew (few / 32) i) e) ∙ t in absurd (cc),
+      λ h. absurd (second_stays (λ z. let yes_ = (Decides-eqb (few % 32) 0).1 z in absurd (cc)) h)))
+
+-- ---- a member comes
+
+module _ {Name Node : Type 0} (member : Name → Node) (block : Level → ℕ → Node) where
+  changed-first : (before after : List Name) (i : ℕ)
+      → Differs (is_block_over (length before) i) (is_block_over (length after) i) (part i (map member before)) (part i (map member after))
+      → IsChangedBlock member block before after levels.First i
+  changed-first before after i h = record { live = h.0; changed = λ s. h.1 (s.live, s.sources) }
+
+  first-changed : (before after : List Name) (i : ℕ) → IsChangedBlock member block before after levels.First i
+      → Differs (is_block_over (length before) i) (is_block_over (length after) i) (part i (map member before)) (part i (map member after))
+  first-changed before after i h = (h.live, λ s. h.changed (record { live = s.0; sources = s.1 }))
+
+  changed-second : (before after : List Name) (i : ℕ)
+      → Differs (is_block_over (parts (length before)) i) (is_block_over (parts (length after)) i) (part i (firsts block (length before))) (part i (firsts block (length after)))
+      → IsChangedBlock member block before after levels.Second i
+  changed-second before after i h = record { live = h.0; changed = λ s. h.1 (s.live, s.sources) }
+
+  second-changed : (before after : List Name) (i : ℕ) → IsChangedBlock member block before after levels.Second i
+      → Differs (is_block_over (parts (length before)) i) (is_block_over (parts (length after)) i) (part i (firsts block (length before))) (part i (firsts block (length after)))
+  second-changed before after i h = (h.live, λ s. h.changed (record { live = s.0; sources = s.1 }))
+
+  pub came-told : (roll : List Name) (name : Name) (level : Level) (i : ℕ)
+      → Decides (came (length roll) level i) (IsChangedBlock member block roll (roll ++ name ∷ []) level i)
+  came-told roll name levels.First i =
+      let told = subst (λ n. Decides (grew (length roll) i) (Differs (is_block_over (length roll) i) (is_block_over n i) (part i (map member roll)) (part i (map member (roll ++ name ∷ [])))))
+          (sym (length_push roll name))
+          (grown-told (map member roll) (map member (roll ++ name ∷ [])) (member name) (length roll) (map_push member roll name) (length-map roll member) i) in
+      (λ t. changed-first roll (roll ++ name ∷ []) i (told.0 t), λ h. told.1 (first-changed roll (roll ++ name ∷ []) i h))
+  came-told roll name levels.Second i =
+      let told = second-told block (length roll) (length (roll ++ name ∷ [])) (length_push roll name) i in
+      (λ t. changed-second roll (roll ++ name ∷ []) i (told.0 t), λ h. told.1 (second-changed roll (roll ++ name ∷ []) i h))
+
+-- ---- a member leaves
+
+module _ (roll : List (List ℕ)) (place : ℕ) (within : place < length roll) where
+  length-left : length (left place roll) ≡ length roll - 1
+  length-left = length-take (length roll - 1) (set roll place (get_or roll (length roll - 1) [])) ∙ (omega (arith, length-set roll place (get_or roll (length roll - 1) [])))
+
+  -- what stands at a place then
+  left-at : (k : ℕ) → k ≡ place → k < length roll - 1 → get_or (left place roll) k [] ≡ get_or roll (length roll - 1) []
+  left-at k at before =
+      get_or-take (length roll - 1) (set roll place (get_or roll (length roll - 1) [])) k [] before
+      ∙ ap (λ n. get_or (set roll place (get_or roll (length roll - 1) [])) n []) at
+      ∙ get_or-set_same roll place (get_or roll (length roll - 1) []) [] within
+
+  left-other : (k : ℕ) (d : List ℕ) → k ≢ place → k < length roll - 1 → get_or (left place roll) k d ≡ get_or roll k d
+  left-other k d apart before =
+      get_or-take (length roll - 1) (set roll place (get_or roll (length roll - 1) [])) k d before
+      ∙ get_or-set_other roll place k (get_or roll (length roll - 1) []) d apart
