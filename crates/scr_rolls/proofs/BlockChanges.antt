@@ -40,6 +40,18 @@ one_there true b h left_ right_ = left_ refl
 one_there false true h left_ right_ = right_ refl
 one_there false false h left_ right_ = absurd (cc)
 
+first_there : (a b : Bool) → a ≡ true → IsTrue (a || b)
+first_there true b e = refl
+first_there false b e = absurd (cc)
+
+last_there : (a b : Bool) → b ≡ true → IsTrue (a || b)
+last_there true b e = refl
+last_there false b e = e
+
+-- a test that fails tells numbers apart
+unequal : (a b : ℕ) → eqb a b ≡ false → a ≢ b
+unequal a b e same = let equal = (Decides-eqb a b).1 same in absurd (cc)
+
 -- ---- one comes last
 
 module _ {X : Type 0} (xs zs : List X) (y : X) (count : ℕ) (pushed : zs ≡ xs ++ y ∷ []) (long : length xs ≡ count) (i : ℕ) where
@@ -63,19 +75,12 @@ module _ {X : Type 0} (xs zs : List X) (y : X) (count : ℕ) (pushed : zs ≡ xs
   grown-told = (
     λ t. let tells = grew-tells.0 t in
     let there : is_block_over (count + 1) i ≡ true = (Decides-is_block_over (count + 1) i).1 tells.0 in
-    (right (is_block_over count i) (is_block_over (count + 1) i) there, grown-differs tells.1 there),
+    (last_there (is_block_over count i) (is_block_over (count + 1) i) there, grown-differs tells.1 there),
     λ h. grew-tells.1 (now h, settled (eqb count 32) (λ e. inl ((Decides-eqb count 32).0 e))
     (λ e. settled (eqb i (count / 32)) (λ d. inr ((Decides-eqb i (count / 32)).0 d))
-    (λ d. absurd (h.1 (grown-stays (now h) (no_eq count 32 e) (no_eq i (count / 32) d)))))),
+    (λ d. absurd (h.1 (grown-stays (now h) (unequal count 32 e) (unequal i (count / 32) d)))))),
   )
     where
-      right : (a b : Bool) → b ≡ true → IsTrue (a || b)
-      right true b e = refl
-      right false b e = e
-
-      no_eq : (a b : ℕ) → eqb a b ≡ false → a ≢ b
-      no_eq a b e same = let yes_ = (Decides-eqb a b).1 same in absurd (cc)
-
       now : Differs (is_block_over count i) (is_block_over (count + 1) i) (part i xs) (part i zs) → (32 < count + 1) × (i < parts (count + 1))
       now h = one_there (is_block_over count i) (is_block_over (count + 1) i) h.0
           (λ e. let was = (Decides-is_block_over count i).0 e in (omega (arith, was.0), omega (arith, was.1)))
@@ -165,3 +170,105 @@ module _ (roll : List (List ℕ)) (place : ℕ) (within : place < length roll) w
   left-other k d apart before =
       get_or-take (length roll - 1) (set roll place (get_or roll (length roll - 1) [])) k d before
       ∙ get_or-set_other roll place k (get_or roll (length roll - 1) []) d apart
+
+module _ {Node : Type 0} (member : List ℕ → Node) (apart : (a b : List ℕ) → member a ≡ member b → a ≡ b)
+    (block : Level → ℕ → Node) (roll : List (List ℕ)) (place : ℕ) (within : place < length roll) (once : IsDistinct same_name roll) where
+  went-tells : (i : ℕ) → Decides (went (length roll) place levels.First i)
+      (((32 < length roll) × (i < parts (length roll))) × ((length roll ≡ 33) ⊎ ((i ≡ place / 32) ⊎ (i ≡ (length roll - 1) / 32))))
+  went-tells i = Decides-and (is_block_over (length roll) i) (eqb (length roll) 33 || (eqb i (place / 32) || eqb i ((length roll - 1) / 32)))
+      (Decides-is_block_over (length roll) i)
+      (Decides-or (eqb (length roll) 33) (eqb i (place / 32) || eqb i ((length roll - 1) / 32)) (Decides-eqb (length roll) 33)
+      (Decides-or (eqb i (place / 32)) (eqb i ((length roll - 1) / 32)) (Decides-eqb i (place / 32)) (Decides-eqb i ((length roll - 1) / 32))))
+
+  abbrev now : List Node
+  now = map member (left place roll)
+
+  length-now : length now ≡ length roll - 1
+  length-now = length-map (left place roll) member ∙ length-left roll place within
+
+  -- the part of the last has one less
+  last-differs : (i : ℕ) → i ≡ (length roll - 1) / 32 → part i (map member roll) ≡ part i now → ⊥
+  last-differs i at same =
+      omega (arith, length-part i (map member roll), length-part i now, ap length same, length-map roll member, length-now)
+
+  -- that of the place has another in it
+  place-differs : (i : ℕ) → i ≡ place / 32 → i ≢ (length roll - 1) / 32 → part i (map member roll) ≡ part i now → ⊥
+  place-differs i at other same =
+      let names : get_or roll place [] ≡ get_or roll (length roll - 1) [] = apart (get_or roll place []) (get_or roll (length roll - 1) []) figures in
+      let one : same_name (get_or roll place []) (get_or roll (length roll - 1) []) ≡ true =
+      ap (same_name (get_or roll place [])) (sym names) ∙ nat_list_eq_equiv.refl (get_or roll place []) in
+      let two : same_name (get_or roll place []) (get_or roll (length roll - 1) []) ≡ false =
+      apart_from_distinct same_name roll place (length roll - 1) [] once before (omega arith) in
+      absurd (cc)
+    where
+      before : place < length roll - 1
+      before = omega arith
+
+      whole : 32 * i + place % 32 ≡ place
+      whole = omega arith
+
+      figures : member (get_or roll place []) ≡ member (get_or roll (length roll - 1) [])
+      figures =
+          sym (get_or-map member roll place [] (member []) within)
+          ∙ sym (ap (λ n. get_or (map member roll) n (member [])) whole)
+          ∙ sym (get_or-part i (place % 32) (map member roll) (member []) (omega arith))
+          ∙ ap (λ xs. get_or xs (place % 32) (member [])) same
+          ∙ get_or-part i (place % 32) now (member []) (omega arith)
+          ∙ ap (λ n. get_or now n (member [])) whole
+          ∙ get_or-map member (left place roll) place [] (member []) (omega (arith, length-left roll place within, before))
+          ∙ ap member (left-at roll place within place refl before)
+
+  left-differs : (i : ℕ) → (length roll ≡ 33) ⊎ ((i ≡ place / 32) ⊎ (i ≡ (length roll - 1) / 32)) → is_block_over (length roll) i ≡ true
+      → (is_block_over (length roll) i ≡ is_block_over (length roll - 1) i) × (part i (map member roll) ≡ part i now) → ⊥
+  left-differs i (inl ends) there same =
+      let after = (Decides-is_block_over (length roll - 1) i).0 (sym same.0 ∙ there) in omega (arith, after.0)
+  left-differs i (inr (inl at)) there same = settled (eqb i ((length roll - 1) / 32))
+      (λ e. last-differs i ((Decides-eqb i ((length roll - 1) / 32)).0 e) same.1)
+      (λ e. place-differs i at (λ z. let yes_ = (Decides-eqb i ((length roll - 1) / 32)).1 z in absurd (cc)) same.1)
+  left-differs i (inr (inr at)) there same = last-differs i at same.1
+
+  left-stays : (i : ℕ) → (32 < length roll) × (i < parts (length roll)) → length roll ≢ 33 → i ≢ place / 32 → i ≢ (length roll - 1) / 32
+      → (is_block_over (length roll) i ≡ is_block_over (length roll - 1) i) × (part i (map member roll) ≡ part i now)
+  left-stays i there going elsewhere earlier =
+      ((Decides-is_block_over (length roll) i).1 there
+      ∙ sym ((Decides-is_block_over (length roll - 1) i).1 (omega (arith, there.0), omega (arith, there.1, earlier))),
+      part-map member i roll
+      ∙ ap (map member) (part-same i roll (left place roll) (omega (arith, long)) (omega (arith, long, length-left roll place within))
+      (λ k d h. sym (left-other roll place within (32 * i + k) d (omega (arith, elsewhere, h)) (omega (arith, long, h)))))
+      ∙ sym (part-map member i (left place roll)))
+    where
+      long : 32 * i + 32 ≤ length roll - 1
+      long = omega (arith, there.1, earlier)
+
+  went-first : (i : ℕ) → Decides (went (length roll) place levels.First i)
+      (Differs (is_block_over (length roll) i) (is_block_over (length roll - 1) i) (part i (map member roll)) (part i now))
+  went-first i = (
+    λ t. let tells = (went-tells i).0 t in
+    let there : is_block_over (length roll) i ≡ true = (Decides-is_block_over (length roll) i).1 tells.0 in
+    (first_there (is_block_over (length roll) i) (is_block_over (length roll - 1) i) there, left-differs i tells.1 there),
+    λ h. (went-tells i).1 (was h, settled (eqb (length roll) 33) (λ e. inl ((Decides-eqb (length roll) 33).0 e))
+    (λ e. settled (eqb i (place / 32)) (λ d. inr (inl ((Decides-eqb i (place / 32)).0 d)))
+    (λ d. settled (eqb i ((length roll - 1) / 32)) (λ l. inr (inr ((Decides-eqb i ((length roll - 1) / 32)).0 l)))
+    (λ l. absurd (h.1 (left-stays i (was h) (unequal (length roll) 33 e) (unequal i (place / 32) d) (unequal i ((length roll - 1) / 32) l))))))),
+  )
+    where
+      was : Differs (is_block_over (length roll) i) (is_block_over (length roll - 1) i) (part i (map member roll)) (part i now)
+          → (32 < length roll) × (i < parts (length roll))
+      was h = one_there (is_block_over (length roll) i) (is_block_over (length roll - 1) i) h.0
+          (λ e. (Decides-is_block_over (length roll) i).0 e)
+          (λ e. let after = (Decides-is_block_over (length roll - 1) i).0 e in (omega (arith, after.0), omega (arith, after.1)))
+
+  pub went-told : (level : Level) (i : ℕ)
+      → Decides (went (length roll) place level i) (IsChangedBlock member block roll (left place roll) level i)
+  went-told levels.First i =
+      let told = subst (λ n. Decides (went (length roll) place levels.First i) (Differs (is_block_over (length roll) i) (is_block_over n i) (part i (map member roll)) (part i now)))
+          (sym (length-left roll place within)) (went-first i) in
+      (λ t. changed-first member block roll (left place roll) i (told.0 t), λ h. told.1 (first-changed member block roll (left place roll) i h))
+  went-told levels.Second i =
+      let told = second-told block (length (left place roll)) (length roll) (omega (arith, length-left roll place within)) i in
+      let same : came (length (left place roll)) levels.Second i ≡ went (length roll) place levels.Second i = ap (λ n. came n levels.Second i) (length-left roll place within) in
+      (λ t. changed-second member block roll (left place roll) i
+      (Differs-flip (is_block_over (parts (length (left place roll))) i) (is_block_over (parts (length roll)) i)
+      (part i (firsts block (length (left place roll)))) (part i (firsts block (length roll))) (told.0 (same ∙ t))),
+      λ h. sym same ∙ told.1 (Differs-flip (is_block_over (parts (length roll)) i) (is_block_over (parts (length (left place roll))) i)
+      (part i (firsts block (length roll))) (part i (firsts block (length (left place roll)))) (second-changed member block roll (left place roll) i h)))

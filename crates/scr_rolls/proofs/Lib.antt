@@ -4,3 +4,4 @@ pub mod BlockTests
 pub mod Regrouped
 pub mod SameMembers
 pub mod BlockChanges
+pub mod TopChanges
