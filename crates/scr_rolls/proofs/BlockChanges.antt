@@ -30,7 +30,7 @@ Differs-flip live live' xs ys h = (turn live live' h.0, λ s. h.1 (sym s.0, sym 
     turn false false t = t
 
 -- what holds in either case
-settled : {P : Type 0} (t : Bool) → (t ≡ true → P) → (t ≡ false → P) → P
+pub settled : {P : Type 0} (t : Bool) → (t ≡ true → P) → (t ≡ false → P) → P
 settled true holds fails = holds refl
 settled false holds fails = fails refl
 
@@ -49,16 +49,25 @@ last_there true b e = refl
 last_there false b e = e
 
 -- a test that fails tells numbers apart
-unequal : (a b : ℕ) → eqb a b ≡ false → a ≢ b
+pub unequal : (a b : ℕ) → eqb a b ≡ false → a ≢ b
 unequal a b e same = let equal = (Decides-eqb a b).1 same in absurd (cc)
+
+-- ---- what the tests tell
+
+pub grew-tells : (count i : ℕ) → Decides (grew count i) (((32 < count + 1) × (i < parts (count + 1))) × ((count ≡ 32) ⊎ (i ≡ count / 32)))
+grew-tells count i = Decides-and (is_block_over (count + 1) i) (eqb count 32 || eqb i (count / 32)) (Decides-is_block_over (count + 1) i)
+    (Decides-or (eqb count 32) (eqb i (count / 32)) (Decides-eqb count 32) (Decides-eqb i (count / 32)))
+
+pub went-tells : (count place i : ℕ) → Decides (went count place levels.First i)
+    (((32 < count) × (i < parts count)) × ((count ≡ 33) ⊎ ((i ≡ place / 32) ⊎ (i ≡ (count - 1) / 32))))
+went-tells count place i = Decides-and (is_block_over count i) (eqb count 33 || (eqb i (place / 32) || eqb i ((count - 1) / 32)))
+    (Decides-is_block_over count i)
+    (Decides-or (eqb count 33) (eqb i (place / 32) || eqb i ((count - 1) / 32)) (Decides-eqb count 33)
+    (Decides-or (eqb i (place / 32)) (eqb i ((count - 1) / 32)) (Decides-eqb i (place / 32)) (Decides-eqb i ((count - 1) / 32))))
 
 -- ---- one comes last
 
 module _ {X : Type 0} (xs zs : List X) (y : X) (count : ℕ) (pushed : zs ≡ xs ++ y ∷ []) (long : length xs ≡ count) (i : ℕ) where
-  grew-tells : Decides (grew count i) (((32 < count + 1) × (i < parts (count + 1))) × ((count ≡ 32) ⊎ (i ≡ count / 32)))
-  grew-tells = Decides-and (is_block_over (count + 1) i) (eqb count 32 || eqb i (count / 32)) (Decides-is_block_over (count + 1) i)
-      (Decides-or (eqb count 32) (eqb i (count / 32)) (Decides-eqb count 32) (Decides-eqb i (count / 32)))
-
   grown-differs : (count ≡ 32) ⊎ (i ≡ count / 32) → is_block_over (count + 1) i ≡ true
       → (is_block_over count i ≡ is_block_over (count + 1) i) × (part i xs ≡ part i zs) → ⊥
   grown-differs (inl begins) there same =
@@ -73,10 +82,10 @@ module _ {X : Type 0} (xs zs : List X) (y : X) (count : ℕ) (pushed : zs ≡ xs
 
   pub grown-told : Decides (grew count i) (Differs (is_block_over count i) (is_block_over (count + 1) i) (part i xs) (part i zs))
   grown-told = (
-    λ t. let tells = grew-tells.0 t in
+    λ t. let tells = (grew-tells count i).0 t in
     let there : is_block_over (count + 1) i ≡ true = (Decides-is_block_over (count + 1) i).1 tells.0 in
     (last_there (is_block_over count i) (is_block_over (count + 1) i) there, grown-differs tells.1 there),
-    λ h. grew-tells.1 (now h, settled (eqb count 32) (λ e. inl ((Decides-eqb count 32).0 e))
+    λ h. (grew-tells count i).1 (now h, settled (eqb count 32) (λ e. inl ((Decides-eqb count 32).0 e))
     (λ e. settled (eqb i (count / 32)) (λ d. inr ((Decides-eqb i (count / 32)).0 d))
     (λ d. absurd (h.1 (grown-stays (now h) (unequal count 32 e) (unequal i (count / 32) d)))))),
   )
@@ -173,13 +182,6 @@ module _ (roll : List (List ℕ)) (place : ℕ) (within : place < length roll) w
 
 module _ {Node : Type 0} (member : List ℕ → Node) (apart : (a b : List ℕ) → member a ≡ member b → a ≡ b)
     (block : Level → ℕ → Node) (roll : List (List ℕ)) (place : ℕ) (within : place < length roll) (once : IsDistinct same_name roll) where
-  went-tells : (i : ℕ) → Decides (went (length roll) place levels.First i)
-      (((32 < length roll) × (i < parts (length roll))) × ((length roll ≡ 33) ⊎ ((i ≡ place / 32) ⊎ (i ≡ (length roll - 1) / 32))))
-  went-tells i = Decides-and (is_block_over (length roll) i) (eqb (length roll) 33 || (eqb i (place / 32) || eqb i ((length roll - 1) / 32)))
-      (Decides-is_block_over (length roll) i)
-      (Decides-or (eqb (length roll) 33) (eqb i (place / 32) || eqb i ((length roll - 1) / 32)) (Decides-eqb (length roll) 33)
-      (Decides-or (eqb i (place / 32)) (eqb i ((length roll - 1) / 32)) (Decides-eqb i (place / 32)) (Decides-eqb i ((length roll - 1) / 32))))
-
   abbrev now : List Node
   now = map member (left place roll)
 
@@ -243,10 +245,10 @@ module _ {Node : Type 0} (member : List ℕ → Node) (apart : (a b : List ℕ) 
   went-first : (i : ℕ) → Decides (went (length roll) place levels.First i)
       (Differs (is_block_over (length roll) i) (is_block_over (length roll - 1) i) (part i (map member roll)) (part i now))
   went-first i = (
-    λ t. let tells = (went-tells i).0 t in
+    λ t. let tells = (went-tells (length roll) place i).0 t in
     let there : is_block_over (length roll) i ≡ true = (Decides-is_block_over (length roll) i).1 tells.0 in
     (first_there (is_block_over (length roll) i) (is_block_over (length roll - 1) i) there, left-differs i tells.1 there),
-    λ h. (went-tells i).1 (was h, settled (eqb (length roll) 33) (λ e. inl ((Decides-eqb (length roll) 33).0 e))
+    λ h. (went-tells (length roll) place i).1 (was h, settled (eqb (length roll) 33) (λ e. inl ((Decides-eqb (length roll) 33).0 e))
     (λ e. settled (eqb i (place / 32)) (λ d. inr (inl ((Decides-eqb i (place / 32)).0 d)))
     (λ d. settled (eqb i ((length roll - 1) / 32)) (λ l. inr (inr ((Decides-eqb i ((length roll - 1) / 32)).0 l)))
     (λ l. absurd (h.1 (left-stays i (was h) (unequal (length roll) 33 e) (unequal i (place / 32) d) (unequal i ((length roll - 1) / 32) l))))))),

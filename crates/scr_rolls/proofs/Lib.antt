@@ -5,3 +5,4 @@ pub mod Regrouped
 pub mod SameMembers
 pub mod BlockChanges
 pub mod TopChanges
+pub mod ChangedLists

@@ -1,6 +1,6 @@
 -- Which Blocks of a roll change where a member comes or leaves (this project's own): those that the roll gains or loses, and
 -- those that add up other figures than before.
-use Rattle.std.specs.Prelude.{◌≡◌, ℕ, ◌+◌, ◌-◌, ◌/◌, ◌%◌, ◌==◌, ◌&&◌, ◌||◌, Bool, IsTrue, List, length}
+use Rattle.std.specs.Prelude.{◌≡◌, ℕ, ◌+◌, ◌-◌, ◌/◌, ◌%◌, ◌==◌, ◌&&◌, ◌||◌, Bool, IsTrue, List, [], ◌∷◌, if◌then◌else◌, length, nat_le, nat_lt}
 use Rattle.scr_rolls.specs.Blocks.{is_block, is_block_over, block_sources}
 use Rattle.scr_rolls.specs.declared.blocks.Level.{Level}
 use Rattle.scr_rolls.specs.declared.blocks.Level.TheVariants as levels
@@ -31,3 +31,20 @@ came count levels.Second i = (count % 32 == 0) && grew (count / 32) i
 abbrev pub went : ℕ → ℕ → Level → ℕ → Bool
 went count place levels.First i = is_block_over count i && ((count == 33) || ((i == place / 32) || (i == (count - 1) / 32)))
 went count place levels.Second i = came (count - 1) levels.Second i
+
+-- those Blocks one by one, each once: over so many where one more comes last
+abbrev pub grown : ℕ → List ℕ
+grown count = if nat_lt count 32 then [] else (if count == 32 then 0 ∷ 1 ∷ [] else count / 32 ∷ [])
+
+-- of a roll to which a name comes
+abbrev pub coming : ℕ → Level → List ℕ
+coming count levels.First = grown count
+coming count levels.Second = if count % 32 == 0 then grown (count / 32) else []
+
+-- of a roll that the name at a place leaves
+abbrev pub leaving : ℕ → ℕ → Level → List ℕ
+leaving count place levels.First =
+    if nat_le count 32 then []
+    else (if count == 33 then 0 ∷ 1 ∷ []
+    else (if place / 32 == (count - 1) / 32 then place / 32 ∷ [] else place / 32 ∷ (count - 1) / 32 ∷ []))
+leaving count place levels.Second = coming (count - 1) levels.Second

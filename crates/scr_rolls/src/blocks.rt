@@ -1,7 +1,9 @@
 //! The Blocks of a roll: how many there are, and which change where a name comes or leaves.
-ghost use Rattle.std.specs.Prelude.{◌≡◌};
+ghost use Rattle.std.specs.Prelude.{◌≡◌, IfOk};
 ghost use Rattle.scr_rolls.specs.Blocks as spec;
 ghost use Rattle.scr_rolls.specs.ChangedBlocks as changes;
+
+use std::alloc::{AllocError as NoMemory, Global};
 
 /// The level of a Block: one of the first sums up members, one of the second sums up Blocks of the first.
 #[derive(Clone, Copy)]
@@ -79,5 +81,56 @@ pub fn went(count: usize, place: usize, level: Level, index: usize) -> bool
                 && (count == WIDTH + 1 || index == place / WIDTH || index == count.saturating_sub(1) / WIDTH)
         }
         Level::Second => came(count.saturating_sub(1), level, index),
+    }
+}
+
+/// The Blocks over so many that change where one more comes last, each once.
+fn grown(alloc: Global, count: usize) -> Result<Vec<usize>, NoMemory>
+    ensures { IfOk result (λ blocks. blocks.items ≡ changes.grown count) }
+{
+    if count < WIDTH {
+        Ok(Vec::new(alloc))
+    } else if count == WIDTH {
+        Ok(Vec::from_slice(alloc, &[0, 1])?)
+    } else {
+        Ok(Vec::from_slice(alloc, &[count / WIDTH])?)
+    }
+}
+
+/// The Blocks of a level that change where a name comes to a roll of so many members, each once.
+pub fn coming(alloc: Global, count: usize, level: Level) -> Result<Vec<usize>, NoMemory>
+    ensures { IfOk result (λ blocks. blocks.items ≡ changes.coming count level) }
+{
+    match level {
+        Level::First => grown(alloc, count),
+        Level::Second if count % WIDTH == 0 => grown(alloc, count / WIDTH),
+        Level::Second => Ok(Vec::new(alloc)),
+    }
+}
+
+/// The Blocks of a level that change where the name at a place of so many leaves, each once.
+pub fn leaving(alloc: Global, count: usize, place: usize, level: Level) -> Result<Vec<usize>, NoMemory>
+    ensures { IfOk result (λ blocks. blocks.items ≡ changes.leaving count place level) }
+{
+    match level {
+        Level::First => gone(alloc, count, place),
+        Level::Second => coming(alloc, count.saturating_sub(1), level),
+    }
+}
+
+/// Those of the first level.
+fn gone(alloc: Global, count: usize, place: usize) -> Result<Vec<usize>, NoMemory>
+    ensures { IfOk result (λ blocks. blocks.items ≡ changes.leaving count place Level.First) }
+{
+    let own = place / WIDTH;
+    let last = count.saturating_sub(1) / WIDTH;
+    if count <= WIDTH {
+        Ok(Vec::new(alloc))
+    } else if count == WIDTH + 1 {
+        Ok(Vec::from_slice(alloc, &[0, 1])?)
+    } else if own == last {
+        Ok(Vec::from_slice(alloc, &[own])?)
+    } else {
+        Ok(Vec::from_slice(alloc, &[own, last])?)
     }
 }
