@@ -1,16 +1,16 @@
 -- Which Blocks change where a member comes or leaves, exactly.
-use Rattle.std.proofs.Common.{◌≡◌, ℕ, suc, ◌+◌, ◌-◌, ◌*◌, ◌/◌, ◌%◌, ◌<◌, ◌≤◌, ◌≢◌, ◌⊎◌, inl, inr, Bool, true, false, cond, eqb, ltb, leb, ◌&&◌, ◌||◌, Decides, List, [], ◌∷◌, ◌++◌, length, get_or, set, take, map, refl, sym, ap, subst, ◌∙◌, arith}
+use Rattle.std.proofs.Common.{◌≡◌, ℕ, ◌+◌, ◌-◌, ◌*◌, ◌/◌, ◌%◌, ◌<◌, ◌≤◌, ◌≢◌, ◌⊎◌, inl, inr, Bool, true, false, eqb, ◌&&◌, ◌||◌, Decides, List, [], ◌∷◌, ◌++◌, length, get_or, set, map, refl, sym, ap, subst, ◌∙◌, arith}
 use Rattle.std.specs.Prelude.{IsTrue}
 use Rattle.std.specs.List.{IsDistinct, range_with_len}
-use Rattle.std.proofs.lemmas.Bool.Decides.{Decides-and, Decides-or, Decides-eqb, Decides-ltb}
+use Rattle.std.proofs.lemmas.Bool.Decides.{Decides-and, Decides-or, Decides-eqb}
 use Rattle.std.proofs.lemmas.List.{length-map, length-set, length-take, length_push, map_push, get_or-map, get_or-take, get_or-set_same, get_or-set_other}
 use Rattle.std.proofs.lemmas.List.FromFn.{length-map-range_with_len, map-range_with_len_more}
 use Rattle.std.proofs.lemmas.Map.Keys.{apart_from_distinct}
 use Rattle.std.specs.Cmp.Lexicographic.{nat_list_eq_equiv}
 use Rattle.scr_names.specs.Names.{same_name}
 use Rattle.scr_rolls.specs.Members.{left}
-use Rattle.scr_rolls.specs.Blocks.{part, parts, is_block, is_block_over, firsts, block_sources}
-use Rattle.scr_rolls.specs.ChangedBlocks.{IsSameBlock, IsChangedBlock, grew, came, went}
+use Rattle.scr_rolls.specs.Blocks.{part, parts, is_block_over, firsts}
+use Rattle.scr_rolls.specs.ChangedBlocks.{IsChangedBlock, grew, came, went}
 use Rattle.scr_rolls.specs.declared.blocks.Level.{Level}
 use Rattle.scr_rolls.specs.declared.blocks.Level.TheVariants as levels
 use Rattle.scr_rolls.proofs.BlockTests.{Decides-is_block_over}
@@ -76,18 +76,22 @@ module _ {X : Type 0} (xs zs : List X) (y : X) (count : ℕ) (pushed : zs ≡ xs
 
   grown-stays : (32 < count + 1) × (i < parts (count + 1)) → count ≢ 32 → i ≢ count / 32
       → (is_block_over count i ≡ is_block_over (count + 1) i) × (part i xs ≡ part i zs)
-  grown-stays there going other =
-      ((Decides-is_block_over count i).1 (omega (arith, there.0), omega (arith, there.1, other)) ∙ sym ((Decides-is_block_over (count + 1) i).1 there),
-      sym (ap (part i) pushed ∙ part-push i xs y (omega (arith, there.1, other, long))))
+  grown-stays there going other = (
+    (Decides-is_block_over count i).1 (omega (arith, there.0), omega (arith, there.1, other)) ∙ sym ((Decides-is_block_over (count + 1) i).1 there),
+    sym (ap (part i) pushed ∙ part-push i xs y (omega (arith, there.1, other, long))),
+  )
 
   pub grown-told : Decides (grew count i) (Differs (is_block_over count i) (is_block_over (count + 1) i) (part i xs) (part i zs))
   grown-told = (
     λ t. let tells = (grew-tells count i).0 t in
-    let there : is_block_over (count + 1) i ≡ true = (Decides-is_block_over (count + 1) i).1 tells.0 in
-    (last_there (is_block_over count i) (is_block_over (count + 1) i) there, grown-differs tells.1 there),
-    λ h. (grew-tells count i).1 (now h, settled (eqb count 32) (λ e. inl ((Decides-eqb count 32).0 e))
-    (λ e. settled (eqb i (count / 32)) (λ d. inr ((Decides-eqb i (count / 32)).0 d))
-    (λ d. absurd (h.1 (grown-stays (now h) (unequal count 32 e) (unequal i (count / 32) d)))))),
+        let there : is_block_over (count + 1) i ≡ true = (Decides-is_block_over (count + 1) i).1 tells.0 in
+        (last_there (is_block_over count i) (is_block_over (count + 1) i) there, grown-differs tells.1 there),
+    λ h. (grew-tells count i).1 (
+      now h,
+      settled (eqb count 32) (λ e. inl ((Decides-eqb count 32).0 e))
+          (λ e. settled (eqb i (count / 32)) (λ d. inr ((Decides-eqb i (count / 32)).0 d))
+          (λ d. absurd (h.1 (grown-stays (now h) (unequal count 32 e) (unequal i (count / 32) d))))),
+    ),
   )
     where
       now : Differs (is_block_over count i) (is_block_over (count + 1) i) (part i xs) (part i zs) → (32 < count + 1) × (i < parts (count + 1))
@@ -127,8 +131,10 @@ module _ {Node : Type 0} (block : Level → ℕ → Node) (few many : ℕ) (more
   second-told = settled (eqb (few % 32) 0)
       (λ e. let begins = second_begins ((Decides-eqb (few % 32) 0).0 e) in
       (λ t. begins.0 (sym (ap (λ s. s && grew (few / 32) i) e) ∙ t), λ h. ap (λ s. s && grew (few / 32) i) e ∙ begins.1 h))
-      (λ e. (λ t. let never : false ≡ true = sym (ap (λ s. s && grew (few / 32) i) e) ∙ t in absurd (cc),
-      λ h. absurd (second_stays (λ z. let yes_ = (Decides-eqb (few % 32) 0).1 z in absurd (cc)) h)))
+      (λ e. (
+        λ t. let never : false ≡ true = sym (ap (λ s. s && grew (few / 32) i) e) ∙ t in absurd (cc),
+        λ h. absurd (second_stays (λ z. let yes_ = (Decides-eqb (few % 32) 0).1 z in absurd (cc)) h),
+      ))
 
 -- ---- a member comes
 
@@ -155,8 +161,8 @@ module _ {Name Node : Type 0} (member : Name → Node) (block : Level → ℕ �
       → Decides (came (length roll) level i) (IsChangedBlock member block roll (roll ++ name ∷ []) level i)
   came-told roll name levels.First i =
       let told = subst (λ n. Decides (grew (length roll) i) (Differs (is_block_over (length roll) i) (is_block_over n i) (part i (map member roll)) (part i (map member (roll ++ name ∷ [])))))
-          (sym (length_push roll name))
-          (grown-told (map member roll) (map member (roll ++ name ∷ [])) (member name) (length roll) (map_push member roll name) (length-map roll member) i) in
+      (sym (length_push roll name))
+      (grown-told (map member roll) (map member (roll ++ name ∷ [])) (member name) (length roll) (map_push member roll name) (length-map roll member) i) in
       (λ t. changed-first roll (roll ++ name ∷ []) i (told.0 t), λ h. told.1 (first-changed roll (roll ++ name ∷ []) i h))
   came-told roll name levels.Second i =
       let told = second-told block (length roll) (length (roll ++ name ∷ [])) (length_push roll name) i in
@@ -231,13 +237,14 @@ module _ {Node : Type 0} (member : List ℕ → Node) (apart : (a b : List ℕ) 
 
   left-stays : (i : ℕ) → (32 < length roll) × (i < parts (length roll)) → length roll ≢ 33 → i ≢ place / 32 → i ≢ (length roll - 1) / 32
       → (is_block_over (length roll) i ≡ is_block_over (length roll - 1) i) × (part i (map member roll) ≡ part i now)
-  left-stays i there going elsewhere earlier =
-      ((Decides-is_block_over (length roll) i).1 there
-      ∙ sym ((Decides-is_block_over (length roll - 1) i).1 (omega (arith, there.0), omega (arith, there.1, earlier))),
-      part-map member i roll
-      ∙ ap (map member) (part-same i roll (left place roll) (omega (arith, long)) (omega (arith, long, length-left roll place within))
-      (λ k d h. sym (left-other roll place within (32 * i + k) d (omega (arith, elsewhere, h)) (omega (arith, long, h)))))
-      ∙ sym (part-map member i (left place roll)))
+  left-stays i there going elsewhere earlier = (
+    (Decides-is_block_over (length roll) i).1 there
+        ∙ sym ((Decides-is_block_over (length roll - 1) i).1 (omega (arith, there.0), omega (arith, there.1, earlier))),
+    part-map member i roll
+        ∙ ap (map member) (part-same i roll (left place roll) (omega (arith, long)) (omega (arith, long, length-left roll place within))
+        (λ k d h. sym (left-other roll place within (32 * i + k) d (omega (arith, elsewhere, h)) (omega (arith, long, h)))))
+        ∙ sym (part-map member i (left place roll)),
+  )
     where
       long : 32 * i + 32 ≤ length roll - 1
       long = omega (arith, there.1, earlier)
@@ -246,12 +253,15 @@ module _ {Node : Type 0} (member : List ℕ → Node) (apart : (a b : List ℕ) 
       (Differs (is_block_over (length roll) i) (is_block_over (length roll - 1) i) (part i (map member roll)) (part i now))
   went-first i = (
     λ t. let tells = (went-tells (length roll) place i).0 t in
-    let there : is_block_over (length roll) i ≡ true = (Decides-is_block_over (length roll) i).1 tells.0 in
-    (first_there (is_block_over (length roll) i) (is_block_over (length roll - 1) i) there, left-differs i tells.1 there),
-    λ h. (went-tells (length roll) place i).1 (was h, settled (eqb (length roll) 33) (λ e. inl ((Decides-eqb (length roll) 33).0 e))
-    (λ e. settled (eqb i (place / 32)) (λ d. inr (inl ((Decides-eqb i (place / 32)).0 d)))
-    (λ d. settled (eqb i ((length roll - 1) / 32)) (λ l. inr (inr ((Decides-eqb i ((length roll - 1) / 32)).0 l)))
-    (λ l. absurd (h.1 (left-stays i (was h) (unequal (length roll) 33 e) (unequal i (place / 32) d) (unequal i ((length roll - 1) / 32) l))))))),
+        let there : is_block_over (length roll) i ≡ true = (Decides-is_block_over (length roll) i).1 tells.0 in
+        (first_there (is_block_over (length roll) i) (is_block_over (length roll - 1) i) there, left-differs i tells.1 there),
+    λ h. (went-tells (length roll) place i).1 (
+      was h,
+      settled (eqb (length roll) 33) (λ e. inl ((Decides-eqb (length roll) 33).0 e))
+          (λ e. settled (eqb i (place / 32)) (λ d. inr (inl ((Decides-eqb i (place / 32)).0 d)))
+          (λ d. settled (eqb i ((length roll - 1) / 32)) (λ l. inr (inr ((Decides-eqb i ((length roll - 1) / 32)).0 l)))
+          (λ l. absurd (h.1 (left-stays i (was h) (unequal (length roll) 33 e) (unequal i (place / 32) d) (unequal i ((length roll - 1) / 32) l)))))),
+    ),
   )
     where
       was : Differs (is_block_over (length roll) i) (is_block_over (length roll - 1) i) (part i (map member roll)) (part i now)
@@ -264,13 +274,14 @@ module _ {Node : Type 0} (member : List ℕ → Node) (apart : (a b : List ℕ) 
       → Decides (went (length roll) place level i) (IsChangedBlock member block roll (left place roll) level i)
   went-told levels.First i =
       let told = subst (λ n. Decides (went (length roll) place levels.First i) (Differs (is_block_over (length roll) i) (is_block_over n i) (part i (map member roll)) (part i now)))
-          (sym (length-left roll place within)) (went-first i) in
+      (sym (length-left roll place within)) (went-first i) in
       (λ t. changed-first member block roll (left place roll) i (told.0 t), λ h. told.1 (first-changed member block roll (left place roll) i h))
   went-told levels.Second i =
       let told = second-told block (length (left place roll)) (length roll) (omega (arith, length-left roll place within)) i in
-      let same : came (length (left place roll)) levels.Second i ≡ went (length roll) place levels.Second i = ap (λ n. came n levels.Second i) (length-left roll place within) in
-      (λ t. changed-second member block roll (left place roll) i
-      (Differs-flip (is_block_over (parts (length (left place roll))) i) (is_block_over (parts (length roll)) i)
-      (part i (firsts block (length (left place roll)))) (part i (firsts block (length roll))) (told.0 (same ∙ t))),
-      λ h. sym same ∙ told.1 (Differs-flip (is_block_over (parts (length roll)) i) (is_block_over (parts (length (left place roll))) i)
-      (part i (firsts block (length roll))) (part i (firsts block (length (left place roll)))) (second-changed member block roll (left place roll) i h)))
+      let same : came (length (left place roll)) levels.Second i ≡ went (length roll) place levels.Second i = ap (λ n. came n levels.Second i) (length-left roll place within) in (
+        λ t. changed-second member block roll (left place roll) i
+            (Differs-flip (is_block_over (parts (length (left place roll))) i) (is_block_over (parts (length roll)) i)
+            (part i (firsts block (length (left place roll)))) (part i (firsts block (length roll))) (told.0 (same ∙ t))),
+        λ h. sym same ∙ told.1 (Differs-flip (is_block_over (parts (length roll)) i) (is_block_over (parts (length (left place roll))) i)
+            (part i (firsts block (length roll))) (part i (firsts block (length (left place roll)))) (second-changed member block roll (left place roll) i h)),
+      )

@@ -6,3 +6,4 @@ pub mod SameMembers
 pub mod BlockChanges
 pub mod TopChanges
 pub mod ChangedLists
+pub mod ListedSums

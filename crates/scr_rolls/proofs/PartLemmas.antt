@@ -1,7 +1,7 @@
 -- The parts of a list: their lengths and elements, and what of them stays where one comes last or the last takes a place.
-use Rattle.std.proofs.Common.{◌≡◌, ℕ, zero, suc, ◌+◌, ◌-◌, ◌*◌, ◌/◌, ◌<◌, ◌≤◌, ◌≢◌, min, List, [], ◌∷◌, ◌++◌, length, get_or, set, take, drop, map, refl, sym, ap, ◌∙◌, arith}
-use Rattle.std.proofs.lemmas.List.{length-set, length-take, length-drop, length-append, length_push, get_or-take, get_or-drop, get_or_default, get_or-set_other, take-append-le, drop-append-le, take-map, drop-map, drop-take, drop-drop, same_lists}
-use Rattle.scr_rolls.specs.Blocks.{part, parts}
+use Rattle.std.proofs.Common.{◌≡◌, ℕ, ◌+◌, ◌-◌, ◌*◌, ◌/◌, ◌<◌, ◌≤◌, min, List, [], ◌∷◌, ◌++◌, length, get_or, take, drop, map, sym, ap, ◌∙◌, arith}
+use Rattle.std.proofs.lemmas.List.{length-take, length-drop, length_push, get_or-take, get_or-drop, take-append-le, drop-append-le, take-map, drop-map, same_lists}
+use Rattle.scr_rolls.specs.Blocks.{part}
 
 module _ {X : Type 0} where
   pub length-part : (i : ℕ) (xs : List X) → length (part i xs) ≡ min 32 (length xs - 32 * i)

@@ -1,10 +1,10 @@
 -- What is left at the top of the Blocks, and how many Blocks there are over a roll.
-use Rattle.std.proofs.Common.{◌≡◌, ℕ, ◌+◌, ◌-◌, ◌*◌, ◌/◌, ◌<◌, ◌≤◌, Bool, true, false, cond, eqb, leb, Decides, List, [], ◌∷◌, ◌++◌, length, map, refl, sym, ap, ◌∙◌, arith}
+use Rattle.std.proofs.Common.{◌≡◌, ℕ, ◌+◌, ◌<◌, ◌≤◌, Bool, true, false, cond, eqb, leb, Decides, List, length, map, refl, sym, ap, ◌∙◌, arith}
 use Rattle.std.specs.List.{range_with_len}
 use Rattle.std.proofs.lemmas.Bool.Decides.{Decides-eqb, nat_tests}
 use Rattle.std.proofs.lemmas.List.{length-map}
 use Rattle.std.proofs.lemmas.List.FromFn.{length-map-range_with_len}
-use Rattle.scr_rolls.specs.Blocks.{part, parts, is_block, is_block_over, top_count, firsts, seconds, tops, block_sources}
+use Rattle.scr_rolls.specs.Blocks.{parts, is_block, top_count, firsts, seconds, tops, block_sources}
 use Rattle.scr_rolls.specs.declared.blocks.Level.{Level}
 use Rattle.scr_rolls.specs.declared.blocks.Level.TheVariants as levels
 use Rattle.scr_rolls.proofs.BlockTests.{Decides-is_block_over}
@@ -30,9 +30,10 @@ module _ {Name Node : Type 0} (member : Name → Node) (block : Level → ℕ �
       let within = (Decides-is_block_over (length roll) i).0 there in
       (omega (arith, within.1, length-part i (map member roll), length-map roll member), omega (arith, length-part i (map member roll)))
   sources-some roll levels.Second i there =
-      let within = (Decides-is_block_over (parts (length roll)) i).0 there in
-      (omega (arith, within.1, length-part i (firsts block (length roll)), length-map-range_with_len (block levels.First) 0 (parts (length roll))),
-      omega (arith, length-part i (firsts block (length roll))))
+      let within = (Decides-is_block_over (parts (length roll)) i).0 there in (
+        omega (arith, within.1, length-part i (firsts block (length roll)), length-map-range_with_len (block levels.First) 0 (parts (length roll))),
+        omega (arith, length-part i (firsts block (length roll))),
+      )
 
   module _ (roll : List Name) where
     abbrev top : Bool → Bool → List Node
@@ -71,6 +72,6 @@ module _ {Name Node : Type 0} (member : Name → Node) (block : Level → ℕ �
     pub tops-told : Decides (eqb (top_count (length few)) (top_count (length many))) (tops member block few ≡ tops member block many)
     tops-told = (
       λ t. same_tops (leb (length few) 32) (leb (parts (length few)) 32) (leb (length many) 32) (leb (parts (length many)) 32) refl refl refl refl
-      ((Decides-eqb (top_count (length few)) (top_count (length many))).0 t),
+          ((Decides-eqb (top_count (length few)) (top_count (length many))).0 t),
       λ h. (Decides-eqb (top_count (length few)) (top_count (length many))).1 (sym (length-tops few) ∙ ap length h ∙ length-tops many),
     )

@@ -78,7 +78,9 @@ pub fn went(count: usize, place: usize, level: Level, index: usize) -> bool
     match level {
         Level::First => {
             is_block_over(count, index)
-                && (count == WIDTH + 1 || index == place / WIDTH || index == count.saturating_sub(1) / WIDTH)
+                && (count == WIDTH + 1
+                    || index == place / WIDTH
+                    || index == count.saturating_sub(1) / WIDTH)
         }
         Level::Second => came(count.saturating_sub(1), level, index),
     }
@@ -109,7 +111,12 @@ pub fn coming(alloc: Global, count: usize, level: Level) -> Result<Vec<usize>, N
 }
 
 /// The Blocks of a level that change where the name at a place of so many leaves, each once.
-pub fn leaving(alloc: Global, count: usize, place: usize, level: Level) -> Result<Vec<usize>, NoMemory>
+pub fn leaving(
+    alloc: Global,
+    count: usize,
+    place: usize,
+    level: Level,
+) -> Result<Vec<usize>, NoMemory>
     ensures { IfOk result (λ blocks. blocks.items ≡ changes.leaving count place level) }
 {
     match level {

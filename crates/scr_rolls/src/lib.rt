@@ -3,6 +3,7 @@
 #![tactic(auto)]
 
 mod blocks;
+pub mod laws;
 mod members;
 mod rolls;
 mod sharing;
