@@ -1,6 +1,7 @@
 -- The parts of a list: their lengths and elements, and what of them stays where one comes last or the last takes a place.
-use Rattle.std.proofs.Common.{◌≡◌, ℕ, ◌+◌, ◌-◌, ◌*◌, ◌/◌, ◌<◌, ◌≤◌, min, List, [], ◌∷◌, ◌++◌, length, get_or, take, drop, map, sym, ap, ◌∙◌, arith}
-use Rattle.std.proofs.lemmas.List.{length-take, length-drop, length_push, get_or-take, get_or-drop, take-append-le, drop-append-le, take-map, drop-map, same_lists}
+use Rattle.std.proofs.Common.{◌≡◌, ℕ, ◌+◌, ◌-◌, ◌*◌, ◌/◌, ◌^◌, ◌<◌, ◌≤◌, min, Bool, true, false, leb, List, [], ◌∷◌, ◌++◌, length, get_or, take, drop, map, refl, sym, ap, ◌∙◌, arith}
+use Rattle.std.proofs.lemmas.Bool.Decides.{nat_tests}
+use Rattle.std.proofs.lemmas.List.{take_min, drop_all, length-take, length-drop, length_push, get_or-take, get_or-drop, take-append-le, drop-append-le, take-map, drop-map, same_lists}
 use Rattle.scr_rolls.specs.Blocks.{part}
 
 module _ {X : Type 0} where
@@ -34,3 +35,20 @@ module _ {X : Type 0} where
 
 pub part-map : {X Y : Type 0} (f : X → Y) (i : ℕ) (xs : List X) → part i (map f xs) ≡ map f (part i xs)
 part-map f i xs = ap (take 32) (drop-map f (32 * i) xs) ∙ take-map f 32 (drop (32 * i) xs)
+
+-- a part as a range of places
+pub part-range : {X : Type 0} (xs : List X) (i start end : ℕ) → length xs < 2 ^ 64 → start ≡ min (min (i * 32) 18446744073709551615) (length xs)
+    → end ≡ start + min 32 (length xs - start) → take (end - start) (drop start xs) ≡ part i xs
+part-range xs i start end fits from to = by (leb (32 * i) (length xs)) refl
+  where
+    size : end - start ≡ min 32 (length xs - start)
+    size = omega (arith, to)
+
+    cut : take (end - start) (drop start xs) ≡ take 32 (drop start xs)
+    cut = ap (λ n. take n (drop start xs)) (size ∙ ap (min 32) (sym (length-drop start xs))) ∙ take_min 32 (drop start xs)
+
+    by : (t : Bool) → leb (32 * i) (length xs) ≡ t → take (end - start) (drop start xs) ≡ part i xs
+    by true e = let inside : 32 * i ≤ length xs = grind (arith, nat_tests, e) in
+        cut ∙ ap (λ n. take 32 (drop n xs)) (omega (arith, from, inside, fits))
+    by false e = let past : length xs ≤ 32 * i = grind (arith, nat_tests, e) in
+        cut ∙ ap (take 32) (drop_all start xs (omega (arith, from, past, fits)) ∙ sym (drop_all (32 * i) xs past))

@@ -22,6 +22,15 @@ pub fn parts(count: usize) -> usize
     count.div_ceil(WIDTH)
 }
 
+/// The members of a part of a list: 32 neighbours, fewer at the end, and none where there is no such part.
+pub fn part<T>(list: &[T], index: usize) -> &[T]
+    ensures { result.now ≡ spec.part index list.now }
+{
+    let start = index.saturating_mul(WIDTH).min(list.len());
+    let end = start + WIDTH.min(list.len() - start);
+    &list[start..end]
+}
+
 /// Whether there is a Block for this part of so many.
 fn is_block_over(count: usize, index: usize) -> bool
     ensures { result ≡ spec.is_block_over count index }

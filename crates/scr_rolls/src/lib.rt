@@ -8,7 +8,7 @@ mod members;
 mod rolls;
 mod sharing;
 
-pub use blocks::{Level, came, coming, is_block, leaving, parts, top_count, went};
+pub use blocks::{Level, came, coming, is_block, leaving, part, parts, top_count, went};
 pub use members::Members;
 pub use rolls::Rolls;
 pub use sharing::threads_share_rolls;

@@ -92,7 +92,7 @@ impl Members {
             ≡ (if same_name name other then true else has other self.old.names) }
         ensures room { self.old.room ≤ self.new.room + 1 }
     {
-        self.names.insert(name).unwrap();
+        self.come(name);
         let last = self.names.len() - 1;
         self.names.swap_indices(place, last);
     }

@@ -119,4 +119,13 @@ impl<K: Eq + Hash + Copy + Drop> Rolls<K> {
             members.put_back(place, name);
         }
     }
+
+    /// Lets go of the memory of a roll without members. All rolls stay.
+    pub fn forget(&mut self, key: K)
+        requires { names_in K.eq key self.old ≡ [] }
+        ensures names { IsUnchanged K.eq self.old self.new }
+        ensures room { (other : K) → K.eq key other ≡ false → room_in K.eq other self.new ≡ room_in K.eq other self.old }
+    {
+        self.rolls.swap_remove(&key);
+    }
 }
