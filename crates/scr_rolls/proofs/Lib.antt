@@ -7,3 +7,4 @@ pub mod BlockChanges
 pub mod TopChanges
 pub mod ChangedLists
 pub mod ListedSums
+pub mod BlockSizes

@@ -12,9 +12,21 @@ use Rattle.scr_rolls.specs.declared.blocks.Level.TheVariants as levels
 use Rattle.scr_rolls.proofs.BlockTests.{Decides-is_block_over}
 use Rattle.scr_rolls.proofs.PartLemmas.{part-map}
 
-map-map : {X Y Z : Type 0} (f : Y → Z) (g : X → Y) (xs : List X) → map f (map g xs) ≡ map (λ x. f (g x)) xs
+pub map-map : {X Y Z : Type 0} (f : Y → Z) (g : X → Y) (xs : List X) → map f (map g xs) ≡ map (λ x. f (g x)) xs
 map-map f g [] = refl
 map-map f g (x ∷ xs) = ap (λ ys. f (g x) ∷ ys) (map-map f g xs)
+
+-- a part, and some after it
+pub part-and-rest : {X : Type 0} (a k : ℕ) (xs : List X) → part a xs ++ take (32 * k) (drop (32 * (a + 1)) xs) ≡ take (32 * suc k) (drop (32 * a) xs)
+part-and-rest a k xs =
+    ap (λ ys. part a xs ++ take (32 * k) ys) (sym next) ∙ sym (take-add 32 (32 * k) (drop (32 * a) xs))
+    ∙ ap (λ n. take n (drop (32 * a) xs)) many
+  where
+    next : drop 32 (drop (32 * a) xs) ≡ drop (32 * (a + 1)) xs
+    next = drop-drop 32 (32 * a) xs ∙ ap (λ n. drop n xs) (omega arith)
+
+    many : 32 + 32 * k ≡ 32 * suc k
+    many = omega arith
 
 module _ {Sum : Type 0} (nothing : Sum) (add : Sum → Sum → Sum) (laws : AddsUp nothing add) where
   pub total-append : (xs ys : List Sum) → total nothing add (xs ++ ys) ≡ add (total nothing add xs) (total nothing add ys)
@@ -29,17 +41,7 @@ module _ {Sum : Type 0} (nothing : Sum) (add : Sum → Sum → Sum) (laws : Adds
       ap (add (f a)) (total-parts f xs (a + 1) k (λ i from to. each i (omega arith) (omega arith)))
       ∙ ap (λ m. add m (total nothing add (take (32 * k) (drop (32 * (a + 1)) xs)))) (each a (omega arith) (omega arith))
       ∙ sym (total-append (part a xs) (take (32 * k) (drop (32 * (a + 1)) xs)))
-      ∙ ap (total nothing add) joined
-    where
-      next : drop 32 (drop (32 * a) xs) ≡ drop (32 * (a + 1)) xs
-      next = drop-drop 32 (32 * a) xs ∙ ap (λ n. drop n xs) (omega arith)
-
-      many : 32 + 32 * k ≡ 32 * suc k
-      many = omega arith
-
-      joined : part a xs ++ take (32 * k) (drop (32 * (a + 1)) xs) ≡ take (32 * suc k) (drop (32 * a) xs)
-      joined = ap (λ ys. part a xs ++ take (32 * k) ys) (sym next) ∙ sym (take-add 32 (32 * k) (drop (32 * a) xs))
-          ∙ ap (λ n. take n (drop (32 * a) xs)) many
+      ∙ ap (total nothing add) (part-and-rest a k xs)
 
   -- the sums of all parts
   pub total-all_parts : (f : ℕ → Sum) (xs : List Sum) (count : ℕ) → length xs ≡ count

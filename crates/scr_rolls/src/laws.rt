@@ -7,6 +7,7 @@ ghost use Rattle.std.specs.Option.{option_map_or};
 ghost use Rattle.scr_names.specs.Names.{same_name};
 ghost use Rattle.scr_names.specs.Tables.{row_of};
 ghost use Rattle.scr_num.specs.Rounding.{Ends};
+ghost use Rattle.scr_num.specs.Sizes.{AreTogether};
 ghost use Rattle.scr_num.specs.Sums.{sum_ends};
 ghost use Rattle.scr_rolls.specs.Members.{has, name_at, come, left, back_at};
 ghost use Rattle.scr_rolls.specs.Blocks.{is_block, top_count, tops, block_sources};
@@ -45,6 +46,19 @@ pub fn regrouped<N, D, S>()
     ensures any { (holds : D → Bool) (member : N → D) (block : Level → ℕ → D) (roll : List N)
         → AreSums (list_any (λ b. b)) holds member block roll
         → list_any (λ b. b) (map holds (tops member block roll)) ≡ list_any (λ b. b) (map holds (map member roll)) }
+{}
+
+/// Then what is left at the top, and what a Block sums up, is together no further from 0 than the members are, without signs.
+pub fn together<N, D>()
+    ensures tops { (worth : D → Ends) (member : N → D) (block : Level → ℕ → D) (roll : List N)
+        → AreSums sum_ends worth member block roll
+        → (most : ℕ) → AreTogether most (map worth (map member roll))
+        → AreTogether most (map worth (tops member block roll)) }
+    ensures sources { (worth : D → Ends) (member : N → D) (block : Level → ℕ → D) (roll : List N)
+        → AreSums sum_ends worth member block roll
+        → (most : ℕ) → AreTogether most (map worth (map member roll))
+        → (level : Level) (i : ℕ) → is_block (length roll) level i ≡ true
+        → AreTogether most (map worth (block_sources member block roll level i)) }
 {}
 
 /// Two lists with the same names, each once, have one sum, in whatever order the names stand. So the sum over a roll is that over
