@@ -6,7 +6,7 @@ ghost use Rattle.scr_rolls.specs.ChangedBlocks as changes;
 use std::alloc::{AllocError as NoMemory, Global};
 
 /// The level of a Block: one of the first sums up members, one of the second sums up Blocks of the first.
-#[derive(Clone, Copy)]
+#[derive(Clone, Copy, PartialEq, Eq)]
 pub enum Level {
     First,
     Second,
