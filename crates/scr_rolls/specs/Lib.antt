@@ -1,0 +1,5 @@
+pub mod Members
+pub mod Rolls
+pub mod Blocks
+pub mod ChangedBlocks
+pub mod Sums

@@ -1,0 +1,14 @@
+//! Rolls: lists of names in which each name has a place, as the large sums run over them, and the Blocks of neighbouring places
+//! by which such a sum is regrouped.
+#![tactic(auto)]
+
+mod blocks;
+pub mod laws;
+mod members;
+mod rolls;
+mod sharing;
+
+pub use blocks::{Level, came, coming, is_block, leaving, part, parts, top_count, went};
+pub use members::Members;
+pub use rolls::Rolls;
+pub use sharing::threads_share_rolls;
