@@ -16,6 +16,9 @@ ghost use Rattle.scr_rolls.specs.Sums.{AddsUp, AreSums, total};
 ghost use Rattle.scr_rolls.specs.declared.blocks.Level.{Level};
 ghost use Rattle.scr_rolls.specs.declared.blocks.Level.TheVariants as levels;
 
+use crate::{Level, Members, Rolls};
+use scr_names::Name;
+
 /// The last of a roll leaves as it came, and what left a place stands there again as before, with all others at their places.
 pub fn moves_back()
     ensures came { (name : List ℕ) (roll : List (List ℕ)) → left (length roll) (come name roll) ≡ roll }
@@ -111,3 +114,13 @@ pub fn listed()
     ensures went_few { (count place : ℕ)
         → length (leaving count place levels.First) + length (leaving count place levels.Second) ≤ 4 }
 {}
+
+/// Threads may share rolls and the levels of their blocks, and hand them on.
+pub fn sharing() {
+    shared::<Members>();
+    shared::<Rolls<Name>>();
+    shared::<Level>();
+}
+
+// Compiles only where threads may share a `T` and hand it on.
+fn shared<T: Send + Sync>() {}

@@ -6,9 +6,7 @@ mod blocks;
 pub mod laws;
 mod members;
 mod rolls;
-mod sharing;
 
 pub use blocks::{Level, came, coming, is_block, leaving, part, parts, top_count, went};
 pub use members::Members;
 pub use rolls::Rolls;
-pub use sharing::threads_share_rolls;
