@@ -1,5 +1,5 @@
 -- Funds hand out what they have, each after all that hold it: then what each has is its total.
-use Rattle.std.proofs.Common.{◌≡◌, ◌⊎◌, ℕ, zero, suc, ◌+◌, ◌<◌, ◌≤◌, List, [], ◌∷◌, map, length, get_or, take, sum, sum_by, cond, nat_eq, if◌then◌else◌, All, Contains, refl, sym, ap, subst, ◌∙◌, inl, inr, arith, zero-add}
+use Rattle.std.proofs.Common.{◌≡◌, ◌⊎◌, ℕ, zero, suc, ◌+◌, ◌<◌, ◌≤◌, List, [], ◌∷◌, map, length, get_or, take, sum, sum_by, cond, nat_eq, if◌then◌else◌, All, Contains, refl, sym, ap, subst, ◌∙◌, inl, inr, arith}
 use Rattle.std.specs.List.{IsDistinct, range_with_len}
 use Rattle.std.proofs.lemmas.Bool.{cases_lt, cond_both}
 use Rattle.std.proofs.lemmas.List.{take_all, take_more, take-take, length-take, length-take-le}
@@ -10,7 +10,7 @@ use Rattle.scr_funds.specs.ByNumber.{IsRow, held_at, numbered}
 use Rattle.scr_funds.specs.Chains.{IsAcyclic}
 use Rattle.scr_funds.specs.HandedOn.{AreReady, times}
 use Rattle.scr_funds.specs.LookThrough.{Weighted, falling_to, names_in, part_in, parts_of, total}
-use Rattle.scr_funds.proofs.Climbs.{same_or_other, climbs-end}
+use Rattle.scr_funds.proofs.Climbs.{climbs-end}
 use Rattle.scr_funds.proofs.LookThroughLaws.{falling_to-none, falling_to-all, member_or_not, names_in-own, passed-whole, total_is, parts-counted}
 use Rattle.scr_funds.proofs.Members.{IsMember, IsMember-from_Contains, Contains-from_IsMember, IsMember-cases, IsMember-map}
 use Rattle.scr_funds.proofs.Ranges.{nat_is_same, nat_same_self, range_has, below_range, range-distinct, distinct-cons, member-take, distinct-take, not_in_front, sum_by-places, sum_by-numbered, numbered_once, member-numbered}

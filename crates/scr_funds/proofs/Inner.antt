@@ -1,7 +1,7 @@
--- The search goes on by what has components alone: nothing else lies on a chain, so the first shortest chain is the
--- same.
-use Rattle.std.proofs.Common.{◌≡◌, ◌⊎◌, ℕ, zero, suc, ◌+◌, ◌<◌, ◌≤◌, Bool, true, false, nat_eq, not, ◌||◌, List, [], ◌∷◌, filter, length, Contains, Some, None, cond, slice_get, refl, sym, ap, subst, ◌∙◌, inl, inr, arith}
-use Rattle.std.proofs.lemmas.Bool.{true≢false, eq-eqb, eqb-true, ne_eqb}
+-- The search goes on from whatever leads to the fund that is looked for: nothing else lies on a chain, so the first
+-- shortest chain is the same.
+use Rattle.std.proofs.Common.{◌≡◌, ◌⊎◌, ℕ, zero, suc, ◌+◌, ◌<◌, ◌≤◌, Bool, true, false, nat_eq, ◌||◌, List, [], ◌∷◌, filter, length, Contains, Some, None, cond, slice_get, refl, sym, ap, subst, ◌∙◌, inl, inr, arith}
+use Rattle.std.proofs.lemmas.Bool.{true≢false, cases_eq, eq-eqb, eqb-true}
 use Rattle.indexmap.specs.IndexMap.{insert_entry}
 use Rattle.scr_funds.specs.Chains.{IsMetBefore, IsChain, LeadsTo, ComesEarlier, IsFirstShortest}
 use Rattle.scr_funds.specs.Search.{entered, IsTraced}
@@ -68,31 +68,22 @@ filter-same p q (x ∷ xs) same =
     ap (λ b. cond b (x ∷ filter p xs) (filter p xs)) (same x (inl refl))
     ∙ ap (λ ys. cond (q x) (x ∷ ys) ys) (filter-same p q xs (λ y m. same y (inr m)))
 
-module _ (components : ℕ → List ℕ) (to : ℕ) where
-  -- a chain can go on from here
-  abbrev goes_on : ℕ → Bool
-  goes_on c = not (nat_eq (length (components c)) 0)
-
-  -- it can, or it ends here
+-- the search goes on from whatever leads there
+module _ (components : ℕ → List ℕ) (to : ℕ) (on : ℕ → Bool)
+    (leads : (c : ℕ) → ¬ (c ≡ to) → LeadsTo components c to → on c ≡ true) where
+  -- the search goes on from here, or it ends here
   abbrev counts : ℕ → Bool
-  counts c = goes_on c || nat_eq c to
+  counts c = on c || nat_eq c to
 
-  -- the components by which a chain can go on, or where it ends
+  -- the components from which the search goes on, or where a chain ends
   abbrev pub inner : ℕ → List ℕ
   inner fund = filter counts (components fund)
 
-  goes_on-some : (c d : ℕ) → Contains (components c) d → goes_on c ≡ true
-  goes_on-some c d h = by (components c) refl
-    where
-      by : (row : List ℕ) → components c ≡ row → goes_on c ≡ true
-      by [] e = absurd (IsMember-from_Contains [] d (subst (λ row. Contains row d) e h))
-      by (x ∷ row) e = ap (λ r. not (nat_eq (length r) 0)) e ∙ ap not (ne_eqb (length (x ∷ row)) 0 (omega arith))
-
-  counts-going_on : (c : ℕ) → goes_on c ≡ true → counts c ≡ true
+  counts-going_on : (c : ℕ) → on c ≡ true → counts c ≡ true
   counts-going_on c e = ap (λ b. b || nat_eq c to) e
 
   counts-end : counts to ≡ true
-  counts-end = ap (λ b. goes_on to || b) (eq-eqb to to refl) ∙ either (goes_on to)
+  counts-end = ap (λ b. on to || b) (eq-eqb to to refl) ∙ either (on to)
     where
       either : (b : Bool) → (b || true) ≡ true
       either true = refl
@@ -111,11 +102,11 @@ module _ (components : ℕ → List ℕ) (to : ℕ) where
 
   chain-in : (a : ℕ) (between : List ℕ) → IsChain components a between to → IsChain inner a between to
   chain-in a [] h = inner-has a to h counts-end
-  chain-in a (c ∷ cs) h = (inner-has a c h.0 (counts-going_on c (first cs h.1)), chain-in c cs h.1)
+  chain-in a (c ∷ cs) h = (inner-has a c h.0 (by (cases_eq c to)), chain-in c cs h.1)
     where
-      first : (cs : List ℕ) → IsChain components c cs to → goes_on c ≡ true
-      first [] k = goes_on-some c to k
-      first (d ∷ ds) k = goes_on-some c d k.0
+      by : (c ≡ to) ⊎ (c ≡ to → ⊥) → counts c ≡ true
+      by (inl e) = ap counts e ∙ counts-end
+      by (inr n) = counts-going_on c (leads c n (cs, h.1))
 
   chain-out : (a : ℕ) (between : List ℕ) → IsChain inner a between to → IsChain components a between to
   chain-out a [] h = (inner-of a to h).0
@@ -154,7 +145,7 @@ module _ (components : ℕ → List ℕ) (to : ℕ) where
   -- ---- the search
 
   entered-is : (place : ℕ) (cs : List ℕ) (es : List (ℕ × ℕ))
-      → entered components place cs es ≡ all_entered place (filter goes_on cs) es
+      → entered on place cs es ≡ all_entered place (filter on cs) es
   entered-is place [] es = refl
   entered-is place (c ∷ cs) es =
       let kept = entered-is place cs es in
@@ -179,14 +170,14 @@ module _ (components : ℕ → List ℕ) (to : ℕ) where
 
     pub searched_next : (es : List (ℕ × ℕ)) (place fund before : ℕ) → Searched es place → place < length es
         → slice_get es place ≡ Some (fund, before) → (Contains (components fund) to → ⊥)
-        → Searched (entered components place (components fund) es) (place + 1)
+        → Searched (entered on place (components fund) es) (place + 1)
     searched_next es place fund before h l entry apart =
         subst (λ es'. Searched es' (place + 1))
-        (ap (λ xs. all_entered place xs es) (filter-same counts goes_on (components fund) same)
+        (ap (λ xs. all_entered place xs es) (filter-same counts on (components fund) same)
         ∙ sym (entered-is place (components fund) es))
         (noted_next inner from to es place fund before h l entry (λ k. apart (inner-of fund to k).0))
       where
-        same : (c : ℕ) → IsMember c (components fund) → counts c ≡ goes_on c
+        same : (c : ℕ) → IsMember c (components fund) → counts c ≡ on c
         same c m = passes_or_not (λ d. nat_eq d to) c
             (λ e. absurd
             (apart (subst (Contains (components fund)) (eqb-true c to e)

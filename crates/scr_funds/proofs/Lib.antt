@@ -7,6 +7,8 @@ pub mod Marks
 pub mod Traces
 pub mod Cycles
 pub mod Rows
+pub mod Ranked
+pub mod Lowered
 pub mod Shares
 pub mod Naming
 pub mod EarliestPaths

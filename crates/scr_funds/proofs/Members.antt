@@ -1,5 +1,5 @@
 -- Membership in a list, by recursion, and what holds of each member.
-use Rattle.std.proofs.Common.{◌≡◌, ◌⊎◌, ℕ, ◌<◌, ◌≤◌, suc, zero, true, false, nat_eq, ◌||◌, List, [], ◌∷◌, ◌++◌, map, length, get_or, All, Contains, Some, slice_get, refl, sym, ap, subst, inl, inr, arith}
+use Rattle.std.proofs.Common.{◌≡◌, ◌⊎◌, ℕ, ◌<◌, ◌≤◌, suc, zero, true, false, nat_eq, List, [], ◌∷◌, ◌++◌, map, length, get_or, All, Contains, Some, slice_get, refl, sym, ap, subst, inl, inr, arith}
 use Rattle.std.specs.List.{AllByRecursion, list_any}
 use Rattle.std.proofs.lemmas.Bool.{cases_lt, true≢false}
 use Rattle.std.proofs.lemmas.List.Elements.{Contains-get_or}

@@ -1,9 +1,11 @@
 pub mod Answers
 pub mod Chains
 pub mod Components
+pub mod Edges
 pub mod Inside
 pub mod KeptEdges
 pub mod Marks
+pub mod Ranks
 pub mod Parts
 pub mod Search
 pub mod Paths

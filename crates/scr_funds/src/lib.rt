@@ -2,12 +2,15 @@
 //! them (Article 84 of Delegated Regulation (EU) 2015/35).
 #![tactic(auto)]
 
+mod edges;
 mod fault;
 mod kept;
 pub mod laws;
 mod look_through;
+mod lowering;
 mod order;
 mod parts;
+mod ranks;
 mod search;
 
 pub use fault::{OrderFault, Places};

@@ -1,4 +1,4 @@
-//! Which funds hold which.
+//! Which funds hold which, with a rank for each fund, so that the rank of every component is lower.
 ghost use Rattle.std.specs.Prelude.{◌≡◌, ℕ, ◌≤◌, ◌<◌, [], All, Contains, IfOk, OnOk, OnErr};
 ghost use Rattle.std.specs.Prelude.{MatchOption, false, length};
 ghost use Rattle.scr_funds.specs.Answers.{Answers};
@@ -8,7 +8,10 @@ ghost use Rattle.scr_funds.specs.Components.{grown, size_of, with_components, wi
 ghost use Rattle.scr_funds.specs.Marks.{KeepsMarks, with_marks};
 ghost use Rattle.scr_funds.specs.Search.{rows_of};
 
-use crate::search::{first_chain, number_above, row_of};
+use crate::edges::{Edges, row_of};
+use crate::lowering::new_ranks;
+use crate::ranks::{grow_ranks, is_above, keep_or_settle, renew};
+use crate::search::{first_chain, number_above};
 use crate::{Kept, OrderFault, Places};
 use std::alloc::{AllocError as NoMemory, Global};
 use std::marker::Model;
@@ -22,6 +25,10 @@ pub struct FundOrder {
     /// By number, what was ever a component. Marks are not taken off, so that taking edges off
     /// costs no search.
     marks: Vec<bool>,
+    /// By number, the rank of each fund.
+    ranks: Vec<u64>,
+    /// A rank falls along each edge. Where it does not, chains are searched without ranks.
+    are_ranked: bool,
 }
 
 impl Model for FundOrder {
@@ -44,6 +51,8 @@ impl FundOrder {
         Ok(FundOrder {
             rows: Vec::new(alloc),
             marks: Vec::new(alloc),
+            ranks: Vec::new(alloc),
+            are_ranked: true,
         })
     }
 
@@ -71,11 +80,22 @@ impl FundOrder {
         ensures err { OnErr result (self.new ≡ self.old) }
         ensures order { IsOrder self.new }
     {
+        let was_component = self.was_component(from);
         let size = number_above(from, &to);
         grow_marks(&mut self.marks, size)?;
+        grow_ranks(&mut self.ranks, size)?;
+        let edges = Edges {
+            rows: &self.rows,
+            ranks: &self.ranks,
+            are_ranked: self.are_ranked,
+            from,
+            members: &to,
+        };
+        let fresh = new_ranks(alloc, &edges, was_component)?;
         grow(&mut self.rows, alloc, size)?;
         mark(&mut self.marks, &to);
         self.rows[from as usize] = to;
+        self.are_ranked = renew(&mut self.ranks, &self.rows, fresh);
         Ok(())
     }
 
@@ -89,7 +109,14 @@ impl FundOrder {
         if !self.was_component(from) && !to.contains(&from) {
             return Ok(());
         }
-        match first_chain(alloc, &self.rows, from, to, from)? {
+        let edges = Edges {
+            rows: &self.rows,
+            ranks: &self.ranks,
+            are_ranked: self.are_ranked,
+            from,
+            members: to,
+        };
+        match first_chain(alloc, &edges, from)? {
             Some(path) => Err(OrderFault::Cycle(Places::new(path))),
             None => Ok(()),
         }
@@ -122,7 +149,9 @@ impl FundOrder {
     {
         let Kept { from, edges } = kept;
         mark(&mut self.marks, &edges);
+        let is_kept = self.are_ranked && is_above(&self.ranks, from as usize, &edges);
         let _ = exchange(&mut self.rows, from, edges);
+        self.are_ranked = keep_or_settle(&mut self.ranks, &self.rows, is_kept);
     }
 
     /// The first shortest chain from a fund to what `to` names, with both its ends: no chain is
@@ -133,7 +162,14 @@ impl FundOrder {
             (¬ LeadsTo (components_of self.now) from to)
             (λ path. IsFirstShortest (components_of self.now) from to path.items)) }
     {
-        first_chain(alloc, &self.rows, from, row_of(&self.rows, from), to)
+        let edges = Edges {
+            rows: &self.rows,
+            ranks: &self.ranks,
+            are_ranked: self.are_ranked,
+            from,
+            members: row_of(&self.rows, from),
+        };
+        first_chain(alloc, &edges, to)
     }
 
     /// Whether a fund was ever a component: what never was is none now.

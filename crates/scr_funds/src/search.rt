@@ -1,80 +1,57 @@
 //! The search for a chain of components, in order of distance.
-ghost use Rattle.std.specs.Prelude.{◌≡◌, ℕ, ◌++◌, List, [], ◌∷◌, IfOk, MatchOption, OnOk, reverse};
+ghost use Rattle.std.specs.Prelude.{◌≡◌, ℕ, ◌++◌, List, [], ◌∷◌, IfOk, MatchOption, OnOk, reverse, true};
 ghost use Rattle.scr_funds.specs.Chains.{IsFirstShortest, LeadsTo};
-ghost use Rattle.scr_funds.specs.Components.{components_of, components_with, number_above};
-ghost use Rattle.scr_funds.specs.Search.{rows_of, entered, IsTraced};
+ghost use Rattle.scr_funds.specs.Components.{number_above};
+ghost use Rattle.scr_funds.specs.Edges.{edges_in, leads_on};
+ghost use Rattle.scr_funds.specs.Search.{entered, IsTraced};
 
+use crate::edges::Edges;
 use indexmap::IndexMap;
 use std::alloc::{AllocError as NoMemory, Global};
 
-/// The first shortest chain from a fund to what `to` names, where the fund has the components
-/// `members` and every other one those of its row. It costs what the search reaches.
+/// The first shortest chain between two funds. It costs what the search reaches.
 pub(crate) fn first_chain(
     alloc: Global,
-    rows: &[Vec<u32>],
-    from: u32,
-    members: &[u32],
+    edges: &Edges<'_>,
     to: u32,
 ) -> Result<Option<Vec<u32>>, NoMemory>
+    requires { (fund : ℕ) → ¬ (fund ≡ to) → LeadsTo (edges_in edges.now) fund to
+        → leads_on edges.now to fund ≡ true }
     ensures { IfOk result (λ found. MatchOption found
-        (¬ LeadsTo (components_with from members.now (rows_of rows.now)) from to)
-        (λ path. IsFirstShortest (components_with from members.now (rows_of rows.now)) from to
-        path.items)) }
+        (¬ LeadsTo (edges_in edges.now) edges.now.from to)
+        (λ path. IsFirstShortest (edges_in edges.now) edges.now.from to path.items)) }
 {
     // What was reached so far, nearest first, each with the place here of that which leads to it.
     let mut reached = IndexMap::new(alloc);
-    reached.insert(from, 0)?;
+    reached.insert(edges.from, 0)?;
     let mut place = 0;
     while place < reached.len() {
         let (&fund, _) = reached.get_index(place).unwrap();
-        let components = components_of(rows, from, members, fund);
+        let components = edges.components_of(fund);
         if components.contains(&to) {
-            let path = trace(alloc, &reached, from, place, to)?;
+            let path = trace(alloc, &reached, edges.from, place, to)?;
             return Ok(Some(path));
         }
-        enter(&mut reached, rows, from, members, components, place)?;
+        enter(&mut reached, edges, to, components, place)?;
         place += 1;
     }
     Ok(None)
 }
 
-/// The components of a fund.
-fn components_of<'a>(rows: &'a [Vec<u32>], from: u32, members: &'a [u32], fund: u32) -> &'a [u32]
-    ensures { result.now ≡ components_with from members.now (rows_of rows.now) fund }
-{
-    if fund == from {
-        return members;
-    }
-    row_of(rows, fund)
-}
-
-/// The components in the row of a fund: none past the end.
-pub(crate) fn row_of(rows: &[Vec<u32>], fund: u32) -> &[u32]
-    ensures { result.now ≡ components_of (rows_of rows.now) fund }
-{
-    match rows.get(fund as usize) {
-        Some(row) => row.as_slice(),
-        None => &[],
-    }
-}
-
 /// Enters those components that were not reached before, with the place of the fund that leads to
-/// them. What has no components of its own leads nowhere, and is left out.
+/// them. What does not lead to the fund that is looked for, by its rank, is left out.
 fn enter(
     reached: &mut IndexMap<u32, usize>,
-    rows: &[Vec<u32>],
-    from: u32,
-    members: &[u32],
+    edges: &Edges<'_>,
+    to: u32,
     components: &[u32],
     place: usize,
 ) -> Result<(), NoMemory>
     ensures { OnOk result (reached.new.entries
-        ≡ entered (components_with from members.now (rows_of rows.now)) place components.now
-        reached.old.entries) }
+        ≡ entered (leads_on edges.now to) place components.now reached.old.entries) }
 {
     for component in components {
-        let ends = components_of(rows, from, members, *component).is_empty();
-        if !reached.contains_key(component) && !ends {
+        if !reached.contains_key(component) && edges.leads_on(*component, to) {
             reached.insert(*component, place)?;
         }
     }

@@ -2,9 +2,11 @@ use Rattle.std.proofs.Common.{◌≡◌, ℕ, List, Vec, Option, MatchOption, su
 use Rattle.std.specs.Global.{Global}
 use Rattle.scr_funds.specs.Chains.{LeadsTo, IsFirstShortest}
 use Rattle.scr_funds.specs.Components.{Components, components_with}
+use Rattle.scr_funds.specs.Ranks.{rank_of}
 use Rattle.scr_funds.specs.Search.{rows_of}
 use Rattle.scr_funds.proofs.Marks.{no_way_back}
 use Rattle.scr_funds.proofs.Members.{not_contains-any}
+use Rattle.scr_funds.proofs.Ranked.{goes_on-back, ranked-lent}
 use Rattle.scr_funds.proofs.order.FundOrder.check_edges.Goals as goal
 
 -- what the search answers over the components of all funds
@@ -16,6 +18,14 @@ found_is : (from : ℕ) (members : List ℕ) (rows all : Components) (found is :
     → found ≡ is → Found from members rows found → Found from members all is
 found_is from members rows all found is same there h =
     subst (Found from members all) there (subst (λ components. Found from members components found) same h)
+
+-- whatever leads back to the fund is above it
+pub first_chain-requires : goal.first_chain-requires
+first_chain-requires c =
+    goes_on-back c.args.from c.args.to.now (rows_of c.deref.result.now) (rank_of c.deref-2.result.now)
+    c.self.inside.are_ranked
+    (ranked-lent c.self.inside.rows.items c.deref.result.now c.self.inside.ranks.items c.deref-2.result.now
+    c.self.inside.are_ranked c.deref.ensures.value c.deref-2.ensures.value c.self.invariant.ranked)
 
 -- neither a component nor among those that it would get
 pub returns-then-not-contains-clause-answer : goal.returns-then-not-contains-clause-answer

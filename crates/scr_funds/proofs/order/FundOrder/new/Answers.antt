@@ -1,9 +1,10 @@
-use Rattle.std.proofs.Common.{ap, subst, sym}
-use Rattle.scr_funds.specs.Inside.{IsMarkedOrder}
+use Rattle.std.proofs.Common.{true, ap, subst, sym}
+use Rattle.scr_funds.specs.Inside.{IsRankedOrder}
 use Rattle.scr_funds.specs.Search.{rows_of}
-use Rattle.scr_funds.proofs.Marks.{marks_none}
+use Rattle.scr_funds.proofs.Ranked.{order_ranked-none}
 use Rattle.scr_funds.proofs.order.FundOrder.new.Goals as goal
 
 pub invariant_of-result : goal.invariant_of-result
-invariant_of-result c = subst (λ all. IsMarkedOrder all c.new-2.result.items) (ap rows_of (sym c.new.ensures.items))
-    (marks_none c.new-2.result.items)
+invariant_of-result c =
+    subst (λ all. IsRankedOrder all c.new-2.result.items c.new-3.result.items true)
+    (ap rows_of (sym c.new.ensures.items)) (order_ranked-none c.new-2.result.items c.new-3.result.items true)

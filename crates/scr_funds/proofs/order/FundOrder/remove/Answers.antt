@@ -2,9 +2,9 @@ use Rattle.std.proofs.Common.{◌≡◌, ◌⊎◌, ◌<◌, ◌≤◌, [], inl,
 use Rattle.std.proofs.lemmas.Bool.{cases_lt}
 use Rattle.std.proofs.lemmas.List.{get_or_past}
 use Rattle.scr_funds.specs.Components.{components_of, with_components, size_of}
-use Rattle.scr_funds.specs.Inside.{IsMarkedOrder}
+use Rattle.scr_funds.specs.Inside.{IsRankedOrder}
 use Rattle.scr_funds.specs.Search.{rows_of}
-use Rattle.scr_funds.proofs.Marks.{marks_removed}
+use Rattle.scr_funds.proofs.Ranked.{order_ranked-removed}
 use Rattle.scr_funds.proofs.Rows.{put_back-removed}
 use Rattle.scr_funds.proofs.order.FundOrder.remove.Goals as goal
 
@@ -26,8 +26,11 @@ edges c = by (cases_lt c.args.from (size_of (rows_of c.self.inside.rows.items)))
 
 pub invariant_of-self : goal.invariant_of-self
 invariant_of-self c =
-    subst (λ all. IsMarkedOrder all c.self.inside.marks.items) (sym (after c))
-    (marks_removed (rows_of c.self.inside.rows.items) c.self.inside.marks.items c.self.invariant c.args.from)
+    subst
+    (λ all. IsRankedOrder all c.self.inside.marks.items c.self.inside.ranks.items c.self.inside.are_ranked)
+    (sym (after c))
+    (order_ranked-removed (rows_of c.self.inside.rows.items) c.self.inside.marks.items c.self.inside.ranks.items
+    c.self.inside.are_ranked c.self.invariant c.args.from)
 
 pub returns-clause-back : goal.returns-clause-back
 returns-clause-back c =
