@@ -1,4 +1,5 @@
 pub mod Places
+pub mod Settled
 pub mod PartLemmas
 pub mod BlockTests
 pub mod Regrouped

@@ -1,7 +1,7 @@
 -- The members of a roll in their places (this project's own): one that comes goes last, the last takes the place of one that
 -- leaves, and nothing else moves.
-use Rattle.std.specs.Prelude.{ℕ, ◌-◌, ◌==◌, ◌++◌, Bool, List, [], ◌∷◌, if◌then◌else◌, length, slice_index_or, slice_set, take}
-use Rattle.std.specs.List.{list_any}
+use Rattle.std.specs.Prelude.{ℕ, ◌-◌, ◌==◌, ◌++◌, Bool, true, false, List, [], ◌∷◌, Option, Some, None, if◌then◌else◌, length, slice_index_or, slice_set, take}
+use Rattle.std.specs.List.{list_any, position_or_len}
 use Rattle.scr_names.specs.Names.{same_name}
 
 -- the names in the order of their places, and how many more may come without memory
@@ -29,3 +29,14 @@ left place roll = take (length roll - 1) (slice_set roll place (name_at (length 
 abbrev pub back_at : ℕ → List ℕ → List (List ℕ) → List (List ℕ)
 back_at place name roll =
     if place == length roll then come name roll else come (name_at place roll) (slice_set roll place name)
+
+-- the roll where the name was a member or was none, and now is one or is none
+abbrev pub moved : List ℕ → (was is : Bool) → List (List ℕ) → List (List ℕ)
+moved name false true roll = come name roll
+moved name true false roll = left (position_or_len (same_name name) roll) roll
+moved name was is roll = roll
+
+-- the roll with the name where it stood before, which is at a place or nowhere
+abbrev pub returned : List ℕ → (before : Option ℕ) → List (List ℕ) → List (List ℕ)
+returned name None roll = moved name (has name roll) false roll
+returned name (Some place) roll = if has name roll then roll else back_at place name roll

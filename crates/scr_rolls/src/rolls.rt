@@ -1,8 +1,8 @@
 //! Rolls, each under a key.
-ghost use Rattle.std.specs.Prelude.{◌≡◌, ℕ, ◌+◌, ◌<◌, ◌≤◌, List, [], true, false, length, position, OnOk, if◌then◌else◌};
+ghost use Rattle.std.specs.Prelude.{◌≡◌, ℕ, ◌+◌, ◌<◌, ◌≤◌, List, [], Some, true, false, length, position, OnOk, if◌then◌else◌};
 ghost use Rattle.std.specs.List.{IsDistinct};
 ghost use Rattle.scr_names.specs.Names.{same_name};
-ghost use Rattle.scr_rolls.specs.Members.{has, name_at, come, left, back_at};
+ghost use Rattle.scr_rolls.specs.Members.{has, name_at, come, left, back_at, moved, returned};
 ghost use Rattle.scr_rolls.specs.Rolls.{Changes, IsUnchanged, KeepsRoom, names_in, room_in};
 
 use crate::Members;
@@ -117,6 +117,49 @@ impl<K: Eq + Hash + Copy + Drop> Rolls<K> {
     {
         if let Some(members) = self.rolls.get_mut(&key) {
             members.put_back(place, name);
+        }
+    }
+
+    /// The name is a member of a roll from now on, or it is none: it comes or leaves only where it was not so before. One that
+    /// comes takes a place of the room, and no memory.
+    pub fn settle(&mut self, key: K, name: Name, is_member: bool)
+        requires { is_member ≡ true → has name (names_in K.eq key self.old) ≡ false → 0 < room_in K.eq key self.old }
+        ensures names { Changes K.eq key (λ roll. moved name (has name roll) is_member roll) self.old self.new }
+        ensures members { (other : List ℕ) → has other (names_in K.eq key self.new)
+            ≡ (if same_name name other then is_member else has other (names_in K.eq key self.old)) }
+        ensures room { (other : K) → K.eq key other ≡ false → room_in K.eq other self.old ≤ room_in K.eq other self.new }
+    {
+        match self.place(key, &name) {
+            Some(place) if !is_member => self.leave(key, place),
+            None if is_member => self.come(key, name),
+            _ => (),
+        }
+    }
+
+    /// The name stands where it stood before in a roll, at a place or nowhere. One that is put back takes a place of the room,
+    /// and no memory.
+    pub fn restore(&mut self, key: K, name: Name, before: Option<usize>)
+        requires { (place : ℕ) → before ≡ Some place → has name (names_in K.eq key self.old) ≡ false
+            → (place ≤ length (names_in K.eq key self.old)) × (0 < room_in K.eq key self.old) }
+        ensures names { Changes K.eq key (returned name before) self.old self.new }
+        ensures room { (other : K) → K.eq key other ≡ false → room_in K.eq other self.old ≤ room_in K.eq other self.new }
+    {
+        match before {
+            None => self.settle(key, name, false),
+            Some(place) => self.stand(key, name, place),
+        }
+    }
+
+    // The name stands at this place of a roll, if it is no member.
+    fn stand(&mut self, key: K, name: Name, place: usize)
+        requires { has name (names_in K.eq key self.old) ≡ false
+            → (place ≤ length (names_in K.eq key self.old)) × (0 < room_in K.eq key self.old) }
+        ensures names { Changes K.eq key (returned name (Some place)) self.old self.new }
+        ensures room { (other : K) → K.eq key other ≡ false → room_in K.eq other self.old ≤ room_in K.eq other self.new }
+    {
+        match self.place(key, &name) {
+            None => self.put_back(key, place, name),
+            Some(_) => (),
         }
     }
 
