@@ -1,6 +1,6 @@
 -- Lists pushed one after another.
-use Rattle.std.proofs.Common.{◌≡◌, List, [], ◌∷◌, ◌++◌, sym, ap, ◌∙◌, append_assoc}
-use Rattle.std.proofs.lemmas.List.{append-nil}
+use Rattle.std.proofs.Common.{◌≡◌, ℕ, ◌+◌, ◌<◌, List, [], ◌∷◌, ◌++◌, get_or, length, map, take, sym, ap, ◌∙◌, append_assoc}
+use Rattle.std.proofs.lemmas.List.{append-nil, map-append, take_more}
 use Rattle.std.proofs.lemmas.List.Concat.{flat_map-append}
 use Rattle.scr_nodes.specs.declared.node.Node.{Node}
 use Rattle.scr_nodes.specs.LiveNodes.{flat}
@@ -36,3 +36,16 @@ four-flat a b c d rest =
     ap (λ xs. flat a ++ (flat b ++ (flat c ++ (flat d ++ xs)))) (append-nil rest)
     ∙ sym (two-flat a (b ++ (c ++ d)) rest ∙ ap (λ xs. flat a ++ xs) (two-flat b (c ++ d) rest ∙ ap (λ xs. flat b
     ++ xs) (two-flat c d rest)))
+
+-- one family more
+pub family-pushed : {A : Type 0} (family : A → List Node) (items start after : List Node) (list : List A) (k : ℕ) (x none : A)
+    → k < length list → x ≡ get_or list k none → items ≡ start ++ flat (map family (take k list))
+    → after ≡ items ++ family x → after ≡ start ++ flat (map family (take (k + 1) list))
+family-pushed family items start after list k x none within is so_far next =
+    let front = map family (take k list) in
+    next ∙ ap (λ xs. xs ++ family x) so_far ∙ append_assoc start (flat front) (family x)
+    ∙ ap (λ xs. start ++ xs) (sym
+    (ap (λ xs. flat (map family xs)) (take_more list k none within ∙ ap (λ y. take k list ++ y ∷ []) (sym is))
+    ∙ ap flat (map-append family (take k list) (x ∷ []))
+    ∙ flat_map-append (λ family. family) front (family x ∷ [])
+    ∙ ap (λ xs. flat front ++ xs) (append-nil (family x))))

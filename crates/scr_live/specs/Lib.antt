@@ -1,2 +1,1 @@
-pub mod Selections
 pub mod Members

@@ -1,21 +1,16 @@
 //! All figures of a balance sheet but totals, each after those from which it is reckoned.
-ghost use Rattle.std.specs.Prelude.{◌≡◌, ◌++◌, filter, map, IfOk, OnOk};
-ghost use Rattle.scr_nodes.specs.LiveNodes.{charges, chosen, class_sums, constant_nodes, currency_families, default_nodes, flat, group_families, life_nodes, market_nodes, market_risks, nonlife_nodes, nonlife_results, payment_families, plain_scenarios, requirement_nodes, rest_nodes, slt_nodes, stress_families};
-ghost use Rattle.scr_nodes.specs.Rows.{has_flows, is_paying};
-ghost use Rattle.scr_nodes.specs.Sources.{unit_loss, security_rate, liability_rate, liability_present, liability_loss};
+ghost use Rattle.std.specs.Prelude.{◌≡◌, ◌++◌, map, IfOk, OnOk};
+ghost use Rattle.scr_nodes.specs.LiveNodes.{charges, chosen, class_sums, constant_nodes, currency_families, default_nodes, flat, group_families, life_nodes, losses_of, market_nodes, market_risks, nonlife_nodes, nonlife_results, payment_families, plain_scenarios, requirement_nodes, rest_nodes, slt_nodes, stress_families};
+ghost use Rattle.scr_nodes.specs.Selections.{group_figure, selected};
 
-use crate::all_sources::{
-    push_all, push_currencies, push_foreign, push_groups, push_segments, push_spreads,
-};
-use crate::selections::{Foreign, GroupFigure};
-use scr_nodes::rows::{has_flows, is_paying};
+use scr_nodes::selections::{Counterparties, Currencies, Holdings, Obligations, Selection};
 use scr_nodes::words::{
     class_losses, class_squares, equity_parts, health_perils, interest_scenarios, lapse_scenarios,
-    man_made_perils, natural_perils,
+    man_made_perils, natural_perils, nonlife_segments, nslt_segments,
 };
 use scr_nodes::{
-    Adjustment, Alternatives, Biometric, Direction, Measure, Node, OfLiability, OfSecurity,
-    Operational, Risk, Whole,
+    Adjustment, Alternatives, Biometric, Direction, Measure, Node, OfCurrency, OfGroup,
+    OfLiability, OfSecurity, Operational, Risk, Whole, push_selected,
 };
 use scr_profile::Set;
 use scr_sheet::{BalanceSheet, CatKey, Class, Projection};
@@ -44,63 +39,143 @@ fn push_rest(list: &mut Vec<Node>, sheet: &BalanceSheet) -> Result<(), NoMemory>
 fn push_payments(list: &mut Vec<Node>, sheet: &BalanceSheet) -> Result<(), NoMemory>
     ensures { OnOk result (list.new.items ≡ list.old.items ++ flat (payment_families sheet.now)) }
 {
-    push_unit_losses(list, sheet, Direction::Up)?;
-    push_unit_losses(list, sheet, Direction::Down)?;
-    push_security_rates(list, sheet, Direction::Up)?;
-    push_security_rates(list, sheet, Direction::Down)?;
-    push_liability_rates(list, sheet, Direction::Up)?;
-    push_liability_rates(list, sheet, Direction::Down)?;
-    push_presents(list, sheet)
+    push_each(
+        list,
+        sheet,
+        &[
+            Selection::Securities(Holdings::Paying, OfSecurity::UnitLoss(Direction::Up)),
+            Selection::Securities(Holdings::Paying, OfSecurity::UnitLoss(Direction::Down)),
+            Selection::Securities(Holdings::Paying, OfSecurity::Rate(Direction::Up)),
+            Selection::Securities(Holdings::Paying, OfSecurity::Rate(Direction::Down)),
+            Selection::Liabilities(Obligations::All, OfLiability::Rate(Direction::Up)),
+            Selection::Liabilities(Obligations::All, OfLiability::Rate(Direction::Down)),
+            Selection::Liabilities(Obligations::All, OfLiability::Present),
+        ],
+    )
 }
 
 fn push_stresses(list: &mut Vec<Node>, sheet: &BalanceSheet) -> Result<(), NoMemory>
     ensures { OnOk result (list.new.items ≡ list.old.items ++ flat (stress_families sheet.now)) }
 {
-    push_losses(list, sheet, Projection::Mortality)?;
-    push_losses(list, sheet, Projection::Longevity)?;
-    push_losses(list, sheet, Projection::Disability)?;
-    push_losses(list, sheet, Projection::Expense)?;
-    push_losses(list, sheet, Projection::Revision)?;
-    push_losses(list, sheet, Projection::LapseUp)?;
-    push_losses(list, sheet, Projection::LapseDown)?;
-    push_losses(list, sheet, Projection::LapseMass)?;
-    push_losses(list, sheet, Projection::Catastrophe)
+    push_losses(
+        list,
+        sheet,
+        &[
+            Projection::Mortality,
+            Projection::Longevity,
+            Projection::Disability,
+            Projection::Expense,
+            Projection::Revision,
+            Projection::LapseUp,
+            Projection::LapseDown,
+            Projection::LapseMass,
+            Projection::Catastrophe,
+        ],
+    )
 }
 
 fn push_currency_figures(list: &mut Vec<Node>, sheet: &BalanceSheet) -> Result<(), NoMemory>
     ensures { OnOk result (list.new.items ≡ list.old.items ++ flat (currency_families sheet.now)) }
 {
-    push_currencies(list, sheet, Direction::Up)?;
-    push_currencies(list, sheet, Direction::Down)?;
-    push_foreign(
+    push_each(
         list,
         sheet,
-        Foreign::Scenario(Direction::Up, Measure::Gross),
-    )?;
-    push_foreign(list, sheet, Foreign::Scenario(Direction::Up, Measure::Net))?;
-    push_foreign(
-        list,
-        sheet,
-        Foreign::Scenario(Direction::Down, Measure::Gross),
-    )?;
-    push_foreign(
-        list,
-        sheet,
-        Foreign::Scenario(Direction::Down, Measure::Net),
-    )?;
-    push_foreign(list, sheet, Foreign::Choice)?;
-    push_foreign(list, sheet, Foreign::Picked(Measure::Gross))?;
-    push_foreign(list, sheet, Foreign::Picked(Measure::Net))
+        &[
+            Selection::Currencies(Currencies::All, OfCurrency::Loss(Direction::Up)),
+            Selection::Currencies(Currencies::All, OfCurrency::Loss(Direction::Down)),
+            Selection::Currencies(
+                Currencies::Foreign,
+                OfCurrency::Scenario(Direction::Up, Measure::Gross),
+            ),
+            Selection::Currencies(
+                Currencies::Foreign,
+                OfCurrency::Scenario(Direction::Up, Measure::Net),
+            ),
+            Selection::Currencies(
+                Currencies::Foreign,
+                OfCurrency::Scenario(Direction::Down, Measure::Gross),
+            ),
+            Selection::Currencies(
+                Currencies::Foreign,
+                OfCurrency::Scenario(Direction::Down, Measure::Net),
+            ),
+            Selection::Currencies(Currencies::Foreign, OfCurrency::Choice),
+            Selection::Currencies(Currencies::Foreign, OfCurrency::Picked(Measure::Gross)),
+            Selection::Currencies(Currencies::Foreign, OfCurrency::Picked(Measure::Net)),
+        ],
+    )
 }
 
 fn push_bonds_and_groups(list: &mut Vec<Node>, sheet: &BalanceSheet) -> Result<(), NoMemory>
     ensures { OnOk result (list.new.items ≡ list.old.items ++ flat (group_families sheet.now)) }
 {
-    push_spreads(list, sheet)?;
-    push_groups(list, sheet, GroupFigure::Total)?;
+    let bonds = Holdings::OfClass(Class::Bond);
+    push_selected(
+        list,
+        sheet,
+        &Selection::Securities(bonds, OfSecurity::Spread),
+    )?;
+    push_of_groups(list, sheet, OfGroup::Total)?;
     push_all(list, &[Node::Whole(Whole::Assets)])?;
-    push_groups(list, sheet, GroupFigure::Square)?;
-    push_groups(list, sheet, GroupFigure::Loss)
+    push_of_groups(list, sheet, OfGroup::ConcentrationSquare)?;
+    push_of_groups(list, sheet, OfGroup::Loss)
+}
+
+/// Pushes a figure of each group.
+fn push_of_groups(list: &mut Vec<Node>, sheet: &BalanceSheet, what: OfGroup) -> Result<(), NoMemory>
+    ensures { OnOk result (list.new.items ≡ list.old.items ++ map (group_figure what) sheet.now.groups) }
+{
+    push_selected(list, sheet, &Selection::Groups(Counterparties::All, what))
+}
+
+/// Pushes what the liabilities lose that have payments under a stress, one stress after another.
+fn push_losses(
+    list: &mut Vec<Node>,
+    sheet: &BalanceSheet,
+    stresses: &[Projection],
+) -> Result<(), NoMemory>
+    ensures { OnOk result (list.new.items ≡ list.old.items
+        ++ flat (map (λ stress. losses_of stress sheet.now) stresses.now)) }
+{
+    for stress in stresses {
+        push_loss(list, sheet, stress)?;
+    }
+    Ok(())
+}
+
+fn push_loss(
+    list: &mut Vec<Node>,
+    sheet: &BalanceSheet,
+    stress: &Projection,
+) -> Result<(), NoMemory>
+    ensures { OnOk result (list.new.items ≡ list.old.items ++ losses_of stress.now sheet.now) }
+{
+    push_selected(
+        list,
+        sheet,
+        &Selection::Liabilities(Obligations::Under(*stress), OfLiability::Loss(*stress)),
+    )
+}
+
+/// Pushes what is read off tables, one after another.
+fn push_each(
+    list: &mut Vec<Node>,
+    sheet: &BalanceSheet,
+    selections: &[Selection],
+) -> Result<(), NoMemory>
+    ensures { OnOk result (list.new.items ≡ list.old.items
+        ++ flat (map (selected sheet.now) selections.now)) }
+{
+    for selection in selections {
+        push_selected(list, sheet, selection)?;
+    }
+    Ok(())
+}
+
+fn push_all(list: &mut Vec<Node>, more: &[Node]) -> Result<(), NoMemory>
+    ensures { OnOk result (list.new.items ≡ list.old.items ++ more.now) }
+{
+    list.extend_from_slice(more)
 }
 
 fn push_constants(list: &mut Vec<Node>) -> Result<(), NoMemory>
@@ -261,8 +336,8 @@ fn push_slt(list: &mut Vec<Node>) -> Result<(), NoMemory>
 fn push_nonlife(list: &mut Vec<Node>) -> Result<(), NoMemory>
     ensures { OnOk result (list.new.items ≡ list.old.items ++ nonlife_nodes) }
 {
-    push_segments(list, Set::Nl)?;
-    push_segments(list, Set::Nslt)?;
+    push_all(list, &nonlife_segments())?;
+    push_all(list, &nslt_segments())?;
     push_charges(list)?;
     push_nonlife_results(list)
 }
@@ -331,82 +406,4 @@ fn push_requirement(list: &mut Vec<Node>) -> Result<(), NoMemory>
             Node::Whole(Whole::Scr),
         ],
     )
-}
-
-fn push_unit_losses(
-    list: &mut Vec<Node>,
-    sheet: &BalanceSheet,
-    direction: Direction,
-) -> Result<(), NoMemory>
-    ensures { OnOk result (list.new.items ≡ list.old.items
-        ++ map (unit_loss direction) (filter is_paying sheet.now.securities)) }
-{
-    for k in 0..sheet.securities.len() {
-        let position = sheet.securities.at(k);
-        if is_paying(position) {
-            list.push(Node::Security(position.security.name, OfSecurity::UnitLoss(direction)))?;
-        }
-    }
-    Ok(())
-}
-
-fn push_security_rates(
-    list: &mut Vec<Node>,
-    sheet: &BalanceSheet,
-    direction: Direction,
-) -> Result<(), NoMemory>
-    ensures { OnOk result (list.new.items ≡ list.old.items
-        ++ map (security_rate direction) (filter is_paying sheet.now.securities)) }
-{
-    for k in 0..sheet.securities.len() {
-        let position = sheet.securities.at(k);
-        if is_paying(position) {
-            list.push(Node::Security(position.security.name, OfSecurity::Rate(direction)))?;
-        }
-    }
-    Ok(())
-}
-
-fn push_liability_rates(
-    list: &mut Vec<Node>,
-    sheet: &BalanceSheet,
-    direction: Direction,
-) -> Result<(), NoMemory>
-    ensures { OnOk result (list.new.items ≡ list.old.items
-        ++ map (liability_rate direction) sheet.now.liabilities) }
-{
-    for k in 0..sheet.liabilities.len() {
-        let liability = sheet.liabilities.at(k);
-        list.push(Node::Liability(liability.name, OfLiability::Rate(direction)))?;
-    }
-    Ok(())
-}
-
-fn push_presents(list: &mut Vec<Node>, sheet: &BalanceSheet) -> Result<(), NoMemory>
-    ensures { OnOk result (list.new.items
-        ≡ list.old.items ++ map liability_present sheet.now.liabilities) }
-{
-    for k in 0..sheet.liabilities.len() {
-        let liability = sheet.liabilities.at(k);
-        list.push(Node::Liability(liability.name, OfLiability::Present))?;
-    }
-    Ok(())
-}
-
-fn push_losses(
-    list: &mut Vec<Node>,
-    sheet: &BalanceSheet,
-    projection: Projection,
-) -> Result<(), NoMemory>
-    ensures { OnOk result (list.new.items
-        ≡ list.old.items ++ map (liability_loss projection)
-        (filter (has_flows projection) sheet.now.liabilities)) }
-{
-    for k in 0..sheet.liabilities.len() {
-        let liability = sheet.liabilities.at(k);
-        if has_flows(projection, liability) {
-            list.push(Node::Liability(liability.name, OfLiability::Loss(projection)))?;
-        }
-    }
-    Ok(())
 }

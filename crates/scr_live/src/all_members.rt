@@ -3,8 +3,7 @@ ghost use Rattle.std.specs.Prelude.{◌≡◌, ◌+◌, ◌<◌, IfOk, OnOk, len
 ghost use Rattle.scr_nodes.specs.Sources.{sources_of};
 ghost use Rattle.scr_live.specs.Members.{AreMembersOf, first_members, lists_of, with_figure};
 
-use crate::all_sources::sources;
-use scr_nodes::{Node, OfGroup, OfSecurity};
+use scr_nodes::{Node, OfGroup, OfSecurity, sources};
 use scr_sheet::BalanceSheet;
 use std::alloc::{AllocError as NoMemory, Global};
 use std::marker::Model;

@@ -1,6 +1,7 @@
 -- What holds of the nodes of the rows that a test chooses.
 use Rattle.std.proofs.Common.{◌≡◌, Bool, true, cond, List, [], ◌∷◌, map, sym, ap, subst}
-use Rattle.std.specs.List.{AllByRecursion, filter}
+use Rattle.std.specs.List.{AllByRecursion, filter, list_all}
+use Rattle.std.proofs.lemmas.Bool.{and_parts}
 use Rattle.scr_names.proofs.TableRows.{passes_or_fails}
 
 module _ {Row A : Type 0} (Fact : Row → Type 0) (P : A → Type 0) (test : Row → Bool) (node : Row → A) where
@@ -27,3 +28,11 @@ module _ {Row A : Type 0} (Fact : Row → Type 0) (P : A → Type 0) (test : Row
 pub each-row : {Row : Type 0} (rows : List Row) → AllByRecursion (λ row. Unit {0}) rows
 each-row [] = tt
 each-row (row ∷ rows) = (tt, each-row rows)
+
+-- what a test tells of each
+pub each-tested : {A : Type 0} (test : A → Bool) (xs : List A) → list_all test xs ≡ true
+    → AllByRecursion (λ x. test x ≡ true) xs
+each-tested test [] h = tt
+each-tested test (x ∷ xs) h =
+    let two = and_parts (test x) (list_all test xs) h in
+    (two.0, each-tested test xs two.1)

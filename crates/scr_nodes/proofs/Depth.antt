@@ -144,6 +144,6 @@ module _ (sheet : BalanceSheet) (valid : Valid sheet) where
   -- as many levels as the recursion has
   pub sources-end : (node : Node) → EndsIn sheet (length sheet.funds + 200) node
   sources-end node =
-      let is = above-is 184 in
-      ends-le sheet (above 184) (length sheet.funds + 200) (omega (arith, is)) node (ends-part 184 node
+      let is = above-is 185 in
+      ends-le sheet (above 185) (length sheet.funds + 200) (omega (arith, is)) node (ends-part 185 node
       (last-part node))

@@ -1,13 +1,17 @@
 pub mod Chosen
 pub mod OwnRows
 pub mod LiveSources
+pub mod Below
 pub mod Earlier
+pub mod Levels
 pub mod Depth
 pub mod Reckoning
 pub mod Walks
 pub mod Joined
 pub mod Apart
+pub mod Numbers
 pub mod Parts
 pub mod Ordered
+pub mod Selected
 pub mod SingleSources
 pub mod Told

@@ -30,9 +30,9 @@ use Rattle.scr_nodes.specs.declared.node.Risk.TheVariants as risks
 use Rattle.scr_nodes.specs.Rows.{holds, is_closed, is_paying, is_paying_in, is_owed_in, has_class, liability_of, group_of, is_held_in, is_foreign, is_of_group, has_group, is_of_default_class, has_flows, is_stress, is_of_kind, is_stressed, has_stress}
 use Rattle.scr_nodes.specs.Sources.{sources_of, fund_total, security_total, security_rate, liability_rate, liability_present, liability_loss, currency_loss, currency_picked, security_spread, concentration_square, group_loss, rates_in, worths_in, funds_of_class, held_of_class, foreign_picked, losses_of_class, losses_under, interest_scenarios, lapse_scenarios, scenarios, classes_of, gross_of, market_parts, health_parts, segments_of, modules, operational_sources, adjustment_sources}
 use Rattle.scr_nodes.specs.Live.{is_live}
-use Rattle.scr_nodes.proofs.Chosen.{each-chosen, each-mapped}
+use Rattle.scr_nodes.proofs.Chosen.{each-chosen, each-mapped, each-tested}
 use Rattle.scr_nodes.proofs.OwnRows.{own-funds, own-securities, own-liabilities, own-curves, own-groups}
-use Rattle.scr_nodes.proofs.Parts.{both, each-tested}
+use Rattle.scr_nodes.proofs.Parts.{both}
 
 abbrev pub IsLive : BalanceSheet → Node → Type 0
 IsLive sheet node = is_live sheet node ≡ true

@@ -34,16 +34,18 @@ use Rattle.scr_nodes.specs.declared.node.Whole.TheVariants as wholes
 use Rattle.scr_nodes.specs.declared.node.Operational.TheVariants as operations
 use Rattle.scr_nodes.specs.declared.node.Risk.TheVariants as risks
 use Rattle.scr_nodes.specs.Live.{is_live}
+use Rattle.scr_nodes.specs.Numbers.{number_of_whole, whole_nodes}
 use Rattle.scr_nodes.specs.LiveNodes.{live_nodes, nodes_above_funds, rest_nodes, total_nodes, constant_nodes, families, payment_families, stress_families, currency_families, group_families, flat, payings, foreigns, losses_of, HasNoRepeats}
 use Rattle.scr_nodes.specs.Rows.{is_paying, is_foreign, has_class, has_flows, is_stress, liability_of, group_of}
 use Rattle.scr_nodes.specs.Sources.{sources_of, fund_total, security_total, unit_loss, security_rate, liability_rate, liability_present, liability_loss, currency_loss, currency_scenario, currency_choice, currency_picked, security_spread, group_total, concentration_square, group_loss}
-use Rattle.scr_nodes.proofs.Chosen.{each-chosen, each-mapped, each-row}
+use Rattle.scr_nodes.proofs.Chosen.{each-chosen, each-mapped, each-row, each-tested}
 use Rattle.scr_nodes.proofs.OwnRows.{distinct-groups, distinct-liabilities, own-funds, own-groups, own-securities, own-liabilities, own-curves}
 use Rattle.scr_nodes.proofs.LiveSources.{IsLive, sources-live, loss-live, passes-own}
 use Rattle.scr_nodes.proofs.Apart.{AreApart, apart-chosen, apart-mapped, one-place, place-of, member-at, member-take, member-chosen}
 use Rattle.scr_nodes.proofs.Earlier.{sources-earlier}
 use Rattle.scr_nodes.proofs.Told.{told-choice, told-currency, told-group, told-group_loss, told-liability, told-loss, told-picked, told-present, told-rate, told-scenario, told-spread, told-square, told-unit}
-use Rattle.scr_nodes.proofs.Parts.{part_of, AllAt, IsArranged, arranged-part, arranged-numbered, both, each-tested, sorted-before}
+use Rattle.scr_nodes.proofs.Parts.{part_of, AllAt, IsArranged, arranged-part, arranged-numbered, sorted-before}
+use Rattle.scr_nodes.proofs.Numbers.{whole-at}
 
 infixr 5 ◌&◌
 -- one fact and then the others
@@ -94,21 +96,6 @@ arranged-families part last (family ∷ list) rest e are more =
     subst (IsArranged part) (sym (append_assoc family (flat list) rest))
     (arranged-part part family (flat list ++ rest) are.0.0 are.0.1
     (arranged-families (suc part) last list rest on are.1 more))
-
--- the numbers from one on, so many
-abbrev numbers : ℕ → ℕ → List ℕ
-numbers first zero = []
-numbers first (suc count) = first ∷ numbers (suc first) count
-
-member-number : (first count n : ℕ) → first ≤ n → n < first + count → IsMember n (numbers first count)
-member-number first zero n least most = absurd (omega arith)
-member-number first (suc count) n least most = by (eqb_tells n first) (member-number (suc first) count n)
-  where
-    by : (((n == first) ≡ true) × (n ≡ first)) ⊎ (((n == first) ≡ false) × (n ≢ first))
-        → (suc first ≤ n → n < suc first + count → IsMember n (numbers (suc first) count))
-        → IsMember n (first ∷ numbers (suc first) count)
-    by (inl e) later = inl e.1
-    by (inr e) later = let other = e.1 in inr (later (omega (arith, other, least)) (omega (arith, most)))
 
 -- ---- the row of a name
 
@@ -163,26 +150,11 @@ module _ (sheet : BalanceSheet) where
   abbrev IsListed : Node → Type 0
   IsListed node = IsMember node (map fund_total sheet.funds) ⊎ IsMember node (nodes_above_funds sheet)
 
-  -- in the family at a place, or at its own place among the figures of every balance sheet
+  -- in the family at a place
   in-family : (place : ℕ) (node : Node) → IsMember node (family_at (families sheet) place) → IsListed node
   in-family place node m =
       inr (past-securities node
       (IsMember-left (flat (families sheet)) constant_nodes node (member-flat (families sheet) place node m)))
-
-  constant : (node : Node) → slice_get constant_nodes (part_of node - 32) ≡ Some node → IsListed node
-  constant node at =
-      inr (past-securities node
-      (IsMember-right (flat (families sheet)) constant_nodes node
-      (member-at constant_nodes (part_of node - 32) node at)))
-
-  -- one for each of so many numbers
-  constant-at : (node : ℕ → Node) (first count number : ℕ)
-      → AllByRecursion (λ n. slice_get constant_nodes (part_of (node n) - 32) ≡ Some (node n)) (numbers first count)
-      → first ≤ number → number < first + count → IsListed (node number)
-  constant-at node first count number are least most =
-      constant (node number)
-      (at_member (λ n. slice_get constant_nodes (part_of (node n) - 32) ≡ Some (node n)) (numbers first count) number are
-      (member-number first count number least most))
 
   of-loss : (place : ℕ) (projection : Projection) (name : List ℕ)
       → family_at (families sheet) place ≡ losses_of projection sheet
@@ -272,84 +244,22 @@ module _ (sheet : BalanceSheet) where
   live-listed (nodes.Group name of_groups.Total) h =
       in-family 26 (nodes.Group name of_groups.Total)
       (in-table group_name group_total (λ name. nodes.Group name of_groups.Total) (λ r. refl) name sheet.groups h)
-  live-listed (nodes.Whole wholes.Assets) h = in-family 27 (nodes.Whole wholes.Assets) (inl refl)
   live-listed (nodes.Group name of_groups.ConcentrationSquare) h =
       in-family 28 (nodes.Group name of_groups.ConcentrationSquare)
       (in-table group_name concentration_square (λ name. nodes.Group name of_groups.ConcentrationSquare) (λ r. refl) name sheet.groups h)
   live-listed (nodes.Group name of_groups.Loss) h =
       in-family 29 (nodes.Group name of_groups.Loss)
       (in-table group_name group_loss (λ name. nodes.Group name of_groups.Loss) (λ r. refl) name sheet.groups h)
-  live-listed (nodes.Whole (wholes.ClassSum classes.Type1Equity)) h = constant (nodes.Whole (wholes.ClassSum classes.Type1Equity)) refl
-  live-listed (nodes.Whole (wholes.EquityPart equities.Type1)) h = constant (nodes.Whole (wholes.EquityPart equities.Type1)) refl
-  live-listed (nodes.Whole (wholes.InterestScenario Up Gross)) h = constant (nodes.Whole (wholes.InterestScenario Up Gross)) refl
-  live-listed (nodes.Whole (wholes.Choice alternatives.Interest)) h = constant (nodes.Whole (wholes.Choice alternatives.Interest)) refl
-  live-listed (nodes.Whole (wholes.Picked alternatives.Interest Gross)) h = constant (nodes.Whole (wholes.Picked alternatives.Interest Gross)) refl
-  live-listed (nodes.Whole (wholes.NetPart risks.Equity)) h = constant (nodes.Whole (wholes.NetPart risks.Equity)) refl
-  live-listed (nodes.Whole (wholes.Currency Gross)) h = constant (nodes.Whole (wholes.Currency Gross)) refl
-  live-listed (nodes.Whole (wholes.Market Gross)) h = constant (nodes.Whole (wholes.Market Gross)) refl
-  live-listed (nodes.Whole (wholes.ClassLoss class)) h = constant-at (λ name. nodes.Whole (wholes.ClassLoss name)) 0 6 class (refl, (refl, (refl, (refl, (refl, (refl, tt)))))) (omega arith) (ltb-true class 6 h)
-  live-listed (nodes.Whole (wholes.ClassSquare class)) h = constant-at (λ name. nodes.Whole (wholes.ClassSquare name)) 0 6 class (refl, (refl, (refl, (refl, (refl, (refl, tt)))))) (omega arith) (ltb-true class 6 h)
-  live-listed (nodes.Whole (wholes.BioScenario biometric projections.Base measure)) h = absurd (cc)
-  live-listed (nodes.Whole (wholes.BioScenario biometrics.Health projections.Catastrophe measure)) h = absurd (cc)
-  live-listed (nodes.Whole (wholes.BioScenario biometrics.Life projections.Mortality Gross)) h =
-      constant (nodes.Whole (wholes.BioScenario biometrics.Life projections.Mortality Gross)) refl
-  live-listed (nodes.Whole (wholes.Life Gross)) h = constant (nodes.Whole (wholes.Life Gross)) refl
-  live-listed (nodes.Whole (wholes.Slt Gross)) h = constant (nodes.Whole (wholes.Slt Gross)) refl
-  live-listed (nodes.Whole (wholes.Segment sets.Nl number)) h =
-      let two = both (nat_le 1 number) (nat_le number (segments sets.Nl)) h in
-      let most : number ≤ 12 = leb-true number 12 two.1 in
-      constant-at ((λ one. nodes.Whole (wholes.Segment sets.Nl one))) 1 12 number (refl, (refl, (refl, (refl, (refl, (refl, (refl, (refl, (refl, (refl, (refl, (refl, tt)))))))))))) (leb-true 1 number two.0) (omega arith)
-  live-listed (nodes.Whole (wholes.Segment sets.Nslt number)) h =
-      let two = both (nat_le 1 number) (nat_le number (segments sets.Nslt)) h in
-      let most : number ≤ 4 = leb-true number 4 two.1 in
-      constant-at ((λ one. nodes.Whole (wholes.Segment sets.Nslt one))) 1 4 number (refl, (refl, (refl, (refl, tt)))) (leb-true 1 number two.0) (omega arith)
-  live-listed (nodes.Whole (wholes.CatCharge cats.Windstorm)) h = constant (nodes.Whole (wholes.CatCharge cats.Windstorm)) refl
-  live-listed (nodes.Whole (wholes.Lapse sets.Nl)) h = constant (nodes.Whole (wholes.Lapse sets.Nl)) refl
-  live-listed (nodes.Whole (wholes.PremiumReserve sets.Nl)) h = constant (nodes.Whole (wholes.PremiumReserve sets.Nl)) refl
-  live-listed (nodes.Whole (wholes.Nslt Gross)) h = constant (nodes.Whole (wholes.Nslt Gross)) refl
-  live-listed (nodes.Whole (wholes.Health Gross)) h = constant (nodes.Whole (wholes.Health Gross)) refl
-  live-listed (nodes.Whole (wholes.Nonlife Gross)) h = constant (nodes.Whole (wholes.Nonlife Gross)) refl
-  live-listed (nodes.Whole (wholes.Bscr Gross)) h = constant (nodes.Whole (wholes.Bscr Gross)) refl
-  live-listed (nodes.Whole (wholes.OpPart operations.Premiums)) h = constant (nodes.Whole (wholes.OpPart operations.Premiums)) refl
-  live-listed (nodes.Whole (wholes.Adjust adjustments.TechnicalProvisions)) h =
-      constant (nodes.Whole (wholes.Adjust adjustments.TechnicalProvisions)) refl
-  live-listed (nodes.Whole (wholes.InterestScenario Down Gross)) h = constant (nodes.Whole (wholes.InterestScenario Down Gross)) refl
-  live-listed (nodes.Whole (wholes.Picked alternatives.LifeLapse Gross)) h = constant (nodes.Whole (wholes.Picked alternatives.LifeLapse Gross)) refl
-  live-listed (nodes.Whole (wholes.Picked alternatives.HealthLapse Gross)) h =
-      constant (nodes.Whole (wholes.Picked alternatives.HealthLapse Gross)) refl
-  live-listed (nodes.Whole (wholes.BioScenario biometrics.Life projections.Longevity Gross)) h =
-      constant (nodes.Whole (wholes.BioScenario biometrics.Life projections.Longevity Gross)) refl
-  live-listed (nodes.Whole (wholes.BioScenario biometrics.Life projections.Disability Gross)) h =
-      constant (nodes.Whole (wholes.BioScenario biometrics.Life projections.Disability Gross)) refl
-  live-listed (nodes.Whole (wholes.BioScenario biometrics.Life projections.Expense Gross)) h =
-      constant (nodes.Whole (wholes.BioScenario biometrics.Life projections.Expense Gross)) refl
-  live-listed (nodes.Whole (wholes.BioScenario biometrics.Life projections.Revision Gross)) h =
-      constant (nodes.Whole (wholes.BioScenario biometrics.Life projections.Revision Gross)) refl
-  live-listed (nodes.Whole (wholes.BioScenario biometrics.Life projections.LapseUp Gross)) h =
-      constant (nodes.Whole (wholes.BioScenario biometrics.Life projections.LapseUp Gross)) refl
-  live-listed (nodes.Whole (wholes.BioScenario biometrics.Life projections.LapseDown Gross)) h =
-      constant (nodes.Whole (wholes.BioScenario biometrics.Life projections.LapseDown Gross)) refl
-  live-listed (nodes.Whole (wholes.BioScenario biometrics.Life projections.LapseMass Gross)) h =
-      constant (nodes.Whole (wholes.BioScenario biometrics.Life projections.LapseMass Gross)) refl
-  live-listed (nodes.Whole (wholes.BioScenario biometrics.Life projections.Catastrophe Gross)) h =
-      constant (nodes.Whole (wholes.BioScenario biometrics.Life projections.Catastrophe Gross)) refl
-  live-listed (nodes.Whole (wholes.BioScenario biometrics.Health projections.Mortality Gross)) h =
-      constant (nodes.Whole (wholes.BioScenario biometrics.Health projections.Mortality Gross)) refl
-  live-listed (nodes.Whole (wholes.BioScenario biometrics.Health projections.Longevity Gross)) h =
-      constant (nodes.Whole (wholes.BioScenario biometrics.Health projections.Longevity Gross)) refl
-  live-listed (nodes.Whole (wholes.BioScenario biometrics.Health projections.Disability Gross)) h =
-      constant (nodes.Whole (wholes.BioScenario biometrics.Health projections.Disability Gross)) refl
-  live-listed (nodes.Whole (wholes.BioScenario biometrics.Health projections.Expense Gross)) h =
-      constant (nodes.Whole (wholes.BioScenario biometrics.Health projections.Expense Gross)) refl
-  live-listed (nodes.Whole (wholes.BioScenario biometrics.Health projections.Revision Gross)) h =
-      constant (nodes.Whole (wholes.BioScenario biometrics.Health projections.Revision Gross)) refl
-  live-listed (nodes.Whole (wholes.BioScenario biometrics.Health projections.LapseUp Gross)) h =
-      constant (nodes.Whole (wholes.BioScenario biometrics.Health projections.LapseUp Gross)) refl
-  live-listed (nodes.Whole (wholes.BioScenario biometrics.Health projections.LapseDown Gross)) h =
-      constant (nodes.Whole (wholes.BioScenario biometrics.Health projections.LapseDown Gross)) refl
-  live-listed (nodes.Whole (wholes.BioScenario biometrics.Health projections.LapseMass Gross)) h =
-      constant (nodes.Whole (wholes.BioScenario biometrics.Health projections.LapseMass Gross)) refl
-  live-listed node h = constant node refl
+  live-listed (nodes.Whole what) h =
+      by (IsMember-cases constant_nodes (nodes.Whole wholes.Assets ∷ []) (nodes.Whole what)
+      (member-at whole_nodes (number_of_whole what) (nodes.Whole what) (whole-at what h)))
+    where
+      by : IsMember (nodes.Whole what) constant_nodes ⊎ IsMember (nodes.Whole what) (nodes.Whole wholes.Assets ∷ [])
+          → IsListed (nodes.Whole what)
+      by (inl m) =
+          inr (past-securities (nodes.Whole what)
+          (IsMember-right (flat (families sheet)) constant_nodes (nodes.Whole what) m))
+      by (inr m) = in-family 27 (nodes.Whole what) m
 
 -- ---- the whole list
 

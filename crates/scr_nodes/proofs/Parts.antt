@@ -25,37 +25,13 @@ use Rattle.scr_nodes.specs.declared.node.OfGroup.TheVariants as of_groups
 use Rattle.scr_nodes.specs.declared.node.Whole.TheVariants as wholes
 use Rattle.scr_nodes.specs.declared.node.Operational.TheVariants as operations
 use Rattle.scr_nodes.specs.declared.node.Risk.TheVariants as risks
+use Rattle.scr_nodes.specs.Numbers.{direction_place, measure_place, number_of_whole}
 use Rattle.scr_nodes.proofs.Apart.{AreApart, member-at}
+use Rattle.scr_nodes.proofs.Numbers.{direction-place-most, measure-place-most, number-most}
 
--- ---- places within a family
+-- ---- the families in their order: of rows, and from 32 on each figure that every balance sheet has
 
-abbrev pub direction_place : Direction → ℕ
-direction_place Up = 0
-direction_place Down = 1
-
-abbrev pub measure_place : Measure → ℕ
-measure_place Gross = 0
-measure_place Net = 1
-
-abbrev pub class_place : Class → ℕ
-class_place classes.Type1Equity = 0
-class_place classes.Type1Strategic = 1
-class_place classes.Type2Equity = 2
-class_place classes.Type2Strategic = 3
-class_place classes.Infrastructure = 4
-class_place classes.InfrastructureCorporate = 5
-class_place classes.Property = 6
-class_place classes.Bond = 7
-class_place classes.Government = 8
-class_place classes.Other = 9
-
-abbrev pub equities_place : Equities → ℕ
-equities_place equities.Type1 = 0
-equities_place equities.Type2 = 1
-equities_place equities.Infrastructure = 2
-equities_place equities.InfrastructureCorporate = 3
-
--- among the losses of liabilities, and among the scenarios of one kind
+-- among the losses of liabilities
 abbrev pub loss_place : Projection → ℕ
 loss_place projections.Base = 0
 loss_place projections.Mortality = 0
@@ -67,73 +43,6 @@ loss_place projections.LapseUp = 5
 loss_place projections.LapseDown = 6
 loss_place projections.LapseMass = 7
 loss_place projections.Catastrophe = 8
-
-abbrev pub scenario_place : Projection → ℕ
-scenario_place projections.Base = 0
-scenario_place projections.Mortality = 0
-scenario_place projections.Longevity = 2
-scenario_place projections.Disability = 4
-scenario_place projections.Expense = 6
-scenario_place projections.Revision = 8
-scenario_place projections.LapseUp = 10
-scenario_place projections.LapseDown = 12
-scenario_place projections.LapseMass = 14
-scenario_place projections.Catastrophe = 19
-
-abbrev pub scenarios_from : Biometric → ℕ
-scenarios_from biometrics.Life = 83
-scenarios_from biometrics.Health = 106
-
-abbrev pub choice_place : Alternatives → ℕ
-choice_place alternatives.Interest = 50
-choice_place alternatives.LifeLapse = 99
-choice_place alternatives.HealthLapse = 122
-
-abbrev pub risk_place : Risk → ℕ
-risk_place risks.Equity = 57
-risk_place risks.Property = 58
-risk_place risks.Spread = 59
-risk_place risks.Concentration = 60
-risk_place risks.Default = 82
-risk_place risks.HealthCatastrophe = 168
-
-abbrev pub charge_place : CatKey → ℕ
-charge_place cats.Windstorm = 0
-charge_place cats.Earthquake = 1
-charge_place cats.Flood = 2
-charge_place cats.Hail = 3
-charge_place cats.Subsidence = 4
-charge_place cats.Motor = 5
-charge_place cats.Marine = 6
-charge_place cats.Aviation = 7
-charge_place cats.Fire = 8
-charge_place cats.Liability = 9
-charge_place cats.Credit = 10
-charge_place cats.NonProportionalProperty = 11
-charge_place cats.Other = 12
-charge_place cats.MassAccident = 13
-charge_place cats.AccidentConcentration = 14
-charge_place cats.Pandemic = 15
-
-abbrev pub set_place : Set → ℕ
-set_place sets.Nl = 0
-set_place sets.Nslt = 1
-
-abbrev pub segments_from : Set → ℕ
-segments_from sets.Nl = 126
-segments_from sets.Nslt = 138
-
-abbrev pub operational_place : Operational → ℕ
-operational_place operations.Premiums = 0
-operational_place operations.Provisions = 1
-operational_place operations.Cap = 2
-operational_place operations.Charge = 3
-
-abbrev pub adjustment_place : Adjustment → ℕ
-adjustment_place adjustments.TechnicalProvisions = 0
-adjustment_place adjustments.DeferredTaxes = 1
-
--- ---- the families in their order: of rows, and from 32 on each figure that every balance sheet has
 
 abbrev pub part_of : Node → ℕ
 part_of (nodes.Fund name of_funds.Total) = 0
@@ -152,132 +61,24 @@ part_of (nodes.Group name of_groups.Total) = 28
 part_of (nodes.Whole wholes.Assets) = 29
 part_of (nodes.Group name of_groups.ConcentrationSquare) = 30
 part_of (nodes.Group name of_groups.Loss) = 31
-part_of (nodes.Whole (wholes.ClassSum class)) = 32 + class_place class
-part_of (nodes.Whole (wholes.EquityPart equities)) = 42 + equities_place equities
-part_of (nodes.Whole (wholes.InterestScenario direction measure)) = 46 + 2 * direction_place direction + measure_place measure
-part_of (nodes.Whole (wholes.Choice which)) = choice_place which
-part_of (nodes.Whole (wholes.Picked which measure)) = 1 + choice_place which + measure_place measure
-part_of (nodes.Whole wholes.EquityRoot) = 53
-part_of (nodes.Whole wholes.Property) = 54
-part_of (nodes.Whole wholes.Spread) = 55
-part_of (nodes.Whole wholes.Concentration) = 56
-part_of (nodes.Whole (wholes.NetPart risk)) = risk_place risk
-part_of (nodes.Whole (wholes.Currency measure)) = 61 + measure_place measure
-part_of (nodes.Whole (wholes.Market measure)) = 63 + measure_place measure
-part_of (nodes.Whole (wholes.ClassLoss class)) = 65 + min class 5
-part_of (nodes.Whole (wholes.ClassSquare class)) = 71 + min class 5
-part_of (nodes.Whole wholes.Variance) = 77
-part_of (nodes.Whole wholes.DefaultBand) = 78
-part_of (nodes.Whole wholes.DefaultType1) = 79
-part_of (nodes.Whole wholes.DefaultType2) = 80
-part_of (nodes.Whole wholes.Default) = 81
-part_of (nodes.Whole (wholes.BioScenario biometric projection measure)) =
-    scenarios_from biometric + scenario_place projection + measure_place measure
-part_of (nodes.Whole (wholes.Life measure)) = 104 + measure_place measure
-part_of (nodes.Whole (wholes.Slt measure)) = 125 + measure_place measure
-part_of (nodes.Whole (wholes.Segment set number)) = segments_from set + min number 12
-part_of (nodes.Whole (wholes.CatCharge key)) = 143 + charge_place key
-part_of (nodes.Whole (wholes.Lapse set)) = 159 + set_place set
-part_of (nodes.Whole wholes.Intangible) = 161
-part_of (nodes.Whole (wholes.PremiumReserve set)) = 162 + set_place set
-part_of (nodes.Whole wholes.Natural) = 164
-part_of (nodes.Whole wholes.ManMade) = 165
-part_of (nodes.Whole wholes.NonlifeCatastrophe) = 166
-part_of (nodes.Whole wholes.HealthCatastrophe) = 167
-part_of (nodes.Whole (wholes.Nslt measure)) = 169 + measure_place measure
-part_of (nodes.Whole (wholes.Health measure)) = 171 + measure_place measure
-part_of (nodes.Whole (wholes.Nonlife measure)) = 173 + measure_place measure
-part_of (nodes.Whole (wholes.Bscr measure)) = 175 + measure_place measure
-part_of (nodes.Whole wholes.Diversification) = 177
-part_of (nodes.Whole (wholes.OpPart part)) = 178 + operational_place part
-part_of (nodes.Whole (wholes.Adjust adjustment)) = 182 + adjustment_place adjustment
-part_of (nodes.Whole wholes.Scr) = 184
+part_of (nodes.Whole what) = 32 + number_of_whole what
 
 -- ---- none is beyond the last
-
-direction-place-most : (x : Direction) → direction_place x ≤ 1
-direction-place-most Up = omega arith
-direction-place-most Down = omega arith
-
-measure-place-most : (x : Measure) → measure_place x ≤ 1
-measure-place-most Gross = omega arith
-measure-place-most Net = omega arith
-
-equities-place-most : (x : Equities) → equities_place x ≤ 3
-equities-place-most equities.Type1 = omega arith
-equities-place-most x = omega arith
-
-risk-place-most : (x : Risk) → risk_place x ≤ 168
-risk-place-most risks.Equity = omega arith
-risk-place-most x = omega arith
 
 loss-place-most : (x : Projection) → loss_place x ≤ 8
 loss-place-most projections.Base = omega arith
 loss-place-most x = omega arith
 
-scenario-place-most : (x : Projection) → scenario_place x ≤ 19
-scenario-place-most projections.Base = omega arith
-scenario-place-most x = omega arith
-
-scenarios-from-most : (x : Biometric) → scenarios_from x ≤ 106
-scenarios-from-most biometrics.Life = omega arith
-scenarios-from-most biometrics.Health = omega arith
-
-choice-place-most : (x : Alternatives) → choice_place x ≤ 122
-choice-place-most alternatives.Interest = omega arith
-choice-place-most alternatives.LifeLapse = omega arith
-choice-place-most alternatives.HealthLapse = omega arith
-
-charge-place-most : (x : CatKey) → charge_place x ≤ 15
-charge-place-most cats.Windstorm = omega arith
-charge-place-most x = omega arith
-
-set-place-most : (x : Set) → set_place x ≤ 1
-set-place-most sets.Nl = omega arith
-set-place-most sets.Nslt = omega arith
-
-segments-from-most : (x : Set) → segments_from x ≤ 138
-segments-from-most sets.Nl = omega arith
-segments-from-most sets.Nslt = omega arith
-
-operational-place-most : (x : Operational) → operational_place x ≤ 3
-operational-place-most operations.Premiums = omega arith
-operational-place-most x = omega arith
-
-adjustment-place-most : (x : Adjustment) → adjustment_place x ≤ 1
-adjustment-place-most adjustments.TechnicalProvisions = omega arith
-adjustment-place-most adjustments.DeferredTaxes = omega arith
-
-class-place-most : (x : Class) → class_place x ≤ 9
-class-place-most classes.Type1Equity = omega arith
-class-place-most x = omega arith
-
 -- the last part
-pub last-part : (node : Node) → part_of node ≤ 184
+pub last-part : (node : Node) → part_of node ≤ 185
 last-part (nodes.Fund name of_funds.Total) = omega arith
 last-part (nodes.Security name of_securities.Total) = omega arith
 last-part (nodes.Liability name of_liabilities.Present) = omega arith
 last-part (nodes.Currency currency of_currencies.Choice) = omega arith
 last-part (nodes.Group name of_groups.Total) = omega arith
 last-part (nodes.Whole wholes.Assets) = omega arith
-last-part node =
-    omega (
-      arith,
-      direction-place-most,
-      measure-place-most,
-      equities-place-most,
-      risk-place-most,
-      loss-place-most,
-      scenario-place-most,
-      scenarios-from-most,
-      choice-place-most,
-      charge-place-most,
-      set-place-most,
-      segments-from-most,
-      operational-place-most,
-      adjustment-place-most,
-      class-place-most,
-    )
+last-part (nodes.Whole what) = let most : number_of_whole what ≤ 153 = number-most what in omega (arith, most)
+last-part node = omega (arith, direction-place-most, measure-place-most, loss-place-most)
 
 -- all of one part, and all of this part or a later one
 abbrev pub AllAt : ℕ → List Node → Type 0
@@ -353,12 +154,6 @@ pub both : (a b : Bool) → (a && b) ≡ true → (a ≡ true) × (b ≡ true)
 both true b h = (refl, h)
 both false b h = absurd (cc)
 
--- what a test tells of each
-pub each-tested : {A : Type 0} (test : A → Bool) (xs : List A) → list_all test xs ≡ true
-    → AllByRecursion (λ x. test x ≡ true) xs
-each-tested test [] h = tt
-each-tested test (x ∷ xs) h = let two = both (test x) (list_all test xs) h in (two.0, each-tested test xs two.1)
-
 -- each of the part that follows that of the one before it
 abbrev pub is_numbered : ℕ → List Node → Bool
 is_numbered part [] = true
@@ -393,20 +188,6 @@ apart-by_parts [] h = tt
 apart-by_parts (x ∷ xs) h =
     let two = both (is_none_of (part_of x) (map part_of xs)) (differ (map part_of xs)) h in
     (not-member x xs two.0, apart-by_parts xs two.1)
-
--- all of earlier parts
-abbrev pub AllBelow : ℕ → List Node → Type 0
-AllBelow part list = AllByRecursion (λ n. part_of n < part) list
-
-pub below-tested : (part : ℕ) (list : List Node) → list_all (λ n. nat_lt (part_of n) part) list ≡ true
-    → AllBelow part list
-below-tested part list h =
-    each_weaker (λ n. nat_lt (part_of n) part ≡ true) (λ n. part_of n < part) (λ n e. ltb-true (part_of n) part e) list
-    (each-tested (λ n. nat_lt (part_of n) part) list h)
-
-pub below-weaker : (least most : ℕ) → least ≤ most → (list : List Node) → AllBelow least list → AllBelow most list
-below-weaker least most h list below =
-    each_weaker (λ n. part_of n < least) (λ n. part_of n < most) (λ n l. omega arith) list below
 
 -- a fund, or of a part above the first
 pub fund-or-above : (node : Node) → ((name : List ℕ) × (node ≡ nodes.Fund name of_funds.Total)) ⊎ (0 < part_of node)

@@ -88,16 +88,14 @@ module _ {Row : Type 0} (test : Row → Bool) where
         (filter-more rows k row is ∙ ap (λ t. filter test (take k rows) ++ cond t (row ∷ []) []) fail
         ∙ append-nil (filter test (take k rows))))
 
--- a list to which each row is pushed
-pub pushed_each : {Row A : Type 0} (node : Row → A) (items start after : List A) (rows : List Row) (k : ℕ) (row : Row)
-    → slice_get rows k ≡ Some row → items ≡ start ++ map node (take k rows)
-    → after ≡ items ++ node row ∷ [] → after ≡ start ++ map node (take (k + 1) rows)
-pushed_each node items start after rows k row is so_far next =
-    next ∙ ap (λ xs. xs ++ node row ∷ []) so_far ∙ append_assoc start (map node (take k rows)) (node row ∷ [])
-    ∙ ap (λ xs. start ++ xs) (sym (map-append node (take k rows) (row ∷ []))
-    ∙ ap (map node)
-    (sym (take_more rows k row (slice_get_within rows k row is)
-    ∙ ap (λ r. take k rows ++ r ∷ []) (get_or_from_slice_get rows k row row is))))
+-- a list to which what stands in another is pushed
+pub pushed_next : {A : Type 0} (items start after list : List A) (k : ℕ) (x : A) → slice_get list k ≡ Some x
+    → items ≡ start ++ take k list → after ≡ items ++ x ∷ [] → after ≡ start ++ take (k + 1) list
+pushed_next items start after list k x is so_far next =
+    next ∙ ap (λ xs. xs ++ x ∷ []) so_far ∙ append_assoc start (take k list) (x ∷ [])
+    ∙ ap (λ xs. start ++ xs)
+    (sym (take_more list k x (slice_get_within list k x is)
+    ∙ ap (λ y. take k list ++ y ∷ []) (get_or_from_slice_get list k x x is)))
 
 -- a list pushed behind another that was pushed
 pub joined : {A : Type 0} (start next last front back : List A) → next ≡ start ++ front → last ≡ next ++ back

@@ -2,8 +2,11 @@ pub mod Own
 pub mod Rows
 pub mod OwnOf
 pub mod Sources
+pub mod Selections
+pub mod Table
 pub mod Live
 pub mod Nth
 pub mod LiveNodes
+pub mod Numbers
+pub mod Levels
 pub mod Reckoned
-pub mod Selections

@@ -10,11 +10,13 @@ use Rattle.scr_sheet.specs.declared.rows.Class.TheVariants as classes
 use Rattle.scr_sheet.specs.declared.sheet.BalanceSheet.{BalanceSheet}
 use Rattle.scr_nodes.specs.declared.node.Node.{Node}
 use Rattle.scr_nodes.specs.declared.node.Node.TheVariants as nodes
-use Rattle.scr_nodes.specs.declared.node.OfFund.TheVariants as of_funds
+use Rattle.scr_nodes.specs.declared.node.OfSecurity.{OfSecurity}
 use Rattle.scr_nodes.specs.declared.node.OfSecurity.TheVariants as of_securities
+use Rattle.scr_nodes.specs.declared.node.OfLiability.{OfLiability}
 use Rattle.scr_nodes.specs.declared.node.OfLiability.TheVariants as of_liabilities
+use Rattle.scr_nodes.specs.declared.node.OfCurrency.{OfCurrency}
 use Rattle.scr_nodes.specs.declared.node.OfCurrency.TheVariants as of_currencies
-use Rattle.scr_nodes.specs.declared.node.OfGroup.TheVariants as of_groups
+use Rattle.scr_nodes.specs.declared.node.Whole.{Whole}
 use Rattle.scr_nodes.specs.declared.node.Whole.TheVariants as wholes
 use Rattle.scr_nodes.specs.Rows.{is_paying, is_foreign, has_class, has_flows, is_stress, has_stress, liability_of}
 
@@ -41,24 +43,37 @@ is_group sheet name = has_row group_name name sheet.groups
 abbrev pub is_segment : Set → ℕ → Bool
 is_segment set number = nat_le 1 number && nat_le number (segments set)
 
+-- ---- figures of rows, by their table, and of the whole sheet
+
+abbrev pub security_lives : BalanceSheet → List ℕ → OfSecurity → Bool
+security_lives sheet name of_securities.Total = has_row position_name name sheet.securities
+security_lives sheet name (of_securities.UnitLoss direction) = pays sheet name
+security_lives sheet name (of_securities.Rate direction) = pays sheet name
+security_lives sheet name of_securities.Spread = is_bond sheet name
+
+abbrev pub liability_lives : BalanceSheet → List ℕ → OfLiability → Bool
+liability_lives sheet name (of_liabilities.Rate direction) = has_row liability_name name sheet.liabilities
+liability_lives sheet name of_liabilities.Present = has_row liability_name name sheet.liabilities
+liability_lives sheet name (of_liabilities.Loss projection) = is_stressed_liability sheet name projection
+
+abbrev pub currency_lives : BalanceSheet → List ℕ → OfCurrency → Bool
+currency_lives sheet currency (of_currencies.Loss direction) = has_row curve_name currency sheet.curves
+currency_lives sheet currency (of_currencies.Scenario direction measure) = is_foreign_currency sheet currency
+currency_lives sheet currency of_currencies.Choice = is_foreign_currency sheet currency
+currency_lives sheet currency (of_currencies.Picked measure) = is_foreign_currency sheet currency
+
+-- classes of probabilities of default are numbered from 0 to 5
+abbrev pub whole_lives : Whole → Bool
+whole_lives (wholes.ClassLoss class) = nat_lt class 6
+whole_lives (wholes.ClassSquare class) = nat_lt class 6
+whole_lives (wholes.BioScenario biometric projection measure) = has_stress biometric projection
+whole_lives (wholes.Segment set number) = is_segment set number
+whole_lives what = true
+
 abbrev pub is_live : BalanceSheet → Node → Bool
-is_live sheet (nodes.Fund name of_funds.Total) = has_row stake_name name sheet.funds
-is_live sheet (nodes.Security name of_securities.Total) = has_row position_name name sheet.securities
-is_live sheet (nodes.Security name (of_securities.UnitLoss direction)) = pays sheet name
-is_live sheet (nodes.Security name (of_securities.Rate direction)) = pays sheet name
-is_live sheet (nodes.Liability name (of_liabilities.Rate direction)) = has_row liability_name name sheet.liabilities
-is_live sheet (nodes.Currency currency (of_currencies.Loss direction)) = has_row curve_name currency sheet.curves
-is_live sheet (nodes.Liability name of_liabilities.Present) = has_row liability_name name sheet.liabilities
-is_live sheet (nodes.Liability name (of_liabilities.Loss projection)) = is_stressed_liability sheet name projection
-is_live sheet (nodes.Currency currency (of_currencies.Scenario direction measure)) = is_foreign_currency sheet currency
-is_live sheet (nodes.Currency currency of_currencies.Choice) = is_foreign_currency sheet currency
-is_live sheet (nodes.Currency currency (of_currencies.Picked measure)) = is_foreign_currency sheet currency
-is_live sheet (nodes.Security name of_securities.Spread) = is_bond sheet name
-is_live sheet (nodes.Group name of_groups.Total) = is_group sheet name
-is_live sheet (nodes.Group name of_groups.ConcentrationSquare) = is_group sheet name
-is_live sheet (nodes.Group name of_groups.Loss) = is_group sheet name
-is_live sheet (nodes.Whole (wholes.ClassLoss class)) = nat_lt class 6
-is_live sheet (nodes.Whole (wholes.ClassSquare class)) = nat_lt class 6
-is_live sheet (nodes.Whole (wholes.BioScenario biometric projection measure)) = has_stress biometric projection
-is_live sheet (nodes.Whole (wholes.Segment set number)) = is_segment set number
-is_live sheet node = true
+is_live sheet (nodes.Fund name what) = has_row stake_name name sheet.funds
+is_live sheet (nodes.Security name what) = security_lives sheet name what
+is_live sheet (nodes.Liability name what) = liability_lives sheet name what
+is_live sheet (nodes.Currency currency what) = currency_lives sheet currency what
+is_live sheet (nodes.Group name what) = is_group sheet name
+is_live sheet (nodes.Whole what) = whole_lives what

@@ -240,6 +240,9 @@ segments_of sets.Nl =
 segments_of sets.Nslt =
     nodes.Whole (wholes.Segment sets.Nslt 1) ∷ nodes.Whole (wholes.Segment sets.Nslt 2) ∷ nodes.Whole (wholes.Segment sets.Nslt 3) ∷ nodes.Whole (wholes.Segment sets.Nslt 4) ∷ []
 
+abbrev pub nonlife_parts : List Node
+nonlife_parts = nodes.Whole (wholes.PremiumReserve sets.Nl) ∷ nodes.Whole wholes.NonlifeCatastrophe ∷ []
+
 abbrev pub natural_perils : List Node
 natural_perils =
     nodes.Whole (wholes.CatCharge cats.Windstorm) ∷ nodes.Whole (wholes.CatCharge cats.Earthquake) ∷ nodes.Whole (wholes.CatCharge cats.Flood)
@@ -288,65 +291,60 @@ requirement_parts =
     nodes.Whole (wholes.Bscr measures.Gross) ∷ nodes.Whole (wholes.Adjust adjustments.TechnicalProvisions) ∷ nodes.Whole (wholes.Adjust adjustments.DeferredTaxes)
     ∷ nodes.Whole (wholes.OpPart operations.Charge) ∷ []
 
+-- the sources that no row gives, of a figure that is reckoned from other figures by name
+abbrev pub words_of : Node → List Node
+words_of (nodes.Security name (of_securities.Rate direction)) = nodes.Security name of_securities.Total ∷ nodes.Security name (of_securities.UnitLoss direction) ∷ []
+words_of (nodes.Security name of_securities.Spread) = nodes.Security name of_securities.Total ∷ []
+words_of (nodes.Currency currency (of_currencies.Scenario direction measures.Net)) =
+    nodes.Currency currency (of_currencies.Scenario direction measures.Gross) ∷ []
+words_of (nodes.Currency currency of_currencies.Choice) = currency_scenarios currency
+words_of (nodes.Currency currency (of_currencies.Picked measure)) =
+    currency_scenarios currency ++ nodes.Currency currency of_currencies.Choice ∷ []
+words_of (nodes.Group name of_groups.ConcentrationSquare) = nodes.Whole wholes.Assets ∷ nodes.Group name of_groups.Total ∷ []
+words_of (nodes.Whole (wholes.InterestScenario direction measures.Net)) = nodes.Whole (wholes.InterestScenario direction measures.Gross) ∷ []
+words_of (nodes.Whole (wholes.Choice alternatives)) = scenarios alternatives
+words_of (nodes.Whole (wholes.Picked alternatives measure)) = scenarios alternatives ++ nodes.Whole (wholes.Choice alternatives) ∷ []
+words_of (nodes.Whole (wholes.EquityPart equities)) = classes_of equities
+words_of (nodes.Whole wholes.EquityRoot) = equity_parts
+words_of (nodes.Whole (wholes.NetPart risk)) = gross_of risk ∷ []
+words_of (nodes.Whole wholes.Property) = nodes.Whole (wholes.ClassSum classes.Property) ∷ []
+words_of (nodes.Whole (wholes.Market measure)) = market_parts measure
+words_of (nodes.Whole wholes.Variance) = class_losses ++ class_squares
+words_of (nodes.Whole wholes.DefaultBand) = class_losses ++ nodes.Whole wholes.Variance ∷ []
+words_of (nodes.Whole wholes.DefaultType1) = class_losses ++ nodes.Whole wholes.Variance ∷ nodes.Whole wholes.DefaultBand ∷ []
+words_of (nodes.Whole wholes.Default) = default_types
+words_of (nodes.Whole (wholes.BioScenario biometric projection measures.Net)) =
+    nodes.Whole (wholes.BioScenario biometric projection measures.Gross) ∷ []
+words_of (nodes.Whole (wholes.Life measure)) = life_parts measure
+words_of (nodes.Whole (wholes.Slt measure)) = slt_parts measure
+words_of (nodes.Whole (wholes.PremiumReserve set)) = segments_of set
+words_of (nodes.Whole wholes.Natural) = natural_perils
+words_of (nodes.Whole wholes.ManMade) = man_made_perils
+words_of (nodes.Whole wholes.NonlifeCatastrophe) = nonlife_catastrophes
+words_of (nodes.Whole wholes.HealthCatastrophe) = health_perils
+words_of (nodes.Whole (wholes.Nslt measure)) = nodes.Whole (wholes.PremiumReserve sets.Nslt) ∷ []
+words_of (nodes.Whole (wholes.Health measure)) = health_parts measure
+words_of (nodes.Whole (wholes.Nonlife measure)) = nonlife_parts
+words_of (nodes.Whole (wholes.Bscr measure)) = modules measure
+words_of (nodes.Whole (wholes.OpPart part)) = operational_sources part
+words_of (nodes.Whole (wholes.Adjust adjustment)) = adjustment_sources adjustment
+words_of (nodes.Whole wholes.Scr) = requirement_parts
+words_of (nodes.Whole wholes.Diversification) = diversification_sources
+words_of node = []
+
 abbrev pub sources_of : BalanceSheet → Node → List Node
 sources_of sheet (nodes.Fund name of_funds.Total) = holder_totals name sheet
 sources_of sheet (nodes.Security name of_securities.Total) = holder_totals name sheet
-sources_of sheet (nodes.Security name (of_securities.UnitLoss direction)) = []
-sources_of sheet (nodes.Security name (of_securities.Rate direction)) = nodes.Security name of_securities.Total ∷ nodes.Security name (of_securities.UnitLoss direction) ∷ []
-sources_of sheet (nodes.Liability name (of_liabilities.Rate direction)) = []
 sources_of sheet (nodes.Currency currency (of_currencies.Loss direction)) = rates_in currency direction sheet
-sources_of sheet (nodes.Whole (wholes.InterestScenario direction measures.Gross)) = map (currency_loss direction) sheet.curves
-sources_of sheet (nodes.Whole (wholes.InterestScenario direction measures.Net)) = nodes.Whole (wholes.InterestScenario direction measures.Gross) ∷ []
-sources_of sheet (nodes.Whole (wholes.Choice alternatives)) = scenarios alternatives
-sources_of sheet (nodes.Whole (wholes.Picked alternatives measure)) = scenarios alternatives ++ nodes.Whole (wholes.Choice alternatives) ∷ []
-sources_of sheet (nodes.Whole (wholes.ClassSum class)) = held_of_class class sheet
-sources_of sheet (nodes.Whole (wholes.EquityPart equities)) = classes_of equities
-sources_of sheet (nodes.Whole wholes.EquityRoot) = equity_parts
-sources_of sheet (nodes.Whole (wholes.NetPart risk)) = gross_of risk ∷ []
-sources_of sheet (nodes.Liability name of_liabilities.Present) = []
-sources_of sheet (nodes.Liability name (of_liabilities.Loss projection)) = []
 sources_of sheet (nodes.Currency currency (of_currencies.Scenario direction measures.Gross)) = worths_in currency sheet
-sources_of sheet (nodes.Currency currency (of_currencies.Scenario direction measures.Net)) =
-    nodes.Currency currency (of_currencies.Scenario direction measures.Gross) ∷ []
-sources_of sheet (nodes.Currency currency of_currencies.Choice) = currency_scenarios currency
-sources_of sheet (nodes.Currency currency (of_currencies.Picked measure)) =
-    currency_scenarios currency ++ nodes.Currency currency of_currencies.Choice ∷ []
-sources_of sheet (nodes.Whole (wholes.Currency measure)) = foreign_picked measure sheet
-sources_of sheet (nodes.Whole wholes.Property) = nodes.Whole (wholes.ClassSum classes.Property) ∷ []
-sources_of sheet (nodes.Security name of_securities.Spread) = nodes.Security name of_securities.Total ∷ []
-sources_of sheet (nodes.Whole wholes.Spread) = map security_spread (filter (has_class classes.Bond) sheet.securities)
 sources_of sheet (nodes.Group name of_groups.Total) = map security_total (filter (is_of_group name) sheet.securities)
+sources_of sheet (nodes.Whole (wholes.InterestScenario direction measures.Gross)) = map (currency_loss direction) sheet.curves
+sources_of sheet (nodes.Whole (wholes.ClassSum class)) = held_of_class class sheet
+sources_of sheet (nodes.Whole (wholes.Currency measure)) = foreign_picked measure sheet
+sources_of sheet (nodes.Whole wholes.Spread) = map security_spread (filter (has_class classes.Bond) sheet.securities)
 sources_of sheet (nodes.Whole wholes.Assets) = map security_total (filter has_group sheet.securities)
-sources_of sheet (nodes.Group name of_groups.ConcentrationSquare) = nodes.Whole wholes.Assets ∷ nodes.Group name of_groups.Total ∷ []
 sources_of sheet (nodes.Whole wholes.Concentration) = map concentration_square sheet.groups
-sources_of sheet (nodes.Whole (wholes.Market measure)) = market_parts measure
-sources_of sheet (nodes.Group name of_groups.Loss) = []
 sources_of sheet (nodes.Whole (wholes.ClassLoss class)) = losses_of_class class sheet
 sources_of sheet (nodes.Whole (wholes.ClassSquare class)) = losses_of_class class sheet
-sources_of sheet (nodes.Whole wholes.Variance) = class_losses ++ class_squares
-sources_of sheet (nodes.Whole wholes.DefaultBand) = class_losses ++ nodes.Whole wholes.Variance ∷ []
-sources_of sheet (nodes.Whole wholes.DefaultType1) = class_losses ++ nodes.Whole wholes.Variance ∷ nodes.Whole wholes.DefaultBand ∷ []
-sources_of sheet (nodes.Whole wholes.DefaultType2) = []
-sources_of sheet (nodes.Whole wholes.Default) = default_types
 sources_of sheet (nodes.Whole (wholes.BioScenario biometric projection measures.Gross)) = losses_under biometric projection sheet
-sources_of sheet (nodes.Whole (wholes.BioScenario biometric projection measures.Net)) =
-    nodes.Whole (wholes.BioScenario biometric projection measures.Gross) ∷ []
-sources_of sheet (nodes.Whole (wholes.Life measure)) = life_parts measure
-sources_of sheet (nodes.Whole (wholes.Slt measure)) = slt_parts measure
-sources_of sheet (nodes.Whole (wholes.Segment set number)) = []
-sources_of sheet (nodes.Whole (wholes.PremiumReserve set)) = segments_of set
-sources_of sheet (nodes.Whole (wholes.CatCharge key)) = []
-sources_of sheet (nodes.Whole (wholes.Lapse set)) = []
-sources_of sheet (nodes.Whole wholes.Natural) = natural_perils
-sources_of sheet (nodes.Whole wholes.ManMade) = man_made_perils
-sources_of sheet (nodes.Whole wholes.NonlifeCatastrophe) = nonlife_catastrophes
-sources_of sheet (nodes.Whole wholes.HealthCatastrophe) = health_perils
-sources_of sheet (nodes.Whole (wholes.Nslt measure)) = nodes.Whole (wholes.PremiumReserve sets.Nslt) ∷ []
-sources_of sheet (nodes.Whole (wholes.Health measure)) = health_parts measure
-sources_of sheet (nodes.Whole (wholes.Nonlife measure)) = nodes.Whole (wholes.PremiumReserve sets.Nl) ∷ nodes.Whole wholes.NonlifeCatastrophe ∷ []
-sources_of sheet (nodes.Whole wholes.Intangible) = []
-sources_of sheet (nodes.Whole (wholes.Bscr measure)) = modules measure
-sources_of sheet (nodes.Whole (wholes.OpPart part)) = operational_sources part
-sources_of sheet (nodes.Whole (wholes.Adjust adjustment)) = adjustment_sources adjustment
-sources_of sheet (nodes.Whole wholes.Scr) = requirement_parts
-sources_of sheet (nodes.Whole wholes.Diversification) = diversification_sources
+sources_of sheet node = words_of node

@@ -1,11 +1,15 @@
 //! Laws of the graph of figures, whatever a program does. Each is a function that does nothing,
 //! whose contract is the law.
-ghost use Rattle.std.specs.Prelude.{◌≡◌, ◌↔◌, ◌⊎◌, ℕ, true, Contains, List, Some, map, slice_get, take};
+ghost use Rattle.std.specs.Prelude.{◌≡◌, ◌↔◌, ◌<◌, ◌⊎◌, ℕ, true, Contains, List, Some, map, slice_get, take};
 ghost use Rattle.scr_sheet.specs.declared.sheet.BalanceSheet.{BalanceSheet};
 ghost use Rattle.scr_sheet.specs.Validity.{Valid};
 ghost use Rattle.scr_nodes.specs.declared.node.Node.{Node};
+ghost use Rattle.scr_nodes.specs.declared.node.Node.TheVariants as nodes;
+ghost use Rattle.scr_nodes.specs.declared.node.Whole.{Whole};
+ghost use Rattle.scr_nodes.specs.Levels.{level};
 ghost use Rattle.scr_nodes.specs.Live.{is_live};
 ghost use Rattle.scr_nodes.specs.LiveNodes.{HasNoRepeats, live_nodes, rest_nodes, total_nodes};
+ghost use Rattle.scr_nodes.specs.Numbers.{number_of_whole, whole_nodes};
 ghost use Rattle.scr_nodes.specs.Reckoned.{reckoned};
 ghost use Rattle.scr_nodes.specs.Sources.{sources_of};
 
@@ -38,6 +42,22 @@ pub fn rest_lists()
     ensures after_sources { (sheet : BalanceSheet) (k : ℕ) (node source : Node) → Valid sheet
         → slice_get (rest_nodes sheet) k ≡ Some node → Contains (sources_of sheet node) source
         → Contains (total_nodes sheet) source ⊎ Contains (take k (rest_nodes sheet)) source }
+{}
+
+/// Each source of a figure stands at a lower level than it, whatever the balance sheet; those of a
+/// figure at level 0 stand there too (totals of funds, whose sources are totals of the funds that hold
+/// them).
+pub fn levels()
+    ensures lower { (sheet : BalanceSheet) (node source : Node) → 0 < level node
+        → Contains (sources_of sheet node) source → level source < level node }
+    ensures none { (sheet : BalanceSheet) (node source : Node) → level node ≡ 0
+        → Contains (sources_of sheet node) source → level source ≡ 0 }
+{}
+
+/// Each figure of the whole sheet stands in their list at its number. So no two have one number.
+pub fn numbers()
+    ensures { (sheet : BalanceSheet) (what : Whole) → is_live sheet (nodes.Whole what) ≡ true
+        → slice_get whole_nodes (number_of_whole what) ≡ Some (nodes.Whole what) }
 {}
 
 /// Figures that are reckoned from those of their sources by plain recursion obey its equation, for

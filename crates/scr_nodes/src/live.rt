@@ -1,13 +1,68 @@
-//! Whether a balance sheet has the rows, the stresses and the segments that figures stand for.
+//! Whether a balance sheet has a figure, and the rows, the stresses and the segments that figures
+//! stand for.
 ghost use Rattle.std.specs.Prelude.{◌≡◌};
-ghost use Rattle.scr_nodes.specs.Live.{pays, is_bond, is_stressed_liability, is_foreign_currency, is_segment};
+ghost use Rattle.scr_nodes.specs.Live.{currency_lives, is_live, liability_lives, pays, is_bond, is_stressed_liability, is_foreign_currency, is_segment, security_lives, whole_lives};
 ghost use Rattle.scr_nodes.specs.Rows.{has_stress, is_stress};
 ghost use Rattle.scr_profile.specs.Segments.{segments};
 
-use crate::Biometric;
 use crate::rows::{has_class, has_flows, is_foreign, is_paying};
+use crate::{Biometric, Node, OfCurrency, OfLiability, OfSecurity, Whole};
 use scr_profile::Set;
 use scr_sheet::{BalanceSheet, Class, Name, Projection};
+
+/// Whether the balance sheet has this figure. The cost is that of a look-up.
+pub fn is_live(sheet: &BalanceSheet, node: &Node) -> bool
+    ensures { result ≡ is_live sheet.now node.now }
+{
+    match node {
+        Node::Fund(name, _) => sheet.funds.contains(name),
+        Node::Security(name, what) => security_lives(sheet, name, *what),
+        Node::Liability(name, what) => liability_lives(sheet, name, *what),
+        Node::Currency(currency, what) => currency_lives(sheet, currency, *what),
+        Node::Group(name, _) => sheet.groups.contains(name),
+        Node::Whole(what) => whole_lives(*what),
+    }
+}
+
+fn security_lives(sheet: &BalanceSheet, name: &Name, what: OfSecurity) -> bool
+    ensures { result ≡ security_lives sheet.now name.now what }
+{
+    match what {
+        OfSecurity::Total => sheet.securities.contains(name),
+        OfSecurity::UnitLoss(_) | OfSecurity::Rate(_) => pays(sheet, name),
+        OfSecurity::Spread => is_bond(sheet, name),
+    }
+}
+
+fn liability_lives(sheet: &BalanceSheet, name: &Name, what: OfLiability) -> bool
+    ensures { result ≡ liability_lives sheet.now name.now what }
+{
+    match what {
+        OfLiability::Rate(_) | OfLiability::Present => sheet.liabilities.contains(name),
+        OfLiability::Loss(projection) => is_stressed_liability(sheet, name, projection),
+    }
+}
+
+fn currency_lives(sheet: &BalanceSheet, currency: &Name, what: OfCurrency) -> bool
+    ensures { result ≡ currency_lives sheet.now currency.now what }
+{
+    match what {
+        OfCurrency::Loss(_) => sheet.curves.contains(currency),
+        OfCurrency::Scenario(_, _) | OfCurrency::Choice | OfCurrency::Picked(_) =>
+            is_foreign_currency(sheet, currency),
+    }
+}
+
+fn whole_lives(what: Whole) -> bool
+    ensures { result ≡ whole_lives what }
+{
+    match what {
+        Whole::ClassLoss(class) | Whole::ClassSquare(class) => class < 6,
+        Whole::BioScenario(biometric, projection, _) => has_stress(biometric, projection),
+        Whole::Segment(set, number) => is_segment(set, number),
+        _ => true,
+    }
+}
 
 /// Whether there is a security of this name with payments, which a change of interest rates can
 /// make worth less (Article 165).

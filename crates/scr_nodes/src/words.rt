@@ -7,7 +7,7 @@ ghost use Rattle.scr_nodes.specs.declared.node.Equities.TheVariants as kinds;
 ghost use Rattle.scr_profile.specs.declared.set.Set.TheVariants as sets;
 ghost use Rattle.scr_nodes.specs.declared.node.Node.TheVariants as nodes;
 ghost use Rattle.scr_nodes.specs.declared.node.Whole.TheVariants as wholes;
-ghost use Rattle.scr_nodes.specs.Sources.{interest_scenarios, lapse_scenarios, currency_scenarios, classes_of, equity_parts, gross_of, risk_part, market_parts, class_losses, class_squares, default_types, life_parts, slt_parts, health_parts, segments_of, natural_perils, man_made_perils, nonlife_catastrophes, health_perils, modules, diversification_sources, requirement_parts, operational_sources, adjustment_sources};
+ghost use Rattle.scr_nodes.specs.Sources.{interest_scenarios, lapse_scenarios, currency_scenarios, classes_of, equity_parts, gross_of, risk_part, market_parts, class_losses, class_squares, default_types, life_parts, slt_parts, health_parts, segments_of, natural_perils, man_made_perils, nonlife_catastrophes, nonlife_parts, health_perils, modules, diversification_sources, requirement_parts, operational_sources, adjustment_sources};
 
 use crate::{
     Adjustment, Alternatives, Biometric, Direction, Equities, Measure, Node, OfCurrency,
@@ -319,6 +319,16 @@ pub fn nslt_segments() -> [Node; 4]
         Node::Whole(Whole::Segment(Set::Nslt, 2)),
         Node::Whole(Whole::Segment(Set::Nslt, 3)),
         Node::Whole(Whole::Segment(Set::Nslt, 4)),
+    ]
+}
+
+/// The requirements for the sub-modules of non-life underwriting risk (Article 114).
+pub fn nonlife_parts() -> [Node; 2]
+    ensures { result ≡ nonlife_parts }
+{
+    [
+        Node::Whole(Whole::PremiumReserve(Set::Nl)),
+        Node::Whole(Whole::NonlifeCatastrophe),
     ]
 }
 

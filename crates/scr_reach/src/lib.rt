@@ -6,7 +6,6 @@ mod family;
 mod first_links;
 mod key;
 mod linking;
-mod live;
 mod numbers;
 mod places;
 mod relinking;
@@ -15,7 +14,6 @@ mod starts;
 
 pub use first_links::link_all;
 pub use linking::{linked_sources, places_near, places_of};
-pub use live::is_live;
 pub use places::Places;
 pub use relinking::relink;
 pub use starts::Starts;

@@ -34,7 +34,7 @@ use Rattle.scr_nodes.specs.declared.node.OfCurrency.TheVariants as of_currencies
 use Rattle.scr_nodes.specs.declared.node.Whole.TheVariants as wholes
 use Rattle.scr_nodes.proofs.Apart.{AreApart, apart-append}
 use Rattle.scr_nodes.proofs.OwnRows.{distinct-liabilities}
-use Rattle.scr_nodes.proofs.Parts.{each-tested}
+use Rattle.scr_nodes.proofs.Chosen.{each-tested}
 use Rattle.scr_changes.specs.Changes.{change_of, hold_change}
 use Rattle.scr_changes.specs.Comparisons.{same_rates}
 use Rattle.scr_changes.specs.Readings.{rates_by}

@@ -1,9 +1,8 @@
-use Rattle.std.proofs.Common.{◌≡◌, ◌++◌, map, filter, take}
-use Rattle.scr_nodes.specs.Rows.{has_flows}
-use Rattle.scr_nodes.specs.Sources.{liability_loss}
+use Rattle.std.proofs.Common.{◌≡◌, ◌++◌, map, take}
+use Rattle.scr_nodes.specs.LiveNodes.{flat, losses_of}
 use Rattle.scr_live.proofs.all_live.push_losses.Given as goal
 
--- what the rows so far give stands behind what stood there
-abbrev pub invariant-loop-k : goal.invariant-loop-k
-invariant-loop-k l = l.list.items ≡ l.initial.list.items
-    ++ map (liability_loss l.projection) (filter (has_flows l.projection) (take l.k l.sheet.liabilities))
+-- what was read so far stands behind what stood there
+abbrev pub invariant-loop-stress : goal.invariant-loop-stress
+invariant-loop-stress l = l.list.items ≡ l.initial.list.items
+    ++ flat (map (λ stress. losses_of stress l.sheet) (take l.stress-index l.stresses))

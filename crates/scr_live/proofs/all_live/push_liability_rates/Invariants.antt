@@ -1,8 +1,0 @@
-use Rattle.std.proofs.Common.{◌≡◌, ◌++◌, map, take}
-use Rattle.scr_nodes.specs.Sources.{liability_rate}
-use Rattle.scr_live.proofs.all_live.push_liability_rates.Given as goal
-
--- what the rows so far give stands behind what stood there
-abbrev pub invariant-loop-k : goal.invariant-loop-k
-invariant-loop-k l = l.list.items ≡ l.initial.list.items
-    ++ map (liability_rate l.direction) (take l.k l.sheet.liabilities)
