@@ -7,7 +7,9 @@ use Rattle.std.proofs.lemmas.Int.{ints}
 use Rattle.std.proofs.lemmas.Bool.{cases_eq, ne_eqb}
 use Rattle.std.proofs.lemmas.List.Sums.{sum_by-set, get_or-le-sum_by}
 use Rattle.scr_dates.specs.declared.day.Day.{Day}
-use Rattle.scr_dates.specs.declared.term.Maturity.TheVariants.{Past, Years}
+use Rattle.scr_dates.specs.declared.term.Maturity.{Maturity}
+use Rattle.scr_dates.specs.declared.term.Maturity.TheVariants.{Past, Years, TooFar}
+use Rattle.scr_dates.specs.Payments.{years_of}
 use Rattle.scr_dates.specs.Years.{maturity_of}
 use Rattle.scr_curve.proofs.CurveLemmas.{list_by_place}
 use Rattle.scr_flow.specs.Due.{amount_at, due_in}
@@ -117,3 +119,14 @@ due_ended i asof pairs flows le h =
     let sum : get_or flows k d +ℤ pos 0 ≡ due_in asof pairs (k + 1) = rw (drop_all i pairs le) at (h.so_far k d (omega (arith, within, places))) in
     let same : get_or flows k d ≡ due_in asof pairs (k + 1) = omega (arith, ints, sum) in
     same ∙ ap (λ (j : ℕ). due_in asof pairs j) (omega arith)))
+
+-- ---- what the years of a near payment tell of its maturity
+pub past-of : (m : Maturity) → ((years : ℕ) → m ≡ TooFar years → ⊥) → ((n : ℕ) → m ≡ Years n → (1 ≤ n) × (n ≤ 100)) → years_of m ≡ 0 → m ≡ Past
+past-of Past near within e = refl
+past-of (Years n) near within e = let least = (within n refl).0 in absurd (omega (arith, e, least))
+past-of (TooFar n) near within e = absurd (near n refl)
+
+pub due-of : (m : Maturity) (n : ℕ) → ((years : ℕ) → m ≡ TooFar years → ⊥) → 1 ≤ n → years_of m ≡ n → m ≡ Years n
+due-of Past n near some e = absurd (omega (arith, e, some))
+due-of (Years k) n near some e = ap Years e
+due-of (TooFar k) n near some e = absurd (near k refl)

@@ -158,7 +158,7 @@ years-above : (asof pay : ℤ) → 1 ≤ years_to asof pay
 unfolding years_to
 years-above asof pay = least-above _ _ 1
 
-years-within : (asof pay : ℤ) (n : ℕ) → maturity_of asof pay ≡ Years n → (1 ≤ n) × (n ≤ 100)
+pub years-within : (asof pay : ℤ) (n : ℕ) → maturity_of asof pay ≡ Years n → (1 ≤ n) × (n ≤ 100)
 years-within asof pay n e = by (int_le pay asof) (nat_le (years_to asof pay) 100) (years_to asof pay) refl (years-above asof pay) n e
   where
     by : (past within : Bool) (years : ℕ) → nat_le years 100 ≡ within → 1 ≤ years → (n : ℕ)

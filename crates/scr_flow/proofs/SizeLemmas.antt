@@ -110,7 +110,7 @@ within-weighted (flow ∷ flows) (e ∷ es) all =
     shared : (m a b : ℕ) → m * a + m * b ≡ m * (a + b)
     shared m a b = omega arith
 
-within-discount : (e : Ends) → IsDiscount e → IsWithin MAX_DISCOUNT e
+pub within-discount : (e : Ends) → IsDiscount e → IsWithin MAX_DISCOUNT e
 within-discount e h = record { low = omega (arith, ints, h.low, h.ordered, h.high); high = omega (arith, ints, h.low, h.ordered, h.high) }
 
 pub present-within : (flows : List ℤ) (table : List Ends) → All IsDiscount table → IsWithin (MAX_DISCOUNT * sum_by unsigned_abs flows) (present_ends flows table)

@@ -4,7 +4,8 @@ ghost use Rattle.std.specs.Prelude.{◌≡◌, ◌≤◌, All, sum_by, unsigned_
 ghost use Rattle.scr_dates.specs.Civil.{IsDay};
 ghost use Rattle.scr_flow.specs.Due.{dues, paid_total, AreNear};
 
-use scr_dates::{Day, Maturity, maturity};
+use scr_dates::Day;
+use scr_years::Years;
 
 /// The sum of the amounts that fall due at each maturity of 1 to 100 years; a payment on or before the reference date
 /// counts nowhere. All days lie in the years 1900 to 2200, no payment lies further ahead than 100 years, and the
@@ -17,12 +18,22 @@ pub fn bucket(asof: Day, pairs: &[(Day, i64)]) -> [i64; 100]
     ensures value { result ≡ dues asof.number pairs.now }
     ensures no_larger { sum_by unsigned_abs result ≤ paid_total pairs.now }
 {
+    bucket_by(&Years::new(asof), pairs)
+}
+
+/// The same by the anniversaries that are kept of the reference date.
+pub fn bucket_by(years: &Years, pairs: &[(Day, i64)]) -> [i64; 100]
+    requires days_in { All (λ pair. IsDay pair.0.number) pairs.now }
+    requires near { AreNear years.now pairs.now }
+    requires small { paid_total pairs.now ≤ 50_000_000_000_000 }
+    ensures value { result ≡ dues years.now pairs.now }
+    ensures no_larger { sum_by unsigned_abs result ≤ paid_total pairs.now }
+{
     let mut flows = [0; 100];
     for (day, amount) in pairs {
-        match maturity(asof, *day) {
-            Maturity::Past => {}
-            Maturity::Years(years) => flows[usize::from(years) - 1] += *amount,
-            Maturity::TooFar(_) => unreachable!(),
+        let maturity = usize::from(years.until(*day));
+        if maturity > 0 {
+            flows[maturity - 1] += *amount;
         }
     }
     flows

@@ -3,10 +3,12 @@
 #![tactic(auto)]
 
 mod due;
+mod falls;
 pub mod laws;
 mod loss;
 mod value;
 
-pub use due::bucket;
+pub use due::{bucket, bucket_by};
+pub use falls::Falls;
 pub use loss::{curve_loss, per_million, unit_loss};
 pub use value::present;

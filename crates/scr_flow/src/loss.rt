@@ -15,6 +15,7 @@ ghost use Rattle.scr_num.specs.Sizes.{IsWithin};
 ghost use Rattle.scr_curve.specs.declared.table.TheConstants.{MAX_DISCOUNT};
 ghost use Rattle.scr_profile.specs.declared.limits.TheConstants.{MAX_HELD};
 
+use crate::Falls;
 use crate::value::weighted;
 use scr_curve::{Discounts, Tilt, yearly_at};
 use scr_num::{Span, add, exact, scale, sub};
@@ -44,12 +45,7 @@ pub fn unit_loss(
     ensures low_size { unsigned_abs result.low ≤ MAX_DISCOUNT * sum_by unsigned_abs flows.now }
     ensures high_size { unsigned_abs result.high ≤ MAX_DISCOUNT * sum_by unsigned_abs flows.now }
 {
-    let mut sum = exact(0);
-    for i in 0..100 {
-        let fall = fall_of(base[i], from.at[i], stressed[i], to.at[i]);
-        sum = add(sum, weighted(flows[i], fall));
-    }
-    sum
+    Falls::new(base, from, stressed, to).loss(flows)
 }
 
 /// The same where the rates of a curve in millionths are stressed by a tilt. The rates are found only of the maturities at
@@ -100,7 +96,7 @@ fn lost_at(flow: i64, rates: &[i64], place: usize, from: Span, tilt: Tilt, to: S
 }
 
 /// By how much the discount of one maturity falls.
-fn fall_of(base: i64, from: Span, stressed: i64, to: Span) -> Span
+pub(crate) fn fall_of(base: i64, from: Span, stressed: i64, to: Span) -> Span
     requires from_in { IsDiscount (ends from) }
     requires to_in { IsDiscount (ends to) }
     ensures ends { ends result ≡ difference base (ends from) stressed (ends to) }

@@ -1,14 +1,15 @@
 //! What payments are worth.
 
-ghost use Rattle.std.specs.Prelude.{◌≡◌, ℕ, ◌*◌, ◌≤◌, ◌*ℤ◌, All, map, sum_by, unsigned_abs};
+ghost use Rattle.std.specs.Prelude.{◌≡◌, ℕ, ◌*◌, ◌≤◌, ◌*ℤ◌, All, length, map, sum_by, unsigned_abs};
 ghost use Rattle.scr_num.specs.Fraction.{Fraction};
 ghost use Rattle.scr_num.specs.Figure.{Frac};
 ghost use Rattle.scr_num.specs.Rounding.{ends};
 ghost use Rattle.scr_num.specs.Enclosure.{Encloses};
 ghost use Rattle.scr_curve.specs.Discount.{present_exact};
 ghost use Rattle.scr_curve.specs.DiscountEnds.{one, IsDiscount, EncloseDiscounts};
-ghost use Rattle.scr_flow.specs.Sums.{flow_ends};
+ghost use Rattle.scr_flow.specs.Sums.{flow_ends, weighted_ends};
 ghost use Rattle.scr_flow.specs.LossEnds.{present_ends};
+ghost use Rattle.scr_num.specs.Sizes.{IsWithin};
 ghost use Rattle.scr_curve.specs.declared.table.TheConstants.{MAX_DISCOUNT};
 
 use scr_curve::Discounts;
@@ -25,12 +26,24 @@ pub fn present(flows: &[i64; 100], d: &Discounts) -> Span
     ensures low_size { unsigned_abs result.low ≤ MAX_DISCOUNT * sum_by unsigned_abs flows.now }
     ensures high_size { unsigned_abs result.high ≤ MAX_DISCOUNT * sum_by unsigned_abs flows.now }
 {
+    weighted_sum(flows, &d.at)
+}
+
+/// The sum of payments after 1 to 100 years, each times the span of its maturity.
+pub(crate) fn weighted_sum(flows: &[i64; 100], spans: &[Span; 100]) -> Span
+    requires small { sum_by unsigned_abs flows.now ≤ 100_000_000_000_000 }
+    requires in_range { All (λ span. IsWithin MAX_DISCOUNT (ends span)) spans.now }
+    ensures ends { ends result ≡ weighted_ends flows.now (map ends spans.now) }
+    ensures places { length flows.now ≡ length (map ends spans.now) }
+    ensures low_size { unsigned_abs result.low ≤ MAX_DISCOUNT * sum_by unsigned_abs flows.now }
+    ensures high_size { unsigned_abs result.high ≤ MAX_DISCOUNT * sum_by unsigned_abs flows.now }
+{
     let mut sum = exact(0);
     for i in 0..100 {
         let flow = flows[i];
-        let discount = d.at[i];
+        let span = spans[i];
         if flow != 0 {
-            sum = add(sum, weighted(flow, discount));
+            sum = add(sum, weighted(flow, span));
         }
     }
     sum

@@ -21,7 +21,7 @@ use Rattle.scr_agg.specs.Correlated.{NotNegative, total_high, all_ends}
 use Rattle.scr_agg.proofs.Roots.{table_of-square}
 use Rattle.scr_agg.proofs.RootSizes.{root-within}
 use Rattle.scr_loss.specs.Bscr.{bscr_correlations, modules_figure, intangible_figure, bscr_figure, diversification_figure}
-use Rattle.scr_loss.specs.BscrEnds.{LowsNotNegative, modules_ends, intangible_ends, bscr_ends, diversification_ends}
+use Rattle.scr_loss.specs.BscrEnds.{LowsNotNegative, modules_ends, intangible_ends, bscr_ends, diversification_ends, known_diversification_ends}
 
 pub lows_of : (parts : List Span) → NotNegative parts → LowsNotNegative (all_ends parts)
 lows_of [] h = tt
@@ -64,37 +64,36 @@ root-again modules intangible =
     ap₂ (λ (low high : ℤ). let e : Ends = record { low = low; high = high } in e)
     (less-again (modules_ends modules).low more) (less-again (modules_ends modules).high more)
 
--- so the diversification is the sum of the modules less the root over them
-pub diversification-root : (modules : List Ends) (intangible : ℕ)
-    → diversification_ends modules (bscr_ends modules intangible) intangible ≡ sub_ends (sum_ends modules) (modules_ends modules)
-diversification-root modules intangible = ap (sub_ends (sum_ends modules)) (root-again modules intangible)
+-- so of a known requirement the diversification is the same
+pub known-same : (modules : List Ends) (intangible : ℕ)
+    → known_diversification_ends modules (bscr_ends modules intangible) intangible ≡ diversification_ends modules
+known-same modules intangible = ap (sub_ends (sum_ends modules)) (root-again modules intangible)
 
-less-root-encloses : (modules : List Ends) (figures : List Figure) → length modules ≡ 5 → LowsNotNegative modules → EncloseEach 1000 modules figures
-    → let e = sub_ends (sum_ends modules) (modules_ends modules) in Encloses 1000 e.low e.high (diversification_figure figures)
-less-root-encloses modules figures count lows h =
+pub diversification-encloses : (modules : List Ends) (figures : List Figure) → length modules ≡ 5 → LowsNotNegative modules → EncloseEach 1000 modules figures
+    → Encloses 1000 (diversification_ends modules).low (diversification_ends modules).high (diversification_figure figures)
+diversification-encloses modules figures count lows h =
     Encloses-sub 1000 (sum_ends modules).low (sum_ends modules).high (modules_ends modules).low (modules_ends modules).high
     (sum_figure figures) (modules_figure figures) (Encloses-sum 1000 (lit< tt) modules figures h) (modules-encloses modules figures count lows h)
 
-pub diversification-encloses : (modules : List Ends) (figures : List Figure) (intangible : ℕ) → length modules ≡ 5 → LowsNotNegative modules
+pub known-encloses : (modules : List Ends) (figures : List Figure) (intangible : ℕ) → length modules ≡ 5 → LowsNotNegative modules
     → EncloseEach 1000 modules figures
-    → let e = diversification_ends modules (bscr_ends modules intangible) intangible in Encloses 1000 e.low e.high (diversification_figure figures)
-diversification-encloses modules figures intangible count lows h =
-    subst (λ (e : Ends). Encloses 1000 e.low e.high (diversification_figure figures)) (sym (diversification-root modules intangible))
-    (less-root-encloses modules figures count lows h)
+    → let e = known_diversification_ends modules (bscr_ends modules intangible) intangible in
+    Encloses 1000 e.low e.high (diversification_figure figures)
+known-encloses modules figures intangible count lows h =
+    subst (λ (e : Ends). Encloses 1000 e.low e.high (diversification_figure figures)) (sym (known-same modules intangible))
+    (diversification-encloses modules figures count lows h)
 
 between : (a b c d : ℤ) (s : ℕ) → pos 0 ≤ℤ a → b ≤ℤ pos s → pos 0 ≤ℤ c → d ≤ℤ pos s → (pos 0 ≤ℤ ((a -ℤ d) +ℤ pos s)) × ((b -ℤ c) ≤ℤ pos s)
 between a b c d s h k l m = (omega (arith, ints), omega (arith, ints))
 
-pub diversification-size : (mosts : List ℕ) (modules : List Ends) (intangible : ℕ) → length modules ≡ 5 → AreAmounts mosts modules
-    → let e = diversification_ends modules (bscr_ends modules intangible) intangible in
-    (pos 0 ≤ℤ (e.low +ℤ pos (sum_by (λ most. most) mosts))) × (e.high ≤ℤ pos (sum_by (λ most. most) mosts))
-diversification-size mosts modules intangible count h =
+pub diversification-size : (mosts : List ℕ) (modules : List Ends) → length modules ≡ 5 → AreAmounts mosts modules
+    → (pos 0 ≤ℤ ((diversification_ends modules).low +ℤ pos (sum_by (λ most. most) mosts))) × ((diversification_ends modules).high ≤ℤ pos (sum_by (λ most. most) mosts))
+diversification-size mosts modules count h =
     let s = sum_by (λ (most : ℕ). most) mosts in
     let sum = amount-total mosts modules h in
     let root = modules-size mosts modules count h in
-    subst (λ (e : Ends). (pos 0 ≤ℤ (e.low +ℤ pos s)) × (e.high ≤ℤ pos s)) (sym (diversification-root modules intangible))
-    (between (sum_ends modules).low (sum_ends modules).high (modules_ends modules).low (modules_ends modules).high s
-    sum.not_negative (amount-high s (sum_ends modules) sum) root.not_negative (amount-high s (modules_ends modules) root))
+    between (sum_ends modules).low (sum_ends modules).high (modules_ends modules).low (modules_ends modules).high s
+    sum.not_negative (amount-high s (sum_ends modules) sum) root.not_negative (amount-high s (modules_ends modules) root)
 
 -- ---- the magnitudes of parts that are not negative
 low-magnitude : (low high : ℤ) → pos 0 ≤ℤ low → low ≤ℤ high → unsigned_abs low ≤ or_zero high

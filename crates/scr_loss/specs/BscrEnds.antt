@@ -18,6 +18,11 @@ intangible_ends cents = exact_ends (pos (800 * cents))
 abbrev pub bscr_ends : List Ends → (intangible : ℕ) → Ends
 bscr_ends modules intangible = add_ends (modules_ends modules) (intangible_ends intangible)
 
--- the sum of the modules less what the Basic Solvency Capital Requirement is without intangible assets
-abbrev pub diversification_ends : List Ends → (bscr : Ends) → (intangible : ℕ) → Ends
-diversification_ends modules bscr intangible = sub_ends (sum_ends modules) (sub_ends bscr (intangible_ends intangible))
+abbrev pub diversification_ends : List Ends → Ends
+diversification_ends modules = sub_ends (sum_ends modules) (modules_ends modules)
+
+-- the same of a Basic Solvency Capital Requirement that is known: the sum of the modules less what it is without
+-- intangible assets
+abbrev pub known_diversification_ends : List Ends → (bscr : Ends) → (intangible : ℕ) → Ends
+known_diversification_ends modules bscr intangible =
+    sub_ends (sum_ends modules) (sub_ends bscr (intangible_ends intangible))

@@ -8,7 +8,7 @@ ghost use Rattle.scr_num.specs.Sums.{EncloseEach};
 ghost use Rattle.scr_agg.specs.Correlated.{NotNegative, total_high, all_ends};
 ghost use Rattle.scr_profile.specs.declared.limits.TheConstants.{MAX_AMOUNT};
 ghost use Rattle.scr_loss.specs.Bscr.{bscr_figure, diversification_figure, intangible_figure};
-ghost use Rattle.scr_loss.specs.BscrEnds.{bscr_ends, diversification_ends, intangible_ends};
+ghost use Rattle.scr_loss.specs.BscrEnds.{bscr_ends, diversification_ends, known_diversification_ends, intangible_ends};
 
 use scr_agg::quad;
 use scr_num::{Span, add, exact, sub, total};
@@ -43,15 +43,29 @@ fn intangible_assets(cents: u64) -> Span
 }
 
 /// What the requirements for market, default, life, health and non-life risk come to above the root
-/// over them, in grains: that root is the Basic Solvency Capital Requirement without intangible
-/// assets, of the value in cents that went into it.
-pub fn diversification(parts: &[Span; 5], basic: Span, intangible: u64) -> Span
+/// over them, in grains.
+pub fn diversification(parts: &[Span; 5]) -> Span
+    requires lows { NotNegative parts.now }
+    requires highs { total_high parts.now ≤ 6_000_000_000_000_000_000 }
+    ensures ends { ends result ≡ diversification_ends (all_ends parts.now) }
+    ensures encloses { (figures : List Figure) → EncloseEach 1000 (all_ends parts.now) figures
+        → Encloses 1000 result.low result.high (diversification_figure figures) }
+{
+    sub(total(parts), quad(parts, &BSCR))
+}
+
+/// The same where the Basic Solvency Capital Requirement over these parts is known: the root over
+/// them is that requirement without intangible assets, of the value in cents that went into it.
+pub fn known_diversification(parts: &[Span; 5], basic: Span, intangible: u64) -> Span
     requires lows { NotNegative parts.now }
     requires highs { total_high parts.now ≤ 6_000_000_000_000_000_000 }
     requires basic_low { unsigned_abs basic.low ≤ 5_000_000_000_000_000_000 }
     requires basic_high { unsigned_abs basic.high ≤ 5_000_000_000_000_000_000 }
     requires intangible { intangible ≤ MAX_AMOUNT }
-    ensures ends { ends result ≡ diversification_ends (all_ends parts.now) (ends basic) intangible }
+    ensures ends { ends result
+        ≡ known_diversification_ends (all_ends parts.now) (ends basic) intangible }
+    ensures same { ends basic ≡ bscr_ends (all_ends parts.now) intangible
+        → ends result ≡ diversification_ends (all_ends parts.now) }
     ensures encloses { (figures : List Figure) → EncloseEach 1000 (all_ends parts.now) figures
         → ends basic ≡ bscr_ends (all_ends parts.now) intangible
         → Encloses 1000 result.low result.high (diversification_figure figures) }

@@ -12,7 +12,7 @@ ghost use Rattle.scr_agg.specs.Correlated.{table_of};
 ghost use Rattle.scr_profile.specs.declared.correlations.TheConstants.{BSCR};
 ghost use Rattle.scr_profile.specs.declared.operational.OpInput.{OpInput};
 ghost use Rattle.scr_loss.specs.Bscr.{bscr_correlations, intangible_figure, bscr_figure, diversification_figure};
-ghost use Rattle.scr_loss.specs.BscrEnds.{LowsNotNegative, modules_ends, intangible_ends, bscr_ends, diversification_ends};
+ghost use Rattle.scr_loss.specs.BscrEnds.{LowsNotNegative, modules_ends, intangible_ends, bscr_ends, diversification_ends, known_diversification_ends};
 ghost use Rattle.scr_loss.specs.Operational.{IsWithinLimits, prem_figure, prov_figure, cap_figure, op_figure};
 ghost use Rattle.scr_loss.specs.OperationalEnds.{prem_ends, prov_ends, cap_ends, op_ends};
 ghost use Rattle.scr_loss.specs.Absorption.{adj_tp_figure, adj_dt_figure, scr_figure};
@@ -39,24 +39,25 @@ pub fn basic()
         → IsAmount (sum_by (λ most. most) mosts + 800 * intangible) (bscr_ends modules intangible) }
 {}
 
-/// The Basic Solvency Capital Requirement without intangible assets is the root over the modules,
-/// end by end. So with that requirement the modules also give ends that enclose the
-/// diversification, neither of which is beyond the sum of the modules.
+/// They also give ends that enclose the diversification, neither of which is beyond the sum of the
+/// modules. The Basic Solvency Capital Requirement without intangible assets is the root over the
+/// modules, end by end; so by that requirement the ends are the same.
 pub fn diversified()
     ensures root { (modules : List Ends) (intangible : ℕ)
         → sub_ends (bscr_ends modules intangible) (intangible_ends intangible)
         ≡ modules_ends modules }
-    ensures encloses { (modules : List Ends) (figures : List Figure) (intangible : ℕ)
-        → length modules ≡ 5
+    ensures known { (modules : List Ends) (intangible : ℕ)
+        → known_diversification_ends modules (bscr_ends modules intangible) intangible
+        ≡ diversification_ends modules }
+    ensures encloses { (modules : List Ends) (figures : List Figure) → length modules ≡ 5
         → LowsNotNegative modules
         → EncloseEach 1000 modules figures
-        → let e = diversification_ends modules (bscr_ends modules intangible) intangible
-        in Encloses 1000 e.low e.high (diversification_figure figures) }
-    ensures size { (mosts : List ℕ) (modules : List Ends) (intangible : ℕ) → length modules ≡ 5
+        → Encloses 1000 (diversification_ends modules).low (diversification_ends modules).high
+        (diversification_figure figures) }
+    ensures size { (mosts : List ℕ) (modules : List Ends) → length modules ≡ 5
         → AreAmounts mosts modules
-        → let e = diversification_ends modules (bscr_ends modules intangible) intangible
-        in (pos 0 ≤ℤ (e.low +ℤ pos (sum_by (λ most. most) mosts)))
-        × (e.high ≤ℤ pos (sum_by (λ most. most) mosts)) }
+        → (pos 0 ≤ℤ ((diversification_ends modules).low +ℤ pos (sum_by (λ most. most) mosts)))
+        × ((diversification_ends modules).high ≤ℤ pos (sum_by (λ most. most) mosts)) }
 {}
 
 /// For all premiums and provisions the ends of operational risk by premiums and by provisions

@@ -10,6 +10,6 @@ mod nil;
 mod operational_risk;
 
 pub use adjustments::{adj_dt, adj_tp, scr};
-pub use basic::{bscr, diversification};
+pub use basic::{bscr, diversification, known_diversification};
 pub use charges::Operational;
 pub use operational_risk::{cap, op, operational, prem, prov};

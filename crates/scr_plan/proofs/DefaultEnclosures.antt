@@ -210,7 +210,7 @@ module _ (factors : FactorValues) (sheet : BalanceSheet) (valid : Valid sheet) w
   pub square-encloses : (class : ℕ) → NodeEncloses (nodes.Whole (wholes.ClassSquare class))
   square-encloses class f is = told 1_000_000 _ _ f is (subst (λ (e : Ends). Enclosed 1_000_000 e (class_square sheet class)) (sym (square-is factors sheet valid class)) (square-told sheet class))
 
-  variance-holds : Enclosed 1_000_000 (figure (nodes.Whole wholes.Variance)) (default_variance sheet)
+  pub variance-holds : Enclosed 1_000_000 (figure (nodes.Whole wholes.Variance)) (default_variance sheet)
   unfolding default_variance
   variance-holds =
       subst (λ (e : Ends). Enclosed 1_000_000 e (default_variance sheet)) (sym (variance-is factors sheet valid))

@@ -260,7 +260,7 @@ module _ (factors : FactorValues) (sheet : BalanceSheet) (valid : Valid sheet) w
   net-worked : (direction : Direction) → figure (nodes.Whole (wholes.InterestScenario direction measures.Net)) ≡ net_ends (figure (nodes.Whole (wholes.InterestScenario direction measures.Gross))) (absorbed (interest_key direction) sheet.numbers)
   net-worked direction = worked-equation factors sheet valid (nodes.Whole (wholes.InterestScenario direction measures.Net))
 
-  abbrev alternative_of : Direction → Alternative
+  abbrev pub alternative_of : Direction → Alternative
   alternative_of direction = record { gross = figure (nodes.Whole (wholes.InterestScenario direction measures.Gross)); net = figure (nodes.Whole (wholes.InterestScenario direction measures.Net)) }
 
   absorb-is : (direction : Direction) → Holds 1000 (net_ends (figure (nodes.Whole (wholes.InterestScenario direction measures.Gross))) (absorbed (interest_key direction) sheet.numbers)) (Frac (scenario_of sheet direction).net)
@@ -283,13 +283,13 @@ module _ (factors : FactorValues) (sheet : BalanceSheet) (valid : Valid sheet) w
     net = subst (λ (e : Ends). Holds 1000 e (Frac (scenario_of sheet direction).net)) (sym (net-worked direction)) (absorb-is direction);
   }
 
-  abbrev rise_and_fall : List Alternative
+  abbrev pub rise_and_fall : List Alternative
   rise_and_fall = alternative_of directions.Up ∷ alternative_of directions.Down ∷ []
 
-  abbrev outcomes : List Outcome
+  abbrev pub outcomes : List Outcome
   outcomes = scenario_of sheet directions.Up ∷ scenario_of sheet directions.Down ∷ []
 
-  both-enclose : EncloseOutcomes 1000 rise_and_fall outcomes
+  pub both-enclose : EncloseOutcomes 1000 rise_and_fall outcomes
   both-enclose = (scenario-encloses directions.Up, (scenario-encloses directions.Down, tt))
 
   decisive-is : decisive_outcome sheet ≡ outcome_at outcomes (chosen outcomes)

@@ -38,3 +38,4 @@ pub mod LifeCode
 pub mod DefaultCode
 pub mod NonlifeCode
 pub mod GroupSums
+pub mod FallRows

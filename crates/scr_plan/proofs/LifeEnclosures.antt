@@ -91,7 +91,7 @@ module _ (factors : FactorValues) (sheet : BalanceSheet) (valid : Valid sheet) w
   scenario-encloses biometric projection measure f is = told 1000 _ _ f is (stress-encloses biometric projection measure)
 
   -- ---- lapses
-  lapses-enclose : (biometric : Biometric) → EncloseOutcomes 1000 (lapse_alternatives factors sheet valid biometric) (lapse_outcomes sheet biometric)
+  pub lapses-enclose : (biometric : Biometric) → EncloseOutcomes 1000 (lapse_alternatives factors sheet valid biometric) (lapse_outcomes sheet biometric)
   lapses-enclose biometric = (outcome-encloses biometric projections.LapseUp, (outcome-encloses biometric projections.LapseDown, (outcome-encloses biometric projections.LapseMass, tt)))
 
   decisive-is : (biometric : Biometric) → lapse_outcome sheet biometric ≡ outcome_at (lapse_outcomes sheet biometric) (chosen (lapse_outcomes sheet biometric))

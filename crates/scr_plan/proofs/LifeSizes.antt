@@ -178,13 +178,13 @@ module _ (factors : FactorValues) (sheet : BalanceSheet) (valid : Valid sheet) w
   abbrev figure : Node → Ends
   figure node = worked factors sheet node
 
-  abbrev excess_of : Projection → Liability → Ends
+  abbrev pub excess_of : Projection → Liability → Ends
   excess_of projection l = excess_ends (valued sheet l) (flows_under projection l.flows) (discounts_at (rates_of l.currency sheet))
 
   abbrev nothing_valued : Valued
   nothing_valued = record { asof = sheet.numbers.asof.number; payments = []; rates = [] }
 
-  excess-worked : (projection : Projection) (name : List ℕ) (l : Liability) → liability_of name sheet.liabilities ≡ Some l
+  pub excess-worked : (projection : Projection) (name : List ℕ) (l : Liability) → liability_of name sheet.liabilities ≡ Some l
       → figure (nodes.Liability name (of_liabilities.Loss projection)) ≡ excess_of projection l
   excess-worked projection name l is =
       worked-equation factors sheet valid (nodes.Liability name (of_liabilities.Loss projection))

@@ -8,7 +8,7 @@ use Rattle.scr_loss.specs.BscrEnds.{LowsNotNegative}
 use Rattle.scr_loss.specs.Bscr.{intangible_figure}
 use Rattle.scr_loss.specs.Operational.{prem_figure, prov_figure, cap_figure}
 use Rattle.scr_loss.proofs.AdjustmentBounds.{adj_tp-encloses, adj_dt-encloses, scr-encloses}
-use Rattle.scr_loss.proofs.BscrBounds.{intangible-encloses, bscr-encloses, diversification-encloses}
+use Rattle.scr_loss.proofs.BscrBounds.{intangible-encloses, bscr-encloses, known-encloses}
 use Rattle.scr_loss.proofs.OperationalBounds.{prem-encloses, prov-encloses, cap-encloses, op-encloses}
 use Rattle.scr_factors.specs.Values.{FactorValues, IsInForm}
 use Rattle.scr_sheet.specs.Validity.{Valid}
@@ -73,7 +73,7 @@ module _ (factors : FactorValues) (known : IsInForm factors) (sheet : BalanceShe
     unfolding diversification_exact
     diversification-holds =
         is-enclosed _ _ _ (sizes.diversification-worked factors known sheet valid)
-        (diversification-encloses (map figure (modules measures.Gross)) (modules_exact others factors sheet measures.Gross) sheet.numbers.intangible refl (lows measures.Gross) (modules-hold measures.Gross))
+        (known-encloses (map figure (modules measures.Gross)) (modules_exact others factors sheet measures.Gross) sheet.numbers.intangible refl (lows measures.Gross) (modules-hold measures.Gross))
 
     -- ---- operational risk
     premiums-hold : Holds (figure (nodes.Whole (wholes.OpPart operations.Premiums))) (prem_figure (operations_of sheet.numbers))

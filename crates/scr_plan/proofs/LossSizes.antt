@@ -10,7 +10,7 @@ use Rattle.scr_num.specs.Sizes.{IsWithin}
 use Rattle.scr_num.proofs.AmountBounds.{amount-wider, amount-high}
 use Rattle.scr_num.proofs.CentAmounts.{enclosing-in_order}
 use Rattle.scr_loss.specs.AbsorptionEnds.{IsNegativeAmount, adj_tp_ends, adj_dt_ends, scr_ends}
-use Rattle.scr_loss.specs.BscrEnds.{bscr_ends, diversification_ends}
+use Rattle.scr_loss.specs.BscrEnds.{bscr_ends, known_diversification_ends}
 use Rattle.scr_loss.specs.Operational.{IsWithinLimits}
 use Rattle.scr_loss.specs.OperationalEnds.{fifths_beyond, counted_ends, or_nil_ends, prem_ends, prov_ends, cap_ends, op_ends}
 use Rattle.scr_loss.proofs.AdjustmentBounds.{adj_tp-size, adj_dt-size}
@@ -57,7 +57,7 @@ premiums-small : (el eul pel peul en pen : ℕ) → el ≤ MAX_AMOUNT → eul �
     +ℤ (int_max (pos 0) ((fifths_beyond el pel -ℤ fifths_beyond eul peul) *ℤ pos 8) +ℤ int_max (pos 0) (fifths_beyond en pen *ℤ pos 6))) ≤ 20_000_000_000_000_000
 premiums-small el eul pel peul en pen a b c d e f = omega (arith, ints, clamps, a, b, c, d, e, f)
 
-prem-exact : (op : OpInput) → prem_ends op
+pub prem-exact : (op : OpInput) → prem_ends op
     ≡ exact_ends ((((pos op.el -ℤ pos op.eul) *ℤ pos 40) +ℤ (pos op.en *ℤ pos 30))
     +ℤ (int_max (pos 0) ((fifths_beyond op.el op.pel -ℤ fifths_beyond op.eul op.peul) *ℤ pos 8) +ℤ int_max (pos 0) (fifths_beyond op.en op.pen *ℤ pos 6)))
 prem-exact op =
@@ -163,10 +163,10 @@ module _ (factors : FactorValues) (known : IsInForm factors) (sheet : BalanceShe
   bscr-worked measure = worked-equation factors sheet valid (nodes.Whole (wholes.Bscr measure))
 
   pub diversification-worked : figure (nodes.Whole wholes.Diversification)
-      ≡ diversification_ends (map figure (modules measures.Gross)) (bscr_ends (map figure (modules measures.Gross)) sheet.numbers.intangible) sheet.numbers.intangible
+      ≡ known_diversification_ends (map figure (modules measures.Gross)) (bscr_ends (map figure (modules measures.Gross)) sheet.numbers.intangible) sheet.numbers.intangible
   diversification-worked =
       worked-equation factors sheet valid (nodes.Whole wholes.Diversification)
-      ∙ ap (λ (basic : Ends). diversification_ends (map figure (modules measures.Gross)) basic sheet.numbers.intangible) (bscr-worked measures.Gross)
+      ∙ ap (λ (basic : Ends). known_diversification_ends (map figure (modules measures.Gross)) basic sheet.numbers.intangible) (bscr-worked measures.Gross)
 
   pub cap-worked : figure (nodes.Whole (wholes.OpPart operations.Cap)) ≡ cap_ends (figure (nodes.Whole (wholes.Bscr measures.Gross)))
   cap-worked = worked-equation factors sheet valid (nodes.Whole (wholes.OpPart operations.Cap))

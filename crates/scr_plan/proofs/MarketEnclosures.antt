@@ -105,7 +105,7 @@ module _ (factors : FactorValues) (sheet : BalanceSheet) (valid : Valid sheet) w
   change-encloses direction measures.Gross currency = change-gross direction currency
   change-encloses direction measures.Net currency = change-net direction currency
 
-  both-enclose : (currency : List ℕ) → EncloseOutcomes 1000 (change_alternatives factors sheet valid currency) (change_outcomes sheet currency)
+  pub both-enclose : (currency : List ℕ) → EncloseOutcomes 1000 (change_alternatives factors sheet valid currency) (change_outcomes sheet currency)
   both-enclose currency = (one-encloses directions.Up, (one-encloses directions.Down, tt))
     where
       one-encloses : (direction : Direction) → EncloseOutcome 1000 (change_alternative factors sheet valid currency direction) (change_outcome sheet currency direction)

@@ -72,7 +72,7 @@ module _ (factors : FactorValues) (known : IsInForm factors) (sheet : BalanceShe
   lapse-fits set = record { small = omega (arith, sizes.lapse-within factors known sheet valid set) }
 
   -- ---- premium and reserve risk
-  numbered : (set : Set) (number : ℕ) → is_segment set number ≡ true → number ≤ segments set
+  pub numbered : (set : Set) (number : ℕ) → is_segment set number ≡ true → number ≤ segments set
   numbered set number live = leb-true number (segments set) (and_parts _ _ live).1
 
   pub segment-fits : (set : Set) (number : ℕ) → is_segment set number ≡ true → NodeFits (nodes.Whole (wholes.Segment set number))

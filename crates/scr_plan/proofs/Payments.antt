@@ -165,12 +165,12 @@ tables : (rates : List ℤ) (tilt : Tilt) → IsCurveInMillionths rates → All 
 tables rates tilt curve =
     table_in_range (rates_in_parts rates tilt) (rates_in_range rates tilt curve) (let count = length-rates_in_parts rates tilt in omega (arith, count))
 
-changed-is : (direction : Direction) (rates : List ℤ) → changed direction (discounts_at rates) ≡ table_ends (rates_in_parts rates (tilt_of direction))
+pub changed-is : (direction : Direction) (rates : List ℤ) → changed direction (discounts_at rates) ≡ table_ends (rates_in_parts rates (tilt_of direction))
 unfolding discounts_at
 changed-is directions.Up rates = refl
 changed-is directions.Down rates = refl
 
-base-is : (rates : List ℤ) → (discounts_at rates).base ≡ table_ends (rates_in_parts rates tilts.Base)
+pub base-is : (rates : List ℤ) → (discounts_at rates).base ≡ table_ends (rates_in_parts rates tilts.Base)
 unfolding discounts_at
 base-is rates = refl
 

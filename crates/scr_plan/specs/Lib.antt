@@ -25,6 +25,7 @@ pub mod LossExact
 pub mod Exact
 pub mod Close
 pub mod Kept
+pub mod KeptRates
 pub mod Paid
 pub mod Weights
 pub mod GroupLosses

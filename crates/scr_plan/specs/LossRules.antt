@@ -3,7 +3,7 @@
 -- Article 103 of Directive 2009/138/EC; the rounding is this project's own).
 use Rattle.std.specs.Prelude.{ℕ, List, [], ◌∷◌}
 use Rattle.scr_num.specs.Rounding.{Ends}
-use Rattle.scr_loss.specs.BscrEnds.{bscr_ends, diversification_ends}
+use Rattle.scr_loss.specs.BscrEnds.{bscr_ends, known_diversification_ends}
 use Rattle.scr_loss.specs.OperationalEnds.{cap_ends, op_ends}
 use Rattle.scr_loss.specs.AbsorptionEnds.{adj_tp_ends, adj_dt_ends, scr_ends}
 use Rattle.scr_plan.specs.Figures.{figure_at}
@@ -18,7 +18,7 @@ bscr_from intangible figures = bscr_ends (modules_from figures) intangible
 
 -- the modules, and the Basic Solvency Capital Requirement
 abbrev pub diversification_from : (intangible : ℕ) → List Ends → Ends
-diversification_from intangible figures = diversification_ends (modules_from figures) (figure_at figures 5) intangible
+diversification_from intangible figures = known_diversification_ends (modules_from figures) (figure_at figures 5) intangible
 
 -- of the Basic Solvency Capital Requirement
 abbrev pub cap_from : List Ends → Ends

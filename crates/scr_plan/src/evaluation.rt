@@ -1,5 +1,5 @@
 //! The figure of a node from those of its sources.
-ghost use Rattle.std.specs.Prelude.{◌≡◌, ◌+◌, map, slice_get};
+ghost use Rattle.std.specs.Prelude.{◌≡◌, ◌+◌, map, slice_get, IfSome};
 ghost use Rattle.scr_num.specs.Rounding.{ends};
 ghost use Rattle.scr_nodes.specs.OwnOf.{own_of, currency_absorbed};
 ghost use Rattle.scr_nodes.specs.Sources.{sources_of};
@@ -7,6 +7,7 @@ ghost use Rattle.scr_sheet.specs.Validity.{Valid};
 ghost use Rattle.scr_plan.specs.Fits.{Fits};
 ghost use Rattle.scr_plan.specs.GroupLosses.{AreLossesOf};
 ghost use Rattle.scr_plan.specs.Kept.{rows_of, all_discounts, discounts_in, AreDiscountsOf};
+ghost use Rattle.scr_plan.specs.KeptRates.{AreRatesOf};
 ghost use Rattle.scr_plan.specs.Rules.{rule};
 ghost use Rattle.scr_plan.specs.Worked.{worked};
 
@@ -25,7 +26,7 @@ use crate::nonlife_rules::{
 };
 use crate::paid::{cost, unit};
 use crate::rules::{choice, equities, fall, lost, net, picked, scaled};
-use crate::{Curves, GroupLosses};
+use crate::{Curves, GroupLosses, Rates};
 use scr_book::{BalanceSheet, Book, Name};
 use scr_factors::{Factors, Set};
 use scr_io::Steps;
@@ -66,49 +67,80 @@ pub fn evaluate<L: Ledger>(
     ensures step { steps.new ≡ steps.old + 1 }
 {
     steps.tick();
-    figure(factors, book.sheet(), curves, &node, spans)
+    figure(factors, book.sheet(), curves, None, &node, spans)
 }
 
-/// The figure of a node as `evaluate` gives it, where the losses of all groups are known: that of a
-/// group is looked up there. It counts as one step.
-pub fn evaluate_with<L: Ledger>(
+/// The figure of a node as `evaluate` gives it, by rates that are kept. It counts as one step.
+pub fn evaluate_by<L: Ledger>(
     factors: &Factors,
     book: &Book,
-    curves: &Curves,
-    losses: &GroupLosses,
+    rates: &Rates,
     node: Node,
     spans: &[Span],
     steps: &mut Steps<L>,
 ) -> Span
-    requires rows { AreDiscountsOf book.now.curves (rows_of curves.now) }
-    requires losses { AreLossesOf book.now losses.now }
+    requires rows { AreDiscountsOf book.now.curves (rows_of rates.now.curves) }
+    requires rates { AreRatesOf book.now (rows_of rates.now.curves) rates.now }
     requires fits { Fits (own_of factors.now book.now node) (map ends spans.now) }
-    ensures rule { ends result
-        ≡ rule (own_of factors.now book.now node) (discounts_in book.now (rows_of curves.now) node) (map ends spans.now) }
-    ensures worked { rows_of curves.now ≡ all_discounts book.now
+    ensures rule { ends result ≡ rule (own_of factors.now book.now node)
+        (discounts_in book.now (rows_of rates.now.curves) node) (map ends spans.now) }
+    ensures worked { rows_of rates.now.curves ≡ all_discounts book.now
         → map ends spans.now ≡ map (worked factors.now book.now) (sources_of book.now node)
         → ends result ≡ worked factors.now book.now node }
     ensures step { steps.new ≡ steps.old + 1 }
 {
     steps.tick();
-    figure_with(factors, book.sheet(), curves, losses, &node, spans)
+    figure(
+        factors,
+        book.sheet(),
+        &rates.curves,
+        Some(rates),
+        &node,
+        spans,
+    )
+}
+
+/// The same where the losses of all groups are known: that of a group is looked up there. It counts as one step.
+pub fn evaluate_with<L: Ledger>(
+    factors: &Factors,
+    book: &Book,
+    rates: &Rates,
+    losses: &GroupLosses,
+    node: Node,
+    spans: &[Span],
+    steps: &mut Steps<L>,
+) -> Span
+    requires rows { AreDiscountsOf book.now.curves (rows_of rates.now.curves) }
+    requires rates { AreRatesOf book.now (rows_of rates.now.curves) rates.now }
+    requires losses { AreLossesOf book.now losses.now }
+    requires fits { Fits (own_of factors.now book.now node) (map ends spans.now) }
+    ensures rule { ends result ≡ rule (own_of factors.now book.now node)
+        (discounts_in book.now (rows_of rates.now.curves) node) (map ends spans.now) }
+    ensures worked { rows_of rates.now.curves ≡ all_discounts book.now
+        → map ends spans.now ≡ map (worked factors.now book.now) (sources_of book.now node)
+        → ends result ≡ worked factors.now book.now node }
+    ensures step { steps.new ≡ steps.old + 1 }
+{
+    steps.tick();
+    figure_with(factors, book.sheet(), rates, losses, &node, spans)
 }
 
 /// The same over a plain balance sheet.
 fn figure_with(
     factors: &Factors,
     sheet: &BalanceSheet,
-    curves: &Curves,
+    rates: &Rates,
     losses: &GroupLosses,
     node: &Node,
     spans: &[Span],
 ) -> Span
     requires valid { Valid sheet.now }
-    requires rows { AreDiscountsOf sheet.now.curves (rows_of curves.now) }
+    requires rows { AreDiscountsOf sheet.now.curves (rows_of rates.now.curves) }
+    requires rates { AreRatesOf sheet.now (rows_of rates.now.curves) rates.now }
     requires losses { AreLossesOf sheet.now losses.now }
     requires fits { Fits (own_of factors.now sheet.now node.now) (map ends spans.now) }
-    ensures { ends result
-        ≡ rule (own_of factors.now sheet.now node.now) (discounts_in sheet.now (rows_of curves.now) node.now) (map ends spans.now) }
+    ensures { ends result ≡ rule (own_of factors.now sheet.now node.now)
+        (discounts_in sheet.now (rows_of rates.now.curves) node.now) (map ends spans.now) }
 {
     if let Node::Group(name, what) = node {
         if let OfGroup::Loss = what {
@@ -117,19 +149,21 @@ fn figure_with(
             }
         }
     }
-    figure(factors, sheet, curves, node, spans)
+    figure(factors, sheet, &rates.curves, Some(rates), node, spans)
 }
 
-/// The figure of a node, of which all is found anew.
+/// The figure of a node, by what is kept of the rates, if it is.
 fn figure(
     factors: &Factors,
     sheet: &BalanceSheet,
     curves: &Curves,
+    kept: Option<&Rates>,
     node: &Node,
     spans: &[Span],
 ) -> Span
     requires valid { Valid sheet.now }
     requires rows { AreDiscountsOf sheet.now.curves (rows_of curves.now) }
+    requires kept { IfSome kept (λ rates. AreRatesOf sheet.now (rows_of curves.now) rates.now) }
     requires fits { Fits (own_of factors.now sheet.now node.now) (map ends spans.now) }
     ensures { ends result
         ≡ rule (own_of factors.now sheet.now node.now) (discounts_in sheet.now (rows_of curves.now) node.now) (map ends spans.now) }
@@ -143,11 +177,11 @@ fn figure(
             spans,
         ),
         Node::Security(name, OfSecurity::UnitLoss(direction)) => unit(
-            sheet, curves, name, *direction,
+            sheet, curves, kept, name, *direction,
         ),
         Node::Security(_, OfSecurity::Rate(_)) => scaled(spans),
         Node::Liability(name, OfLiability::Rate(direction)) => cost(
-            sheet, curves, name, *direction,
+            sheet, curves, kept, name, *direction,
         ),
         Node::Currency(_, OfCurrency::Loss(_)) => lost(spans),
         Node::Whole(Whole::InterestScenario(direction, measure)) => match measure {
@@ -160,7 +194,7 @@ fn figure(
         Node::Whole(Whole::EquityPart(kind)) => fall(spans, *kind, sheet.numbers.sym),
         Node::Whole(Whole::EquityRoot) => equities(spans),
         Node::Whole(Whole::NetPart(risk)) => net(spans, sheet.numbers.absorbed(risk_key(*risk))),
-        Node::Liability(name, OfLiability::Present) => worth(sheet, curves, name),
+        Node::Liability(name, OfLiability::Present) => worth(sheet, curves, kept, name),
         Node::Currency(currency, OfCurrency::Scenario(direction, measure)) => match measure {
             Measure::Gross => foreign(sheet, currency, *direction, spans),
             Measure::Net => net(spans, change_absorbed(sheet, currency, *direction)),
@@ -182,6 +216,7 @@ fn figure(
         Node::Liability(name, OfLiability::Loss(projection)) => excess(
             sheet,
             curves,
+            kept,
             name,
             *projection,
         ),

@@ -7,8 +7,10 @@ mod by_weight;
 mod default_rules;
 mod discounting;
 mod evaluation;
+mod falling;
 mod held;
 mod kept;
+mod known;
 pub mod laws;
 mod life_rules;
 mod loss_rules;
@@ -20,8 +22,10 @@ mod spans;
 
 pub use all_losses::{GroupLosses, group_losses};
 pub use discounting::curves;
-pub use evaluation::{evaluate, evaluate_with, source};
+pub use evaluation::{evaluate, evaluate_by, evaluate_with, source};
+pub use falling::rates;
 pub use kept::Curves;
+pub use known::{CurrencyFalls, Rates};
 pub use scr_nodes::{
     Alternatives, Biometric, Direction, Equities, Measure, Node, OfCurrency, OfFund, OfGroup,
     OfLiability, OfSecurity, Risk, Whole,

@@ -1,5 +1,5 @@
 //! The rules of biometric stresses, and the roots over them.
-ghost use Rattle.std.specs.Prelude.{◌≡◌, ◌≤◌, map, sum_by, unsigned_abs};
+ghost use Rattle.std.specs.Prelude.{◌≡◌, ◌≤◌, map, sum_by, unsigned_abs, IfSome};
 ghost use Rattle.std.specs.List.{range_with_len};
 ghost use Rattle.scr_num.specs.Rounding.{ends};
 ghost use Rattle.scr_bio.specs.BiometricEnds.{life_ends, slt_ends};
@@ -9,16 +9,18 @@ ghost use Rattle.scr_nodes.specs.declared.node.OfLiability.TheVariants as of_lia
 ghost use Rattle.scr_sheet.specs.Validity.{Valid};
 ghost use Rattle.scr_plan.specs.Figures.{figures_from};
 ghost use Rattle.scr_plan.specs.Kept.{rows_of, row_in, discounts_in, AreDiscountsOf};
+ghost use Rattle.scr_plan.specs.KeptRates.{AreRatesOf};
 ghost use Rattle.scr_plan.specs.LifeFits.{FitsExcess};
 ghost use Rattle.scr_plan.specs.RootFits.{FitsRoot};
 ghost use Rattle.scr_plan.specs.LifeRules.{excess_ends, less_at};
 ghost use Rattle.scr_plan.specs.Paid.{valued_in};
 
-use crate::Curves;
+use crate::known::bucketed;
 use crate::spans::at;
+use crate::{Curves, Rates};
 use scr_book::{BalanceSheet, Name};
 use scr_dates::Day;
-use scr_flow::{bucket, present};
+use scr_flow::present;
 use scr_nodes::Biometric;
 use scr_nodes::single_numbers::stress_key;
 use scr_num::{Span, exact, max};
@@ -29,6 +31,7 @@ use scr_sheet::Projection;
 pub(crate) fn excess(
     sheet: &BalanceSheet,
     curves: &Curves,
+    kept: Option<&Rates>,
     name: &Name,
     projection: Projection,
 ) -> Span
@@ -36,6 +39,7 @@ pub(crate) fn excess(
     requires fits { FitsExcess (liability_valued sheet.now name.now)
         (paid_under sheet.now name.now projection) }
     requires rows { AreDiscountsOf sheet.now.curves (rows_of curves.now) }
+    requires kept { IfSome kept (λ rates. AreRatesOf sheet.now (rows_of curves.now) rates.now) }
     ensures { ends result
         ≡ excess_ends (liability_valued sheet.now name.now) (paid_under sheet.now name.now projection)
         (discounts_in sheet.now (rows_of curves.now) (nodes.Liability name.now (of_liabilities.Loss projection))) }
@@ -45,7 +49,7 @@ pub(crate) fn excess(
     };
     let stressed = liability.flows.under(projection).as_slice();
     let base = liability.flows.base.as_slice();
-    worth_more(sheet, curves, &liability.currency, stressed, base)
+    worth_more(sheet, curves, kept, &liability.currency, stressed, base)
 }
 
 /// By how much payments in a currency are worth more than others. What falls due at one maturity is
@@ -53,6 +57,7 @@ pub(crate) fn excess(
 fn worth_more(
     sheet: &BalanceSheet,
     curves: &Curves,
+    kept: Option<&Rates>,
     currency: &Name,
     stressed: &[(Day, i64)],
     base: &[(Day, i64)],
@@ -60,6 +65,7 @@ fn worth_more(
     requires valid { Valid sheet.now }
     requires fits { FitsExcess (valued_in sheet.now currency.now base.now) stressed.now }
     requires rows { AreDiscountsOf sheet.now.curves (rows_of curves.now) }
+    requires kept { IfSome kept (λ rates. AreRatesOf sheet.now (rows_of curves.now) rates.now) }
     ensures value { ends result
         ≡ excess_ends (valued_in sheet.now currency.now base.now) stressed.now
         (row_in currency.now sheet.now.curves (rows_of curves.now)) }
@@ -67,8 +73,8 @@ fn worth_more(
     let Some(place) = sheet.curves.place(currency) else {
         unreachable!()
     };
-    let asof = sheet.numbers.asof;
-    let flows = less(&bucket(asof, stressed), &bucket(asof, base));
+    let before = bucketed(sheet, kept, base);
+    let flows = less(&bucketed(sheet, kept, stressed), &before);
     let [discounts, _, _] = curves.row(place);
     max(present(&flows, discounts), exact(0))
 }

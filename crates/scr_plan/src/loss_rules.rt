@@ -51,7 +51,7 @@ pub(crate) fn diversification(spans: &[Span], intangible: u64) -> Span
     requires { FitsDiversified intangible (map ends spans.now) }
     ensures { ends result ≡ diversification_from intangible (map ends spans.now) }
 {
-    scr_loss::diversification(
+    scr_loss::known_diversification(
         &[
             at(spans, 0),
             at(spans, 1),

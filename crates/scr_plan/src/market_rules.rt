@@ -1,5 +1,5 @@
 //! The rules of market risk besides interest rate and equity risk.
-ghost use Rattle.std.specs.Prelude.{◌≡◌, ◌*◌, ◌^◌, ◌<◌, ◌≤◌, pos, ◌≤ℤ◌, map};
+ghost use Rattle.std.specs.Prelude.{◌≡◌, ◌*◌, ◌^◌, ◌<◌, ◌≤◌, pos, ◌≤ℤ◌, map, IfSome};
 ghost use Rattle.scr_num.specs.Amounts.{IsAmount};
 ghost use Rattle.scr_num.specs.Rounding.{ends, exact_ends};
 ghost use Rattle.scr_num.specs.Sizes.{AreTogether};
@@ -21,28 +21,36 @@ ghost use Rattle.scr_nodes.specs.declared.node.OfGroup.TheVariants as of_groups;
 ghost use Rattle.scr_plan.specs.Discounts.{no_discounts};
 ghost use Rattle.scr_plan.specs.Fits.{Fits};
 ghost use Rattle.scr_plan.specs.Kept.{rows_of, row_in, discounts_in, AreDiscountsOf};
+ghost use Rattle.scr_plan.specs.KeptRates.{AreRatesOf};
 ghost use Rattle.scr_plan.specs.MarketFits.{FitsWorth, FitsForeign, FitsMultiple, FitsSquareRoot, FitsMarket};
 ghost use Rattle.scr_plan.specs.MarketRules.{worth_ends, foreign_ends, multiple_ends, stressed_ends, group_square_ends};
 ghost use Rattle.scr_plan.specs.Paid.{valued_in};
 ghost use Rattle.scr_plan.specs.Rules.{amount_of, amount_at, first_sum, other_sum, six_parts, rule};
 
-use crate::Curves;
+use crate::known::bucketed;
 use crate::spans::{amount, at};
+use crate::{Curves, Rates};
 use scr_book::{BalanceSheet, GroupKind, Name, Position};
 use scr_conc::{charge_of, root, threshold_of};
 use scr_dates::Day;
 use scr_factors::Factors;
-use scr_flow::{bucket, present};
+use scr_flow::present;
 use scr_market::stress;
 use scr_nodes::Direction;
 use scr_num::{Span, add, exact};
 use scr_rate::total;
 
 /// The present value of a liability by the best estimate, in 10^-18 cents.
-pub(crate) fn worth(sheet: &BalanceSheet, curves: &Curves, name: &Name) -> Span
+pub(crate) fn worth(
+    sheet: &BalanceSheet,
+    curves: &Curves,
+    kept: Option<&Rates>,
+    name: &Name,
+) -> Span
     requires valid { Valid sheet.now }
     requires fits { FitsWorth (liability_valued sheet.now name.now) }
     requires rows { AreDiscountsOf sheet.now.curves (rows_of curves.now) }
+    requires kept { IfSome kept (λ rates. AreRatesOf sheet.now (rows_of curves.now) rates.now) }
     ensures { ends result ≡ worth_ends (liability_valued sheet.now name.now)
         (discounts_in sheet.now (rows_of curves.now) (nodes.Liability name.now of_liabilities.Present)) }
 {
@@ -50,26 +58,28 @@ pub(crate) fn worth(sheet: &BalanceSheet, curves: &Curves, name: &Name) -> Span
         unreachable!()
     };
     let flows = liability.flows.base.as_slice();
-    payments_worth(sheet, curves, &liability.currency, flows)
+    payments_worth(sheet, curves, kept, &liability.currency, flows)
 }
 
 /// What payments in a currency are worth.
 fn payments_worth(
     sheet: &BalanceSheet,
     curves: &Curves,
+    kept: Option<&Rates>,
     currency: &Name,
     payments: &[(Day, i64)],
 ) -> Span
     requires valid { Valid sheet.now }
     requires fits { FitsWorth (valued_in sheet.now currency.now payments.now) }
     requires rows { AreDiscountsOf sheet.now.curves (rows_of curves.now) }
+    requires kept { IfSome kept (λ rates. AreRatesOf sheet.now (rows_of curves.now) rates.now) }
     ensures value { ends result ≡ worth_ends (valued_in sheet.now currency.now payments.now)
         (row_in currency.now sheet.now.curves (rows_of curves.now)) }
 {
     let Some(place) = sheet.curves.place(currency) else {
         unreachable!()
     };
-    let flows = bucket(sheet.numbers.asof, payments);
+    let flows = bucketed(sheet, kept, payments);
     let [base, _, _] = curves.row(place);
     present(&flows, base)
 }

@@ -9,14 +9,14 @@ use Rattle.scr_sheet.specs.declared.sheet.BalanceSheet.{BalanceSheet}
 use Rattle.scr_nodes.specs.declared.node.Node.{Node}
 use Rattle.scr_nodes.specs.Live.{is_live}
 use Rattle.scr_nodes.specs.LiveNodes.{HasNoRepeats}
-use Rattle.scr_plan.specs.Discounts.{CurrencyDiscounts}
+use Rattle.scr_plan.specs.KeptRates.{KnownRates}
 use Rattle.scr_reach.specs.Dues.{AreDueAfter, AreEdited, AreStarts, numbers_of}
 use Rattle.scr_reach.specs.Leading.{IsCountOf, IsInReach}
 use Rattle.scr_reach.specs.Linked.{AreLinked, Grows}
 use Rattle.scr_reach.proofs.Growing.{linked-grown}
 use Rattle.std.specs.Option.{option_map_or}
-use Rattle.scr_curve.specs.declared.table.Discounts.{Discounts}
-use Rattle.scr_plan.specs.Kept.{all_discounts, rows_of}
+use Rattle.scr_plan.specs.declared.known.Rates.{Rates}
+use Rattle.scr_plan.specs.KeptRates.{all_rates, known_of}
 use Rattle.scr_tree.specs.Changed.{AreRowsFor, IsRecorded, StepsReach}
 use Rattle.scr_tree.proofs.KeptRates.{rates-kept}
 use Rattle.scr_tree.specs.Dues.{AreOthersKept}
@@ -25,7 +25,7 @@ use Rattle.scr_tree.specs.declared.figures.Figure.{Figure}
 use Rattle.scr_tree.proofs.Settled.{AreKept, edited-from, others-from, settled-grown, steps-from}
 
 module _ (factors : FactorValues) (after : BalanceSheet) (valid : Valid after) (edit : Edit) (listed : List Node)
-    (rows : List CurrencyDiscounts) (old new : List Node) (kept : List Figure) (edges : List Edge)
+    (rows : KnownRates) (old new : List Node) (kept : List Figure) (edges : List Edge)
     (recorded : IsRecorded factors after edit listed rows old kept edges) (grown : Grows old new) (once : HasNoRepeats new)
     (starts : List ℕ) (are : AreStarts new listed starts) where
   pub edited-grown : AreEdited after new edges starts
@@ -61,10 +61,10 @@ module _ (factors : FactorValues) (sheet : BalanceSheet) (old new : List Node) (
       subst (λ places. HasNoRepeats places → AreSettled factors sheet places now []) (sym grown.1)
       (λ o. settled-grown factors sheet old grown.0 o linked.placed kept now stay settled) once
 
--- the discounts after a record: new ones where it changes rates, else those before
-pub rows-after : (factors : FactorValues) (after : BalanceSheet) (edit : Edit) (listed : List Node) (rows : List CurrencyDiscounts) (places : List Node)
+-- the rates after a record: new ones where it changes them, else those before
+pub rows-after : (factors : FactorValues) (after : BalanceSheet) (edit : Edit) (listed : List Node) (rows : KnownRates) (places : List Node)
     (kept : List Figure) (edges : List Edge) → IsRecorded factors after edit listed rows places kept edges
-    → (new : Option (List (List Discounts))) → AreRowsFor edit after new → option_map_or rows_of new rows ≡ all_discounts after
+    → (new : Option Rates) → AreRowsFor edit after new → option_map_or known_of new rows ≡ all_rates after
 rows-after factors after edit listed rows places kept edges recorded None keeps =
-    recorded.curves ∙ sym (rates-kept edit recorded.before keeps) ∙ ap all_discounts (sym recorded.is)
+    recorded.rates ∙ sym (rates-kept edit recorded.before keeps) ∙ ap all_rates (sym recorded.is)
 rows-after factors after edit listed rows places kept edges recorded (Some new) are = are

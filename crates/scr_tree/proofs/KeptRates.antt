@@ -1,5 +1,5 @@
--- The discounts of all currencies stay where a record leaves their rates as they are.
-use Rattle.std.proofs.Common.{◌≡◌, ℕ, true, List, [], ◌∷◌, map, Option, Some, None, refl, sym, ap, ◌∙◌}
+-- All that is kept of rates stays where a record leaves the reference date and the rates of all currencies as they are.
+use Rattle.std.proofs.Common.{◌≡◌, ℕ, ℤ, true, List, [], ◌∷◌, map, Option, Some, None, refl, sym, ap, ◌∙◌}
 use Rattle.std.specs.Option.{option_map_or}
 use Rattle.scr_names.specs.Tables.{row_of, with_row, changed}
 use Rattle.scr_names.proofs.TableRows.{same_or_other, same_name-is, name_of-row_of, row_of-here, row_of-later, with_row-here, with_row-later}
@@ -13,7 +13,8 @@ use Rattle.scr_sheet.specs.declared.keys.Table.TheVariants as tables
 use Rattle.scr_sheet.specs.declared.rows.Curve.{Curve}
 use Rattle.scr_sheet.specs.declared.sheet.BalanceSheet.{BalanceSheet}
 use Rattle.scr_plan.specs.Discounts.{CurrencyDiscounts, discounts_at}
-use Rattle.scr_plan.specs.Kept.{all_discounts}
+use Rattle.scr_plan.specs.KeptRates.{KnownRates, all_rates, falls_at, falls_of}
+use Rattle.scr_plan.specs.declared.known.CurrencyFalls.{CurrencyFalls}
 use Rattle.scr_tree.specs.KeptRates.{keeps_rates}
 
 module _ {Row X : Type 0} (name_of : Row → List ℕ) (f : Row → X) where
@@ -45,19 +46,42 @@ module _ {Row X : Type 0} (name_of : Row → List ℕ) (f : Row → X) where
 abbrev at_rates : Curve → CurrencyDiscounts
 at_rates curve = discounts_at curve.rates
 
-absorb-keeps : (key : AbsorbKey) (cents : ℕ) (curves : List Curve)
-    → map at_rates (with_absorb key cents curves) ≡ map at_rates curves
-absorb-keeps (absorb.CurrencyUp currency) cents curves =
-    map-changed curve_name at_rates (λ c. record c { absorb_up = cents }) currency curves (λ c. refl) (λ c. refl)
-absorb-keeps (absorb.CurrencyDown currency) cents curves =
-    map-changed curve_name at_rates (λ c. record c { absorb_down = cents }) currency curves (λ c. refl) (λ c. refl)
-absorb-keeps key cents curves = refl
+abbrev falls_by : Curve → CurrencyFalls
+falls_by curve = falls_at curve.rates (discounts_at curve.rates)
+
+falls-by : (curves : List Curve) → falls_of curves (map at_rates curves) ≡ map falls_by curves
+falls-by [] = refl
+falls-by (curve ∷ curves) = ap (λ (falls : List CurrencyFalls). falls_by curve ∷ falls) (falls-by curves)
+
+-- what is the same for each map of curves by their rates
+absorb-keeps : {X : Type 0} (f : List ℤ → X) (key : AbsorbKey) (cents : ℕ) (curves : List Curve)
+    → map (λ (c : Curve). f c.rates) (with_absorb key cents curves) ≡ map (λ (c : Curve). f c.rates) curves
+absorb-keeps f (absorb.CurrencyUp currency) cents curves =
+    map-changed curve_name (λ (c : Curve). f c.rates) (λ c. record c { absorb_up = cents }) currency curves (λ c. refl) (λ c. refl)
+absorb-keeps f (absorb.CurrencyDown currency) cents curves =
+    map-changed curve_name (λ (c : Curve). f c.rates) (λ c. record c { absorb_down = cents }) currency curves (λ c. refl) (λ c. refl)
+absorb-keeps f key cents curves = refl
+
+-- what is known of rates, of its three parts
+abbrev known : List CurrencyDiscounts → ℤ → List CurrencyFalls → KnownRates
+known rows asof falls = record { rows = rows; asof = asof; falls = falls }
+
+known-kept : (before after : BalanceSheet) → after.numbers.asof.number ≡ before.numbers.asof.number → map at_rates after.curves ≡ map at_rates before.curves
+    → map falls_by after.curves ≡ map falls_by before.curves → all_rates after ≡ all_rates before
+known-kept before after asof rows falls =
+    let same : falls_of after.curves (map at_rates after.curves) ≡ falls_of before.curves (map at_rates before.curves) =
+    falls-by after.curves ∙ falls ∙ sym (falls-by before.curves) in
+    ap (λ (found : List CurrencyDiscounts). known found after.numbers.asof.number (falls_of after.curves (map at_rates after.curves))) rows
+    ∙ ap (λ (day : ℤ). known (map at_rates before.curves) day (falls_of after.curves (map at_rates after.curves))) asof
+    ∙ ap (known (map at_rates before.curves) before.numbers.asof.number) same
 
 pub rates-kept : (edit : Edit) (sheet : BalanceSheet) → keeps_rates edit ≡ true
-    → all_discounts (applied edit sheet) ≡ all_discounts sheet
+    → all_rates (applied edit sheet) ≡ all_rates sheet
 unfolding discounts_at
+rates-kept (edits.Asof date currency) sheet keeps = absurd (cc)
 rates-kept (edits.Curve currency rates) sheet keeps = absurd (cc)
 rates-kept (edits.Remove tables.Curve name) sheet keeps = absurd (cc)
 rates-kept (edits.Remove table name) sheet keeps = refl
-rates-kept (edits.Absorb key cents) sheet keeps = absorb-keeps key _ sheet.curves
+rates-kept (edits.Absorb key cents) sheet keeps =
+    known-kept sheet (applied (edits.Absorb key cents) sheet) refl (absorb-keeps discounts_at key _ sheet.curves) (absorb-keeps (λ rates. falls_at rates (discounts_at rates)) key _ sheet.curves)
 rates-kept edit sheet keeps = refl

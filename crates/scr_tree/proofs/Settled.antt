@@ -14,7 +14,7 @@ use Rattle.scr_nodes.specs.declared.node.Node.{Node}
 use Rattle.scr_nodes.specs.Live.{is_live}
 use Rattle.scr_nodes.specs.LiveNodes.{HasNoRepeats}
 use Rattle.scr_nodes.specs.Sources.{sources_of}
-use Rattle.scr_plan.specs.Discounts.{CurrencyDiscounts}
+use Rattle.scr_plan.specs.KeptRates.{KnownRates}
 use Rattle.scr_touched.specs.Touched.{IsSame}
 use Rattle.scr_reach.specs.Dues.{AreDueAfter, AreEdited, AreStarts, numbers_of}
 use Rattle.scr_reach.specs.Leading.{IsAtStart, IsCountOf, IsInReach, Leads}
@@ -69,7 +69,7 @@ reach-like sheet P Q like n = (
   λ h. record { live = h.live; leads = leads-like sheet Q P (λ m. (like m).1) n h.leads },
 )
 
-module _ (factors : FactorValues) (after : BalanceSheet) (valid : Valid after) (edit : Edit) (listed : List Node) (rows : List CurrencyDiscounts)
+module _ (factors : FactorValues) (after : BalanceSheet) (valid : Valid after) (edit : Edit) (listed : List Node) (rows : KnownRates)
     (old more : List Node) (kept : List Figure) (edges : List Edge)
     (recorded : IsRecorded factors after edit listed rows old kept edges) (once : HasNoRepeats (old ++ more)) (starts : List ℕ)
     (are : AreStarts (old ++ more) listed starts) where

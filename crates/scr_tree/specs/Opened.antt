@@ -3,15 +3,15 @@ use Rattle.std.specs.Prelude.{◌≡◌, ◌≤◌, [], length}
 use Rattle.scr_factors.specs.Values.{FactorValues}
 use Rattle.scr_sheet.specs.Validity.{Valid}
 use Rattle.scr_sheet.specs.declared.sheet.BalanceSheet.{BalanceSheet}
-use Rattle.scr_plan.specs.Kept.{rows_of, all_discounts}
+use Rattle.scr_plan.specs.KeptRates.{known_of, all_rates}
 use Rattle.scr_reach.specs.Linked.{AreLinked}
 use Rattle.scr_tree.specs.Figures.{AreSettled}
 use Rattle.scr_tree.specs.declared.opening.Opened.{Opened}
 
--- the book is valid, the discounts are its own, each figure has a place and is there, and is linked to its sources
+-- the book is valid, the rates are its own, each figure has a place and is there, and is linked to its sources
 pub record IsOpened (factors : FactorValues) (book : BalanceSheet) (opened : Opened) : Type 0 where
   pub valid : Valid book
-  pub curves : rows_of opened.curves ≡ all_discounts book
+  pub rates : known_of opened.rates ≡ all_rates book
   pub room : length opened.places ≤ length opened.figures.items
   pub figures : AreSettled factors book opened.places opened.figures.items []
   pub links : AreLinked book opened.places opened.links.edges

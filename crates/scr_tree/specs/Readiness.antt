@@ -1,16 +1,16 @@
 -- When figures can be reckoned from what is known (this project's own).
 use Rattle.std.specs.Prelude.{◌≡◌, ℕ}
-use Rattle.scr_plan.specs.Kept.{all_discounts, rows_of}
+use Rattle.scr_plan.specs.KeptRates.{all_rates, known_of}
 use Rattle.scr_reach.specs.Dues.{AreDues}
 use Rattle.scr_tree.specs.Dues.{IsFor, IsReady}
 use Rattle.scr_tree.specs.Lost.{AreLossesFor}
 use Rattle.scr_tree.specs.declared.figures.Figure.{Figure}
 use Rattle.scr_tree.specs.declared.inputs.Inputs.{Inputs}
 
--- the discounts and the losses are those of the book, and what is due is due in it
+-- the rates and the losses are those of the book, and what is due is due in it
 unfoldable pub IsOfBook : Inputs → Type 0
 IsOfBook g =
-    (rows_of g.curves.now ≡ all_discounts g.book.now) × AreLossesFor g.book.now g.losses.now
+    (known_of g.rates.now ≡ all_rates g.book.now) × AreLossesFor g.book.now g.losses.now
     × AreDues g.book.now g.places.now g.dues.now
 
 -- the sources of the due at this place of the dues are known

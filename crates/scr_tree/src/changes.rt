@@ -2,7 +2,7 @@
 //! then the writes.
 ghost use Rattle.std.specs.Prelude.{◌≡◌, ◌≤◌, ◌<◌, ℕ, All, length, slice_get, IfOk, OnOk, OnErr};
 ghost use Rattle.std.specs.Option.{option_map_or};
-ghost use Rattle.scr_plan.specs.Kept.{rows_of, all_discounts};
+ghost use Rattle.scr_plan.specs.KeptRates.{known_of, all_rates};
 ghost use Rattle.scr_rounds.specs.declared.ranks.Due.{Due};
 ghost use Rattle.scr_reach.specs.Dues.{AreRelinked, numbers_of, sources_count};
 ghost use Rattle.scr_reach.specs.Linked.{Grows};
@@ -20,18 +20,18 @@ use scr_factors::Factors;
 use scr_io::{Gate, Steps};
 use scr_links::Links;
 use scr_nodes::Node;
-use scr_plan::{Curves, curves};
+use scr_plan::{Rates, rates};
 use scr_reach::{Places, Starts, relink};
 use scr_rounds::Due;
 use std::alloc::{AllocError as NoMemory, Global};
 use std::sync::ledger::Ledger;
 use std::thread::Threads;
 
-/// What a record changes: the discounts, where it changes rates; what stands at the starts, of which
+/// What a record changes: the rates, where it changes some or the reference date; what stands at the starts, of which
 /// the links are made anew; and the figures of all that is reached from there.
 #[derive(Drop)]
 pub(crate) struct Change {
-    curves: Option<Curves>,
+    rates: Option<Rates>,
     starts: Starts,
     dues: Vec<Due>,
     fresh: Fresh,
@@ -44,7 +44,7 @@ pub(crate) fn change_of<R: Threads + Sync, G: Gate + Sync, L: Ledger>(
     alloc: Global,
     factors: &Factors,
     book: &Book,
-    kept_curves: &Curves,
+    kept_rates: &Rates,
     places: &mut Places,
     figures: &mut Vec<Figure>,
     links: &mut Links,
@@ -54,14 +54,14 @@ pub(crate) fn change_of<R: Threads + Sync, G: Gate + Sync, L: Ledger>(
     gate: &G,
     steps: &mut Steps<L>,
 ) -> Result<Change, NoMemory>
-    requires { IsRecorded factors.now book.now edit.now touched.now (rows_of kept_curves.now)
+    requires { IsRecorded factors.now book.now edit.now touched.now (known_of kept_rates.now)
         places.old figures.old.items links.old.edges }
     ensures grown { Grows places.old places.new }
     ensures room { length places.new ≤ length figures.new.items }
     ensures kept { (place : ℕ) → place < length places.old
         → slice_get figures.new.items place ≡ slice_get figures.old.items place }
     ensures links { links.new.edges ≡ links.old.edges }
-    ensures change { IfOk result (IsChangeOf factors.now book.now (rows_of kept_curves.now)
+    ensures change { IfOk result (IsChangeOf factors.now book.now (known_of kept_rates.now)
         places.new figures.new.items links.new) }
     ensures steps { OnOk result (workers ≡ 1
         → StepsReach book.now touched.now steps.old steps.new) }
@@ -70,13 +70,13 @@ pub(crate) fn change_of<R: Threads + Sync, G: Gate + Sync, L: Ledger>(
     let size = places.len();
     let dues = dues_of(alloc, book.sheet(), places, links, &starts)?;
     reserve(alloc, links, size, &dues)?;
-    let curves = new_curves(alloc, factors, book, edit)?;
+    let rates = new_rates(alloc, factors, book, edit)?;
     let fresh = reckon_dues(
         rt,
         alloc,
         factors,
         book,
-        new_or_kept(&curves, kept_curves),
+        new_or_kept(&rates, kept_rates),
         &Losses::Each,
         places,
         figures,
@@ -86,45 +86,46 @@ pub(crate) fn change_of<R: Threads + Sync, G: Gate + Sync, L: Ledger>(
         steps,
     )?;
     Ok(Change {
-        curves,
+        rates,
         starts,
         dues,
         fresh,
     })
 }
 
-/// The discounts where the record changes rates.
-fn new_curves(
+/// All that is kept of rates, where the record changes some or the reference date.
+fn new_rates(
     alloc: Global,
     factors: &Factors,
     book: &Book,
     edit: &Edit,
-) -> Result<Option<Curves>, NoMemory>
+) -> Result<Option<Rates>, NoMemory>
     ensures { IfOk result (AreRowsFor edit.now book.now) }
 {
     if keeps_rates(edit) {
         return Ok(None);
     }
-    Ok(Some(curves(alloc, factors, book)?))
+    Ok(Some(rates(alloc, factors, book)?))
 }
 
-/// The new discounts, and where there are none those that are kept.
-fn new_or_kept<'a>(new: &'a Option<Curves>, kept: &'a Curves) -> &'a Curves
-    ensures { rows_of result.now ≡ option_map_or rows_of new.now (rows_of kept.now) }
+/// The new rates, and where there are none those that are kept.
+fn new_or_kept<'a>(new: &'a Option<Rates>, kept: &'a Rates) -> &'a Rates
+    ensures { known_of result.now ≡ option_map_or known_of new.now (known_of kept.now) }
 {
     match new {
-        Some(curves) => curves,
+        Some(rates) => rates,
         None => kept,
     }
 }
 
-/// The record leaves the rates of all currencies as they are.
+/// The record leaves the reference date and the rates of all currencies as they are.
 fn keeps_rates(edit: &Edit) -> bool
     ensures { result ≡ keeps_rates edit.now }
 {
     !matches!(
         edit,
-        Edit::Curve { .. }
+        Edit::Asof { .. }
+            | Edit::Curve { .. }
             | Edit::Remove {
                 table: Table::Curve,
                 ..
@@ -164,24 +165,24 @@ fn count_of(dues: &[Due]) -> Result<u32, NoMemory>
 
 impl Change {
     /// Writes the change, without memory.
-    pub(crate) fn make(self, curves: &mut Curves, figures: &mut Vec<Figure>, links: &mut Links)
+    pub(crate) fn make(self, rates: &mut Rates, figures: &mut Vec<Figure>, links: &mut Links)
         requires within { All (λ (due : Due). due.number < length figures.old.items) self.dues.items }
         requires linkable { AreLinkable links.old self.dues.items }
-        ensures curves { rows_of curves.new ≡ option_map_or rows_of self.curves (rows_of curves.old) }
+        ensures rates { known_of rates.new ≡ option_map_or known_of self.rates (known_of rates.old) }
         ensures figures { AreWritten self.fresh (numbers_of self.dues.items) figures.old.items figures.new.items }
         ensures count { length figures.new.items ≡ length figures.old.items }
         ensures links { AreRelinked self.starts self.dues.items links.old.edges links.new.edges }
     {
         let Change {
-            curves: new_curves,
+            rates: new_rates,
             starts,
             dues,
             fresh,
         } = self;
         fresh.write(&dues, figures.as_mut_slice());
         relink(links, &starts, &dues);
-        if let Some(new_curves) = new_curves {
-            *curves = new_curves;
+        if let Some(new_rates) = new_rates {
+            *rates = new_rates;
         }
     }
 }

@@ -7,9 +7,8 @@ ghost use Rattle.scr_reach.specs.Linked.{Grows};
 
 use crate::figures::{Figure, NO_FIGURE};
 use scr_links::Links;
-use scr_live::sources;
-use scr_nodes::Node;
-use scr_reach::{Places, Starts, is_live, linked_sources, places_of};
+use scr_nodes::{Node, is_live, sources};
+use scr_reach::{Places, Starts, linked_sources, places_of};
 use scr_rounds::{Due, climb};
 use scr_sheet::BalanceSheet;
 use std::alloc::{AllocError as NoMemory, Global};

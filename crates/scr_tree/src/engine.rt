@@ -21,7 +21,7 @@ use scr_io::{Gate, Steps};
 use scr_links::Links;
 use scr_nodes::Node;
 use scr_num::Span;
-use scr_plan::Curves;
+use scr_plan::Rates;
 use scr_reach::Places;
 use scr_touched::touched;
 use std::alloc::{AllocError as NoMemory, Global};
@@ -35,7 +35,7 @@ use std::thread::Threads;
 pub struct Engine {
     factors: Factors,
     book: Book,
-    curves: Curves,
+    rates: Rates,
     places: Places,
     figures: Vec<Figure>,
     links: Links,
@@ -70,7 +70,7 @@ impl Engine {
         match reckon_all(rt, alloc, &factors, &book, workers, gate) {
             Ok(
                 Opened {
-                    curves,
+                    rates,
                     places,
                     figures,
                     links,
@@ -78,7 +78,7 @@ impl Engine {
             ) => Ok(Engine {
                 factors,
                 book,
-                curves,
+                rates,
                 places,
                 figures,
                 links,
@@ -122,7 +122,7 @@ impl Engine {
             alloc,
             &self.factors,
             &self.book,
-            &self.curves,
+            &self.rates,
             &mut self.places,
             &mut self.figures,
             &mut self.links,
@@ -136,7 +136,7 @@ impl Engine {
         match change {
             Ok(change) => {
                 drop(undo);
-                change.make(&mut self.curves, &mut self.figures, &mut self.links);
+                change.make(&mut self.rates, &mut self.figures, &mut self.links);
                 Ok(())
             }
             Err(NoMemory) => Err(take_back(&mut self.book, undo)),

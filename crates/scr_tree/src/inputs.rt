@@ -4,7 +4,7 @@ use crate::figures::{Figure, Fresh};
 use crate::reckon::Losses;
 use scr_book::Book;
 use scr_factors::Factors;
-use scr_plan::Curves;
+use scr_plan::Rates;
 use scr_reach::Places;
 use scr_rounds::Due;
 
@@ -14,7 +14,7 @@ use scr_rounds::Due;
 pub(crate) struct Inputs<'a> {
     pub(crate) factors: &'a Factors,
     pub(crate) book: &'a Book,
-    pub(crate) curves: &'a Curves,
+    pub(crate) rates: &'a Rates,
     pub(crate) losses: &'a Losses,
     pub(crate) places: &'a Places,
     pub(crate) kept: &'a [Figure],

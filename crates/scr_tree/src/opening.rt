@@ -1,6 +1,6 @@
 //! The figures of a book, all reckoned for the first time.
 ghost use Rattle.std.specs.Prelude.{◌≡◌, ◌<◌, ◌≤◌, [], All, length, IfOk, OnOk};
-ghost use Rattle.scr_plan.specs.Kept.{rows_of, all_discounts};
+ghost use Rattle.scr_plan.specs.KeptRates.{known_of, all_rates};
 ghost use Rattle.scr_rounds.specs.declared.ranks.Due.{Due};
 ghost use Rattle.scr_reach.specs.Dues.{AreDues, numbers_of};
 ghost use Rattle.scr_tree.specs.Dues.{AreOthersKept, AreWritten};
@@ -16,7 +16,7 @@ use scr_book::Book;
 use scr_factors::Factors;
 use scr_io::{Gate, Steps};
 use scr_links::Links;
-use scr_plan::{Curves, curves, group_losses};
+use scr_plan::{Rates, group_losses, rates};
 use scr_reach::{Places, link_all};
 use scr_rounds::Due;
 use std::alloc::{AllocError as NoMemory, Global};
@@ -27,7 +27,7 @@ use std::thread::Threads;
 /// What an engine keeps beside its factors and its book.
 #[derive(Drop)]
 pub(crate) struct Opened {
-    pub(crate) curves: Curves,
+    pub(crate) rates: Rates,
     pub(crate) places: Places,
     pub(crate) figures: Vec<Figure>,
     pub(crate) links: Links,
@@ -44,7 +44,7 @@ pub(crate) fn reckon_all<R: Threads + Sync, G: Gate + Sync>(
 ) -> Result<Opened, NoMemory>
     ensures { IfOk result (IsOpened factors.now book.now) }
 {
-    let curves = curves(alloc, factors, book)?;
+    let rates = rates(alloc, factors, book)?;
     let count = expected(book);
     let mut places = Places::with_capacity(alloc, count)?;
     let mut figures = Vec::with_capacity(alloc, count)?;
@@ -55,7 +55,7 @@ pub(crate) fn reckon_all<R: Threads + Sync, G: Gate + Sync>(
         alloc,
         factors,
         book,
-        &curves,
+        &rates,
         &places,
         &mut figures,
         &dues,
@@ -65,7 +65,7 @@ pub(crate) fn reckon_all<R: Threads + Sync, G: Gate + Sync>(
     )?;
     let links = link_all(alloc, book.sheet(), &places, &dues)?;
     Ok(Opened {
-        curves,
+        rates,
         places,
         figures,
         links,
@@ -94,7 +94,7 @@ fn reckon_rest<R: Threads + Sync, G: Gate + Sync, L: Ledger>(
     alloc: Global,
     factors: &Factors,
     book: &Book,
-    curves: &Curves,
+    rates: &Rates,
     places: &Places,
     figures: &mut Vec<Figure>,
     dues: &[Due],
@@ -105,7 +105,7 @@ fn reckon_rest<R: Threads + Sync, G: Gate + Sync, L: Ledger>(
     requires name { blank.name ≡ L.name }
     requires parts { blank.parts ≡ L.parts }
     requires some { 0 < blank.parts }
-    requires curves { rows_of curves.now ≡ all_discounts book.now }
+    requires rates { known_of rates.now ≡ all_rates book.now }
     requires dues { AreDues book.now places.now dues.now }
     requires others { AreOthersKept factors.now book.now places.now figures.old.items dues.now }
     requires room { length places.now ≤ length figures.old.items }
@@ -116,7 +116,7 @@ fn reckon_rest<R: Threads + Sync, G: Gate + Sync, L: Ledger>(
     let losses = Losses::All(group_losses(alloc, book)?);
     let mut steps = Steps::<L>::new(blank);
     let fresh = reckon_dues(
-        rt, alloc, factors, book, curves, &losses, places, figures, dues, workers, gate, &mut steps,
+        rt, alloc, factors, book, rates, &losses, places, figures, dues, workers, gate, &mut steps,
     )?;
     write_over(&fresh, dues, figures);
     Ok(())

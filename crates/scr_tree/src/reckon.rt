@@ -7,6 +7,7 @@ ghost use Rattle.scr_nodes.specs.Sources.{sources_of};
 ghost use Rattle.scr_plan.specs.Close.{is_open as open_mask};
 ghost use Rattle.scr_plan.specs.Fits.{Fits};
 ghost use Rattle.scr_plan.specs.Kept.{rows_of, all_discounts, AreDiscountsOf};
+ghost use Rattle.scr_plan.specs.KeptRates.{known_of, all_rates, AreRatesOf};
 ghost use Rattle.scr_plan.specs.Worked.{worked};
 ghost use Rattle.scr_reach.specs.Dues.{IsDue};
 ghost use Rattle.scr_tree.specs.Figures.{IsKnown, IsOf, figure_at, opens};
@@ -19,7 +20,7 @@ use scr_factors::Factors;
 use scr_io::{Gate, Steps};
 use scr_nodes::{Node, OfCurrency, Whole};
 use scr_num::Span;
-use scr_plan::{Curves, GroupLosses, evaluate, evaluate_with};
+use scr_plan::{GroupLosses, Rates, evaluate_by, evaluate_with};
 use scr_reach::Places;
 use scr_rounds::Due;
 use std::alloc::{AllocError as NoMemory, Global};
@@ -38,7 +39,7 @@ pub(crate) fn figure_of<G: Gate, L: Ledger>(
     alloc: Global,
     factors: &Factors,
     book: &Book,
-    curves: &Curves,
+    rates: &Rates,
     losses: &Losses,
     places: &Places,
     kept: &[Figure],
@@ -48,7 +49,7 @@ pub(crate) fn figure_of<G: Gate, L: Ledger>(
     steps: &mut Steps<L>,
 ) -> Result<Figure, NoMemory>
     requires due { IsDue book.now places.now due.now }
-    requires curves { rows_of curves.now ≡ all_discounts book.now }
+    requires rates { known_of rates.now ≡ all_rates book.now }
     requires losses { AreLossesFor book.now losses.now }
     requires sources { AllByRecursion (IsKnown factors.now book.now places.now kept.now fresh.now)
         due.now.sources.items }
@@ -61,7 +62,7 @@ pub(crate) fn figure_of<G: Gate, L: Ledger>(
     let spans = spans_of(alloc, &below)?;
     gate.pass(due.number);
     let node = places.at(due.number);
-    let span = evaluated(factors, book, curves, losses, node, &spans, steps);
+    let span = evaluated(factors, book, rates, losses, node, &spans, steps);
     Ok(Figure {
         span,
         close: is_close(node, span, &below),
@@ -72,23 +73,24 @@ pub(crate) fn figure_of<G: Gate, L: Ledger>(
 fn evaluated<L: Ledger>(
     factors: &Factors,
     book: &Book,
-    curves: &Curves,
+    rates: &Rates,
     losses: &Losses,
     node: &Node,
     spans: &[Span],
     steps: &mut Steps<L>,
 ) -> Span
-    requires rows { AreDiscountsOf book.now.curves (rows_of curves.now) }
+    requires rows { AreDiscountsOf book.now.curves (rows_of rates.now.curves) }
+    requires rates { AreRatesOf book.now (rows_of rates.now.curves) rates.now }
     requires losses { AreLossesFor book.now losses.now }
     requires fits { Fits (own_of factors.now book.now node.now) (map ends spans.now) }
-    ensures worked { rows_of curves.now ≡ all_discounts book.now
+    ensures worked { rows_of rates.now.curves ≡ all_discounts book.now
         → map ends spans.now ≡ map (worked factors.now book.now) (sources_of book.now node.now)
         → ends result ≡ worked factors.now book.now node.now }
     ensures step { steps.new ≡ steps.old + 1 }
 {
     match losses {
-        Losses::Each => evaluate(factors, book, curves, *node, spans, steps),
-        Losses::All(losses) => evaluate_with(factors, book, curves, losses, *node, spans, steps),
+        Losses::Each => evaluate_by(factors, book, rates, *node, spans, steps),
+        Losses::All(losses) => evaluate_with(factors, book, rates, losses, *node, spans, steps),
     }
 }
 

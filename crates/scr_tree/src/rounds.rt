@@ -1,7 +1,7 @@
 //! All figures that are due, reckoned rank by rank.
 ghost use Rattle.std.specs.Prelude.{◌≡◌, ◌+◌, ◌<◌, All, length, IfOk, OnOk};
 ghost use Rattle.std.specs.List.{AllByRecursion, AllZip};
-ghost use Rattle.scr_plan.specs.Kept.{rows_of, all_discounts};
+ghost use Rattle.scr_plan.specs.KeptRates.{known_of, all_rates};
 ghost use Rattle.scr_sheet.specs.Validity.{Valid};
 ghost use Rattle.scr_reach.specs.Dues.{AreDues};
 ghost use Rattle.scr_tree.specs.Dues.{AreFrom, AreOthersKept, ArePut, IsFor, IsReady};
@@ -15,7 +15,7 @@ use crate::spread::figures_at_once;
 use scr_book::Book;
 use scr_factors::Factors;
 use scr_io::{Gate, Steps};
-use scr_plan::Curves;
+use scr_plan::Rates;
 use scr_reach::Places;
 use scr_rounds::{Due, by_rank};
 use std::alloc::{AllocError as NoMemory, Global};
@@ -29,7 +29,7 @@ pub(crate) fn reckon_dues<R: Threads + Sync, G: Gate + Sync, L: Ledger>(
     alloc: Global,
     factors: &Factors,
     book: &Book,
-    curves: &Curves,
+    rates: &Rates,
     losses: &Losses,
     places: &Places,
     kept: &[Figure],
@@ -38,7 +38,7 @@ pub(crate) fn reckon_dues<R: Threads + Sync, G: Gate + Sync, L: Ledger>(
     gate: &G,
     steps: &mut Steps<L>,
 ) -> Result<Fresh, NoMemory>
-    requires curves { rows_of curves.now ≡ all_discounts book.now }
+    requires rates { known_of rates.now ≡ all_rates book.now }
     requires losses { AreLossesFor book.now losses.now }
     requires dues { AreDues book.now places.now dues.now }
     requires others { AreOthersKept factors.now book.now places.now kept.now dues.now }
@@ -50,7 +50,7 @@ pub(crate) fn reckon_dues<R: Threads + Sync, G: Gate + Sync, L: Ledger>(
     let mut fresh = Fresh::with_capacity(alloc, dues.len())?;
     for rank in &ranks {
         let figures = figures_in(
-            rt, alloc, factors, book, curves, losses, places, kept, &fresh, dues, rank, workers,
+            rt, alloc, factors, book, rates, losses, places, kept, &fresh, dues, rank, workers,
             gate, steps,
         )?;
         put_all(&mut fresh, dues, rank, &figures)?;
@@ -72,7 +72,7 @@ fn figures_in<R: Threads + Sync, G: Gate + Sync, L: Ledger>(
     alloc: Global,
     factors: &Factors,
     book: &Book,
-    curves: &Curves,
+    rates: &Rates,
     losses: &Losses,
     places: &Places,
     kept: &[Figure],
@@ -83,7 +83,7 @@ fn figures_in<R: Threads + Sync, G: Gate + Sync, L: Ledger>(
     gate: &G,
     steps: &mut Steps<L>,
 ) -> Result<Vec<Figure>, NoMemory>
-    requires curves { rows_of curves.now ≡ all_discounts book.now }
+    requires rates { known_of rates.now ≡ all_rates book.now }
     requires losses { AreLossesFor book.now losses.now }
     requires dues { AreDues book.now places.now dues.now }
     requires ready { AllByRecursion
@@ -94,13 +94,13 @@ fn figures_in<R: Threads + Sync, G: Gate + Sync, L: Ledger>(
 {
     if workers == 1 {
         return figures_in_turn(
-            alloc, factors, book, curves, losses, places, kept, fresh, dues, rank, gate, steps,
+            alloc, factors, book, rates, losses, places, kept, fresh, dues, rank, gate, steps,
         );
     }
     let inputs = Inputs {
         factors,
         book,
-        curves,
+        rates,
         losses,
         places,
         kept,
@@ -115,7 +115,7 @@ fn figures_in_turn<G: Gate, L: Ledger>(
     alloc: Global,
     factors: &Factors,
     book: &Book,
-    curves: &Curves,
+    rates: &Rates,
     losses: &Losses,
     places: &Places,
     kept: &[Figure],
@@ -125,7 +125,7 @@ fn figures_in_turn<G: Gate, L: Ledger>(
     gate: &G,
     steps: &mut Steps<L>,
 ) -> Result<Vec<Figure>, NoMemory>
-    requires curves { rows_of curves.now ≡ all_discounts book.now }
+    requires rates { known_of rates.now ≡ all_rates book.now }
     requires losses { AreLossesFor book.now losses.now }
     requires dues { AreDues book.now places.now dues.now }
     requires ready { AllByRecursion
@@ -138,7 +138,7 @@ fn figures_in_turn<G: Gate, L: Ledger>(
     for place in rank {
         let due = &dues[*place as usize];
         figures.push(figure_of(
-            alloc, factors, book, curves, losses, places, kept, fresh, due, gate, steps,
+            alloc, factors, book, rates, losses, places, kept, fresh, due, gate, steps,
         )?)?;
     }
     Ok(figures)

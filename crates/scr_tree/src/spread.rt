@@ -74,7 +74,7 @@ fn figure_counted<G: Gate, L: Ledger>(
         alloc,
         inputs.factors,
         inputs.book,
-        inputs.curves,
+        inputs.rates,
         inputs.losses,
         inputs.places,
         inputs.kept,

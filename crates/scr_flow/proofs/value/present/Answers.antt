@@ -1,46 +1,22 @@
-use Rattle.std.proofs.Common.{◌≡◌, ℕ, pos, FitsSigned, w64, length, get_or, map, ap, sym, subst, to_z, to_z-of_z, arith, rules, lit<}
-use Rattle.std.proofs.lemmas.List.{get_or-map, length-map}
+use Rattle.std.proofs.Common.{◌≡◌, ℕ, get_or, map, sym, subst, arith, lit<}
 use Rattle.scr_num.specs.Figure.{Frac}
 use Rattle.scr_num.specs.Rounding.{Ends, ends}
 use Rattle.scr_num.specs.Enclosure.{Encloses}
 use Rattle.scr_curve.specs.Discount.{discount_exact, present_exact}
 use Rattle.scr_curve.specs.DiscountEnds.{one}
-use Rattle.scr_flow.specs.Sums.{flow_ends, weighted_ends}
-use Rattle.scr_flow.proofs.SumLemmas.{sum_more, sum_kept, all_added, Encloses-weighted}
+use Rattle.scr_flow.proofs.SumLemmas.{Encloses-weighted}
+use Rattle.scr_flow.proofs.SizeLemmas.{within-discount}
 use Rattle.scr_flow.proofs.value.present.Goals as goal
-use Rattle.scr_flow.proofs.value.present.Goals.{then-flow-ne0, else-flow-ne0}
 
-pub loop-i-preserved : goal.loop-i-preserved
-loop-i-preserved c =
-    let flows = c.args.flows.now in
-    let at = c.args.d.now.at in
-    let i = c.loop-i.i in
-    let fits : FitsSigned w64 (get_or c.args.flows.now c.loop-i.i (pos 0)) = search rules in
-    let places : length c.args.d.now.at ≡ 100 = search rules in
-    let same : length flows ≡ length (map ends at) = rw length-map (omega arith) in
-    elim c.if-flow-ne0.branch [
-      | then-flow-ne0 w ↦
-          let span = c.index-d-i.result in
-          let here : get_or (map ends at) i (ends span) ≡ ends (get_or at i span) = get_or-map ends c.args.d.now.at i span (ends span) (omega arith) in
-          let term : ends w.weighted.result ≡ flow_ends (get_or flows i (pos 0)) (get_or (map ends at) i (ends span)) = rw here (simp to_z-of_z at w.weighted.ensures.ends) in
-          rw (w.sum-is, w.add-sum.ensures.ends)
-          (sum_more i flows (map ends at) (ends c.loop-i.sum) (ends w.weighted.result) (pos 0) (ends span) (omega arith) same term
-          (simp to_z-of_z at w.weighted.ensures.low_size) (simp to_z-of_z at w.weighted.ensures.high_size) c.loop-i.invariant)
-      | else-flow-ne0 w ↦
-          let none : get_or flows i (pos 0) ≡ pos 0 = simp to_z-of_z at (ap (to_z w64) w.if-flow-ne0.false) in
-          rw w.sum-is (sum_kept i flows (map ends at) (ends c.loop-i.sum) (pos 0) (omega arith) same none c.loop-i.invariant)
-    ]
-
-pub returns-clause-ends : goal.returns-clause-ends
-returns-clause-ends c =
-    all_added (ends c.loop-i.sum) (weighted_ends c.args.flows.now (map ends c.args.d.now.at)) c.args.flows.now (map ends c.args.d.now.at) c.loop-i.i (omega arith) c.loop-i.invariant.so_far
+pub weighted_sum-requires-clause-in_range : goal.weighted_sum-requires-clause-in_range
+weighted_sum-requires-clause-in_range c = λ k d within. within-discount _ (c.requires.in_range k d within)
 
 pub returns-clause-encloses : goal.returns-clause-encloses
 returns-clause-encloses c = λ rate enclosed.
     let flows = c.args.flows.now in
     let table = map ends c.args.d.now.at in
-    let whole = Encloses-weighted one (lit< tt) (λ years. discount_exact (rate years) years) 1 flows table (c.loop-i.invariant.places (omega arith))
+    let whole = Encloses-weighted one (lit< tt) (λ years. discount_exact (rate years) years) 1 flows table c.weighted_sum.ensures.places
     (λ k d within.
     subst (λ (j : ℕ). Encloses one (get_or table k d).low (get_or table k d).high (Frac (discount_exact (rate j) j))) (omega arith) (enclosed.each k d within)) in
     let P : Ends → Type 0 = λ e. Encloses one e.low e.high (Frac (present_exact flows rate)) in
-    subst P (sym (returns-clause-ends c)) whole
+    subst P (sym c.weighted_sum.ensures.ends) whole

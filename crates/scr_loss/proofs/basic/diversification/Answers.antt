@@ -1,10 +1,9 @@
-use Rattle.std.proofs.Common.{◌≡◌, ◌^◌, ◌∙◌, ap, ap₂, arith, length}
-use Rattle.std.proofs.lemmas.List.{length-map}
-use Rattle.scr_num.specs.Rounding.{Ends, ends, sub_ends}
-use Rattle.scr_num.proofs.Enclosing.{Encloses-same}
+use Rattle.std.proofs.Common.{◌^◌, arith, lit<}
+use Rattle.scr_num.specs.Sums.{parts_of, sum_figure}
+use Rattle.scr_num.proofs.SumLemmas.{parts-enclosed}
 use Rattle.scr_agg.specs.Correlated.{all_ends}
-use Rattle.scr_loss.specs.BscrEnds.{bscr_ends, diversification_ends}
-use Rattle.scr_loss.proofs.BscrBounds.{lows_of, together, diversification-encloses}
+use Rattle.scr_loss.specs.Bscr.{modules_figure}
+use Rattle.scr_loss.proofs.BscrBounds.{lows_of, together}
 use Rattle.scr_loss.proofs.basic.diversification.Goals as goal
 
 pub total-requires : goal.total-requires
@@ -22,10 +21,6 @@ sub-requires-clause-a_high c =
 
 pub returns-clause-encloses : goal.returns-clause-encloses
 returns-clause-encloses c =
-    λ figures h is.
-    let modules = all_ends c.args.parts.now in
-    let count : length modules ≡ 5 = length-map c.args.parts.now ends ∙ c.told-parts in
-    let e : ends c.sub.result ≡ diversification_ends modules (bscr_ends modules c.args.intangible) c.args.intangible =
-    c.sub.ensures.ends ∙ ap₂ sub_ends c.total.ensures.ends (c.sub-root.ensures.ends ∙ ap₂ sub_ends is c.intangible_assets.ensures.ends) in
-    Encloses-same 1000 _ _ _ _ _ (ap (λ (x : Ends). x.low) e) (ap (λ (x : Ends). x.high) e)
-    (diversification-encloses modules figures c.args.intangible count (lows_of c.args.parts.now c.requires.lows) h)
+    λ figures h. c.sub.ensures.encloses 1000 (sum_figure figures) (modules_figure figures) (c.total.ensures.encloses 1000 (lit< tt) figures h)
+    (c.quad.ensures.encloses 1000 (lit< tt) (parts_of figures)
+    (parts-enclosed 1000 (all_ends c.args.parts.now) figures (lows_of c.args.parts.now c.requires.lows) h))

@@ -20,4 +20,4 @@ returns-in-Some c =
     c.in-Some.ensures.place c.at.ensures in
     c.grains.ensures ∙ ap (λ n. exact_ends (pos n)) loss
     ∙ sym (ap (λ node. rule (own_of c.args.factors.now c.args.sheet.now node)
-    (discounts_in c.args.sheet.now (rows_of c.args.curves.now) node) (map ends c.args.spans.now)) (c.in-Group.is ∙ ap (nodes.Group c.in-Group.name) c.in-Loss.is))
+    (discounts_in c.args.sheet.now (rows_of c.args.rates.now.curves) node) (map ends c.args.spans.now)) (c.in-Group.is ∙ ap (nodes.Group c.in-Group.name) c.in-Loss.is))

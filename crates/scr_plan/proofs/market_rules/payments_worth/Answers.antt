@@ -6,7 +6,11 @@ use Rattle.scr_plan.specs.Discounts.{CurrencyDiscounts}
 use Rattle.scr_plan.specs.Kept.{rows_of, tables}
 use Rattle.scr_plan.proofs.CodeLemmas.{row-found, place-within, tables-are, along-table}
 use Rattle.scr_plan.proofs.MarketCode.{curve-there, worth-at}
+use Rattle.scr_plan.proofs.FallRows.{kept-years}
 use Rattle.scr_plan.proofs.market_rules.payments_worth.Goals as goal
+
+pub bucketed-flows-requires-clause-kept : goal.bucketed-flows-requires-clause-kept
+bucketed-flows-requires-clause-kept c = kept-years c.args.sheet.now (rows_of c.args.curves.now) c.args.kept c.requires.kept
 
 pub row-requires : goal.row-requires
 row-requires c =
@@ -30,6 +34,6 @@ returns c =
     let first = c.index-row-0.result in
     let is = tables-are c.row.result.now first first first count in
     record {
-      value = worth-at c.args.sheet.now c.args.currency.now c.args.payments.now (rows_of c.args.curves.now) (tables c.row.result.now) curve.0.rates c.bucket-flows.result (ends c.present.result) _
-          found c.bucket-flows.ensures.value (ap (λ (d : CurrencyDiscounts). d.base) is) c.present.ensures.ends;
+      value = worth-at c.args.sheet.now c.args.currency.now c.args.payments.now (rows_of c.args.curves.now) (tables c.row.result.now) curve.0.rates c.bucketed-flows.result (ends c.present.result) _
+          found c.bucketed-flows.ensures.value (ap (λ (d : CurrencyDiscounts). d.base) is) c.present.ensures.ends;
     }

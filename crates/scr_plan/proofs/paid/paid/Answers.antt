@@ -1,4 +1,5 @@
-use Rattle.std.proofs.Common.{◌≡◌, ◌≤◌, length, subst, sym, ap, ◌∙◌, rules}
+use Rattle.std.proofs.Common.{◌≡◌, ◌≤◌, length, slice_get, subst, sym, ap, ◌∙◌, rules}
+use Rattle.std.proofs.lemmas.Option.{slice_get_within}
 use Rattle.scr_num.specs.Rounding.{ends}
 use Rattle.scr_curve.specs.Parts.{IsCurveInMillionths}
 use Rattle.scr_curve.specs.Rate.{rate}
@@ -6,7 +7,28 @@ use Rattle.scr_curve.specs.declared.tilt.Tilt.TheVariants as tilts
 use Rattle.scr_plan.specs.Discounts.{CurrencyDiscounts}
 use Rattle.scr_plan.specs.Kept.{IsTable, rows_of, tables}
 use Rattle.scr_plan.proofs.CodeLemmas.{row-found, place-within, tables-are, paid-up, paid-down}
+use Rattle.scr_plan.proofs.MarketCode.{curve-there}
+use Rattle.scr_plan.proofs.FallRows.{falls-within, kept-paid, kept-rates, kept-years}
 use Rattle.scr_plan.proofs.paid.paid.Goals as goal
+
+pub bucketed-flows-requires-clause-kept : goal.bucketed-flows-requires-clause-kept
+bucketed-flows-requires-clause-kept c = kept-years c.args.sheet.now (rows_of c.args.curves.now) c.args.kept c.requires.kept
+
+pub falls_of-requires : goal.falls_of-requires
+falls_of-requires c =
+    falls-within c.args.sheet.now c.requires.valid c.args.currency.now c.args.curves.now c.in-Some-kept.rates.now c.in-Some.place c.requires.rows
+    (kept-rates c.args.sheet.now (rows_of c.args.curves.now) c.args.kept c.in-Some-kept.rates c.requires.kept c.in-Some-kept.is) c.in-Some.ensures.place
+
+pub returns-in-Some-kept-clause-value : goal.returns-in-Some-kept-clause-value
+returns-in-Some-kept-clause-value c =
+    kept-paid c.args.sheet.now c.requires.valid c.args.currency.now c.args.curves.now c.in-Some-kept.rates.now c.in-Some.place c.requires.rows
+    (kept-rates c.args.sheet.now (rows_of c.args.curves.now) c.args.kept c.in-Some-kept.rates c.requires.kept c.in-Some-kept.is) c.in-Some.ensures.place
+    c.args.payments.now c.args.direction c.bucketed-flows.result c.falls_of.result.now (ends c.fallen.result) c.falls_of.ensures c.bucketed-flows.ensures.value c.fallen.ensures.value
+
+pub at-requires : goal.at-requires
+at-requires c =
+    let curve = curve-there (slice_get c.args.sheet.now.curves c.in-Some.place) c.args.currency.now c.in-Some.ensures.place in
+    slice_get_within c.args.sheet.now.curves c.in-Some.place curve.0 curve.1
 
 pub row-requires : goal.row-requires
 row-requires c = place-within c.args.sheet.now c.args.curves.now c.in-Some.place c.at.result.now c.requires.rows c.at.ensures
@@ -40,8 +62,8 @@ returns-in-Up-clause-value c =
     let found = row-found c.args.sheet.now c.requires.valid c.args.currency.now c.args.curves.now c.in-Some.place c.at.result.now c.row.result.now c.requires.rows c.in-Some.ensures.place c.at.ensures c.row.ensures in
     let count : length c.row.result.now ≡ 3 = search rules in
     let is = tables-are c.row.result.now c.index-row-0.result c.index-row-1.result c.index-row-2.result count in
-    paid-up c.args.sheet.now c.args.currency.now c.args.payments.now (rows_of c.args.curves.now) (tables c.row.result.now) c.at.result.now.rates c.bucket-flows.result (ends c.loss.result) _ _ found
-    c.bucket-flows.ensures.value (ap (λ (d : CurrencyDiscounts). d.base) is) c.args.direction c.in-Up.is (ap (λ (d : CurrencyDiscounts). d.up) is)
+    paid-up c.args.sheet.now c.args.currency.now c.args.payments.now (rows_of c.args.curves.now) (tables c.row.result.now) c.at.result.now.rates c.bucketed-flows.result (ends c.loss.result) _ _ found
+    c.bucketed-flows.ensures.value (ap (λ (d : CurrencyDiscounts). d.base) is) c.args.direction c.in-Up.is (ap (λ (d : CurrencyDiscounts). d.up) is)
     (rw c.as_slice-rates.ensures at c.loss.ensures.value)
 
 pub loss-requires-in-Down-clause-curve : goal.loss-requires-in-Down-clause-curve
@@ -73,6 +95,6 @@ returns-in-Down-clause-value c =
     let found = row-found c.args.sheet.now c.requires.valid c.args.currency.now c.args.curves.now c.in-Some.place c.at.result.now c.row.result.now c.requires.rows c.in-Some.ensures.place c.at.ensures c.row.ensures in
     let count : length c.row.result.now ≡ 3 = search rules in
     let is = tables-are c.row.result.now c.index-row-0.result c.index-row-1.result c.index-row-2.result count in
-    paid-down c.args.sheet.now c.args.currency.now c.args.payments.now (rows_of c.args.curves.now) (tables c.row.result.now) c.at.result.now.rates c.bucket-flows.result (ends c.loss-in-Down.result) _ _ found
-    c.bucket-flows.ensures.value (ap (λ (d : CurrencyDiscounts). d.base) is) c.args.direction c.in-Down.is (ap (λ (d : CurrencyDiscounts). d.down) is)
+    paid-down c.args.sheet.now c.args.currency.now c.args.payments.now (rows_of c.args.curves.now) (tables c.row.result.now) c.at.result.now.rates c.bucketed-flows.result (ends c.loss-in-Down.result) _ _ found
+    c.bucketed-flows.ensures.value (ap (λ (d : CurrencyDiscounts). d.base) is) c.args.direction c.in-Down.is (ap (λ (d : CurrencyDiscounts). d.down) is)
     (rw c.as_slice-rates.ensures at c.loss-in-Down.ensures.value)

@@ -7,7 +7,7 @@ returns g c =
     let places = c.rest_dues.new.places in
     record {
       valid = c.sheet.ensures.valid;
-      curves = c.in_ok-curves.ensures;
+      rates = c.in_ok-rates.ensures;
       room = subst (λ n. length places ≤ n) (sym c.in_ok-reckon_rest.ensures.count) c.rest_dues.ensures.room;
       figures = c.in_ok-reckon_rest.ensures.settled;
       links = subst (λ sheet. AreLinked sheet places c.in_ok-links.links.edges) c.sheet-3.ensures.sheet

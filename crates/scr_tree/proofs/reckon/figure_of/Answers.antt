@@ -8,6 +8,8 @@ use Rattle.scr_nodes.specs.OwnOf.{own_of}
 use Rattle.scr_nodes.specs.Sources.{sources_of}
 use Rattle.scr_plan.specs.Fits.{Fits}
 use Rattle.scr_plan.specs.Kept.{AreDiscountsOf}
+use Rattle.scr_plan.specs.KeptRates.{KnownRates}
+use Rattle.scr_plan.proofs.FallRows.{worked-rates}
 use Rattle.scr_plan.specs.Worked.{worked}
 use Rattle.scr_plan.proofs.Equations.{close-equation}
 use Rattle.scr_plan.proofs.KeptRows.{all-are}
@@ -33,7 +35,10 @@ at-node-requires g c = slice_get_within c.args.places.now c.args.due.now.number 
 
 pub evaluated-span-requires-clause-rows : goal.evaluated-span-requires-clause-rows
 evaluated-span-requires-clause-rows g c =
-    subst (AreDiscountsOf c.args.book.now.curves) (sym c.requires.curves) (all-are c.args.book.now c.sheet.ensures.valid)
+    subst (AreDiscountsOf c.args.book.now.curves) (sym (ap (λ (k : KnownRates). k.rows) c.requires.rates)) (all-are c.args.book.now c.sheet.ensures.valid)
+
+pub evaluated-span-requires-clause-rates : goal.evaluated-span-requires-clause-rates
+evaluated-span-requires-clause-rates g c = worked-rates c.args.book.now c.args.rates.now c.requires.rates
 
 pub evaluated-span-requires-clause-fits : goal.evaluated-span-requires-clause-fits
 evaluated-span-requires-clause-fits g c =
@@ -61,7 +66,7 @@ returns-clause-figure g c = λ at_place here.
     (c.in_ok-below.ensures ∙ ap (map (figure_at c.args.kept.now c.args.fresh.now)) c.as_slice.ensures.value)
     c.requires.sources
     (c.deref-2.ensures.value ∙ c.in_ok-spans.ensures ∙ ap (map (λ (figure : Figure). figure.span)) c.deref.ensures.value) in
-    let is : ends c.evaluated-span.result ≡ worked factors sheet node = c.evaluated-span.ensures.worked c.requires.curves off.0 in
+    let is : ends c.evaluated-span.result ≡ worked factors sheet node = c.evaluated-span.ensures.worked (ap (λ (k : KnownRates). k.rows) c.requires.rates) off.0 in
     ap₂ (λ (e : Ends) (b : Bool). record { worked = e; close = b }) is
     (c.is_close.ensures
     ∙ ap₂ (λ (a : Bool) (b : Bool). a || b) (ap (opens node) is ∙ opens-is factors sheet node)

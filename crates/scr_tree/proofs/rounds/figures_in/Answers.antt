@@ -3,7 +3,7 @@ use Rattle.scr_tree.proofs.rounds.figures_in.Goals as goal
 
 pub figures_at_once-requires-clause-book : goal.figures_at_once-requires-clause-book
 unfolding IsOfBook
-figures_at_once-requires-clause-book g c κs within = (c.requires.curves, c.requires.losses, c.requires.dues)
+figures_at_once-requires-clause-book g c κs within = (c.requires.rates, c.requires.losses, c.requires.dues)
 
 pub figures_at_once-requires-clause-ready : goal.figures_at_once-requires-clause-ready
 unfolding IsReadyOn

@@ -9,7 +9,7 @@ use Rattle.scr_sheet.specs.declared.sheet.BalanceSheet.{BalanceSheet}
 use Rattle.scr_nodes.specs.declared.node.Node.{Node}
 use Rattle.scr_nodes.specs.Live.{is_live}
 use Rattle.scr_nodes.specs.Sources.{sources_of}
-use Rattle.scr_plan.specs.Kept.{all_discounts, rows_of}
+use Rattle.scr_plan.specs.KeptRates.{all_rates, known_of}
 use Rattle.scr_touched.specs.Touched.{AreTouched, IsSame, IsTouched}
 use Rattle.scr_reach.specs.Dues.{IsDue}
 use Rattle.scr_reach.specs.Leading.{IsCountOf, IsInReach}
@@ -54,7 +54,7 @@ change_of-change-requires-after_bounds g c κs within =
           subst (λ after. (is_live before node || is_live after node) ≡ true → IsSame c.self.inside.factors before after node) (sym is)
           ((c.in-Ok.ensures.touched c.self.inside.factors node c.in-Ok-apply_kept.ensures.answer).rest
           (λ has. none (subst (λ list. Contains list node) (sym c.deref.ensures.value) has))) live;
-      curves = c.self.invariant.curves;
+      rates = c.self.invariant.rates;
       room = c.self.invariant.room;
       settled = c.self.invariant.figures;
       linked = c.self.invariant.links;
@@ -84,7 +84,7 @@ invariant_of-self-in-Ok-change g c =
     let same = c.make.ensures.count in
     record {
       valid = is.valid;
-      curves = c.make.ensures.curves ∙ is.curves;
+      rates = c.make.ensures.rates ∙ is.rates;
       room = omega (arith, room, same);
       figures = settled-written change.dues.items change.fresh c.change_of-change.new.figures.items c.make.new.figures.items is.from c.make.ensures.figures
           c.self.inside.factors c.apply_kept.new.self c.change_of-change.new.places is.settled;
@@ -129,7 +129,7 @@ invariant_of-self-in-Err-change g c =
     c.in-Err-change.ensures.kept c.self.invariant.figures in
     record {
       valid = subst Valid (sym back) c.self.invariant.valid;
-      curves = subst (λ book. rows_of c.self.inside.curves ≡ all_discounts book) (sym back) c.self.invariant.curves;
+      rates = subst (λ book. known_of c.self.inside.rates ≡ all_rates book) (sym back) c.self.invariant.rates;
       room = c.in-Err-change.ensures.room;
       figures = subst (λ book. AreSettled c.self.inside.factors book new c.change_of-change.new.figures.items []) (sym back) settled;
       links = subst (λ book. AreLinked book new c.change_of-change.new.links.edges) (sym back)
@@ -150,7 +150,7 @@ invariant_of-self g c =
     let same : c.apply_kept.new.self ≡ c.self.inside.book = c.in-Err-apply_kept.ensures.err in
     record {
       valid = subst Valid (sym same) c.self.invariant.valid;
-      curves = subst (λ book. rows_of c.self.inside.curves ≡ all_discounts book) (sym same) c.self.invariant.curves;
+      rates = subst (λ book. known_of c.self.inside.rates ≡ all_rates book) (sym same) c.self.invariant.rates;
       room = c.self.invariant.room;
       figures = subst (λ book. AreSettled c.self.inside.factors book c.self.inside.places c.self.inside.figures.items []) (sym same)
           c.self.invariant.figures;

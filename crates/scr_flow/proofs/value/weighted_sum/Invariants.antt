@@ -1,7 +1,7 @@
 use Rattle.std.proofs.Common.{map}
 use Rattle.scr_num.specs.Rounding.{ends}
 use Rattle.scr_flow.proofs.SumLemmas.{IsSumBefore}
-use Rattle.scr_flow.proofs.value.present.Given as goal
+use Rattle.scr_flow.proofs.value.weighted_sum.Given as goal
 
 abbrev pub invariant-loop-i : goal.invariant-loop-i
-invariant-loop-i l = IsSumBefore l.i l.flows (map ends l.d.at) (ends l.sum)
+invariant-loop-i l = IsSumBefore l.i l.flows (map ends l.spans) (ends l.sum)

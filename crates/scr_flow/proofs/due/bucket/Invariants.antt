@@ -1,5 +1,0 @@
-use Rattle.scr_flow.proofs.DueLemmas.{IsDueBefore}
-use Rattle.scr_flow.proofs.due.bucket.Given as goal
-
-abbrev pub invariant-loop-day : goal.invariant-loop-day
-invariant-loop-day l = IsDueBefore l.day-index l.asof.number l.pairs l.flows
