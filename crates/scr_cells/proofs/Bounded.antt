@@ -1,4 +1,4 @@
--- The printed bounds of each cell enclose its exact figure.
+-- The printed bounds of each cell enclose its exact figure, and are no further apart than its stated width unless it is close.
 use Rattle.std.proofs.Common.{◌≡◌, ℕ, ◌==◌, ◌&&◌, true, Option, Some, None, is_some, refl, sym, subst, lit<}
 use Rattle.std.proofs.lemmas.Bool.{and_parts, eqb-true, true≢false}
 use Rattle.std.specs.List.{AllByRecursion}
@@ -16,9 +16,12 @@ use Rattle.scr_plan.specs.Exact.{exact, unit_of}
 use Rattle.scr_plan.specs.Worked.{worked}
 use Rattle.scr_plan.proofs.Enclosures.{is_of_market, market-node-encloses, node-encloses}
 use Rattle.scr_cells.specs.Block.{lower_bound, upper_bound}
-use Rattle.scr_cells.specs.Certified.{Certified, IsBounded}
+use Rattle.scr_cells.specs.Certified.{Certified, IsBounded, KeepsWidth}
 use Rattle.scr_cells.specs.Table.{NamedFigure, market_cells, table}
-use Rattle.scr_cells.proofs.LiveCells.{IsLive, all-pass, all_live, in_grains}
+use Rattle.scr_cells.proofs.LiveCells.{IsLive, IsStated, all-pass, all_live, all_stated, in_grains}
+use Rattle.scr_widths.specs.Widths.{stated_width}
+use Rattle.scr_widths.proofs.AllWidths.{cents-kept}
+use Rattle.scr_widths.proofs.NearChoices.{rests-near}
 
 -- grains rounded outward to cents
 in-cents : (worked : Ends) (exact : Figure) → Encloses 1000 worked.low worked.high exact
@@ -76,5 +79,20 @@ module _ (factors : FactorValues) (known : IsInForm factors) (sheet : BalanceShe
       (All-both (IsLive sheet) (λ cell. unit_of cell.node ≡ 1000) _ table (λ cell live grains. (live, grains)) (all_live sheet) in_grains)
       (all_shown factors sheet)
 
+  kept : (node : Node) → is_live sheet node ≡ true → is_some (stated_width sheet node) ≡ true → KeepsWidth factors sheet node
+  kept node live stated =
+      let width = there (stated_width sheet node) stated in
+      record {
+        width = width.0;
+        stated = width.1;
+        narrow = λ clear. (cents-kept factors known sheet valid node live clear width.0 width.1).apart;
+        near = rests-near factors sheet valid node;
+      }
+
+  all_kept : AllByRecursion (λ (cell : NamedFigure). KeepsWidth factors sheet cell.node) table
+  all_kept =
+      All-both (IsLive sheet) (IsStated sheet) _ table (λ cell live stated. kept cell.node live stated) (all_live sheet)
+      (all_stated sheet)
+
   pub certified : Certified factors sheet
-  certified = record { enclosing = all_bounded }
+  certified = record { enclosing = all_bounded; narrow = all_kept }

@@ -1,4 +1,3 @@
 mod BlockLines
 pub mod Bounded
 mod LiveCells
-mod RowSums

@@ -1,5 +1,5 @@
 -- The figure of each cell is one of every balance sheet, and it is in grains.
-use Rattle.std.proofs.Common.{◌≡◌, ℕ, zero, suc, true, false, Bool, List, [], ◌∷◌, ◌&&◌, Some, refl, subst}
+use Rattle.std.proofs.Common.{◌≡◌, ℕ, zero, suc, true, false, Bool, List, [], ◌∷◌, ◌&&◌, Some, is_some, refl, subst}
 use Rattle.std.specs.Prelude.{◌==◌, slice_get}
 use Rattle.std.proofs.lemmas.Bool.{eqb-true}
 use Rattle.std.specs.List.{AllByRecursion, list_all}
@@ -8,6 +8,7 @@ use Rattle.scr_sheet.specs.declared.sheet.BalanceSheet.{BalanceSheet}
 use Rattle.scr_nodes.specs.Live.{is_live}
 use Rattle.scr_plan.specs.Exact.{unit_of}
 use Rattle.scr_cells.specs.Table.{NamedFigure, table}
+use Rattle.scr_widths.specs.Widths.{stated_width}
 
 abbrev pub IsLive : BalanceSheet → NamedFigure → Type 0
 IsLive sheet cell = is_live sheet cell.node ≡ true
@@ -41,3 +42,15 @@ in_grains =
     All-map (λ (cell : NamedFigure). (unit_of cell.node == 1000) ≡ true) (λ cell. unit_of cell.node ≡ 1000) table
     (λ cell same. eqb-true (unit_of cell.node) 1000 same)
     (all-pass (λ (cell : NamedFigure). unit_of cell.node == 1000) table refl)
+
+-- its width is stated
+abbrev pub IsStated : BalanceSheet → NamedFigure → Type 0
+IsStated sheet cell = is_some (stated_width sheet cell.node) ≡ true
+
+pub all_stated : (sheet : BalanceSheet) → AllByRecursion (IsStated sheet) table
+unfolding table
+all_stated sheet = all-pass (λ (cell : NamedFigure). is_some (stated_width sheet cell.node)) table refl
+
+pub stated_at : (sheet : BalanceSheet) (k : ℕ) (cell : NamedFigure) → slice_get table k ≡ Some cell
+    → is_some (stated_width sheet cell.node) ≡ true
+stated_at sheet k cell is = All-at (IsStated sheet) table k cell is (all_stated sheet)

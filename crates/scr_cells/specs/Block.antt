@@ -9,9 +9,9 @@ use Rattle.scr_plan.specs.Close.{close_under}
 use Rattle.scr_plan.specs.Worked.{worked}
 use Rattle.scr_cells.specs.AmountTexts.{amount}
 use Rattle.scr_cells.specs.Table.{NamedFigure, requirement_cell, table}
-use Rattle.scr_cells.specs.Widths.{stated_width}
 use Rattle.scr_cells.specs.declared.bounds.Bounds.{Bounds}
 use Rattle.scr_cells.specs.declared.cells.Cell.{Cell}
+use Rattle.scr_widths.specs.Widths.{stated_width}
 
 -- the printed bounds, in cents, of a figure in grains, thousandths of a cent: the lower one is rounded down, and the upper
 -- one up

@@ -1,27 +1,49 @@
 //! What is told of an engine's book.
-ghost use Rattle.std.specs.Prelude.{◌≡◌, ◌<◌, ◌++◌, true, is_ok, if◌then◌else◌, IfOk, OnOk, Some};
+ghost use Rattle.std.specs.Prelude.{◌≡◌, ◌<◌, ◌++◌, ◌+ℤ◌, ◌≤ℤ◌, true, false, is_ok, is_some};
+ghost use Rattle.std.specs.Prelude.{if◌then◌else◌, slice_get, IfOk, OnOk, Some};
 ghost use Rattle.scr_nodes.specs.Live.{is_live};
 ghost use Rattle.scr_cells.specs.Block.{block_text, cell_at, cell_line, cell_of, requirement_line};
 ghost use Rattle.scr_cells.specs.Shown.{node_of};
-ghost use Rattle.scr_cells.specs.Table.{seen};
+ghost use Rattle.scr_cells.specs.Table.{NamedFigure, seen, table};
+ghost use Rattle.scr_widths.specs.Choices.{RestsOnNearChoice};
+ghost use Rattle.scr_widths.specs.Widths.{stated_width};
 
 use crate::bounds::{Bounds, bounds_at};
 use crate::cells::Cell;
 use crate::printing::push_bounds;
 use crate::shown::node_of;
 use crate::table::{CELL_COUNT, Entry, REQUIREMENT, entry_of};
-use crate::widths::stated_width;
+use scr_book::Book;
+use scr_nodes::Node;
 use scr_tree::Engine;
+use scr_widths::stated_width;
 use std::alloc::{AllocError as NoMemory, Global};
 
-/// The cell of this number, from 0 in the order of the report's lines.
+/// The cell of this number, from 0 in the order of the report's lines. Its bounds are no further
+/// apart than its stated width, unless it is close: it then rests on a choice between alternatives
+/// that are near.
 pub fn cell(engine: &Engine, k: u32) -> Cell
     requires { k < CELL_COUNT }
-    ensures { cell_at engine.now.factors engine.now.sheet k ≡ Some result }
+    ensures cell { cell_at engine.now.factors engine.now.sheet k ≡ Some result }
+    ensures narrow { result.close ≡ false → result.high ≤ℤ (result.low +ℤ result.width) }
+    ensures near { result.close ≡ true → (shown : NamedFigure) → slice_get table k ≡ Some shown
+        → RestsOnNearChoice engine.now.factors engine.now.sheet shown.node }
 {
-    let shown = entry_of(k).shown;
-    let bounds = bounds_at(engine, &node_of(shown));
-    cell_of(k, &bounds, stated_width(engine.book(), shown))
+    engine.factors().known();
+    let node = node_of(entry_of(k).shown);
+    let bounds = bounds_at(engine, &node);
+    cell_of(k, &bounds, width_of(engine.book(), &node))
+}
+
+/// The stated width of a figure that has one, in cents.
+fn width_of(book: &Book, node: &Node) -> u64
+    requires { is_some (stated_width book.now node.now) ≡ true }
+    ensures { stated_width book.now node.now ≡ Some result }
+{
+    match stated_width(book, node) {
+        Some(width) => width,
+        None => unreachable!(),
+    }
 }
 
 fn cell_of(index: u32, bounds: &Bounds, width: u64) -> Cell

@@ -6,10 +6,8 @@ mod bounds;
 mod cells;
 pub mod laws;
 mod printing;
-mod scale;
 mod shown;
 mod table;
-mod widths;
 
 pub use block::{cell, print_block, requirement_line};
 pub use cells::Cell;

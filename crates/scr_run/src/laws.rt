@@ -25,8 +25,9 @@ ghost use Rattle.scr_run.specs.declared.status.Status.TheVariants as statuses;
 
 /// Every balance sheet from which a block is printed is valid: that of a book file, and what each
 /// accepted record of its edits leaves. The values of every factor file that is read are in form.
-/// So the printed bounds of each cell of the report enclose its exact figure, whatever of the
-/// report was written; those of market risk do so whatever the values.
+/// So the printed bounds of each cell of the report enclose its exact figure and are no further
+/// apart than its stated width, unless it is close, whatever of the report was written; those of
+/// market risk enclose it whatever the values.
 pub fn enclosure()
     ensures valid { (book edits : List ℕ) (sheet : BalanceSheet) → sheet_of book ≡ Ok sheet
         → AllByRecursion Valid (printed sheet (answers (records edits) sheet)) }

@@ -1,30 +1,70 @@
-use Rattle.std.proofs.Common.{◌≡◌, ◌∙◌, true, Some, ap, subst, sym}
-use Rattle.std.specs.Prelude.{option_and_then, option_map}
+use Rattle.std.proofs.Common.{◌≡◌, ◌∙◌, ◌+ℤ◌, ◌≤ℤ◌, true, false, Some, ℕ, is_some, ap, ap₂, subst, sym}
+use Rattle.std.specs.Prelude.{option_and_then, option_map, slice_get}
+use Rattle.scr_factors.specs.Values.{IsInForm}
 use Rattle.scr_sheet.specs.declared.sheet.BalanceSheet.{BalanceSheet}
 use Rattle.scr_nodes.specs.declared.node.Node.{Node}
 use Rattle.scr_nodes.specs.Live.{is_live}
 use Rattle.scr_cells.specs.Block.{bounds_at, cell_of}
 use Rattle.scr_cells.specs.Shown.{node_of}
-use Rattle.scr_cells.specs.Table.{NamedFigure}
-use Rattle.scr_cells.specs.Widths.{stated_width}
+use Rattle.scr_cells.specs.Table.{NamedFigure, seen, table}
 use Rattle.scr_cells.specs.declared.bounds.Bounds.{Bounds}
-use Rattle.scr_cells.proofs.LiveCells.{live_at}
+use Rattle.scr_cells.specs.declared.cells.Cell.{Cell}
+use Rattle.scr_cells.proofs.LiveCells.{live_at, stated_at}
 use Rattle.scr_cells.proofs.block.cell.Goals as goal
+use Rattle.scr_widths.specs.Choices.{RestsOnNearChoice}
+use Rattle.scr_widths.specs.Widths.{stated_width}
+use Rattle.scr_widths.proofs.AllWidths.{cents-kept}
+use Rattle.scr_widths.proofs.NearChoices.{rests-near}
 
 pub bounds_at-bounds-requires : goal.bounds_at-bounds-requires
 bounds_at-bounds-requires c =
     let sheet = c.args.engine.now.sheet in
-    subst (λ (node : Node). is_live sheet node ≡ true) (sym c.node_of.ensures)
+    subst (λ (node : Node). is_live sheet node ≡ true) (sym c.node_of-node.ensures)
     (live_at sheet c.args.k _ c.entry_of.ensures)
 
-pub returns : goal.returns
-returns c =
+pub width_of-requires : goal.width_of-requires
+width_of-requires c =
+    subst (λ (sheet : BalanceSheet). is_some (stated_width sheet c.node_of-node.result) ≡ true) (sym c.book.ensures.value)
+    (subst (λ (node : Node). is_some (stated_width c.args.engine.now.sheet node) ≡ true) (sym c.node_of-node.ensures)
+    (stated_at c.args.engine.now.sheet c.args.k _ c.entry_of.ensures))
+
+pub returns-clause-cell : goal.returns-clause-cell
+returns-clause-cell c =
     let k = c.args.k in
     let engine = c.args.engine.now in
     let node = node_of c.entry_of.result.now.shown in
-    let bounds = c.bounds_at-bounds.ensures ∙ ap (bounds_at engine.factors engine.sheet) c.node_of.ensures in
-    let width = sym (ap (λ (sheet : BalanceSheet). stated_width sheet node) c.book.ensures.value) ∙ c.stated_width.ensures in
+    let bounds = c.bounds_at-bounds.ensures ∙ ap (bounds_at engine.factors engine.sheet) c.node_of-node.ensures in
+    let width = sym (ap₂ stated_width c.book.ensures.value c.node_of-node.ensures) ∙ c.width_of.ensures in
     ap (option_and_then (λ (cell : NamedFigure). option_map (cell_of k (bounds_at engine.factors engine.sheet cell.node)) (stated_width engine.sheet cell.node)))
     c.entry_of.ensures
     ∙ ap (option_map (cell_of k (bounds_at engine.factors engine.sheet node))) width
-    ∙ ap Some (sym (c.cell_of.ensures ∙ ap (λ (b : Bounds). cell_of k b c.stated_width.result) bounds))
+    ∙ ap Some (sym (c.cell_of.ensures ∙ ap (λ (b : Bounds). cell_of k b c.width_of.result) bounds))
+
+pub returns-clause-narrow : goal.returns-clause-narrow
+returns-clause-narrow c =
+    let k = c.args.k in
+    let engine = c.args.engine.now in
+    let node = node_of c.entry_of.result.now.shown in
+    let bounds = c.bounds_at-bounds.ensures ∙ ap (bounds_at engine.factors engine.sheet) c.node_of-node.ensures in
+    let width = sym (ap₂ stated_width c.book.ensures.value c.node_of-node.ensures) ∙ c.width_of.ensures in
+    let known : IsInForm engine.factors = subst IsInForm c.factors.ensures c.known.ensures in
+    subst (λ (cell : Cell). cell.close ≡ false → cell.high ≤ℤ (cell.low +ℤ cell.width))
+    (sym (c.cell_of.ensures ∙ ap (λ (b : Bounds). cell_of k b c.width_of.result) bounds))
+    (λ clear. (cents-kept engine.factors known engine.sheet c.book.ensures.valid node
+    (live_at engine.sheet k _ c.entry_of.ensures) clear c.width_of.result width).apart)
+
+one-cell : (k : ℕ) (a b : NamedFigure) → slice_get table k ≡ Some a → slice_get table k ≡ Some b → a ≡ b
+one-cell k a b first second = let both : Some a ≡ Some b = sym first ∙ second in cc
+
+pub returns-clause-near : goal.returns-clause-near
+returns-clause-near c = λ close shown is.
+    let k = c.args.k in
+    let engine = c.args.engine.now in
+    let node = node_of c.entry_of.result.now.shown in
+    let bounds = c.bounds_at-bounds.ensures ∙ ap (bounds_at engine.factors engine.sheet) c.node_of-node.ensures in
+    let rests : c.cell_of.result.close ≡ true → RestsOnNearChoice engine.factors engine.sheet node =
+    subst (λ (cell : Cell). cell.close ≡ true → RestsOnNearChoice engine.factors engine.sheet node)
+    (sym (c.cell_of.ensures ∙ ap (λ (b : Bounds). cell_of k b c.width_of.result) bounds))
+    (λ open_choice. rests-near engine.factors engine.sheet c.book.ensures.valid node open_choice) in
+    subst (λ (cell : NamedFigure). RestsOnNearChoice engine.factors engine.sheet cell.node)
+    (one-cell k (seen c.entry_of.result.now) shown c.entry_of.ensures is) (rests close)
