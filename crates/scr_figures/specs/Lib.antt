@@ -1,0 +1,4 @@
+pub mod Families
+pub mod Numbers
+pub mod Steps
+pub mod Records

@@ -1,0 +1,35 @@
+-- The numbers of a balance sheet's figures (this project's own): that of a figure is the first number of its row and its family.
+use Rattle.std.specs.Prelude.{◌≡◌, ℕ, List, [], ◌∷◌, Some, length, map, slice_get}
+use Rattle.std.specs.List.{IsDistinct}
+use Rattle.scr_names.specs.Names.{same_name}
+use Rattle.scr_numbers.specs.Ranges.{IsAt, Numbered, count, first}
+use Rattle.scr_numbers.specs.declared.table.Table.{Table}
+use Rattle.scr_numbers.specs.declared.table.Table.TheVariants as tables
+use Rattle.scr_sheet.specs.BalanceSheet.{curve_name, group_name, liability_name, position_name, stake_name}
+use Rattle.scr_sheet.specs.declared.sheet.BalanceSheet.{BalanceSheet}
+use Rattle.scr_nodes.specs.declared.node.Node.{Node}
+use Rattle.scr_figures.specs.Families.{family_of, name_of, table_of}
+
+-- the names of a table's rows in order; the whole sheet is one row without a name
+abbrev pub names_in : BalanceSheet → Table → List (List ℕ)
+names_in sheet tables.Whole = [] ∷ []
+names_in sheet tables.Fund = map stake_name sheet.funds
+names_in sheet tables.Security = map position_name sheet.securities
+names_in sheet tables.Liability = map liability_name sheet.liabilities
+names_in sheet tables.Group = map group_name sheet.groups
+names_in sheet tables.Currency = map curve_name sheet.curves
+
+-- each row of the sheet has numbers, and the whole sheet has the first ones
+pub record IsNumbered (sheet : BalanceSheet) (places : Numbered) : Type 0 where
+  pub rows : (table : Table) → count places table ≡ length (names_in sheet table)
+  pub whole : first places tables.Whole 0 ≡ 0
+
+-- the figure has this number
+pub record StandsAt (sheet : BalanceSheet) (places : Numbered) (node : Node) (number : ℕ) : Type 0 where
+  pub k : ℕ
+  pub row : slice_get (names_in sheet (table_of node)) k ≡ Some (name_of node)
+  pub at : IsAt places (table_of node) k (family_of node) number
+
+-- no two rows of a table have one name
+abbrev pub AreNamedOnce : BalanceSheet → Type 0
+AreNamedOnce sheet = (table : Table) → IsDistinct same_name (names_in sheet table)

@@ -1,0 +1,45 @@
+//! Laws of the numbers of figures, whatever a program does. Each is a function that does nothing, whose contract is the law.
+ghost use Rattle.std.specs.Prelude.{◌≡◌, ℕ, true};
+ghost use Rattle.scr_numbers.specs.Ranges.{IsApart, Numbered};
+ghost use Rattle.scr_sheet.specs.Records.{applied};
+ghost use Rattle.scr_sheet.specs.Validity.{Valid};
+ghost use Rattle.scr_sheet.specs.declared.edit.Edit.{Edit};
+ghost use Rattle.scr_sheet.specs.declared.sheet.BalanceSheet.{BalanceSheet};
+ghost use Rattle.scr_nodes.specs.Live.{is_live};
+ghost use Rattle.scr_nodes.specs.declared.node.Node.{Node};
+ghost use Rattle.scr_figures.specs.Numbers.{IsNumbered, StandsAt};
+ghost use Rattle.scr_figures.specs.Records.{step_of};
+ghost use Rattle.scr_figures.specs.Steps.{CanTake, CanTakeBack, Takes, TakesBack};
+
+/// Each figure that a balance sheet has, has a number, and no other one; and no other figure has it.
+pub fn numbers()
+    ensures live { (sheet : BalanceSheet) (places : Numbered) → IsNumbered sheet places → (node : Node)
+        → is_live sheet node ≡ true → (number : ℕ) × StandsAt sheet places node number }
+    ensures only { (sheet : BalanceSheet) (places : Numbered) → Valid sheet → (n m : ℕ) (node : Node)
+        → StandsAt sheet places node n → StandsAt sheet places node m → n ≡ m }
+    ensures exact { (sheet : BalanceSheet) (places : Numbered) → IsApart places → (number : ℕ) (a b : Node)
+        → StandsAt sheet places a number → StandsAt sheet places b number → a ≡ b }
+{}
+
+/// Where the numbers take the step of a record, the sheet that the record makes is numbered, and a figure that stands in both sheets
+/// has one number in both.
+pub fn records()
+    ensures can { (edit : Edit) (sheet : BalanceSheet) (places : Numbered) → IsNumbered sheet places
+        → CanTake (step_of edit sheet) places }
+    ensures numbered { (edit : Edit) (sheet : BalanceSheet) (before now : Numbered) → IsNumbered sheet before
+        → Takes (step_of edit sheet) before now → IsNumbered (applied edit sheet) now }
+    ensures keeps { (edit : Edit) (sheet : BalanceSheet) (before now : Numbered) → Valid sheet → Valid (applied edit sheet)
+        → Takes (step_of edit sheet) before now → (node : Node) (n m : ℕ)
+        → StandsAt sheet before node n → StandsAt (applied edit sheet) now node m → n ≡ m }
+{}
+
+/// The step of a record can be taken back, and then each figure has the number that it had before.
+pub fn taken_back()
+    ensures can { (edit : Edit) (sheet : BalanceSheet) (before now : Numbered) → IsNumbered sheet before
+        → Takes (step_of edit sheet) before now → CanTakeBack (step_of edit sheet) now }
+    ensures numbered { (edit : Edit) (sheet : BalanceSheet) (before between now : Numbered) → IsNumbered sheet before
+        → Takes (step_of edit sheet) before between → TakesBack (step_of edit sheet) between now → IsNumbered sheet now }
+    ensures kept { (edit : Edit) (sheet : BalanceSheet) (before between now : Numbered) → IsNumbered sheet before
+        → Takes (step_of edit sheet) before between → TakesBack (step_of edit sheet) between now → (node : Node) (number : ℕ)
+        → StandsAt sheet before node number → StandsAt sheet now node number }
+{}

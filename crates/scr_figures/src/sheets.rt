@@ -1,0 +1,33 @@
+//! Numbers for all rows of a balance sheet.
+ghost use Rattle.std.specs.Prelude.{◌≡◌, ◌+◌, IfOk, OnOk};
+ghost use Rattle.scr_figures.specs.Numbers.{IsNumbered};
+ghost use Rattle.scr_numbers.specs.Moves.{IsSameBut};
+ghost use Rattle.scr_numbers.specs.Ranges.{count};
+
+use scr_numbers::{Places, Table};
+use scr_sheet::BalanceSheet;
+use std::alloc::{AllocError as NoMemory, Global};
+
+/// Numbers for all rows, table by table in the order of the rows.
+pub fn places_of(alloc: Global, sheet: &BalanceSheet) -> Result<Places, NoMemory>
+    ensures { IfOk result (IsNumbered sheet.now) }
+{
+    let mut places = Places::new(alloc)?;
+    fill(&mut places, Table::Fund, sheet.funds.len())?;
+    fill(&mut places, Table::Security, sheet.securities.len())?;
+    fill(&mut places, Table::Liability, sheet.liabilities.len())?;
+    fill(&mut places, Table::Group, sheet.groups.len())?;
+    fill(&mut places, Table::Currency, sheet.curves.len())?;
+    Ok(places)
+}
+
+/// So many rows come.
+fn fill(places: &mut Places, table: Table, rows: usize) -> Result<(), NoMemory>
+    ensures others { IsSameBut table places.old places.new }
+    ensures ok { OnOk result (count places.new table ≡ count places.old table + rows) }
+{
+    for _ in 0..rows {
+        places.come(table)?;
+    }
+    Ok(())
+}

@@ -1,0 +1,5 @@
+pub mod Tables
+pub mod Views
+pub mod Exchanges
+pub mod Additions
+pub mod Back

@@ -1,0 +1,4 @@
+pub mod Ranges
+pub mod Moves
+pub mod Steps
+pub mod Kept

@@ -1,0 +1,45 @@
+//! The tables whose rows have numbers.
+ghost use Rattle.std.specs.Prelude.{◌≡◌, ◌<◌};
+ghost use Rattle.scr_numbers.specs.Ranges.{number_of, stride};
+
+/// A table whose rows have numbers, or the whole sheet, which is numbered as a table of one row.
+#[derive(Clone, Copy, PartialEq, Eq)]
+pub enum Table {
+    Whole,
+    Fund,
+    Security,
+    Liability,
+    Group,
+    Currency,
+}
+
+impl Table {
+    /// How many numbers a row of the table has: one for each figure that may be reckoned of it.
+    pub fn stride(self) -> u32
+        ensures { result ≡ stride self }
+    {
+        match self {
+            Table::Whole => 154,
+            Table::Fund => 1,
+            Table::Security => 6,
+            Table::Liability => 12,
+            Table::Group => 3,
+            Table::Currency => 9,
+        }
+    }
+
+    /// The place of the table's roll among the rolls.
+    pub(crate) fn number(self) -> usize
+        ensures number { result ≡ number_of self }
+        ensures few { number_of self < 6 }
+    {
+        match self {
+            Table::Whole => 0,
+            Table::Fund => 1,
+            Table::Security => 2,
+            Table::Liability => 3,
+            Table::Group => 4,
+            Table::Currency => 5,
+        }
+    }
+}
