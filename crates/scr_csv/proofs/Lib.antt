@@ -8,3 +8,4 @@ pub mod Verbs
 pub mod Refusals
 pub mod RecordFaults
 pub mod Written
+pub mod Keeping

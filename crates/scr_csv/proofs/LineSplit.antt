@@ -1,5 +1,5 @@
 -- How a line is split into fields: csv's way is a cut at the commas where there is no double quote.
-use Rattle.std.proofs.Common.{◌≡◌, ℕ, ◌+◌, ◌≤◌, ◌==◌, Bool, true, false, cond, List, [], ◌∷◌, ◌++◌, length, Option, Some, None, refl, ap, ◌∙◌, append_assoc, arith, length-append, inl, inr}
+use Rattle.std.proofs.Common.{◌≡◌, ℕ, ◌+◌, ◌≤◌, ◌<◌, ◌==◌, Bool, true, false, cond, List, [], ◌∷◌, ◌++◌, length, Option, Some, None, refl, ap, ◌∙◌, append_assoc, arith, length-append, inl, inr}
 use Rattle.std.specs.Prelude.{nat_le}
 use Rattle.std.specs.List.{list_all, list_any, onto_first}
 use Rattle.std.proofs.lemmas.Bool.{cases_Bool, and_parts, or_parts}
@@ -12,18 +12,14 @@ use Rattle.csv.specs.declared.parser.Action.{Action}
 use Rattle.csv.specs.declared.parser.Action.TheVariants as action
 use Rattle.scr_csv.specs.LineFields.{fields_read, line_fields, is_printed, is_quote}
 use Rattle.scr_csv.specs.Sources.{pieces}
+use Rattle.scr_csv.specs.Splits.{joined}
 
 printed_other : (b n : ℕ) → is_printed b ≡ true → nat_le 0x20 n ≡ false → (b == n) ≡ false
 printed_other b n h small = grind (arith, h, small)
 
 -- ---- a cut at the commas
 
--- what stands in front joins the first piece
-abbrev joined : List ℕ → List (List ℕ) → List (List ℕ)
-joined field [] = field ∷ []
-joined field (piece ∷ more) = (field ++ piece) ∷ more
-
-joined-onto : (field : List ℕ) (c : ℕ) (cut : List (List ℕ))
+pub joined-onto : (field : List ℕ) (c : ℕ) (cut : List (List ℕ))
     → joined (field ++ (c ∷ [])) cut ≡ joined field (onto_first c cut)
 joined-onto field c [] = refl
 joined-onto field c (piece ∷ more) = ap (λ (p : List ℕ). p ∷ more) (append_assoc field (c ∷ []) piece)
@@ -135,3 +131,8 @@ few_read s fields field (c ∷ rest) =
 pub few_fields : (text : List ℕ) → length (line_fields text) ≤ length text + 1
 unfolding line_fields
 few_fields text = omega (arith, few_read state.StartRecord [] [] text)
+
+-- A line with a quote is not empty.
+pub quoted_filled : (text : List ℕ) → list_any is_quote text ≡ true → 0 < length text
+quoted_filled [] h = absurd (cc)
+quoted_filled (c ∷ rest) h = omega arith

@@ -1,10 +1,11 @@
 -- Lists in a line, member by member.
-use Rattle.std.proofs.Common.{◌≡◌, ◌≢◌, ℕ, ℤ, ◌+◌, ◌<◌, List, [], ◌∷◌, ◌++◌, length, Option, Result, Ok, Err, refl, ap, sym, append_assoc, arith}
+use Rattle.std.proofs.Common.{◌≡◌, ◌≢◌, ℕ, ℤ, zero, suc, ◌+◌, ◌<◌, ◌≤◌, List, [], ◌∷◌, ◌++◌, length, take, Option, Result, Ok, Err, refl, ap, sym, ◌∙◌, append_assoc, length-append, arith}
 use Rattle.std.specs.List.{AllByRecursion}
+use Rattle.std.proofs.lemmas.List.{append-nil, take_all, take-append-le}
 use Rattle.scr_csv.specs.declared.fault.LineFault.{LineFault}
 use Rattle.scr_csv.specs.declared.fault.LineFault.TheVariants.{Syntax, NoMemory}
 use Rattle.scr_spelling.specs.Numbers.{number_value}
-use Rattle.scr_csv.specs.Reading.{Rest, field, next, read_to, made, listed, value_in, pairs_from, Answers}
+use Rattle.scr_csv.specs.Reading.{Rest, field, next, read_to, made, listed, value_in, numbers_from, pairs_from, Answers}
 
 -- the members so far, and those that follow them
 abbrev pub behind : {A : Type 0} → List A → Result (List A) LineFault → Result (List A) LineFault
@@ -100,3 +101,56 @@ pairs-number_fault form number (first ∷ second ∷ fields) a mid fault h k =
     let read = read_ok (value_in form number first) a
     (record { number = number + 1; fields = second ∷ fields }) mid h in
     rw (read.value, read_err (value_in number_value (number + 1) second) _ fault (rw (← read.same) at k)) refl
+
+-- ---- how many members are kept
+
+take_behind : {A : Type 0} (most : ℕ) (xs ys : List A) → take most (take most xs ++ ys) ≡ take most (xs ++ ys)
+take_behind zero xs ys = refl
+take_behind (suc most) [] ys = refl
+take_behind {A} (suc most) (x ∷ xs) ys = ap (λ (more : List A). x ∷ more) (take_behind most xs ys)
+
+pub take_short : {A : Type 0} (most : ℕ) (xs : List A) → length (take most xs) ≤ most
+take_short zero xs = omega arith
+take_short (suc most) [] = omega arith
+take_short (suc most) (x ∷ xs) = omega (arith, take_short most xs)
+
+pub take_every : {A : Type 0} (P : A → Type 0) (most : ℕ) (xs : List A) → AllByRecursion P xs
+    → AllByRecursion P (take most xs)
+take_every P zero xs all = tt
+take_every P (suc most) [] all = tt
+take_every P (suc most) (x ∷ xs) all = (all.0, take_every P most xs all.1)
+
+pub with_room : {A : Type 0} (most : ℕ) (members : List A) (a : A) → length members < most
+    → members ++ (a ∷ []) ≡ take most (members ++ (a ∷ []))
+with_room most members a room = sym (take_all most (members ++ (a ∷ []))
+    (omega (arith, room, length-append members (a ∷ []))))
+
+pub without_room : {A : Type 0} (most : ℕ) (members : List A) (a : A) → length members ≤ most → most ≤ length members
+    → members ≡ take most (members ++ (a ∷ []))
+without_room most members a short full =
+    sym (take-append-le most members (a ∷ []) full ∙ take_all most members short)
+
+-- the members that are kept so far, before one more and those that follow it
+pub kept_next : {A : Type 0} (most : ℕ) (members : List A) (a : A) (more : Result (List A) LineFault)
+    → made (take most) (behind (take most (members ++ (a ∷ []))) more)
+    ≡ made (take most) (behind members (made (λ rest. a ∷ rest) more))
+kept_next most members a (Ok rest) = ap Ok
+    (take_behind most (members ++ (a ∷ [])) rest ∙ ap (take most) (append_assoc members (a ∷ []) rest))
+kept_next most members a (Err fault) = refl
+
+-- where none follows, those that are kept are the list
+pub kept_end : {A : Type 0} (most : ℕ) (members list : List A) (left due : Result (List A) LineFault)
+    → left ≡ Ok [] → length members ≤ most → made (take most) (behind members left) ≡ made (take most) due
+    → members ≡ list → made (take most) due ≡ Ok list
+kept_end most members list left due none short read is =
+    sym read ∙ ap (λ l. made (take most) (behind members l)) none
+    ∙ ap Ok (ap (take most) (append-nil members) ∙ take_all most members short ∙ is)
+
+pub numbers-next : (number : ℕ) (fields : List (List ℕ)) (z : ℤ) (after : Rest)
+    → next number_value (record { number = number; fields = fields }) ≡ Ok (z, after)
+    → numbers_from number fields ≡ made (λ rest. z ∷ rest) (numbers_from after.number after.fields)
+unfolding next field
+numbers-next number [] z after h = absurd (cc)
+numbers-next number (first ∷ fields) z after h =
+    let read = read_ok (value_in number_value number first) z (record { number = number + 1; fields = fields }) after h in
+    rw (read.value, ← read.same) (listed_ok z (numbers_from (number + 1) fields))

@@ -6,6 +6,7 @@ pub mod Reading
 pub mod Sources
 pub mod Splits
 pub mod Records
+pub mod Kept
 pub mod Refusals
 pub mod RecordTexts
 pub mod FieldTexts

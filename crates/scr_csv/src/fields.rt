@@ -1,28 +1,30 @@
 //! The fields of a record, read one after another in their forms.
 #![tactic(auto, using(crate::proofs::Steps::formed_if), unfolding(crate::specs::Reading::field, crate::specs::Reading::next, crate::specs::Reading::only))]
 
-ghost use Rattle.std.specs.Prelude.{◌≡◌, ◌≤◌, ◌↔◌, [], length, IfOk, IsTrue, true, false};
+ghost use Rattle.std.specs.Prelude.{◌≡◌, ◌≤◌, ◌↔◌, [], ◌∷◌, ◌++◌, length, take, IfOk, OnOk, IsTrue};
+ghost use Rattle.std.specs.Prelude.{true, false};
 ghost use Rattle.std.specs.List.{AllByRecursion, list_all, list_any};
-ghost use Rattle.csv.specs.Records.{fields_of};
 ghost use Rattle.scr_dates.specs.Civil.{IsDay};
 ghost use Rattle.scr_dates.specs.Text.{day_of_text};
 ghost use Rattle.scr_profile.specs.Segments.{segments};
+ghost use Rattle.scr_profile.specs.declared.limits.TheConstants as limits;
 ghost use Rattle.scr_sheet.specs.Forms as formed;
 ghost use Rattle.scr_spelling.specs.FieldForms as forms_of;
 ghost use Rattle.scr_spelling.specs.Numbers.{number_value};
-ghost use Rattle.scr_csv.specs.Reading.{field, next, only, found_to, read_to, numbers_from};
+ghost use Rattle.scr_csv.specs.Kept.{kept_members};
+ghost use Rattle.scr_csv.specs.Reading.{field, next, only, found_to, read_to, made, numbers_from};
 ghost use Rattle.scr_csv.specs.Reading.{pairs_from, Answers};
 ghost use Rattle.scr_csv.specs.LineFields.{line_fields, is_printed, is_quote};
+ghost use Rattle.scr_csv.specs.Sources.{parts};
 ghost use Rattle.scr_spelling.specs.Words.{value_of};
 
 use crate::LineFault;
 use crate::source::Source;
-use csv::ByteRecord;
 use scr_dates::{Day, parse_day};
-use scr_profile::Set;
+use scr_profile::{MAX_FLOWS, MAX_FUND_COMPONENTS, MAX_RATES, Set};
 use scr_sheet::{AbsorbKey, Components, Edit, Flows, Name, Rates};
 use scr_spelling::{Word, forms, read_number, value};
-use std::alloc::Global;
+use std::alloc::{AllocError as NoMemory, Global};
 use std::marker::Model;
 
 /// The fields that are still to be read, and the number of the first of them. The verb has number
@@ -59,13 +61,13 @@ impl<'a> Fields<'a> {
         }
     }
 
-    /// The fields of a line of at most 64 MiB, as a row.
-    pub fn of_row(row: &'a ByteRecord) -> Fields<'a>
-        requires { length (fields_of row.now) ≤ 67108865 }
-        ensures { result ≡ record { number = 0; fields = fields_of row.now } }
+    /// What stands between the newlines of a copy of such a line.
+    pub fn of_copy(copy: &'a [u8]) -> Fields<'a>
+        requires { length (parts 10 copy.now) ≤ 67108865 }
+        ensures { result ≡ record { number = 0; fields = parts 10 copy.now } }
     {
         Fields {
-            source: Source::Row(row, 0),
+            source: Source::of_copy(copy),
             number: 0,
         }
     }
@@ -182,47 +184,67 @@ impl<'a> Fields<'a> {
         }
     }
 
-    /// The fields that are left, each a number.
+    /// The fields that are left, each a number. Of too many one too many is kept.
     pub fn rates(&mut self, alloc: Global) -> Result<Rates, LineFault>
-        ensures answer { Answers (numbers_from self.old.number self.old.fields) result }
+        ensures answer { Answers
+            (made (kept_members limits.MAX_RATES) (numbers_from self.old.number self.old.fields)) result }
         ensures formed { IfOk result (AllByRecursion formed.IsNumber) }
     {
         let mut rates = Vec::new(alloc);
         'rates: while !self.is_at_end() {
             let rate = self.number()?;
-            rates.push(rate).map_err(|_| LineFault::NoMemory)?;
+            keep(&mut rates, MAX_RATES as usize + 1, rate).map_err(|_| LineFault::NoMemory)?;
         }
         Ok(Rates::new(rates))
     }
 
-    /// The fields that are left, in pairs of a date and a number.
+    /// The fields that are left, in pairs of a date and a number. Of too many pairs one too many is
+    /// kept.
     pub fn flows(&mut self, alloc: Global) -> Result<Flows, LineFault>
-        ensures answer { Answers (pairs_from day_of_text self.old.number self.old.fields) result }
+        ensures answer { Answers (made (kept_members limits.MAX_FLOWS)
+            (pairs_from day_of_text self.old.number self.old.fields)) result }
         ensures formed { IfOk result formed.AreFlows }
     {
         let mut flows = Vec::new(alloc);
         'flows: while !self.is_at_end() {
             let date = self.date()?;
             let amount = self.number()?;
-            flows.push((date, amount)).map_err(|_| LineFault::NoMemory)?;
+            keep(&mut flows, MAX_FLOWS as usize + 1, (date, amount)).map_err(
+                |_| LineFault::NoMemory,
+            )?;
         }
         Ok(Flows::new(flows))
     }
 
-    /// The fields that are left, in pairs of a name and a number.
+    /// The fields that are left, in pairs of a name and a number. Of too many pairs one too many is
+    /// kept.
     pub fn components(&mut self, alloc: Global) -> Result<Components, LineFault>
-        ensures answer { Answers
-            (pairs_from forms_of.name_of self.old.number self.old.fields) result }
+        ensures answer { Answers (made (kept_members limits.MAX_FUND_COMPONENTS)
+            (pairs_from forms_of.name_of self.old.number self.old.fields)) result }
         ensures formed { IfOk result formed.AreComponents }
     {
         let mut components = Vec::new(alloc);
         'components: while !self.is_at_end() {
             let name = self.name()?;
             let weight = self.number()?;
-            components
-                .push((name, weight))
-                .map_err(|_| LineFault::NoMemory)?;
+            keep(
+                &mut components,
+                MAX_FUND_COMPONENTS as usize + 1,
+                (name, weight),
+            )
+            .map_err(|_| LineFault::NoMemory)?;
         }
         Ok(Components::new(components))
     }
+}
+
+/// Puts a member behind those of a list, unless there are so many already: then it is let go.
+fn keep<T: Copy>(list: &mut Vec<T>, most: usize, member: T) -> Result<(), NoMemory>
+    requires { length list.old.items ≤ most }
+    ensures { OnOk result (list.new.items ≡ take most (list.old.items ++ (member ∷ []))) }
+{
+    if list.len() < most {
+        list.push(member).map_err(|_| NoMemory)?;
+    }
+    Ok(())
 }

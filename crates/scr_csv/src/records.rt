@@ -1,10 +1,11 @@
 //! The record of each verb.
-#![tactic(auto, unfolding(crate::specs::Records::any_record))]
+#![tactic(auto, unfolding(crate::specs::Kept::any_kept_record))]
 
 ghost use Rattle.std.specs.Prelude.{◌≡◌, IfOk};
 ghost use Rattle.scr_sheet.specs.Forms.{Formed};
 ghost use Rattle.scr_csv.specs.Reading.{Answers};
 ghost use Rattle.scr_csv.specs.Records as spec;
+ghost use Rattle.scr_csv.specs.Kept as cut;
 
 use crate::LineFault;
 use crate::fields::Fields;
@@ -24,7 +25,7 @@ fn asof_record(fields: &mut Fields<'_>) -> Result<Edit, LineFault>
 
 /// A currency with its rates in millionths.
 fn curve_record(alloc: Global, fields: &mut Fields<'_>) -> Result<Edit, LineFault>
-    ensures answer { Answers (spec.curve_record fields.old) result }
+    ensures answer { Answers (cut.kept_curve_record fields.old) result }
     ensures formed { IfOk result Formed }
 {
     let currency = fields.currency()?;
@@ -64,7 +65,7 @@ fn security_record(fields: &mut Fields<'_>) -> Result<Edit, LineFault>
 
 /// What a security promises.
 fn flows_record(alloc: Global, fields: &mut Fields<'_>) -> Result<Edit, LineFault>
-    ensures answer { Answers (spec.flows_record fields.old) result }
+    ensures answer { Answers (cut.kept_flows_record fields.old) result }
     ensures formed { IfOk result Formed }
 {
     let security = fields.name()?;
@@ -74,7 +75,7 @@ fn flows_record(alloc: Global, fields: &mut Fields<'_>) -> Result<Edit, LineFaul
 
 /// A fund with its components and their weights.
 fn fund_record(alloc: Global, fields: &mut Fields<'_>) -> Result<Edit, LineFault>
-    ensures answer { Answers (spec.fund_record fields.old) result }
+    ensures answer { Answers (cut.kept_fund_record fields.old) result }
     ensures formed { IfOk result Formed }
 {
     let name = fields.name()?;
@@ -109,7 +110,7 @@ fn liability_record(fields: &mut Fields<'_>) -> Result<Edit, LineFault>
 
 /// The flows of a liability under a projection.
 fn liability_flows_record(alloc: Global, fields: &mut Fields<'_>) -> Result<Edit, LineFault>
-    ensures answer { Answers (spec.liability_flows_record fields.old) result }
+    ensures answer { Answers (cut.kept_liability_flows_record fields.old) result }
     ensures formed { IfOk result Formed }
 {
     let liability = fields.name()?;
@@ -289,7 +290,7 @@ fn remove_record(fields: &mut Fields<'_>) -> Result<Edit, LineFault>
 
 /// The record of the fields, of which the first is the verb.
 pub fn read_record(alloc: Global, fields: &mut Fields<'_>) -> Result<Edit, LineFault>
-    ensures answer { Answers (spec.any_record fields.old) result }
+    ensures answer { Answers (cut.any_kept_record fields.old) result }
     ensures formed { IfOk result Formed }
 {
     match fields.word()? {

@@ -3,17 +3,14 @@ ghost use Rattle.std.specs.Prelude.{◌≡◌, [], ◌∷◌, ◌<◌, ◌==◌,
 ghost use Rattle.std.specs.Prelude.{IfSome};
 ghost use Rattle.std.specs.List.{list_all, list_any};
 ghost use Rattle.scr_csv.specs.LineFields.{line_fields, is_printed, is_quote};
-ghost use Rattle.scr_csv.specs.Sources.{pieces, behind};
+ghost use Rattle.scr_csv.specs.Sources.{parts, behind};
 
-use csv::ByteRecord;
-
-/// The fields that are left of a line.
+/// The fields that are left of a text in which a certain byte stands between two fields, and nowhere
+/// else; where none is left, there is no text.
 #[derive(Clone, Copy)]
-pub enum Source<'a> {
-    /// What stands between the commas of a text, if any is left. The line has no double quote.
-    Text(Option<&'a [u8]>),
-    /// The fields of a row from this place on.
-    Row(&'a ByteRecord, usize),
+pub struct Source<'a> {
+    end: u8,
+    rest: Option<&'a [u8]>,
 }
 
 impl<'a> Source<'a> {
@@ -26,9 +23,25 @@ impl<'a> Source<'a> {
         ensures { fields_in result ≡ line_fields text.now }
     {
         if text.is_empty() {
-            return Source::Text(None);
+            return Source {
+                end: b',',
+                rest: None,
+            };
         }
-        Source::Text(Some(text))
+        Source {
+            end: b',',
+            rest: Some(text),
+        }
+    }
+
+    /// What stands between the newlines of a text.
+    pub fn of_copy(copy: &'a [u8]) -> Source<'a>
+        ensures { fields_in result ≡ parts 10 copy.now }
+    {
+        Source {
+            end: b'\n',
+            rest: Some(copy),
+        }
     }
 
     /// The first field, and those after it.
@@ -37,33 +50,31 @@ impl<'a> Source<'a> {
         ensures some { IfSome result
             (λ first. fields_in self.entry ≡ first.0.now ∷ fields_in first.1) }
     {
-        match self {
-            Source::Text(text) => {
-                let (field, rest) = first_field(text?);
-                Some((field, Source::Text(rest)))
-            }
-            Source::Row(row, at) => {
-                let field = row.get(at)?;
-                Some((field, Source::Row(row, at + 1)))
-            }
-        }
+        let (field, rest) = first_field(self.rest?, self.end);
+        Some((
+            field,
+            Source {
+                end: self.end,
+                rest,
+            },
+        ))
     }
 }
 
-/// The first field, and what follows its comma.
-fn first_field(text: &[u8]) -> (&[u8], Option<&[u8]>)
-    ensures { pieces text.now ≡ result.0.now ∷ behind result.1 }
+/// The first field, and what follows the byte that ends it.
+fn first_field(text: &[u8], end: u8) -> (&[u8], Option<&[u8]>)
+    ensures { parts end text.now ≡ result.0.now ∷ behind end result.1 }
 {
-    match comma_at(text) {
-        Some(end) => (&text[..end], Some(&text[end + 1..])),
+    match first_end(text, end) {
+        Some(at) => (&text[..at], Some(&text[at + 1..])),
         None => (text, None),
     }
 }
 
-/// The place of the first comma.
-fn comma_at(text: &[u8]) -> Option<usize>
-    ensures place { result ≡ position (λ b. b == 44) text.now }
-    ensures within { IfSome result (λ end. end < length text.now) }
+/// The place of the first byte that ends a field.
+fn first_end(text: &[u8], end: u8) -> Option<usize>
+    ensures place { result ≡ position (λ b. b == end) text.now }
+    ensures within { IfSome result (λ at. at < length text.now) }
 {
-    text.iter().position(|b| *b == b',')
+    text.iter().position(|b| *b == end)
 }

@@ -1,18 +1,17 @@
 //! The split of a line with double quotes into fields.
 #![tactic(auto, unfolding(crate::specs::Splits::reads))]
 
-ghost use Rattle.std.specs.Prelude.{◌≡◌, ◌++◌, ◌∷◌, ◌<◌, List, ℕ, [], drop, length, true, IfOk};
+ghost use Rattle.std.specs.Prelude.{◌≡◌, ◌∷◌, ◌<◌, List, ℕ, length, true, IfOk};
 ghost use Rattle.std.specs.Prelude.{IfErr, OnOk};
 ghost use Rattle.std.specs.List.{list_all, list_any};
 ghost use Rattle.csv.specs.Machine as machine;
 ghost use Rattle.csv.specs.Reading.{default_config};
-ghost use Rattle.csv.specs.Records.{fields_of, partial_of};
 ghost use Rattle.csv.specs.declared.parser.State.TheVariants as state;
 ghost use Rattle.scr_csv.specs.LineFields.{line_fields, is_printed, is_quote};
-ghost use Rattle.scr_csv.specs.Splits.{state_of, action_of, reads};
+ghost use Rattle.scr_csv.specs.Sources.{parts};
+ghost use Rattle.scr_csv.specs.Splits.{state_of, action_of, Copied};
 
 use crate::LineFault;
-use csv::ByteRecord;
 use std::alloc::{AllocError as NoMemory, Global};
 
 /// Whether each byte is one from 20 to 7E.
@@ -65,11 +64,10 @@ fn step(place: Place, byte: u8) -> (Place, Action)
     }
 }
 
-/// The fields that are whole, and the one at hand.
+/// The copy so far, and where the split stands.
 #[derive(Drop)]
 struct Split {
-    row: ByteRecord,
-    field: Vec<u8>,
+    copy: Vec<u8>,
     place: Place,
 }
 
@@ -77,57 +75,45 @@ impl Split {
     /// Takes the next byte of the line.
     fn take(&mut self, byte: u8) -> Result<(), NoMemory>
         requires printed { is_printed byte ≡ true }
-        requires whole { partial_of self.old.row ≡ [] }
-        ensures whole { OnOk result (partial_of self.new.row ≡ []) }
         ensures steps { OnOk result
-            ((rest : List ℕ)
-            → reads self.new.place (fields_of self.new.row) self.new.field.items rest
-            ≡ reads self.old.place (fields_of self.old.row) self.old.field.items (byte ∷ rest)) }
+            ((rest : List ℕ) (line : List ℕ)
+            → Copied self.old.place self.old.copy.items (byte ∷ rest) line
+            → Copied self.new.place self.new.copy.items rest line) }
     {
         let (place, action) = step(self.place, byte);
         match action {
             Action::Skip => {}
-            Action::Copy => self.field.push(byte)?,
-            Action::End => {
-                self.row.push_field(&self.field)?;
-                self.field.clear();
-            }
+            Action::Copy => self.copy.push(byte)?,
+            Action::End => self.copy.push(b'\n')?,
         }
         self.place = place;
         Ok(())
     }
 }
 
-/// The fields of a line, as a row.
-pub fn row_of(alloc: Global, text: &[u8]) -> Result<ByteRecord, LineFault>
-    requires { list_all is_printed text.now ≡ true }
-    ensures fields { IfOk result (λ row. fields_of row ≡ line_fields text.now) }
-    ensures only_memory { IfErr result (λ fault. fault ≡ LineFault.NoMemory) }
-{
-    if text.is_empty() {
-        return Ok(ByteRecord::new(alloc));
-    }
-    split_of(alloc, text).map_err(|_| LineFault::NoMemory)
-}
-
-fn split_of(alloc: Global, text: &[u8]) -> Result<ByteRecord, NoMemory>
+/// A copy of a line that is not empty, without the quotes of its fields and with a newline between two
+/// fields, since a field may have commas and quotes but no newline.
+pub fn unquoted(alloc: Global, text: &[u8]) -> Result<Vec<u8>, LineFault>
     requires printed { list_all is_printed text.now ≡ true }
     requires filled { 0 < length text.now }
-    ensures { IfOk result (λ row. fields_of row ≡ line_fields text.now) }
+    ensures fields { IfOk result (λ copy. parts 10 copy.items ≡ line_fields text.now) }
+    ensures only_memory { IfErr result (λ fault. fault ≡ LineFault.NoMemory) }
+{
+    copy_of(alloc, text).map_err(|_| LineFault::NoMemory)
+}
+
+fn copy_of(alloc: Global, text: &[u8]) -> Result<Vec<u8>, NoMemory>
+    requires printed { list_all is_printed text.now ≡ true }
+    requires filled { 0 < length text.now }
+    ensures { IfOk result (λ copy. parts 10 copy.items ≡ line_fields text.now) }
 {
     let mut split = Split {
-        row: ByteRecord::new(alloc),
-        field: Vec::new(alloc),
+        copy: Vec::new(alloc),
         place: Place::Start,
     };
     'bytes: for byte in text {
         split.take(*byte)?;
     }
-    let Split {
-        mut row,
-        field,
-        place: _,
-    } = split;
-    row.push_field(&field)?;
-    Ok(row)
+    let Split { copy, place: _ } = split;
+    Ok(copy)
 }

@@ -1,12 +1,13 @@
 -- Components, pair by pair.
-use Rattle.std.proofs.Common.{w64, ◌≡◌, ◌≢◌, ◌++◌, ◌∷◌, [], List, ℕ, ℤ, true, sym, ap, ◌∙◌, rules, arith}
+use Rattle.std.proofs.Common.{w64, ◌≡◌, ◌≢◌, ◌+◌, ◌++◌, ◌∷◌, [], List, ℕ, ℤ, true, take, sym, ap, ◌∙◌, rules, arith}
 use Rattle.std.specs.Prelude.{is_ok, FitsSigned}
-use Rattle.std.proofs.lemmas.Int.{to_z-of_z}
 use Rattle.std.proofs.lemmas.Grind.{common_steps}
 use Rattle.scr_spelling.specs.FieldForms.{name_of}
+use Rattle.scr_profile.specs.declared.limits.TheConstants.{MAX_FUND_COMPONENTS}
 use Rattle.scr_spelling.specs.Numbers.{number_value}
-use Rattle.scr_csv.specs.Reading.{pairs_from}
-use Rattle.scr_csv.proofs.ListSteps.{behind, behind_next, due_answers, all_push, next-shorter, pairs-next, pairs-value_fault, pairs-number_fault}
+use Rattle.scr_csv.specs.Reading.{made, pairs_from}
+use Rattle.scr_csv.specs.Kept.{kept_members}
+use Rattle.scr_csv.proofs.ListSteps.{behind, kept_next, kept_end, take_short, take_every, due_answers, all_push, next-shorter, pairs-next, pairs-value_fault, pairs-number_fault}
 use Rattle.scr_csv.proofs.fields.Fields.components.Goals as goal
 
 pub returns-in_err-name-clause-answer : goal.returns-in_err-name-clause-answer
@@ -14,16 +15,18 @@ returns-in_err-name-clause-answer c =
     let some : c.components.self.fields ≢ [] = search rules in
     let fault = pairs-value_fault name_of c.components.self.number c.components.self.fields c.in_err-name.field-0.0
     (sym c.in_err-name.ensures.value) some in
-    let read = c.components.invariant.read in
-    due_answers _ _ (grind (arith, common_steps, fault, read))
+    let told = sym c.components.invariant.read
+    ∙ ap (λ left. made (kept_members MAX_FUND_COMPONENTS) (behind c.components.components.items left)) fault in
+    due_answers _ _ (grind (arith, common_steps, told))
 
 pub returns-in_err-weight-clause-answer : goal.returns-in_err-weight-clause-answer
 returns-in_err-weight-clause-answer c =
     let fault = pairs-number_fault name_of c.components.self.number c.components.self.fields c.in_ok-name.name
     c.name.new.self c.in_err-weight.field-0.0 (sym c.in_ok-name.ensures.value)
     (sym c.in_err-weight.ensures.value) in
-    let read = c.components.invariant.read in
-    due_answers _ _ (grind (arith, common_steps, fault, read))
+    let told = sym c.components.invariant.read
+    ∙ ap (λ left. made (kept_members MAX_FUND_COMPONENTS) (behind c.components.components.items left)) fault in
+    due_answers _ _ (grind (arith, common_steps, told))
 
 pub components-smaller : goal.components-smaller
 components-smaller c =
@@ -38,15 +41,23 @@ components-preserved c =
     let step = pairs-next name_of c.components.self.number c.components.self.fields c.in_ok-name.name c.name.new.self
     c.in_ok-weight.weight c.number.new.self (sym c.in_ok-name.ensures.value) (sym c.in_ok-weight.ensures.value) in
     let component : List ℕ × ℤ = (c.in_ok-name.name, c.in_ok-weight.weight) in
-    let ok : is_ok c.push.result ≡ true = sym c.map_err.ensures.variant ∙ ap is_ok c.in_ok-map_err.was in
+    let ok : is_ok c.keep.result ≡ true = sym c.map_err.ensures.variant ∙ ap is_ok c.in_ok-map_err.was in
     let fits : FitsSigned w64 c.in_ok-weight.weight = search rules in
-    let pushed : c.push.new.self.items ≡ c.components.components.items ++ (component ∷ []) = rw
-    (c.push.ensures.items, ok) (simp to_z-of_z) in
+    let kept : c.keep.new.list.items ≡ take (MAX_FUND_COMPONENTS + 1) (c.components.components.items ++ (component ∷ [])) = search rules in
+    let more = pairs_from name_of c.number.new.self.number c.number.new.self.fields in
     record {
-      read = rw pushed (sym
-          (behind_next c.components.components.items component
-          (pairs_from name_of c.number.new.self.number c.number.new.self.fields))
-          ∙ ap (behind c.components.components.items) (sym step) ∙ c.components.invariant.read);
-      formed = rw pushed (all_push _ c.components.components.items component c.components.invariant.formed
-          (c.in_ok-name.ensures.formed, c.in_ok-weight.ensures.formed));
+      read = rw kept (kept_next (MAX_FUND_COMPONENTS + 1) c.components.components.items component more
+          ∙ ap (λ left. made (kept_members MAX_FUND_COMPONENTS) (behind c.components.components.items left)) (sym step)
+          ∙ c.components.invariant.read);
+      short = rw kept (take_short (MAX_FUND_COMPONENTS + 1) (c.components.components.items ++ (component ∷ [])));
+      formed = rw kept (take_every _ (MAX_FUND_COMPONENTS + 1) (c.components.components.items ++ (component ∷ []))
+          (all_push _ c.components.components.items component c.components.invariant.formed
+          (c.in_ok-name.ensures.formed, c.in_ok-weight.ensures.formed)));
     }
+
+pub returns-clause-answer : goal.returns-clause-answer
+returns-clause-answer c =
+    let ended : c.components.self.fields ≡ [] = search rules in
+    let is : c.components.components.items ≡ c.new.result = search rules in
+    kept_end (MAX_FUND_COMPONENTS + 1) c.components.components.items _ _ _ (ap (pairs_from name_of c.components.self.number) ended)
+    c.components.invariant.short c.components.invariant.read is
