@@ -1,13 +1,13 @@
 -- What is printed of a balance sheet (this project's own): a block with a line for each cell, with a lower and an upper
 -- bound of its figure.
 use Rattle.std.specs.Prelude.{ℕ, ℤ, pos, ◌++◌, Bool, true, false, List, [], Option, codes, flat_map, option_and_then, option_map, slice_get}
+use Rattle.scr_amounts.specs.Amounts.{amount}
 use Rattle.scr_num.specs.Rounding.{Ends, floor_div, ceil_div}
 use Rattle.scr_factors.specs.Values.{FactorValues}
 use Rattle.scr_sheet.specs.declared.sheet.BalanceSheet.{BalanceSheet}
 use Rattle.scr_nodes.specs.declared.node.Node.{Node}
 use Rattle.scr_plan.specs.Close.{close_under}
 use Rattle.scr_plan.specs.Worked.{worked}
-use Rattle.scr_cells.specs.AmountTexts.{amount}
 use Rattle.scr_cells.specs.Table.{NamedFigure, requirement_cell, table}
 use Rattle.scr_cells.specs.declared.bounds.Bounds.{Bounds}
 use Rattle.scr_cells.specs.declared.cells.Cell.{Cell}

@@ -1,4 +1,3 @@
-pub mod AmountTexts
 pub mod Block
 pub mod Certified
 pub mod Shown

@@ -11,4 +11,4 @@ mod table;
 
 pub use block::{cell, print_block, requirement_line};
 pub use cells::Cell;
-pub use table::{CELL_COUNT, cell_name};
+pub use table::{CELL_COUNT, cell_name, cell_node};

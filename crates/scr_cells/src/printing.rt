@@ -1,9 +1,9 @@
 //! How the bounds of a cell are printed.
 ghost use Rattle.std.specs.Prelude.{◌≡◌, ◌++◌, OnOk};
-ghost use Rattle.scr_cells.specs.AmountTexts.{amount, euros};
 ghost use Rattle.scr_cells.specs.Block.{bound, bounds_line, close_mark};
 
 use crate::bounds::Bounds;
+use scr_amounts::push_amount;
 use std::alloc::{AllocError as NoMemory, Global};
 
 /// An amount of cents.
@@ -44,25 +44,5 @@ fn push_bound(alloc: Global, out: &mut Vec<u8>, cents: Cents) -> Result<(), NoMe
     ensures { OnOk result (out.new.items ≡ out.old.items ++ bound cents.0) }
 {
     push(out, " ")?;
-    push_amount(alloc, out, cents)
-}
-
-/// Appends an amount, in euros with two decimals.
-#[tactic(auto, unfolding(crate::specs::AmountTexts::amount))]
-fn push_amount(alloc: Global, out: &mut Vec<u8>, cents: Cents) -> Result<(), NoMemory>
-    ensures { OnOk result (out.new.items ≡ out.old.items ++ amount cents.0) }
-{
-    if cents.0 < 0 {
-        push(out, "-")?;
-    }
-    push_euros(alloc, out, cents.0.unsigned_abs())
-}
-
-#[tactic(auto, unfolding(crate::specs::AmountTexts::euros))]
-fn push_euros(alloc: Global, out: &mut Vec<u8>, cents: u128) -> Result<(), NoMemory>
-    ensures { OnOk result (out.new.items ≡ out.old.items ++ euros cents) }
-{
-    let (whole, tens, units) = (cents / 100, cents / 10 % 10, cents % 10);
-    let text = format!(in alloc; "{whole}.{tens}{units}")?;
-    push(out, text.as_str())
+    push_amount(alloc, out, cents.0)
 }

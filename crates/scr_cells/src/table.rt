@@ -1,10 +1,12 @@
 //! The cells of the report and the figures that they show.
-ghost use Rattle.std.specs.Prelude.{◌≡◌, ◌<◌, length, map, option_map, slice_get, Some};
+ghost use Rattle.std.specs.Prelude.{◌≡◌, ◌<◌, true, length, map, option_map, slice_get, Some};
+ghost use Rattle.scr_nodes.specs.Live.{is_live};
+ghost use Rattle.scr_sheet.specs.declared.sheet.BalanceSheet.{BalanceSheet};
 ghost use Rattle.scr_cells.specs.Table.{seen, table};
 
-use crate::shown::Shown;
+use crate::shown::{Shown, node_of};
 use scr_nodes::{
-    Adjustment, Alternatives, Biometric, Direction, Equities, Measure, Operational, Risk,
+    Adjustment, Alternatives, Biometric, Direction, Equities, Measure, Node, Operational, Risk,
 };
 use scr_profile::Set;
 use scr_sheet::Projection;
@@ -463,4 +465,13 @@ pub fn cell_name(k: u32) -> &'static str
     ensures { option_map (λ cell. cell.name) (slice_get table k) ≡ Some result.now }
 {
     entry_of(k).name
+}
+
+/// The figure that the cell of this number shows, which every balance sheet has.
+pub fn cell_node(k: u32) -> Node
+    requires { k < CELL_COUNT }
+    ensures node { option_map (λ cell. cell.node) (slice_get table k) ≡ Some result }
+    ensures live { (sheet : BalanceSheet) → is_live sheet result ≡ true }
+{
+    node_of(entry_of(k).shown)
 }
