@@ -1,3 +1,4 @@
+pub mod Articles
 pub mod Words
 pub mod Steps
 pub mod Units

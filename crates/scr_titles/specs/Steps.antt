@@ -34,6 +34,6 @@ step_words steps.Diversification = codes "the sum of the modules less their root
 -- what takes the amount by which the sources of a figure together exceed it, where a step has such
 abbrev pub taking : Step → Option (List ℕ)
 taking steps.Root = Some (codes "correlation takes")
-taking steps.Modules = Some (codes "correlation takes, less intangible asset risk")
+taking steps.Modules = Some (codes "correlation less intangible asset risk takes")
 taking steps.Absorbed = Some (codes "absorption takes")
 taking step = None

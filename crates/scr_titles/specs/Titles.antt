@@ -18,6 +18,7 @@ use Rattle.scr_titles.specs.declared.step.Step.{Step}
 use Rattle.scr_titles.specs.declared.step.Step.TheVariants as steps
 use Rattle.scr_titles.specs.declared.unit.Unit.{Unit}
 use Rattle.scr_titles.specs.declared.unit.Unit.TheVariants as units
+use Rattle.scr_titles.specs.Articles.{adjustment_article, catastrophe_article, direction_article, lapse_article, line_article, premium_article, segment_article, stress_article}
 use Rattle.scr_titles.specs.Words.{adjustment_words, alternatives_words, catastrophe_words, class_words, direction_words, equities_words, measure_words, operational_words, probability_words, projection_words, risk_words, segment_words, set_words}
 
 -- what a figure is, with others of its family
@@ -137,7 +138,7 @@ article (nodes.Security name (of_securities.Rate direction)) = codes "Article 16
 article (nodes.Security name of_securities.Spread) = codes "Article 176"
 article (nodes.Liability name (of_liabilities.Rate direction)) = codes "Article 165"
 article (nodes.Liability name of_liabilities.Present) = codes "Article 188"
-article (nodes.Liability name (of_liabilities.Loss projection)) = codes "Articles 137 to 143 and 152 to 159"
+article (nodes.Liability name (of_liabilities.Loss projection)) = line_article projection
 article (nodes.Currency name (of_currencies.Loss direction)) = codes "Article 165"
 article (nodes.Currency name (of_currencies.Scenario direction measure)) = codes "Article 188(3) and (4)"
 article (nodes.Currency name of_currencies.Choice) = codes "Article 188(2)"
@@ -145,7 +146,7 @@ article (nodes.Currency name (of_currencies.Picked measure)) = codes "Article 18
 article (nodes.Group name of_groups.Total) = codes "Article 182"
 article (nodes.Group name of_groups.ConcentrationSquare) = codes "Articles 184(1) and 187"
 article (nodes.Group name of_groups.Loss) = codes "Article 192"
-article (nodes.Whole (wholes.InterestScenario direction measure)) = codes "Articles 166 and 167"
+article (nodes.Whole (wholes.InterestScenario direction measure)) = direction_article direction
 article (nodes.Whole (wholes.Choice alternatives)) = codes "Article 206(2)"
 article (nodes.Whole (wholes.Picked alternatives measure)) = codes "Article 206(2)"
 article (nodes.Whole (wholes.Currency measure)) = codes "Article 188(1)"
@@ -165,13 +166,13 @@ article (nodes.Whole wholes.DefaultBand) = codes "Article 200"
 article (nodes.Whole wholes.DefaultType1) = codes "Article 200"
 article (nodes.Whole wholes.DefaultType2) = codes "Article 202"
 article (nodes.Whole wholes.Default) = codes "Article 189(1)"
-article (nodes.Whole (wholes.BioScenario biometric projection measure)) = codes "Articles 137 to 143 and 152 to 159"
+article (nodes.Whole (wholes.BioScenario biometric projection measure)) = stress_article biometric projection
 article (nodes.Whole (wholes.Life measure)) = codes "Article 136"
 article (nodes.Whole (wholes.Slt measure)) = codes "Article 151"
-article (nodes.Whole (wholes.Segment set number)) = codes "Articles 116, 117, 147 and 148"
-article (nodes.Whole (wholes.PremiumReserve set)) = codes "Articles 115 and 146"
-article (nodes.Whole (wholes.CatCharge key)) = codes "Articles 120 to 135 and 160 to 163"
-article (nodes.Whole (wholes.Lapse set)) = codes "Articles 118 and 150"
+article (nodes.Whole (wholes.Segment set number)) = segment_article set
+article (nodes.Whole (wholes.PremiumReserve set)) = premium_article set
+article (nodes.Whole (wholes.CatCharge key)) = catastrophe_article key
+article (nodes.Whole (wholes.Lapse set)) = lapse_article set
 article (nodes.Whole wholes.Natural) = codes "Article 120"
 article (nodes.Whole wholes.ManMade) = codes "Article 128"
 article (nodes.Whole wholes.NonlifeCatastrophe) = codes "Article 119"
@@ -182,7 +183,7 @@ article (nodes.Whole (wholes.Nonlife measure)) = codes "Article 114"
 article (nodes.Whole wholes.Intangible) = codes "Article 203"
 article (nodes.Whole (wholes.Bscr measure)) = codes "Article 87"
 article (nodes.Whole (wholes.OpPart part)) = codes "Article 204"
-article (nodes.Whole (wholes.Adjust adjustment)) = codes "Articles 206 and 207"
+article (nodes.Whole (wholes.Adjust adjustment)) = adjustment_article adjustment
 article (nodes.Whole wholes.Scr) = codes "Article 103 of Directive 2009/138/EC"
 article (nodes.Whole wholes.Diversification) = codes "Article 87"
 

@@ -2,6 +2,7 @@
 //! articles that it is by, its unit, and in words how it comes from its sources.
 #![tactic(auto)]
 
+mod articles;
 mod naming;
 mod step;
 mod titles;

@@ -77,7 +77,7 @@ impl Step {
     {
         match self {
             Step::Root => Some("correlation takes"),
-            Step::Modules => Some("correlation takes, less intangible asset risk"),
+            Step::Modules => Some("correlation less intangible asset risk takes"),
             Step::Absorbed => Some("absorption takes"),
             _ => None,
         }

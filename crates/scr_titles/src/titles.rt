@@ -2,6 +2,10 @@
 ghost use Rattle.std.specs.Prelude.{◌≡◌};
 ghost use Rattle.scr_titles.specs.Titles as titles;
 
+use crate::articles::{
+    adjustment_article, catastrophe_article, direction_article, lapse_article, line_article,
+    premium_article, segment_article, stress_article,
+};
 use crate::step::Step;
 use crate::unit::Unit;
 use crate::words::{
@@ -149,15 +153,18 @@ pub fn article(node: &Node) -> &'static str
         | Node::Currency(_, OfCurrency::Loss(_)) => "Article 165",
         Node::Security(_, OfSecurity::Spread) => "Article 176",
         Node::Liability(_, OfLiability::Present) => "Article 188",
-        Node::Liability(_, OfLiability::Loss(_)) | Node::Whole(Whole::BioScenario(_, _, _)) =>
-            "Articles 137 to 143 and 152 to 159",
+        Node::Liability(_, OfLiability::Loss(projection)) => line_article(*projection),
+        Node::Whole(Whole::BioScenario(obligations, projection, _)) => stress_article(
+            *obligations,
+            *projection,
+        ),
         Node::Currency(_, OfCurrency::Scenario(_, _)) => "Article 188(3) and (4)",
         Node::Currency(_, OfCurrency::Choice) | Node::Currency(_, OfCurrency::Picked(_)) =>
             "Article 188(2)",
         Node::Group(_, OfGroup::Total) => "Article 182",
         Node::Group(_, OfGroup::ConcentrationSquare) => "Articles 184(1) and 187",
         Node::Group(_, OfGroup::Loss) => "Article 192",
-        Node::Whole(Whole::InterestScenario(_, _)) => "Articles 166 and 167",
+        Node::Whole(Whole::InterestScenario(direction, _)) => direction_article(*direction),
         Node::Whole(Whole::Choice(_))
         | Node::Whole(Whole::Picked(_, _))
         | Node::Whole(Whole::NetPart(_)) => "Article 206(2)",
@@ -178,10 +185,10 @@ pub fn article(node: &Node) -> &'static str
         Node::Whole(Whole::Default) => "Article 189(1)",
         Node::Whole(Whole::Life(_)) => "Article 136",
         Node::Whole(Whole::Slt(_)) => "Article 151",
-        Node::Whole(Whole::Segment(_, _)) => "Articles 116, 117, 147 and 148",
-        Node::Whole(Whole::PremiumReserve(_)) => "Articles 115 and 146",
-        Node::Whole(Whole::CatCharge(_)) => "Articles 120 to 135 and 160 to 163",
-        Node::Whole(Whole::Lapse(_)) => "Articles 118 and 150",
+        Node::Whole(Whole::Segment(set, _)) => segment_article(*set),
+        Node::Whole(Whole::PremiumReserve(set)) => premium_article(*set),
+        Node::Whole(Whole::CatCharge(key)) => catastrophe_article(*key),
+        Node::Whole(Whole::Lapse(set)) => lapse_article(*set),
         Node::Whole(Whole::Natural) => "Article 120",
         Node::Whole(Whole::ManMade) => "Article 128",
         Node::Whole(Whole::NonlifeCatastrophe) => "Article 119",
@@ -192,7 +199,7 @@ pub fn article(node: &Node) -> &'static str
         Node::Whole(Whole::Intangible) => "Article 203",
         Node::Whole(Whole::Bscr(_)) | Node::Whole(Whole::Diversification) => "Article 87",
         Node::Whole(Whole::OpPart(_)) => "Article 204",
-        Node::Whole(Whole::Adjust(_)) => "Articles 206 and 207",
+        Node::Whole(Whole::Adjust(adjustment)) => adjustment_article(*adjustment),
         Node::Whole(Whole::Scr) => "Article 103 of Directive 2009/138/EC",
     }
 }
