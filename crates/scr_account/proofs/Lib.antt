@@ -1,0 +1,7 @@
+mod Indents
+mod LiveSources
+mod MovedCells
+mod PrintedBounds
+mod Roundings
+mod Together
+mod Trees
