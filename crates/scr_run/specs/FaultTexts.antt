@@ -89,3 +89,7 @@ fault_text (faults.InUse name user) = in_use_text name user
 fault_text (faults.Cycle path) = cycle_text path
 fault_text (faults.Range quantity value limit) = range_text quantity value limit
 fault_text faults.NoMemory = codes "out of memory"
+
+-- the number by which a fault is told, and its text
+unfoldable pub refusal_text : Fault → List ℕ
+refusal_text fault = (decimal (fault_number fault) ++ codes " ") ++ fault_text fault

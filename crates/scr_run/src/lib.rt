@@ -15,8 +15,12 @@ mod status;
 mod summary;
 mod telling;
 
+pub use crew::Crew;
 pub use entry::{conclude, program};
-pub use running::run;
+pub use files::{file_book, file_factors};
+pub use printing::push_refusal;
+pub use records::edit;
+pub use running::{ended, run};
 pub use scr_words::{Word, Words, WordsFault, parse_words};
 pub use status::{Status, Which};
 pub use telling::status_line;

@@ -1,7 +1,7 @@
 //! How faults are printed.
 ghost use Rattle.std.specs.Prelude.{◌≡◌, ℕ, ◌++◌, decimal, OnOk};
 ghost use Rattle.std.specs.Fmt.{signed_decimal};
-ghost use Rattle.scr_run.specs.FaultTexts.{fault_number, fault_text, syntax_text, labelled_name, in_use_text, cycle_text, next_name, path_text, absorb_user, user_text, range_text, quantity_name};
+ghost use Rattle.scr_run.specs.FaultTexts.{fault_number, fault_text, refusal_text, syntax_text, labelled_name, in_use_text, cycle_text, next_name, path_text, absorb_user, user_text, range_text, quantity_name};
 ghost use Rattle.scr_spelling.specs.KeyWords.{absorb_text};
 
 use scr_book::{AbsorbKey, Fault, Name, Names, Quantity, User};
@@ -36,6 +36,16 @@ pub fn number_of(fault: &Fault) -> u32
         Fault::Range(..) => 6,
         Fault::NoMemory => 7,
     }
+}
+
+/// Appends the number by which a fault is told, and its text.
+#[tactic(auto, unfolding(crate::specs::FaultTexts::refusal_text))]
+pub fn push_refusal(alloc: Global, out: &mut Vec<u8>, fault: &Fault) -> Result<(), NoMemory>
+    ensures { OnOk result (out.new.items ≡ out.old.items ++ refusal_text fault.now) }
+{
+    push_number(alloc, out, number_of(fault))?;
+    push(out, " ")?;
+    push_fault(alloc, out, fault)
 }
 
 /// Appends the text of a fault.
