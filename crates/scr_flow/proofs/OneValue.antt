@@ -67,7 +67,7 @@ product-split z w u d h =
     let f : (up z + d) * down w ≡ (u + down z) * down w = ap (λ (x : ℕ). x * down w) h in
     omega (arith, ints, e, f)
 
-sum-times : (a b w : ℤ) → (a +ℤ b) *ℤ w ≡ a *ℤ w +ℤ b *ℤ w
+pub sum-times : (a b w : ℤ) → (a +ℤ b) *ℤ w ≡ a *ℤ w +ℤ b *ℤ w
 sum-times a b w = let s = product-split (a +ℤ b) w (up a + up b) (down a + down b) (omega (arith, ints)) in omega (arith, ints, s)
 
 -- a sum of amounts times a fraction

@@ -1,13 +1,13 @@
 //! The falls of discounts where rates change.
 
-ghost use Rattle.std.specs.Prelude.{◌≡◌, ◌*◌, ◌≤◌, All, length, map, sum_by, unsigned_abs};
-ghost use Rattle.scr_num.specs.Rounding.{ends};
+ghost use Rattle.std.specs.Prelude.{◌≡◌, ◌*◌, ◌<◌, ◌≤◌, All, length, map, slice_index_or, sum_by, unsigned_abs};
+ghost use Rattle.scr_num.specs.Rounding.{Ends, ends};
 ghost use Rattle.scr_curve.specs.DiscountEnds.{IsDiscount};
 ghost use Rattle.scr_curve.specs.declared.table.TheConstants.{MAX_DISCOUNT};
-ghost use Rattle.scr_flow.specs.Sums.{weighted_ends, differences};
+ghost use Rattle.scr_flow.specs.Sums.{flow_ends, weighted_ends, differences};
 
 use crate::loss::fall_of;
-use crate::value::weighted_sum;
+use crate::value::{weighted, weighted_sum};
 use scr_curve::Discounts;
 use scr_num::{Span, exact};
 use std::marker::Model;
@@ -57,5 +57,17 @@ impl Falls {
         ensures high_size { unsigned_abs result.high ≤ MAX_DISCOUNT * sum_by unsigned_abs flows.now }
     {
         weighted_sum(flows, &self.at)
+    }
+
+    /// What a payment after `place` + 1 years loses.
+    pub(crate) fn lost_at(&self, place: usize, flow: i64) -> Span
+        requires place { place < 100 }
+        requires flow_in { unsigned_abs flow ≤ 100_000_000_000_000 }
+        ensures ends { (e : Ends) → ends result ≡ flow_ends flow (slice_index_or self.now place e) }
+        ensures count { length self.now ≡ 100 }
+        ensures low_size { unsigned_abs result.low ≤ MAX_DISCOUNT * unsigned_abs flow }
+        ensures high_size { unsigned_abs result.high ≤ MAX_DISCOUNT * unsigned_abs flow }
+    {
+        weighted(flow, self.at[place])
     }
 }

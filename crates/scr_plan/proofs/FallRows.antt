@@ -1,7 +1,7 @@
 -- The falls that are kept of each currency's discounts: found under its place, and what payments lose by them.
-use Rattle.std.proofs.Common.{◌≡◌, ℕ, zero, suc, ◌+◌, ◌<◌, ◌≤◌, ℤ, List, [], ◌∷◌, ◌++◌, Option, Some, None, Bor, IfSome, length, map, slice_get, get_or, take, refl, sym, ap, ap₂, subst, ◌∙◌, arith}
+use Rattle.std.proofs.Common.{◌≡◌, ℕ, zero, suc, ◌+◌, ◌<◌, Bool, true, false, if◌then◌else◌, ℤ, List, [], ◌∷◌, ◌++◌, Option, Some, None, Bor, IfSome, length, map, slice_get, get_or, take, refl, sym, ap, ap₂, subst, ◌∙◌, arith}
 use Rattle.std.specs.Option.{option_map}
-use Rattle.std.proofs.lemmas.List.{take_more, take_all}
+use Rattle.std.proofs.lemmas.List.{length-map, map-append, map_more, take_more, take_all}
 use Rattle.std.proofs.lemmas.List.Elements.{All-from_recursion}
 use Rattle.std.proofs.lemmas.Option.{slice_get-map, slice_get-get_or, slice_get_within, get_or_from_slice_get}
 use Rattle.scr_num.specs.Rounding.{Ends}
@@ -11,14 +11,17 @@ use Rattle.scr_flow.specs.Due.{dues}
 use Rattle.scr_curve.specs.Parts.{rates_in_parts}
 use Rattle.scr_curve.specs.declared.tilt.Tilt.TheVariants as tilts
 use Rattle.scr_flow.specs.Sums.{differences, weighted_ends}
+use Rattle.scr_names.specs.Names.{same_name}
+use Rattle.scr_names.specs.Tables.{with_row}
+use Rattle.scr_names.proofs.TableRows.{same_name-itself}
 use Rattle.scr_sheet.specs.BalanceSheet.{curve_name}
 use Rattle.scr_sheet.specs.Validity.{IsCurve, Valid}
 use Rattle.scr_sheet.specs.declared.{rows.Curve.Curve, sheet.BalanceSheet.BalanceSheet}
 use Rattle.scr_nodes.specs.declared.node.Direction.{Direction}
 use Rattle.scr_nodes.specs.declared.node.Direction.TheVariants as directions
-use Rattle.scr_plan.specs.Discounts.{CurrencyDiscounts}
+use Rattle.scr_plan.specs.Discounts.{CurrencyDiscounts, discounts_at}
 use Rattle.scr_plan.specs.Kept.{AreDiscountsAt, AreDiscountsOf, row_in, tables, rows_of, all_discounts}
-use Rattle.scr_plan.specs.KeptRates.{AreRatesOf, KnownRates, falls_at, falls_in, falls_of, known_of, all_rates}
+use Rattle.scr_plan.specs.KeptRates.{AreKeptBut, AreRatesOf, KnownRates, falls_at, falls_in, falls_of, known_of, all_rates}
 use Rattle.scr_plan.specs.Paid.{paid_in}
 use Rattle.scr_plan.specs.Rules.{paid_ends}
 use Rattle.scr_plan.specs.declared.known.CurrencyFalls.{CurrencyFalls}
@@ -70,6 +73,40 @@ falls-next curves rows k curve row so_far after falls is there here pushed befor
 pub falls-whole : (curves : List Curve) (rows : List CurrencyDiscounts) (n : ℕ) (found : List CurrencyFalls) → AreDiscountsOf curves rows → n ≡ length curves
     → found ≡ take n (falls_of curves rows) → found ≡ falls_of curves rows
 falls-whole curves rows n found are is h = let count = length-falls curves rows are in h ∙ take_all n (falls_of curves rows) (omega (arith, count, is))
+
+-- one more row of discounts
+pub rows-more : (rows after : List (List Discounts)) (row : List Discounts) (curves : List Curve) (k : ℕ) (curve : Curve) → after ≡ rows ++ row ∷ [] → tables row ≡ discounts_at curve.rates
+    → slice_get curves k ≡ Some curve → rows_of rows ≡ map (λ (c : Curve). discounts_at c.rates) (take k curves) → rows_of after ≡ map (λ (c : Curve). discounts_at c.rates) (take (k + 1) curves)
+rows-more rows after row curves k curve pushed here is so_far =
+    ap rows_of pushed ∙ map-append tables rows (row ∷ []) ∙ ap₂ (λ (xs : List CurrencyDiscounts) (x : CurrencyDiscounts). xs ++ x ∷ []) so_far
+    (here ∙ ap (λ (c : Curve). discounts_at c.rates) (sym (get_or_from_slice_get curves k curve curve is)))
+    ∙ sym (map_more (λ (c : Curve). discounts_at c.rates) curves k curve (slice_get_within curves k curve is))
+
+pub kept-row : (rows : List (List Discounts)) (k : ℕ) (row : List Discounts) (rates : List ℤ) → slice_get (rows_of rows) k ≡ Some (discounts_at rates) → slice_get rows k ≡ Some row → tables row ≡ discounts_at rates
+kept-row rows k row rates is there = let here = row-there rows k row there in cc
+
+pub kept-row-within : (rows : List (List Discounts)) (k : ℕ) (rates : List ℤ) → slice_get (rows_of rows) k ≡ Some (discounts_at rates) → k < length rows
+kept-row-within rows k rates is = omega (arith, slice_get_within (rows_of rows) k (discounts_at rates) is, length-map rows tables)
+
+-- where a curve comes or changes, the rows of all others are at their places
+not-itself : (a b : Curve) → Some a ≡ Some b → same_name a.currency b.currency ≡ false → ⊥
+not-itself a b is other =
+    let same : a ≡ b = cc in
+    let itself : same_name a.currency b.currency ≡ true = subst (λ (x : Curve). same_name a.currency x.currency ≡ true) same (same_name-itself a.currency) in
+    cc
+
+pub kept-but : (curves : List Curve) (new : Curve) → AreKeptBut new.currency (with_row curve_name new curves) (map (λ (curve : Curve). discounts_at curve.rates) curves)
+kept-but [] new zero curve is other = absurd (not-itself new curve is other)
+kept-but [] new (suc k) curve is other = absurd (cc)
+kept-but (c ∷ curves) new k curve is other = by (same_name new.currency c.currency) k (λ j there. kept-but curves new j curve there other) is
+  where
+    by : (b : Bool) (k : ℕ) → ((j : ℕ) → slice_get (with_row curve_name new curves) j ≡ Some curve → slice_get (map (λ (curve : Curve). discounts_at curve.rates) curves) j ≡ Some (discounts_at curve.rates))
+        → slice_get (if b then new ∷ curves else c ∷ with_row curve_name new curves) k ≡ Some curve
+        → slice_get (map (λ (curve : Curve). discounts_at curve.rates) (c ∷ curves)) k ≡ Some (discounts_at curve.rates)
+    by true zero later is = absurd (not-itself new curve is other)
+    by true (suc k) later is = slice_get-map (λ (curve : Curve). discounts_at curve.rates) curves k ∙ ap (option_map (λ (curve : Curve). discounts_at curve.rates)) is
+    by false zero later is = ap (option_map (λ (curve : Curve). discounts_at curve.rates)) is
+    by false (suc k) later is = later k is
 
 -- ---- what payments lose by the falls at the place of their currency
 module _ (sheet : BalanceSheet) (currency : List ℕ) (payments : List (Day × ℤ)) (rows : List CurrencyDiscounts) (row : CurrencyDiscounts) (rates flows : List ℤ) (e : Ends)

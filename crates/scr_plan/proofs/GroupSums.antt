@@ -224,3 +224,8 @@ loss-is sheet losses place loss name are there is =
         let named : group.name ≡ name = cc in
         let here : loss ≡ loss_of sheet group.name = cc in
         here ∙ ap (loss_of sheet) named
+
+-- one for each group
+pub losses-count : (sheet : BalanceSheet) (losses : List ℕ) (place : ℕ) → AreLossesOf sheet losses → place < length sheet.groups → place < length losses
+unfolding AreLossesOf
+losses-count sheet losses place are within = rw are (rw length-map within)

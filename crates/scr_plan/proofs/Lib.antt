@@ -39,3 +39,4 @@ pub mod DefaultCode
 pub mod NonlifeCode
 pub mod GroupSums
 pub mod FallRows
+pub mod RowFigures

@@ -1,15 +1,16 @@
 -- What is kept of all rates: of each currency the falls of its discounts, and the reference date whose anniversaries are known
 -- (this project's own).
-use Rattle.std.specs.Prelude.{ℕ, ◌≡◌, ℤ, List, [], ◌∷◌}
+use Rattle.std.specs.Prelude.{ℕ, ◌≡◌, false, ℤ, List, [], ◌∷◌, Some, slice_get}
 use Rattle.scr_num.specs.Rounding.{Ends}
 use Rattle.scr_curve.specs.Parts.{rates_in_parts}
 use Rattle.scr_curve.specs.declared.tilt.Tilt.TheVariants as tilts
 use Rattle.scr_flow.specs.Sums.{differences}
+use Rattle.scr_names.specs.Names.{same_name}
 use Rattle.scr_sheet.specs.declared.rows.Curve.{Curve}
 use Rattle.scr_sheet.specs.declared.sheet.BalanceSheet.{BalanceSheet}
 use Rattle.scr_nodes.specs.declared.node.Direction.{Direction}
 use Rattle.scr_nodes.specs.declared.node.Direction.TheVariants as directions
-use Rattle.scr_plan.specs.Discounts.{CurrencyDiscounts}
+use Rattle.scr_plan.specs.Discounts.{CurrencyDiscounts, discounts_at}
 use Rattle.scr_plan.specs.Kept.{rows_of, all_discounts}
 use Rattle.scr_plan.specs.declared.known.CurrencyFalls.{CurrencyFalls}
 use Rattle.scr_plan.specs.declared.known.Rates.{Rates}
@@ -36,6 +37,11 @@ falls_of (curve ∷ curves) (row ∷ rows) = falls_at curve.rates row ∷ falls_
 pub record AreRatesOf (sheet : BalanceSheet) (rows : List CurrencyDiscounts) (rates : Rates) : Type 0 where
   pub asof : rates.years ≡ sheet.numbers.asof.number
   pub falls : rates.falls.items ≡ falls_of sheet.curves rows
+
+-- the discounts of every currency but one are those at its rates, at the place of its curve
+abbrev pub AreKeptBut : List ℕ → List Curve → List CurrencyDiscounts → Type 0
+AreKeptBut currency curves rows = (k : ℕ) (curve : Curve) → slice_get curves k ≡ Some curve
+    → same_name currency curve.currency ≡ false → slice_get rows k ≡ Some (discounts_at curve.rates)
 
 -- ---- all that is known of rates: the discounts of all currencies, the reference date and the falls
 pub record KnownRates : Type 0 where

@@ -29,3 +29,4 @@ pub mod KeptRates
 pub mod Paid
 pub mod Weights
 pub mod GroupLosses
+pub mod ByRow

@@ -1,10 +1,18 @@
 //! What is lost where each group of counterparties defaults, found in one pass.
-ghost use Rattle.std.specs.Prelude.{◌≡◌, ◌+◌, ◌^◌, ◌<◌, Some, length, slice_get, slice_index_or, IfOk};
+ghost use Rattle.std.specs.Prelude.{◌≡◌, ◌+◌, ◌^◌, ◌<◌, Some, [], length, slice_get, slice_index_or, IfOk};
 ghost use Rattle.scr_sheet.specs.Validity.{Valid};
+ghost use Rattle.scr_num.specs.Rounding.{ends};
+ghost use Rattle.scr_factors.specs.Values.{FactorValues};
+ghost use Rattle.scr_sheet.specs.declared.rows.Group.{Group};
+ghost use Rattle.scr_nodes.specs.declared.node.Node.TheVariants as nodes;
+ghost use Rattle.scr_nodes.specs.declared.node.OfGroup.TheVariants as of_groups;
+ghost use Rattle.scr_plan.specs.ByRow.{by_rule};
 ghost use Rattle.scr_plan.specs.GroupLosses.{AreLossesOf, first_losses, with_loss};
 
+use crate::default_rules::grains;
 use scr_book::{BalanceSheet, Book};
 use scr_default::{lgd_bank, lgd_rein};
+use scr_num::Span;
 use std::alloc::{AllocError as NoMemory, Global};
 use std::marker::Model;
 
@@ -47,6 +55,17 @@ pub fn group_losses(alloc: Global, book: &Book) -> Result<GroupLosses, NoMemory>
         enter_reinsurer(&mut sums, sheet, k);
     }
     Ok(GroupLosses { sums })
+}
+
+/// The loss of the group at a place, known exactly.
+pub fn group_loss(book: &Book, losses: &GroupLosses, place: usize) -> Span
+    requires losses { AreLossesOf book.now losses.now }
+    requires place { place < length book.now.groups }
+    ensures { (factors : FactorValues) (group : Group) → slice_get book.now.groups place ≡ Some group
+        → ends result ≡ by_rule factors book.now [] (nodes.Group group.name of_groups.Loss) [] }
+{
+    book.sheet();
+    grains(losses.at(place))
 }
 
 /// No loss of any group.

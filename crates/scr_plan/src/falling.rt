@@ -6,11 +6,12 @@ ghost use Rattle.scr_curve.specs.Parts.{IsCurveInMillionths, rates_in_parts};
 ghost use Rattle.scr_curve.specs.declared.tilt.Tilt.TheVariants as tilts;
 ghost use Rattle.scr_flow.specs.Sums.{differences};
 ghost use Rattle.scr_sheet.specs.Validity.{Valid};
-ghost use Rattle.scr_plan.specs.Kept.{AreDiscountsAt, AreDiscountsOf, tables, rows_of};
-ghost use Rattle.scr_plan.specs.KeptRates.{falls_at, falls_of, known_of, all_rates};
+ghost use Rattle.scr_plan.specs.Kept.{AreDiscountsAt, AreDiscountsOf, all_discounts, tables, rows_of};
+ghost use Rattle.scr_plan.specs.KeptRates.{AreKeptBut, falls_at, falls_of, known_of, all_rates};
 
+use crate::discounting::curves_after;
 use crate::{CurrencyFalls, Curves, Rates, curves};
-use scr_book::{BalanceSheet, Book};
+use scr_book::{BalanceSheet, Book, Name};
 use scr_curve::{Discounts, Tilt, yearly};
 use scr_factors::Factors;
 use scr_flow::Falls;
@@ -21,7 +22,29 @@ use std::alloc::{AllocError as NoMemory, Global};
 pub fn rates(alloc: Global, factors: &Factors, book: &Book) -> Result<Rates, NoMemory>
     ensures { IfOk result (λ rates. known_of rates ≡ all_rates book.now) }
 {
-    let curves = curves(alloc, factors, book)?;
+    with_falls(alloc, book, curves(alloc, factors, book)?)
+}
+
+/// The rates of a book of which a curve has come or changed, from what is kept of all other currencies. Only want of memory
+/// keeps them back.
+pub fn rates_after(
+    alloc: Global,
+    book: &Book,
+    kept: &Rates,
+    currency: &Name,
+) -> Result<Rates, NoMemory>
+    requires { AreKeptBut currency.now book.now.curves (rows_of kept.now.curves) }
+    ensures { IfOk result (λ rates. known_of rates ≡ all_rates book.now) }
+{
+    let curves = curves_after(alloc, book.sheet(), &kept.curves, currency)?;
+    with_falls(alloc, book, curves)
+}
+
+/// The discounts of all currencies with their falls.
+fn with_falls(alloc: Global, book: &Book, curves: Curves) -> Result<Rates, NoMemory>
+    requires { rows_of curves ≡ all_discounts book.now }
+    ensures { IfOk result (λ rates. known_of rates ≡ all_rates book.now) }
+{
     let falls = all_falls(alloc, book.sheet(), &curves)?;
     let years = Years::new(book.sheet().numbers.asof);
     Ok(Rates {

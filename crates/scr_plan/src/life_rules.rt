@@ -1,14 +1,16 @@
 //! The rules of biometric stresses, and the roots over them.
-ghost use Rattle.std.specs.Prelude.{◌≡◌, ◌≤◌, map, sum_by, unsigned_abs, IfSome};
+ghost use Rattle.std.specs.Prelude.{◌≡◌, ◌≤◌, pos, All, map, sum_by, unsigned_abs, IfSome};
 ghost use Rattle.std.specs.List.{range_with_len};
-ghost use Rattle.scr_num.specs.Rounding.{ends};
+ghost use Rattle.scr_num.specs.Rounding.{ends, exact_ends, max_ends};
 ghost use Rattle.scr_bio.specs.BiometricEnds.{life_ends, slt_ends};
+ghost use Rattle.scr_curve.specs.DiscountEnds.{IsDiscount};
+ghost use Rattle.scr_flow.specs.LossEnds.{present_ends};
 ghost use Rattle.scr_nodes.specs.OwnOf.{liability_valued, paid_under, stress_absorbed as absorbed_of_stress};
 ghost use Rattle.scr_nodes.specs.declared.node.Node.TheVariants as nodes;
 ghost use Rattle.scr_nodes.specs.declared.node.OfLiability.TheVariants as of_liabilities;
 ghost use Rattle.scr_sheet.specs.Validity.{Valid};
 ghost use Rattle.scr_plan.specs.Figures.{figures_from};
-ghost use Rattle.scr_plan.specs.Kept.{rows_of, row_in, discounts_in, AreDiscountsOf};
+ghost use Rattle.scr_plan.specs.Kept.{rows_of, row_in, discounts_in, tables, AreDiscountsOf};
 ghost use Rattle.scr_plan.specs.KeptRates.{AreRatesOf};
 ghost use Rattle.scr_plan.specs.LifeFits.{FitsExcess};
 ghost use Rattle.scr_plan.specs.RootFits.{FitsRoot};
@@ -16,11 +18,12 @@ ghost use Rattle.scr_plan.specs.LifeRules.{excess_ends, less_at};
 ghost use Rattle.scr_plan.specs.Paid.{valued_in};
 
 use crate::known::bucketed;
+use crate::market_rules::base_worth;
 use crate::spans::at;
 use crate::{Curves, Rates};
 use scr_book::{BalanceSheet, Name};
+use scr_curve::Discounts;
 use scr_dates::Day;
-use scr_flow::present;
 use scr_nodes::Biometric;
 use scr_nodes::single_numbers::stress_key;
 use scr_num::{Span, exact, max};
@@ -74,9 +77,20 @@ fn worth_more(
         unreachable!()
     };
     let before = bucketed(sheet, kept, base);
-    let flows = less(&bucketed(sheet, kept, stressed), &before);
-    let [discounts, _, _] = curves.row(place);
-    max(present(&flows, discounts), exact(0))
+    worth_above(&bucketed(sheet, kept, stressed), &before, curves.row(place))
+}
+
+/// By how much amounts after 1 to 100 years are worth more than others, a gain counting as nil.
+pub(crate) fn worth_above(stressed: &[i64; 100], base: &[i64; 100], row: &[Discounts; 3]) -> Span
+    requires stressed { sum_by unsigned_abs stressed.now ≤ 50_000_000_000_000 }
+    requires base { sum_by unsigned_abs base.now ≤ 50_000_000_000_000 }
+    requires small { sum_by unsigned_abs (map (less_at stressed.now base.now) (range_with_len 0 100))
+        ≤ 100_000_000_000_000 }
+    requires in_range { All IsDiscount (tables row.now).base }
+    ensures { ends result ≡ max_ends (present_ends (map (less_at stressed.now base.now) (range_with_len 0 100))
+        (tables row.now).base) (exact_ends (pos 0)) }
+{
+    max(base_worth(&less(stressed, base), row), exact(0))
 }
 
 /// The differences of the amounts at each maturity.

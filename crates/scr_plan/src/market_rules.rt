@@ -1,9 +1,11 @@
 //! The rules of market risk besides interest rate and equity risk.
-ghost use Rattle.std.specs.Prelude.{◌≡◌, ◌*◌, ◌^◌, ◌<◌, ◌≤◌, pos, ◌≤ℤ◌, map, IfSome};
+ghost use Rattle.std.specs.Prelude.{◌≡◌, ◌*◌, ◌^◌, ◌<◌, ◌≤◌, pos, ◌≤ℤ◌, All, map, sum_by, unsigned_abs, IfSome};
 ghost use Rattle.scr_num.specs.Amounts.{IsAmount};
 ghost use Rattle.scr_num.specs.Rounding.{ends, exact_ends};
 ghost use Rattle.scr_num.specs.Sizes.{AreTogether};
 ghost use Rattle.scr_num.specs.Sums.{sum_ends};
+ghost use Rattle.scr_curve.specs.DiscountEnds.{IsDiscount};
+ghost use Rattle.scr_flow.specs.LossEnds.{present_ends};
 ghost use Rattle.scr_market.specs.MarketEnds.{market_ends};
 ghost use Rattle.scr_market.specs.Spread.{row_of};
 ghost use Rattle.scr_market.specs.SpreadEnds.{spread_ends};
@@ -20,7 +22,7 @@ ghost use Rattle.scr_nodes.specs.declared.node.OfLiability.TheVariants as of_lia
 ghost use Rattle.scr_nodes.specs.declared.node.OfGroup.TheVariants as of_groups;
 ghost use Rattle.scr_plan.specs.Discounts.{no_discounts};
 ghost use Rattle.scr_plan.specs.Fits.{Fits};
-ghost use Rattle.scr_plan.specs.Kept.{rows_of, row_in, discounts_in, AreDiscountsOf};
+ghost use Rattle.scr_plan.specs.Kept.{rows_of, row_in, discounts_in, tables, AreDiscountsOf};
 ghost use Rattle.scr_plan.specs.KeptRates.{AreRatesOf};
 ghost use Rattle.scr_plan.specs.MarketFits.{FitsWorth, FitsForeign, FitsMultiple, FitsSquareRoot, FitsMarket};
 ghost use Rattle.scr_plan.specs.MarketRules.{worth_ends, foreign_ends, multiple_ends, stressed_ends, group_square_ends};
@@ -32,6 +34,7 @@ use crate::spans::{amount, at};
 use crate::{Curves, Rates};
 use scr_book::{BalanceSheet, GroupKind, Name, Position};
 use scr_conc::{charge_of, root, threshold_of};
+use scr_curve::Discounts;
 use scr_dates::Day;
 use scr_factors::Factors;
 use scr_flow::present;
@@ -80,8 +83,17 @@ fn payments_worth(
         unreachable!()
     };
     let flows = bucketed(sheet, kept, payments);
-    let [base, _, _] = curves.row(place);
-    present(&flows, base)
+    base_worth(&flows, curves.row(place))
+}
+
+/// What payments after 1 to 100 years are worth at the discounts of the rates as they are.
+pub(crate) fn base_worth(flows: &[i64; 100], row: &[Discounts; 3]) -> Span
+    requires small { sum_by unsigned_abs flows.now ≤ 100_000_000_000_000 }
+    requires in_range { All IsDiscount (tables row.now).base }
+    ensures { ends result ≡ present_ends flows.now (tables row.now).base }
+{
+    let [base, _, _] = row;
+    present(flows, base)
 }
 
 /// What a change of a foreign currency costs: the first figures are of the securities in it, and
@@ -143,12 +155,30 @@ pub(crate) fn stressed(factors: &Factors, sheet: &BalanceSheet, name: &Name, spa
 {
     let cents = at(spans, 0);
     match sheet.securities.get(name) {
-        Some(position) => {
-            let step = step_of(sheet, position);
-            bond(factors, step, position.security.duration, cents)
-        }
+        Some(position) => bond_loss(factors, sheet, position, cents),
         None => bond(factors, None, 0, cents),
     }
+}
+
+/// What the bond in a row loses, by the step of its group, or none, and its duration.
+pub(crate) fn bond_loss(
+    factors: &Factors,
+    sheet: &BalanceSheet,
+    position: &Position,
+    cents: Span,
+) -> Span
+    requires row { row_of (step_of sheet.now position.now) < 8 }
+    requires duration { pos position.now.security.duration ≤ℤ MAX_DURATION }
+    requires held { IsAmount MAX_HELD (ends cents) }
+    ensures { ends result ≡ stressed_ends factors.now (step_of sheet.now position.now) position.now.security.duration
+        (amount_of (ends cents)) }
+{
+    bond(
+        factors,
+        step_of(sheet, position),
+        position.security.duration,
+        cents,
+    )
 }
 
 /// The credit quality step of a security's group, if it has a group and the group a step.

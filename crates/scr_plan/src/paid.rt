@@ -126,7 +126,7 @@ fn loss(flows: &[i64; 100], rates: &[i64], from: &Discounts, tilt: Tilt, to: &Di
 }
 
 /// What payments after 1 to 100 years lose by the falls of their discounts.
-fn fallen(flows: &[i64; 100], falls: &Falls) -> Span
+pub(crate) fn fallen(flows: &[i64; 100], falls: &Falls) -> Span
     requires { sum_by unsigned_abs flows.now ≤ 50_000_000_000_000 }
     ensures value { ends result ≡ weighted_ends flows.now falls.now }
     ensures small { IsWithin (2 ^ 125) (ends result) }

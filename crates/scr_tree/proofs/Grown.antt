@@ -16,8 +16,14 @@ use Rattle.scr_reach.specs.Linked.{AreLinked, Grows}
 use Rattle.scr_reach.proofs.Growing.{linked-grown}
 use Rattle.std.specs.Option.{option_map_or}
 use Rattle.scr_plan.specs.declared.known.Rates.{Rates}
-use Rattle.scr_plan.specs.KeptRates.{all_rates, known_of}
-use Rattle.scr_tree.specs.Changed.{AreRowsFor, IsRecorded, StepsReach}
+use Rattle.scr_names.specs.Tables.{row_of, with_row}
+use Rattle.scr_plan.specs.Kept.{rows_of}
+use Rattle.scr_plan.specs.KeptRates.{AreKeptBut, all_rates, known_of}
+use Rattle.scr_plan.proofs.FallRows.{kept-but}
+use Rattle.scr_sheet.specs.BalanceSheet.{curve_name}
+use Rattle.scr_sheet.specs.declared.edit.Edit.TheVariants as edits
+use Rattle.scr_sheet.specs.declared.rows.Curve.{Curve}
+use Rattle.scr_tree.specs.Changed.{AreKeptFor, AreRowsFor, IsRecorded, StepsReach}
 use Rattle.scr_tree.proofs.KeptRates.{rates-kept}
 use Rattle.scr_tree.specs.Dues.{AreOthersKept}
 use Rattle.scr_tree.specs.Figures.{AreSettled}
@@ -68,3 +74,14 @@ pub rows-after : (factors : FactorValues) (after : BalanceSheet) (edit : Edit) (
 rows-after factors after edit listed rows places kept edges recorded None keeps =
     recorded.rates ∙ sym (rates-kept edit recorded.before keeps) ∙ ap all_rates (sym recorded.is)
 rows-after factors after edit listed rows places kept edges recorded (Some new) are = are
+
+-- the rates that are kept of the currencies whose curves the record leaves
+pub kept-for : (factors : FactorValues) (after : BalanceSheet) (edit : Edit) (listed : List Node) (kept_rates : Rates) (places : List Node)
+    (kept : List Figure) (edges : List Edge) → IsRecorded factors after edit listed (known_of kept_rates) places kept edges → AreKeptFor edit after kept_rates
+kept-for factors after (edits.Curve currency rates) listed kept_rates places kept edges recorded =
+    let before = recorded.before in
+    let old = row_of curve_name currency before.curves in
+    let new : Curve = record { currency = currency; rates = rates; absorb_up = option_map_or (λ c. c.absorb_up) old 0; absorb_down = option_map_or (λ c. c.absorb_down) old 0 } in
+    subst (λ (sheet : BalanceSheet). AreKeptBut currency sheet.curves (rows_of kept_rates.curves)) (sym recorded.is)
+    (subst (AreKeptBut currency (with_row curve_name new before.curves)) (sym (ap (λ (k : KnownRates). k.rows) recorded.rates)) (kept-but before.curves new))
+kept-for factors after edit listed kept_rates places kept edges recorded = tt

@@ -7,13 +7,15 @@ use Rattle.scr_factors.specs.Values.{FactorValues}
 use Rattle.scr_sheet.specs.Records.{applied}
 use Rattle.scr_sheet.specs.Validity.{Valid}
 use Rattle.scr_sheet.specs.declared.edit.Edit.{Edit}
+use Rattle.scr_sheet.specs.declared.edit.Edit.TheVariants as edits
 use Rattle.scr_plan.specs.declared.known.Rates.{Rates}
 use Rattle.scr_sheet.specs.declared.sheet.BalanceSheet.{BalanceSheet}
 use Rattle.scr_nodes.specs.declared.node.Node.{Node}
 use Rattle.scr_nodes.specs.Live.{is_live}
 use Rattle.scr_nodes.specs.LiveNodes.{HasNoRepeats}
 use Rattle.scr_plan.specs.KeptRates.{KnownRates}
-use Rattle.scr_plan.specs.KeptRates.{all_rates, known_of}
+use Rattle.scr_plan.specs.Kept.{rows_of}
+use Rattle.scr_plan.specs.KeptRates.{AreKeptBut, all_rates, known_of}
 use Rattle.scr_touched.specs.Touched.{IsSame}
 use Rattle.scr_reach.specs.Dues.{AreDueAfter, AreEdited, sources_count}
 use Rattle.scr_reach.specs.Leading.{IsCountOf, IsInReach}
@@ -54,6 +56,11 @@ pub record IsChangeOf (factors : FactorValues) (after : BalanceSheet) (rows : Kn
   pub rates : option_map_or known_of change.rates rows ≡ all_rates after
   pub size : length places ≤ links.size
   pub spare : sources_count change.dues.items ≤ links.spare
+
+-- the kept discounts of the currencies whose curves a record leaves are those at their rates
+abbrev pub AreKeptFor : Edit → BalanceSheet → Rates → Type 0
+AreKeptFor (edits.Curve currency rates) sheet kept = AreKeptBut currency sheet.curves (rows_of kept.curves)
+AreKeptFor edit sheet kept = Unit {0}
 
 -- rates of their own, where the record changes some or the reference date
 abbrev pub AreRowsFor : Edit → BalanceSheet → Option Rates → Type 0

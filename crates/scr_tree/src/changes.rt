@@ -7,7 +7,7 @@ ghost use Rattle.scr_rounds.specs.declared.ranks.Due.{Due};
 ghost use Rattle.scr_reach.specs.Dues.{AreRelinked, numbers_of, sources_count};
 ghost use Rattle.scr_reach.specs.Linked.{Grows};
 ghost use Rattle.scr_reach.specs.Relinking.{AreLinkable};
-ghost use Rattle.scr_tree.specs.Changed.{AreRowsFor, IsChangeOf, IsRecorded, StepsReach};
+ghost use Rattle.scr_tree.specs.Changed.{AreKeptFor, AreRowsFor, IsChangeOf, IsRecorded, StepsReach};
 ghost use Rattle.scr_tree.specs.Dues.{AreWritten};
 ghost use Rattle.scr_tree.specs.KeptRates.{keeps_rates};
 
@@ -20,7 +20,7 @@ use scr_factors::Factors;
 use scr_io::{Gate, Steps};
 use scr_links::Links;
 use scr_nodes::Node;
-use scr_plan::{Rates, rates};
+use scr_plan::{Rates, rates, rates_after};
 use scr_reach::{Places, Starts, relink};
 use scr_rounds::Due;
 use std::alloc::{AllocError as NoMemory, Global};
@@ -70,7 +70,7 @@ pub(crate) fn change_of<R: Threads + Sync, G: Gate + Sync, L: Ledger>(
     let size = places.len();
     let dues = dues_of(alloc, book.sheet(), places, links, &starts)?;
     reserve(alloc, links, size, &dues)?;
-    let rates = new_rates(alloc, factors, book, edit)?;
+    let rates = new_rates(alloc, factors, book, kept_rates, edit)?;
     let fresh = reckon_dues(
         rt,
         alloc,
@@ -93,15 +93,21 @@ pub(crate) fn change_of<R: Threads + Sync, G: Gate + Sync, L: Ledger>(
     })
 }
 
-/// All that is kept of rates, where the record changes some or the reference date.
+/// All that is kept of rates, where the record changes some or the reference date. Of a curve that comes or changes its own
+/// discounts alone are reckoned.
 fn new_rates(
     alloc: Global,
     factors: &Factors,
     book: &Book,
+    kept: &Rates,
     edit: &Edit,
 ) -> Result<Option<Rates>, NoMemory>
+    requires { AreKeptFor edit.now book.now kept.now }
     ensures { IfOk result (AreRowsFor edit.now book.now) }
 {
+    if let Edit::Curve { currency, .. } = edit {
+        return Ok(Some(rates_after(alloc, book, kept, currency)?));
+    }
     if keeps_rates(edit) {
         return Ok(None);
     }

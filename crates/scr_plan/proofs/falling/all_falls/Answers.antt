@@ -1,4 +1,4 @@
-use Rattle.std.proofs.Common.{◌≡◌, ◌≤◌, length, subst, sym, arith}
+use Rattle.std.proofs.Common.{◌≤◌, length, subst, sym, arith}
 use Rattle.scr_curve.specs.Parts.{IsCurveInMillionths}
 use Rattle.scr_plan.specs.Kept.{AreDiscountsAt, rows_of, tables}
 use Rattle.scr_plan.proofs.CodeLemmas.{place-within}

@@ -1,4 +1,4 @@
-use Rattle.std.proofs.Common.{◌≡◌, length, map, subst, ap, rules}
+use Rattle.std.proofs.Common.{◌≡◌, length, subst, ap, rules}
 use Rattle.std.specs.Prelude.{All}
 use Rattle.scr_curve.specs.DiscountEnds.{IsDiscount}
 use Rattle.scr_plan.specs.Discounts.{CurrencyDiscounts}

@@ -4,7 +4,7 @@ use Rattle.scr_plan.specs.KeptRates.{known_of}
 use Rattle.scr_reach.specs.Dues.{AreDueAfter, AreEdited, numbers_of, sources_count}
 use Rattle.scr_tree.specs.Dues.{AreFrom, AreOthersKept}
 use Rattle.scr_tree.specs.Figures.{AreSettled}
-use Rattle.scr_tree.proofs.Grown.{edited-grown, others-grown, rows-after, steps-grown}
+use Rattle.scr_tree.proofs.Grown.{edited-grown, kept-for, others-grown, rows-after, steps-grown}
 use Rattle.scr_tree.proofs.changes.change_of.Given as given
 use Rattle.scr_tree.proofs.changes.change_of.Goals as goal
 
@@ -18,6 +18,10 @@ dues_of-requires-clause-edited g c =
     (edited-grown c.args.factors.now c.args.book.now c.sheet.ensures.valid c.args.edit.now c.args.touched.now (known_of c.args.kept_rates.now)
     c.args.places.now c.enter_all.new.places c.args.figures.now.items c.args.links.now.edges c.requires c.enter_all.ensures.grown
     c.len-size.ensures.once c.in_ok-starts.starts c.in_ok-starts.ensures.starts)
+
+pub new_rates-requires : goal.new_rates-requires
+new_rates-requires g c =
+    kept-for c.args.factors.now c.args.book.now c.args.edit.now c.args.touched.now c.args.kept_rates.now c.args.places.now c.args.figures.now.items c.args.links.now.edges c.requires
 
 pub reckon_dues-requires-clause-rates : goal.reckon_dues-requires-clause-rates
 reckon_dues-requires-clause-rates g c κs within =
