@@ -5,7 +5,7 @@ use Rattle.scr_factors.specs.Values.{FactorValues}
 use Rattle.scr_sheet.specs.declared.sheet.BalanceSheet.{BalanceSheet}
 use Rattle.scr_nodes.specs.declared.node.Node.{Node}
 use Rattle.scr_nodes.specs.Sources.{sources_of}
-use Rattle.scr_plan.specs.Close.{close_under}
+use Rattle.scr_rules.specs.Close.{close_under}
 use Rattle.scr_amounts.specs.Amounts.{amount}
 use Rattle.scr_cells.specs.Block.{close_mark}
 use Rattle.scr_titles.specs.Steps.{step_words, taking}

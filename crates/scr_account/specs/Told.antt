@@ -4,7 +4,7 @@ use Rattle.scr_num.specs.Rounding.{floor_div, ceil_div}
 use Rattle.scr_factors.specs.Values.{FactorValues}
 use Rattle.scr_sheet.specs.declared.sheet.BalanceSheet.{BalanceSheet}
 use Rattle.scr_nodes.specs.declared.node.Node.{Node}
-use Rattle.scr_plan.specs.Worked.{worked}
+use Rattle.scr_rules.specs.Worked.{worked}
 use Rattle.scr_titles.specs.Titles.{unit_of}
 use Rattle.scr_titles.specs.Units.{scale}
 use Rattle.scr_amounts.specs.declared.bounds.Bounds.{Bounds}

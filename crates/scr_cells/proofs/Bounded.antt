@@ -12,9 +12,9 @@ use Rattle.scr_sheet.specs.declared.sheet.BalanceSheet.{BalanceSheet}
 use Rattle.scr_sheet.specs.Validity.{Valid}
 use Rattle.scr_nodes.specs.declared.node.Node.{Node}
 use Rattle.scr_nodes.specs.Live.{is_live}
-use Rattle.scr_plan.specs.Exact.{exact, unit_of}
-use Rattle.scr_plan.specs.Worked.{worked}
-use Rattle.scr_plan.proofs.Enclosures.{is_of_market, market-node-encloses, node-encloses}
+use Rattle.scr_rules.specs.Exact.{exact, unit_of}
+use Rattle.scr_rules.specs.Worked.{worked}
+use Rattle.scr_rules.proofs.Enclosures.{is_of_market, market-node-encloses, node-encloses}
 use Rattle.scr_cells.specs.Block.{lower_bound, upper_bound}
 use Rattle.scr_cells.specs.Certified.{Certified, IsBounded, KeepsWidth}
 use Rattle.scr_cells.specs.Table.{NamedFigure, market_cells, table}

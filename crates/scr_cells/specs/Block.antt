@@ -6,8 +6,8 @@ use Rattle.scr_num.specs.Rounding.{Ends, floor_div, ceil_div}
 use Rattle.scr_factors.specs.Values.{FactorValues}
 use Rattle.scr_sheet.specs.declared.sheet.BalanceSheet.{BalanceSheet}
 use Rattle.scr_nodes.specs.declared.node.Node.{Node}
-use Rattle.scr_plan.specs.Close.{close_under}
-use Rattle.scr_plan.specs.Worked.{worked}
+use Rattle.scr_rules.specs.Close.{close_under}
+use Rattle.scr_rules.specs.Worked.{worked}
 use Rattle.scr_cells.specs.Table.{NamedFigure, requirement_cell, table}
 use Rattle.scr_cells.specs.declared.bounds.Bounds.{Bounds}
 use Rattle.scr_cells.specs.declared.cells.Cell.{Cell}

@@ -6,7 +6,7 @@ use Rattle.scr_num.specs.Figure.{Figure}
 use Rattle.scr_factors.specs.Values.{FactorValues}
 use Rattle.scr_sheet.specs.declared.sheet.BalanceSheet.{BalanceSheet}
 use Rattle.scr_nodes.specs.declared.node.Node.{Node}
-use Rattle.scr_plan.specs.Exact.{exact}
+use Rattle.scr_rules.specs.Exact.{exact}
 use Rattle.scr_cells.specs.Block.{bounds_at}
 use Rattle.scr_cells.specs.Table.{table}
 use Rattle.scr_widths.specs.Choices.{RestsOnNearChoice}

@@ -5,3 +5,4 @@ pub mod TableLemmas
 pub mod SameRates
 pub mod RateLemmas
 pub mod DiscountWidths
+pub mod FallLemmas

@@ -2,3 +2,4 @@ pub mod Rate
 pub mod Discount
 pub mod Parts
 pub mod DiscountEnds
+pub mod Falls

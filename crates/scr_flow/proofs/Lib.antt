@@ -6,5 +6,4 @@ pub mod OneValue
 pub mod SizeLemmas
 pub mod LossesEnclosed
 pub mod WidthLemmas
-pub mod FallLemmas
 pub mod WalkLemmas

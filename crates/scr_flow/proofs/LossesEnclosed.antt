@@ -11,11 +11,12 @@ use Rattle.scr_flow.specs.Due.{dues, AreNear}
 use Rattle.scr_flow.specs.Loss.{loss_exact, discount_fall}
 use Rattle.scr_flow.specs.LossEnds.{loss_ends}
 use Rattle.scr_flow.specs.Payments.{payments_loss_exact}
-use Rattle.scr_flow.specs.Sums.{differences}
+use Rattle.scr_curve.specs.Falls.{differences}
 use Rattle.scr_flow.proofs.LossLemmas.{differences_enclose}
 use Rattle.scr_flow.proofs.OneValue.{Encloses-one, by-maturity}
 use Rattle.scr_flow.proofs.SizeLemmas.{length-dues}
-use Rattle.scr_flow.proofs.SumLemmas.{Encloses-weighted, length-differences}
+use Rattle.scr_flow.proofs.SumLemmas.{Encloses-weighted}
+use Rattle.scr_curve.proofs.FallLemmas.{length-differences}
 
 pub loss-encloses : (flows base stressed : List ℤ) (from to : List Ends) (before after : ℕ → Fraction)
     → length from ≡ length base → length stressed ≡ length base → length to ≡ length base → length flows ≡ length base

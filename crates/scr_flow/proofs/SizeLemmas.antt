@@ -15,7 +15,8 @@ use Rattle.scr_dates.specs.Years.{maturity_of}
 use Rattle.scr_curve.specs.DiscountEnds.{IsDiscount}
 use Rattle.scr_curve.specs.declared.table.TheConstants.{MAX_DISCOUNT}
 use Rattle.scr_flow.specs.Due.{amount_at, due_in, dues, paid_total}
-use Rattle.scr_flow.specs.Sums.{flow_ends, weighted_ends, difference, differences}
+use Rattle.scr_flow.specs.Sums.{flow_ends, weighted_ends}
+use Rattle.scr_curve.specs.Falls.{difference, differences}
 use Rattle.scr_flow.specs.LossEnds.{present_ends, loss_ends, scaled_ends}
 use Rattle.scr_num.specs.Sizes.{IsWithin}
 

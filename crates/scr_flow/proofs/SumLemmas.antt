@@ -15,7 +15,7 @@ use Rattle.scr_num.proofs.Quotients.{times_le}
 use borrow.Author.Differences.{up, down}
 use Rattle.scr_num.specs.Sums.{weighted_sum}
 use Rattle.scr_curve.specs.declared.table.TheConstants.{MAX_DISCOUNT}
-use Rattle.scr_flow.specs.Sums.{flow_ends, weighted_ends, difference, differences}
+use Rattle.scr_flow.specs.Sums.{flow_ends, weighted_ends}
 
 -- ---- fractions that spans enclose
 module _ (unit : ℕ) where
@@ -70,29 +70,6 @@ module _ (unit : ℕ) where
       (Encloses-flow flow x (worth years) (rw add-zero at (h 0 x (omega arith))))
       (Encloses-weighted positive worth (years + 1) flows es (omega (arith, e))
       (λ k d within. subst (λ (y : ℕ). Encloses unit (get_or es k d).low (get_or es k d).high (Frac (worth y))) (omega arith) (h (suc k) d (omega (arith, within))))))
-
--- ---- the falls of the discounts, place by place
-pub length-differences : (bases : List ℤ) (froms : List Ends) (stresseds : List ℤ) (tos : List Ends) → length froms ≡ length bases → length stresseds ≡ length bases → length tos ≡ length bases
-    → length (differences bases froms stresseds tos) ≡ length bases
-unfolding differences
-length-differences [] froms stresseds tos a b c = refl
-length-differences (n ∷ bases) [] stresseds tos a b c = absurd (omega (arith, a))
-length-differences (n ∷ bases) (e ∷ froms) [] tos a b c = absurd (omega (arith, b))
-length-differences (n ∷ bases) (e ∷ froms) (m ∷ stresseds) [] a b c = absurd (omega (arith, c))
-length-differences (n ∷ bases) (e ∷ froms) (m ∷ stresseds) (g ∷ tos) a b c =
-    ap suc (length-differences bases froms stresseds tos (omega (arith, a)) (omega (arith, b)) (omega (arith, c)))
-
-pub get_or-differences : (bases : List ℤ) (froms : List Ends) (stresseds : List ℤ) (tos : List Ends) (k : ℕ) (d : Ends) (x y : ℤ) (e f : Ends)
-    → k < length bases → k < length froms → k < length stresseds → k < length tos
-    → get_or (differences bases froms stresseds tos) k d ≡ difference (get_or bases k x) (get_or froms k e) (get_or stresseds k y) (get_or tos k f)
-unfolding differences
-get_or-differences [] froms stresseds tos k d x y e f a b c g = absurd (omega (arith, a))
-get_or-differences (n ∷ bases) [] stresseds tos k d x y e f a b c g = absurd (omega (arith, b))
-get_or-differences (n ∷ bases) (p ∷ froms) [] tos k d x y e f a b c g = absurd (omega (arith, c))
-get_or-differences (n ∷ bases) (p ∷ froms) (m ∷ stresseds) [] k d x y e f a b c g = absurd (omega (arith, g))
-get_or-differences (n ∷ bases) (p ∷ froms) (m ∷ stresseds) (q ∷ tos) zero d x y e f a b c g = refl
-get_or-differences (n ∷ bases) (p ∷ froms) (m ∷ stresseds) (q ∷ tos) (suc k) d x y e f a b c g =
-    get_or-differences bases froms stresseds tos k d x y e f (omega (arith, a)) (omega (arith, b)) (omega (arith, c)) (omega (arith, g))
 
 -- ---- a loop that adds place by place
 pub weighted_ends-drop : (flows : List ℤ) (es : List Ends) (i : ℕ) (z : ℤ) (d : Ends) → i < length flows → i < length es

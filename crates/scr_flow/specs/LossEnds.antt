@@ -1,7 +1,8 @@
 -- Present values and losses in whole numbers, in 10^-18 of the unit of the payments, this project's own.
 use Rattle.std.specs.Prelude.{ℕ, ℤ, List}
 use Rattle.scr_num.specs.Rounding.{Ends, scale_ends}
-use Rattle.scr_flow.specs.Sums.{weighted_ends, differences}
+use Rattle.scr_flow.specs.Sums.{weighted_ends}
+use Rattle.scr_curve.specs.Falls.{differences}
 
 -- the present value of payments after 1, 2, 3 and more years at these discounts
 abbrev pub present_ends : List ℤ → List Ends → Ends

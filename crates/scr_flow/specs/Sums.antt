@@ -1,8 +1,7 @@
 -- Sums of payments times discounts in whole numbers, this project's own. Nothing is rounded here: the ends are those that
 -- the discounts' own ends give.
-use Rattle.std.specs.Prelude.{ℤ, pos, negsuc, ◌*ℤ◌, if◌then◌else◌, List, [], ◌∷◌}
-use Rattle.std.specs.Ordering.{int_eq}
-use Rattle.scr_num.specs.Rounding.{Ends, exact_ends, add_ends, sub_ends}
+use Rattle.std.specs.Prelude.{ℤ, pos, negsuc, ◌*ℤ◌, List, [], ◌∷◌}
+use Rattle.scr_num.specs.Rounding.{Ends, exact_ends, add_ends}
 
 -- all products of a payment with a number between the ends, which a negative payment exchanges
 abbrev pub flow_ends : ℤ → Ends → Ends
@@ -14,13 +13,3 @@ unfoldable pub weighted_ends : List ℤ → List Ends → Ends
 weighted_ends [] es = exact_ends (pos 0)
 weighted_ends (flow ∷ flows) [] = exact_ends (pos 0)
 weighted_ends (flow ∷ flows) (e ∷ es) = add_ends (flow_ends flow e) (weighted_ends flows es)
-
--- the fall of a discount between two rates: exactly 0 where they are equal
-abbrev pub difference : ℤ → Ends → ℤ → Ends → Ends
-difference base from stressed to = if int_eq base stressed then exact_ends (pos 0) else sub_ends from to
-
--- the falls of the discounts of all maturities
-unfoldable pub differences : List ℤ → List Ends → List ℤ → List Ends → List Ends
-differences (base ∷ bases) (from ∷ froms) (stressed ∷ stresseds) (to ∷ tos) =
-    difference base from stressed to ∷ differences bases froms stresseds tos
-differences bases froms stresseds tos = []

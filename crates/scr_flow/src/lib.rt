@@ -10,7 +10,7 @@ mod value;
 mod walk;
 
 pub use due::{bucket, bucket_by};
-pub use falls::Falls;
+pub use falls::fallen;
 pub use loss::{curve_loss, per_million, unit_loss};
 pub use value::present;
 pub use walk::both_losses;

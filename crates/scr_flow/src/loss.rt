@@ -9,16 +9,17 @@ ghost use Rattle.scr_curve.specs.Parts.{AreRates, IsCurveInMillionths, rates_in_
 ghost use Rattle.scr_curve.specs.DiscountEnds.{one, IsDiscount, EncloseDiscounts};
 ghost use Rattle.scr_flow.specs.Loss.{loss_exact};
 ghost use Rattle.scr_curve.specs.declared.tilt.Tilt.TheVariants as tilts;
-ghost use Rattle.scr_flow.specs.Sums.{difference, flow_ends};
+ghost use Rattle.scr_curve.specs.Falls.{difference};
+ghost use Rattle.scr_flow.specs.Sums.{flow_ends};
 ghost use Rattle.scr_flow.specs.LossEnds.{loss_ends, scaled_ends};
 ghost use Rattle.scr_num.specs.Sizes.{IsWithin};
 ghost use Rattle.scr_curve.specs.declared.table.TheConstants.{MAX_DISCOUNT};
 ghost use Rattle.scr_profile.specs.declared.limits.TheConstants.{MAX_HELD};
 
-use crate::Falls;
+use crate::fallen;
 use crate::value::weighted;
-use scr_curve::{Discounts, Tilt, yearly_at};
-use scr_num::{Span, add, exact, scale, sub};
+use scr_curve::{Discounts, Falls, Tilt, fall_of, yearly_at};
+use scr_num::{Span, add, exact, scale};
 
 /// What payments after 1 to 100 years lose where the rates `base` become `stressed`, in 10^-18 of their unit: the sum
 /// of each payment times the fall of its discount (Delegated Regulation (EU) 2015/35, Article 165). Where the two rates
@@ -45,7 +46,7 @@ pub fn unit_loss(
     ensures low_size { unsigned_abs result.low ≤ MAX_DISCOUNT * sum_by unsigned_abs flows.now }
     ensures high_size { unsigned_abs result.high ≤ MAX_DISCOUNT * sum_by unsigned_abs flows.now }
 {
-    Falls::new(base, from, stressed, to).loss(flows)
+    fallen(flows, &Falls::new(base, from, stressed, to))
 }
 
 /// The same where the rates of a curve in millionths are stressed by a tilt. The rates are found only of the maturities at
@@ -93,21 +94,6 @@ fn lost_at(flow: i64, rates: &[i64], place: usize, from: Span, tilt: Tilt, to: S
     let base = yearly_at(rates, Tilt::Base, place);
     let stressed = yearly_at(rates, tilt, place);
     weighted(flow, fall_of(base, from, stressed, to))
-}
-
-/// By how much the discount of one maturity falls.
-pub(crate) fn fall_of(base: i64, from: Span, stressed: i64, to: Span) -> Span
-    requires from_in { IsDiscount (ends from) }
-    requires to_in { IsDiscount (ends to) }
-    ensures ends { ends result ≡ difference base (ends from) stressed (ends to) }
-    ensures low_size { unsigned_abs result.low ≤ MAX_DISCOUNT }
-    ensures high_size { unsigned_abs result.high ≤ MAX_DISCOUNT }
-{
-    if base == stressed {
-        exact(0)
-    } else {
-        sub(from, to)
-    }
 }
 
 /// What so many cents of a unit lose of which 1,000,000 lose `unit`, rounded outward, in 10^-18 cents. The whole millions

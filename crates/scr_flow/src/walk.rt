@@ -7,7 +7,8 @@ ghost use Rattle.scr_curve.specs.declared.table.TheConstants.{MAX_DISCOUNT};
 ghost use Rattle.scr_flow.specs.Due.{dues, paid_total, AreNear};
 ghost use Rattle.scr_flow.specs.Sums.{weighted_ends};
 
-use crate::Falls;
+use crate::falls::lost_at;
+use scr_curve::Falls;
 use scr_dates::Day;
 use scr_num::{Span, add, exact};
 use scr_years::Years;
@@ -37,8 +38,8 @@ pub fn both_losses(
     for (day, amount) in pairs {
         let maturity = usize::from(years.until(*day));
         if maturity > 0 {
-            left = add(left, first.lost_at(maturity - 1, *amount));
-            right = add(right, second.lost_at(maturity - 1, *amount));
+            left = add(left, lost_at(first, maturity - 1, *amount));
+            right = add(right, lost_at(second, maturity - 1, *amount));
         }
     }
     (left, right)

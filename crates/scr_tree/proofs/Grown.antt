@@ -9,17 +9,16 @@ use Rattle.scr_sheet.specs.declared.sheet.BalanceSheet.{BalanceSheet}
 use Rattle.scr_nodes.specs.declared.node.Node.{Node}
 use Rattle.scr_nodes.specs.Live.{is_live}
 use Rattle.scr_nodes.specs.LiveNodes.{HasNoRepeats}
-use Rattle.scr_plan.specs.KeptRates.{KnownRates}
+use Rattle.scr_discounts.specs.KeptRates.{KnownRates, AreKeptBut, all_rates, known_of}
 use Rattle.scr_reach.specs.Dues.{AreDueAfter, AreEdited, AreStarts, numbers_of}
 use Rattle.scr_reach.specs.Leading.{IsCountOf, IsInReach}
 use Rattle.scr_reach.specs.Linked.{AreLinked, Grows}
 use Rattle.scr_reach.proofs.Growing.{linked-grown}
 use Rattle.std.specs.Option.{option_map_or}
-use Rattle.scr_plan.specs.declared.known.Rates.{Rates}
+use Rattle.scr_discounts.specs.declared.known.Rates.{Rates}
 use Rattle.scr_names.specs.Tables.{row_of, with_row}
-use Rattle.scr_plan.specs.Kept.{rows_of}
-use Rattle.scr_plan.specs.KeptRates.{AreKeptBut, all_rates, known_of}
-use Rattle.scr_plan.proofs.FallRows.{kept-but}
+use Rattle.scr_discounts.specs.Kept.{rows_of}
+use Rattle.scr_discounts.proofs.FallRows.{kept-but}
 use Rattle.scr_sheet.specs.BalanceSheet.{curve_name}
 use Rattle.scr_sheet.specs.declared.edit.Edit.TheVariants as edits
 use Rattle.scr_sheet.specs.declared.rows.Curve.{Curve}

@@ -12,9 +12,9 @@ use Rattle.scr_sheet.specs.declared.keys.AbsorbKey.TheVariants as absorb
 use Rattle.scr_sheet.specs.declared.keys.Table.TheVariants as tables
 use Rattle.scr_sheet.specs.declared.rows.Curve.{Curve}
 use Rattle.scr_sheet.specs.declared.sheet.BalanceSheet.{BalanceSheet}
-use Rattle.scr_plan.specs.Discounts.{CurrencyDiscounts, discounts_at}
-use Rattle.scr_plan.specs.KeptRates.{KnownRates, all_rates, falls_at, falls_of}
-use Rattle.scr_plan.specs.declared.known.CurrencyFalls.{CurrencyFalls}
+use Rattle.scr_discounts.specs.Discounts.{CurrencyDiscounts, discounts_at}
+use Rattle.scr_discounts.specs.KeptRates.{KnownRates, all_rates, falls_at, falls_of}
+use Rattle.scr_discounts.specs.declared.known.CurrencyFalls.{CurrencyFalls}
 use Rattle.scr_tree.specs.KeptRates.{keeps_rates}
 
 module _ {Row X : Type 0} (name_of : Row → List ℕ) (f : Row → X) where

@@ -12,8 +12,8 @@ use Rattle.scr_nodes.specs.declared.node.Node.TheVariants as nodes
 use Rattle.scr_nodes.specs.declared.node.OfCurrency.TheVariants as of_currencies
 use Rattle.scr_nodes.specs.declared.node.Whole.TheVariants as wholes
 use Rattle.scr_nodes.specs.Sources.{sources_of}
-use Rattle.scr_plan.specs.Close.{close_under, is_open_choice}
-use Rattle.scr_plan.specs.Worked.{worked}
+use Rattle.scr_rules.specs.Close.{close_under, is_open_choice}
+use Rattle.scr_rules.specs.Worked.{worked}
 use Rattle.scr_reach.specs.Linked.{AreAt}
 use Rattle.scr_tree.specs.declared.figures.Figure.{Figure}
 use Rattle.scr_tree.specs.Figures.{Fresh, IsKnown, Worth, figure_at, opens, worth_at, worth_of}

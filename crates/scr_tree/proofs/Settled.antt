@@ -14,7 +14,7 @@ use Rattle.scr_nodes.specs.declared.node.Node.{Node}
 use Rattle.scr_nodes.specs.Live.{is_live}
 use Rattle.scr_nodes.specs.LiveNodes.{HasNoRepeats}
 use Rattle.scr_nodes.specs.Sources.{sources_of}
-use Rattle.scr_plan.specs.KeptRates.{KnownRates}
+use Rattle.scr_discounts.specs.KeptRates.{KnownRates}
 use Rattle.scr_touched.specs.Touched.{IsSame}
 use Rattle.scr_reach.specs.Dues.{AreDueAfter, AreEdited, AreStarts, numbers_of}
 use Rattle.scr_reach.specs.Leading.{IsAtStart, IsCountOf, IsInReach, Leads}

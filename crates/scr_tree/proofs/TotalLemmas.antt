@@ -19,8 +19,8 @@ use Rattle.scr_nodes.specs.declared.node.OfSecurity.TheVariants as of_securities
 use Rattle.scr_nodes.specs.Rows.{holders}
 use Rattle.scr_nodes.specs.Sources.{sources_of, fund_total, security_total}
 use Rattle.scr_nodes.proofs.Reckoning.{reckoned-only}
-use Rattle.scr_plan.specs.Close.{close_under, is_open_choice}
-use Rattle.scr_plan.proofs.Totals.{fund-worked, security-worked}
+use Rattle.scr_rules.specs.Close.{close_under, is_open_choice}
+use Rattle.scr_rules.proofs.Totals.{fund-worked, security-worked}
 use Rattle.scr_tree.specs.Figures.{total_worth, worth_at}
 
 -- ---- no choice lies under a total

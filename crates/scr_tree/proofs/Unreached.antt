@@ -9,11 +9,11 @@ use Rattle.scr_nodes.specs.declared.node.Node.{Node}
 use Rattle.scr_nodes.specs.OwnOf.{own_of}
 use Rattle.scr_nodes.specs.Sources.{sources_of}
 use Rattle.scr_nodes.proofs.Reckoning.{reckoned-only}
-use Rattle.scr_plan.specs.Close.{close_under, is_open_choice}
-use Rattle.scr_plan.specs.Discounts.{own_discounts}
-use Rattle.scr_plan.specs.Rules.{rule}
-use Rattle.scr_plan.specs.Worked.{node_rule, worked}
-use Rattle.scr_plan.proofs.Equations.{close-equation, worked-equation, worked-only}
+use Rattle.scr_rules.specs.Close.{close_under, is_open_choice}
+use Rattle.scr_rules.specs.Discounts.{own_discounts}
+use Rattle.scr_rules.specs.Rules.{rule}
+use Rattle.scr_rules.specs.Worked.{node_rule, worked}
+use Rattle.scr_rules.proofs.Equations.{close-equation, worked-equation, worked-only}
 use Rattle.scr_touched.specs.Touched.{IsSame}
 use Rattle.scr_tree.specs.Figures.{opens, worth_at, Worth}
 use Rattle.scr_tree.proofs.Known.{opens-is}

@@ -8,14 +8,13 @@ use Rattle.scr_sheet.specs.Records.{applied}
 use Rattle.scr_sheet.specs.Validity.{Valid}
 use Rattle.scr_sheet.specs.declared.edit.Edit.{Edit}
 use Rattle.scr_sheet.specs.declared.edit.Edit.TheVariants as edits
-use Rattle.scr_plan.specs.declared.known.Rates.{Rates}
+use Rattle.scr_discounts.specs.declared.known.Rates.{Rates}
 use Rattle.scr_sheet.specs.declared.sheet.BalanceSheet.{BalanceSheet}
 use Rattle.scr_nodes.specs.declared.node.Node.{Node}
 use Rattle.scr_nodes.specs.Live.{is_live}
 use Rattle.scr_nodes.specs.LiveNodes.{HasNoRepeats}
-use Rattle.scr_plan.specs.KeptRates.{KnownRates}
-use Rattle.scr_plan.specs.Kept.{rows_of}
-use Rattle.scr_plan.specs.KeptRates.{AreKeptBut, all_rates, known_of}
+use Rattle.scr_discounts.specs.KeptRates.{KnownRates, AreKeptBut, all_rates, known_of}
+use Rattle.scr_discounts.specs.Kept.{rows_of}
 use Rattle.scr_touched.specs.Touched.{IsSame}
 use Rattle.scr_reach.specs.Dues.{AreDueAfter, AreEdited, sources_count}
 use Rattle.scr_reach.specs.Leading.{IsCountOf, IsInReach}

@@ -10,8 +10,8 @@ use Rattle.scr_nodes.specs.declared.node.Node.TheVariants as nodes
 use Rattle.scr_nodes.specs.declared.node.OfCurrency.TheVariants as of_currencies
 use Rattle.scr_nodes.specs.declared.node.Whole.TheVariants as wholes
 use Rattle.scr_nodes.specs.Live.{is_live}
-use Rattle.scr_plan.specs.Close.{close_under, is_open}
-use Rattle.scr_plan.specs.Worked.{worked}
+use Rattle.scr_rules.specs.Close.{close_under, is_open}
+use Rattle.scr_rules.specs.Worked.{worked}
 use Rattle.scr_tree.specs.declared.figures.Figure.{Figure}
 
 -- figures that were reckoned anew, each under its place

@@ -1,7 +1,7 @@
 -- What an engine keeps (this project's own).
 use Rattle.std.specs.Prelude.{◌≡◌, ◌≤◌, [], length}
 use Rattle.scr_sheet.specs.Validity.{Valid}
-use Rattle.scr_plan.specs.KeptRates.{known_of, all_rates}
+use Rattle.scr_discounts.specs.KeptRates.{known_of, all_rates}
 use Rattle.scr_reach.specs.Linked.{AreLinked}
 use Rattle.scr_tree.specs.declared.engine.Engine.TheInside.{Inside}
 use Rattle.scr_tree.specs.Figures.{AreSettled}

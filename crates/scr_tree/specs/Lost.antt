@@ -1,6 +1,6 @@
 -- What is known of the losses of groups (this project's own).
 use Rattle.scr_sheet.specs.declared.sheet.BalanceSheet.{BalanceSheet}
-use Rattle.scr_plan.specs.GroupLosses.{AreLossesOf}
+use Rattle.scr_rules.specs.GroupLosses.{AreLossesOf}
 use Rattle.scr_tree.specs.declared.reckon.Losses.{Losses}
 use Rattle.scr_tree.specs.declared.reckon.Losses.TheVariants as losses
 

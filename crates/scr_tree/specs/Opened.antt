@@ -3,7 +3,7 @@ use Rattle.std.specs.Prelude.{◌≡◌, ◌≤◌, [], length}
 use Rattle.scr_factors.specs.Values.{FactorValues}
 use Rattle.scr_sheet.specs.Validity.{Valid}
 use Rattle.scr_sheet.specs.declared.sheet.BalanceSheet.{BalanceSheet}
-use Rattle.scr_plan.specs.KeptRates.{known_of, all_rates}
+use Rattle.scr_discounts.specs.KeptRates.{known_of, all_rates}
 use Rattle.scr_reach.specs.Linked.{AreLinked}
 use Rattle.scr_tree.specs.Figures.{AreSettled}
 use Rattle.scr_tree.specs.declared.opening.Opened.{Opened}

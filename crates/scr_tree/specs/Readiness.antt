@@ -1,6 +1,6 @@
 -- When figures can be reckoned from what is known (this project's own).
 use Rattle.std.specs.Prelude.{◌≡◌, ℕ}
-use Rattle.scr_plan.specs.KeptRates.{all_rates, known_of}
+use Rattle.scr_discounts.specs.KeptRates.{all_rates, known_of}
 use Rattle.scr_reach.specs.Dues.{AreDues}
 use Rattle.scr_tree.specs.Dues.{IsFor, IsReady}
 use Rattle.scr_tree.specs.Lost.{AreLossesFor}

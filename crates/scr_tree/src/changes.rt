@@ -2,7 +2,7 @@
 //! then the writes.
 ghost use Rattle.std.specs.Prelude.{◌≡◌, ◌≤◌, ◌<◌, ℕ, All, length, slice_get, IfOk, OnOk, OnErr};
 ghost use Rattle.std.specs.Option.{option_map_or};
-ghost use Rattle.scr_plan.specs.KeptRates.{known_of, all_rates};
+ghost use Rattle.scr_discounts.specs.KeptRates.{known_of, all_rates};
 ghost use Rattle.scr_rounds.specs.declared.ranks.Due.{Due};
 ghost use Rattle.scr_reach.specs.Dues.{AreRelinked, numbers_of, sources_count};
 ghost use Rattle.scr_reach.specs.Linked.{Grows};
@@ -20,9 +20,9 @@ use scr_factors::Factors;
 use scr_io::{Gate, Steps};
 use scr_links::Links;
 use scr_nodes::Node;
-use scr_plan::{Rates, rates, rates_after};
 use scr_reach::{Places, Starts, relink};
 use scr_rounds::Due;
+use scr_rules::{Rates, rates, rates_after};
 use std::alloc::{AllocError as NoMemory, Global};
 use std::sync::ledger::Ledger;
 use std::thread::Threads;

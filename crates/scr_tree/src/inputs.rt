@@ -4,9 +4,9 @@ use crate::figures::{Figure, Fresh};
 use crate::reckon::Losses;
 use scr_book::Book;
 use scr_factors::Factors;
-use scr_plan::Rates;
 use scr_reach::Places;
 use scr_rounds::Due;
+use scr_rules::Rates;
 
 /// The inputs of a book, the figures that are known, those that are kept and those that are new, and
 /// what is due.

@@ -1,6 +1,6 @@
 //! The figures of a book, all reckoned for the first time.
 ghost use Rattle.std.specs.Prelude.{◌≡◌, ◌<◌, ◌≤◌, [], All, length, IfOk, OnOk};
-ghost use Rattle.scr_plan.specs.KeptRates.{known_of, all_rates};
+ghost use Rattle.scr_discounts.specs.KeptRates.{known_of, all_rates};
 ghost use Rattle.scr_rounds.specs.declared.ranks.Due.{Due};
 ghost use Rattle.scr_reach.specs.Dues.{AreDues, numbers_of};
 ghost use Rattle.scr_tree.specs.Dues.{AreOthersKept, AreWritten};
@@ -16,9 +16,9 @@ use scr_book::Book;
 use scr_factors::Factors;
 use scr_io::{Gate, Steps};
 use scr_links::Links;
-use scr_plan::{Rates, group_losses, rates};
 use scr_reach::{Places, link_all};
 use scr_rounds::Due;
+use scr_rules::{Rates, group_losses, rates};
 use std::alloc::{AllocError as NoMemory, Global};
 use std::marker::Brand;
 use std::sync::ledger::{Blank, Ledger};

@@ -1,7 +1,7 @@
 //! All figures that are due, reckoned rank by rank.
 ghost use Rattle.std.specs.Prelude.{◌≡◌, ◌+◌, ◌<◌, All, length, IfOk, OnOk};
 ghost use Rattle.std.specs.List.{AllByRecursion, AllZip};
-ghost use Rattle.scr_plan.specs.KeptRates.{known_of, all_rates};
+ghost use Rattle.scr_discounts.specs.KeptRates.{known_of, all_rates};
 ghost use Rattle.scr_sheet.specs.Validity.{Valid};
 ghost use Rattle.scr_reach.specs.Dues.{AreDues};
 ghost use Rattle.scr_tree.specs.Dues.{AreFrom, AreOthersKept, ArePut, IsFor, IsReady};
@@ -15,9 +15,9 @@ use crate::spread::figures_at_once;
 use scr_book::Book;
 use scr_factors::Factors;
 use scr_io::{Gate, Steps};
-use scr_plan::Rates;
 use scr_reach::Places;
 use scr_rounds::{Due, by_rank};
+use scr_rules::Rates;
 use std::alloc::{AllocError as NoMemory, Global};
 use std::sync::ledger::Ledger;
 use std::thread::Threads;

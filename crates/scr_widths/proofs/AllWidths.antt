@@ -24,11 +24,11 @@ use Rattle.scr_sheet.specs.Validity.{Valid}
 use Rattle.scr_sheet.proofs.HeldNames.{row-there}
 use Rattle.scr_sheet.specs.declared.rows.Class.TheVariants as classes
 use Rattle.scr_sheet.specs.declared.{rows.Position.Position, sheet.BalanceSheet.BalanceSheet}
-use Rattle.scr_plan.specs.Worked.{worked}
-use Rattle.scr_plan.proofs.DefaultSizes.{band-is, class-is, group-is, square-is}
-use Rattle.scr_plan.proofs.Equations.{worked-equation}
-use Rattle.scr_plan.proofs.MarketSizes.{assets-worked, group-worked, square-worked}
-use Rattle.scr_plan.proofs.Sizes.{class-worked}
+use Rattle.scr_rules.specs.Worked.{worked}
+use Rattle.scr_rules.proofs.DefaultSizes.{band-is, class-is, group-is, square-is}
+use Rattle.scr_rules.proofs.Equations.{worked-equation}
+use Rattle.scr_rules.proofs.MarketSizes.{assets-worked, group-worked, square-worked}
+use Rattle.scr_rules.proofs.Sizes.{class-worked}
 use Rattle.scr_widths.specs.Widths.{risk_width, scale_of, stated_width, whole_width, width}
 use Rattle.scr_widths.proofs.Cleared.{Clear, clear-sources}
 use Rattle.scr_widths.proofs.CurrencyWidths.{currency-narrow}

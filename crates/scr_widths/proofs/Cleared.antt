@@ -11,9 +11,9 @@ use Rattle.scr_sheet.specs.Validity.{Valid}
 use Rattle.scr_sheet.specs.declared.sheet.BalanceSheet.{BalanceSheet}
 use Rattle.scr_nodes.specs.declared.node.Node.{Node}
 use Rattle.scr_nodes.specs.Sources.{sources_of}
-use Rattle.scr_plan.specs.Close.{close_under, is_open, is_open_choice}
-use Rattle.scr_plan.specs.Rules.{amount_of}
-use Rattle.scr_plan.proofs.Equations.{close-equation}
+use Rattle.scr_rules.specs.Close.{close_under, is_open, is_open_choice}
+use Rattle.scr_rules.specs.Rules.{amount_of}
+use Rattle.scr_rules.proofs.Equations.{close-equation}
 
 -- a mask that is not open has fewer than two bits
 few-bits : (n : ℕ) → nat_le 2 n ≡ false → 2 ≤ n → ⊥

@@ -35,16 +35,16 @@ use Rattle.scr_nodes.specs.OwnOf.{valued, currency_absorbed}
 use Rattle.scr_nodes.specs.Rows.{is_foreign, is_owed_in, liability_of}
 use Rattle.scr_nodes.specs.Sources.{liability_present, currency_picked}
 use Rattle.scr_nodes.proofs.OwnRows.{own-liabilities}
-use Rattle.scr_plan.specs.Discounts.{discounts_at}
-use Rattle.scr_plan.specs.MarketExact.{assets_in}
-use Rattle.scr_plan.specs.MarketRules.{worth_ends, foreign_ends}
-use Rattle.scr_plan.specs.Rules.{amount_of}
-use Rattle.scr_plan.specs.Worked.{worked}
-use Rattle.scr_plan.proofs.Currencies.{most_in, each-row-once}
-use Rattle.scr_plan.proofs.Equations.{worked-equation}
-use Rattle.scr_plan.proofs.MarketSizes.{present-worked, change-worked, currency-worked, owed_ends}
-use Rattle.scr_plan.proofs.MarketSums.{all-times}
-use Rattle.scr_plan.proofs.Payments.{liability-known, liability-fits}
+use Rattle.scr_discounts.specs.Discounts.{discounts_at}
+use Rattle.scr_rules.specs.MarketExact.{assets_in}
+use Rattle.scr_rules.specs.MarketRules.{worth_ends, foreign_ends}
+use Rattle.scr_rules.specs.Rules.{amount_of}
+use Rattle.scr_rules.specs.Worked.{worked}
+use Rattle.scr_rules.proofs.Currencies.{most_in, each-row-once}
+use Rattle.scr_rules.proofs.Equations.{worked-equation}
+use Rattle.scr_rules.proofs.MarketSizes.{present-worked, change-worked, currency-worked, owed_ends}
+use Rattle.scr_rules.proofs.MarketSums.{all-times}
+use Rattle.scr_rules.proofs.Payments.{liability-known, liability-fits}
 use Rattle.scr_widths.specs.Choices.{currency_alternatives}
 use Rattle.scr_widths.specs.Widths.{currency_width, payments_width, scale_of}
 use Rattle.scr_widths.proofs.Cleared.{Clear, clear-choice, clear-sources, each-passing, not-several}

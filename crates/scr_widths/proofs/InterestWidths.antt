@@ -44,15 +44,16 @@ use Rattle.scr_nodes.specs.OwnOf.{interest_key, paid_by_security, paid_by_liabil
 use Rattle.scr_nodes.specs.Rows.{is_paying, is_paying_in, is_owed_in, liability_of}
 use Rattle.scr_nodes.specs.Sources.{security_rate, liability_rate, currency_loss, rates_in}
 use Rattle.scr_nodes.proofs.OwnRows.{own-securities, own-liabilities}
-use Rattle.scr_plan.specs.Discounts.{tilt_of, changed, discounts_at}
-use Rattle.scr_plan.specs.Holdings.{security_cents}
-use Rattle.scr_plan.specs.Rules.{amount_of, paid_ends}
-use Rattle.scr_plan.specs.Worked.{worked}
-use Rattle.scr_plan.proofs.Currencies.{most_in, each-row-once}
-use Rattle.scr_plan.proofs.Equations.{worked-equation}
-use Rattle.scr_plan.proofs.MarketSums.{all-times}
-use Rattle.scr_plan.proofs.Payments.{security-known, liability-known, security-fits, liability-fits, base-is, changed-is}
-use Rattle.scr_plan.proofs.Sizes.{unit-worked, rate-worked, cost-worked, lost-worked, gross-worked}
+use Rattle.scr_rules.specs.Discounts.{tilt_of, changed}
+use Rattle.scr_discounts.specs.Discounts.{discounts_at}
+use Rattle.scr_rules.specs.Holdings.{security_cents}
+use Rattle.scr_rules.specs.Rules.{amount_of, paid_ends}
+use Rattle.scr_rules.specs.Worked.{worked}
+use Rattle.scr_rules.proofs.Currencies.{most_in, each-row-once}
+use Rattle.scr_rules.proofs.Equations.{worked-equation}
+use Rattle.scr_rules.proofs.MarketSums.{all-times}
+use Rattle.scr_rules.proofs.Payments.{security-known, liability-known, security-fits, liability-fits, base-is, changed-is}
+use Rattle.scr_rules.proofs.Sizes.{unit-worked, rate-worked, cost-worked, lost-worked, gross-worked}
 use Rattle.scr_widths.specs.Choices.{interest_alternatives}
 use Rattle.scr_widths.specs.Widths.{payments_width, scale_of}
 use Rattle.scr_widths.proofs.Cleared.{Clear, clear-choice, clear-sources, not-several}

@@ -35,14 +35,14 @@ use Rattle.scr_nodes.specs.OwnOf.{stress_absorbed}
 use Rattle.scr_nodes.specs.Rows.{is_stressed, liability_of, rates_of}
 use Rattle.scr_nodes.specs.Sources.{liability_loss, life_parts, losses_under, slt_parts}
 use Rattle.scr_nodes.proofs.OwnRows.{own-liabilities}
-use Rattle.scr_plan.specs.Discounts.{discounts_at}
-use Rattle.scr_plan.specs.LifeRules.{excess_dues, excess_ends}
-use Rattle.scr_plan.specs.Rules.{amount_of}
-use Rattle.scr_plan.specs.Worked.{worked}
-use Rattle.scr_plan.proofs.Equations.{worked-equation}
-use Rattle.scr_plan.proofs.ExcessValues.{apart-small}
-use Rattle.scr_plan.proofs.LifeSizes.{excess-fits, excess-worked, most_of_scenario, stress-worked, net-worked, life-amounts, slt-amounts, life-worked, slt-worked}
-use Rattle.scr_plan.proofs.MarketSums.{all-times}
+use Rattle.scr_discounts.specs.Discounts.{discounts_at}
+use Rattle.scr_rules.specs.LifeRules.{excess_dues, excess_ends}
+use Rattle.scr_rules.specs.Rules.{amount_of}
+use Rattle.scr_rules.specs.Worked.{worked}
+use Rattle.scr_rules.proofs.Equations.{worked-equation}
+use Rattle.scr_rules.proofs.ExcessValues.{apart-small}
+use Rattle.scr_rules.proofs.LifeSizes.{excess-fits, excess-worked, most_of_scenario, stress-worked, net-worked, life-amounts, slt-amounts, life-worked, slt-worked}
+use Rattle.scr_rules.proofs.MarketSums.{all-times}
 use Rattle.scr_widths.specs.Choices.{lapse_alternatives}
 use Rattle.scr_widths.specs.Widths.{life_width, payments_width, scale_of, slt_width}
 use Rattle.scr_widths.proofs.Cleared.{Clear, clear-choice, clear-sources, not-several}

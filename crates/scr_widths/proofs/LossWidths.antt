@@ -26,9 +26,9 @@ use Rattle.scr_nodes.specs.declared.node.Adjustment.{Adjustment}
 use Rattle.scr_nodes.specs.declared.node.Whole.TheVariants as wholes
 use Rattle.scr_sheet.specs.Validity.{Valid}
 use Rattle.scr_sheet.specs.declared.sheet.BalanceSheet.{BalanceSheet}
-use Rattle.scr_plan.specs.Worked.{worked}
-use Rattle.scr_plan.proofs.LossSizes.{AreOthersWithin, prem-exact, modules-amounts, module_grains, premiums-worked, provisions-worked, bscr-worked, diversification-worked, cap-worked, charge-worked, absorbing-worked, taxed-worked, scr-worked}
-use Rattle.scr_plan.proofs.ModulesTogether.{life_grains, others-within, slt_grains}
+use Rattle.scr_rules.specs.Worked.{worked}
+use Rattle.scr_rules.proofs.LossSizes.{AreOthersWithin, prem-exact, modules-amounts, module_grains, premiums-worked, provisions-worked, bscr-worked, diversification-worked, cap-worked, charge-worked, absorbing-worked, taxed-worked, scr-worked}
+use Rattle.scr_rules.proofs.ModulesTogether.{life_grains, others-within, slt_grains}
 use Rattle.scr_widths.specs.Widths.{absorbing_width, adjustment_width, bscr_width, cap_width, default_width, diversification_width, health_width, life_width, market_width, nonlife_width, operational_width, requirement_width, scale_of, taxed_width}
 use Rattle.scr_widths.specs.declared.scale.Scale.{Scale}
 use Rattle.scr_widths.proofs.Cleared.{Clear, clear-sources}

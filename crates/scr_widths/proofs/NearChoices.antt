@@ -30,18 +30,18 @@ use Rattle.scr_nodes.specs.declared.node.OfFund.TheVariants as of_funds
 use Rattle.scr_nodes.specs.declared.node.Whole.TheVariants as wholes
 use Rattle.scr_sheet.specs.Validity.{Valid}
 use Rattle.scr_sheet.specs.declared.sheet.BalanceSheet.{BalanceSheet}
-use Rattle.scr_plan.specs.Close.{close_under, is_open, is_open_choice}
-use Rattle.scr_plan.specs.DefaultExact.{total_grains}
-use Rattle.scr_plan.specs.LifeExact.{lapse_outcomes}
-use Rattle.scr_plan.specs.MarketExact.{change_outcomes}
-use Rattle.scr_plan.specs.Rules.{amount_of}
-use Rattle.scr_plan.specs.Worked.{worked}
-use Rattle.scr_plan.proofs.DefaultEnclosures.{variance-holds}
-use Rattle.scr_plan.proofs.DefaultSizes.{band-is, variance-amount}
-use Rattle.scr_plan.proofs.Enclosures as interest
-use Rattle.scr_plan.proofs.Equations.{worked-equation}
-use Rattle.scr_plan.proofs.LifeEnclosures.{lapses-enclose}
-use Rattle.scr_plan.proofs.MarketEnclosures as currencies
+use Rattle.scr_rules.specs.Close.{close_under, is_open, is_open_choice}
+use Rattle.scr_rules.specs.DefaultExact.{total_grains}
+use Rattle.scr_rules.specs.LifeExact.{lapse_outcomes}
+use Rattle.scr_rules.specs.MarketExact.{change_outcomes}
+use Rattle.scr_rules.specs.Rules.{amount_of}
+use Rattle.scr_rules.specs.Worked.{worked}
+use Rattle.scr_rules.proofs.DefaultEnclosures.{variance-holds}
+use Rattle.scr_rules.proofs.DefaultSizes.{band-is, variance-amount}
+use Rattle.scr_rules.proofs.Enclosures as interest
+use Rattle.scr_rules.proofs.Equations.{worked-equation}
+use Rattle.scr_rules.proofs.LifeEnclosures.{lapses-enclose}
+use Rattle.scr_rules.proofs.MarketEnclosures as currencies
 use Rattle.scr_widths.specs.Choices.{HasNearBands, IsNearChoice, RestsOnNearChoice, RestsWithin, currency_alternatives, gap_width, interest_alternatives, interest_outcomes, lapse_alternatives}
 use Rattle.scr_widths.specs.Widths.{payments_width, scale_of}
 use Rattle.scr_widths.proofs.CurrencyWidths.{near-gross, near-net}

@@ -33,11 +33,11 @@ use Rattle.scr_sheet.specs.Absorptions.{absorbed}
 use Rattle.scr_sheet.specs.Validity.{Valid}
 use Rattle.scr_sheet.specs.declared.{keys.CatKey.CatKey, sheet.BalanceSheet.BalanceSheet}
 use Rattle.scr_sheet.specs.declared.keys.CatKey.TheVariants as cats
-use Rattle.scr_plan.specs.NonlifeFits.{MAX_CHARGE}
-use Rattle.scr_plan.specs.Worked.{worked}
-use Rattle.scr_plan.proofs.NonlifeRanges.{numbered}
-use Rattle.scr_plan.proofs.NonlifeSizes as sizes
-use Rattle.scr_plan.proofs.NonlifeSizes.{most_charges}
+use Rattle.scr_rules.specs.NonlifeFits.{MAX_CHARGE}
+use Rattle.scr_rules.specs.Worked.{worked}
+use Rattle.scr_rules.proofs.NonlifeRanges.{numbered}
+use Rattle.scr_rules.proofs.NonlifeSizes as sizes
+use Rattle.scr_rules.proofs.NonlifeSizes.{most_charges}
 use Rattle.scr_widths.specs.Widths.{health_catastrophe_width, health_width, man_made_width, natural_width, nonlife_catastrophe_width, nonlife_width, nslt_width, premium_reserve_width, scale_of, slt_width}
 use Rattle.scr_widths.proofs.SumWidths.{narrow-known, narrow-net, narrow-root_of}
 use Rattle.scr_widths.proofs.Tables.{five, five-spreads, health-spreads, nonlife-spreads, nslt-spreads, six, six-spreads, three, three-spreads, two, two-spreads}

@@ -25,11 +25,11 @@ use Rattle.scr_nodes.specs.declared.node.Node.{Node}
 use Rattle.scr_nodes.specs.declared.node.Node.TheVariants as nodes
 use Rattle.scr_nodes.specs.declared.node.OfCurrency.TheVariants as of_currencies
 use Rattle.scr_nodes.specs.declared.node.Whole.TheVariants as wholes
-use Rattle.scr_plan.specs.DefaultExact.{default_variance, total_grains}
-use Rattle.scr_plan.specs.InterestExact.{scenario_of}
-use Rattle.scr_plan.specs.LifeExact.{lapse_outcomes}
-use Rattle.scr_plan.specs.MarketExact.{change_outcomes}
-use Rattle.scr_plan.specs.Worked.{worked}
+use Rattle.scr_rules.specs.DefaultExact.{default_variance, total_grains}
+use Rattle.scr_rules.specs.InterestExact.{scenario_of}
+use Rattle.scr_rules.specs.LifeExact.{lapse_outcomes}
+use Rattle.scr_rules.specs.MarketExact.{change_outcomes}
+use Rattle.scr_rules.specs.Worked.{worked}
 use Rattle.scr_widths.specs.Widths.{scale_of}
 
 -- ---- between scenarios

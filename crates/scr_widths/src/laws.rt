@@ -9,8 +9,8 @@ ghost use Rattle.scr_sheet.specs.declared.sheet.BalanceSheet.{BalanceSheet};
 ghost use Rattle.scr_sheet.specs.Validity.{Valid};
 ghost use Rattle.scr_nodes.specs.declared.node.Node.{Node};
 ghost use Rattle.scr_nodes.specs.Live.{is_live};
-ghost use Rattle.scr_plan.specs.Close.{close_under, is_open_choice};
-ghost use Rattle.scr_plan.specs.Worked.{worked};
+ghost use Rattle.scr_rules.specs.Close.{close_under, is_open_choice};
+ghost use Rattle.scr_rules.specs.Worked.{worked};
 ghost use Rattle.scr_widths.specs.Choices.{IsNearChoice, RestsOnNearChoice};
 ghost use Rattle.scr_widths.specs.Widths.{scale_of, seen_total, stated_width, width};
 

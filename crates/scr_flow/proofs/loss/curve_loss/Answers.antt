@@ -4,8 +4,10 @@ use Rattle.scr_num.specs.Rounding.{ends}
 use Rattle.scr_curve.specs.Parts.{rates_in_parts}
 use Rattle.scr_curve.specs.declared.tilt.Tilt.TheVariants as tilts
 use Rattle.scr_curve.proofs.RateLemmas.{length-rates_in_parts}
-use Rattle.scr_flow.specs.Sums.{flow_ends, weighted_ends, difference, differences}
-use Rattle.scr_flow.proofs.SumLemmas.{sum_more, sum_kept, all_added, length-differences, get_or-differences}
+use Rattle.scr_flow.specs.Sums.{flow_ends, weighted_ends}
+use Rattle.scr_curve.specs.Falls.{difference, differences}
+use Rattle.scr_flow.proofs.SumLemmas.{sum_more, sum_kept, all_added}
+use Rattle.scr_curve.proofs.FallLemmas.{length-differences, get_or-differences}
 use Rattle.scr_flow.proofs.loss.curve_loss.Goals as goal
 use Rattle.scr_flow.proofs.loss.curve_loss.Goals.{then-flow-ne0, else-flow-ne0}
 

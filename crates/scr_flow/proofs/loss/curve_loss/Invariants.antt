@@ -2,7 +2,7 @@ use Rattle.std.proofs.Common.{map}
 use Rattle.scr_num.specs.Rounding.{ends}
 use Rattle.scr_curve.specs.Parts.{rates_in_parts}
 use Rattle.scr_curve.specs.declared.tilt.Tilt.TheVariants as tilts
-use Rattle.scr_flow.specs.Sums.{differences}
+use Rattle.scr_curve.specs.Falls.{differences}
 use Rattle.scr_flow.proofs.SumLemmas.{IsSumBefore}
 use Rattle.scr_flow.proofs.loss.curve_loss.Given as goal
 

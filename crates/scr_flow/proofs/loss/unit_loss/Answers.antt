@@ -4,7 +4,8 @@ use Rattle.scr_num.specs.Rounding.{Ends, ends}
 use Rattle.scr_num.specs.Enclosure.{Encloses}
 use Rattle.scr_curve.specs.DiscountEnds.{one}
 use Rattle.scr_flow.specs.Loss.{loss_exact, discount_fall}
-use Rattle.scr_flow.specs.Sums.{differences, weighted_ends}
+use Rattle.scr_curve.specs.Falls.{differences}
+use Rattle.scr_flow.specs.Sums.{weighted_ends}
 use Rattle.scr_flow.proofs.SumLemmas.{Encloses-weighted}
 use Rattle.scr_flow.proofs.LossLemmas.{differences_enclose}
 use Rattle.scr_flow.proofs.loss.unit_loss.Goals as goal
@@ -21,4 +22,4 @@ returns-clause-encloses c = λ before after rates rates'.
     let whole = Encloses-weighted one (lit< tt) (discount_fall before after) 1 flows (differences base froms stressed tos) (flow_places ∙ sym places)
     (differences_enclose base froms stressed tos before after rates rates' (c.requires.from_encloses before rates) (c.requires.to_encloses after rates')) in
     let P : Ends → Type 0 = λ e. Encloses one e.low e.high (Frac (loss_exact flows before after)) in
-    subst P (sym (c.loss.ensures.ends ∙ ap (weighted_ends flows) c.new.ensures.ends)) whole
+    subst P (sym (c.fallen.ensures.ends ∙ ap (weighted_ends flows) c.new.ensures.ends)) whole

@@ -1,6 +1,6 @@
 use Rattle.std.proofs.Common.{◌≡◌, ℕ, ◌+◌, ◌≤◌, suc, List, [], ◌∷◌, length, refl, sym, ap, subst, ◌∙◌}
 use Rattle.scr_rounds.specs.declared.ranks.Due.{Due}
-use Rattle.scr_plan.specs.KeptRates.{known_of}
+use Rattle.scr_discounts.specs.KeptRates.{known_of}
 use Rattle.scr_reach.specs.Dues.{AreDueAfter, AreEdited, numbers_of, sources_count}
 use Rattle.scr_tree.specs.Dues.{AreFrom, AreOthersKept}
 use Rattle.scr_tree.specs.Figures.{AreSettled}

@@ -6,14 +6,14 @@ use Rattle.scr_nodes.specs.declared.node.Node.{Node}
 use Rattle.scr_nodes.specs.Live.{is_live}
 use Rattle.scr_nodes.specs.OwnOf.{own_of}
 use Rattle.scr_nodes.specs.Sources.{sources_of}
-use Rattle.scr_plan.specs.Fits.{Fits}
-use Rattle.scr_plan.specs.Kept.{AreDiscountsOf}
-use Rattle.scr_plan.specs.KeptRates.{KnownRates}
-use Rattle.scr_plan.proofs.FallRows.{worked-rates}
-use Rattle.scr_plan.specs.Worked.{worked}
-use Rattle.scr_plan.proofs.Equations.{close-equation}
-use Rattle.scr_plan.proofs.KeptRows.{all-are}
-use Rattle.scr_plan.proofs.Ranges.{node-fits}
+use Rattle.scr_rules.specs.Fits.{Fits}
+use Rattle.scr_discounts.specs.Kept.{AreDiscountsOf}
+use Rattle.scr_discounts.specs.KeptRates.{KnownRates}
+use Rattle.scr_discounts.proofs.FallRows.{worked-rates}
+use Rattle.scr_rules.specs.Worked.{worked}
+use Rattle.scr_rules.proofs.Equations.{close-equation}
+use Rattle.scr_discounts.proofs.CurveRows.{all-are}
+use Rattle.scr_rules.proofs.Ranges.{node-fits}
 use Rattle.scr_reach.specs.Linked.{AreAt}
 use Rattle.scr_tree.specs.Figures.{figure_at, opens, worth_at, worth_of}
 use Rattle.scr_tree.specs.declared.figures.Figure.{Figure}

@@ -9,7 +9,7 @@ use Rattle.scr_sheet.specs.declared.sheet.BalanceSheet.{BalanceSheet}
 use Rattle.scr_nodes.specs.declared.node.Node.{Node}
 use Rattle.scr_nodes.specs.Live.{is_live}
 use Rattle.scr_nodes.specs.Sources.{sources_of}
-use Rattle.scr_plan.specs.KeptRates.{all_rates, known_of}
+use Rattle.scr_discounts.specs.KeptRates.{all_rates, known_of}
 use Rattle.scr_touched.specs.Touched.{AreTouched, IsSame, IsTouched}
 use Rattle.scr_reach.specs.Dues.{IsDue}
 use Rattle.scr_reach.specs.Leading.{IsCountOf, IsInReach}

@@ -1,0 +1,3 @@
+pub mod Discounts
+pub mod Kept
+pub mod KeptRates

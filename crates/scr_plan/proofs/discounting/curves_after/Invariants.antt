@@ -1,9 +1,0 @@
-use Rattle.std.proofs.Common.{◌≡◌, map, take}
-use Rattle.scr_sheet.specs.declared.rows.Curve.{Curve}
-use Rattle.scr_plan.specs.Discounts.{discounts_at}
-use Rattle.scr_plan.specs.Kept.{rows_of}
-use Rattle.scr_plan.proofs.discounting.curves_after.Given as goal
-
--- the rows so far are those of the curves so far
-abbrev pub invariant-loop-k : goal.invariant-loop-k
-invariant-loop-k l = rows_of l.curves ≡ map (λ (curve : Curve). discounts_at curve.rates) (take l.k l.sheet.curves)

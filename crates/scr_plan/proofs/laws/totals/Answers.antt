@@ -1,5 +1,0 @@
-use Rattle.scr_plan.proofs.Totals.{fund-worked, security-worked}
-use Rattle.scr_plan.proofs.laws.totals.Goals as goal
-
-pub returns : goal.returns
-returns c = record { fund = fund-worked; security = security-worked }

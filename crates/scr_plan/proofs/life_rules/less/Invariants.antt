@@ -1,5 +1,0 @@
-use Rattle.scr_plan.proofs.LifeCode.{AreDifferences}
-use Rattle.scr_plan.proofs.life_rules.less.Given as goal
-
-abbrev pub invariant-loop-k : goal.invariant-loop-k
-invariant-loop-k l = AreDifferences l.amounts l.others l.differences l.k

@@ -1,5 +1,0 @@
-use Rattle.scr_plan.proofs.MarketCode.{AreSquaresSummed}
-use Rattle.scr_plan.proofs.market_rules.squares_sum.Given as goal
-
-abbrev pub invariant-loop-span : goal.invariant-loop-span
-invariant-loop-span l = AreSquaresSummed l.spans l.sum l.span-index

@@ -1,0 +1,107 @@
+//! The figures of a security, from its row.
+ghost use Rattle.std.specs.Prelude.{◌≡◌, Some, [], ◌∷◌};
+ghost use Rattle.scr_num.specs.Amounts.{IsAmount};
+ghost use Rattle.scr_num.specs.Rounding.{ends};
+ghost use Rattle.scr_num.specs.Sizes.{IsWithin};
+ghost use Rattle.scr_factors.specs.Values.{FactorValues};
+ghost use Rattle.scr_profile.specs.declared.limits.TheConstants.{MAX_HELD};
+ghost use Rattle.scr_sheet.specs.BalanceSheet.{position_of};
+ghost use Rattle.scr_sheet.specs.Validity.{Valid};
+ghost use Rattle.scr_nodes.specs.OwnOf.{own_of};
+ghost use Rattle.scr_nodes.specs.declared.node.Direction.TheVariants as directions;
+ghost use Rattle.scr_nodes.specs.declared.node.Node.TheVariants as nodes;
+ghost use Rattle.scr_nodes.specs.declared.node.OfSecurity.TheVariants as of_securities;
+ghost use Rattle.scr_rules.specs.ByRow.{by_rule};
+ghost use Rattle.scr_rules.specs.Fits.{Fits};
+ghost use Rattle.scr_discounts.specs.Kept.{rows_of, row_in, AreDiscountsOf};
+ghost use Rattle.scr_discounts.specs.KeptRates.{AreRatesOf};
+ghost use Rattle.scr_rules.specs.Paid.{paid_in};
+ghost use Rattle.scr_rules.specs.Rules.{paid_ends};
+
+use crate::known::falls_of;
+use crate::market_rules::bond_loss;
+use crate::rules::scaled;
+use scr_book::{BalanceSheet, Book, Position};
+use scr_discounts::Rates;
+use scr_factors::Factors;
+use scr_flow::both_losses;
+use scr_nodes::Direction;
+use scr_num::Span;
+
+/// What a security loses where rates rise and where they fall: 1,000,000 of it, in 10^-18 of their unit, and all that is held of
+/// it, in 10^-18 cents (Delegated Regulation (EU) 2015/35, Articles 165 to 167).
+#[derive(Clone, Copy)]
+pub struct SecurityLosses {
+    pub unit_up: Span,
+    pub unit_down: Span,
+    pub rate_up: Span,
+    pub rate_down: Span,
+}
+
+/// The losses of the security in a row, of which so much is held in all. Its payments are walked once for all four. The row is
+/// that of its name.
+pub fn security_losses(
+    book: &Book,
+    rates: &Rates,
+    position: &Position,
+    total: Span,
+) -> SecurityLosses
+    requires rows { AreDiscountsOf book.now.curves (rows_of rates.now.curves) }
+    requires rates { AreRatesOf book.now (rows_of rates.now.curves) rates.now }
+    requires row { position_of position.now.security.name book.now.securities ≡ Some position.now }
+    requires total { IsAmount MAX_HELD (ends total) }
+    ensures unit_up { (factors : FactorValues) → ends result.unit_up ≡ by_rule factors book.now (rows_of rates.now.curves)
+        (nodes.Security position.now.security.name (of_securities.UnitLoss directions.Up)) [] }
+    ensures unit_down { (factors : FactorValues) → ends result.unit_down ≡ by_rule factors book.now (rows_of rates.now.curves)
+        (nodes.Security position.now.security.name (of_securities.UnitLoss directions.Down)) [] }
+    ensures rate_up { (factors : FactorValues) → ends result.rate_up ≡ by_rule factors book.now (rows_of rates.now.curves)
+        (nodes.Security position.now.security.name (of_securities.Rate directions.Up))
+        (ends total ∷ ends result.unit_up ∷ []) }
+    ensures rate_down { (factors : FactorValues) → ends result.rate_down ≡ by_rule factors book.now (rows_of rates.now.curves)
+        (nodes.Security position.now.security.name (of_securities.Rate directions.Down))
+        (ends total ∷ ends result.unit_down ∷ []) }
+{
+    let (unit_up, unit_down) = unit_losses(book.sheet(), rates, position);
+    let rate_up = scaled(&[total, unit_up]);
+    let rate_down = scaled(&[total, unit_down]);
+    SecurityLosses {
+        unit_up,
+        unit_down,
+        rate_up,
+        rate_down,
+    }
+}
+
+/// What the payments of a security lose, per 1,000,000 of its value in 10^-18, where rates rise and where they fall.
+pub(crate) fn unit_losses(sheet: &BalanceSheet, rates: &Rates, position: &Position) -> (Span, Span)
+    requires valid { Valid sheet.now }
+    requires rows { AreDiscountsOf sheet.now.curves (rows_of rates.now.curves) }
+    requires rates { AreRatesOf sheet.now (rows_of rates.now.curves) rates.now }
+    requires row { position_of position.now.security.name sheet.now.securities ≡ Some position.now }
+    ensures up { ends result.0 ≡ paid_ends
+        (paid_in sheet.now position.now.security.currency position.now.security.flows directions.Up)
+        (row_in position.now.security.currency sheet.now.curves (rows_of rates.now.curves)) }
+    ensures down { ends result.1 ≡ paid_ends
+        (paid_in sheet.now position.now.security.currency position.now.security.flows directions.Down)
+        (row_in position.now.security.currency sheet.now.curves (rows_of rates.now.curves)) }
+    ensures up_within { IsWithin 13_700_000_000_000_000_000_000_000 (ends result.0) }
+    ensures down_within { IsWithin 13_700_000_000_000_000_000_000_000 (ends result.1) }
+{
+    let Some(place) = sheet.curves.place(&position.security.currency) else {
+        unreachable!()
+    };
+    let up = falls_of(rates, place, Direction::Up);
+    let down = falls_of(rates, place, Direction::Down);
+    both_losses(&rates.years, position.security.flows.as_slice(), up, down)
+}
+
+/// What the bond in a row loses, of which so much is held in all, in grains. The row is that of its name.
+pub fn bond_spread(factors: &Factors, book: &Book, position: &Position, total: Span) -> Span
+    requires row { position_of position.now.security.name book.now.securities ≡ Some position.now }
+    requires fits { Fits (own_of factors.now book.now
+        (nodes.Security position.now.security.name of_securities.Spread)) (ends total ∷ []) }
+    ensures { ends result ≡ by_rule factors.now book.now []
+        (nodes.Security position.now.security.name of_securities.Spread) (ends total ∷ []) }
+{
+    bond_loss(factors, book.sheet(), position, total)
+}
