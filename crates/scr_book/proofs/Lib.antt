@@ -4,6 +4,11 @@ pub mod Moved
 pub mod LastDays
 pub mod LastYears
 pub mod Holders
+pub mod HoldersBack
+pub mod OnlyHoldings
 pub mod Tallies
+pub mod Restored
+pub mod DaysBack
+pub mod TalliesBack
 pub mod Applied
 pub mod Anew

@@ -47,7 +47,7 @@ module _ (count : Used → ℕ) (none : count no_uses ≡ 0) where
       let sum = sum-without name_of (λ row. count (uses_of row)) name rows in
       omega (arith, own, sum, none)
 
-  exchanged : (edit : Edit) (sheet : BalanceSheet) → all_uses count (applied edit sheet) + count (used_before edit sheet) ≡ all_uses count sheet + count (used_after edit)
+  pub exchanged : (edit : Edit) (sheet : BalanceSheet) → all_uses count (applied edit sheet) + count (used_before edit sheet) ≡ all_uses count sheet + count (used_after edit)
   exchanged (edits.Security name class group currency duration) sheet =
       let new : Position = record {
         security = record { name = name; class = class; group = group; currency = currency; duration = natural duration; flows = kept_flows name sheet.securities };

@@ -5,4 +5,8 @@ pub mod Verbs
 pub mod Holders
 pub mod LastDays
 pub mod Users
+pub mod Pasts
+pub mod UsersBack
+pub mod HoldersBack
+pub mod Holdings
 pub mod Undone

@@ -8,7 +8,7 @@ ghost use Rattle.scr_sheet.specs.Forms.{Formed};
 ghost use Rattle.scr_sheet.specs.Validity.{Valid};
 ghost use Rattle.scr_book.specs.Places.{names_in, shares_names};
 
-use crate::checks::check;
+use crate::checks::checked;
 use crate::ledger::Ledger;
 use crate::users::Users;
 use crate::{
@@ -57,27 +57,33 @@ impl Book {
         ensures ok { OnOk result (self.new ≡ applied edit.now self.old) }
         ensures err { OnErr result (self.new ≡ self.old) }
     {
-        if let Err(fault) = check(alloc, self, edit) {
-            return Err(fault);
-        }
-        match self.put(alloc, edit) {
+        let numbers = match checked(alloc, self, edit) {
+            Ok(numbers) => numbers,
+            Err(fault) => return Err(fault),
+        };
+        match self.put(alloc, edit, &numbers) {
             Ok(()) => Ok(()),
             Err(NoMemory) => Err(Fault::NoMemory),
         }
     }
 
-    // Applies a record that has no fault. Where memory is refused the book is as before, and its tally is lost.
-    pub(crate) fn put(&mut self, alloc: Global, edit: &Edit) -> Result<(), NoMemory>
+    // Applies a record that has no fault. Where memory is refused the book is as before.
+    pub(crate) fn put(
+        &mut self,
+        alloc: Global,
+        edit: &Edit,
+        numbers: &[u32],
+    ) -> Result<(), NoMemory>
         requires formed { Formed edit.now }
         requires no_fault { fault_of edit.now self.old ≡ None }
         ensures ok { OnOk result (self.new ≡ applied edit.now self.old) }
         ensures err { OnErr result (self.new ≡ self.old) }
     {
         self.users.exchange(alloc, self.ledger.sheet(), edit);
-        match self.ledger.put(alloc, edit) {
+        match self.ledger.put(alloc, edit, numbers) {
             Ok(()) => Ok(()),
             Err(NoMemory) => {
-                self.users.lose();
+                self.users.exchange_back(self.ledger.sheet(), edit);
                 Err(NoMemory)
             }
         }

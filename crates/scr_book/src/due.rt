@@ -1,16 +1,21 @@
-//! The graph of the funds, made anew from the rows.
-ghost use Rattle.std.specs.Prelude.{◌≡◌, ℕ, [], List, map, IsTrue, true, false, IfOk, OnOk, OnErr};
+//! The graph of the funds: made anew from the rows, and moved back.
+ghost use Rattle.std.specs.Prelude.{◌≡◌, ◌||◌, ℕ, [], List, map, IsTrue, true, false, not, IfOk, OnOk, OnErr};
 ghost use Rattle.std.specs.List.{AllByRecursion, IsDistinct};
-ghost use Rattle.scr_funds.specs.Chains.{IsAcyclic};
+ghost use Rattle.scr_funds.specs.Chains.{IsAcyclic, LeadsTo};
 ghost use Rattle.scr_names.specs.Names.{same_name};
-ghost use Rattle.scr_graph.specs.Graph.{entered_in, components_under};
+ghost use Rattle.scr_graph.specs.Graph.{entered_in, components_under, components_after};
+ghost use Rattle.scr_graph.specs.KeptNumbers.{stands_for};
 ghost use Rattle.scr_sheet.specs.BalanceSheet.{stake_name, components_of};
+ghost use Rattle.scr_sheet.specs.Earlier.{with_earlier, FitsIn};
 ghost use Rattle.scr_sheet.specs.Validity.{Valid};
 ghost use Rattle.scr_book.specs.Holders.{IsGraphOf};
+ghost use Rattle.scr_book.specs.HoldersBack.{IsKeptOf, moves_back};
+ghost use Rattle.scr_book.specs.Pasts.{name_in, components_in};
 
+use crate::pasts::{name_in, row_in};
 use crate::{BalanceSheet, Stake};
-use scr_graph::FundGraph;
-use scr_sheet::{Row, Rows};
+use scr_graph::{FundGraph, KeptComponents};
+use scr_sheet::{Earlier, Past, Row, Rows};
 use std::alloc::{AllocError as NoMemory, Global};
 
 /// The graph of the funds of a sheet.
@@ -43,6 +48,84 @@ pub(crate) fn refresh(
     Ok(())
 }
 
+/// What the graph has of a fund whose row is kept, so that it can be put back without memory.
+pub(crate) fn keep(
+    graph: &FundGraph,
+    alloc: Global,
+    earlier: &Earlier,
+) -> Result<Option<KeptComponents>, NoMemory>
+    ensures { IfOk result (λ kept. IsKeptOf earlier.now kept graph.now) }
+{
+    match earlier {
+        Earlier::Funds(past) => Ok(Some(graph.keep(alloc, &name_in(past))?)),
+        _ => Ok(None),
+    }
+}
+
+/// Moves the graph back, without memory, where what stood before is put back into the sheet, and answers whether it is due then.
+/// It is where it was before, or cannot be moved back.
+pub(crate) fn put_back(
+    graph: &mut FundGraph,
+    is_due: bool,
+    sheet: &BalanceSheet,
+    earlier: &Earlier,
+    kept: Option<KeptComponents>,
+) -> bool
+    requires valid { Valid sheet.now }
+    requires back { Valid (with_earlier earlier.now sheet.now) }
+    requires place { FitsIn earlier.now sheet.now }
+    requires graph { is_due ≡ false → IsGraphOf sheet.now graph.old }
+    ensures told { result ≡ (is_due || not (moves_back earlier.now kept graph.old)) }
+    ensures back { result ≡ false → IsGraphOf (with_earlier earlier.now sheet.now) graph.new }
+{
+    if is_due {
+        return true;
+    }
+    !move_back(graph, sheet, earlier, kept)
+}
+
+// Moves the graph back and answers whether it is that of the sheet then. It is, as long as the names that come back are still
+// entered, and what was kept are their numbers.
+fn move_back(
+    graph: &mut FundGraph,
+    sheet: &BalanceSheet,
+    earlier: &Earlier,
+    kept: Option<KeptComponents>,
+) -> bool
+    requires valid { Valid sheet.now }
+    requires back { Valid (with_earlier earlier.now sheet.now) }
+    requires place { FitsIn earlier.now sheet.now }
+    requires graph { IsGraphOf sheet.now graph.old }
+    ensures told { result ≡ moves_back earlier.now kept graph.old }
+    ensures back { result ≡ true → IsGraphOf (with_earlier earlier.now sheet.now) graph.new }
+{
+    match earlier {
+        Earlier::Securities(past) => graph.has(&name_in(past)),
+        Earlier::Funds(past) => match kept {
+            Some(kept) => put_fund_back(graph, past, kept),
+            None => false,
+        },
+        _ => true,
+    }
+}
+
+// The components of the fund that comes back, none where there was no fund.
+fn put_fund_back(graph: &mut FundGraph, past: &Past<Stake>, kept: KeptComponents) -> bool
+    requires apart { let name = name_in stake_name past.now in
+        ¬ LeadsTo (components_after name (components_in past.now) graph.old) name name }
+    ensures told { result ≡ stands_for kept (name_in stake_name past.now) (components_in past.now) graph.old }
+    ensures back { result ≡ true → components_under graph.new
+        ≡ components_after (name_in stake_name past.now) (components_in past.now) graph.old }
+    ensures own { result ≡ true → entered_in graph.old (name_in stake_name past.now) ≡ true }
+    ensures entered { entered_in graph.new ≡ entered_in graph.old }
+{
+    let components = match row_in(past) {
+        Some(stake) => stake.fund.components.as_slice(),
+        None => &[],
+    };
+    graph.put_back(&name_in(past), components, kept)
+}
+
 // Enters the name of each row.
 fn enter<R: Row>(graph: &mut FundGraph, alloc: Global, rows: &Rows<R>) -> Result<(), NoMemory>
     ensures rows { OnOk result (
@@ -69,7 +152,12 @@ fn put(graph: &mut FundGraph, alloc: Global, funds: &Rows<Stake>) -> Result<(), 
     ensures entered { entered_in graph.new ≡ entered_in graph.old }
 {
     for stake in funds.iter() {
-        graph.put(alloc, &stake.fund.name, stake.fund.components.as_slice())?;
+        graph.put(
+            alloc,
+            &stake.fund.name,
+            stake.fund.components.as_slice(),
+            &[],
+        )?;
     }
     Ok(())
 }

@@ -8,6 +8,7 @@ mod due;
 pub mod laws;
 mod ledger;
 mod parts;
+mod pasts;
 mod puts;
 mod ranges;
 mod sums;

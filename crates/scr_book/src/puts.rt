@@ -23,7 +23,12 @@ use std::alloc::{AllocError as NoMemory, Global};
 
 impl Ledger {
     // Applies a record that has no fault. Where memory is refused the ledger is as before.
-    pub(crate) fn put(&mut self, alloc: Global, edit: &Edit) -> Result<(), NoMemory>
+    pub(crate) fn put(
+        &mut self,
+        alloc: Global,
+        edit: &Edit,
+        numbers: &[u32],
+    ) -> Result<(), NoMemory>
         requires formed { Formed edit.now }
         requires no_fault { fault_of edit.now self.old ≡ None }
         ensures ok { OnOk result (self.new ≡ applied edit.now self.old) }
@@ -40,7 +45,7 @@ impl Ledger {
                 duration,
             } => self.put_security(alloc, name, *class, *group, currency, *duration),
             Edit::Flows { security, flows } => self.put_promise(alloc, security, flows),
-            Edit::Fund { name, components } => self.put_fund(alloc, name, components),
+            Edit::Fund { name, components } => self.put_fund(alloc, name, components, numbers),
             Edit::Liability {
                 name,
                 kind,
@@ -201,6 +206,7 @@ impl Ledger {
         alloc: Global,
         name: &Name,
         components: &Components,
+        numbers: &[u32],
     ) -> Result<(), NoMemory>
         requires formed { Formed (Edit.Fund name.now components.now) }
         requires no_fault { fault_of (Edit.Fund name.now components.now) self.old ≡ None }
@@ -213,7 +219,7 @@ impl Ledger {
         let held = self.sheet.fund_hold(name);
         refresh(&mut self.graph, self.is_graph_due, alloc, &self.sheet)?;
         self.graph.enter(alloc, *name)?;
-        self.graph.put(alloc, name, components.as_slice())?;
+        self.graph.put(alloc, name, components.as_slice(), numbers)?;
         let fund = Fund {
             name: *name,
             components,

@@ -4,10 +4,13 @@ ghost use Rattle.std.specs.Prelude.{◌≡◌, List, [], Some, None};
 ghost use Rattle.scr_tally.specs.Users.{nothing, Moves};
 ghost use Rattle.scr_sheet.specs.Records.{applied};
 ghost use Rattle.scr_sheet.specs.declared.sheet.BalanceSheet.{BalanceSheet as Sheet};
+ghost use Rattle.scr_sheet.specs.Earlier.{with_earlier, FitsIn};
 ghost use Rattle.scr_book.specs.Users.{Used, no_uses, AreUsersOf, HaveCounted, used_before, used_after, used_in, kept_uses, of_name, of_currency};
+ghost use Rattle.scr_book.specs.UsersBack.{past_uses, used_now, used_then};
 
+use crate::pasts::{name_in, row_in};
 use crate::{BalanceSheet, Bank, Edit, Liability, Name, Position, Rein, Stake, Table};
-use scr_sheet::{Row, Rows};
+use scr_sheet::{Earlier, Past, Row, Rows};
 use scr_tally::NameTally;
 use std::alloc::Global;
 use std::marker::Model;
@@ -147,8 +150,28 @@ impl Users {
         ensures { AreUsersOf (applied edit.now sheet.now) self.new }
     {
         self.renew(alloc, sheet, edit);
-        self.take(alloc, used_before(sheet, edit));
+        self.take(used_before(sheet, edit));
         self.add(alloc, used_after(edit));
+    }
+
+    /// Back from `exchange`, without memory: the sheet is as it was before the record.
+    pub(crate) fn exchange_back(&mut self, sheet: &BalanceSheet, edit: &Edit)
+        requires { AreUsersOf (applied edit.now sheet.now) self.old }
+        ensures { AreUsersOf sheet.now self.new }
+    {
+        self.take(used_after(edit));
+        self.count_again(used_before(sheet, edit));
+    }
+
+    /// What the row uses that goes out where what stood before comes back goes out, and what the one uses that comes back is
+    /// counted again, without memory.
+    pub(crate) fn put_back(&mut self, sheet: &BalanceSheet, earlier: &Earlier)
+        requires users { AreUsersOf sheet.now self.old }
+        requires place { FitsIn earlier.now sheet.now }
+        ensures { AreUsersOf (with_earlier earlier.now sheet.now) self.new }
+    {
+        self.take(used_now(sheet, earlier));
+        self.count_again(used_then(earlier));
     }
 
     // A record that drops a row had all rows looked at where they are not counted: they are from now on.
@@ -199,14 +222,24 @@ impl Users {
         self.currencies.add(alloc, uses.currency);
     }
 
-    // Takes away what a row uses.
-    fn take(&mut self, alloc: Global, uses: Uses<'_>)
+    // Takes away what a row uses, without memory.
+    fn take(&mut self, uses: Uses<'_>)
         ensures names { Moves (λ name. of_name name uses.entry) nothing self.old.names self.new.names }
         ensures currencies { Moves (λ name. of_currency name uses.entry) nothing self.old.currencies self.new.currencies }
     {
-        self.names.take_each(alloc, uses.components);
-        self.names.take(alloc, uses.group);
-        self.currencies.take(alloc, uses.currency);
+        self.names.take_each(uses.components);
+        self.names.take(uses.group);
+        self.currencies.take(uses.currency);
+    }
+
+    // Counts again what a row uses that was counted before, without memory.
+    fn count_again(&mut self, uses: Uses<'_>)
+        ensures names { Moves nothing (λ name. of_name name uses.entry) self.old.names self.new.names }
+        ensures currencies { Moves nothing (λ name. of_currency name uses.entry) self.old.currencies self.new.currencies }
+    {
+        self.names.put_back_each(uses.components);
+        self.names.put_back(uses.group);
+        self.currencies.put_back(uses.currency);
     }
 }
 
@@ -244,6 +277,44 @@ fn used_by<'a, R: Using>(rows: &'a Rows<R>, name: &Name) -> Uses<'a>
     ensures { result ≡ kept_uses R.name_of R.uses_of name.now rows.now }
 {
     match rows.get(name) {
+        Some(row) => row.uses(),
+        None => none(),
+    }
+}
+
+// What the row uses that goes out where what stood before comes back.
+fn used_now<'a>(sheet: &'a BalanceSheet, earlier: &Earlier) -> Uses<'a>
+    ensures { result ≡ used_now earlier.now sheet.now }
+{
+    match earlier {
+        Earlier::Securities(past) => used_by(&sheet.securities, &name_in(past)),
+        Earlier::Funds(past) => used_by(&sheet.funds, &name_in(past)),
+        Earlier::Liabilities(past) => used_by(&sheet.liabilities, &name_in(past)),
+        Earlier::Banks(past) => used_by(&sheet.banks, &name_in(past)),
+        Earlier::Reinsurers(past) => used_by(&sheet.reinsurers, &name_in(past)),
+        Earlier::Groups(_) | Earlier::Curves(_) | Earlier::Numbers(_) => none(),
+    }
+}
+
+// What the row uses that comes back.
+fn used_then(earlier: &Earlier) -> Uses<'_>
+    ensures { result ≡ used_then earlier.now }
+{
+    match earlier {
+        Earlier::Securities(past) => used_in_past(past),
+        Earlier::Funds(past) => used_in_past(past),
+        Earlier::Liabilities(past) => used_in_past(past),
+        Earlier::Banks(past) => used_in_past(past),
+        Earlier::Reinsurers(past) => used_in_past(past),
+        Earlier::Groups(_) | Earlier::Curves(_) | Earlier::Numbers(_) => none(),
+    }
+}
+
+// What the row uses that comes back, nothing where there was none.
+fn used_in_past<R: Using>(past: &Past<R>) -> Uses<'_>
+    ensures { result ≡ past_uses R.uses_of past.now }
+{
+    match row_in(past) {
         Some(row) => row.uses(),
         None => none(),
     }

@@ -1,4 +1,5 @@
 //! Edges that were taken off.
+ghost use Rattle.std.specs.Prelude.{◌≡◌};
 
 use std::marker::Model;
 
@@ -16,4 +17,13 @@ impl Model for Kept {
     ghost Value = { KeptEdges };
 
     ghost view = { λ kept. record { from = kept.from; edges = kept.edges.items } };
+}
+
+impl Kept {
+    /// These edges of a fund.
+    pub fn new(from: u32, edges: Vec<u32>) -> Kept
+        ensures { result ≡ record { from = from; edges = edges.items } }
+    {
+        Kept { from, edges }
+    }
 }

@@ -172,6 +172,20 @@ impl FundOrder {
         first_chain(alloc, &edges, to)
     }
 
+    /// The components of a fund, in the order of its record.
+    pub fn components(&self, fund: u32) -> &[u32]
+        ensures { result.now ≡ components_of self.now fund }
+    {
+        row_of(&self.rows, fund)
+    }
+
+    /// The number above all funds and components that were ever named.
+    pub fn size(&self) -> usize
+        ensures { result ≡ size_of self.now }
+    {
+        self.rows.len()
+    }
+
     /// Whether a fund was ever a component: what never was is none now.
     fn was_component(&self, fund: u32) -> bool
         ensures order { IsOrder self.now }

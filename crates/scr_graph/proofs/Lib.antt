@@ -1,3 +1,4 @@
 pub mod Numbering
 pub mod Nodes
 pub mod Graphs
+pub mod KeptRows

@@ -1,3 +1,4 @@
 pub mod Graph
 pub mod GraphInside
 pub mod Answers
+pub mod KeptNumbers

@@ -1,15 +1,16 @@
 //! Which funds hold which, by name.
 ghost use Rattle.std.specs.Prelude.{◌≡◌, ℕ, ◌+◌, ◌<◌, ◌≤◌, ◌^◌, ◌||◌, List, [], length, map};
-ghost use Rattle.std.specs.Prelude.{Contains, IsTrue, false, OnOk, OnErr, IfOk, slice_index_or};
+ghost use Rattle.std.specs.Prelude.{Contains, IsTrue, true, false, OnOk, OnErr, IfOk, slice_index_or};
 ghost use Rattle.scr_funds.specs.Chains.{IsAcyclic, LeadsTo};
 ghost use Rattle.scr_funds.specs.Paths.{path_within};
 ghost use Rattle.scr_names.specs.Names.{same_name};
 ghost use Rattle.scr_graph.specs.Answers.{Answers};
 ghost use Rattle.scr_graph.specs.Graph.{number_in, entered_in, components_under, components_after};
 ghost use Rattle.scr_graph.specs.Graph.{AreEntered, AreEnteredOr};
+ghost use Rattle.scr_graph.specs.KeptNumbers.{AreNumbersOf, is_number, are_numbers, stands_for};
 
-use crate::GraphFault;
-use scr_funds::{FundOrder, OrderFault};
+use crate::{GraphFault, KeptComponents};
+use scr_funds::{FundOrder, Kept, OrderFault};
 use scr_names::{Name, Names, Row, Rows};
 use std::alloc::{AllocError as NoMemory, Global};
 use std::marker::Model;
@@ -88,13 +89,14 @@ impl FundGraph {
     /// Whether a fund could have these components in the place of its own; nothing changes. `Cycle`
     /// comes exactly where it would then hold itself, and tells the first shortest chain by which
     /// it would. The fund may be one that was not entered, and be a component of itself. `most` may
-    /// be any number that is at least that of the names that would have components.
+    /// be any number that is at least that of the names that would have components. Hands out the
+    /// numbers of the components, which spare `put` a look-up of each.
     pub fn check(
         &self,
         alloc: Global,
         fund: &Name,
         components: &[(Name, i64)],
-    ) -> Result<(), GraphFault>
+    ) -> Result<Vec<u32>, GraphFault>
         requires { AreEnteredOr fund.now components.now self.now }
         ensures answer { let after = components_after fund.now components.now self.now in
             (most : ℕ) (holders : List (List ℕ))
@@ -102,13 +104,15 @@ impl FundGraph {
             → Answers (path_within same_name after most fund.now fund.now) result }
         ensures apart { OnOk result
             (¬ LeadsTo (components_after fund.now components.now self.now) fund.now fund.now) }
+        ensures numbers { IfOk result
+            (λ numbers. numbers.items ≡ map (λ c. number_in self.now.names c.0) components.now) }
     {
         let numbers = match self.numbers(alloc, components) {
             Ok(numbers) => numbers,
             Err(NoMemory) => return Err(GraphFault::NoMemory),
         };
         match self.order.check_edges(alloc, self.number(fund), &numbers) {
-            Ok(()) => Ok(()),
+            Ok(()) => Ok(numbers),
             Err(OrderFault::NoMemory) => Err(GraphFault::NoMemory),
             Err(OrderFault::Cycle(path)) => match self.names(alloc, fund, path.as_slice()) {
                 Ok(names) => Err(GraphFault::Cycle(Names::new(names))),
@@ -118,12 +122,14 @@ impl FundGraph {
     }
 
     /// Gives a fund these components in the place of its own, by which it must not come to hold
-    /// itself. Where memory is refused, all is as before.
+    /// itself. Where memory is refused, all is as before. The numbers that `found` has may be any; no
+    /// component is looked up where they are those of the components.
     pub fn put(
         &mut self,
         alloc: Global,
         fund: &Name,
         components: &[(Name, i64)],
+        found: &[u32],
     ) -> Result<(), NoMemory>
         requires fund { IsTrue (entered_in self.old fund.now) }
         requires components { AreEntered components.now self.old }
@@ -135,7 +141,7 @@ impl FundGraph {
         ensures entered { entered_in self.new ≡ entered_in self.old }
         ensures acyclic { OnOk result (IsAcyclic (components_under self.new)) }
     {
-        let numbers = self.numbers(alloc, components)?;
+        let numbers = self.numbers_by(alloc, components, found)?;
         let number = self.number(fund);
         self.order.replace(alloc, number, numbers)?;
         Ok(())
@@ -151,6 +157,82 @@ impl FundGraph {
         let _ = self.order.remove(number);
     }
 
+    /// A name was entered.
+    pub fn has(&self, name: &Name) -> bool
+        ensures { result ≡ entered_in self.now name.now }
+    {
+        self.nodes.contains(name)
+    }
+
+    /// The components of a fund, kept so that they can be put back without memory.
+    pub fn keep(&self, alloc: Global, fund: &Name) -> Result<KeptComponents, NoMemory>
+        ensures { IfOk result (λ kept. AreNumbersOf kept fund.now self.now) }
+    {
+        let number = self.number(fund);
+        let components = Vec::from_slice(alloc, self.order.components(number))?;
+        Ok(KeptComponents { number, components })
+    }
+
+    /// Gives a fund these components, which it had, in the place of its own, without memory: by the numbers that were kept, where
+    /// these still are those of the names. Answers whether they are; where not, all is as before.
+    pub fn put_back(
+        &mut self,
+        fund: &Name,
+        components: &[(Name, i64)],
+        kept: KeptComponents,
+    ) -> bool
+        requires apart { ¬ LeadsTo
+            (components_after fund.now components.now self.old) fund.now fund.now }
+        ensures told { result ≡ stands_for kept fund.now components.now self.old }
+        ensures back { result ≡ true
+            → components_under self.new ≡ components_after fund.now components.now self.old }
+        ensures own { result ≡ true → entered_in self.old fund.now ≡ true }
+        ensures still { result ≡ false → self.new ≡ self.old }
+        ensures entered { entered_in self.new ≡ entered_in self.old }
+    {
+        if self.stands_for(fund, components, &kept) {
+            let KeptComponents { number, components } = kept;
+            let _ = self.order.remove(number);
+            self.order.put_back(Kept::new(number, components));
+            return true;
+        }
+        false
+    }
+
+    /// What was kept are the numbers of the fund and of these components.
+    fn stands_for(&self, fund: &Name, components: &[(Name, i64)], kept: &KeptComponents) -> bool
+        ensures { result ≡ stands_for kept.now fund.now components.now self.now }
+    {
+        let below = self.order.size();
+        self.is_number(below, kept.number, fund)
+            && self.are_numbers(below, &kept.components, components)
+    }
+
+    /// These are the numbers of the components, in their order, and below that one.
+    fn are_numbers(&self, below: usize, numbers: &[u32], components: &[(Name, i64)]) -> bool
+        requires { below ≤ length self.now.names }
+        ensures { result ≡ are_numbers below numbers.now components.now self.now }
+    {
+        if numbers.len() != components.len() {
+            return false;
+        }
+        for k in 0..numbers.len() {
+            if !self.is_number(below, numbers[k], &components[k].0) {
+                return false;
+            }
+        }
+        true
+    }
+
+    /// This is the number of the name, and below that one.
+    fn is_number(&self, below: usize, number: u32, name: &Name) -> bool
+        requires { below ≤ length self.now.names }
+        ensures { result ≡ is_number below number name.now self.now }
+    {
+        let place = number as usize;
+        place < below && self.nodes.at(place).name == *name
+    }
+
     /// The number of a name: the next one, where it was not entered.
     fn number(&self, name: &Name) -> u32
         ensures { result ≡ number_in self.now.names name.now }
@@ -159,6 +241,22 @@ impl FundGraph {
             Some(place) => place as u32,
             None => self.nodes.len() as u32,
         }
+    }
+
+    /// The numbers of the components: those that were found, where they are theirs.
+    fn numbers_by(
+        &self,
+        alloc: Global,
+        components: &[(Name, i64)],
+        found: &[u32],
+    ) -> Result<Vec<u32>, NoMemory>
+        ensures { IfOk result
+            (λ numbers. numbers.items ≡ map (λ c. number_in self.now.names c.0) components.now) }
+    {
+        if self.are_numbers(self.nodes.len(), found, components) {
+            return Vec::from_slice(alloc, found);
+        }
+        self.numbers(alloc, components)
     }
 
     /// The numbers of the components.

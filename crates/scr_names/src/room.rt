@@ -1,5 +1,8 @@
 //! Room for a table with a row more, taken before it is needed.
 ghost use Rattle.std.specs.Prelude.{◌≡◌, ◌<◌, ◌≤◌, length, false, insert, IfOk};
+ghost use Rattle.std.specs.HashMap.{values};
+ghost use Rattle.indexmap.specs.IndexMap.{spare, index_map_len};
+ghost use Rattle.scr_names.specs.ByName.{by_name};
 ghost use Rattle.scr_names.specs.Tables.{has_row};
 
 use crate::{Name, Row, Rows};
@@ -36,18 +39,29 @@ impl<R: Row> Room<R> {
 }
 
 impl<R: Row> Rows<R> {
-    /// Puts a row of a new name in at place `k`, without memory: the rows move into the room.
+    /// Puts a row of a new name in at place `k`, without memory: where the table itself has no room for it, the rows move into the
+    /// one that was kept.
     pub fn put_at(&mut self, k: usize, row: R, room: Room<R>)
         requires place { k ≤ length self.old }
         requires new_name { has_row R.name_of (R.name_of row) self.old ≡ false }
         requires fits { length self.old < room }
         ensures { self.new ≡ insert self.old k row }
     {
-        // The length is what says that no two rows have one name.
-        let _len = self.map.len();
-        let Room { mut map } = room;
-        map.append(&mut self.map).unwrap();
-        map.shift_insert(k, row.name(), row).unwrap();
-        self.map = map;
+        make_room(&mut self.map, room);
+        self.map.shift_insert(k, row.name(), row).unwrap();
+    }
+}
+
+// Room for an entry more: the map has it, or its entries move into what was kept.
+fn make_room<R: Row>(map: &mut IndexMap<Name, R>, room: Room<R>)
+    requires fits { index_map_len map.old < room }
+    requires named { map.old.entries ≡ by_name R.name_of (values map.old) }
+    ensures entries { map.new.entries ≡ map.old.entries }
+    ensures spare { 0 < spare map.new }
+{
+    if map.len() == map.capacity() {
+        let Room { map: mut kept } = room;
+        kept.append(map).unwrap();
+        *map = kept;
     }
 }

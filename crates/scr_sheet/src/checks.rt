@@ -1,5 +1,6 @@
 //! Whether a record fits a balance sheet: its lists, the names that it gives, and what uses a row that it drops or changes.
-ghost use Rattle.std.specs.Prelude.{◌≡◌, ◌+◌, ◌*◌, ◌<◌, ◌^◌, []};
+ghost use Rattle.std.specs.Prelude.{◌≡◌, ◌+◌, ◌*◌, ◌<◌, ◌^◌, ◌||◌, []};
+ghost use Rattle.scr_sheet.specs.BalanceSheet.{is_in};
 ghost use Rattle.scr_sheet.specs.Faults.{too_long, list_fault, unknown_in_table, unknown_name, misplaced, lacking, wrong_kind, in_use, components_fault, unknown_component, misplaced_holding, misplaced_component, first_fault, Answers};
 
 use crate::users::user_of;
@@ -8,7 +9,7 @@ use crate::{
     Projection, Table, User,
 };
 use indexmap::IndexMap;
-use std::alloc::Global;
+use std::alloc::{AllocError as NoMemory, Global};
 
 // ---- the length of a list
 
@@ -31,14 +32,19 @@ pub fn check_lists(alloc: Global, edit: &Edit) -> Result<(), Fault>
 fn check_components(alloc: Global, components: &[(Name, i64)]) -> Result<(), Fault>
     ensures { Answers (components_fault 2 MAX_FUND_COMPONENTS [] components.now) result }
 {
-    let mut met = IndexMap::new(alloc);
+    let most = components.len().min(MAX_FUND_COMPONENTS as usize);
+    let mut met = match IndexMap::with_capacity(alloc, most) {
+        Ok(met) => met,
+        Err(NoMemory) => return Err(Fault::NoMemory),
+    };
     let mut field = 2;
     for (name, _) in components {
-        if field == 2 + 2 * MAX_FUND_COMPONENTS || met.contains_key(name) {
+        if field == 2 + 2 * MAX_FUND_COMPONENTS {
             return Err(Fault::Syntax(field));
         }
         match met.insert(*name, ()) {
-            Ok(_) => {}
+            Ok(None) => {}
+            Ok(Some(())) => return Err(Fault::Syntax(field)),
             Err(_) => return Err(Fault::NoMemory),
         }
         field += 2;
@@ -111,7 +117,7 @@ fn known(sheet: &BalanceSheet, table: Table, name: &Name) -> Result<(), Fault>
     }
 }
 
-// A fund's own name counts as existing.
+// A fund's own name counts as existing. Most components are securities, and one look-up tells so.
 fn known_components(
     sheet: &BalanceSheet,
     fund: &Name,
@@ -120,7 +126,7 @@ fn known_components(
     ensures { Answers (first_fault (unknown_component fund.now sheet.now) components.now) result }
 {
     for (name, _) in components {
-        if *name != *fund && !sheet.is_named(name) {
+        if *name != *fund && !is_a_holding(sheet, name) && !sheet.is_named(name) {
             return Err(Fault::UnknownName(*name));
         }
     }
@@ -181,17 +187,24 @@ pub fn check_kinds(sheet: &BalanceSheet, edit: &Edit) -> Result<(), Fault>
 fn only_in(sheet: &BalanceSheet, table: Table, name: &Name) -> Result<(), Fault>
     ensures { Answers (misplaced table name.now sheet.now) result }
 {
-    if sheet.is_named(name) && !sheet.has(table, name) {
+    if !sheet.has(table, name) && sheet.is_named(name) {
         return Err(Fault::WrongKind(*name));
     }
     Ok(())
+}
+
+// The name is that of a security or of a fund.
+fn is_a_holding(sheet: &BalanceSheet, name: &Name) -> bool
+    ensures { result ≡ (is_in (Table.Security) name.now sheet.now || is_in (Table.Fund) name.now sheet.now) }
+{
+    sheet.has(Table::Security, name) || sheet.has(Table::Fund, name)
 }
 
 // A security or a fund, where the name stands in a table at all.
 fn only_a_holding(sheet: &BalanceSheet, name: &Name) -> Result<(), Fault>
     ensures { Answers (misplaced_holding name.now sheet.now) result }
 {
-    if sheet.is_named(name) && !sheet.has(Table::Security, name) && !sheet.has(Table::Fund, name) {
+    if !is_a_holding(sheet, name) && sheet.is_named(name) {
         return Err(Fault::WrongKind(*name));
     }
     Ok(())

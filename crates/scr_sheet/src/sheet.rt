@@ -69,8 +69,8 @@ impl BalanceSheet {
     pub fn is_named(&self, name: &Name) -> bool
         ensures { result ≡ is_named name.now self.now }
     {
-        self.has(Table::Group, name)
-            || self.has(Table::Security, name)
+        self.has(Table::Security, name)
+            || self.has(Table::Group, name)
             || self.has(Table::Liability, name)
             || self.has(Table::Bank, name)
             || self.has(Table::Rein, name)

@@ -1,13 +1,13 @@
 -- Counts by block and place, read by day.
-use Rattle.std.proofs.Common.{◌≡◌, ℕ, zero, suc, ◌+◌, ◌*◌, ◌/◌, ◌%◌, ◌<◌, ◌≤◌, Bool, true, false, ◌&&◌, ltb, ◌<ℤ◌, List, [], ◌∷◌, Some, None, if◌then◌else◌, int_le, ℤ, length, map, replicate, set, get_or, refl, sym, ap, subst, ◌∙◌, arith}
+use Rattle.std.proofs.Common.{◌≡◌, ℕ, zero, suc, ◌+◌, ◌*◌, ◌/◌, ◌%◌, ◌<◌, ◌≤◌, Bool, true, false, ◌&&◌, ltb, ◌<ℤ◌, List, [], ◌∷◌, Some, None, if◌then◌else◌, int_le, ℤ, length, replicate, set, get_or, refl, sym, ap, subst, ◌∙◌, arith}
 use Rattle.std.proofs.lemmas.Int.{ints}
-use Rattle.std.proofs.lemmas.List.{get_or-set_same, get_or-set_other, get_or_past, get_or_default, length-replicate}
+use Rattle.std.proofs.lemmas.List.{get_or-set_same, get_or-set_other, get_or_past, get_or_default}
 use Rattle.std.specs.List.{AllByRecursion}
 use Rattle.scr_dates.specs.Civil.{IsDay}
 use Rattle.scr_dates.specs.declared.day.Day.{Day}
 use Rattle.scr_tally.specs.Counts.{count_at}
 use Rattle.scr_tally.specs.Days.{days_to, count_of, ends_on, IsLast}
-use Rattle.scr_tally.specs.Kept.{AreBlocks, count_in, zeros, IsLastIn}
+use Rattle.scr_tally.specs.Kept.{AreBlocks, count_in, IsLastIn}
 
 -- ---- blocks
 
@@ -17,19 +17,10 @@ count-zeros zero place = refl
 count-zeros (suc n) zero = refl
 count-zeros (suc n) (suc place) = count-zeros n place
 
-pub count-none : (blocks : List (List ℕ)) (block place : ℕ) → count_in (map zeros blocks) block place ≡ 0
-count-none [] block place = refl
-count-none (b ∷ blocks) zero place = count-zeros (length b) place
-count-none (b ∷ blocks) (suc block) place = count-none blocks block place
-
 pub count-made : (n places block place : ℕ) → count_in (replicate n (replicate places 0)) block place ≡ 0
 count-made zero places block place = refl
 count-made (suc n) places zero place = count-zeros places place
 count-made (suc n) places (suc block) place = count-made n places block place
-
-pub places-cleared : (places : ℕ) (blocks : List (List ℕ)) → AllByRecursion (λ (block : List ℕ). length block ≡ places) blocks → AllByRecursion (λ (block : List ℕ). length block ≡ places) (map zeros blocks)
-places-cleared places [] all = tt
-places-cleared places (b ∷ blocks) all = (length-replicate (length b) 0 ∙ all.0, places-cleared places blocks all.1)
 
 -- each block has so many places
 pub places_of : (places : ℕ) (blocks : List (List ℕ)) (block : ℕ) → AllByRecursion (λ (b : List ℕ). length b ≡ places) blocks → block < length blocks → length (get_or blocks block []) ≡ places

@@ -1,12 +1,12 @@
 -- How a tally of names moves.
-use Rattle.std.proofs.Common.{◌≡◌, ℕ, ℤ, ◌+◌, ◌<◌, Bool, true, false, length, take, get_or, List, if◌then◌else◌, refl, sym, ap, ◌∙◌, arith}
+use Rattle.std.proofs.Common.{◌≡◌, ℕ, ℤ, ◌+◌, ◌<◌, Bool, true, false, length, take, get_or, is_some, List, Option, Some, None, MatchOption, if◌then◌else◌, refl, sym, ap, ◌∙◌, arith}
 use Rattle.std.proofs.lemmas.List.Sums.{sum_by_more}
 use Rattle.std.specs.Option.{option_map_or}
 use Rattle.scr_names.specs.Names.{same_name}
-use Rattle.scr_names.specs.Tables.{row_of, with_row}
-use Rattle.scr_names.proofs.TableRows.{same_or_other, same_name-is, row_of-with_row_own, row_of-with_row_other}
+use Rattle.scr_names.specs.Tables.{row_of, has_row, with_row}
+use Rattle.scr_names.proofs.TableRows.{same_or_other, same_name-is, name_of-row_of, row_of-with_row_own, row_of-with_row_other}
 use Rattle.scr_tally.specs.declared.names.Used.{Used}
-use Rattle.scr_tally.specs.Users.{Tallied, used_name, users_under, uses, uses_each, nothing, Moves, IsWritten}
+use Rattle.scr_tally.specs.Users.{Tallied, used_name, users_under, uses, uses_each, came, nothing, Moves, IsWritten}
 
 -- one move after another
 pub moves-both : (a b c d : List ℕ → ℕ) (first between last : Tallied) → Moves a b first between → Moves c d between last → Moves (λ n. a n + c n) (λ n. b n + d n) first last
@@ -64,6 +64,26 @@ written-users name users before now lost rows =
         ∙ sym (ap (λ (t : Bool). if t then users else option_map_or (λ u. u.users) (row_of used_name other before.used) 0) e))
         (λ e. ap (λ o. option_map_or (λ u. u.users) o 0) (row_of-with_row_other used_name other new before.used e)
         ∙ sym (ap (λ (t : Bool). if t then users else option_map_or (λ u. u.users) (row_of used_name other before.used) 0) e))
+
+-- a name with a user came
+pub came-used : (name : List ℕ) (tally : Tallied) → 0 < users_under name tally → came name tally ≡ true
+unfolding users_under
+came-used name tally some = by (row_of used_name name tally.used) some
+  where
+    by : (found : Option Used) → 0 < option_map_or (λ u. u.users) found 0 → is_some found ≡ true
+    by None some = absurd (omega (arith, some))
+    by (Some used) some = refl
+
+-- a name that came, changed in its place
+pub changed-users : (name : List ℕ) (users : ℕ) (rows after : List Used) (Q : Used → Used → Type 0) → ((old new : Used) → Q old new → new ≡ record old { users = users }) → has_row used_name name rows ≡ true
+    → MatchOption (row_of used_name name rows) (after ≡ rows) (λ old. (new : Used) × Q old new × (after ≡ with_row used_name new rows)) → after ≡ with_row used_name (record { name = name; users = users }) rows
+changed-users name users rows after Q is has done = by (row_of used_name name rows) refl has done
+  where
+    by : (found : Option Used) → row_of used_name name rows ≡ found → is_some found ≡ true → MatchOption found (after ≡ rows) (λ old. (new : Used) × Q old new × (after ≡ with_row used_name new rows)) → after ≡ with_row used_name (record { name = name; users = users }) rows
+    by None e has done = absurd (cc)
+    by (Some old) e has done =
+        let named : name ≡ old.name = same_name-is name old.name (name_of-row_of used_name name rows old e) in
+        done.2 ∙ ap (λ (row : Used). with_row used_name row rows) (is old done.0 done.1 ∙ (λ i. record { name = sym named i; users = users }))
 
 module _ (name : List ℕ) (users : ℕ) (before now : Tallied) (is : IsWritten name users before now) where
   at_name : now.is_lost ≡ false → (other : List ℕ) → same_name other name ≡ true → users_under other now ≡ users

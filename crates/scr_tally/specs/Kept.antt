@@ -1,5 +1,5 @@
 -- How the counts of days are kept (this project's own): 251 blocks of 438 places, one for each day of the years 1900 to 2200.
-use Rattle.std.specs.Prelude.{◌≡◌, ℕ, ◌<◌, List, [], Option, Some, None, length, replicate, slice_index_or}
+use Rattle.std.specs.Prelude.{◌≡◌, ℕ, ◌<◌, List, [], Option, Some, None, length, slice_index_or}
 use Rattle.std.specs.List.{AllByRecursion}
 use Rattle.scr_tally.specs.Counts.{count_at}
 
@@ -10,10 +10,6 @@ pub record AreBlocks (blocks : List (List ℕ)) : Type 0 where
 -- the count at a place of a block
 abbrev pub count_in : List (List ℕ) → ℕ → ℕ → ℕ
 count_in blocks block place = count_at (slice_index_or blocks block []) place
-
--- the block with each count 0
-abbrev pub zeros : List ℕ → List ℕ
-zeros block = replicate (length block) 0
 
 -- the last block and place whose count is not 0, if there is one
 abbrev pub IsLastIn : List (List ℕ) → Option (ℕ × ℕ) → Type 0

@@ -2,7 +2,7 @@
 use Rattle.std.specs.Prelude.{◌≡◌, ℕ, ℤ, ◌+◌, Bool, false, List, Option, if◌then◌else◌, sum_by}
 use Rattle.std.specs.Option.{option_map_or}
 use Rattle.scr_names.specs.Names.{same_name}
-use Rattle.scr_names.specs.Tables.{row_of}
+use Rattle.scr_names.specs.Tables.{row_of, has_row}
 use Rattle.scr_tally.specs.declared.names.Used.{Used}
 
 -- the names with their numbers of users, or that nothing is known of them
@@ -20,6 +20,10 @@ users_under name tally = option_map_or (λ u. u.users) (row_of used_name name ta
 -- a row that uses one name uses a name once or not at all
 abbrev pub uses : List ℕ → List ℕ → ℕ
 uses used name = if same_name name used then 1 else 0
+
+-- a row has used the name, so that others are counted under it without memory
+abbrev pub came : List ℕ → Tallied → Bool
+came name tally = has_row used_name name tally.used
 
 -- one that may use a name
 abbrev pub uses_one : Option (List ℕ) → List ℕ → ℕ

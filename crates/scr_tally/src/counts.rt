@@ -60,14 +60,6 @@ impl Counts {
         self.last = last_below(&self.counts, end);
     }
 
-    /// Each count is 0 again.
-    pub(crate) fn clear(&mut self)
-        ensures { self.new ≡ replicate (length self.old) 0 }
-    {
-        self.counts.fill(0);
-        self.last = None;
-    }
-
     /// The last place whose count is not 0.
     pub(crate) fn last(&self) -> Option<usize>
         ensures { IsLastPlace self.now result }

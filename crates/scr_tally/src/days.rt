@@ -1,8 +1,8 @@
 //! How many lists of payments end on each day.
-ghost use Rattle.std.specs.Prelude.{◌≡◌, ℤ, ℕ, ◌+◌, ◌-◌, ◌*◌, ◌/◌, ◌%◌, ◌<◌, ◌≤◌, ◌^◌, map, IfOk};
+ghost use Rattle.std.specs.Prelude.{◌≡◌, ℤ, ℕ, ◌+◌, ◌-◌, ◌*◌, ◌/◌, ◌%◌, ◌<◌, ◌≤◌, ◌^◌, IfOk};
 ghost use Rattle.scr_dates.specs.Civil.{IsDay};
 ghost use Rattle.scr_tally.specs.Days.{days_to, count_of, ends_on, IsLast, IsDayOrNone};
-ghost use Rattle.scr_tally.specs.Kept.{zeros, IsLastIn};
+ghost use Rattle.scr_tally.specs.Kept.{IsLastIn};
 
 use crate::counts::Counts;
 use scr_dates::Day;
@@ -72,13 +72,6 @@ impl DayTally {
         }
     }
 
-    /// No list is counted any more.
-    pub fn clear(&mut self)
-        ensures { (day : ℤ) → count_of day self.new ≡ 0 }
-    {
-        clear(&mut self.blocks);
-    }
-
     /// The last day on which a list ends.
     pub fn last(&self) -> Option<Day>
         ensures { IsLast self.now result }
@@ -87,15 +80,6 @@ impl DayTally {
             Some((block, place)) => Some(day_at(block, place)),
             None => None,
         }
-    }
-}
-
-// Each count is 0 again.
-fn clear(blocks: &mut Vec<Counts>)
-    ensures { blocks.new.items ≡ map zeros blocks.old.items }
-{
-    for block in 0..blocks.len() {
-        blocks[block].clear();
     }
 }
 

@@ -1,6 +1,6 @@
 //! How many rows use each name.
-ghost use Rattle.std.specs.Prelude.{◌≡◌, ◌↔◌, ℕ, true};
-ghost use Rattle.scr_tally.specs.Users.{users_under, uses, uses_one, uses_each, nothing, IsFresh, Moves, IsWritten, IsUnused};
+ghost use Rattle.std.specs.Prelude.{◌≡◌, ◌↔◌, ◌<◌, ◌+◌, ◌^◌, ℕ, true, IfSome};
+ghost use Rattle.scr_tally.specs.Users.{users_under, uses, uses_one, uses_each, came, nothing, IsFresh, Moves, IsWritten, IsUnused};
 
 use scr_names::{Name, Row, Rows};
 use std::alloc::{AllocError as NoMemory, Global};
@@ -60,12 +60,21 @@ impl NameTally {
         }
     }
 
-    /// Takes away a row that uses each of these names.
-    pub fn take_each(&mut self, alloc: Global, names: &[(Name, i64)])
+    /// Takes away a row that uses each of these names, without memory.
+    pub fn take_each(&mut self, names: &[(Name, i64)])
         ensures { Moves (uses_each names.now) nothing self.old self.new }
     {
         for (name, _) in names {
-            self.take(alloc, Some(*name));
+            self.take(Some(*name));
+        }
+    }
+
+    /// Counts a row again that uses each of these names, without memory.
+    pub fn put_back_each(&mut self, names: &[(Name, i64)])
+        ensures { Moves nothing (uses_each names.now) self.old self.new }
+    {
+        for (name, _) in names {
+            self.put_back(Some(*name));
         }
     }
 
@@ -85,9 +94,10 @@ impl NameTally {
         }
     }
 
-    /// Takes away a row that uses this name, if it uses one.
-    pub fn take(&mut self, alloc: Global, name: Option<Name>)
-        ensures { Moves (uses_one name) nothing self.old self.new }
+    /// Takes away a row that uses this name, if it uses one, without memory.
+    pub fn take(&mut self, name: Option<Name>)
+        ensures moves { Moves (uses_one name) nothing self.old self.new }
+        ensures kept { IfSome name (λ own. 0 < users_under own self.old) → self.new.is_lost ≡ self.old.is_lost }
     {
         let Some(name) = name else {
             return;
@@ -96,7 +106,29 @@ impl NameTally {
             return;
         }
         match self.users(&name).checked_sub(1) {
-            Some(users) => self.write(alloc, name, users),
+            Some(users) => self.rewrite(name, users),
+            None => self.is_lost = true,
+        }
+    }
+
+    /// Counts a row again that uses this name, if it uses one, without memory: the name came before.
+    pub fn put_back(&mut self, name: Option<Name>)
+        ensures moves { Moves nothing (uses_one name) self.old self.new }
+        ensures kept { IfSome name (λ own. (came own self.old ≡ true) × (users_under own self.old + 1 < 2 ^ 32))
+            → self.new.is_lost ≡ self.old.is_lost }
+    {
+        let Some(name) = name else {
+            return;
+        };
+        if self.is_lost {
+            return;
+        }
+        if !self.used.contains(&name) {
+            self.is_lost = true;
+            return;
+        }
+        match self.users(&name).checked_add(1) {
+            Some(users) => self.rewrite(name, users),
             None => self.is_lost = true,
         }
     }
@@ -140,5 +172,14 @@ impl NameTally {
             Ok(()) => (),
             Err(NoMemory) => self.is_lost = true,
         }
+    }
+
+    // Writes how many rows use a name that came before, without memory.
+    fn rewrite(&mut self, name: Name, users: u32)
+        requires { came name self.old ≡ true }
+        ensures written { IsWritten name users self.old self.new }
+        ensures kept { self.new.is_lost ≡ self.old.is_lost }
+    {
+        self.used.change(&name, |used| used.users = users);
     }
 }

@@ -1,4 +1,4 @@
-use Rattle.std.proofs.Common.{◌≡◌, ℕ, ℤ, ◌≤◌, Result, Err, List, [], length, map, Contains, sym, ap, subst}
+use Rattle.std.proofs.Common.{◌≡◌, ℕ, ℤ, ◌≤◌, Vec, Global, Result, Err, List, [], length, map, Contains, sym, ap, subst}
 use Rattle.std.specs.Option.{option_map}
 use Rattle.scr_funds.specs.Paths.{path_within}
 use Rattle.scr_graph.specs.Answers.{Answers as Told}
@@ -22,7 +22,7 @@ check-requires c =
     (components_entered sheet graph c.requires.graph c.args.name.now c.args.components.now c.requires.known c.requires.kind)
 
 -- what the graph answers, of components read as a slice, is what the funds of the sheet say
-told : (sheet : BalanceSheet) (graph : Graph) (is : IsGraphOf sheet graph) (name : List ℕ) (components read : List (List ℕ × ℤ)) (result : Result (Unit {0}) GraphFault) → read ≡ components
+told : {A : Type 0} (sheet : BalanceSheet) (graph : Graph) (is : IsGraphOf sheet graph) (name : List ℕ) (components read : List (List ℕ × ℤ)) (result : Result A GraphFault) → read ≡ components
     → ((most : ℕ) (holders : List (List ℕ)) → ((x : List ℕ) → ¬ (components_after name read graph x ≡ []) → Contains holders x) → length holders ≤ most → Told (path_within same_name (components_after name read graph) most name name) result)
     → let funds : List Stake = with_fund name components sheet.funds in Told (path_within same_name (components_of funds) (length funds) name name) result
 told sheet graph is name components read result same answer =
@@ -50,4 +50,4 @@ returns-in-Err-Cycle c =
     let all = told sheet c.args.graph.now is c.args.name.now c.args.components.now c.as_slice.result.now c.check.result c.as_slice.ensures c.check.ensures.answer in
     let funds : List Stake = with_fund c.args.name.now c.args.components.now sheet.funds in
     let due = path_within same_name (components_of funds) (length funds) c.args.name.now c.args.name.now in
-    ap (option_map (λ path. faults.Cycle path)) (subst (λ fault. Told {A = Unit {0}} due (Err fault)) c.in-Err-Cycle.field-0-is (subst (Told due) c.in-Err-Cycle.is all))
+    ap (option_map (λ path. faults.Cycle path)) (subst (λ fault. Told {A = Vec ℕ Global} due (Err fault)) c.in-Err-Cycle.field-0-is (subst (Told due) c.in-Err-Cycle.is all))

@@ -1,4 +1,5 @@
-use Rattle.std.proofs.Common.{◌≡◌, sym, subst}
+use Rattle.std.proofs.Common.{◌≡◌, Option, sym, subst}
+use Rattle.scr_graph.specs.declared.kept.KeptComponents.{KeptComponents}
 use Rattle.scr_sheet.specs.Earlier.{with_earlier, FitsIn, LeadsBack}
 use Rattle.scr_sheet.specs.Records.{applied}
 use Rattle.scr_sheet.specs.Validity.{Valid}
@@ -14,9 +15,9 @@ use Rattle.scr_book.proofs.Applied.{sums_now}
 use Rattle.scr_book.proofs.ledger.Ledger.before.Goals as goal
 
 -- what led back from the kept sheet leads back to what contracts see
-module _ (book : Inside) (now : BalanceSheet) (view : book.sheet ≡ now) (kept : IsKept book) (earlier : Earlier) (edit : Edit) (led : LeadsBack earlier edit book.sheet) where
+module _ (book : Inside) (now : BalanceSheet) (view : book.sheet ≡ now) (kept : IsKept book) (earlier : Earlier) (components : Option KeptComponents) (edit : Edit) (led : LeadsBack earlier edit book.sheet) where
   abbrev undo : Undo
-  undo = record { earlier = earlier; sums = book.sums }
+  undo = record { earlier = earlier; sums = book.sums; components = components }
 
   led_back : back undo (applied edit now) ≡ now
   led_back = subst (λ (s : BalanceSheet). with_earlier earlier (applied edit s) ≡ s) view led.back
@@ -32,7 +33,7 @@ pub before-requires : goal.before-requires
 before-requires c = c.self.invariant.valid
 
 pub returns-clause-back : goal.returns-clause-back
-returns-clause-back c = led_back c.self.inside c.args.self.now c.self.view_is c.self.invariant c.in_ok-earlier.earlier c.args.edit.now c.in_ok-earlier.ensures
+returns-clause-back c = led_back c.self.inside c.args.self.now c.self.view_is c.self.invariant c.in_ok-earlier.earlier c.in_ok-components.components c.args.edit.now c.in_ok-earlier.ensures
 
 pub returns-clause-fits : goal.returns-clause-fits
-returns-clause-fits c = led_fits c.self.inside c.args.self.now c.self.view_is c.self.invariant c.in_ok-earlier.earlier c.args.edit.now c.in_ok-earlier.ensures
+returns-clause-fits c = led_fits c.self.inside c.args.self.now c.self.view_is c.self.invariant c.in_ok-earlier.earlier c.in_ok-components.components c.args.edit.now c.in_ok-earlier.ensures

@@ -7,4 +7,4 @@ use Rattle.scr_book.proofs.users.Users.take.Goals as goal
 pub returns-clause-names : goal.returns-clause-names
 returns-clause-names c =
     moves-same _ _ (λ name. of_name name c.args.uses) nothing c.args.self.now.names c.take.new.self (λ n. let whole = ap (of_name n) c.uses.view_is in omega (arith, whole))
-    (moves-both (uses_each c.uses.inside.components.now) nothing (uses_one c.uses.inside.group) nothing c.args.self.now.names c.take_each.new.self c.take.new.self c.take_each.ensures c.take.ensures)
+    (moves-both (uses_each c.uses.inside.components.now) nothing (uses_one c.uses.inside.group) nothing c.args.self.now.names c.take_each.new.self c.take.new.self c.take_each.ensures c.take.ensures.moves)

@@ -7,7 +7,7 @@ use Rattle.scr_graph.proofs.Graphs.{Sound, sound-from_inside, carried, apart_nam
 use Rattle.scr_graph.proofs.graph.FundGraph.check.Goals as goal
 
 -- with no chain among the numbers there is none among the names
-none : (c : goal.After-drop-numbers) → ¬ LeadsTo
+none : (c : goal.In-Ok-check_edges) → ¬ LeadsTo
     (components_with (number_in c.args.self.now.names c.args.fund.now)
     (map (λ x. number_in c.args.self.now.names x.0) c.args.components.now) c.args.self.now.components)
     (number_in c.args.self.now.names c.args.fund.now) (number_in c.args.self.now.names c.args.fund.now)
