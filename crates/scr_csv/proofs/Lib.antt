@@ -1,4 +1,5 @@
 pub mod Cuts
+pub mod Fronts
 pub mod TextLines
 pub mod Steps
 pub mod ListSteps

@@ -1,6 +1,6 @@
 -- How a line is split into fields: csv's way is a cut at the commas where there is no double quote.
 use Rattle.std.proofs.Common.{◌≡◌, ℕ, ◌+◌, ◌≤◌, ◌<◌, ◌==◌, Bool, true, false, cond, List, [], ◌∷◌, ◌++◌, length, Option, Some, None, refl, ap, ◌∙◌, append_assoc, arith, length-append, inl, inr}
-use Rattle.std.specs.Prelude.{nat_le}
+use Rattle.std.specs.Prelude.{nat_le, not}
 use Rattle.std.specs.List.{list_all, list_any, onto_first}
 use Rattle.std.proofs.lemmas.Bool.{cases_Bool, and_parts, or_parts}
 use Rattle.std.proofs.lemmas.List.{append-nil}
@@ -10,8 +10,9 @@ use Rattle.csv.specs.declared.parser.State.{State}
 use Rattle.csv.specs.declared.parser.State.TheVariants as state
 use Rattle.csv.specs.declared.parser.Action.{Action}
 use Rattle.csv.specs.declared.parser.Action.TheVariants as action
-use Rattle.scr_csv.specs.LineFields.{fields_read, line_fields, is_printed, is_quote}
-use Rattle.scr_csv.specs.Sources.{pieces}
+use Rattle.scr_spelling.proofs.FormLemmas.{list_all-weaker}
+use Rattle.scr_csv.specs.LineFields.{fields_read, line_fields, is_printed, is_quote, is_plain}
+use Rattle.scr_csv.specs.Parts.{pieces}
 use Rattle.scr_csv.specs.Splits.{joined}
 
 printed_other : (b n : ℕ) → is_printed b ≡ true → nat_le 0x20 n ≡ false → (b == n) ≡ false
@@ -132,7 +133,23 @@ pub few_fields : (text : List ℕ) → length (line_fields text) ≤ length text
 unfolding line_fields
 few_fields text = omega (arith, few_read state.StartRecord [] [] text)
 
--- A line with a quote is not empty.
-pub quoted_filled : (text : List ℕ) → list_any is_quote text ≡ true → 0 < length text
-quoted_filled [] h = absurd (cc)
-quoted_filled (c ∷ rest) h = omega arith
+-- ---- plain lines
+
+plain_parts : (b : ℕ) → is_plain b ≡ true → (is_printed b ≡ true) × (is_quote b ≡ false)
+plain_parts b h =
+    let parts = and_parts (is_printed b) (not (is_quote b)) h in
+    (parts.0, grind (arith, parts.1))
+
+pub plain_printed : (text : List ℕ) → list_all is_plain text ≡ true → list_all is_printed text ≡ true
+plain_printed text plain = list_all-weaker is_plain is_printed (λ b h. (plain_parts b h).0) text plain
+
+pub plain_unquoted : (text : List ℕ) → list_all is_plain text ≡ true → list_any is_quote text ≡ false
+plain_unquoted [] plain = refl
+plain_unquoted (b ∷ text) plain =
+    let parts = and_parts (is_plain b) (list_all is_plain text) plain in
+    rw (plain_parts b parts.0).1 (plain_unquoted text parts.1)
+
+-- another is not empty
+pub other_filled : (text : List ℕ) → list_all is_plain text ≡ false → 0 < length text
+other_filled [] h = absurd (cc)
+other_filled (c ∷ rest) h = omega arith

@@ -12,7 +12,7 @@ use Rattle.scr_csv.specs.declared.{split.Place.Place, split.Action.Action}
 use Rattle.scr_csv.specs.declared.split.Place.TheVariants as places
 use Rattle.scr_csv.specs.declared.split.Action.TheVariants as actions
 use Rattle.scr_csv.specs.LineFields.{fields_read, line_fields, is_printed}
-use Rattle.scr_csv.specs.Sources.{parts}
+use Rattle.scr_csv.specs.Parts.{parts}
 use Rattle.scr_csv.specs.Splits.{state_of, action_of, reads, joined, Copied}
 use Rattle.scr_csv.proofs.Cuts.{pieces_left}
 use Rattle.scr_csv.proofs.LineSplit.{printed_at, joined-onto}

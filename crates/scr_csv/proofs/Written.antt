@@ -25,7 +25,7 @@ use Rattle.scr_csv.specs.LineFields.{is_printed, is_quote}
 use Rattle.scr_csv.specs.Reading.{next, field, only, numbers_from, pairs_from}
 use Rattle.scr_csv.specs.Records.{any_record, record_of, edit_of_line}
 use Rattle.scr_csv.specs.RecordTexts.{flow_fields, component_fields, next_field, record_text, edit_verb, edit_fields, edit_text}
-use Rattle.scr_csv.specs.Sources.{pieces}
+use Rattle.scr_csv.specs.Parts.{pieces}
 use Rattle.scr_csv.specs.Verbs.{verb_word, all_verbs}
 use Rattle.scr_csv.proofs.LineSplit.{line_fields-not_empty}
 use Rattle.scr_csv.proofs.Refusals.{from}

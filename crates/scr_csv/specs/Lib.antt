@@ -3,6 +3,7 @@ pub mod LineOrder
 pub mod Verbs
 pub mod LineFields
 pub mod Reading
+pub mod Parts
 pub mod Sources
 pub mod Splits
 pub mod Records

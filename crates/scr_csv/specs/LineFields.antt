@@ -1,6 +1,6 @@
 -- The fields of a line (this project's own): those that csv gives for the line alone, without headers and without
 -- trimming.
-use Rattle.std.specs.Prelude.{ℕ, Bool, ◌&&◌, ◌==◌, List, [], Option, Some, None, nat_le}
+use Rattle.std.specs.Prelude.{ℕ, Bool, not, ◌&&◌, ◌==◌, List, [], Option, Some, None, nat_le}
 use Rattle.csv.specs.Machine.{Read, next_record}
 use Rattle.csv.specs.Reading.{default_config}
 use Rattle.csv.specs.declared.parser.State.TheVariants as state
@@ -21,3 +21,7 @@ is_printed b = nat_le 0x20 b && nat_le b 0x7E
 -- a double quote
 abbrev pub is_quote : ℕ → Bool
 is_quote b = b == 34
+
+-- a byte that stands for itself in a line
+abbrev pub is_plain : ℕ → Bool
+is_plain b = is_printed b && not (is_quote b)

@@ -9,7 +9,7 @@ use Rattle.csv.specs.declared.parser.Action as of_csv
 use Rattle.scr_csv.specs.declared.{split.Place.Place, split.Action.Action}
 use Rattle.scr_csv.specs.declared.split.Place.TheVariants as places
 use Rattle.scr_csv.specs.declared.split.Action.TheVariants as actions
-use Rattle.scr_csv.specs.Sources.{parts}
+use Rattle.scr_csv.specs.Parts.{parts}
 
 abbrev pub state_of : Place → State
 state_of places.Start = state.StartField

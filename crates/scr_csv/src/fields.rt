@@ -15,7 +15,7 @@ ghost use Rattle.scr_csv.specs.Kept.{kept_members};
 ghost use Rattle.scr_csv.specs.Reading.{field, next, only, found_to, read_to, made, numbers_from};
 ghost use Rattle.scr_csv.specs.Reading.{pairs_from, Answers};
 ghost use Rattle.scr_csv.specs.LineFields.{line_fields, is_printed, is_quote};
-ghost use Rattle.scr_csv.specs.Sources.{parts};
+ghost use Rattle.scr_csv.specs.Parts.{parts};
 ghost use Rattle.scr_spelling.specs.Words.{value_of};
 
 use crate::LineFault;
@@ -94,6 +94,11 @@ impl<'a> Fields<'a> {
         ensures value { read_to result self.new ≡ next day_of_text self.old }
         ensures formed { IfOk result (λ day. IsDay day.number) }
     {
+        if let Some((day, rest)) = self.source.day() {
+            self.source = rest;
+            self.number += 1;
+            return Ok(day);
+        }
         let (number, field) = self.field()?;
         parse_day(field).ok_or(LineFault::Syntax(number))
     }
@@ -126,6 +131,11 @@ impl<'a> Fields<'a> {
         ensures value { read_to result self.new ≡ next number_value self.old }
         ensures formed { IfOk result formed.IsNumber }
     {
+        if let Some((value, rest)) = self.source.number() {
+            self.source = rest;
+            self.number += 1;
+            return Ok(value);
+        }
         let (number, field) = self.field()?;
         read_number(field).ok_or(LineFault::Syntax(number))
     }
@@ -168,7 +178,7 @@ impl<'a> Fields<'a> {
     pub fn is_at_end(&self) -> bool
         ensures { IsTrue result ↔ (self.now.fields ≡ []) }
     {
-        self.source.first().is_none()
+        self.source.is_at_end()
     }
 
     /// The record, where no field is left.

@@ -8,7 +8,7 @@ ghost use Rattle.scr_csv.specs.Records.{edit_of_line};
 use crate::LineFault;
 use crate::fields::Fields;
 use crate::records::read_record;
-use crate::split::{has_quote, is_printed, unquoted};
+use crate::split::{is_plain, is_printed, unquoted};
 use scr_sheet::Edit;
 use std::alloc::Global;
 
@@ -28,12 +28,12 @@ pub fn read_line(alloc: Global, text: &[u8]) -> Result<Edit, LineFault>
     ensures answer { Answers (made kept (edit_of_line text.now)) result }
     ensures formed { IfOk result Formed }
 {
+    if is_plain(text) {
+        return read_record(alloc, &mut Fields::of_text(text));
+    }
     if !is_printed(text) {
         return Err(LineFault::Syntax(0));
     }
-    if has_quote(text) {
-        let copy = unquoted(alloc, text)?;
-        return read_record(alloc, &mut Fields::of_copy(&copy));
-    }
-    read_record(alloc, &mut Fields::of_text(text))
+    let copy = unquoted(alloc, text)?;
+    read_record(alloc, &mut Fields::of_copy(&copy))
 }

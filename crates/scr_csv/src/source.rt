@@ -1,9 +1,19 @@
 //! Where the fields of a line come from.
-ghost use Rattle.std.specs.Prelude.{◌≡◌, [], ◌∷◌, ◌<◌, ◌==◌, length, position, true, false, IfNone};
-ghost use Rattle.std.specs.Prelude.{IfSome};
+ghost use Rattle.std.specs.Prelude.{◌≡◌, ◌↔◌, [], ◌∷◌, ◌+◌, ◌<◌, ◌≤◌, ◌==◌, length, position, true, false};
+ghost use Rattle.std.specs.Prelude.{IfNone, IfSome, IsTrue, Some, take};
 ghost use Rattle.std.specs.List.{list_all, list_any};
+ghost use Rattle.scr_dates.specs.Civil.{IsDay};
+ghost use Rattle.scr_dates.specs.Text.{day_of_text};
+ghost use Rattle.scr_sheet.specs.Forms as formed;
+ghost use Rattle.scr_spelling.specs.Numbers.{number_value};
 ghost use Rattle.scr_csv.specs.LineFields.{line_fields, is_printed, is_quote};
-ghost use Rattle.scr_csv.specs.Sources.{parts, behind};
+ghost use Rattle.scr_csv.specs.Parts.{parts, behind};
+
+use scr_dates::{Day, parse_day};
+use scr_spelling::leading_number;
+
+/// How many bytes the text of a day has.
+const DAY_LEN: usize = 10;
 
 /// The fields that are left of a text in which a certain byte stands between two fields, and nowhere
 /// else; where none is left, there is no text.
@@ -11,10 +21,13 @@ ghost use Rattle.scr_csv.specs.Sources.{parts, behind};
 pub struct Source<'a> {
     end: u8,
     rest: Option<&'a [u8]>,
+    // It is neither a digit nor a dash.
+    ghost low: { end < 45 },
 }
 
 impl<'a> Source<'a> {
     ghost use Rattle.scr_csv.specs.Sources.{fields_in};
+    ghost use Rattle.scr_csv.specs.Parts.{first_as};
 
     /// The fields of a line that has no double quote. An empty line has none.
     pub fn of_text(text: &'a [u8]) -> Source<'a>
@@ -44,6 +57,55 @@ impl<'a> Source<'a> {
         }
     }
 
+    /// Whether no field is left.
+    pub fn is_at_end(self) -> bool
+        ensures { IsTrue result ↔ (fields_in self.entry ≡ []) }
+    {
+        self.rest.is_none()
+    }
+
+    /// The day that the first field spells, and the fields after it. Its end is looked for behind ten bytes that spell
+    /// one, and nowhere else.
+    pub fn day(self) -> Option<(Day, Source<'a>)>
+        ensures value { IfSome result
+            (λ read. first_as day_of_text (fields_in self.entry) ≡ Some (read.0, fields_in read.1)) }
+        ensures shorter { IfSome result
+            (λ read. length (fields_in read.1) + 1 ≡ length (fields_in self.entry)) }
+        ensures formed { IfSome result (λ read. IsDay read.0.number) }
+    {
+        let text = self.rest?;
+        let day = parse_day(text.get(..DAY_LEN)?)?;
+        let rest = behind_first(text, self.end, DAY_LEN)?;
+        Some((
+            day,
+            Source {
+                end: self.end,
+                rest,
+            },
+        ))
+    }
+
+    /// The number that the first field spells, and the fields after it, where the number has no sign. Its end is looked
+    /// for behind the digits in front, and nowhere else.
+    pub fn number(self) -> Option<(i64, Source<'a>)>
+        ensures value { IfSome result
+            (λ read. first_as number_value (fields_in self.entry) ≡ Some (read.0, fields_in read.1)) }
+        ensures shorter { IfSome result
+            (λ read. length (fields_in read.1) + 1 ≡ length (fields_in self.entry)) }
+        ensures formed { IfSome result (λ read. formed.IsNumber read.0) }
+    {
+        let text = self.rest?;
+        let (number, digits) = leading_number(text)?;
+        let rest = behind_first(text, self.end, digits)?;
+        Some((
+            number,
+            Source {
+                end: self.end,
+                rest,
+            },
+        ))
+    }
+
     /// The first field, and those after it.
     pub fn first(self) -> Option<(&'a [u8], Source<'a>)>
         ensures none { IfNone result (fields_in self.entry ≡ []) }
@@ -58,6 +120,21 @@ impl<'a> Source<'a> {
                 rest,
             },
         ))
+    }
+}
+
+/// What follows a first field of so many bytes, none of which ends a field. None where the field has more.
+fn behind_first(text: &[u8], end: u8, count: usize) -> Option<Option<&[u8]>>
+    requires within { count ≤ length text.now }
+    requires inside { list_any (λ b. b == end) (take count text.now) ≡ false }
+    ensures { IfSome result (λ rest. parts end text.now ≡ take count text.now ∷ behind end rest) }
+{
+    if count == text.len() {
+        Some(None)
+    } else if text[count] == end {
+        Some(Some(&text[count + 1..]))
+    } else {
+        None
     }
 }
 

@@ -3,28 +3,40 @@
 
 ghost use Rattle.std.specs.Prelude.{◌≡◌, ◌∷◌, ◌<◌, List, ℕ, length, true, IfOk};
 ghost use Rattle.std.specs.Prelude.{IfErr, OnOk};
-ghost use Rattle.std.specs.List.{list_all, list_any};
+ghost use Rattle.std.specs.List.{list_all};
 ghost use Rattle.csv.specs.Machine as machine;
 ghost use Rattle.csv.specs.Reading.{default_config};
 ghost use Rattle.csv.specs.declared.parser.State.TheVariants as state;
-ghost use Rattle.scr_csv.specs.LineFields.{line_fields, is_printed, is_quote};
-ghost use Rattle.scr_csv.specs.Sources.{parts};
+ghost use Rattle.scr_csv.specs.LineFields.{line_fields, is_plain, is_printed};
+ghost use Rattle.scr_csv.specs.Parts.{parts};
 ghost use Rattle.scr_csv.specs.Splits.{state_of, action_of, Copied};
 
 use crate::LineFault;
 use std::alloc::{AllocError as NoMemory, Global};
+
+/// Whether each byte is one from 20 to 7E and none is a double quote, so that commas alone split the line.
+pub fn is_plain(text: &[u8]) -> bool
+    ensures { result ≡ list_all is_plain text.now }
+{
+    // No byte ends the loop, so that many are tested at a time.
+    let mut plain = true;
+    for byte in text {
+        plain &= is_plain_byte(*byte);
+    }
+    plain
+}
+
+fn is_plain_byte(byte: u8) -> bool
+    ensures { result ≡ is_plain byte }
+{
+    (0x20..=0x7E).contains(&byte) && byte != b'"'
+}
 
 /// Whether each byte is one from 20 to 7E.
 pub fn is_printed(text: &[u8]) -> bool
     ensures { result ≡ list_all is_printed text.now }
 {
     text.iter().all(|b| (0x20..=0x7E).contains(b))
-}
-
-pub fn has_quote(text: &[u8]) -> bool
-    ensures { result ≡ list_any is_quote text.now }
-{
-    text.contains(&b'"')
 }
 
 /// Where the split of a line stands.

@@ -4,6 +4,8 @@ ghost use Rattle.std.specs.Prelude.{drop, position, IfSome};
 ghost use Rattle.std.specs.Str.Lines.{strip_carriage_return, lines as text_lines};
 ghost use Rattle.scr_csv.specs.Lines.{is_record as tells_a_record};
 
+use memchr::memchr;
+
 /// A record: the number of its line, from 1, and the line without its end.
 #[derive(Clone, Copy, Debug)]
 pub struct Line<'a> {
@@ -64,7 +66,7 @@ fn newline_at(bytes: &[u8]) -> Option<usize>
     ensures place { result ≡ position (λ b. b == 10) bytes.now }
     ensures within { IfSome result (λ end. end < length bytes.now) }
 {
-    bytes.iter().position(|b| *b == b'\n')
+    memchr(b'\n', bytes)
 }
 
 fn without_return(line: &[u8]) -> &[u8]

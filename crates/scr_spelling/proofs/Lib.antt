@@ -4,6 +4,7 @@ pub mod PlainTexts
 pub mod Spelled
 pub mod AbsorbKeys
 pub mod WrittenNumbers
+pub mod LeadingDigits
 pub mod Days
 pub mod WrittenDays
 pub mod WrittenForms

@@ -28,7 +28,7 @@ digits_found ds n all some few value =
 no_dash : (b : ℕ) → is_ascii_digit b ≡ true → (b == 45) ≡ false
 no_dash b h = grind (arith, h)
 
-unsigned_read : (ds : List ℕ) (n : ℕ) → list_all is_ascii_digit ds ≡ true → 0 < length ds → length ds ≤ 18
+pub unsigned_read : (ds : List ℕ) (n : ℕ) → list_all is_ascii_digit ds ≡ true → 0 < length ds → length ds ≤ 18
     → decimal_value ds ≡ n → number_value ds ≡ Some (pos n)
 unsigned_read [] n all some few value = absurd (omega (arith, some))
 unsigned_read (b ∷ bs) n all some few value =

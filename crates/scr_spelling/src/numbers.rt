@@ -1,7 +1,7 @@
 //! How numbers are read and written.
 ghost use Rattle.std.specs.Prelude.{◌≡◌, ◌++◌, ◌^◌, ◌<◌, ◌≤◌, length, IfSome, OnOk, unsigned_abs, true};
 ghost use Rattle.std.specs.Char.{is_ascii_digit};
-ghost use Rattle.std.specs.List.{list_all};
+ghost use Rattle.std.specs.List.{list_all, take_while};
 ghost use Rattle.scr_spelling.specs.Numbers as spelled;
 ghost use Rattle.scr_spelling.specs.Texts.{number_text};
 
@@ -58,6 +58,37 @@ fn decimal_value(digits: &[u8]) -> u64
         value = value * 10 + u64::from(*digit - b'0');
     }
     value
+}
+
+/// The number that the digits in front of a text spell, 18 of them at most, and how many they are.
+/// None where the text begins with no digit.
+pub fn leading_number(text: &[u8]) -> Option<(i64, usize)>
+    ensures value { result ≡ spelled.leading_number text.now }
+    ensures small { IfSome result (λ read. unsigned_abs read.0 < 10 ^ 18) }
+{
+    let front = &text[..text.len().min(MAX_DIGITS)];
+    let (value, count) = leading_digits(front);
+    if count == 0 {
+        None
+    } else {
+        Some((value as i64, count))
+    }
+}
+
+/// What the digits in front of a text of at most 18 bytes stand for, and how many they are.
+fn leading_digits(text: &[u8]) -> (u64, usize)
+    requires few { length text.now ≤ 18 }
+    ensures value { result.0 ≡ spelled.decimal_value (take_while is_ascii_digit text.now) }
+    ensures small { result.0 < 10 ^ 18 }
+    ensures count { result.1 ≡ length (take_while is_ascii_digit text.now) }
+{
+    let mut value = 0;
+    let mut count = 0;
+    'digits: while count < text.len() && text[count].is_ascii_digit() {
+        value = value * 10 + u64::from(text[count] - b'0');
+        count += 1;
+    }
+    (value, count)
 }
 
 /// Appends the number without leading zeros.

@@ -1,6 +1,6 @@
 -- The first field of a text, and what follows it.
 use Rattle.std.proofs.Common.{◌∷◌, ◌+◌, ◌∙◌, ap, sym, take}
-use Rattle.scr_csv.specs.Sources.{parts}
+use Rattle.scr_csv.specs.Parts.{parts}
 use Rattle.scr_csv.proofs.Cuts.{cut_at, cut_nowhere}
 use Rattle.scr_spelling.proofs.FormLemmas.{all_left}
 use Rattle.scr_csv.proofs.source.first_field.Goals as goal
