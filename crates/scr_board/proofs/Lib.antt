@@ -3,6 +3,7 @@ pub mod Allowed
 pub mod Seats
 pub mod Puts
 pub mod Figures
+pub mod Fitting
 pub mod Passing
 pub mod Opening
 pub mod Stacks

@@ -1,5 +1,5 @@
 -- What a pass knows stays known after each call.
-use Rattle.std.proofs.Common.{◌≡◌, ℕ, ◌<◌, Option, Some, None, get_or, slice_get, refl, sym, ap, ◌∙◌, subst, arith}
+use Rattle.std.proofs.Common.{◌≡◌, ℕ, ◌<◌, List, [], ◌∷◌, Option, Some, None, get_or, slice_get, refl, sym, ap, ◌∙◌, subst, arith}
 use Rattle.std.specs.List.{AllByRecursion}
 use Rattle.scr_num.specs.Rounding.{Ends}
 use Rattle.scr_round.specs.declared.lists.Progress.{Progress}
@@ -11,8 +11,9 @@ use Rattle.scr_board.specs.declared.board.Pass.{Pass}
 use Rattle.scr_board.specs.declared.views.View.{View}
 use Rattle.scr_board.specs.Passes.{IsFigureAt, IsPassOf, IsSeatOf, IsUnstored, progress, puts, view}
 use Rattle.scr_board.specs.Views.{view_drawn, view_stored, with_progress}
-use Rattle.scr_board.specs.Words.{words_of}
+use Rattle.scr_board.specs.Words.{AreEnds, lower, upper}
 use Rattle.scr_board.proofs.Figures.{figure-word}
+use Rattle.scr_board.proofs.Fitting.{span-words}
 use Rattle.scr_board.proofs.Puts.{first_left, none_yet, second_left, third_left, unstored-without, writes-four}
 
 module _ (board : Board) (old new : Pass) (h : IsPassOf board old) (seat : IsSeatOf board new.seat) where
@@ -40,10 +41,11 @@ module _ (board : Board) (old new : Pass) (h : IsPassOf board old) (seat : IsSea
 
 -- ---- the stores of a put
 
-module _ (v : View) (n : ℕ) (figure : Ends) (at : IsFigureAt v.round n figure) where
+module _ (v : View) (n : ℕ) (figure : Ends) (are : AreEnds figure) (at : IsFigureAt v.round n figure) where
   -- the listed word is that of the figure
-  pub listed : (j x : ℕ) → x ≡ get_or (words_of figure) j 0 → x ≡ word_of v.round n j
-  listed j x is = is ∙ sym (figure-word at.0 v.round n j figure at.1 at.2)
+  pub listed : (j x : ℕ) → x ≡ get_or (upper figure.low ∷ lower figure.low ∷ upper figure.high ∷ lower figure.high ∷ []) j 0 → x ≡ word_of v.round n j
+  listed j x is =
+      is ∙ sym (ap (λ (ws : List ℕ). get_or ws j 0) (span-words figure are)) ∙ sym (figure-word at.0 v.round n j figure at.1 at.2)
 
 module _ (v : View) (n : ℕ) (h : AllByRecursion IsUnstored v.progress.hand) (pos : 0 < holds n v.progress.hand) where
   -- the views after each store of a put

@@ -15,7 +15,7 @@ use Rattle.scr_board.specs.Rule.{AreAllWorked, Holds}
 use Rattle.scr_board.specs.Views.{word_at}
 use Rattle.scr_board.specs.Words.{words_of}
 use Rattle.scr_board.proofs.Allowed.{final_worked}
-use Rattle.scr_board.proofs.Figures.{figure-ends, figure-word}
+use Rattle.scr_board.proofs.Figures.{figure-word}
 use Rattle.scr_board.proofs.Seats.{count-lists}
 
 -- what the joined seat leaves
@@ -34,7 +34,6 @@ module _ (round : BoardRound) (words put : List ℕ) (worked : AreAllWorked (lis
       let count = count-lists round in
       let low : n < count_of (lists_of round) = omega (arith, count, node) in
       record {
-        ends = figure-ends round.worked n e formed.ends at;
         first = word n e at low 0 (5 * n + 2) (omega arith) (omega arith);
         second = word n e at low 1 (5 * n + 3) (omega arith) (omega arith);
         third = word n e at low 2 (5 * n + 4) (omega arith) (omega arith);

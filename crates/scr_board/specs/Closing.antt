@@ -10,7 +10,7 @@ use Rattle.scr_board.specs.declared.board.Pass.{Pass}
 use Rattle.scr_board.specs.declared.views.View.{View}
 use Rattle.scr_board.specs.Passes.{IsSeatOf, progress}
 use Rattle.scr_board.specs.Rounds.{BoardRound, IsBoardRound, lists_of}
-use Rattle.scr_board.specs.Words.{AreEnds, lower, upper}
+use Rattle.scr_board.specs.Words.{words_of}
 use Rattle.scr_board.specs.Working.{IsDone}
 
 -- all passes of a board are at their end
@@ -37,8 +37,7 @@ pub record HasJoined (board : Board) (round : BoardRound) (all rest : List Pass)
 
 -- the words of the node n are those of a figure
 pub record IsShown (words : List ℕ) (n : ℕ) (figure : Ends) : Type 0 where
-  pub ends : AreEnds figure
-  pub first : slice_index words (5 * n + 2) ≡ upper figure.low
-  pub second : slice_index words (5 * n + 3) ≡ lower figure.low
-  pub third : slice_index words (5 * n + 4) ≡ upper figure.high
-  pub fourth : slice_index words (5 * n + 5) ≡ lower figure.high
+  pub first : slice_index words (5 * n + 2) ≡ slice_index (words_of figure) 0
+  pub second : slice_index words (5 * n + 3) ≡ slice_index (words_of figure) 1
+  pub third : slice_index words (5 * n + 4) ≡ slice_index (words_of figure) 2
+  pub fourth : slice_index words (5 * n + 5) ≡ slice_index (words_of figure) 3

@@ -4,7 +4,7 @@ use Rattle.std.specs.List.{AllByRecursion}
 use Rattle.scr_num.specs.Rounding.{Ends}
 use Rattle.scr_round.specs.declared.lists.Round.{Round}
 use Rattle.scr_round.specs.Rounds.{IsFormed}
-use Rattle.scr_board.specs.Words.{AreEnds, words_of}
+use Rattle.scr_board.specs.Words.{words_of}
 
 -- a known figure, or a node
 pub data Spot : Type 0 where
@@ -49,7 +49,7 @@ abbrev pub IsRoundWorked : (ℕ → List Ends → Ends) → BoardRound → Type 
 IsRoundWorked rule round = (n : ℕ) (got : List Ends) → n < length round.places → AreGiven round n got
     → slice_get round.worked n ≡ Some (rule n got)
 
--- The nodes form a round, their figures are within 128 bits, and all is few enough to be counted in 32 bits.
+-- The nodes form a round, each has a figure, and all is few enough to be counted in 32 bits.
 pub record IsBoardRound (round : BoardRound) : Type 0 where
   pub form : IsFormed (lists_of round)
   pub long : length round.worked ≡ length round.places
@@ -57,4 +57,3 @@ pub record IsBoardRound (round : BoardRound) : Type 0 where
   pub few : length round.places < 2 ^ 32
   pub few_places : AllByRecursion (λ row. length row < 2 ^ 32) round.places
   pub few_dependants : AllByRecursion (λ row. length row < 2 ^ 32) round.dependants
-  pub ends : AllByRecursion AreEnds round.worked

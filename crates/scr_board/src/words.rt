@@ -10,6 +10,7 @@ const HALF: u128 = 1 << 127;
 pub(crate) fn halves(end: &i128) -> (u64, u64)
     ensures upper { result.0 ≡ upper end.now }
     ensures lower { result.1 ≡ lower end.now }
+    ensures within { IsWithin end.now }
 {
     let end = *end;
     let raised = if end < 0 {

@@ -12,11 +12,13 @@ use Rattle.scr_sheet.specs.declared.sheet.BalanceSheet.{BalanceSheet}
 use Rattle.scr_sheet.specs.Validity.{Valid}
 use Rattle.scr_nodes.specs.declared.node.Node.{Node}
 use Rattle.scr_nodes.specs.Live.{is_live}
-use Rattle.scr_rules.specs.Exact.{exact, unit_of}
+use Rattle.scr_exact.specs.Exact.{exact, exact_outcomes, unit_of}
 use Rattle.scr_rules.specs.Worked.{worked}
-use Rattle.scr_rules.proofs.Enclosures.{is_of_market, market-node-encloses, node-encloses}
+use Rattle.scr_rules.specs.Close.{close_under}
+use Rattle.scr_exact.proofs.Enclosed.{market-node-encloses, node-encloses, outcomes-enclosed}
+use Rattle.scr_exact.proofs.Enclosures.{is_of_market}
 use Rattle.scr_cells.specs.Block.{lower_bound, upper_bound}
-use Rattle.scr_cells.specs.Certified.{Certified, IsBounded, KeepsWidth}
+use Rattle.scr_cells.specs.Certified.{Certified, IsBounded, KeepsWidth, RestsOnNearChoice}
 use Rattle.scr_cells.specs.Table.{NamedFigure, market_cells, table}
 use Rattle.scr_cells.proofs.LiveCells.{IsLive, IsStated, all-pass, all_live, all_stated, in_grains}
 use Rattle.scr_widths.specs.Widths.{stated_width}
@@ -66,6 +68,10 @@ module _ (factors : FactorValues) (sheet : BalanceSheet) (valid : Valid sheet) w
       bounded_by cell.node (eqb-true (unit_of cell.node) 1000 grains) shown (market-node-encloses factors sheet valid cell.node of_market))
       (all-pass (λ (cell : NamedFigure). is_of_market cell.node && ((unit_of cell.node == 1000) && is_some (exact factors sheet cell.node))) market_cells refl)
 
+  -- a figure that is close rests on a choice between alternatives that are near
+  pub rests : (node : Node) → close_under factors sheet node ≡ true → RestsOnNearChoice factors sheet node
+  rests node close = rests-near factors sheet valid (exact_outcomes sheet) (outcomes-enclosed factors sheet valid) node close
+
 module _ (factors : FactorValues) (known : IsInForm factors) (sheet : BalanceSheet) (valid : Valid sheet) where
   bounded : (node : Node) → is_live sheet node ≡ true → unit_of node ≡ 1000 → is_some (exact factors sheet node) ≡ true
       → IsBounded factors sheet node
@@ -86,7 +92,7 @@ module _ (factors : FactorValues) (known : IsInForm factors) (sheet : BalanceShe
         width = width.0;
         stated = width.1;
         narrow = λ clear. (cents-kept factors known sheet valid node live clear width.0 width.1).apart;
-        near = rests-near factors sheet valid node;
+        near = rests factors sheet valid node;
       }
 
   all_kept : AllByRecursion (λ (cell : NamedFigure). KeepsWidth factors sheet cell.node) table

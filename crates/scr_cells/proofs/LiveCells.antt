@@ -6,7 +6,7 @@ use Rattle.std.specs.List.{AllByRecursion, list_all}
 use Rattle.scr_names.proofs.TableRows.{All-map}
 use Rattle.scr_sheet.specs.declared.sheet.BalanceSheet.{BalanceSheet}
 use Rattle.scr_nodes.specs.Live.{is_live}
-use Rattle.scr_rules.specs.Exact.{unit_of}
+use Rattle.scr_exact.specs.Exact.{unit_of}
 use Rattle.scr_cells.specs.Table.{NamedFigure, table}
 use Rattle.scr_widths.specs.Widths.{stated_width}
 

@@ -6,10 +6,10 @@ use Rattle.scr_num.specs.Figure.{Figure}
 use Rattle.scr_factors.specs.Values.{FactorValues}
 use Rattle.scr_sheet.specs.declared.sheet.BalanceSheet.{BalanceSheet}
 use Rattle.scr_nodes.specs.declared.node.Node.{Node}
-use Rattle.scr_rules.specs.Exact.{exact}
+use Rattle.scr_exact.specs.Exact.{exact, exact_outcomes}
 use Rattle.scr_cells.specs.Block.{bounds_at}
 use Rattle.scr_cells.specs.Table.{table}
-use Rattle.scr_widths.specs.Choices.{RestsOnNearChoice}
+use Rattle.scr_widths.specs.Choices as choices
 use Rattle.scr_widths.specs.Widths.{stated_width}
 
 -- the figure has an exact one, which its printed bounds enclose, in cents
@@ -17,6 +17,10 @@ abbrev pub IsBounded : FactorValues → BalanceSheet → Node → Type 0
 IsBounded factors sheet node =
     (figure : Figure) × (exact factors sheet node ≡ Some figure)
     × Encloses 1 (bounds_at factors sheet node).low (bounds_at factors sheet node).high figure
+
+-- the figure rests on a choice between alternatives that are near by what they come to exactly
+abbrev pub RestsOnNearChoice : FactorValues → BalanceSheet → Node → Type 0
+RestsOnNearChoice factors sheet node = choices.RestsOnNearChoice factors sheet (exact_outcomes sheet) node
 
 -- The printed bounds are no further apart than the figure's stated width, in cents, unless it is marked close: it then rests
 -- on a choice between alternatives that are near.

@@ -3,9 +3,9 @@ ghost use Rattle.std.specs.Prelude.{◌≡◌, ◌<◌, ◌++◌, ◌+ℤ◌, �
 ghost use Rattle.std.specs.Prelude.{if◌then◌else◌, slice_get, IfOk, OnOk, Some};
 ghost use Rattle.scr_nodes.specs.Live.{is_live};
 ghost use Rattle.scr_cells.specs.Block.{block_text, cell_at, cell_line, cell_of, requirement_line};
+ghost use Rattle.scr_cells.specs.Certified.{RestsOnNearChoice};
 ghost use Rattle.scr_cells.specs.Shown.{node_of};
 ghost use Rattle.scr_cells.specs.Table.{NamedFigure, seen, table};
-ghost use Rattle.scr_widths.specs.Choices.{RestsOnNearChoice};
 ghost use Rattle.scr_widths.specs.Widths.{stated_width};
 
 use crate::bounds::{Bounds, bounds_at};

@@ -6,7 +6,7 @@ ghost use Rattle.scr_factors.specs.Values.{FactorValues, IsInForm};
 ghost use Rattle.scr_sheet.specs.declared.sheet.BalanceSheet.{BalanceSheet};
 ghost use Rattle.scr_sheet.specs.Validity.{Valid};
 ghost use Rattle.scr_nodes.specs.Live.{is_live};
-ghost use Rattle.scr_rules.specs.Exact.{unit_of};
+ghost use Rattle.scr_exact.specs.Exact.{unit_of};
 ghost use Rattle.scr_cells.specs.Certified.{Certified, IsBounded};
 ghost use Rattle.scr_cells.specs.Table.{market_cells, table};
 ghost use Rattle.scr_cells.specs.declared.table.TheConstants.{CELL_COUNT};

@@ -5,3 +5,9 @@ pub mod Live
 pub mod Moved
 pub mod Recorded
 pub mod Filled
+pub mod WholeOrder
+pub mod Leveled
+pub mod Entering
+pub mod GatheredRows
+pub mod Zipped
+pub mod SourceRows

@@ -56,7 +56,8 @@ pub(crate) fn measure_place(measure: Measure) -> u32
     }
 }
 
-fn security_family(what: OfSecurity) -> u32
+/// Which of a security's figures it is, from 0.
+pub fn security_family(what: OfSecurity) -> u32
     ensures { result ≡ security_family what }
 {
     match what {
@@ -84,7 +85,8 @@ fn stress_place(projection: Projection) -> u32
     }
 }
 
-fn liability_family(what: OfLiability) -> u32
+/// Which of a liability's figures it is, from 0; 12 for a figure that no balance sheet can have.
+pub fn liability_family(what: OfLiability) -> u32
     ensures { result ≡ liability_family what }
 {
     match what {
@@ -100,7 +102,8 @@ fn liability_family(what: OfLiability) -> u32
     }
 }
 
-fn group_family(what: OfGroup) -> u32
+/// Which of a group's figures it is, from 0.
+pub fn group_family(what: OfGroup) -> u32
     ensures { result ≡ group_family what }
 {
     match what {
@@ -110,7 +113,8 @@ fn group_family(what: OfGroup) -> u32
     }
 }
 
-fn currency_family(what: OfCurrency) -> u32
+/// Which of a currency's figures it is, from 0.
+pub fn currency_family(what: OfCurrency) -> u32
     ensures { result ≡ currency_family what }
 {
     match what {
@@ -172,7 +176,7 @@ pub(crate) fn group_at(family: u32) -> OfGroup
 }
 
 /// The figure of a currency with this family.
-pub(crate) fn currency_at(family: u32) -> OfCurrency
+pub fn currency_at(family: u32) -> OfCurrency
     requires { family < 9 }
     ensures { currency_family result ≡ family }
 {

@@ -1,13 +1,21 @@
 //! Laws of the numbers of figures, whatever a program does. Each is a function that does nothing, whose contract is the law.
-ghost use Rattle.std.specs.Prelude.{◌≡◌, ℕ, true};
+ghost use Rattle.std.specs.Prelude.{◌≡◌, ◌<◌, ℕ, true, Contains};
 ghost use Rattle.scr_numbers.specs.Ranges.{IsApart, Numbered};
 ghost use Rattle.scr_sheet.specs.Records.{applied};
 ghost use Rattle.scr_sheet.specs.Validity.{Valid};
 ghost use Rattle.scr_sheet.specs.declared.edit.Edit.{Edit};
 ghost use Rattle.scr_sheet.specs.declared.sheet.BalanceSheet.{BalanceSheet};
+ghost use Rattle.scr_numbers.specs.declared.table.Table.TheVariants as tables;
+ghost use Rattle.scr_nodes.specs.Levels.{level};
 ghost use Rattle.scr_nodes.specs.Live.{is_live};
+ghost use Rattle.scr_nodes.specs.Numbers.{number_of_whole};
+ghost use Rattle.scr_nodes.specs.Sources.{sources_of};
 ghost use Rattle.scr_nodes.specs.declared.node.Node.{Node};
+ghost use Rattle.scr_nodes.specs.declared.node.Node.TheVariants as nodes;
+ghost use Rattle.scr_nodes.specs.declared.node.Whole.{Whole};
+ghost use Rattle.scr_figures.specs.Families.{table_of, whole_family};
 ghost use Rattle.scr_figures.specs.Numbers.{IsNumbered, StandsAt};
+ghost use Rattle.scr_figures.specs.Order.{turn_of};
 ghost use Rattle.scr_figures.specs.Records.{step_of};
 ghost use Rattle.scr_figures.specs.Steps.{CanTake, CanTakeBack, Takes, TakesBack};
 
@@ -42,4 +50,23 @@ pub fn taken_back()
     ensures kept { (edit : Edit) (sheet : BalanceSheet) (before between now : Numbered) → IsNumbered sheet before
         → Takes (step_of edit sheet) before between → TakesBack (step_of edit sheet) between now → (node : Node) (number : ℕ)
         → StandsAt sheet before node number → StandsAt sheet now node number }
+{}
+
+/// Whatever a figure at the lowest level is reckoned from is the total of a fund.
+pub fn lowest_level()
+    ensures { (sheet : BalanceSheet) (node source : Node) → level node ≡ 0 → Contains (sources_of sheet node) source
+        → table_of source ≡ tables.Fund }
+{}
+
+/// The family of a figure of the whole sheet is its place in the list of these.
+pub fn families()
+    ensures { (sheet : BalanceSheet) (what : Whole) → is_live sheet (nodes.Whole what) ≡ true
+        → whole_family what ≡ number_of_whole what }
+{}
+
+/// Each source of a figure of the whole sheet that is one of the whole sheet itself comes before it: the assets first, and then all
+/// others by their families. All its other sources are figures of rows.
+pub fn whole_order()
+    ensures { (sheet : BalanceSheet) (what source : Whole) → Valid sheet → is_live sheet (nodes.Whole what) ≡ true
+        → Contains (sources_of sheet (nodes.Whole what)) (nodes.Whole source) → turn_of source < turn_of what }
 {}

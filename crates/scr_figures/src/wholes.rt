@@ -174,7 +174,7 @@ const WHOLES: [Whole; 154] = [
 ];
 
 /// The figure of the whole sheet with this family.
-pub(crate) fn whole_at(family: u32) -> Whole
+pub fn whole_at(family: u32) -> Whole
     requires { family < 154 }
     ensures { whole_family result ≡ family }
 {

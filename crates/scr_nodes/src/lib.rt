@@ -1,6 +1,6 @@
 //! The figures of a balance sheet as the nodes of a graph: which there are, what each reads of the
 //! sheet itself, and from which other figures it is reckoned, one by one or as a list. How it is
-//! reckoned is no matter of this crate, nor are lists of all figures (`scr_live`).
+//! reckoned is no matter of this crate, nor are numbers of figures (`scr_figures`).
 #![tactic(auto)]
 
 pub mod laws;
@@ -22,4 +22,7 @@ pub use node::{
     Adjustment, Alternatives, Biometric, Direction, Equities, Measure, Node, OfCurrency, OfFund,
     OfGroup, OfLiability, OfSecurity, Operational, Risk, Whole,
 };
+pub use nth::Nth;
+pub use nth_words::nth_word;
 pub use one_source::source;
+pub use table::{first_of, second_of};

@@ -11,7 +11,7 @@ use crate::{Node, OfCurrency, OfFund, OfGroup, OfLiability, OfSecurity};
 use scr_sheet::BalanceSheet;
 
 /// The node at a place of a list, or how far past the list's end the place lies.
-pub(crate) enum Nth {
+pub enum Nth {
     There(Node),
     Past(u32),
 }

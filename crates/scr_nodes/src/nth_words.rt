@@ -23,7 +23,7 @@ use scr_profile::Set;
 use scr_sheet::{Class, Name, Projection};
 
 /// Among the sources that no table gives.
-pub(crate) fn nth_word(node: &Node, place: u32) -> Nth
+pub fn nth_word(node: &Node, place: u32) -> Nth
     ensures { IsNth (words_of node.now) place result }
 {
     match node {

@@ -12,7 +12,7 @@ use crate::{
 use scr_sheet::{Class, Name, Projection};
 
 /// The sources that come first, none where a figure is reckoned from others by name.
-pub(crate) fn first_of(node: &Node) -> Selection
+pub fn first_of(node: &Node) -> Selection
     ensures { result ≡ first_of node.now }
 {
     match node {
@@ -114,7 +114,7 @@ fn liabilities_lost(biometric: Biometric, projection: Projection, measure: Measu
 }
 
 /// The sources that come next, off another table.
-pub(crate) fn second_of(node: &Node) -> Selection
+pub fn second_of(node: &Node) -> Selection
     ensures { result ≡ second_of node.now }
 {
     match node {

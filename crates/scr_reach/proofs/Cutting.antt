@@ -34,7 +34,7 @@ one-edge (x ∷ edges) once e d (inr a) (inl b) same =
     let clash : true ≡ false = sym is ∙ apart in absurd (cc)
 one-edge (x ∷ edges) once e d (inr a) (inr b) same = one-edge edges once.1 e d a b same
 
--- to a place to which no edge of this name leads the edges stay
+-- to a number to which no edge of this name leads the edges stay
 others-stay : (edges : List Edge) (id other : ℕ)
     → ((e : Edge) → IsMember e edges → eqb e.id id ≡ true → nat_eq e.dependant other ≡ false)
     → edges_to (without id edges) other ≡ edges_to edges other
@@ -76,11 +76,11 @@ named (x ∷ edges) id e (inl is) same = rw (eq-eqb x.id id (ap (λ (e : Edge). 
 named (x ∷ edges) id e (inr h) same =
     passes_or_fails (eqb x.id id) (λ b. rw b refl) (λ b. rw b (named edges id e h same))
 
--- ---- the first edge to a place
+-- ---- the first edge to a number
 
--- an edge to the place has the name
+-- an edge to the number has the name
 abbrev pub IsLinkTo : Linked → ℕ → ℕ → Type 0
-IsLinkTo links place id = (e : Edge) × IsMember e links.edges × (e.dependant ≡ place) × (e.id ≡ id)
+IsLinkTo links number id = (e : Edge) × IsMember e links.edges × (e.dependant ≡ number) × (e.id ≡ id)
 
 abbrev first_name : List Edge → Option ℕ
 first_name to = option_map (λ (source : ℕ × ℕ). source.1) (slice_get (map (λ (e : Edge). (e.source, e.id)) to) 0)
@@ -93,83 +93,83 @@ first-none : (to : List Edge) → None ≡ first_name to → to ≡ []
 first-none [] is = refl
 first-none (e ∷ to) is = let clash : None ≡ Some e.id = is in absurd (cc)
 
-module _ (links : Linked) (place : ℕ) where
-  pub first-link : (id : ℕ) → Some id ≡ option_map (λ (source : ℕ × ℕ). source.1) (slice_get (sources_of links place) 0)
-      → IsLinkTo links place id
+module _ (links : Linked) (number : ℕ) where
+  pub first-link : (id : ℕ) → Some id ≡ option_map (λ (source : ℕ × ℕ). source.1) (slice_get (sources_of links number) 0)
+      → IsLinkTo links number id
   first-link id is =
-      let e = first-one (edges_to links.edges place) id is in
-      let from = member-filtered (λ (e : Edge). nat_eq e.dependant place) links.edges e.0 e.1 in
-      (e.0, from.0, eqb-true (e.0).dependant place from.1, e.2)
+      let e = first-one (edges_to links.edges number) id is in
+      let from = member-filtered (λ (e : Edge). nat_eq e.dependant number) links.edges e.0 e.1 in
+      (e.0, from.0, eqb-true (e.0).dependant number from.1, e.2)
 
-  pub no-link : None ≡ option_map (λ (source : ℕ × ℕ). source.1) (slice_get (sources_of links place) 0)
-      → edges_to links.edges place ≡ []
-  no-link is = first-none (edges_to links.edges place) is
+  pub no-link : None ≡ option_map (λ (source : ℕ × ℕ). source.1) (slice_get (sources_of links number) 0)
+      → edges_to links.edges number ≡ []
+  no-link is = first-none (edges_to links.edges number) is
 
-  module _ (id : ℕ) (link : IsLinkTo links place id) where
+  module _ (id : ℕ) (link : IsLinkTo links number id) where
     pub link-named : is_edge links id ≡ true
     link-named = named links.edges id link.0 link.1 link.3
 
     pub link-fewer : length (edges_without links id) < length links.edges
     link-fewer = fewer links.edges id link.0 link.1 link.3
 
-    pub link-others : IsDistinct eqb (ids_of links) → (other : ℕ) → nat_eq place other ≡ false
+    pub link-others : IsDistinct eqb (ids_of links) → (other : ℕ) → nat_eq number other ≡ false
         → edges_to (edges_without links id) other ≡ edges_to links.edges other
     link-others once other apart =
         others-stay links.edges id other
         (λ e h same. let one = one-edge links.edges once e link.0 h link.1 (eqb-true e.id id same ∙ sym link.3) in
         ap (λ p. nat_eq p other) (ap (λ (e : Edge). e.dependant) one ∙ link.2) ∙ apart)
 
--- ---- one place more to which nothing is linked
+-- ---- one number more to which nothing is linked
 
-pub unlinked-more : (list : List ℕ) (place : ℕ) (before mid now : Linked) → AreUnlinked list before mid
-    → IsUnlinked place mid now → AreUnlinked (list ++ place ∷ []) before now
-unlinked-more list place before mid now so cut = record {
-  gone = λ p h. passes_or_fails (nat_eq place p)
-      (λ e. subst (λ q. edges_to now.edges q ≡ []) (eqb-true place p e) cut.gone)
+pub unlinked-more : (list : List ℕ) (number : ℕ) (before mid now : Linked) → AreUnlinked list before mid
+    → IsUnlinked number mid now → AreUnlinked (list ++ number ∷ []) before now
+unlinked-more list number before mid now so cut = record {
+  gone = λ p h. passes_or_fails (nat_eq number p)
+      (λ e. subst (λ q. edges_to now.edges q ≡ []) (eqb-true number p e) cut.gone)
       (λ e. cut.others p e
       ∙ so.gone p (Contains-from_IsMember list p
-      (by p e (IsMember-cases list (place ∷ []) p (IsMember-from_Contains (list ++ place ∷ []) p h)))));
+      (by p e (IsMember-cases list (number ∷ []) p (IsMember-from_Contains (list ++ number ∷ []) p h)))));
   kept = λ p none.
-      let last : IsMember place (list ++ place ∷ []) = IsMember-right list (place ∷ []) place (inl refl) in
-      let out : (q : ℕ) → IsMember q (list ++ place ∷ []) → q ≡ p → ⊥ =
-      (λ q m same. none (subst (Contains (list ++ place ∷ [])) same (Contains-from_IsMember (list ++ place ∷ []) q m))) in
-      cut.others p (ne_eqb place p (out place last))
-      ∙ so.kept p (λ h. out p (IsMember-left list (place ∷ []) p (IsMember-from_Contains list p h)) refl);
+      let last : IsMember number (list ++ number ∷ []) = IsMember-right list (number ∷ []) number (inl refl) in
+      let out : (q : ℕ) → IsMember q (list ++ number ∷ []) → q ≡ p → ⊥ =
+      (λ q m same. none (subst (Contains (list ++ number ∷ [])) same (Contains-from_IsMember (list ++ number ∷ []) q m))) in
+      cut.others p (ne_eqb number p (out number last))
+      ∙ so.kept p (λ h. out p (IsMember-left list (number ∷ []) p (IsMember-from_Contains list p h)) refl);
   spare = let a = so.spare in let b = cut.spare in omega (arith, a, b);
   size = cut.size ∙ so.size;
 }
   where
-    by : (p : ℕ) → nat_eq place p ≡ false → IsMember p list ⊎ IsMember p (place ∷ []) → IsMember p list
+    by : (p : ℕ) → nat_eq number p ≡ false → IsMember p list ⊎ IsMember p (number ∷ []) → IsMember p list
     by p e (inl h) = h
-    by p e (inr (inl same)) = let clash : true ≡ false = sym (eq-eqb place p (sym same)) ∙ e in absurd (cc)
+    by p e (inr (inl same)) = let clash : true ≡ false = sym (eq-eqb number p (sym same)) ∙ e in absurd (cc)
     by p e (inr (inr h)) = absurd h
 
--- ---- one edge less to a place
+-- ---- one edge less to a number
 
-pub record IsCutting (place : ℕ) (before now : Linked) : Type 0 where
-  pub others : (other : ℕ) → nat_eq place other ≡ false → edges_to now.edges other ≡ edges_to before.edges other
+pub record IsCutting (number : ℕ) (before now : Linked) : Type 0 where
+  pub others : (other : ℕ) → nat_eq number other ≡ false → edges_to now.edges other ≡ edges_to before.edges other
   pub spare : before.spare ≤ now.spare
   pub size : now.size ≡ before.size
 
-pub cutting-more : (place id : ℕ) (before mid now : Linked) → IsCutting place before mid → IsLinkTo mid place id
+pub cutting-more : (number id : ℕ) (before mid now : Linked) → IsCutting number before mid → IsLinkTo mid number id
     → IsDistinct eqb (ids_of mid) → now ≡ linked (edges_without mid id) (mid.spare + 1) mid.size
-    → IsCutting place before now
-cutting-more place id before mid now so link once is = subst (IsCutting place before) (sym is) (record {
-  others = λ other apart. link-others mid place id link once other apart ∙ so.others other apart;
+    → IsCutting number before now
+cutting-more number id before mid now so link once is = subst (IsCutting number before) (sym is) (record {
+  others = λ other apart. link-others mid number id link once other apart ∙ so.others other apart;
   spare = let a = so.spare in omega (arith, a);
   size = so.size;
 })
 
-pub cutting-fewer : (place id : ℕ) (mid now : Linked) → IsLinkTo mid place id
+pub cutting-fewer : (number id : ℕ) (mid now : Linked) → IsLinkTo mid number id
     → now ≡ linked (edges_without mid id) (mid.spare + 1) mid.size → length now.edges < length mid.edges
-cutting-fewer place id mid now link is =
-    subst (λ (l : Linked). length l.edges < length mid.edges) (sym is) (link-fewer mid place id link)
+cutting-fewer number id mid now link is =
+    subst (λ (l : Linked). length l.edges < length mid.edges) (sym is) (link-fewer mid number id link)
 
-pub cutting-done : (place : ℕ) (before now : Linked) → IsCutting place before now
-    → None ≡ option_map (λ (source : ℕ × ℕ). source.1) (slice_get (sources_of now place) 0)
-    → IsUnlinked place before now
-cutting-done place before now so none = record {
-  gone = no-link now place none;
+pub cutting-done : (number : ℕ) (before now : Linked) → IsCutting number before now
+    → None ≡ option_map (λ (source : ℕ × ℕ). source.1) (slice_get (sources_of now number) 0)
+    → IsUnlinked number before now
+cutting-done number before now so none = record {
+  gone = no-link now number none;
   others = so.others;
   spare = so.spare;
   size = so.size;

@@ -1,39 +1,34 @@
 -- Edges that are joined.
-use Rattle.std.proofs.Common.{◌≡◌, inl, inr, ℕ, zero, suc, ◌+◌, ◌<◌, ◌≤◌, ◌++◌, true, false, cond, nat_eq, List, []}
-use Rattle.std.proofs.Common.{◌∷◌, map, length, get_or, take, drop, Some, None, slice_get, Contains, refl, sym, ap, subst, ◌∙◌, arith, append-nil}
-use Rattle.std.specs.List.{AllByRecursion, IsDistinct, list_any}
-use Rattle.std.proofs.lemmas.Bool.{eq-eqb, eqb-true, ne_eqb}
-use Rattle.std.proofs.lemmas.List.{take_more}
-use Rattle.std.proofs.lemmas.List.Sums.{sum_by-drop_more}
+use Rattle.std.proofs.Common.{◌≡◌, inl, inr, ℕ, zero, suc, ◌+◌, ◌<◌, ◌≤◌, ◌++◌, true, false, nat_eq, List, []}
+use Rattle.std.proofs.Common.{◌∷◌, map, length, get_or, take, drop, Some, slice_get, Contains, refl, sym, ap, subst, ◌∙◌, arith}
+use Rattle.std.specs.List.{AllByRecursion, IsDistinct}
+use Rattle.std.proofs.lemmas.Bool.{eq-eqb, ne_eqb}
+use Rattle.std.proofs.lemmas.List.{map-append, take_all, take_more}
+use Rattle.std.proofs.lemmas.List.Sums.{sum_by_more, sum_by-drop_more}
 use Rattle.std.proofs.lemmas.Option.{slice_get-get_or}
-use Rattle.scr_funds.proofs.Members.{IsMember, IsMember-from_Contains, Contains-from_IsMember, at_member}
+use Rattle.scr_funds.proofs.Members.{IsMember, IsMember-from_Contains, Contains-from_IsMember, IsMember-left, IsMember-mapped, IsMember-right, at_member, each-from_members, each_push}
 use Rattle.scr_links.specs.Edges.{Edge, Linked}
-use Rattle.scr_names.proofs.TableRows.{passes_or_fails}
 use Rattle.scr_rounds.specs.declared.ranks.Due.{Due}
-use Rattle.scr_reach.specs.Dues.{AreRelinked, numbers_of, sources_count, sources_due}
-use Rattle.scr_reach.specs.Linked.{sources_in}
+use Rattle.scr_reach.specs.Dues.{AreRelinked, numbers_of, sources_count}
+use Rattle.scr_reach.specs.Linked.{edges_to, sources_in}
 use Rattle.scr_reach.specs.Relinking.{AreJoined, AreLinkable, AreUnlinked, IsJoined, IsWithin}
-use Rattle.scr_reach.proofs.Ranks.{has-member, member-has}
-use Rattle.scr_reach.proofs.Relinked.{due-missing}
+use Rattle.scr_reach.proofs.Placed.{get-member}
+
+abbrev number_of : Due → ℕ
+number_of due = due.number
 
 -- ---- one due more
 
-due-own : (dues : List Due) (due : Due) → (IsMember due.number (numbers_of dues) → ⊥)
-    → sources_due (dues ++ due ∷ []) due.number ≡ due.sources.items
-due-own [] due none = ap (λ b. cond b due.sources.items []) (eq-eqb due.number due.number refl)
-due-own (d ∷ dues) due none =
-    ap (λ b. cond b d.sources.items (sources_due (dues ++ due ∷ []) due.number))
-    (ne_eqb d.number due.number (λ same. none (inl (sym same))))
-    ∙ due-own dues due (λ h. none (inr h))
+due-next : (dues : List Due) (k : ℕ) (due : Due) → k < length dues → due ≡ get_or dues k due
+    → take (k + 1) dues ≡ take k dues ++ due ∷ []
+due-next dues k due inside is = take_more dues k due inside ∙ ap (λ d. take k dues ++ d ∷ []) (sym is)
 
-due-other : (dues : List Due) (due : Due) (place : ℕ) → nat_eq due.number place ≡ false
-    → sources_due (dues ++ due ∷ []) place ≡ sources_due dues place
-due-other [] due place apart = ap (λ b. cond b due.sources.items []) apart
-due-other (d ∷ dues) due place apart =
-    ap (λ list. cond (nat_eq d.number place) d.sources.items list) (due-other dues due place apart)
+pub numbers-more : (dues : List Due) (k : ℕ) (due : Due) → k < length dues → due ≡ get_or dues k due
+    → numbers_of (take (k + 1) dues) ≡ numbers_of (take k dues) ++ due.number ∷ []
+numbers-more dues k due inside is = ap numbers_of (due-next dues k due inside is) ∙ map-append number_of (take k dues) (due ∷ [])
 
 -- no due before this one has its number
-pub not-before : (dues : List Due) → IsDistinct nat_eq (numbers_of dues) → (k : ℕ) (due : Due)
+not-before : (dues : List Due) → IsDistinct nat_eq (numbers_of dues) → (k : ℕ) (due : Due)
     → slice_get dues k ≡ Some due → IsMember due.number (numbers_of (take k dues)) → ⊥
 unfolding IsDistinct
 not-before [] once zero due is h = h
@@ -41,101 +36,126 @@ not-before [] once (suc k) due is h = h
 not-before (d ∷ dues) once zero due is h = h
 not-before (d ∷ dues) once (suc k) due is (inl same) =
     let apart : nat_eq d.number due.number ≡ false =
-    at_member (λ y. nat_eq d.number y ≡ false) (numbers_of dues) due.number once.0 (stands dues k due is) in
+    at_member (λ y. nat_eq d.number y ≡ false) (numbers_of dues) due.number once.0
+    (IsMember-mapped number_of dues due (get-member dues k due is)) in
     let clash : true ≡ false = sym (eq-eqb d.number due.number (sym same)) ∙ apart in absurd (cc)
-  where
-    stands : (dues : List Due) (k : ℕ) (due : Due) → slice_get dues k ≡ Some due → IsMember due.number (numbers_of dues)
-    stands [] zero due is = let clash : None ≡ Some due = is in absurd (cc)
-    stands [] (suc k) due is = let clash : None ≡ Some due = is in absurd (cc)
-    stands (d ∷ dues) zero due is = let one : due ≡ d = cc in inl (ap (λ (d : Due). d.number) one)
-    stands (d ∷ dues) (suc k) due is = inr (stands dues k due is)
 not-before (d ∷ dues) once (suc k) due is (inr h) = not-before dues once.1 k due is h
 
-module _ (starts : List ℕ) where
-  module _ (dues : List Due) (before mid : Linked) (due : Due) (so : AreJoined starts dues before mid) where
-    pub joined-start : (now : Linked) → (IsMember due.number (numbers_of dues) → ⊥) → Contains starts due.number
-        → IsJoined due.number due.sources.items mid now → AreJoined starts (dues ++ due ∷ []) before now
-    joined-start now none start is = record {
-      made = λ place h. passes_or_fails (nat_eq due.number place)
-          (λ e. subst (λ p. sources_in now.edges p ≡ sources_in before.edges p ++ sources_due (dues ++ due ∷ []) p)
-          (eqb-true due.number place e) here)
-          (λ e. ap (map (λ (e : Edge). e.source)) (is.others place e) ∙ so.made place h
-          ∙ ap (λ list. sources_in before.edges place ++ list) (sym (due-other dues due place e)));
-      kept = λ place free. is.others place (ne_eqb due.number place (λ same. free (subst (Contains starts) same start)))
-          ∙ so.kept place free;
-      size = is.size ∙ so.size;
-    }
-      where
-        here : sources_in now.edges due.number
-            ≡ sources_in before.edges due.number ++ sources_due (dues ++ due ∷ []) due.number
-        here =
-            is.made
-            ∙ ap (λ list. list ++ due.sources.items)
-            (so.made due.number start
-            ∙ ap (λ list. sources_in before.edges due.number ++ list) (due-missing dues due.number none)
-            ∙ append-nil (sources_in before.edges due.number))
-            ∙ ap (λ list. sources_in before.edges due.number ++ list) (sym (due-own dues due none))
+-- those before this place are linked, and there is room for the rest
+pub record AreLinkedUpTo (dues : List Due) (k : ℕ) (before now : Linked) : Type 0 where
+  pub joined : AreJoined (take k dues) before now
+  pub room : sources_count (drop k dues) ≤ now.spare
 
-    pub joined-skip : (Contains starts due.number → ⊥) → AreJoined starts (dues ++ due ∷ []) before mid
-    joined-skip free = record {
-      made = λ place h. so.made place h
-          ∙ ap (λ list. sources_in before.edges place ++ list)
-          (sym (due-other dues due place
-          (ne_eqb due.number place (λ same. free (subst (Contains starts) (sym same) h)))));
-      kept = so.kept;
-      size = so.size;
-    }
+pub linked-none : (dues : List Due) (links : Linked) → AreLinkable links dues → AreLinkedUpTo dues 0 links links
+linked-none dues links are = record {
+  joined = record { made = tt; kept = λ number none. refl; spare = omega arith; size = refl };
+  room = are.spare;
+}
 
--- what was linkable is so where links have been cut
-pub linkable-cut : (starts : List ℕ) (dues : List Due) (before mid : Linked) → AreUnlinked starts before mid
+pub joined-all : (dues : List Due) (k : ℕ) (before now : Linked) → length dues ≤ k → AreLinkedUpTo dues k before now
+    → AreJoined dues before now
+joined-all dues k before now end so = subst (λ list. AreJoined list before now) (take_all k dues end) so.joined
+
+module _ (dues : List Due) (k : ℕ) (due : Due) (before mid : Linked) (inside : k < length dues)
+    (is : due ≡ get_or dues k due) (so : AreLinkedUpTo dues k before mid) where
+  stands : slice_get dues k ≡ Some due
+  stands = slice_get-get_or dues k due inside ∙ ap Some (sym is)
+
+  room-more : sources_count (drop k dues) ≡ length due.sources.items + sources_count (drop (k + 1) dues)
+  room-more =
+      sum_by-drop_more (λ (d : Due). length d.sources.items) dues k due inside
+      ∙ ap (λ (d : Due). length d.sources.items + sources_count (drop (k + 1) dues)) (sym is)
+
+  count-more : sources_count (take (k + 1) dues) ≡ sources_count (take k dues) + length due.sources.items
+  count-more =
+      sum_by_more (λ (d : Due). length d.sources.items) dues k due inside
+      ∙ ap (λ (d : Due). sources_count (take k dues) + length d.sources.items) (sym is)
+
+  pub due-room : length due.sources.items ≤ mid.spare
+  due-room = let all = so.room in omega (arith, all, room-more)
+
+  pub due-within : AreLinkable before dues → IsWithin mid.size due
+  due-within are =
+      subst (λ size. IsWithin size due) (sym so.joined.size)
+      (at_member (IsWithin before.size) dues due are.within (get-member dues k due stands))
+
+  -- nothing is linked to the due so far
+  free-yet : AreLinkable before dues → AllByRecursion (λ (due : Due). edges_to before.edges due.number ≡ []) dues
+      → edges_to mid.edges due.number ≡ []
+  free-yet are free =
+      so.joined.kept due.number
+      (λ h. not-before dues are.once k due stands (IsMember-from_Contains (numbers_of (take k dues)) due.number h))
+      ∙ at_member (λ (d : Due). edges_to before.edges d.number ≡ []) dues due free (get-member dues k due stands)
+
+  pub linked-next : (now : Linked) → AreLinkable before dues
+      → AllByRecursion (λ (due : Due). edges_to before.edges due.number ≡ []) dues
+      → IsJoined due.number due.sources.items mid now → AreLinkedUpTo dues (k + 1) before now
+  linked-next now are free join = record {
+    joined = subst (λ list. AreJoined list before now) (sym (due-next dues k due inside is)) (record {
+      made = each_push (λ (d : Due). sources_in now.edges d.number ≡ d.sources.items) (take k dues) due
+          (each-from_members (λ (d : Due). sources_in now.edges d.number ≡ d.sources.items) (take k dues) earlier)
+          (join.made ∙ ap (λ es. map (λ (e : Edge). e.source) es ++ due.sources.items) (free-yet are free));
+      kept = λ number none. join.others number (ne_eqb due.number number (λ same. none (last number same)))
+          ∙ so.joined.kept number (λ h. none (front number h));
+      spare =
+          let used = join.spare in
+          let all = so.joined.spare in
+          let more : sources_count (take k dues ++ due ∷ []) ≡ sources_count (take k dues) + length due.sources.items =
+          ap sources_count (sym (due-next dues k due inside is)) ∙ count-more in
+          omega (arith, used, all, more);
+      size = join.size ∙ so.joined.size;
+    });
+    room = let all = so.room in let used = join.spare in omega (arith, all, used, room-more);
+  }
+    where
+      earlier : (d : Due) → IsMember d (take k dues) → sources_in now.edges d.number ≡ d.sources.items
+      earlier d h =
+          ap (map (λ (e : Edge). e.source)) (join.others d.number (ne_eqb due.number d.number
+          (λ same. not-before dues are.once k due stands
+          (subst (λ n. IsMember n (numbers_of (take k dues))) (sym same) (IsMember-mapped number_of (take k dues) d h)))))
+          ∙ at_member (λ (d : Due). sources_in mid.edges d.number ≡ d.sources.items) (take k dues) d so.joined.made h
+
+      numbers-next : numbers_of (take k dues ++ due ∷ []) ≡ numbers_of (take k dues) ++ due.number ∷ []
+      numbers-next = map-append number_of (take k dues) (due ∷ [])
+
+      last : (number : ℕ) → due.number ≡ number → Contains (numbers_of (take k dues ++ due ∷ [])) number
+      last number same =
+          subst (Contains (numbers_of (take k dues ++ due ∷ []))) same
+          (Contains-from_IsMember (numbers_of (take k dues ++ due ∷ [])) due.number
+          (subst (IsMember due.number) (sym numbers-next)
+          (IsMember-right (numbers_of (take k dues)) (due.number ∷ []) due.number (inl refl))))
+
+      front : (number : ℕ) → Contains (numbers_of (take k dues)) number
+          → Contains (numbers_of (take k dues ++ due ∷ [])) number
+      front number h =
+          Contains-from_IsMember (numbers_of (take k dues ++ due ∷ [])) number
+          (subst (IsMember number) (sym numbers-next)
+          (IsMember-left (numbers_of (take k dues)) (due.number ∷ []) number
+          (IsMember-from_Contains (numbers_of (take k dues)) number h)))
+
+-- ---- cut and then joined
+
+pub linkable-cut : (dues : List Due) (before mid : Linked) → AreUnlinked (numbers_of dues) before mid
     → AreLinkable before dues → AreLinkable mid dues
-linkable-cut starts dues before mid cut are = record {
+linkable-cut dues before mid cut are = record {
   once = are.once;
   within = subst (λ size. AllByRecursion (IsWithin size) dues) (sym cut.size) are.within;
   spare = let less = cut.spare in let room = are.spare in omega (arith, less, room);
 }
 
--- what was cut and then joined
-pub relinked : (starts : List ℕ) (dues : List Due) (before mid now : Linked) → AreUnlinked starts before mid
-    → AreJoined starts dues mid now → AreRelinked starts dues before.edges now.edges
-relinked starts dues before mid now cut join = record {
-  made = λ place h. join.made place h
-      ∙ ap (λ list. list ++ sources_due dues place) (ap (map (λ (e : Edge). e.source)) (cut.gone place h));
-  kept = λ place free. join.kept place free ∙ cut.kept place free;
-}
+pub free-cut : (dues : List Due) (before mid : Linked) → AreUnlinked (numbers_of dues) before mid
+    → AllByRecursion (λ (due : Due). edges_to mid.edges due.number ≡ []) dues
+free-cut dues before mid cut =
+    each-from_members (λ (due : Due). edges_to mid.edges due.number ≡ []) dues
+    (λ due h. cut.gone due.number (Contains-from_IsMember (numbers_of dues) due.number (IsMember-mapped number_of dues due h)))
 
--- ---- the dues so far
-
--- those before this place are linked, and there is room for the rest
-pub record AreLinkedUpTo (starts : List ℕ) (dues : List Due) (k : ℕ) (before now : Linked) : Type 0 where
-  pub joined : AreJoined starts (take k dues) before now
-  pub spare : sources_count (drop k dues) ≤ now.spare
-
-module _ (starts : List ℕ) (dues : List Due) (k : ℕ) (due : Due) (before mid : Linked) (inside : k < length dues)
-    (is : due ≡ get_or dues k due) (so : AreLinkedUpTo starts dues k before mid) where
-  next : take (k + 1) dues ≡ take k dues ++ due ∷ []
-  next = take_more dues k due inside ∙ ap (λ d. take k dues ++ d ∷ []) (sym is)
-
-  room : sources_count (drop k dues) ≡ length due.sources.items + sources_count (drop (k + 1) dues)
-  room =
-      sum_by-drop_more (λ (d : Due). length d.sources.items) dues k due inside
-      ∙ ap (λ (d : Due). length d.sources.items + sources_count (drop (k + 1) dues)) (sym is)
-
-  pub linked-start : (now : Linked) → AreLinkable before dues → list_any (nat_eq due.number) starts ≡ true
-      → IsJoined due.number due.sources.items mid now → AreLinkedUpTo starts dues (k + 1) before now
-  linked-start now are start join = record {
-    joined = subst (λ list. AreJoined starts list before now) (sym next)
-        (joined-start starts (take k dues) before mid due so.joined now
-        (not-before dues are.once k due (slice_get-get_or dues k due inside ∙ ap Some (sym is)))
-        (Contains-from_IsMember starts due.number (has-member due.number starts start)) join);
-    spare = let all = so.spare in let used = join.spare in omega (arith, all, used, room);
+module _ (dues : List Due) (before mid now : Linked) (cut : AreUnlinked (numbers_of dues) before mid)
+    (join : AreJoined dues mid now) where
+  pub relinked : AreRelinked dues before.edges now.edges
+  relinked = record {
+    made = join.made;
+    kept = λ number free. join.kept number free ∙ cut.kept number free;
   }
 
-  pub linked-skip : list_any (nat_eq due.number) starts ≡ false → AreLinkedUpTo starts dues (k + 1) before mid
-  linked-skip free = record {
-    joined = subst (λ list. AreJoined starts list before mid) (sym next)
-        (joined-skip starts (take k dues) before mid due so.joined
-        (λ h. let has = member-has due.number starts (IsMember-from_Contains starts due.number h) in
-        let clash : true ≡ false = sym has ∙ free in absurd (cc)));
-    spare = let all = so.spare in omega (arith, all, room);
-  }
+  pub relinked-spare : before.spare ≤ now.spare + sources_count dues
+  relinked-spare = let less = cut.spare in let used = join.spare in omega (arith, less, used)

@@ -1,29 +1,35 @@
 -- What is due can be linked.
-use Rattle.std.proofs.Common.{ℕ, ◌<◌, ◌≤◌, List, length, arith}
-use Rattle.std.proofs.lemmas.Option.{slice_get_within}
-use Rattle.scr_funds.proofs.Members.{All-from_members, each_weaker}
+use Rattle.std.proofs.Common.{ℕ, ◌<◌, ◌≤◌, List, nat_eq, Contains, sym, subst, arith}
+use Rattle.std.specs.List.{IsDistinct}
+use Rattle.scr_funds.proofs.Members.{All-from_members, IsMember, IsMember-mapped, Contains-from_IsMember, at_member, each-from_members}
 use Rattle.scr_links.specs.Edges.{Linked}
 use Rattle.scr_rounds.specs.declared.ranks.Due.{Due}
 use Rattle.scr_sheet.specs.declared.sheet.BalanceSheet.{BalanceSheet}
 use Rattle.scr_nodes.specs.declared.node.Node.{Node}
-use Rattle.scr_nodes.specs.Sources.{sources_of}
-use Rattle.scr_reach.specs.Dues.{AreDues, IsDue, sources_count}
+use Rattle.scr_reach.specs.Dues.{AreDuesFor, IsDueAt, numbers_of, sources_count}
+use Rattle.scr_reach.specs.Linked.{AreNumbers, linked_to}
 use Rattle.scr_reach.specs.Relinking.{AreLinkable, IsWithin}
 use Rattle.scr_reach.proofs.Placed.{standing}
 
-module _ (sheet : BalanceSheet) (places : List Node) where
-  due-within : (size : ℕ) → length places ≤ size → (due : Due) → IsDue sheet places due → IsWithin size due
-  due-within size room due is = record {
-    number = let low = slice_get_within places due.number is.node is.at in omega (arith, low, room);
-    sources = All-from_members (λ source. source < size) due.sources.items
-        (λ source h. let at = standing places due.sources.items (sources_of sheet is.node) is.sources source h in
-        let low = slice_get_within places source at.0 at.2 in omega (arith, low, room));
-  }
-
-  pub linkable : (dues : List Due) (links : Linked) → AreDues sheet places dues → length places ≤ links.size
-      → sources_count dues ≤ links.spare → AreLinkable links dues
-  linkable dues links are size spare = record {
-    once = are.once;
-    within = each_weaker (IsDue sheet places) (IsWithin links.size) (due-within links.size size) dues are.each;
+module _ (sheet : BalanceSheet) (At : Node → ℕ → Type 0) (size : ℕ) (numbers : AreNumbers sheet At size) (starts : List ℕ)
+    (at : (number : ℕ) → Contains starts number → (node : Node) × At node number) where
+  pub linkable : (dues : List Due) (links : Linked) → AreDuesFor sheet At starts dues → IsDistinct nat_eq starts
+      → size ≤ links.size → sources_count dues ≤ links.spare → AreLinkable links dues
+  linkable dues links are once room spare = record {
+    once = subst (IsDistinct nat_eq) (sym are.numbers) once;
+    within = each-from_members (IsWithin links.size) dues within;
     spare = spare;
   }
+    where
+      within : (due : Due) → IsMember due dues → IsWithin links.size due
+      within due h =
+          let start : Contains starts due.number = subst (λ numbers. Contains numbers due.number) are.numbers
+          (Contains-from_IsMember (numbers_of dues) due.number (IsMember-mapped (λ (due : Due). due.number) dues due h)) in
+          let n = at due.number start in
+          let low = numbers.within n.0 due.number n.1 in
+          let to = at_member (IsDueAt sheet At) dues due are.each h n.0 n.1 in record {
+            number = omega (arith, low, room);
+            sources = All-from_members (λ source. source < links.size) due.sources.items
+                (λ source m. let s = standing At due.sources.items (linked_to sheet n.0) to source m in
+                let below = numbers.within s.0 source s.2 in omega (arith, below, room));
+          }

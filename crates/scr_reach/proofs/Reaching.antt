@@ -1,5 +1,5 @@
 -- What is reached along the links as they were before an edit is what leads to a touched figure after it.
-use Rattle.std.proofs.Common.{◌≡◌, ◌⊎◌, inl, inr, ◌||◌, ℕ, Bool, true, false, cond, List, [], ◌∷◌, map, Some, None, slice_get, Contains, refl, sym, ap, subst, ◌∙◌}
+use Rattle.std.proofs.Common.{◌≡◌, ◌⊎◌, inl, inr, ◌||◌, ℕ, Bool, true, false, cond, List, [], Contains, refl, sym, subst, ◌∙◌}
 use Rattle.std.specs.List.{AllByRecursion}
 use Rattle.scr_funds.proofs.Members.{IsMember, IsMember-from_Contains, Contains-from_IsMember, at_member, each-from_members}
 use Rattle.scr_links.specs.Edges.{Edge}
@@ -9,16 +9,16 @@ use Rattle.scr_sheet.specs.Validity.{Valid}
 use Rattle.scr_sheet.specs.declared.sheet.BalanceSheet.{BalanceSheet}
 use Rattle.scr_nodes.specs.declared.node.Node.{Node}
 use Rattle.scr_nodes.specs.Live.{is_live}
-use Rattle.scr_nodes.specs.LiveNodes.{HasNoRepeats}
 use Rattle.scr_nodes.specs.Sources.{sources_of}
 use Rattle.scr_nodes.proofs.LiveSources.{IsLive, sources-live}
+use Rattle.scr_reach.specs.Dues.{IsLiveAt}
 use Rattle.scr_reach.specs.Leading.{IsAtStart, Leads, AreOthersSame}
 use Rattle.scr_reach.specs.Leading.Leads.{touched, above}
-use Rattle.scr_reach.specs.Linked.{AreAt, AreLinked, linked_to, sources_in}
-use Rattle.scr_reach.proofs.Placed.{placed-get, placed, standing, edge-from, source-of, start-or}
+use Rattle.scr_reach.specs.Linked.{AreLinked, AreNumbers, linked_to, sources_in}
+use Rattle.scr_reach.proofs.Placed.{placed, standing, edge-from, source-of, number-or}
 
 -- a figure that has nothing linked to it is none, else these are its sources
-linked-live : (b : Bool) (sources : List Node) (s : Node) → IsMember s (cond b sources []) → (b ≡ true) × IsMember s sources
+pub linked-live : (b : Bool) (sources : List Node) (s : Node) → IsMember s (cond b sources []) → (b ≡ true) × IsMember s sources
 linked-live true sources s h = (refl, h)
 linked-live false sources s h = absurd h
 
@@ -30,64 +30,87 @@ pub or-right : (a b : Bool) → b ≡ true → (a || b) ≡ true
 or-right true b e = refl
 or-right false b e = e
 
-module _ (before after : BalanceSheet) (valid : Valid after) (places : List Node) (once : HasNoRepeats places)
-    (edges : List Edge) (linked : AreLinked before places edges) (starts : List ℕ)
-    (same : AreOthersSame before after places starts) where
-  -- the place of the figure is reached
+module _ (before after : BalanceSheet) (valid : Valid after) (At : Node → ℕ → Type 0) (size : ℕ)
+    (numbers : AreNumbers after At size) (edges : List Edge) (linked : AreLinked before At edges) (starts : List ℕ)
+    (same : AreOthersSame before after At starts) where
+  -- the number of the figure is reached
   abbrev pub IsMarked : Node → Type 0
-  IsMarked n = (p : ℕ) × (slice_get places p ≡ Some n) × IsReached edges starts p
+  IsMarked n = (p : ℕ) × At n p × IsReached edges starts p
 
-  pub start-marked : (n : Node) → IsAtStart places starts n → IsMarked n
+  -- the figure at a number is at a start, or not
+  pub start-or : (p : ℕ) (n : Node) → At n p → IsAtStart At starts n ⊎ (IsAtStart At starts n → ⊥)
+  start-or p n at = by (number-or starts p)
+    where
+      by : Contains starts p ⊎ (Contains starts p → ⊥) → IsAtStart At starts n ⊎ (IsAtStart At starts n → ⊥)
+      by (inl h) = inl (p, at, h)
+      by (inr none) = inr (λ h. none (subst (Contains starts) (numbers.only n h.0 p h.1 at) h.2))
+
+  pub start-marked : (n : Node) → IsAtStart At starts n → IsMarked n
   start-marked n h = (h.0, h.1, begins h.0 h.2)
 
   -- a figure of which a source is marked is marked
   pub marked-above : (n s : Node) → is_live after n ≡ true → IsMember s (sources_of after n) → IsMarked s → IsMarked n
-  marked-above n s live source marked = by (start-or places starts n)
+  marked-above n s live source marked = by (start-or own.0 n own.1)
     where
-      by : IsAtStart places starts n ⊎ (IsAtStart places starts n → ⊥) → IsMarked n
+      own : (number : ℕ) × At n number
+      own = numbers.live n live
+
+      by : IsAtStart At starts n ⊎ (IsAtStart At starts n → ⊥) → IsMarked n
       by (inl h) = start-marked n h
       by (inr none) =
           let kept = same n none (or-right (is_live before n) (is_live after n) live) in
           let was : is_live before n ≡ true = kept.0 ∙ live in
-          let has = linked.placed n was in
-          let here : slice_get places has.0 ≡ Some n = placed-get places n has in
           let from : IsMember s (linked_to before n) =
           subst (λ b. IsMember s (cond b (sources_of before n) [])) (sym was) (subst (IsMember s) (sym kept.1) source) in
-          let q = placed places (sources_in edges has.0) (linked_to before n) (linked.linked has.0 n here) s from in
-          let e = edge-from edges has.0 q.0 q.1 in
-          let one : q.0 ≡ marked.0 = once q.0 marked.0 s q.2 marked.1 in (
-            has.0,
-            here,
+          let q = placed At (sources_in edges own.0) (linked_to before n) (linked.linked n own.0 own.1) s from in
+          let e = edge-from edges own.0 q.0 q.1 in
+          let one : q.0 ≡ marked.0 = numbers.only s q.0 marked.0 q.2 marked.1 in (
+            own.0,
+            own.1,
             subst (IsReached edges starts) e.3
                 (follows e.0 (Contains-from_IsMember edges e.0 e.1) (subst (IsReached edges starts) (sym (e.2 ∙ one)) marked.2)),
           )
 
-  pub leads-marked : (n : Node) → Leads after (IsAtStart places starts) n → is_live after n ≡ true → IsMarked n
+  pub leads-marked : (n : Node) → Leads after (IsAtStart At starts) n → is_live after n ≡ true → IsMarked n
   leads-marked _ (touched n h) live = start-marked n h
   leads-marked _ (above n s source rest) live =
       let member = IsMember-from_Contains (sources_of after n) s source in
       marked-above n s live member
       (leads-marked s rest (at_member (IsLive after) (sources_of after n) s (sources-live after valid n live) member))
 
-  -- what is at a place that is reached leads to a figure at a start
-  pub marked-leads : (p : ℕ) → IsReached edges starts p → (n : Node) → slice_get places p ≡ Some n
-      → Leads after (IsAtStart places starts) n
+  -- from what an edge comes to a figure
+  edge-source : (e : Edge) → Contains edges e → (n : Node) → At n e.dependant
+      → (s : Node) × IsMember s (linked_to before n) × At s e.source
+  edge-source e h n here =
+      standing At (sources_in edges e.dependant) (linked_to before n) (linked.linked n e.dependant here) e.source
+      (source-of edges e.dependant e (IsMember-from_Contains edges e h) refl)
+
+  -- what is at a number that is reached leads to a figure at a start
+  pub marked-leads : (p : ℕ) → IsReached edges starts p → (n : Node) → At n p → Leads after (IsAtStart At starts) n
   marked-leads _ (begins p h) n here = touched n (p, here, h)
   marked-leads _ (follows e h rest) n here =
-      by (start-or places starts n) (λ s at. marked-leads e.source rest s at)
+      by (start-or e.dependant n here) (λ s at. marked-leads e.source rest s at)
     where
-      by : IsAtStart places starts n ⊎ (IsAtStart places starts n → ⊥)
-          → ((s : Node) → slice_get places e.source ≡ Some s → Leads after (IsAtStart places starts) s)
-          → Leads after (IsAtStart places starts) n
+      by : IsAtStart At starts n ⊎ (IsAtStart At starts n → ⊥)
+          → ((s : Node) → At s e.source → Leads after (IsAtStart At starts) s) → Leads after (IsAtStart At starts) n
       by (inl h) further = touched n h
       by (inr none) further =
-          let member = source-of edges e.dependant e (IsMember-from_Contains edges e h) refl in
-          let s = standing places (sources_in edges e.dependant) (linked_to before n) (linked.linked e.dependant n here)
-          e.source member in
+          let s = edge-source e h n here in
           let was = linked-live (is_live before n) (sources_of before n) s.0 s.1 in
           let kept = same n none (or-left (is_live before n) (is_live after n) was.0) in
           above n s.0 (Contains-from_IsMember (sources_of after n) s.0 (subst (IsMember s.0) kept.1 was.1))
           (further s.0 s.2)
+
+  -- a live figure stands at a number that is reached, unless it is a start
+  pub reached-live : (p : ℕ) → IsReached edges starts p → (Contains starts p → ⊥) → IsLiveAt after At p
+  reached-live _ (begins p h) none = absurd (none h)
+  reached-live _ (follows e h rest) none =
+      let n = linked.placed e h in
+      let s = edge-source e h n.0 n.1 in
+      let was = linked-live (is_live before n.0) (sources_of before n.0) s.0 s.1 in
+      let kept = same n.0 (λ start. none (subst (Contains starts) (numbers.only n.0 start.0 e.dependant start.1 n.1) start.2))
+      (or-left (is_live before n.0) (is_live after n.0) was.0) in
+      (n.0, n.1, sym kept.0 ∙ was.0)
 
   -- the live figures that are not marked have only such sources
   pub unmarked-closed : (n : Node) → (is_live after n ≡ true) × (IsMarked n → ⊥)

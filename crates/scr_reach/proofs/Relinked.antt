@@ -1,118 +1,195 @@
--- Once what is due is linked to the starts, the links are those of the balance sheet.
-use Rattle.std.proofs.Common.{◌≡◌, ◌⊎◌, inl, inr, ◌||◌, ℕ, zero, suc, ◌+◌, ◌<◌, Bool, true, false, cond, nat_eq, List, [], ◌∷◌, map, filter, length, Option, Some, None, slice_get, Contains, if◌then◌else◌, refl, sym, ap, subst, ◌∙◌}
-use Rattle.std.specs.List.{AllByRecursion, list_any}
-use Rattle.std.proofs.lemmas.Bool.{cases_Bool, eq-eqb, eqb-true, ne_eqb}
-use Rattle.scr_funds.proofs.Members.{IsMember, IsMember-from_Contains, Contains-from_IsMember, at_member}
+-- Once what is due is linked to the starts, the links are those of the balance sheet, and links can be made as they were.
+use Rattle.std.proofs.Common.{◌≡◌, ◌⊎◌, inl, inr, ℕ, Bool, true, false, cond, List, [], ◌∷◌, map, Contains, refl, sym, ap, subst, ◌∙◌}
+use Rattle.std.specs.List.{AllByRecursion}
+use Rattle.scr_funds.proofs.Members.{IsMember, IsMember-from_Contains, Contains-from_IsMember, IsMember-map, at_member}
 use Rattle.scr_links.specs.Edges.{Edge}
-use Rattle.scr_names.proofs.TableRows.{passes_or_fails}
-use Rattle.scr_rounds.specs.Reached.IsReached.{begins}
 use Rattle.scr_rounds.specs.declared.ranks.Due.{Due}
 use Rattle.scr_sheet.specs.Validity.{Valid}
 use Rattle.scr_sheet.specs.declared.sheet.BalanceSheet.{BalanceSheet}
 use Rattle.scr_nodes.specs.declared.node.Node.{Node}
 use Rattle.scr_nodes.specs.Live.{is_live}
 use Rattle.scr_nodes.specs.Sources.{sources_of}
-use Rattle.scr_reach.specs.Dues.{AreDueAfter, AreDues, AreEdited, AreRelinked, IsDue, numbers_of, sources_due}
-use Rattle.scr_reach.specs.Linked.{AreAt, AreLinked, edges_to, linked_to, sources_in}
-use Rattle.scr_reach.proofs.Edits.{live-placed, sources-linked}
-use Rattle.scr_reach.proofs.Placed.{member-filtered, member-passing}
-use Rattle.scr_reach.proofs.Ranks.{has-member, member-has}
-use Rattle.scr_reach.proofs.Reaching.{or-left}
+use Rattle.scr_nodes.proofs.LiveSources.{IsLive, sources-live}
+use Rattle.scr_reach.specs.Dues.{AreDuesFor, AreEdited, AreRelinked, IsDueAt, numbers_of}
+use Rattle.scr_reach.specs.Linked.{AreAt, AreLinked, AreNumbers, linked_to, sources_in}
+use Rattle.scr_reach.proofs.Edits.{elsewhere-same, sources-linked}
+use Rattle.scr_reach.proofs.Placed.{at-weaker, edge-from, number-or, placed, source-of}
+use Rattle.scr_reach.proofs.Reaching.{linked-live, or-left}
 
--- a number is one of a list, or not
-pub number-or : (xs : List ℕ) (q : ℕ) → Contains xs q ⊎ (Contains xs q → ⊥)
-number-or xs q = elim (cases_Bool (list_any (nat_eq q) xs)) [
-  | inl e ↦ inl (Contains-from_IsMember xs q (has-member q xs e))
-  | inr e ↦ inr (λ h. let clash : true ≡ false = sym (member-has q xs (IsMember-from_Contains xs q h)) ∙ e in absurd (cc))
-]
+module _ (dues : List Due) (old new : List Edge) (relinked : AreRelinked dues old new) where
+  -- what is due is linked
+  pub due-linked : (P : Due → Type 0) → AllByRecursion P dues → (number : ℕ) → Contains (numbers_of dues) number
+      → (due : Due) × (due.number ≡ number) × (sources_in new number ≡ due.sources.items) × P due
+  due-linked P each number h =
+      let d = IsMember-map (λ (due : Due). due.number) dues number (IsMember-from_Contains (numbers_of dues) number h) in (
+        d.0,
+        d.2,
+        ap (sources_in new) (sym d.2)
+            ∙ at_member (λ (due : Due). sources_in new due.number ≡ due.sources.items) dues d.0 relinked.made d.1,
+        at_member P dues d.0 each d.1,
+      )
 
-abbrev Found : List Due → ℕ → Type 0
-Found dues p = (due : Due) × IsMember due dues × (due.number ≡ p) × (sources_due dues p ≡ due.sources.items)
+  -- to all other numbers the same is linked
+  pub kept-sources : (number : ℕ) → (Contains (numbers_of dues) number → ⊥) → sources_in new number ≡ sources_in old number
+  kept-sources number none = ap (map (λ (e : Edge). e.source)) (relinked.kept number none)
 
--- what is due at a number that is due
-due-found : (dues : List Due) (p : ℕ) → IsMember p (numbers_of dues) → Found dues p
-due-found [] p h = absurd h
-due-found (due ∷ dues) p h =
-    passes_or_fails (nat_eq due.number p)
-    (λ e. (due, inl refl, eqb-true due.number p e, ap (λ b. cond b due.sources.items (sources_due dues p)) e))
-    (λ e. by e h (due-found dues p))
-  where
-    by : nat_eq due.number p ≡ false → IsMember p (due.number ∷ numbers_of dues) → (IsMember p (numbers_of dues) → Found dues p)
-        → Found (due ∷ dues) p
-    by e (inl same) further = let clash : true ≡ false = sym (eq-eqb due.number p (sym same)) ∙ e in absurd (cc)
-    by e (inr later) further =
-        let found = further later in
-        (found.0, inr found.1, found.2, ap (λ b. cond b due.sources.items (sources_due dues p)) e ∙ found.3)
+-- an edge comes to the number where something is linked to it
+edge-kept : (old new : List Edge) (e : Edge) → Contains new e → sources_in new e.dependant ≡ sources_in old e.dependant
+    → (d : Edge) × IsMember d old × (d.source ≡ e.source) × (d.dependant ≡ e.dependant)
+edge-kept old new e h same =
+    edge-from old e.dependant e.source
+    (subst (IsMember e.source) same (source-of new e.dependant e (IsMember-from_Contains new e h) refl))
 
-pub due-missing : (dues : List Due) (p : ℕ) → (IsMember p (numbers_of dues) → ⊥) → sources_due dues p ≡ []
-due-missing [] p none = refl
-due-missing (due ∷ dues) p none =
-    ap (λ b. cond b due.sources.items (sources_due dues p)) (ne_eqb due.number p (λ same. none (inl (sym same))))
-    ∙ due-missing dues p (λ h. none (inr h))
+-- where the same is linked to each number the links are of the same balance sheet
+pub linked-same : (sheet : BalanceSheet) (At : Node → ℕ → Type 0) (old new : List Edge) → AreLinked sheet At old
+    → ((number : ℕ) → sources_in new number ≡ sources_in old number) → AreLinked sheet At new
+linked-same sheet At old new linked same = record {
+  linked = λ node number at. subst (λ numbers. AreAt At numbers (linked_to sheet node)) (sym (same number))
+      (linked.linked node number at);
+  placed = λ e h.
+      let d = edge-kept old new e h (same e.dependant) in
+      let n = linked.placed d.0 (Contains-from_IsMember old d.0 d.1) in
+      (n.0, subst (At n.0) d.3 n.1);
+}
 
-module _ (after : BalanceSheet) (valid : Valid after) (places : List Node) (old new : List Edge) (starts : List ℕ)
-    (edited : AreEdited after places old starts) (dues : List Due) (due : AreDueAfter after places old starts dues)
-    (relinked : AreRelinked starts dues old new) where
-  inside : (edge : Edge) → Contains new edge → edge.dependant < length places
-  inside edge has = by (number-or starts edge.dependant)
-    where
-      by : Contains starts edge.dependant ⊎ (Contains starts edge.dependant → ⊥) → edge.dependant < length places
-      by (inl h) = edited.within edge.dependant h
-      by (inr none) =
-          let there = member-passing (λ (e : Edge). nat_eq e.dependant edge.dependant) new edge (IsMember-from_Contains new edge has)
-          (eq-eqb edge.dependant edge.dependant refl) in
-          let was = subst (IsMember edge) (relinked.kept edge.dependant none) there in
-          edited.linked.inside edge
-          (Contains-from_IsMember old edge (member-filtered (λ (e : Edge). nat_eq e.dependant edge.dependant) old edge was).0)
+module _ (after : BalanceSheet) (valid : Valid after) (At : Node → ℕ → Type 0) (size : ℕ) (old new : List Edge)
+    (starts : List ℕ) (edited : AreEdited after At size old starts) (dues : List Due) (due : AreDuesFor after At starts dues)
+    (relinked : AreRelinked dues old new) where
+  at-start : (node : Node) (number : ℕ) → At node number → Contains starts number
+      → AreAt At (sources_in new number) (linked_to after node)
+  at-start node number at h =
+      let is = due-linked dues old new relinked (IsDueAt after At) due.each number
+      (subst (λ numbers. Contains numbers number) (sym due.numbers) h) in
+      subst (λ numbers. AreAt At numbers (linked_to after node)) (sym is.2) (is.3 node (subst (At node) (sym is.1) at))
 
-  at-start : (place : ℕ) (node : Node) → slice_get places place ≡ Some node → Contains starts place → (b : Bool)
-      → is_live after node ≡ b → AreAt places (sources_due dues place) (linked_to after node)
-  at-start place node at h true live =
-      let named = (due.exact place node at).1 (live, begins place h) in
-      let found = due-found dues place (IsMember-from_Contains (numbers_of dues) place named) in
-      let is = at_member (IsDue after places) dues found.0 due.each.each found.1 in
-      let one : is.node ≡ node =
-      (let both : Some is.node ≡ Some node = sym is.at ∙ ap (slice_get places) found.2 ∙ at in cc) in
-      subst (λ numbers. AreAt places numbers (linked_to after node)) (sym found.3)
-      (subst (AreAt places found.0.sources.items)
-      (ap (sources_of after) one ∙ sym (ap (λ b. cond b (sources_of after node) []) live)) is.sources)
-  at-start place node at h false live =
-      let none : IsMember place (numbers_of dues) → ⊥ =
-      (λ m. let was = (due.exact place node at).0 (Contains-from_IsMember (numbers_of dues) place m) in
-      let clash : true ≡ false = sym was.0 ∙ live in absurd (cc)) in
-      ap (map (slice_get places)) (due-missing dues place none)
-      ∙ sym (ap (map Some) (ap (λ b. cond b (sources_of after node) []) live))
+  unlisted : (number : ℕ) → (Contains starts number → ⊥) → Contains (numbers_of dues) number → ⊥
+  unlisted number none h = none (subst (λ numbers. Contains numbers number) due.numbers h)
 
-  elsewhere : (place : ℕ) (node : Node) → slice_get places place ≡ Some node → (Contains starts place → ⊥) → (b c : Bool)
-      → is_live after node ≡ b → is_live edited.before node ≡ c → AreAt places (sources_in old place) (linked_to after node)
-  elsewhere place node at none true c live was =
-      subst (AreAt places (sources_in old place)) (sym (ap (λ b. cond b (sources_of after node) []) live))
-      (sources-linked after valid places old starts edited place node at live none)
-  elsewhere place node at none false true live was =
-      let same = edited.same node (λ h. none (subst (Contains starts) (edited.once h.0 place node h.1 at) h.2))
+  elsewhere : (node : Node) (number : ℕ) → At node number → (Contains starts number → ⊥) → (b c : Bool)
+      → is_live after node ≡ b → is_live edited.before node ≡ c → AreAt At (sources_in old number) (linked_to after node)
+  elsewhere node number at none true c live was =
+      subst (AreAt At (sources_in old number)) (sym (ap (λ b. cond b (sources_of after node) []) live))
+      (sources-linked after valid At size old starts edited number node at live none)
+  elsewhere node number at none false true live was =
+      let same = elsewhere-same after valid At size old starts edited node number at none
       (or-left (is_live edited.before node) (is_live after node) was) in
       let clash : true ≡ false = sym was ∙ (same.0 ∙ live) in absurd (cc)
-  elsewhere place node at none false false live was =
-      subst (AreAt places (sources_in old place))
+  elsewhere node number at none false false live was =
+      subst (AreAt At (sources_in old number))
       (ap (λ b. cond b (sources_of edited.before node) []) was ∙ sym (ap (λ b. cond b (sources_of after node) []) live))
-      (edited.linked.linked place node at)
+      (edited.linked.linked node number at)
 
-  linked-anew : (place : ℕ) (node : Node) → slice_get places place ≡ Some node
-      → AreAt places (sources_in new place) (linked_to after node)
-  linked-anew place node at = by (number-or starts place)
+  linked-anew : (node : Node) (number : ℕ) → At node number → AreAt At (sources_in new number) (linked_to after node)
+  linked-anew node number at = by (number-or starts number)
     where
-      by : Contains starts place ⊎ (Contains starts place → ⊥) → AreAt places (sources_in new place) (linked_to after node)
-      by (inl h) =
-          subst (λ numbers. AreAt places numbers (linked_to after node)) (sym (relinked.made place h))
-          (at-start place node at h (is_live after node) refl)
+      by : Contains starts number ⊎ (Contains starts number → ⊥) → AreAt At (sources_in new number) (linked_to after node)
+      by (inl h) = at-start node number at h
       by (inr none) =
-          subst (λ numbers. AreAt places numbers (linked_to after node))
-          (sym (ap (map (λ (e : Edge). e.source)) (relinked.kept place none)))
-          (elsewhere place node at none (is_live after node) (is_live edited.before node) refl refl)
+          subst (λ numbers. AreAt At numbers (linked_to after node))
+          (sym (kept-sources dues old new relinked number (unlisted number none)))
+          (elsewhere node number at none (is_live after node) (is_live edited.before node) refl refl)
 
-  pub links-anew : AreLinked after places new
-  links-anew = record {
-    placed = live-placed after valid places old starts edited;
-    inside = inside;
-    linked = linked-anew;
+  placed-anew : (e : Edge) → Contains new e → (node : Node) × At node e.dependant
+  placed-anew e h = by (number-or starts e.dependant)
+    where
+      by : Contains starts e.dependant ⊎ (Contains starts e.dependant → ⊥) → (node : Node) × At node e.dependant
+      by (inl start) = edited.at e.dependant start
+      by (inr none) =
+          let d = edge-kept old new e h (kept-sources dues old new relinked e.dependant (unlisted e.dependant none)) in
+          let n = edited.linked.placed d.0 (Contains-from_IsMember old d.0 d.1) in
+          (n.0, subst (At n.0) d.3 n.1)
+
+  pub links-anew : AreLinked after At new
+  links-anew = record { linked = linked-anew; placed = placed-anew }
+
+-- What was linked to the starts is due again: once it is linked, the same is linked to each number as before.
+pub relinked-back : (old mid new : List Edge) (dues former : List Due) → AreRelinked dues old mid
+    → numbers_of former ≡ numbers_of dues
+    → AllByRecursion (λ (due : Due). due.sources.items ≡ sources_in old due.number) former → AreRelinked former mid new
+    → (number : ℕ) → sources_in new number ≡ sources_in old number
+relinked-back old mid new dues former there same each back number = by (number-or (numbers_of former) number)
+  where
+    by : Contains (numbers_of former) number ⊎ (Contains (numbers_of former) number → ⊥)
+        → sources_in new number ≡ sources_in old number
+    by (inl h) =
+        let is = due-linked former mid new back (λ (due : Due). due.sources.items ≡ sources_in old due.number) each number h in
+        is.2 ∙ is.3 ∙ ap (sources_in old) is.1
+    by (inr none) =
+        kept-sources former mid new back number none
+        ∙ kept-sources dues old mid there number (λ h. none (subst (λ numbers. Contains numbers number) (sym same) h))
+
+-- ---- the same links for numbers more or fewer
+
+module _ (sheet : BalanceSheet) (Few Many : Node → ℕ → Type 0) (size : ℕ) (numbers : AreNumbers sheet Many size)
+    (live : (node : Node) → is_live sheet node ≡ true → (number : ℕ) × Few node number)
+    (keeps : (node : Node) (number : ℕ) → Few node number → Many node number) (edges : List Edge) where
+  -- a live figure that stands at one of many numbers stands there among the few
+  pub stands-yet : (node : Node) (number : ℕ) → Many node number → is_live sheet node ≡ true → Few node number
+  stands-yet node number at is =
+      let own = live node is in
+      subst (Few node) (numbers.only node own.0 number (keeps node own.0 own.1) at) own.1
+
+  pub linked-more : AreLinked sheet Few edges → AreLinked sheet Many edges
+  linked-more linked = record {
+    linked = λ node number at. by node number at (is_live sheet node) refl;
+    placed = λ e h. let n = linked.placed e h in (n.0, keeps n.0 e.dependant n.1);
   }
+    where
+      -- nothing is linked to a figure that the balance sheet does not have
+      none : (node : Node) (number : ℕ) → Many node number → is_live sheet node ≡ false → (q : ℕ)
+          → IsMember q (sources_in edges number) → ⊥
+      none node number at dead q h =
+          let e = edge-from edges number q h in
+          let n = linked.placed e.0 (Contains-from_IsMember edges e.0 e.1) in
+          let here : Few n.0 number = subst (Few n.0) e.3 n.1 in
+          let one : n.0 ≡ node = numbers.exact number n.0 node (keeps n.0 number here) at in
+          let to = linked.linked n.0 number here in
+          let empty : linked_to sheet n.0 ≡ [] = ap (linked_to sheet) one ∙ ap (λ b. cond b (sources_of sheet node) []) dead in
+          nothing (sources_in edges number) (subst (AreAt Few (sources_in edges number)) empty to) q h
+        where
+          nothing : (numbers : List ℕ) → AreAt Few numbers [] → (q : ℕ) → IsMember q numbers → ⊥
+          nothing [] at q h = h
+          nothing (p ∷ numbers) at q h = at
+
+      no-members : (numbers : List ℕ) → ((q : ℕ) → IsMember q numbers → ⊥) → numbers ≡ []
+      no-members [] free = refl
+      no-members (q ∷ numbers) free = absurd (free q (inl refl))
+
+      by : (node : Node) (number : ℕ) → Many node number → (b : Bool) → is_live sheet node ≡ b
+          → AreAt Many (sources_in edges number) (linked_to sheet node)
+      by node number at true is =
+          at-weaker Few Many (sources_in edges number) (linked_to sheet node) (λ n q member. keeps n q)
+          (linked.linked node number (stands-yet node number at is))
+      by node number at false dead =
+          subst (AreAt Many (sources_in edges number)) (sym (ap (λ b. cond b (sources_of sheet node) []) dead))
+          (subst (λ numbers. AreAt Many numbers []) (sym (no-members (sources_in edges number) (none node number at dead))) tt)
+
+  pub linked-fewer : Valid sheet → AreLinked sheet Many edges → AreLinked sheet Few edges
+  linked-fewer valid linked = record {
+    linked = λ node number at.
+        at-weaker Many Few (sources_in edges number) (linked_to sheet node)
+        (λ n q member there. let was = linked-live (is_live sheet node) (sources_of sheet node) n member in
+        stands-yet n q there (at_member (IsLive sheet) (sources_of sheet node) n (sources-live sheet valid node was.0) was.1))
+        (linked.linked node number (keeps node number at));
+    placed = λ e h.
+        let n = linked.placed e h in
+        let s = source-of edges e.dependant e (IsMember-from_Contains edges e h) refl in
+        let was = linked-of n.0 e.dependant n.1 e.source s in
+        (n.0, stands-yet n.0 e.dependant n.1 was);
+  }
+    where
+      -- a figure to which something is linked is live
+      linked-of : (node : Node) (number : ℕ) → Many node number → (q : ℕ) → IsMember q (sources_in edges number)
+          → is_live sheet node ≡ true
+      linked-of node number at q h = by (is_live sheet node) refl
+        where
+          nothing : (numbers : List ℕ) → AreAt Many numbers [] → IsMember q numbers → ⊥
+          nothing [] at h = h
+          nothing (p ∷ numbers) at h = at
+
+          by : (b : Bool) → is_live sheet node ≡ b → is_live sheet node ≡ true
+          by true e = e
+          by false e =
+              absurd (nothing (sources_in edges number)
+              (subst (AreAt Many (sources_in edges number)) (ap (λ b. cond b (sources_of sheet node) []) e)
+              (linked.linked node number at)) h)

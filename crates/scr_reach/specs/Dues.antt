@@ -1,73 +1,79 @@
--- Which figures are due to be reckoned, by their places (this project's own).
-use Rattle.std.specs.Prelude.{◌≡◌, ◌↔◌, ℕ, ◌<◌, Bool, true, false, List, [], ◌∷◌, Contains, Some, length, map, nat_eq, slice_get, sum_by, if◌then◌else◌}
+-- The numbers from which an edit reaches others, and what is linked to them after it (this project's own).
+use Rattle.std.specs.Prelude.{◌≡◌, ℕ, ◌≤◌, Bool, true, false, List, Contains, Some, length, map, nat_eq, slice_get, sum_by}
 use Rattle.std.specs.List.{AllByRecursion, IsDistinct}
-use Rattle.std.specs.Option.{option_map_or}
 use Rattle.scr_links.specs.Edges.{Edge}
 use Rattle.scr_rounds.specs.Reached.{IsReached}
 use Rattle.scr_rounds.specs.declared.ranks.Due.{Due}
 use Rattle.scr_sheet.specs.declared.sheet.BalanceSheet.{BalanceSheet}
 use Rattle.scr_nodes.specs.declared.node.Node.{Node}
 use Rattle.scr_nodes.specs.Live.{is_live}
-use Rattle.scr_nodes.specs.LiveNodes.{HasNoRepeats}
 use Rattle.scr_nodes.specs.Sources.{sources_of}
-use Rattle.scr_reach.specs.Leading.{AreOthersSame, IsAtStart}
-use Rattle.scr_reach.specs.Linked.{AreAt, AreLinked, edges_to, sources_in}
-
--- the place of a live figure, with the places of its sources in their order
-pub record IsDue (sheet : BalanceSheet) (places : List Node) (due : Due) : Type 0 where
-  pub node : Node
-  pub at : slice_get places due.number ≡ Some node
-  pub live : is_live sheet node ≡ true
-  pub sources : AreAt places due.sources.items (sources_of sheet node)
+use Rattle.scr_reach.specs.Leading.{AreOthersSame}
+use Rattle.scr_reach.specs.Linked.{AreAt, AreLinked, AreNumbers, edges_to, linked_to, sources_in}
 
 abbrev pub numbers_of : List Due → List ℕ
 numbers_of dues = map (λ (due : Due). due.number) dues
-
--- no figure is due twice
-pub record AreDues (sheet : BalanceSheet) (places : List Node) (dues : List Due) : Type 0 where
-  pub once : IsDistinct nat_eq (numbers_of dues)
-  pub each : AllByRecursion (IsDue sheet places) dues
-
--- The links are those of a balance sheet before this one, and what stands at none of the starts has stayed the same.
-pub record AreEdited (after : BalanceSheet) (places : List Node) (edges : List Edge) (starts : List ℕ) : Type 0 where
-  pub before : BalanceSheet
-  pub once : HasNoRepeats places
-  pub within : (place : ℕ) → Contains starts place → place < length places
-  pub linked : AreLinked before places edges
-  pub same : AreOthersSame before after places starts
-
--- What is due are the live figures that are reached along the links.
-pub record AreDueAfter (after : BalanceSheet) (places : List Node) (edges : List Edge) (starts : List ℕ) (dues : List Due)
-    : Type 0 where
-  pub each : AreDues after places dues
-  pub exact : (place : ℕ) (node : Node) → slice_get places place ≡ Some node
-      → Contains (numbers_of dues) place ↔ ((is_live after node ≡ true) × IsReached edges starts place)
-
--- The starts are the places of these figures.
-pub record AreStarts (places nodes : List Node) (starts : List ℕ) : Type 0 where
-  pub each : (node : Node) → Contains nodes node → IsAtStart places starts node
-  pub only : (place : ℕ) → Contains starts place
-      → (node : Node) × Contains nodes node × (slice_get places place ≡ Some node)
-
--- what is due to be linked to a place: the sources of the due there, nothing where none is
-abbrev pub sources_due : List Due → ℕ → List ℕ
-sources_due [] place = []
-sources_due (due ∷ dues) place = if nat_eq due.number place then due.sources.items else sources_due dues place
-
--- At each of the starts what is due is linked, and nothing else; at all other places the edges stay.
-pub record AreRelinked (starts : List ℕ) (dues : List Due) (old new : List Edge) : Type 0 where
-  pub made : (place : ℕ) → Contains starts place → sources_in new place ≡ sources_due dues place
-  pub kept : (place : ℕ) → (Contains starts place → ⊥) → edges_to new place ≡ edges_to old place
 
 -- how many sources all dues have
 abbrev pub sources_count : List Due → ℕ
 sources_count dues = sum_by (λ (due : Due). length due.sources.items) dues
 
--- a figure of the balance sheet stands at the place
-abbrev pub is_live_at : BalanceSheet → List Node → ℕ → Bool
-is_live_at sheet places place = option_map_or (is_live sheet) (slice_get places place) false
+-- The starts are the numbers of these figures, of those that have one.
+pub record AreStarts (At : Node → ℕ → Type 0) (nodes : List Node) (starts : List ℕ) : Type 0 where
+  pub each : (node : Node) → Contains nodes node → (number : ℕ) → At node number → Contains starts number
+  pub only : (number : ℕ) → Contains starts number → (node : Node) × Contains nodes node × At node number
 
--- the numbers are the places of the sources of the figure at this place
-abbrev pub HasSources : BalanceSheet → List Node → ℕ → List ℕ → Type 0
-HasSources sheet places place numbers =
-    (node : Node) → slice_get places place ≡ Some node → AreAt places numbers (sources_of sheet node)
+-- the due has the sources of the figure at its number; none where the balance sheet does not have it
+abbrev pub IsDueAt : BalanceSheet → (Node → ℕ → Type 0) → Due → Type 0
+IsDueAt sheet At due = (node : Node) → At node due.number → AreAt At due.sources.items (linked_to sheet node)
+
+-- the number of a live figure, with the numbers of its sources in their order
+pub record IsDue (sheet : BalanceSheet) (At : Node → ℕ → Type 0) (due : Due) : Type 0 where
+  pub node : Node
+  pub at : At node due.number
+  pub live : is_live sheet node ≡ true
+  pub sources : AreAt At due.sources.items (sources_of sheet node)
+
+-- no figure is due twice
+pub record AreDues (sheet : BalanceSheet) (At : Node → ℕ → Type 0) (dues : List Due) : Type 0 where
+  pub once : IsDistinct nat_eq (numbers_of dues)
+  pub each : AllByRecursion (IsDue sheet At) dues
+
+-- what is due to be linked to the starts, in their order
+pub record AreDuesFor (sheet : BalanceSheet) (At : Node → ℕ → Type 0) (starts : List ℕ) (dues : List Due) : Type 0 where
+  pub numbers : numbers_of dues ≡ starts
+  pub each : AllByRecursion (IsDueAt sheet At) dues
+
+-- The numbers are those of a balance sheet before this one too. The links are those of that one, and what stands at none of
+-- the starts has stayed the same.
+pub record AreEdited (after : BalanceSheet) (At : Node → ℕ → Type 0) (size : ℕ) (edges : List Edge) (starts : List ℕ)
+    : Type 0 where
+  pub before : BalanceSheet
+  pub numbers : AreNumbers after At size
+  pub numbers_before : AreNumbers before At size
+  pub at : (number : ℕ) → Contains starts number → (node : Node) × At node number
+  pub linked : AreLinked before At edges
+  pub same : AreOthersSame before after At starts
+
+-- a figure that the balance sheet has stands at the number
+abbrev pub IsLiveAt : BalanceSheet → (Node → ℕ → Type 0) → ℕ → Type 0
+IsLiveAt sheet At number = (node : Node) × At node number × (is_live sheet node ≡ true)
+
+-- Of the first of these numbers each flag tells whether the balance sheet has the figure there; it has those of all others.
+pub record AreFlagged (sheet : BalanceSheet) (At : Node → ℕ → Type 0) (numbers : List ℕ) (flags : List Bool) : Type 0 where
+  pub live : (k number : ℕ) → slice_get numbers k ≡ Some number → slice_get flags k ≡ Some true → IsLiveAt sheet At number
+  pub dead : (k number : ℕ) → slice_get numbers k ≡ Some number → slice_get flags k ≡ Some false
+      → IsLiveAt sheet At number → ⊥
+  pub rest : (k number : ℕ) → length flags ≤ k → slice_get numbers k ≡ Some number → IsLiveAt sheet At number
+
+-- just the numbers of live figures that are reached along the links, each once
+pub record AreReachedLive (sheet : BalanceSheet) (At : Node → ℕ → Type 0) (edges : List Edge) (starts numbers : List ℕ)
+    : Type 0 where
+  pub once : IsDistinct nat_eq numbers
+  pub each : (number : ℕ) → Contains numbers number → IsReached edges starts number × IsLiveAt sheet At number
+  pub all : (number : ℕ) → IsReached edges starts number → IsLiveAt sheet At number → Contains numbers number
+
+-- What is due at a number is linked to it, and nothing else; to all other numbers the edges stay.
+pub record AreRelinked (dues : List Due) (old new : List Edge) : Type 0 where
+  pub made : AllByRecursion (λ (due : Due). sources_in new due.number ≡ due.sources.items) dues
+  pub kept : (number : ℕ) → (Contains (numbers_of dues) number → ⊥) → edges_to new number ≡ edges_to old number

@@ -1,5 +1,5 @@
 -- Which figures an edit reaches: those from which a chain of sources leads to a touched one (this project's own).
-use Rattle.std.specs.Prelude.{◌≡◌, ◌↔◌, ◌||◌, ℕ, true, List, Contains, Some, length, slice_get}
+use Rattle.std.specs.Prelude.{◌≡◌, ◌↔◌, ◌||◌, ℕ, true, List, Contains, length}
 use Rattle.scr_sheet.specs.declared.sheet.BalanceSheet.{BalanceSheet}
 use Rattle.scr_nodes.specs.declared.node.Node.{Node}
 use Rattle.scr_nodes.specs.Live.{is_live}
@@ -24,12 +24,12 @@ pub record IsCountOf (P : Node → Type 0) (count : ℕ) : Type 0 where
   pub each : (node : Node) → Contains list node ↔ P node
   pub long : length list ≡ count
 
--- the figure stands at one of these places
-abbrev pub IsAtStart : List Node → List ℕ → Node → Type 0
-IsAtStart places starts node = (place : ℕ) × (slice_get places place ≡ Some node) × Contains starts place
+-- the figure stands at one of these numbers
+abbrev pub IsAtStart : (Node → ℕ → Type 0) → List ℕ → Node → Type 0
+IsAtStart At starts node = (number : ℕ) × At node number × Contains starts number
 
--- what stands at none of these places is the same figure before and after, with the same sources
-abbrev pub AreOthersSame : BalanceSheet → BalanceSheet → List Node → List ℕ → Type 0
-AreOthersSame before after places starts =
-    (node : Node) → (IsAtStart places starts node → ⊥) → (is_live before node || is_live after node) ≡ true
+-- what stands at none of these numbers is the same figure before and after, with the same sources
+abbrev pub AreOthersSame : BalanceSheet → BalanceSheet → (Node → ℕ → Type 0) → List ℕ → Type 0
+AreOthersSame before after At starts =
+    (node : Node) → (IsAtStart At starts node → ⊥) → (is_live before node || is_live after node) ≡ true
     → (is_live before node ≡ is_live after node) × (sources_of before node ≡ sources_of after node)

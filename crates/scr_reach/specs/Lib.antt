@@ -1,9 +1,4 @@
-pub mod Numbers
-pub mod Keys
-pub mod SameKey
 pub mod Linked
 pub mod Leading
-pub mod Marks
 pub mod Dues
 pub mod Relinking
-pub mod Joined

@@ -1,36 +1,45 @@
--- Figures at places, and the links from the places of their sources (this project's own).
-use Rattle.std.specs.Prelude.{◌≡◌, ◌++◌, ℕ, ◌<◌, true, List, [], Contains, Some, filter, length, map, nat_eq, slice_get, if◌then◌else◌}
+-- Figures by their numbers, and the links from the numbers of their sources (this project's own). Which number a figure has
+-- is told by At: a figure stands at a number.
+use Rattle.std.specs.Prelude.{◌≡◌, ℕ, ◌<◌, true, List, [], Contains, filter, map, nat_eq, if◌then◌else◌}
+use Rattle.std.specs.List.{AllZip}
 use Rattle.scr_links.specs.Edges.{Edge}
 use Rattle.scr_sheet.specs.declared.sheet.BalanceSheet.{BalanceSheet}
 use Rattle.scr_nodes.specs.declared.node.Node.{Node}
 use Rattle.scr_nodes.specs.Live.{is_live}
 use Rattle.scr_nodes.specs.Sources.{sources_of}
 
--- the numbers are the places of these figures, in the same order
-abbrev pub AreAt : List Node → List ℕ → List Node → Type 0
-AreAt places numbers nodes = map (slice_get places) numbers ≡ map Some nodes
+-- Each figure that the balance sheet has stands at one number, which is no other figure's. All are below the size.
+pub record AreNumbers (sheet : BalanceSheet) (At : Node → ℕ → Type 0) (size : ℕ) : Type 0 where
+  pub exact : (number : ℕ) (a b : Node) → At a number → At b number → a ≡ b
+  pub only : (node : Node) (n m : ℕ) → At node n → At node m → n ≡ m
+  pub live : (node : Node) → is_live sheet node ≡ true → (number : ℕ) × At node number
+  pub within : (node : Node) (number : ℕ) → At node number → number < size
 
-abbrev pub IsPlaced : List Node → Node → Type 0
-IsPlaced places node = Contains places node
+-- the numbers are those of these figures, in the same order
+abbrev pub AreAt : (Node → ℕ → Type 0) → List ℕ → List Node → Type 0
+AreAt At numbers nodes = AllZip (λ number node. At node number) numbers nodes
 
--- the edges to a place, and where they come from
+-- the edges to a number, and where they come from
 abbrev pub edges_to : List Edge → ℕ → List Edge
-edges_to edges place = filter (λ (e : Edge). nat_eq e.dependant place) edges
+edges_to edges number = filter (λ (e : Edge). nat_eq e.dependant number) edges
 
 abbrev pub sources_in : List Edge → ℕ → List ℕ
-sources_in edges place = map (λ (e : Edge). e.source) (edges_to edges place)
+sources_in edges number = map (λ (e : Edge). e.source) (edges_to edges number)
 
 -- what is linked to a figure: its sources, and nothing where the balance sheet does not have it
 abbrev pub linked_to : BalanceSheet → Node → List Node
 linked_to sheet node = if is_live sheet node then sources_of sheet node else []
 
--- each figure of the balance sheet has a place, and is linked to its sources in their order
-pub record AreLinked (sheet : BalanceSheet) (places : List Node) (edges : List Edge) : Type 0 where
-  pub placed : (node : Node) → is_live sheet node ≡ true → Contains places node
-  pub inside : (edge : Edge) → Contains edges edge → edge.dependant < length places
-  pub linked : (place : ℕ) (node : Node) → slice_get places place ≡ Some node
-      → AreAt places (sources_in edges place) (linked_to sheet node)
+-- each figure of the balance sheet is linked to its sources in their order, and nothing is linked to a number at which no
+-- figure stands
+pub record AreLinked (sheet : BalanceSheet) (At : Node → ℕ → Type 0) (edges : List Edge) : Type 0 where
+  pub linked : (node : Node) (number : ℕ) → At node number → AreAt At (sources_in edges number) (linked_to sheet node)
+  pub placed : (edge : Edge) → Contains edges edge → (node : Node) × At node edge.dependant
 
--- more figures may have a place than before, each that had one keeps it
-abbrev pub Grows : List Node → List Node → Type 0
-Grows old new = (more : List Node) × (new ≡ old ++ more)
+-- The same of figures of a kind: those that the balance sheet has are linked to their sources, and nothing is linked to any
+-- other number.
+pub record AreLinkedOf (sheet : BalanceSheet) (At : Node → ℕ → Type 0) (edges : List Edge) (P : Node → Type 0) : Type 0 where
+  pub done : (node : Node) (number : ℕ) → At node number → is_live sheet node ≡ true → P node
+      → AreAt At (sources_in edges number) (sources_of sheet node)
+  pub only : (edge : Edge) → Contains edges edge
+      → (node : Node) × At node edge.dependant × (is_live sheet node ≡ true) × P node

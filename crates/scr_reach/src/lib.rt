@@ -1,19 +1,9 @@
-//! The figures of a balance sheet as numbers: the place of each, the links from its sources, and what
-//! an edit reaches along them. How a figure is reckoned is no matter of this crate.
+//! The links between the numbers of a balance sheet's figures, and what an edit reaches along them. Which number a figure
+//! has, and how it is reckoned, is no matter of this crate.
 #![tactic(auto)]
 
-mod family;
-mod first_links;
-mod key;
 mod linking;
-mod numbers;
-mod places;
 mod relinking;
-mod slots;
-mod starts;
 
-pub use first_links::link_all;
-pub use linking::{linked_sources, places_near, places_of};
-pub use places::Places;
+pub use linking::{link, linked_sources};
 pub use relinking::relink;
-pub use starts::Starts;

@@ -1,15 +1,15 @@
 -- How far what is reached along edges is found.
-use Rattle.std.proofs.Common.{◌≡◌, ◌⊎◌, ℕ, ◌+◌, ◌<◌, ◌≤◌, suc, zero, Bool, true, false, List, [], ◌∷◌, ◌++◌, nat_eq, Contains, filter, if◌then◌else◌, length, map, slice_get, Some, refl, sym, ap, subst, ◌∙◌, inl, inr, arith}
+use Rattle.std.proofs.Common.{◌≡◌, ◌⊎◌, ℕ, ◌+◌, ◌<◌, ◌≤◌, suc, zero, Bool, true, false, List, [], ◌∷◌, ◌++◌, nat_eq, Contains, filter, if◌then◌else◌, length, map, slice_get, take, Some, get_or, refl, sym, ap, subst, ◌∙◌, inl, inr, arith}
 use Rattle.std.specs.List.{IsDistinct, list_any}
 use Rattle.std.proofs.lemmas.Bool.{cases_lt}
 use Rattle.std.proofs.lemmas.Bool.Decides.{eqb_tells}
 use Rattle.std.proofs.lemmas.Option.{slice_get_within}
-use Rattle.std.proofs.lemmas.List.{append_assoc, append-nil}
+use Rattle.std.proofs.lemmas.List.{append_assoc, append-nil, length-take, take-append-le, take_all}
 use Rattle.indexmap.specs.IndexSet.{insert_all, insert_key}
 use Rattle.scr_links.specs.Edges.{Edge, Linked, dependants_of}
 use Rattle.scr_rounds.specs.Reached.{AreReached, IsReached}
 use Rattle.scr_rounds.specs.Reached.IsReached.{begins, follows}
-use Rattle.scr_rounds.proofs.Members.{IsMember, IsMember-from_Contains, Contains-from_IsMember, IsMember-left, IsMember-right, IsMember-map, IsMember-mapped, IsMember-from_place, place_of, inserted_cases, member-from_any}
+use Rattle.scr_rounds.proofs.Members.{IsMember, IsMember-from_Contains, Contains-from_IsMember, IsMember-left, IsMember-right, IsMember-map, IsMember-mapped, IsMember-from_place, place_of, inserted, inserted_cases, member-from_any}
 
 -- ---- what is entered
 
@@ -58,6 +58,28 @@ entered_cases keys (y ∷ ys) x m = by (entered_cases (insert_key nat_eq keys y)
     by : IsMember x (insert_key nat_eq keys y) ⊎ IsMember x ys → IsMember x keys ⊎ IsMember x (y ∷ ys)
     by (inl k) = old (inserted_cases keys y x k)
     by (inr k) = inr (inr k)
+
+-- what differs from all is entered as it stands
+all_entered : (keys xs : List ℕ) → IsDistinct nat_eq (keys ++ xs) → insert_all nat_eq keys xs ≡ keys ++ xs
+all_entered keys [] once = sym (append-nil keys)
+all_entered keys (x ∷ xs) once =
+    let one = inserted keys xs (keys ++ x ∷ xs) x once refl in
+    all_entered (insert_key nat_eq keys x) xs (subst (IsDistinct nat_eq) (sym one) once) ∙ one
+
+-- ---- the starts come first
+
+pub first_entered : (starts : List ℕ) → IsDistinct nat_eq starts
+    → take (length starts) (insert_all nat_eq [] starts) ≡ starts
+first_entered starts once =
+    ap (take (length starts)) (all_entered [] starts once) ∙ take_all (length starts) starts (omega arith)
+
+pub first_stays : (starts keys xs later : List ℕ) → take (length starts) keys ≡ starts
+    → later ≡ insert_all nat_eq keys xs → take (length starts) later ≡ starts
+first_stays starts keys xs later first is =
+    let on = grown keys xs in
+    let long : length starts ≤ length keys =
+    omega (arith, length-take (length starts) keys, ap length first) in
+    ap (take (length starts)) (is ∙ on.1) ∙ take-append-le (length starts) keys on.0 long ∙ first
 
 -- ---- the dependants of a number
 
@@ -201,3 +223,13 @@ climbed_all edges starts keys place h l once = record {
     all : (n : ℕ) → IsReached edges starts n → IsMember n keys
     all _ (begins n c) = h.begun n (IsMember-from_Contains starts n c)
     all _ (follows edge c reached) = closed edge c (all edge.source reached)
+
+-- ---- what can be marked
+
+-- the dependants of a number are below the number that those of every edge are below
+pub dependants_below : (links : Linked) (n size : ℕ) → ((k : ℕ) (e : Edge) → k < length links.edges
+    → get_or links.edges k e ≡ e → e.dependant < size) → (d : ℕ) → IsMember d (dependants_in links n) → d < size
+dependants_below links n size below d m =
+    let on = dependant_edge links n d m in
+    let at = Contains-from_IsMember links.edges on.0 on.1 in
+    subst (λ x. x < size) on.3 (below at.0 on.0 at.1 at.2)

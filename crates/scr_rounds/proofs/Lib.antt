@@ -4,3 +4,4 @@ pub mod Placing
 pub mod Rounds
 pub mod Climbing
 pub mod Reaching
+pub mod Marking

@@ -1,47 +1,59 @@
 //! What is reached along edges.
-ghost use Rattle.std.specs.Prelude.{◌≡◌, [], IfOk, OnOk, map, nat_eq};
+ghost use Rattle.std.specs.Prelude.{◌≡◌, ◌<◌, ◌≤◌, [], All, OnOk, length, map, nat_eq, take};
+ghost use Rattle.std.specs.List.{IsDistinct};
 ghost use Rattle.indexmap.specs.IndexSet.{insert_all};
 ghost use Rattle.scr_links.specs.Edges.{dependants_of};
 ghost use Rattle.scr_rounds.specs.Reached.{AreReached};
 
-use indexmap::IndexSet;
+use crate::marks::Marked;
 use scr_links::Links;
-use std::alloc::{AllocError as NoMemory, Global};
+use std::alloc::AllocError as NoMemory;
 
-/// All numbers that are among the starts or are reached from one of them along edges, each from a
-/// source to its dependant. Each comes once. It costs what is reached and the edges of that. Only
-/// want of memory is refused.
-pub fn climb(alloc: Global, links: &Links, starts: &[u32]) -> Result<Vec<u32>, NoMemory>
-    ensures { IfOk result (λ list. AreReached links.now.edges starts.now list.items) }
+/// Marks all numbers that are among the starts or are reached from one of them along edges, each from a
+/// source to its dependant. Each comes once, and the starts come first in their order. It costs what
+/// is reached and the edges of that. Only want of memory is refused.
+pub fn mark_reached(marked: &mut Marked, links: &Links, starts: &[u32]) -> Result<(), NoMemory>
+    requires none { marked.old.list ≡ [] }
+    requires links { links.now.size ≤ marked.old.size }
+    requires starts { All (λ start. start < marked.old.size) starts.now }
+    requires apart { IsDistinct nat_eq starts.now }
+    ensures size { marked.new.size ≡ marked.old.size }
+    ensures reached { OnOk result (AreReached links.now.edges starts.now marked.new.list) }
+    ensures first { OnOk result (take (length starts.now) marked.new.list ≡ starts.now) }
 {
-    let mut reached = begun(alloc, starts)?;
+    links.size();
+    mark_all(marked, starts)?;
     let mut place = 0;
-    while place < reached.len() {
-        let number = reached.as_slice()[place];
-        enter(&mut reached, links, number)?;
+    while place < marked.as_slice().len() {
+        let number = marked.as_slice()[place];
+        mark_dependants(marked, links, number)?;
         place += 1;
     }
-    Vec::from_slice(alloc, reached.as_slice())
+    Ok(())
 }
 
-/// The starts, each once.
-fn begun(alloc: Global, starts: &[u32]) -> Result<IndexSet<u32>, NoMemory>
-    ensures { IfOk result (λ reached. reached.keys ≡ insert_all nat_eq [] starts.now) }
+/// Marks the starts.
+fn mark_all(marked: &mut Marked, starts: &[u32]) -> Result<(), NoMemory>
+    requires { All (λ start. start < marked.old.size) starts.now }
+    ensures size { marked.new.size ≡ marked.old.size }
+    ensures list { OnOk result (marked.new.list ≡ insert_all nat_eq marked.old.list starts.now) }
 {
-    let mut reached = IndexSet::new(alloc);
     for start in starts {
-        reached.insert(*start)?;
+        marked.insert(*start)?;
     }
-    Ok(reached)
+    Ok(())
 }
 
-/// Enters the dependants of a number that were not reached before.
-fn enter(reached: &mut IndexSet<u32>, links: &Links, number: u32) -> Result<(), NoMemory>
-    ensures { OnOk result (reached.new.keys ≡ insert_all nat_eq reached.old.keys
+/// Marks the dependants of a number.
+fn mark_dependants(marked: &mut Marked, links: &Links, number: u32) -> Result<(), NoMemory>
+    requires { links.now.size ≤ marked.old.size }
+    ensures size { marked.new.size ≡ marked.old.size }
+    ensures list { OnOk result (marked.new.list ≡ insert_all nat_eq marked.old.list
         (map (λ edge. edge.0) (dependants_of links.now number))) }
 {
+    links.size();
     for (dependant, _) in links.dependants(number) {
-        reached.insert(dependant)?;
+        marked.insert(dependant)?;
     }
     Ok(())
 }

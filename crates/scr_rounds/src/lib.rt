@@ -4,7 +4,9 @@
 
 mod climbs;
 pub mod laws;
+mod marks;
 mod ranks;
 
-pub use climbs::climb;
-pub use ranks::{Due, by_rank};
+pub use climbs::mark_reached;
+pub use marks::Marked;
+pub use ranks::{Due, by_rank, put};

@@ -13,7 +13,7 @@ use Rattle.scr_sheet.specs.declared.{rows.Bank.Bank, sheet.BalanceSheet.BalanceS
 use Rattle.scr_nodes.specs.OwnOf.{reinsured}
 use Rattle.scr_nodes.specs.Rows.{is_bank_of, is_reinsurer_of}
 use Rattle.scr_default.specs.LossesEnds.{lgd_bank_grains}
-use Rattle.scr_rules.specs.DefaultExact.{total_where, bank_grains, reinsurer_grains}
+use Rattle.scr_rules.specs.DefaultGrains.{total_where, bank_grains, reinsurer_grains}
 use Rattle.scr_rules.specs.DefaultFits.{FitsSquares}
 use Rattle.scr_rules.specs.DefaultRules.{reinsured_grains, losses_grains, squares_total}
 use Rattle.scr_rules.specs.Figures.{amount_of}

@@ -22,7 +22,7 @@ use Rattle.scr_nodes.specs.OwnOf.{own_of, reinsured, risk_key}
 use Rattle.scr_nodes.specs.Rows.{is_bank_of, is_reinsurer_of, is_of_default_class}
 use Rattle.scr_nodes.specs.Sources.{sources_of, group_loss, losses_of_class}
 use Rattle.scr_rules.specs.DefaultFits.{IsReinsured}
-use Rattle.scr_rules.specs.DefaultExact.{group_grains}
+use Rattle.scr_rules.specs.DefaultGrains.{group_grains}
 use Rattle.scr_rules.specs.Figures.{amount_at, figure_at}
 use Rattle.scr_rules.specs.Fits.{Fits}
 use Rattle.scr_rules.specs.Worked.{worked}

@@ -28,7 +28,7 @@ use Rattle.scr_nodes.specs.declared.node.Risk.TheVariants as risks
 use Rattle.scr_nodes.specs.OwnOf.{reinsured, risk_key}
 use Rattle.scr_nodes.specs.Rows.{is_bank_of, is_reinsurer_of, is_of_default_class}
 use Rattle.scr_nodes.specs.Sources.{group_loss, losses_of_class}
-use Rattle.scr_rules.specs.DefaultExact.{group_grains, class_grains, class_square_grains, in_classes, total_grains, overdue_cents, other_due_cents}
+use Rattle.scr_rules.specs.DefaultGrains.{group_grains, class_grains, class_square_grains, in_classes, total_grains, overdue_cents, other_due_cents}
 use Rattle.scr_rules.specs.DefaultRules.{reinsured_grains, losses_grains}
 use Rattle.scr_rules.specs.Figures.{amount_of}
 use Rattle.scr_rules.specs.Worked.{worked}

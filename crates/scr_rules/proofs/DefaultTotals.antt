@@ -12,7 +12,7 @@ use Rattle.scr_sheet.specs.declared.{rows.Bank.Bank, rows.Group.Group, rows.Rein
 use Rattle.scr_nodes.specs.declared.node.Node.{Node}
 use Rattle.scr_nodes.specs.Rows.{is_bank_of, is_reinsurer_of, is_of_default_class, class_of_step}
 use Rattle.scr_nodes.proofs.OwnRows.{distinct-groups}
-use Rattle.scr_rules.specs.DefaultExact.{total_where, bank_grains, reinsurer_grains, group_grains, class_grains, class_square_grains, total_grains}
+use Rattle.scr_rules.specs.DefaultGrains.{total_where, bank_grains, reinsurer_grains, group_grains, class_grains, class_square_grains, total_grains}
 use Rattle.scr_rules.proofs.Currencies.{each-row-once}
 
 -- ---- sums over the rows that pass a test

@@ -1,21 +1,12 @@
--- The figures of the rows of a table that pass a test: how large they are together, what they sum to, and what their sum
--- encloses.
-use Rattle.std.proofs.Common.{◌≡◌, ℕ, ◌+◌, ◌<◌, ◌≤◌, Bool, true, false, List, [], ◌∷◌, ◌++◌, map, filter, sum_by, if◌then◌else◌, unsigned_abs, pos, ◌+ℤ◌, refl, ap, ap₂, sym, subst, ◌∙◌, arith}
+-- The figures of the rows of a table that pass a test: how large they are together, and what they sum to.
+use Rattle.std.proofs.Common.{◌≡◌, ℕ, ◌+◌, ◌≤◌, Bool, true, false, List, [], ◌∷◌, ◌++◌, map, filter, sum_by, if◌then◌else◌, unsigned_abs, pos, ◌+ℤ◌, refl, ap, ap₂, sym, ◌∙◌, arith}
 use Rattle.std.specs.List.{AllByRecursion}
 use Rattle.std.proofs.lemmas.Int.{ints}
 use Rattle.std.proofs.lemmas.List.Sums.{sum_by-cons, sum_by-append}
-use Rattle.scr_num.specs.Fraction.{Fraction, zero_fraction, plus}
-use Rattle.scr_num.specs.Figure.{Frac}
-use Rattle.scr_num.specs.Enclosure.{Encloses}
 use Rattle.scr_num.specs.Rounding.{Ends, exact_ends, add_ends}
 use Rattle.scr_num.specs.Sizes.{IsWithin, AreTogether}
 use Rattle.scr_num.specs.Sums.{sum_ends}
-use Rattle.scr_num.proofs.AddedEnds.{zero-add_ends}
-use Rattle.scr_num.proofs.Enclosing.{Encloses-add, Encloses-plus}
-use Rattle.scr_num.proofs.SumLemmas.{Encloses-zero}
-use Rattle.scr_names.specs.Names.{same_name}
 use Rattle.scr_nodes.specs.declared.node.Node.{Node}
-use Rattle.scr_rules.specs.InterestExact.{sum_in}
 
 -- ---- how large they are together
 pub together-none : (most : ℕ) → AreTogether most []
@@ -78,33 +69,3 @@ module _ {Row : Type 0} (figure : Node → Ends) (node_of : Row → Node) where
           same : sum_by (λ r. if test r then cents r else 0) (row ∷ rows) ≡ 0 + sum_by (λ r. if test r then cents r else 0) rows
               → sum_by (λ r. if test r then cents r else 0) rows ≡ sum_by (λ r. if test r then cents r else 0) (row ∷ rows)
           same e = omega (arith, e)
-
--- ---- what the sum encloses
-module _ (unit : ℕ) (positive : 0 < unit) where
-  abbrev pub Enclosed : Ends → Fraction → Type 0
-  Enclosed e p = Encloses unit e.low e.high (Frac p)
-
-  pub sum-encloses : (a b : Ends) (p q : Fraction) → Enclosed a p → Enclosed b q → Enclosed (add_ends a b) (plus p q)
-  sum-encloses a b p q h k = Encloses-plus unit _ _ p q (Encloses-add unit a.low a.high b.low b.high (Frac p) (Frac q) h k)
-
-  module _ {Row : Type 0} (figure : Node → Ends) (node_of : Row → Node) (test : Row → Bool) (currency_of : Row → List ℕ) (part : Row → Fraction) (currency : List ℕ) where
-    -- what a row adds to the sum
-    abbrev pub added : Row → Fraction
-    added row = if same_name currency (currency_of row) then part row else zero_fraction
-
-    -- the figure of a row that passes the test encloses it, and of another there is nothing
-    pub record IsRowEnclosed (row : Row) : Type 0 where
-      pub passes : test row ≡ true → Enclosed (figure (node_of row)) (added row)
-      pub fails : test row ≡ false → Enclosed (exact_ends (pos 0)) (added row)
-
-    pub rows-enclose : (rows : List Row) → AllByRecursion IsRowEnclosed rows → Enclosed (sum_ends (map figure (map node_of (filter test rows)))) (sum_in currency_of part currency rows)
-    rows-enclose [] each = Encloses-zero unit positive
-    rows-enclose (row ∷ rows) each = by (test row) each.0.passes each.0.fails (rows-enclose rows each.1)
-      where
-        by : (b : Bool) → (b ≡ true → Enclosed (figure (node_of row)) (added row)) → (b ≡ false → Enclosed (exact_ends (pos 0)) (added row))
-            → Enclosed (sum_ends (map figure (map node_of (filter test rows)))) (sum_in currency_of part currency rows)
-            → Enclosed (sum_ends (map figure (map node_of (if b then row ∷ filter test rows else filter test rows)))) (plus (added row) (sum_in currency_of part currency rows))
-        by true h k rest = sum-encloses (figure (node_of row)) (sum_ends (map figure (map node_of (filter test rows)))) (added row) (sum_in currency_of part currency rows) (h refl) rest
-        by false h k rest =
-            subst (λ (e : Ends). Enclosed e (plus (added row) (sum_in currency_of part currency rows))) (zero-add_ends (sum_ends (map figure (map node_of (filter test rows)))))
-            (sum-encloses (exact_ends (pos 0)) (sum_ends (map figure (map node_of (filter test rows)))) (added row) (sum_in currency_of part currency rows) (k refl) rest)

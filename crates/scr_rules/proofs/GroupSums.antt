@@ -14,7 +14,7 @@ use Rattle.scr_sheet.specs.Validity.{Valid}
 use Rattle.scr_sheet.specs.declared.{rows.Bank.Bank, rows.Group.Group, rows.Rein.Rein, sheet.BalanceSheet.BalanceSheet}
 use Rattle.scr_nodes.specs.Rows.{is_bank_of, is_reinsurer_of}
 use Rattle.scr_nodes.proofs.OwnRows.{distinct-groups}
-use Rattle.scr_rules.specs.DefaultExact.{total_where, bank_grains, reinsurer_grains, group_grains}
+use Rattle.scr_rules.specs.DefaultGrains.{total_where, bank_grains, reinsurer_grains, group_grains}
 use Rattle.scr_rules.specs.GroupLosses.{AreLossesOf, first_loss, first_losses, loss_of, with_loss}
 use Rattle.scr_rules.proofs.DefaultCode.{losses-split}
 use Rattle.scr_rules.proofs.DefaultTotals.{group-small}

@@ -1,38 +1,28 @@
 -- How large the worked figures of biometric stresses are for a valid balance sheet, and what those of one liability enclose.
-use Rattle.std.proofs.Common.{◌≡◌, ℕ, ◌+◌, ◌*◌, ◌^◌, ◌≤◌, Bool, true, false, List, [], ◌∷◌, length, get_or, map, sum_by, if◌then◌else◌, unsigned_abs, ℤ, pos, negsuc, ◌-ℤ◌, ◌≤ℤ◌, ap, sym, subst, ◌∙◌, Some, arith, lit<}
+use Rattle.std.proofs.Common.{◌≡◌, ℕ, ◌+◌, ◌*◌, ◌^◌, ◌≤◌, Bool, true, false, List, [], ◌∷◌, length, map, sum_by, if◌then◌else◌, unsigned_abs, ℤ, pos, negsuc, ◌≤ℤ◌, ap, sym, subst, ◌∙◌, Some, arith}
 use Rattle.std.specs.Int.{int_max}
 use Rattle.std.specs.List.{AllByRecursion}
 use Rattle.std.specs.Option.{option_map_or}
 use Rattle.std.proofs.lemmas.Int.{ints, clamps}
 use Rattle.std.proofs.lemmas.Nat.{mul-le}
 use Rattle.std.proofs.lemmas.List.Elements.{All-from_recursion}
-use Rattle.std.proofs.lemmas.List.FromFn.{length-map-range_with_len}
 use Rattle.std.proofs.lemmas.List.Sums.{sum_by-cons}
 use Rattle.scr_num.specs.Amounts.{IsAmount}
-use Rattle.scr_num.specs.Fraction.{Fraction, minus}
-use Rattle.scr_num.specs.Figure.{Frac}
-use Rattle.scr_num.specs.Enclosure.{Encloses}
 use Rattle.scr_num.specs.Rounding.{Ends, exact_ends, max_ends, or_zero}
 use Rattle.scr_num.specs.Sizes.{IsWithin, AreTogether}
 use Rattle.scr_num.specs.Sums.{sum_ends}
 use Rattle.scr_num.proofs.AmountBounds.{amount-high, amount-wider}
 use Rattle.scr_dates.specs.Civil.{IsDay}
 use Rattle.scr_dates.specs.declared.day.Day.{Day}
-use Rattle.scr_curve.specs.Discount.{discount_exact}
 use Rattle.scr_curve.specs.DiscountEnds.{one}
 use Rattle.scr_curve.specs.Parts.{IsCurveInMillionths}
-use Rattle.scr_curve.specs.Rate.{rate}
-use Rattle.scr_curve.specs.declared.tilt.Tilt.TheVariants as tilts
 use Rattle.scr_curve.specs.declared.table.TheConstants.{MAX_DISCOUNT}
-use Rattle.scr_flow.specs.Due.{due_in, AreNear}
+use Rattle.scr_flow.specs.Due.{due_in}
 use Rattle.scr_flow.specs.LossEnds.{present_ends}
-use Rattle.scr_flow.specs.Payments.{payments_exact}
-use Rattle.scr_flow.proofs.OneValue.{Encloses-one, by-maturity}
 use Rattle.scr_flow.proofs.SizeLemmas.{dues-within, present-within}
-use Rattle.scr_flow.proofs.SumLemmas.{Encloses-weighted}
 use Rattle.scr_agg.specs.Absorbed.{net_ends}
 use Rattle.scr_agg.specs.Unbeaten.{Alternative}
-use Rattle.scr_agg.proofs.ChosenAmounts.{Encloses-counted, amount-net, amount-chosen_gross, amount-chosen_net}
+use Rattle.scr_agg.proofs.ChosenAmounts.{amount-net, amount-chosen_gross, amount-chosen_net}
 use Rattle.scr_bio.specs.BiometricEnds.{life_ends, slt_ends}
 use Rattle.scr_bio.proofs.BiometricBounds.{loss-size}
 use Rattle.scr_rate.specs.InterestEnds.{gross_ends}
@@ -61,17 +51,17 @@ use Rattle.scr_nodes.specs.Rows.{liability_of, rates_of, is_stressed}
 use Rattle.scr_nodes.specs.Sources.{liability_loss, losses_under, life_parts, slt_parts}
 use Rattle.scr_nodes.proofs.OwnRows.{own-liabilities}
 use Rattle.scr_discounts.specs.Discounts.{discounts_at}
-use Rattle.scr_rules.specs.LifeExact.{stress_loss}
 use Rattle.scr_rules.specs.LifeFits.{AreSortable, FitsExcess}
 use Rattle.scr_rules.specs.RootFits.{AreNotNegative, high_total}
 use Rattle.scr_rules.specs.LifeRules.{excess_dues, excess_ends}
 use Rattle.scr_rules.specs.Worked.{worked}
 use Rattle.scr_rules.proofs.Equations.{worked-equation}
-use Rattle.scr_rules.proofs.ExcessValues.{apart-small, apart-worth, equals-trans, equals-minus}
+use Rattle.scr_rules.proofs.ExcessValues.{apart-small}
 use Rattle.scr_rules.proofs.Gathered.{rows-together, together-wider}
 use Rattle.scr_discounts.proofs.CurveRows.{at-rates}
 use Rattle.scr_rules.proofs.Payments.{are-near, liability-known, liability-fits}
-use Rattle.scr_rules.proofs.RowAmounts.{Enclosed, amount-within, enclosed-ordered, rows-amount}
+use Rattle.scr_rules.proofs.PaymentsEnclosed.{difference-encloses}
+use Rattle.scr_rules.proofs.RowAmounts.{amount-within, enclosed-ordered, rows-amount}
 
 -- the most that a scenario costs, in grains
 abbrev pub most_of_scenario : ℕ
@@ -147,9 +137,6 @@ excess-fits sheet valid projection name l is =
 
 -- ---- one liability
 module _ (asof : ℤ) (stressed base : List (Day × ℤ)) (rates : List ℤ) (curve : IsCurveInMillionths rates) where
-  abbrev worth : ℕ → Fraction
-  worth years = discount_exact (rate rates tilts.Base years) years
-
   abbrev difference : Ends
   difference = present_ends (excess_dues asof stressed base) (discounts_at rates).base
 
@@ -160,19 +147,6 @@ module _ (asof : ℤ) (stressed base : List (Day × ℤ)) (rates : List ℤ) (cu
       let few = mul-le MAX_DISCOUNT (sum_by unsigned_abs (excess_dues asof stressed base)) MAX_DISCOUNT (total stressed + total base) (omega arith)
       (omega (arith, apart-small (due_in asof stressed) (due_in asof base) 1 100, dues-within asof stressed, dues-within asof base)) in
       record { low = omega (arith, h.low, few); high = omega (arith, h.high, few) }
-
-  difference-encloses : AreNear asof stressed → AreNear asof base → Enclosed one difference (minus (payments_exact worth asof stressed) (payments_exact worth asof base))
-  difference-encloses near near' =
-      let flows = excess_dues asof stressed base in
-      let table = (discounts_at rates).base in
-      let is = (at-rates rates curve).base in
-      let count : length flows ≡ 100 = length-map-range_with_len (λ years. due_in asof stressed years -ℤ due_in asof base years) 1 100 in
-      let all = Encloses-weighted one (lit< tt) worth 1 flows table (count ∙ sym is.count)
-      (λ k d within. subst (λ (j : ℕ). Encloses one (get_or table k d).low (get_or table k d).high (Frac (worth j))) (omega arith) (is.encloses.each k d within)) in
-      Encloses-one one _ _ _ _
-      (equals-trans _ _ _ (apart-worth worth (due_in asof stressed) (due_in asof base) 1 100)
-      (equals-minus _ _ _ _ (by-maturity worth asof stressed near) (by-maturity worth asof base near')))
-      all
 
 module _ (factors : FactorValues) (sheet : BalanceSheet) (valid : Valid sheet) where
   abbrev figure : Node → Ends
@@ -193,15 +167,6 @@ module _ (factors : FactorValues) (sheet : BalanceSheet) (valid : Valid sheet) w
   abbrev pub loss_most : Projection → Liability → ℕ
   loss_most projection l = MAX_DISCOUNT * (total (flows_under projection l.flows) + total l.flows.base)
 
-  pub loss-encloses : (projection : Projection) (name : List ℕ) (l : Liability) → liability_of name sheet.liabilities ≡ Some l
-      → Enclosed one (figure (nodes.Liability name (of_liabilities.Loss projection))) (stress_loss sheet projection l)
-  unfolding stress_loss excess_ends
-  loss-encloses projection name l is =
-      let fits = excess-fits sheet valid projection name l is in
-      subst (λ (e : Ends). Enclosed one e (stress_loss sheet projection l)) (sym (excess-worked projection name l is))
-      (Encloses-counted one _ _
-      (difference-encloses sheet.numbers.asof.number (flows_under projection l.flows) l.flows.base (rates_of l.currency sheet) fits.rates fits.stressed_flows.near fits.base.near))
-
   pub loss-amount : (projection : Projection) (name : List ℕ) (l : Liability) → liability_of name sheet.liabilities ≡ Some l
       → IsAmount (loss_most projection l) (figure (nodes.Liability name (of_liabilities.Loss projection)))
   unfolding excess_ends
@@ -212,7 +177,7 @@ module _ (factors : FactorValues) (sheet : BalanceSheet) (valid : Valid sheet) w
       let rates = rates_of l.currency sheet in
       subst (IsAmount (loss_most projection l)) (sym (excess-worked projection name l is))
       (cut-amount (loss_most projection l) _
-      (enclosed-ordered _ _ (difference-encloses asof stressed l.flows.base rates fits.rates fits.stressed_flows.near fits.base.near))
+      (enclosed-ordered _ _ (difference-encloses asof stressed l.flows.base rates (discounts_at rates) (at-rates rates fits.rates).base fits.stressed_flows.near fits.base.near))
       (difference-within asof stressed l.flows.base rates fits.rates))
 
   -- ---- all liabilities of a kind

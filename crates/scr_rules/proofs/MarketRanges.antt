@@ -40,7 +40,8 @@ use Rattle.scr_nodes.specs.Sources.{sources_of, gross_of}
 use Rattle.scr_rules.specs.Fits.{Fits}
 use Rattle.scr_rules.specs.MarketFits.{FitsWorth}
 use Rattle.scr_rules.specs.Worked.{worked}
-use Rattle.scr_rules.proofs.MarketSizes.{first-are, others-are, worths-count, held-sum, assets-small, owed-small, tested-together, change-amount, picked-together, property-amount, bonds-together, spread-amount, group-worked, group-small, assets-worked, all-assets-small, group-part, squares-together, squares-amount, concentration-amount, interest-mask, mask-amount, six_most, six-amounts, change-most-small}
+use Rattle.scr_rules.proofs.MarketSizes.{held-sum, assets-small, owed-small, tested-together, change-amount, picked-together, property-amount, bonds-together, spread-amount, group-worked, group-small, assets-worked, all-assets-small, group-part, squares-together, squares-amount, concentration-amount, interest-mask, mask-amount, six_most, six-amounts, change-most-small}
+use Rattle.scr_rules.proofs.WorthsIn.{first-are, others-are, worths-count}
 use Rattle.scr_rules.proofs.RootAmounts.{root-fits}
 use Rattle.scr_rules.proofs.Payments.{liability-known, liability-fits}
 use Rattle.scr_rules.proofs.Sizes.{class-amount}
@@ -71,11 +72,11 @@ module _ (factors : FactorValues) (sheet : BalanceSheet) (valid : Valid sheet) w
   -- ---- currencies
   pub change-fits : (currency : List ℕ) (direction : Direction) → NodeFits (nodes.Currency currency (of_currencies.Scenario direction measures.Gross))
   change-fits currency direction = record {
-    count = worths-count factors sheet valid currency;
-    held = subst (AreTogether (10 ^ 33)) (sym (first-are factors sheet valid currency)) (tested-together factors sheet valid _);
-    assets = subst (λ es. IsAmount MAX_HELD (sum_ends es)) (sym (first-are factors sheet valid currency))
+    count = worths-count sheet (worked factors sheet) currency;
+    held = subst (AreTogether (10 ^ 33)) (sym (first-are sheet (worked factors sheet) currency)) (tested-together factors sheet valid _);
+    assets = subst (λ es. IsAmount MAX_HELD (sum_ends es)) (sym (first-are sheet (worked factors sheet) currency))
         (subst (IsAmount MAX_HELD) (sym (held-sum factors sheet valid currency)) (amount-exact MAX_HELD _ (assets-small factors sheet valid currency)));
-    owed = subst (AreTogether (10 ^ 33)) (sym (others-are factors sheet valid currency)) (owed-small factors sheet valid currency);
+    owed = subst (AreTogether (10 ^ 33)) (sym (others-are sheet (worked factors sheet) currency)) (owed-small factors sheet valid currency);
   }
 
   absorbed-small : (currency : List ℕ) (direction : Direction) → currency_absorbed sheet currency direction ≤ MAX_AMOUNT

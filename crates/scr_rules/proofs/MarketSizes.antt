@@ -1,10 +1,8 @@
 -- How large the worked figures of market risk are, besides those of equity risk.
-use Rattle.std.proofs.Common.{◌≡◌, ℕ, ◌+◌, ◌*◌, ◌^◌, ◌<◌, ◌≤◌, Bool, true, false, List, [], ◌∷◌, ◌++◌, length, map, filter, take, drop, sum_by, if◌then◌else◌, unsigned_abs, pos, ◌≤ℤ◌, refl, ap, ap₂, sym, subst, ◌∙◌, Option, Some, None, is_some, arith, lit<, lit≤, ◌*ℤ◌}
+use Rattle.std.proofs.Common.{◌≡◌, ℕ, ◌+◌, ◌*◌, ◌^◌, ◌<◌, ◌≤◌, Bool, true, false, List, [], ◌∷◌, map, filter, sum_by, if◌then◌else◌, unsigned_abs, pos, ◌≤ℤ◌, refl, ap, ap₂, sym, subst, ◌∙◌, Option, Some, None, is_some, arith, lit<, lit≤, ◌*ℤ◌}
 use Rattle.std.specs.List.{AllByRecursion}
 use Rattle.std.specs.Option.{option_map_or}
-use Rattle.std.proofs.Math.Seq.{take-append_seam, drop-append_seam}
 use Rattle.std.proofs.lemmas.Int.{ints, clamps}
-use Rattle.std.proofs.lemmas.List.{map-append, length-map, length-append}
 use Rattle.std.proofs.lemmas.List.Sums.{sum_by-le-sum_by}
 use Rattle.scr_num.specs.Amounts.{IsAmount, AreAmounts}
 use Rattle.scr_num.specs.Rounding.{Ends, exact_ends, sub_ends, max_ends, scale_ends, or_zero}
@@ -61,25 +59,27 @@ use Rattle.scr_nodes.specs.declared.node.OfCurrency.TheVariants as of_currencies
 use Rattle.scr_nodes.specs.declared.node.OfGroup.TheVariants as of_groups
 use Rattle.scr_nodes.specs.declared.node.Whole.TheVariants as wholes
 use Rattle.scr_nodes.specs.declared.node.Risk.TheVariants as risks
-use Rattle.scr_nodes.specs.OwnOf.{interest_key, risk_key, valued, currency_absorbed, held_in, paid_by_security, paid_by_liability, bond_stressed, group_square}
+use Rattle.scr_nodes.specs.OwnOf.{interest_key, risk_key, valued, currency_absorbed, paid_by_security, paid_by_liability, bond_stressed, group_square}
 use Rattle.scr_nodes.specs.Own.Own.{Stressed, Square}
 use Rattle.scr_nodes.specs.Rows.{is_paying_in, is_owed_in, is_held_in, is_foreign, is_of_group, has_class, has_group, liability_of, group_of, step_of}
-use Rattle.scr_nodes.specs.Sources.{security_total, security_rate, liability_rate, liability_present, currency_loss, currency_picked, security_spread, concentration_square, rates_in, worths_in, gross_of, risk_part}
+use Rattle.scr_nodes.specs.Sources.{security_total, security_rate, liability_rate, liability_present, currency_loss, currency_picked, security_spread, concentration_square, rates_in, gross_of, risk_part}
 use Rattle.scr_nodes.proofs.Chosen.{each-chosen}
 use Rattle.scr_nodes.proofs.OwnRows.{own-securities, own-liabilities, own-groups, distinct-groups}
+use Rattle.scr_discounts.proofs.CurveRows.{at-rates}
 use Rattle.scr_discounts.specs.Discounts.{discounts_at}
 use Rattle.scr_rules.specs.Discounts.{own_discounts}
-use Rattle.scr_rules.specs.Holdings.{security_cents, class_total}
-use Rattle.scr_rules.specs.MarketExact.{assets_in, group_cents, assets_cents, exposure_to}
+use Rattle.scr_rules.specs.Holdings.{security_cents, class_total, assets_in, group_cents, assets_cents, exposure_to}
 use Rattle.scr_rules.specs.MarketRules.{worth_ends, foreign_ends, group_square_ends}
 use Rattle.scr_rules.specs.Rules.{amount_of, rule}
 use Rattle.scr_rules.specs.Worked.{worked}
 use Rattle.scr_rules.proofs.Currencies.{most_in, each-row-once}
 use Rattle.scr_rules.proofs.Equations.{worked-equation}
 use Rattle.scr_rules.proofs.Gathered.{together-wider, rows-together, all-together, rows-sum}
-use Rattle.scr_rules.proofs.MarketPayments.{worth-within, worth-encloses}
+use Rattle.scr_rules.proofs.MarketPayments.{worth-within}
 use Rattle.scr_rules.proofs.MarketSums.{amount-within, at-most, tested-times, all-times, IsOrdered, ordered-sum, rows-amount, all-sum}
-use Rattle.scr_rules.proofs.Payments.{security-known, liability-known, security-fits, liability-fits, paid-encloses}
+use Rattle.scr_rules.proofs.Payments.{security-known, liability-known, security-fits, liability-fits}
+use Rattle.scr_rules.proofs.PaymentsEnclosed.{paid-encloses, worth-encloses}
+use Rattle.scr_rules.proofs.WorthsIn.{first-are, others-are}
 use Rattle.scr_rules.proofs.SeenThrough.{seen-small}
 use Rattle.scr_rules.proofs.Sizes.{unit-worked, rate-worked, cost-worked, lost-worked, gross-worked, gross-small, class-worked, class-small, root-amount}
 use Rattle.scr_rules.proofs.Totals.{security-worked}
@@ -179,7 +179,7 @@ module _ (factors : FactorValues) (sheet : BalanceSheet) (valid : Valid sheet) w
   pub present-ordered : (name : List ℕ) (l : Liability) → liability_of name sheet.liabilities ≡ Some l → IsOrdered (figure (nodes.Liability name of_liabilities.Present))
   present-ordered name l is =
       let fits = liability-fits sheet valid directions.Up l (liability-known sheet valid name l is) in
-      subst IsOrdered (sym (present-worked name l is)) (enclosing-in_order one _ _ _ (worth-encloses (valued sheet l) fits.rates fits.near))
+      subst IsOrdered (sym (present-worked name l is)) (enclosing-in_order one _ _ _ (worth-encloses (valued sheet l) (discounts_at (valued sheet l).rates) (at-rates (valued sheet l).rates fits.rates).base fits.near))
 
   -- ---- a foreign currency
   abbrev pub held_ends : List ℕ → List Ends
@@ -187,24 +187,6 @@ module _ (factors : FactorValues) (sheet : BalanceSheet) (valid : Valid sheet) w
 
   abbrev pub owed_ends : List ℕ → List Ends
   owed_ends currency = map figure (map liability_present (filter (is_owed_in currency) sheet.liabilities))
-
-  worths-are : (currency : List ℕ) → map figure (worths_in currency sheet) ≡ held_ends currency ++ owed_ends currency
-  worths-are currency = map-append figure (map security_total (filter (is_held_in currency) sheet.securities)) (map liability_present (filter (is_owed_in currency) sheet.liabilities))
-
-  held-count : (currency : List ℕ) → length (held_ends currency) ≡ held_in currency sheet
-  held-count currency = length-map (map security_total (filter (is_held_in currency) sheet.securities)) figure ∙ length-map (filter (is_held_in currency) sheet.securities) security_total
-
-  pub first-are : (currency : List ℕ) → take (held_in currency sheet) (map figure (worths_in currency sheet)) ≡ held_ends currency
-  first-are currency =
-      ap₂ (λ (n : ℕ) (es : List Ends). take n es) (sym (held-count currency)) (worths-are currency) ∙ take-append_seam (held_ends currency) (owed_ends currency)
-
-  pub others-are : (currency : List ℕ) → drop (held_in currency sheet) (map figure (worths_in currency sheet)) ≡ owed_ends currency
-  others-are currency =
-      ap₂ (λ (n : ℕ) (es : List Ends). drop n es) (sym (held-count currency)) (worths-are currency) ∙ drop-append_seam (held_ends currency) (owed_ends currency)
-
-  pub worths-count : (currency : List ℕ) → held_in currency sheet ≤ length (map figure (worths_in currency sheet))
-  worths-count currency =
-      omega (arith, held-count currency, ap (λ (es : List Ends). length es) (worths-are currency), length-append (held_ends currency) (owed_ends currency))
 
   pub held-sum : (currency : List ℕ) → sum_ends (held_ends currency) ≡ exact_ends (pos (assets_in currency sheet))
   unfolding assets_in
@@ -255,7 +237,7 @@ module _ (factors : FactorValues) (sheet : BalanceSheet) (valid : Valid sheet) w
       ≡ foreign_ends direction (assets_in currency sheet) (sum_ends (owed_ends currency))
   change-worked direction currency =
       worked-equation factors sheet valid (nodes.Currency currency (of_currencies.Scenario direction measures.Gross))
-      ∙ ap₂ (λ (a b : Ends). foreign_ends direction (amount_of a) b) (ap sum_ends (first-are currency) ∙ held-sum currency) (ap sum_ends (others-are currency))
+      ∙ ap₂ (λ (a b : Ends). foreign_ends direction (amount_of a) b) (ap sum_ends (first-are sheet figure currency) ∙ held-sum currency) (ap sum_ends (others-are sheet figure currency))
 
   change-size : (direction : Direction) (currency : List ℕ) → IsAmount (change_most currency) (foreign_ends direction (assets_in currency sheet) (sum_ends (owed_ends currency)))
   change-size direction currency = by direction
@@ -500,14 +482,14 @@ module _ (factors : FactorValues) (sheet : BalanceSheet) (valid : Valid sheet) w
   rate-ordered : (direction : Direction) (name : List ℕ) (p : Position) → position_of name sheet.securities ≡ Some p → IsOrdered (figure (nodes.Security name (of_securities.Rate direction)))
   rate-ordered direction name p is =
       let fits = security-fits sheet valid direction p (security-known sheet valid name p is) in
-      let unit = subst IsOrdered (sym (unit-worked factors sheet valid direction name p is)) (enclosing-in_order one _ _ _ (paid-encloses (paid_by_security sheet direction p) fits.near fits.rates)) in
+      let unit = subst IsOrdered (sym (unit-worked factors sheet valid direction name p is)) (enclosing-in_order one _ _ _ (paid-encloses (paid_by_security sheet direction p) (discounts_at (paid_by_security sheet direction p).rates) (at-rates (paid_by_security sheet direction p).rates fits.rates) fits.near fits.rates)) in
       subst IsOrdered (sym (rate-worked factors sheet valid direction name p is)) (ordered-scaled (figure (nodes.Security name (of_securities.UnitLoss direction))) (total_of sheet name) 1_000_000 (lit< tt) unit)
 
   cost-ordered : (direction : Direction) (name : List ℕ) (l : Liability) → liability_of name sheet.liabilities ≡ Some l → IsOrdered (figure (nodes.Liability name (of_liabilities.Rate direction)))
   cost-ordered direction name l is =
       let fits = liability-fits sheet valid direction l (liability-known sheet valid name l is) in
       subst IsOrdered (sym (cost-worked factors sheet valid direction name l is))
-      (ordered-cost _ (enclosing-in_order one _ _ _ (paid-encloses (paid_by_liability sheet direction l) fits.near fits.rates)))
+      (ordered-cost _ (enclosing-in_order one _ _ _ (paid-encloses (paid_by_liability sheet direction l) (discounts_at (paid_by_liability sheet direction l).rates) (at-rates (paid_by_liability sheet direction l).rates fits.rates) fits.near fits.rates)))
 
   rates-ordered : (direction : Direction) (currency : List ℕ) → IsOrdered (sum_ends (map figure (rates_in currency direction sheet)))
   rates-ordered direction currency =

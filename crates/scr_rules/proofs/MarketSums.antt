@@ -1,18 +1,14 @@
--- What the figures of the rows that pass a test come to together: how large their sum is, what it is where each is exact,
--- and what it encloses.
-use Rattle.std.proofs.Common.{◌≡◌, ℕ, ◌+◌, ◌*◌, ◌<◌, ◌≤◌, Bool, true, false, List, [], ◌∷◌, map, filter, sum_by, if◌then◌else◌, pos, ◌+ℤ◌, ◌≤ℤ◌, refl, ap, ap₂, sym, subst, ◌∙◌, arith}
+-- What the figures of the rows that pass a test come to together: how large their sum is, and what it is where each is
+-- exact.
+use Rattle.std.proofs.Common.{◌≡◌, ℕ, ◌+◌, ◌*◌, ◌≤◌, Bool, true, false, List, [], ◌∷◌, map, filter, sum_by, if◌then◌else◌, pos, ◌+ℤ◌, ◌≤ℤ◌, refl, ap, ap₂, sym, subst, ◌∙◌, arith}
 use Rattle.std.specs.List.{AllByRecursion}
 use Rattle.std.proofs.lemmas.Int.{ints}
 use Rattle.std.proofs.lemmas.List.Sums.{sum_by-cons}
 use Rattle.scr_num.specs.Amounts.{IsAmount}
-use Rattle.scr_num.specs.Enclosure.{Encloses}
-use Rattle.scr_num.specs.Figure.{Frac}
-use Rattle.scr_num.specs.Fraction.{Fraction}
 use Rattle.scr_num.specs.Rounding.{Ends, exact_ends, add_ends}
 use Rattle.scr_num.specs.Sizes.{IsWithin}
-use Rattle.scr_num.specs.Sums.{sum_ends, sum_fraction, EncloseEach}
+use Rattle.scr_num.specs.Sums.{sum_ends}
 use Rattle.scr_num.proofs.AmountBounds.{amount-exact, amount-wider, amount-add}
-use Rattle.scr_num.proofs.SumLemmas.{Encloses-sum_fraction}
 use Rattle.scr_nodes.specs.declared.node.Node.{Node}
 
 pub amount-within : (most : ℕ) (e : Ends) → IsAmount most e → IsWithin most e
@@ -69,25 +65,6 @@ module _ {Row : Type 0} (figure : Node → Ends) (node_of : Row → Node) where
           subst (λ (n : ℕ). IsAmount n (add_ends (figure (node_of row)) (sum_ends (map figure (map node_of (filter test rows)))))) (sym is)
           (amount-add _ _ (figure (node_of row)) (sum_ends (map figure (map node_of (filter test rows)))) (h refl) later)
       by false h later is = amount-wider _ _ (sum_ends (map figure (map node_of (filter test rows)))) (omega (arith, is)) later
-
-  -- place by place
-  pub rows-each : (unit : ℕ) (test : Row → Bool) (part : Row → Fraction) (rows : List Row)
-      → AllByRecursion (λ row. test row ≡ true → Encloses unit (figure (node_of row)).low (figure (node_of row)).high (Frac (part row))) rows
-      → EncloseEach unit (map figure (map node_of (filter test rows))) (map Frac (map part (filter test rows)))
-  rows-each unit test part [] each = tt
-  rows-each unit test part (row ∷ rows) each = by (test row) each.0 (rows-each unit test part rows each.1)
-    where
-      by : (b : Bool) → (b ≡ true → Encloses unit (figure (node_of row)).low (figure (node_of row)).high (Frac (part row)))
-          → EncloseEach unit (map figure (map node_of (filter test rows))) (map Frac (map part (filter test rows)))
-          → EncloseEach unit (map figure (map node_of (if b then row ∷ filter test rows else filter test rows))) (map Frac (map part (if b then row ∷ filter test rows else filter test rows)))
-      by true h later = (h refl, later)
-      by false h later = later
-
-  pub rows-sum_enclosed : (unit : ℕ) → 0 < unit → (test : Row → Bool) (part : Row → Fraction) (rows : List Row)
-      → AllByRecursion (λ row. test row ≡ true → Encloses unit (figure (node_of row)).low (figure (node_of row)).high (Frac (part row))) rows
-      → let e = sum_ends (map figure (map node_of (filter test rows))) in Encloses unit e.low e.high (Frac (sum_fraction (map part (filter test rows))))
-  rows-sum_enclosed unit positive test part rows each =
-      Encloses-sum_fraction unit positive (map figure (map node_of (filter test rows))) (map part (filter test rows)) (rows-each unit test part rows each)
 
   -- ---- of all rows, where each is exact
   pub all-sum : (count : Row → ℕ) (rows : List Row) → AllByRecursion (λ row. figure (node_of row) ≡ exact_ends (pos (count row))) rows

@@ -1,30 +1,25 @@
--- The payments of a row of a valid balance sheet: their rule fits, how large what they lose is, and what encloses it.
-use Rattle.std.proofs.Common.{◌≡◌, ℕ, ◌*◌, ◌≤◌, ℤ, Bool, true, false, cond, List, [], ◌∷◌, length, sum_by, unsigned_abs, refl, sym, subst, ◌∙◌, Some, le_refl, arith}
+-- The payments of a row of a valid balance sheet: their rule fits, and how large what they lose is.
+use Rattle.std.proofs.Common.{◌≡◌, ℕ, ◌*◌, ◌≤◌, ℤ, Bool, true, false, cond, List, [], ◌∷◌, sum_by, unsigned_abs, refl, sym, subst, Some, le_refl, arith}
 use Rattle.std.specs.Prelude.{All, int_le, nat_le}
 use Rattle.std.specs.List.{AllByRecursion}
 use Rattle.std.specs.Option.{option_map_or}
 use Rattle.std.proofs.lemmas.Bool.Decides.{nat_tests}
 use Rattle.std.proofs.lemmas.Nat.{mul-le}
 use Rattle.std.proofs.lemmas.List.Elements.{All-from_recursion}
-use Rattle.scr_num.specs.Figure.{Frac}
-use Rattle.scr_num.specs.Enclosure.{Encloses}
 use Rattle.scr_num.specs.Rounding.{Ends}
 use Rattle.scr_dates.specs.Civil.{IsDay}
 use Rattle.scr_dates.specs.Years.{maturity_of, years_to}
 use Rattle.scr_dates.specs.declared.day.Day.{Day}
 use Rattle.scr_dates.specs.declared.term.Maturity.TheVariants.{Past, Years, TooFar}
-use Rattle.scr_curve.specs.DiscountEnds.{one, table_ends, IsDiscount}
+use Rattle.scr_curve.specs.DiscountEnds.{table_ends, IsDiscount}
 use Rattle.scr_curve.specs.Parts.{IsCurveInMillionths, rates_in_parts}
-use Rattle.scr_curve.specs.Rate.{rate}
 use Rattle.scr_curve.specs.declared.tilt.Tilt.{Tilt}
 use Rattle.scr_curve.specs.declared.tilt.Tilt.TheVariants as tilts
 use Rattle.scr_curve.specs.declared.table.TheConstants.{MAX_DISCOUNT}
-use Rattle.scr_curve.proofs.RateLemmas.{rates_are, rates_in_range, length-rates_in_parts}
-use Rattle.scr_curve.proofs.TableLemmas.{length-ends_from, table_in_range, table_encloses}
+use Rattle.scr_curve.proofs.RateLemmas.{rates_in_range, length-rates_in_parts}
+use Rattle.scr_curve.proofs.TableLemmas.{table_in_range}
 use Rattle.scr_flow.specs.Due.{dues, paid_total, AreNear}
-use Rattle.scr_flow.specs.Payments.{payments_loss_exact}
 use Rattle.scr_num.specs.Sizes.{IsWithin}
-use Rattle.scr_flow.proofs.LossesEnclosed.{payments-encloses}
 use Rattle.scr_flow.proofs.SizeLemmas.{loss-within, dues-within}
 use Rattle.scr_names.proofs.TableRows.{All-row_of}
 use Rattle.scr_sheet.specs.BalanceSheet.{position_name, liability_name, curve_name, position_of, security_years, liability_years}
@@ -166,20 +161,3 @@ paid-within paid most curve small =
     (changed paid.direction (discounts_at paid.rates))
     (subst (All IsDiscount) (sym (base-is paid.rates)) (tables paid.rates tilts.Base curve))
     (subst (All IsDiscount) (sym (changed-is paid.direction paid.rates)) (tables paid.rates (tilt_of paid.direction) curve)))
-
--- ---- and what encloses it
-pub paid-encloses : (paid : Paid) → AreNear paid.asof paid.payments → IsCurveInMillionths paid.rates
-    → Encloses one (paid_ends paid (discounts_at paid.rates)).low (paid_ends paid (discounts_at paid.rates)).high
-    (Frac (payments_loss_exact paid.asof paid.payments (rate paid.rates tilts.Base) (rate paid.rates (tilt_of paid.direction))))
-unfolding paid_ends rates_in_parts discounts_at
-paid-encloses paid near curve =
-    rw (base-is paid.rates, changed-is paid.direction paid.rates)
-    (payments-encloses paid.asof paid.payments (rates_in_parts paid.rates tilts.Base) (rates_in_parts paid.rates (tilt_of paid.direction))
-    (table_ends (rates_in_parts paid.rates tilts.Base)) (table_ends (rates_in_parts paid.rates (tilt_of paid.direction)))
-    (rate paid.rates tilts.Base) (rate paid.rates (tilt_of paid.direction)) near
-    (length-rates_in_parts paid.rates tilts.Base) (length-ends_from 1 (rates_in_parts paid.rates tilts.Base) ∙ length-rates_in_parts paid.rates tilts.Base)
-    (length-rates_in_parts paid.rates (tilt_of paid.direction)) (length-ends_from 1 (rates_in_parts paid.rates (tilt_of paid.direction)) ∙ length-rates_in_parts paid.rates (tilt_of paid.direction))
-    (rates_are paid.rates tilts.Base curve) (rates_are paid.rates (tilt_of paid.direction) curve)
-    (table_encloses (rates_in_parts paid.rates tilts.Base) (rate paid.rates tilts.Base) (rates_in_range paid.rates tilts.Base curve) (rates_are paid.rates tilts.Base curve))
-    (table_encloses (rates_in_parts paid.rates (tilt_of paid.direction)) (rate paid.rates (tilt_of paid.direction)) (rates_in_range paid.rates (tilt_of paid.direction) curve)
-    (rates_are paid.rates (tilt_of paid.direction) curve)))

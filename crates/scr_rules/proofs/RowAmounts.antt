@@ -1,22 +1,18 @@
--- Sums of the figures of rows that pass a test: how large they are, and what they enclose.
-use Rattle.std.proofs.Common.{◌≡◌, ℕ, ◌+◌, ◌<◌, Bool, true, false, List, [], ◌∷◌, map, filter, sum_by, if◌then◌else◌, pos, ◌≤ℤ◌, refl, sym, subst, arith}
+-- Sums of the figures of rows that pass a test: how large they are.
+use Rattle.std.proofs.Common.{◌≡◌, ℕ, ◌+◌, Bool, true, false, List, [], ◌∷◌, map, filter, sum_by, if◌then◌else◌, ◌≤ℤ◌, refl, sym, subst, arith}
 use Rattle.std.specs.List.{AllByRecursion}
 use Rattle.std.proofs.lemmas.Int.{ints}
 use Rattle.std.proofs.lemmas.List.Sums.{sum_by-cons}
 use Rattle.scr_num.specs.Amounts.{IsAmount}
-use Rattle.scr_num.specs.Fraction.{Fraction, over, zero_fraction, plus}
+use Rattle.scr_num.specs.Fraction.{Fraction, over}
 use Rattle.scr_num.specs.Figure.{Frac, AtMost}
 use Rattle.scr_num.specs.Enclosure.{Encloses}
-use Rattle.scr_num.specs.Rounding.{Ends, exact_ends, add_ends}
+use Rattle.scr_num.specs.Rounding.{Ends, add_ends}
 use Rattle.scr_num.specs.Sizes.{IsWithin}
 use Rattle.scr_num.specs.Sums.{sum_ends}
-use Rattle.scr_num.proofs.AddedEnds.{zero-add_ends}
 use Rattle.scr_num.proofs.AmountBounds.{amount-exact, amount-add, amount-wider}
 use Rattle.scr_num.proofs.Fractions.{≼_trans}
-use Rattle.scr_num.proofs.SumLemmas.{Encloses-zero}
 use Rattle.scr_nodes.specs.declared.node.Node.{Node}
-use Rattle.scr_rules.specs.LifeExact.{sum_where}
-use Rattle.scr_rules.proofs.Gathered.{sum-encloses}
 
 -- the ends enclose the fraction
 abbrev pub Enclosed : ℕ → Ends → Fraction → Type 0
@@ -47,16 +43,3 @@ module _ {Row : Type 0} (figure : Node → Ends) (node_of : Row → Node) (test 
           subst (λ n. IsAmount n (add_ends (figure (node_of row)) (sum_ends (map figure (map node_of (filter test rows)))))) (sym is)
           (amount-add (most row) _ (figure (node_of row)) (sum_ends (map figure (map node_of (filter test rows)))) (h refl) later)
       by false h later is = amount-wider _ _ (sum_ends (map figure (map node_of (filter test rows)))) (omega (arith, is)) later
-
-  -- the sum encloses the sum
-  pub where-encloses : (unit : ℕ) → 0 < unit → (part : Row → Fraction) (rows : List Row) → AllByRecursion (λ row. test row ≡ true → Enclosed unit (figure (node_of row)) (part row)) rows
-      → Enclosed unit (sum_ends (map figure (map node_of (filter test rows)))) (sum_where test part rows)
-  where-encloses unit positive part [] each = Encloses-zero unit positive
-  where-encloses unit positive part (row ∷ rows) each = by (test row) each.0 (where-encloses unit positive part rows each.1)
-    where
-      by : (b : Bool) → (b ≡ true → Enclosed unit (figure (node_of row)) (part row)) → Enclosed unit (sum_ends (map figure (map node_of (filter test rows)))) (sum_where test part rows)
-          → Enclosed unit (sum_ends (map figure (map node_of (if b then row ∷ filter test rows else filter test rows)))) (plus (if b then part row else zero_fraction) (sum_where test part rows))
-      by true h later = sum-encloses unit positive (figure (node_of row)) (sum_ends (map figure (map node_of (filter test rows)))) (part row) (sum_where test part rows) (h refl) later
-      by false h later =
-          subst (λ (e : Ends). Enclosed unit e (plus zero_fraction (sum_where test part rows))) (zero-add_ends (sum_ends (map figure (map node_of (filter test rows)))))
-          (sum-encloses unit positive (exact_ends (pos 0)) (sum_ends (map figure (map node_of (filter test rows)))) zero_fraction (sum_where test part rows) (Encloses-zero unit positive) later)

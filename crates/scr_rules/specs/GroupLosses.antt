@@ -5,7 +5,7 @@ use Rattle.scr_sheet.specs.declared.rows.Group.{Group}
 use Rattle.scr_sheet.specs.declared.sheet.BalanceSheet.{BalanceSheet}
 use Rattle.scr_nodes.specs.OwnOf.{reinsured}
 use Rattle.scr_nodes.specs.Rows.{is_bank_of, is_reinsurer_of}
-use Rattle.scr_rules.specs.DefaultExact.{total_where, bank_grains, reinsurer_grains}
+use Rattle.scr_rules.specs.DefaultGrains.{total_where, bank_grains, reinsurer_grains}
 use Rattle.scr_rules.specs.DefaultRules.{losses_grains}
 
 -- by all banks and reinsurers of the group of this name

@@ -7,7 +7,7 @@ ghost use Rattle.scr_default.specs.declared.TheConstants.{MAX_LOSS};
 ghost use Rattle.scr_sheet.specs.Validity.{Valid};
 ghost use Rattle.scr_nodes.specs.OwnOf.{reinsured};
 ghost use Rattle.scr_nodes.specs.Rows.{is_bank_of, is_reinsurer_of};
-ghost use Rattle.scr_rules.specs.DefaultExact.{total_where, bank_grains, reinsurer_grains, overdue_cents, other_due_cents};
+ghost use Rattle.scr_rules.specs.DefaultGrains.{total_where, bank_grains, reinsurer_grains, overdue_cents, other_due_cents};
 ghost use Rattle.scr_rules.specs.DefaultFits.{FitsLosses, FitsSquares, FitsVariance, FitsBand, FitsDue};
 ghost use Rattle.scr_rules.specs.DefaultRules.{losses_grains, squares_total, variance_from, loss_total, bands_from, banded_from};
 ghost use Rattle.scr_rules.specs.Figures.{figure_at, amount_of};

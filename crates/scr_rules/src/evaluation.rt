@@ -1,14 +1,18 @@
 //! The figure of a node from those of its sources.
 ghost use Rattle.std.specs.Prelude.{◌≡◌, ◌+◌, map, IfSome};
 ghost use Rattle.scr_num.specs.Rounding.{ends};
-ghost use Rattle.scr_nodes.specs.OwnOf.{own_of, currency_absorbed};
+ghost use Rattle.scr_nodes.specs.OwnOf.{own_of, currency_absorbed, interest_key as of_interest, stress_absorbed as absorbed_of_stress};
+ghost use Rattle.scr_nodes.specs.declared.node.Node.TheVariants as nodes;
 ghost use Rattle.scr_nodes.specs.Sources.{sources_of};
+ghost use Rattle.scr_sheet.specs.Absorptions.{absorbed};
 ghost use Rattle.scr_sheet.specs.Validity.{Valid};
 ghost use Rattle.scr_rules.specs.Fits.{Fits};
 ghost use Rattle.scr_rules.specs.GroupLosses.{AreLossesOf};
+ghost use Rattle.scr_discounts.specs.Discounts.{no_discounts};
 ghost use Rattle.scr_discounts.specs.Kept.{rows_of, all_discounts, AreDiscountsOf};
 ghost use Rattle.scr_rules.specs.Discounts.{discounts_in};
 ghost use Rattle.scr_discounts.specs.KeptRates.{AreRatesOf};
+ghost use Rattle.scr_rules.specs.OwnParts.{scenario_own};
 ghost use Rattle.scr_rules.specs.Rules.{rule};
 ghost use Rattle.scr_rules.specs.Worked.{worked};
 
@@ -16,9 +20,7 @@ use crate::GroupLosses;
 use crate::default_rules::{banded, bands, default, due, grains, losses, squares, variance};
 use crate::held::held;
 use crate::life_rules::{excess, life, slt, stress_absorbed};
-use crate::loss_rules::{
-    absorbing, bscr, cap, charge, diversification, premiums, provisions, requirement, taxed,
-};
+use crate::loss_rules::{adjusted, bscr, diversification, operational, requirement};
 use crate::market_rules::{
     foreign, market, property, spread, square, squares_root, stressed, worth,
 };
@@ -34,11 +36,12 @@ use scr_factors::{Factors, Set};
 use scr_io::Steps;
 use scr_nodes::single_numbers::{catastrophe_cents, interest_key, lapse_cents, risk_key};
 use scr_nodes::{
-    Adjustment, Direction, Measure, Node, OfCurrency, OfFund, OfGroup, OfLiability, OfSecurity,
-    Operational, Whole,
+    Biometric, Direction, Measure, Node, OfCurrency, OfFund, OfGroup, OfLiability, OfSecurity,
+    Whole,
 };
 use scr_num::Span;
 use scr_rate::{gross, total};
+use scr_sheet::Projection;
 use std::sync::ledger::Ledger;
 
 /// The figure of a node by its rule, from the figures of its sources in their order and from the discounts of the
@@ -164,97 +167,110 @@ fn figure(
 {
     match node {
         Node::Fund(name, OfFund::Total) => held(sheet, name, sheet.fund_hold(name), spans),
-        Node::Security(name, OfSecurity::Total) => held(
-            sheet,
-            name,
-            sheet.security_hold(name),
-            spans,
-        ),
-        Node::Security(name, OfSecurity::UnitLoss(direction)) => unit(
-            sheet, curves, kept, name, *direction,
-        ),
-        Node::Security(_, OfSecurity::Rate(_)) => scaled(spans),
-        Node::Liability(name, OfLiability::Rate(direction)) => cost(
-            sheet, curves, kept, name, *direction,
-        ),
-        Node::Currency(_, OfCurrency::Loss(_)) => lost(spans),
-        Node::Whole(Whole::InterestScenario(direction, measure)) => match measure {
-            Measure::Gross => gross(spans),
-            Measure::Net => net(spans, sheet.numbers.absorbed(interest_key(*direction))),
+        Node::Security(name, what) => match what {
+            OfSecurity::Total => held(sheet, name, sheet.security_hold(name), spans),
+            OfSecurity::UnitLoss(direction) => unit(sheet, curves, kept, name, *direction),
+            OfSecurity::Rate(_) => scaled(spans),
+            OfSecurity::Spread => stressed(factors, sheet, name, spans),
         },
-        Node::Whole(Whole::Choice(_)) => choice(spans),
-        Node::Whole(Whole::Picked(_, measure)) => picked(spans, *measure),
-        Node::Whole(Whole::ClassSum(_)) => total(spans),
-        Node::Whole(Whole::EquityPart(kind)) => fall(spans, *kind, sheet.numbers.sym),
-        Node::Whole(Whole::EquityRoot) => equities(spans),
-        Node::Whole(Whole::NetPart(risk)) => net(spans, sheet.numbers.absorbed(risk_key(*risk))),
-        Node::Liability(name, OfLiability::Present) => worth(sheet, curves, kept, name),
-        Node::Currency(currency, OfCurrency::Scenario(direction, measure)) => match measure {
-            Measure::Gross => foreign(sheet, currency, *direction, spans),
-            Measure::Net => net(spans, change_absorbed(sheet, currency, *direction)),
+        Node::Liability(name, what) => match what {
+            OfLiability::Rate(direction) => cost(sheet, curves, kept, name, *direction),
+            OfLiability::Present => worth(sheet, curves, kept, name),
+            OfLiability::Loss(projection) => excess(sheet, curves, kept, name, *projection),
         },
-        Node::Currency(_, OfCurrency::Choice) => choice(spans),
-        Node::Currency(_, OfCurrency::Picked(measure)) => picked(spans, *measure),
-        Node::Whole(Whole::Currency(_)) => total(spans),
-        Node::Whole(Whole::Property) => property(spans),
-        Node::Security(name, OfSecurity::Spread) => stressed(factors, sheet, name, spans),
-        Node::Whole(Whole::Spread) => spread(spans),
+        Node::Currency(currency, what) => match what {
+            OfCurrency::Loss(_) => lost(spans),
+            OfCurrency::Scenario(direction, measure) => match measure {
+                Measure::Gross => foreign(sheet, currency, *direction, spans),
+                Measure::Net => net(spans, change_absorbed(sheet, currency, *direction)),
+            },
+            OfCurrency::Choice => choice(spans),
+            OfCurrency::Picked(measure) => picked(spans, *measure),
+        },
         Node::Group(name, what) => match what {
             OfGroup::Total => total(spans),
             OfGroup::ConcentrationSquare => square(factors, sheet, name, spans),
             OfGroup::Loss => losses(sheet, name),
         },
-        Node::Whole(Whole::Assets) => total(spans),
-        Node::Whole(Whole::Concentration) => squares_root(spans),
-        Node::Whole(Whole::Market(_)) => market(spans),
-        Node::Liability(name, OfLiability::Loss(projection)) => excess(
-            sheet,
-            curves,
-            kept,
-            name,
-            *projection,
-        ),
-        Node::Whole(Whole::BioScenario(biometric, projection, measure)) => match measure {
-            Measure::Gross => gross(spans),
-            Measure::Net => net(spans, stress_absorbed(sheet, *biometric, *projection)),
-        },
-        Node::Whole(Whole::Life(_)) => life(spans),
-        Node::Whole(Whole::Slt(_)) => slt(spans),
-        Node::Whole(Whole::ClassLoss(_)) => total(spans),
-        Node::Whole(Whole::ClassSquare(_)) => squares(spans),
-        Node::Whole(Whole::Variance) => variance(spans),
-        Node::Whole(Whole::DefaultBand) => bands(spans),
-        Node::Whole(Whole::DefaultType1) => banded(spans),
-        Node::Whole(Whole::DefaultType2) => due(sheet),
-        Node::Whole(Whole::Default) => default(spans),
-        Node::Whole(Whole::Segment(set, number)) => segment(factors, &sheet.numbers, *set, *number),
-        Node::Whole(Whole::PremiumReserve(set)) => premium_reserve(factors, spans, *set),
-        Node::Whole(Whole::CatCharge(key)) => charged(
-            1000,
-            catastrophe_cents(&sheet.numbers, *key),
-        ),
-        Node::Whole(Whole::Lapse(set)) => charged(1000, lapse_cents(&sheet.numbers, *set)),
-        Node::Whole(Whole::Natural) => natural(spans),
-        Node::Whole(Whole::ManMade) => man_made(spans),
-        Node::Whole(Whole::NonlifeCatastrophe) => catastrophes(spans),
-        Node::Whole(Whole::HealthCatastrophe) => health_catastrophe(spans),
-        Node::Whole(Whole::Nslt(_)) => nslt(spans, lapse_cents(&sheet.numbers, Set::Nslt)),
-        Node::Whole(Whole::Health(_)) => health(spans),
-        Node::Whole(Whole::Nonlife(_)) => nonlife(spans, lapse_cents(&sheet.numbers, Set::Nl)),
-        Node::Whole(Whole::Intangible) => charged(800, sheet.numbers.intangible),
-        Node::Whole(Whole::Bscr(_)) => bscr(spans, sheet.numbers.intangible),
-        Node::Whole(Whole::OpPart(part)) => match part {
-            Operational::Premiums => premiums(&sheet.numbers),
-            Operational::Provisions => provisions(&sheet.numbers),
-            Operational::Cap => cap(spans),
-            Operational::Charge => charge(spans, sheet.numbers.earned[6]),
-        },
-        Node::Whole(Whole::Adjust(adjustment)) => match adjustment {
-            Adjustment::TechnicalProvisions => absorbing(spans, sheet.numbers.fdb),
-            Adjustment::DeferredTaxes => taxed(spans, sheet.numbers.tax, sheet.numbers.cap),
-        },
-        Node::Whole(Whole::Scr) => requirement(spans),
-        Node::Whole(Whole::Diversification) => diversification(spans, sheet.numbers.intangible),
+        Node::Whole(what) => of_whole(factors, sheet, what, spans),
+    }
+}
+
+/// The figure of the whole sheet, from those of its sources in their order.
+fn of_whole(factors: &Factors, sheet: &BalanceSheet, what: &Whole, spans: &[Span]) -> Span
+    requires fits { Fits (own_of factors.now sheet.now (nodes.Whole what.now)) (map ends spans.now) }
+    ensures { ends result
+        ≡ rule (own_of factors.now sheet.now (nodes.Whole what.now)) no_discounts (map ends spans.now) }
+{
+    match what {
+        Whole::InterestScenario(direction, measure) => interest(sheet, *direction, *measure, spans),
+        Whole::Choice(_) => choice(spans),
+        Whole::Picked(_, measure) => picked(spans, *measure),
+        Whole::ClassSum(_) | Whole::ClassLoss(_) => total(spans),
+        Whole::Currency(_) | Whole::Assets => total(spans),
+        Whole::EquityPart(kind) => fall(spans, *kind, sheet.numbers.sym),
+        Whole::EquityRoot => equities(spans),
+        Whole::NetPart(risk) => net(spans, sheet.numbers.absorbed(risk_key(*risk))),
+        Whole::Property => property(spans),
+        Whole::Spread => spread(spans),
+        Whole::Concentration => squares_root(spans),
+        Whole::Market(_) => market(spans),
+        Whole::ClassSquare(_) => squares(spans),
+        Whole::Variance => variance(spans),
+        Whole::DefaultBand => bands(spans),
+        Whole::DefaultType1 => banded(spans),
+        Whole::DefaultType2 => due(sheet),
+        Whole::Default => default(spans),
+        Whole::BioScenario(kind, under, measure) => stress(sheet, *kind, *under, *measure, spans),
+        Whole::Life(_) => life(spans),
+        Whole::Slt(_) => slt(spans),
+        Whole::Segment(set, number) => segment(factors, &sheet.numbers, *set, *number),
+        Whole::PremiumReserve(set) => premium_reserve(factors, spans, *set),
+        Whole::CatCharge(key) => charged(1000, catastrophe_cents(&sheet.numbers, *key)),
+        Whole::Lapse(set) => charged(1000, lapse_cents(&sheet.numbers, *set)),
+        Whole::Natural => natural(spans),
+        Whole::ManMade => man_made(spans),
+        Whole::NonlifeCatastrophe => catastrophes(spans),
+        Whole::HealthCatastrophe => health_catastrophe(spans),
+        Whole::Nslt(_) => nslt(spans, lapse_cents(&sheet.numbers, Set::Nslt)),
+        Whole::Health(_) => health(spans),
+        Whole::Nonlife(_) => nonlife(spans, lapse_cents(&sheet.numbers, Set::Nl)),
+        Whole::Intangible => charged(800, sheet.numbers.intangible),
+        Whole::Bscr(_) => bscr(spans, sheet.numbers.intangible),
+        Whole::OpPart(part) => operational(&sheet.numbers, *part, spans),
+        Whole::Adjust(adjustment) => adjusted(&sheet.numbers, *adjustment, spans),
+        Whole::Scr => requirement(spans),
+        Whole::Diversification => diversification(spans, sheet.numbers.intangible),
+    }
+}
+
+/// The requirement for a change of interest rates, before or after absorption.
+fn interest(sheet: &BalanceSheet, direction: Direction, measure: Measure, spans: &[Span]) -> Span
+    requires { Fits (scenario_own measure (absorbed (of_interest direction) sheet.now.numbers)) (map ends spans.now) }
+    ensures { ends result ≡ rule (scenario_own measure (absorbed (of_interest direction) sheet.now.numbers)) no_discounts
+        (map ends spans.now) }
+{
+    match measure {
+        Measure::Gross => gross(spans),
+        Measure::Net => net(spans, sheet.numbers.absorbed(interest_key(direction))),
+    }
+}
+
+/// The requirement for a biometric stress, before or after absorption.
+fn stress(
+    sheet: &BalanceSheet,
+    biometric: Biometric,
+    projection: Projection,
+    measure: Measure,
+    spans: &[Span],
+) -> Span
+    requires { Fits (scenario_own measure (absorbed_of_stress sheet.now biometric projection)) (map ends spans.now) }
+    ensures { ends result ≡ rule (scenario_own measure (absorbed_of_stress sheet.now biometric projection)) no_discounts
+        (map ends spans.now) }
+{
+    match measure {
+        Measure::Gross => gross(spans),
+        Measure::Net => net(spans, stress_absorbed(sheet, biometric, projection)),
     }
 }
 

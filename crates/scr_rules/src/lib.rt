@@ -1,5 +1,5 @@
-//! The reckoning of a balance sheet's figures: the rule of each, what each comes to as it is worked out and exactly, and the
-//! code that evaluates one.
+//! The reckoning of a balance sheet's figures: the rule of each, what each comes to as it is worked out, and the code that
+//! evaluates one.
 #![tactic(auto)]
 
 mod all_losses;

@@ -4,12 +4,17 @@ ghost use Rattle.std.specs.Prelude.{◌≡◌, ◌≤◌, map};
 ghost use Rattle.scr_num.specs.Rounding.{ends};
 ghost use Rattle.scr_loss.specs.Operational.{IsWithinLimits};
 ghost use Rattle.scr_loss.specs.OperationalEnds.{prem_ends, prov_ends};
-ghost use Rattle.scr_nodes.specs.OwnOf.{premiums_of, provisions_of};
+ghost use Rattle.scr_nodes.specs.OwnOf.{operational_own, premiums_of, provisions_of};
+ghost use Rattle.scr_discounts.specs.Discounts.{no_discounts};
+ghost use Rattle.scr_rules.specs.Fits.{Fits};
 ghost use Rattle.scr_rules.specs.LossFits.{IsRequirement, FitsBscr, FitsDiversified, FitsCharge, FitsAbsorbing, FitsTaxed, FitsRequirement};
 ghost use Rattle.scr_rules.specs.LossRules.{bscr_from, diversification_from, cap_from, charge_from, absorbing_from, taxed_from, requirement_from};
 ghost use Rattle.scr_rules.specs.Figures.{figure_at};
+ghost use Rattle.scr_rules.specs.OwnParts.{adjustment_own};
+ghost use Rattle.scr_rules.specs.Rules.{rule};
 
 use crate::spans::at;
+use scr_nodes::{Adjustment, Operational};
 use scr_num::Span;
 use scr_profile::OpInput;
 use scr_sheet::Numbers;
@@ -64,8 +69,32 @@ pub(crate) fn diversification(spans: &[Span], intangible: u64) -> Span
     )
 }
 
+/// Operational risk by premiums, by provisions, the cap of both, and all.
+pub(crate) fn operational(numbers: &Numbers, part: Operational, spans: &[Span]) -> Span
+    requires { Fits (operational_own part numbers.now) (map ends spans.now) }
+    ensures { ends result ≡ rule (operational_own part numbers.now) no_discounts (map ends spans.now) }
+{
+    match part {
+        Operational::Premiums => premiums(numbers),
+        Operational::Provisions => provisions(numbers),
+        Operational::Cap => cap(spans),
+        Operational::Charge => charge(spans, numbers.earned[6]),
+    }
+}
+
+/// The adjustment for what absorbs losses.
+pub(crate) fn adjusted(numbers: &Numbers, adjustment: Adjustment, spans: &[Span]) -> Span
+    requires { Fits (adjustment_own adjustment numbers.now) (map ends spans.now) }
+    ensures { ends result ≡ rule (adjustment_own adjustment numbers.now) no_discounts (map ends spans.now) }
+{
+    match adjustment {
+        Adjustment::TechnicalProvisions => absorbing(spans, numbers.fdb),
+        Adjustment::DeferredTaxes => taxed(spans, numbers.tax, numbers.cap),
+    }
+}
+
 /// Operational risk by earned premiums.
-pub(crate) fn premiums(numbers: &Numbers) -> Span
+fn premiums(numbers: &Numbers) -> Span
     requires { IsWithinLimits (premiums_of numbers.now) }
     ensures { ends result ≡ prem_ends (premiums_of numbers.now) }
 {
@@ -81,7 +110,7 @@ pub(crate) fn premiums(numbers: &Numbers) -> Span
 }
 
 /// Operational risk by technical provisions.
-pub(crate) fn provisions(numbers: &Numbers) -> Span
+fn provisions(numbers: &Numbers) -> Span
     requires { IsWithinLimits (provisions_of numbers.now) }
     ensures { ends result ≡ prov_ends (provisions_of numbers.now) }
 {
@@ -94,7 +123,7 @@ pub(crate) fn provisions(numbers: &Numbers) -> Span
 }
 
 /// What both are limited to.
-pub(crate) fn cap(spans: &[Span]) -> Span
+fn cap(spans: &[Span]) -> Span
     requires { IsRequirement (figure_at (map ends spans.now) 0) }
     ensures { ends result ≡ cap_from (map ends spans.now) }
 {
@@ -102,7 +131,7 @@ pub(crate) fn cap(spans: &[Span]) -> Span
 }
 
 /// All operational risk, from premiums, provisions and the cap, and from the expenses of unit-linked business in cents.
-pub(crate) fn charge(spans: &[Span], expenses: u64) -> Span
+fn charge(spans: &[Span], expenses: u64) -> Span
     requires { FitsCharge expenses (map ends spans.now) }
     ensures { ends result ≡ charge_from expenses (map ends spans.now) }
 {
@@ -110,7 +139,7 @@ pub(crate) fn charge(spans: &[Span], expenses: u64) -> Span
 }
 
 /// What technical provisions absorb, up to future discretionary benefits in cents.
-pub(crate) fn absorbing(spans: &[Span], benefits: u64) -> Span
+fn absorbing(spans: &[Span], benefits: u64) -> Span
     requires { FitsAbsorbing benefits (map ends spans.now) }
     ensures { ends result ≡ absorbing_from benefits (map ends spans.now) }
 {
@@ -118,7 +147,7 @@ pub(crate) fn absorbing(spans: &[Span], benefits: u64) -> Span
 }
 
 /// What deferred taxes absorb, at a rate in millionths and up to a cap in cents.
-pub(crate) fn taxed(spans: &[Span], rate: u32, cap: u64) -> Span
+fn taxed(spans: &[Span], rate: u32, cap: u64) -> Span
     requires { FitsTaxed rate cap (map ends spans.now) }
     ensures { ends result ≡ taxed_from rate cap (map ends spans.now) }
 {

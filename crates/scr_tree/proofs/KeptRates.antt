@@ -1,5 +1,5 @@
 -- All that is kept of rates stays where a record leaves the reference date and the rates of all currencies as they are.
-use Rattle.std.proofs.Common.{◌≡◌, ℕ, ℤ, true, List, [], ◌∷◌, map, Option, Some, None, refl, sym, ap, ◌∙◌}
+use Rattle.std.proofs.Common.{◌≡◌, ℕ, ℤ, true, List, [], ◌∷◌, map, Option, Some, None, refl, sym, ap, subst, ◌∙◌}
 use Rattle.std.specs.Option.{option_map_or}
 use Rattle.scr_names.specs.Tables.{row_of, with_row, changed}
 use Rattle.scr_names.proofs.TableRows.{same_or_other, same_name-is, name_of-row_of, row_of-here, row_of-later, with_row-here, with_row-later}
@@ -13,9 +13,12 @@ use Rattle.scr_sheet.specs.declared.keys.Table.TheVariants as tables
 use Rattle.scr_sheet.specs.declared.rows.Curve.{Curve}
 use Rattle.scr_sheet.specs.declared.sheet.BalanceSheet.{BalanceSheet}
 use Rattle.scr_discounts.specs.Discounts.{CurrencyDiscounts, discounts_at}
-use Rattle.scr_discounts.specs.KeptRates.{KnownRates, all_rates, falls_at, falls_of}
+use Rattle.scr_discounts.specs.Kept.{rows_of}
+use Rattle.scr_discounts.specs.KeptRates.{AreKeptBut, KnownRates, all_rates, falls_at, falls_of, known_of}
 use Rattle.scr_discounts.specs.declared.known.CurrencyFalls.{CurrencyFalls}
-use Rattle.scr_tree.specs.KeptRates.{keeps_rates}
+use Rattle.scr_discounts.specs.declared.known.Rates.{Rates}
+use Rattle.scr_discounts.proofs.FallRows.{kept-but}
+use Rattle.scr_tree.specs.KeptRates.{AreKeptFor, keeps_rates}
 
 module _ {Row X : Type 0} (name_of : Row → List ℕ) (f : Row → X) where
   -- a row in the place of one of its name that is the same for the map
@@ -85,3 +88,19 @@ rates-kept (edits.Remove table name) sheet keeps = refl
 rates-kept (edits.Absorb key cents) sheet keeps =
     known-kept sheet (applied (edits.Absorb key cents) sheet) refl (absorb-keeps discounts_at key _ sheet.curves) (absorb-keeps (λ rates. falls_at rates (discounts_at rates)) key _ sheet.curves)
 rates-kept edit sheet keeps = refl
+
+-- the rates that are kept of the currencies whose curves the record leaves
+pub kept-for : (edit : Edit) (before after : BalanceSheet) (kept : Rates) → after ≡ applied edit before
+    → known_of kept ≡ all_rates before → AreKeptFor edit after kept
+kept-for (edits.Curve currency rates) before after kept is same =
+    let old = row_of curve_name currency before.curves in
+    let new : Curve = record {
+      currency = currency;
+      rates = rates;
+      absorb_up = option_map_or (λ c. c.absorb_up) old 0;
+      absorb_down = option_map_or (λ c. c.absorb_down) old 0;
+    } in
+    subst (λ (sheet : BalanceSheet). AreKeptBut currency sheet.curves (rows_of kept.curves)) (sym is)
+    (subst (AreKeptBut currency (with_row curve_name new before.curves)) (sym (ap (λ (k : KnownRates). k.rows) same))
+    (kept-but before.curves new))
+kept-for edit before after kept is same = tt

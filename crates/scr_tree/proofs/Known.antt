@@ -1,9 +1,11 @@
--- Figures that are known at the places of a node's sources, gathered in their order.
-use Rattle.std.proofs.Common.{◌≡◌, ℕ, suc, zero, ◌+◌, ◌||◌, true, List, [], ◌∷◌, map, take, slice_get, Option, Some, None, is_some, Result, Ok, Err, IfOk, ◌++◌, ◌<◌, ◌≤◌, false, nat_eq, set, drop, length, arith, refl, sym, ap, ap₂, ◌∙◌, add-one}
+-- Figures that are known: read at their numbers, and written one after another.
+use Rattle.std.proofs.Common.{◌≡◌, ◌⊎◌, inl, inr, ℕ, zero, suc, ◌+◌, ◌||◌, ◌++◌, Bool, true, false, nat_eq, List, [], ◌∷◌, map, Some, None, slice_get, take, add-one, refl, sym, ap, ap₂, subst, ◌∙◌}
 use Rattle.std.specs.List.{AllByRecursion, AllZip, list_any}
-use Rattle.std.proofs.lemmas.Bool.{eq-eqb, ne_eqb}
 use Rattle.std.specs.Option.{option_map}
-use Rattle.scr_num.specs.Rounding.{Ends, ends}
+use Rattle.std.proofs.lemmas.Bool.{eqb-true, eq-eqb}
+use Rattle.std.proofs.lemmas.List.{map-append}
+use Rattle.scr_names.proofs.TableRows.{passes_or_fails}
+use Rattle.scr_num.specs.Rounding.{ends}
 use Rattle.scr_num.specs.declared.span.Span.{Span}
 use Rattle.scr_factors.specs.Values.{FactorValues}
 use Rattle.scr_sheet.specs.declared.sheet.BalanceSheet.{BalanceSheet}
@@ -11,95 +13,13 @@ use Rattle.scr_nodes.specs.declared.node.Node.{Node}
 use Rattle.scr_nodes.specs.declared.node.Node.TheVariants as nodes
 use Rattle.scr_nodes.specs.declared.node.OfCurrency.TheVariants as of_currencies
 use Rattle.scr_nodes.specs.declared.node.Whole.TheVariants as wholes
-use Rattle.scr_nodes.specs.Sources.{sources_of}
+use Rattle.scr_nodes.specs.Live.{is_live}
 use Rattle.scr_rules.specs.Close.{close_under, is_open_choice}
 use Rattle.scr_rules.specs.Worked.{worked}
-use Rattle.scr_reach.specs.Linked.{AreAt}
+use Rattle.scr_reach.specs.Linked.{AreAt, AreNumbers}
+use Rattle.scr_tree.specs.Figures.{AreKnownOf, AreReadAt, AreSpansOf, HasFigure, HaveFigures, IsPutRight, Worth, opens, worth_at, worth_of}
+use Rattle.scr_tree.specs.declared.figures.Below.{Below}
 use Rattle.scr_tree.specs.declared.figures.Figure.{Figure}
-use Rattle.scr_tree.specs.Figures.{Fresh, IsKnown, Worth, figure_at, opens, worth_at, worth_of}
-
-pub known-there : (found : Option Figure) (w : Worth) → option_map worth_of found ≡ Some w → is_some found ≡ true
-known-there None w h = absurd (cc)
-known-there (Some figure) w h = refl
-
-pub known-worth : (figure : Figure) (found : Option Figure) (w : Worth) → Some figure ≡ found → option_map worth_of found ≡ Some w → worth_of figure ≡ w
-known-worth figure None w is h = absurd (cc)
-known-worth figure (Some other) w is h = let same : figure ≡ other = cc in ap worth_of same ∙ (let g : worth_of other ≡ w = cc in g)
-
-module _ (factors : FactorValues) (sheet : BalanceSheet) (places : List Node) (kept : List Figure) (fresh : Fresh) where
-  pub all-there : (numbers : List ℕ) (list : List Node) → AreAt places numbers list → AllByRecursion (IsKnown factors sheet places kept fresh) numbers
-      → AllByRecursion (λ place. is_some (figure_at kept fresh place) ≡ true) numbers
-  all-there [] list at known = tt
-  all-there (p ∷ numbers) [] at known = absurd (cc)
-  all-there (p ∷ numbers) (n ∷ list) at known =
-      let head : slice_get places p ≡ Some n = cc in
-      let rest : AreAt places numbers list = cc in
-      (known-there (figure_at kept fresh p) (worth_at factors sheet n) (known.0 n head), all-there numbers list rest known.1)
-
-  pub gathered : (below : List Figure) (numbers : List ℕ) (list : List Node) → map Some below ≡ map (figure_at kept fresh) numbers
-      → AreAt places numbers list → AllByRecursion (IsKnown factors sheet places kept fresh) numbers
-      → map worth_of below ≡ map (worth_at factors sheet) list
-  gathered [] [] [] is at known = refl
-  gathered [] [] (n ∷ list) is at known = absurd (cc)
-  gathered [] (p ∷ numbers) list is at known = absurd (cc)
-  gathered (figure ∷ below) [] list is at known = absurd (cc)
-  gathered (figure ∷ below) (p ∷ numbers) [] is at known = absurd (cc)
-  gathered (figure ∷ below) (p ∷ numbers) (n ∷ list) is at known =
-      let head : Some figure ≡ figure_at kept fresh p = cc in
-      let rest : map Some below ≡ map (figure_at kept fresh) numbers = cc in
-      let here : slice_get places p ≡ Some n = cc in
-      let there : AreAt places numbers list = cc in
-      ap₂ (λ (x : Worth) (xs : List Worth). x ∷ xs) (known-worth figure (figure_at kept fresh p) (worth_at factors sheet n) head (known.0 n here))
-      (gathered below numbers list rest there known.1)
-
--- ---- what is read off gathered figures
-
-map-worked : (below : List Figure) → map ends (map (λ figure. figure.span) below) ≡ map (λ (w : Worth). w.worked) (map worth_of below)
-map-worked [] = refl
-map-worked (figure ∷ below) = ap (λ es. ends figure.span ∷ es) (map-worked below)
-
-map-each : (worth : Node → Worth) (f : Node → Ends) → ((n : Node) → (worth n).worked ≡ f n) → (list : List Node) → map (λ (w : Worth). w.worked) (map worth list) ≡ map f list
-map-each worth f same [] = refl
-map-each worth f same (n ∷ list) = ap₂ (λ (x : Ends) (xs : List Ends). x ∷ xs) (same n) (map-each worth f same list)
-
-any-close : (below : List Figure) → list_any (λ figure. figure.close) below ≡ list_any (λ b. b) (map (λ (w : Worth). w.close) (map worth_of below))
-any-close [] = refl
-any-close (figure ∷ below) = ap (λ b. figure.close || b) (any-close below)
-
-close-each : (worth : Node → Worth) (list : List Node) → map (λ (w : Worth). w.close) (map worth list) ≡ map (λ n. (worth n).close) list
-close-each worth [] = refl
-close-each worth (n ∷ list) = ap (λ bs. (worth n).close ∷ bs) (close-each worth list)
-
-module _ (factors : FactorValues) (sheet : BalanceSheet) (below : List Figure) (list : List Node) (is : map worth_of below ≡ map (worth_at factors sheet) list) where
-  pub spans-worked : map ends (map (λ figure. figure.span) below) ≡ map (worked factors sheet) list
-  spans-worked =
-      map-worked below ∙ ap (map (λ (w : Worth). w.worked)) is
-      ∙ map-each (worth_at factors sheet) (worked factors sheet) (λ n. refl) list
-
-  pub close-below : list_any (λ figure. figure.close) below ≡ list_any (λ b. b) (map (λ n. (worth_at factors sheet n).close) list)
-  close-below = any-close below ∙ ap (λ ws. list_any (λ b. b) (map (λ (w : Worth). w.close) ws)) is
-      ∙ ap (list_any (λ b. b)) (close-each (worth_at factors sheet) list)
-
--- spans and marks that were gathered from the sources of a node
-pub read-off : (factors : FactorValues) (sheet : BalanceSheet) (places : List Node) (kept : List Figure) (fresh : Fresh) (node : Node) (numbers : List ℕ) (below : List Figure) (spans : List Span)
-    → AreAt places numbers (sources_of sheet node) → map Some below ≡ map (figure_at kept fresh) numbers
-    → AllByRecursion (IsKnown factors sheet places kept fresh) numbers → spans ≡ map (λ (figure : Figure). figure.span) below
-    → (map ends spans ≡ map (worked factors sheet) (sources_of sheet node))
-    × (list_any (λ (figure : Figure). figure.close) below ≡ list_any (λ b. b) (map (close_under factors sheet) (sources_of sheet node)))
-read-off factors sheet places kept fresh node numbers below spans at is known spanned =
-    let worths : map worth_of below ≡ map (worth_at factors sheet) (sources_of sheet node) =
-    gathered factors sheet places kept fresh below numbers (sources_of sheet node) is at known in
-    (ap (map ends) spanned ∙ spans-worked factors sheet below (sources_of sheet node) worths, close-below factors sheet below (sources_of sheet node) worths)
-
-pub opens-is : (factors : FactorValues) (sheet : BalanceSheet) (node : Node) → opens node (worked factors sheet node) ≡ is_open_choice factors sheet node
-opens-is factors sheet (nodes.Whole (wholes.Choice which)) = refl
-opens-is factors sheet (nodes.Currency currency of_currencies.Choice) = refl
-opens-is factors sheet (nodes.Whole wholes.DefaultBand) = refl
-opens-is factors sheet node = refl
-
-pub if-ok : {A E : Type 0} (P Q : A → Type 0) (r : Result A E) → ((a : A) → P a → Q a) → IfOk r P → IfOk r Q
-if-ok P Q (Ok a) step h = step a h
-if-ok P Q (Err e) step h = h
 
 -- ---- along a list
 
@@ -109,12 +29,6 @@ take-next [] (suc k) x is = absurd (let clash : None ≡ Some x = is in cc)
 take-next (y ∷ xs) zero x is = let same : y ≡ x = cc in ap (λ z. z ∷ []) same
 take-next (y ∷ xs) (suc k) x is = rw add-one (ap (λ zs. y ∷ zs) (rw add-one at (take-next xs k x is)))
 
-pub drop-next : {A : Type 0} (xs : List A) (k : ℕ) (x : A) → slice_get xs k ≡ Some x → drop k xs ≡ x ∷ drop (k + 1) xs
-drop-next [] zero x is = absurd (let clash : None ≡ Some x = is in cc)
-drop-next [] (suc k) x is = absurd (let clash : None ≡ Some x = is in cc)
-drop-next (y ∷ xs) zero x is = let same : y ≡ x = cc in ap (λ z. z ∷ xs) same
-drop-next (y ∷ xs) (suc k) x is = rw add-one (rw add-one at (drop-next xs k x is))
-
 -- what holds of the items of two lists, with one more of each
 pub zip-next : {A B : Type 0} (R : A → B → Type 0) (xs : List A) (ys : List B) (x : A) (y : B) → AllZip R xs ys → R x y
     → AllZip R (xs ++ x ∷ []) (ys ++ y ∷ [])
@@ -123,41 +37,136 @@ zip-next R [] (b ∷ ys) x y zip here = absurd zip
 zip-next R (a ∷ xs) [] x y zip here = absurd zip
 zip-next R (a ∷ xs) (b ∷ ys) x y zip here = (zip.0, zip-next R xs ys x y zip.1 here)
 
-pub zip-long : {A B : Type 0} (R : A → B → Type 0) (xs : List A) (ys : List B) → AllZip R xs ys → length xs ≡ length ys
-zip-long R [] [] zip = refl
-zip-long R [] (b ∷ ys) zip = absurd zip
-zip-long R (a ∷ xs) [] zip = absurd zip
-zip-long R (a ∷ xs) (b ∷ ys) zip = ap suc (zip-long R xs ys zip.1)
+any-next : {A : Type 0} (f : A → Bool) (xs : List A) (x : A) → list_any f (xs ++ x ∷ []) ≡ (list_any f xs || f x)
+any-next f [] x = or-nothing (f x)
+  where
+    or-nothing : (b : Bool) → (b || false) ≡ (false || b)
+    or-nothing true = refl
+    or-nothing false = refl
+any-next f (y ∷ xs) x = by (f y) (any-next f xs x)
+  where
+    by : (b : Bool) → list_any f (xs ++ x ∷ []) ≡ (list_any f xs || f x)
+        → (b || list_any f (xs ++ x ∷ [])) ≡ ((b || list_any f xs) || f x)
+    by true rest = refl
+    by false rest = rest
 
--- what is set at a place stands there, and all else stays
-pub get-set : {A : Type 0} (xs : List A) (k : ℕ) (x : A) → k < length xs → slice_get (set xs k x) k ≡ Some x
-get-set [] k x l = absurd (omega arith)
-get-set (y ∷ xs) zero x l = refl
-get-set (y ∷ xs) (suc k) x l = get-set xs k x (omega arith)
+-- ---- figures that are read
 
-pub get-unset : {A : Type 0} (xs : List A) (k q : ℕ) (x : A) → nat_eq k q ≡ false → slice_get (set xs k x) q ≡ slice_get xs q
-get-unset [] k q x other = refl
-get-unset (y ∷ xs) zero zero x other = absurd (cc)
-get-unset (y ∷ xs) zero (suc q) x other = refl
-get-unset (y ∷ xs) (suc k) zero x other = refl
-get-unset (y ∷ xs) (suc k) (suc q) x other =
-    get-unset xs k q x (ne_eqb k q (λ same. let clash : true ≡ false = sym (eq-eqb (suc k) (suc q) (ap suc same)) ∙ other in absurd (cc)))
+pub read-none : (figures : List Figure) (below : Below) → below.spans.items ≡ [] → below.close ≡ false → AreReadAt figures [] below
+read-none figures below spans close = record { read = []; at = tt; spans = spans; close = close }
 
-pub set-length : {A : Type 0} (xs : List A) (k : ℕ) (x : A) → length (set xs k x) ≡ length xs
-set-length [] k x = refl
-set-length (y ∷ xs) zero x = refl
-set-length (y ∷ xs) (suc k) x = ap suc (set-length xs k x)
+-- one more
+pub read-next : (figures : List Figure) (numbers : List ℕ) (number : ℕ) (figure : Figure) (old now : Below)
+    → AreReadAt figures numbers old → slice_get figures number ≡ Some figure
+    → now.spans.items ≡ old.spans.items ++ figure.span ∷ [] → now.close ≡ (old.close || figure.close)
+    → AreReadAt figures (numbers ++ number ∷ []) now
+read-next figures numbers number figure old now read here spans close = record {
+  read = read.read ++ figure ∷ [];
+  at = zip-next (λ n (f : Figure). slice_get figures n ≡ Some f) numbers read.read number figure read.at here;
+  spans = spans ∙ (ap (λ (xs : List Span). xs ++ figure.span ∷ []) read.spans
+      ∙ sym (map-append (λ (f : Figure). f.span) read.read (figure ∷ [])));
+  close = close ∙ (ap (λ b. b || figure.close) read.close ∙ sym (any-next (λ (f : Figure). f.close) read.read figure));
+}
 
--- past its end nothing is left of a list
-pub drop-past : {A : Type 0} (xs : List A) (k : ℕ) → length xs ≤ k → drop k xs ≡ []
-drop-past [] zero l = refl
-drop-past [] (suc k) l = refl
-drop-past (x ∷ xs) zero l = absurd (omega arith)
-drop-past (x ∷ xs) (suc k) l = drop-past xs k (omega arith)
+module _ (factors : FactorValues) (sheet : BalanceSheet) (figures : List Figure) where
+  one-worth : (number : ℕ) (node : Node) (figure : Figure) → HasFigure factors sheet figures number node
+      → slice_get figures number ≡ Some figure → worth_of figure ≡ worth_at factors sheet node
+  one-worth number node figure has here =
+      let both : Some (worth_of figure) ≡ Some (worth_at factors sheet node) = sym (ap (option_map worth_of) here) ∙ has in cc
 
--- and all of it was taken
-pub take-past : {A : Type 0} (xs : List A) (k : ℕ) → length xs ≤ k → take k xs ≡ xs
-take-past [] zero l = refl
-take-past [] (suc k) l = refl
-take-past (x ∷ xs) zero l = absurd (omega arith)
-take-past (x ∷ xs) (suc k) l = ap (λ ys. x ∷ ys) (take-past xs k (omega arith))
+  worths : (numbers : List ℕ) (list : List Node) (read : List Figure) → HaveFigures factors sheet figures numbers list
+      → AllZip (λ number figure. slice_get figures number ≡ Some figure) numbers read
+      → map worth_of read ≡ map (worth_at factors sheet) list
+  worths [] [] [] have at = refl
+  worths [] [] (f ∷ read) have at = absurd at
+  worths [] (m ∷ list) read have at = absurd have
+  worths (n ∷ numbers) [] read have at = absurd have
+  worths (n ∷ numbers) (m ∷ list) [] have at = absurd at
+  worths (n ∷ numbers) (m ∷ list) (f ∷ read) have at =
+      ap₂ (λ (x : Worth) (xs : List Worth). x ∷ xs) (one-worth n m f have.0 at.0) (worths numbers list read have.1 at.1)
+
+-- ---- what is read off them
+
+map-worked : (read : List Figure) → map ends (map (λ (f : Figure). f.span) read) ≡ map (λ (w : Worth). w.worked) (map worth_of read)
+map-worked [] = refl
+map-worked (f ∷ read) = ap (λ es. ends f.span ∷ es) (map-worked read)
+
+worked-each : (factors : FactorValues) (sheet : BalanceSheet) (list : List Node)
+    → map (λ (w : Worth). w.worked) (map (worth_at factors sheet) list) ≡ map (worked factors sheet) list
+worked-each factors sheet [] = refl
+worked-each factors sheet (n ∷ list) = ap (λ es. worked factors sheet n ∷ es) (worked-each factors sheet list)
+
+any-close : (read : List Figure) → list_any (λ (f : Figure). f.close) read ≡ list_any (λ b. b) (map (λ (w : Worth). w.close) (map worth_of read))
+any-close [] = refl
+any-close (f ∷ read) = ap (λ b. f.close || b) (any-close read)
+
+close-each : (factors : FactorValues) (sheet : BalanceSheet) (list : List Node)
+    → map (λ (w : Worth). w.close) (map (worth_at factors sheet) list) ≡ map (close_under factors sheet) list
+close-each factors sheet [] = refl
+close-each factors sheet (n ∷ list) = ap (λ bs. close_under factors sheet n ∷ bs) (close-each factors sheet list)
+
+-- what is read at the numbers of figures that are right is what these are worth
+pub read-right : (factors : FactorValues) (sheet : BalanceSheet) (figures : List Figure) (numbers : List ℕ) (list : List Node)
+    (below : Below) → HaveFigures factors sheet figures numbers list → AreReadAt figures numbers below
+    → AreSpansOf factors sheet list below
+read-right factors sheet figures numbers list below have read =
+    let same : map worth_of read.read ≡ map (worth_at factors sheet) list =
+    worths factors sheet figures numbers list read.read have read.at in
+    record {
+      spans = ap (map ends) read.spans ∙ (map-worked read.read ∙ (ap (map (λ (w : Worth). w.worked)) same
+          ∙ worked-each factors sheet list));
+      close = read.close ∙ (any-close read.read
+          ∙ (ap (λ ws. list_any (λ b. b) (map (λ (w : Worth). w.close) ws)) same
+          ∙ ap (list_any (λ b. b)) (close-each factors sheet list)));
+    }
+
+pub opens-is : (factors : FactorValues) (sheet : BalanceSheet) (node : Node)
+    → opens node (worked factors sheet node) ≡ is_open_choice factors sheet node
+opens-is factors sheet (nodes.Whole (wholes.Choice which)) = refl
+opens-is factors sheet (nodes.Currency currency of_currencies.Choice) = refl
+opens-is factors sheet (nodes.Whole wholes.DefaultBand) = refl
+opens-is factors sheet node = refl
+
+-- ---- figures that are known
+
+module _ (factors : FactorValues) (sheet : BalanceSheet) (At : Node → ℕ → Type 0) where
+  -- of a kind, all of which are of another
+  pub known-weaker : (figures : List Figure) (P Q : Node → Type 0)
+      → ((node : Node) → is_live sheet node ≡ true → Q node → P node)
+      → AreKnownOf factors sheet At figures P → AreKnownOf factors sheet At figures Q
+  unfolding AreKnownOf
+  known-weaker figures P Q step known = λ node number at live q. known node number at live (step node live q)
+
+  -- at the numbers of nodes of the kind
+  pub known-have : (figures : List Figure) (P : Node → Type 0) → AreKnownOf factors sheet At figures P
+      → (numbers : List ℕ) (list : List Node) → AreAt At numbers list
+      → AllByRecursion (λ node. (is_live sheet node ≡ true) × P node) list
+      → HaveFigures factors sheet figures numbers list
+  unfolding AreKnownOf
+  known-have figures P known [] [] at each = tt
+  known-have figures P known [] (m ∷ list) at each = absurd at
+  known-have figures P known (n ∷ numbers) [] at each = absurd at
+  known-have figures P known (n ∷ numbers) (m ∷ list) at each =
+      (known m n at.0 each.0.0 each.0.1, known-have figures P known numbers list at.1 each.1)
+
+  -- with one more, that is put
+  pub known-put : (size : ℕ) → AreNumbers sheet At size → (old now : List Figure) (P : Node → Type 0) (node : Node) (number : ℕ)
+      → AreKnownOf factors sheet At old P → IsPutRight factors sheet At old now node number
+      → AreKnownOf factors sheet At now (λ n. P n ⊎ (n ≡ node))
+  unfolding AreKnownOf
+  known-put size are old now P node number known put =
+      λ n m at live p. passes_or_fails (nat_eq m number)
+      (λ e. here n m at (eqb-true m number e))
+      (λ e. by n m at live (λ same. let clash : true ≡ false = sym (eq-eqb m number same) ∙ e in absurd (cc)) p)
+    where
+      here : (n : Node) (m : ℕ) → At n m → m ≡ number → HasFigure factors sheet now m n
+      here n m at same =
+          let one : n ≡ node = are.exact number n node (subst (At n) same at) put.at in
+          subst (λ k. HasFigure factors sheet now k n) (sym same)
+          (subst (HasFigure factors sheet now number) (sym one) put.there)
+
+      by : (n : Node) (m : ℕ) → At n m → is_live sheet n ≡ true → (m ≡ number → ⊥) → P n ⊎ (n ≡ node)
+          → HasFigure factors sheet now m n
+      by n m at live other (inl p) = ap (option_map worth_of) (put.others m other) ∙ known n m at live p
+      by n m at live other (inr same) =
+          absurd (other (are.only n m number at (subst (λ k. At k number) (sym same) put.at)))

@@ -1,21 +1,20 @@
 -- The figures that a record does not reach come to the same before and after it.
-use Rattle.std.proofs.Common.{◌≡◌, ◌||◌, Bool, true, false, List, map, refl, sym, ap, ap₂, ◌∙◌}
+use Rattle.std.proofs.Common.{◌≡◌, ◌||◌, Bool, false, map, sym, ap, ap₂, ◌∙◌}
 use Rattle.std.specs.List.{AllByRecursion, list_any}
 use Rattle.scr_num.specs.Rounding.{Ends}
 use Rattle.scr_factors.specs.Values.{FactorValues}
 use Rattle.scr_sheet.specs.Validity.{Valid}
 use Rattle.scr_sheet.specs.declared.sheet.BalanceSheet.{BalanceSheet}
 use Rattle.scr_nodes.specs.declared.node.Node.{Node}
-use Rattle.scr_nodes.specs.OwnOf.{own_of}
 use Rattle.scr_nodes.specs.Sources.{sources_of}
 use Rattle.scr_nodes.proofs.Reckoning.{reckoned-only}
 use Rattle.scr_rules.specs.Close.{close_under, is_open_choice}
 use Rattle.scr_rules.specs.Discounts.{own_discounts}
 use Rattle.scr_rules.specs.Rules.{rule}
-use Rattle.scr_rules.specs.Worked.{node_rule, worked}
+use Rattle.scr_rules.specs.Worked.{worked}
 use Rattle.scr_rules.proofs.Equations.{close-equation, worked-equation, worked-only}
 use Rattle.scr_touched.specs.Touched.{IsSame}
-use Rattle.scr_tree.specs.Figures.{opens, worth_at, Worth}
+use Rattle.scr_tree.specs.Figures.{opens, worth_at}
 use Rattle.scr_tree.proofs.Known.{opens-is}
 
 module _ (factors : FactorValues) (before after : BalanceSheet) (valid_before : Valid before) (valid_after : Valid after)

@@ -1,7 +1,7 @@
--- Figures at the places of their nodes, and when they are those of a balance sheet (this project's own).
-use Rattle.std.specs.Prelude.{◌≡◌, ℕ, Bool, true, false, List, Option, Some, pos, nat_eq, slice_get}
-use Rattle.std.specs.Map.{lookup}
-use Rattle.std.specs.Option.{option_map, option_or}
+-- Figures at the numbers of their nodes, and when they are those of a balance sheet (this project's own).
+use Rattle.std.specs.Prelude.{◌≡◌, ℕ, Bool, true, false, List, Some, pos, map, slice_get}
+use Rattle.std.specs.List.{AllZip, list_any}
+use Rattle.std.specs.Option.{option_map}
 use Rattle.scr_num.specs.Rounding.{Ends, ends, exact_ends}
 use Rattle.scr_factors.specs.Values.{FactorValues}
 use Rattle.scr_sheet.specs.declared.sheet.BalanceSheet.{BalanceSheet}
@@ -12,15 +12,8 @@ use Rattle.scr_nodes.specs.declared.node.Whole.TheVariants as wholes
 use Rattle.scr_nodes.specs.Live.{is_live}
 use Rattle.scr_rules.specs.Close.{close_under, is_open}
 use Rattle.scr_rules.specs.Worked.{worked}
+use Rattle.scr_tree.specs.declared.figures.Below.{Below}
 use Rattle.scr_tree.specs.declared.figures.Figure.{Figure}
-
--- figures that were reckoned anew, each under its place
-abbrev pub Fresh : Type 0
-Fresh = List (ℕ × Figure)
-
--- the figure at a place: the new one, and where there is none the one that is kept
-abbrev pub figure_at : List Figure → Fresh → ℕ → Option Figure
-figure_at kept fresh place = option_or (lookup (nat_eq place) fresh) (slice_get kept place)
 
 -- what a figure comes to, and whether it rests on an open choice
 pub record Worth : Type 0 where
@@ -34,22 +27,9 @@ worth_of figure = record { worked = ends figure.span; close = figure.close }
 abbrev pub worth_at : FactorValues → BalanceSheet → Node → Worth
 worth_at factors sheet node = record { worked = worked factors sheet node; close = close_under factors sheet node }
 
--- this is the figure of the node at the place
-abbrev pub IsOf : FactorValues → BalanceSheet → List Node → ℕ → Figure → Type 0
-IsOf factors sheet places place figure =
-    (node : Node) → slice_get places place ≡ Some node → worth_of figure ≡ worth_at factors sheet node
-
--- it is there
-abbrev pub IsKnown : FactorValues → BalanceSheet → List Node → List Figure → Fresh → ℕ → Type 0
-IsKnown factors sheet places kept fresh place =
-    (node : Node) → slice_get places place ≡ Some node
-    → option_map worth_of (figure_at kept fresh place) ≡ Some (worth_at factors sheet node)
-
--- those of all live nodes that have a place are there
-unfoldable pub AreSettled : FactorValues → BalanceSheet → List Node → List Figure → Fresh → Type 0
-AreSettled factors sheet places kept fresh =
-    (place : ℕ) (node : Node) → slice_get places place ≡ Some node → is_live sheet node ≡ true
-    → option_map worth_of (figure_at kept fresh place) ≡ Some (worth_at factors sheet node)
+-- so many cents, which rest on no choice
+abbrev pub total_worth : ℕ → Worth
+total_worth cents = record { worked = exact_ends (pos cents); close = false }
 
 -- these ends are the mask of a choice that is open
 abbrev pub opens : Node → Ends → Bool
@@ -58,6 +38,44 @@ opens (nodes.Currency currency of_currencies.Choice) mask = is_open mask
 opens (nodes.Whole wholes.DefaultBand) mask = is_open mask
 opens node mask = false
 
--- so many cents, which rest on no choice
-abbrev pub total_worth : ℕ → Worth
-total_worth cents = record { worked = exact_ends (pos cents); close = false }
+-- ---- figures by number
+
+-- the node's figure is at the number
+abbrev pub HasFigure : FactorValues → BalanceSheet → List Figure → ℕ → Node → Type 0
+HasFigure factors sheet figures number node =
+    option_map worth_of (slice_get figures number) ≡ Some (worth_at factors sheet node)
+
+-- those of these nodes are at these numbers, in their order
+abbrev pub HaveFigures : FactorValues → BalanceSheet → List Figure → List ℕ → List Node → Type 0
+HaveFigures factors sheet figures numbers nodes = AllZip (HasFigure factors sheet figures) numbers nodes
+
+-- those of all nodes of this kind are there that the balance sheet has
+unfoldable pub AreKnownOf : FactorValues → BalanceSheet → (Node → ℕ → Type 0) → List Figure → (Node → Type 0) → Type 0
+AreKnownOf factors sheet At figures P =
+    (node : Node) (number : ℕ) → At node number → is_live sheet node ≡ true → P node
+    → HasFigure factors sheet figures number node
+
+-- those of all
+abbrev pub AreSettled : FactorValues → BalanceSheet → (Node → ℕ → Type 0) → List Figure → Type 0
+AreSettled factors sheet At figures = AreKnownOf factors sheet At figures (λ node. Unit {0})
+
+-- a figure is written at the node's number that is the node's, and all others stay
+pub record IsPutRight (factors : FactorValues) (sheet : BalanceSheet) (At : Node → ℕ → Type 0) (old now : List Figure)
+    (node : Node) (number : ℕ) : Type 0 where
+  pub at : At node number
+  pub there : HasFigure factors sheet now number node
+  pub others : (other : ℕ) → (other ≡ number → ⊥) → slice_get now other ≡ slice_get old other
+
+-- ---- what a figure is reckoned from
+
+-- these are read at these numbers, in their order: their spans, and whether one of them rests on an open choice
+pub record AreReadAt (figures : List Figure) (numbers : List ℕ) (below : Below) : Type 0 where
+  pub read : List Figure
+  pub at : AllZip (λ number figure. slice_get figures number ≡ Some figure) numbers read
+  pub spans : below.spans.items ≡ map (λ (figure : Figure). figure.span) read
+  pub close : below.close ≡ list_any (λ (figure : Figure). figure.close) read
+
+-- these are the spans of the figures of these nodes, and one of them rests on an open choice or none
+pub record AreSpansOf (factors : FactorValues) (sheet : BalanceSheet) (nodes : List Node) (below : Below) : Type 0 where
+  pub spans : map ends below.spans.items ≡ map (worked factors sheet) nodes
+  pub close : below.close ≡ list_any (λ b. b) (map (close_under factors sheet) nodes)

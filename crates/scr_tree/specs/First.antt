@@ -1,27 +1,72 @@
--- Totals that are reckoned at once, and what is due beside them (this project's own).
-use Rattle.std.specs.Prelude.{◌≡◌, ◌⊎◌, ℕ, ◌≤◌, List, Contains, Some, length, slice_get}
-use Rattle.std.specs.Option.{option_map}
-use Rattle.scr_factors.specs.Values.{FactorValues}
+-- What the first reckoning of all figures has made (this project's own).
+use Rattle.std.specs.Prelude.{◌≡◌, ℕ, ◌++◌, false, List, Some, length, nat_eq, slice_get}
+use Rattle.scr_factors.specs.Values.{FactorValues, IsInForm}
+use Rattle.scr_figures.specs.Numbers.{IsNumbered, StandsAt}
+use Rattle.scr_figures.specs.Gathered.{AreMembersOf}
+use Rattle.scr_numbers.specs.Ranges.{Numbered}
+use Rattle.scr_rules.specs.ByRow.{IsEstimateOf}
+use Rattle.scr_rules.specs.GroupLosses.{AreLossesOf}
+use Rattle.scr_rules.specs.declared.liability_rows.Estimate.{Estimate}
+use Rattle.scr_sheet.specs.declared.rows.Liability.{Liability}
 use Rattle.scr_sheet.specs.declared.sheet.BalanceSheet.{BalanceSheet}
+use Rattle.scr_sheet.specs.Validity.{Valid}
 use Rattle.scr_nodes.specs.declared.node.Node.{Node}
-use Rattle.scr_reach.specs.Linked.{Grows}
-use Rattle.scr_tree.specs.Figures.{total_worth, worth_at, worth_of}
+use Rattle.scr_reach.specs.Linked.{AreLinkedOf, AreNumbers, edges_to, sources_in}
+use Rattle.scr_tree.specs.Figures.{AreKnownOf, worth_at, worth_of}
+use Rattle.scr_tree.specs.Inputs.{AreOfBook}
+use Rattle.scr_tree.specs.Turns.{IsBefore, Turn}
 use Rattle.scr_tree.specs.declared.figures.Figure.{Figure}
+use Rattle.scr_tree.specs.declared.making.Ground.{Ground}
+use Rattle.scr_tree.specs.declared.making.Made.{Made}
 
--- Just these nodes have places, and each has its figure there.
-pub record AreKnownAlone (sheet : BalanceSheet) (nodes places : List Node) (figures : List Figure) : Type 0 where
-  pub room : length places ≤ length figures
-  pub placed : (node : Node) → Contains nodes node → Contains places node
-  pub only : (place : ℕ) (node : Node) → slice_get places place ≡ Some node → Contains nodes node
-  pub known : (factors : FactorValues) (place : ℕ) (node : Node) → slice_get places place ≡ Some node
-      → option_map worth_of (slice_get figures place) ≡ Some (worth_at factors sheet node)
+-- ---- what is made
 
--- The node has a place with a figure of so many cents, and all others stay.
-pub record IsTotalPut (node : Node) (cents : ℕ) (old_places : List Node) (old : List Figure) (places : List Node)
-    (figures : List Figure) : Type 0 where
-  pub room : length places ≤ length figures
-  pub grown : Grows old_places places
-  pub placed : Contains places node
-  pub each : (place : ℕ) (other : Node) → slice_get places place ≡ Some other
-      → ((other ≡ node) × (option_map worth_of (slice_get figures place) ≡ Some (total_worth cents)))
-      ⊎ ((slice_get old_places place ≡ Some other) × (slice_get figures place ≡ slice_get old place))
+-- A figure is written at the number, and these sources are linked to it. To all other numbers all is as before.
+pub record IsEntered (number : ℕ) (sources : List ℕ) (figure : Figure) (before now : Made) : Type 0 where
+  pub count : length now.figures.items ≡ length before.figures.items
+  pub size : now.links.size ≡ before.links.size
+  pub there : slice_get now.figures.items number ≡ Some figure
+  pub others : (other : ℕ) → (other ≡ number → ⊥)
+      → slice_get now.figures.items other ≡ slice_get before.figures.items other
+  pub made : sources_in now.links.edges number ≡ sources_in before.links.edges number ++ sources
+  pub kept : (other : ℕ) → nat_eq number other ≡ false
+      → edges_to now.links.edges other ≡ edges_to before.links.edges other
+
+-- it is the figure of the node
+pub record IsPut (factors : FactorValues) (sheet : BalanceSheet) (node : Node) (number : ℕ) (sources : List ℕ)
+    (before now : Made) : Type 0 where
+  pub figure : Figure
+  pub right : worth_of figure ≡ worth_at factors sheet node
+  pub entered : IsEntered number sources figure before now
+
+-- There is a place for each figure and for its links. All figures before a turn are reckoned, and all before a turn are linked to
+-- their sources.
+pub record IsMade (factors : FactorValues) (sheet : BalanceSheet) (places : Numbered) (made : Made) (reckoned linked : Turn)
+    : Type 0 where
+  pub count : length made.figures.items ≡ places.size
+  pub size : made.links.size ≡ places.size
+  pub known : AreKnownOf factors sheet (StandsAt sheet places) made.figures.items (IsBefore sheet reckoned)
+  pub links : AreLinkedOf sheet (StandsAt sheet places) made.links.edges (IsBefore sheet linked)
+
+-- the rows are those of a valid balance sheet, and so are the numbers, the rates, the gathered rows and the losses
+pub record IsGround (ground : Ground) : Type 0 where
+  pub form : IsInForm ground.inputs.factors.now
+  pub valid : Valid ground.inputs.book.now
+  pub rates : AreOfBook ground.inputs
+  pub numbered : IsNumbered ground.inputs.book.now ground.places.now
+  pub numbers : AreNumbers ground.inputs.book.now (StandsAt ground.inputs.book.now ground.places.now) ground.places.now.size
+  pub members : AreMembersOf ground.inputs.book.now ground.members.now
+  pub losses : AreLossesOf ground.inputs.book.now ground.losses.now
+
+-- the estimate is that of the liability at the place
+abbrev pub IsEstimated : BalanceSheet → ℕ → Estimate → Type 0
+IsEstimated sheet k estimate =
+    (liability : Liability) → slice_get sheet.liabilities k ≡ Some liability → IsEstimateOf sheet liability estimate
+
+-- all before one turn is reckoned, and all before another is linked
+abbrev pub IsMadeTo : Ground → Made → (reckoned linked : Turn) → Type 0
+IsMadeTo ground made reckoned linked =
+    IsMade ground.inputs.factors.now ground.inputs.book.now ground.places.now made reckoned linked
+
+abbrev pub IsDone : Ground → Made → Turn → Type 0
+IsDone ground made t = IsMadeTo ground made t t

@@ -11,18 +11,17 @@ ghost use Rattle.scr_rules.specs.Close.{close_under};
 ghost use Rattle.scr_rules.specs.Worked.{worked};
 ghost use Rattle.scr_tree.specs.Standing.{Refuses, TakesSteps, with_sheet};
 
-use crate::changes::{Change, change_of};
-use crate::figures::{Figure, figure_kept};
-use crate::opening::{Opened, reckon_all};
+use crate::basis::Crew;
+use crate::edits::{Footing, State, Taken, numbers_gone, take_up};
+use crate::figures::Figure;
+use crate::opening::opened;
 use crate::refusal::{Refusal, refused_for};
 use scr_book::{Book, Edit, Undo};
 use scr_factors::Factors;
+use scr_figures::{find, step_of};
 use scr_io::{Gate, Steps};
-use scr_links::Links;
 use scr_nodes::Node;
 use scr_num::Span;
-use scr_reach::Places;
-use scr_rules::Rates;
 use scr_touched::touched;
 use std::alloc::{AllocError as NoMemory, Global};
 use std::marker::Model;
@@ -35,10 +34,7 @@ use std::thread::Threads;
 pub struct Engine {
     factors: Factors,
     book: Book,
-    rates: Rates,
-    places: Places,
-    figures: Vec<Figure>,
-    links: Links,
+    state: State,
 }
 
 impl Model for Engine {
@@ -54,8 +50,8 @@ impl Model for Engine {
 }
 
 impl Engine {
-    /// The engine over a book, whose figures are reckoned by so many workers. The gate is passed before each
-    /// evaluation. Want of memory lets factors and book go.
+    /// The engine over a book. All figures are reckoned once, one after another on this thread, whatever the number of workers,
+    /// which edits are shared out among. The gate is passed before each evaluation. Want of memory lets factors and book go.
     pub fn new<R: Threads + Sync, G: Gate + Sync>(
         rt: &R,
         alloc: Global,
@@ -67,21 +63,11 @@ impl Engine {
         requires { (1 ≤ workers) × (workers ≤ 64) }
         ensures { IfOk result (λ engine. engine ≡ record { factors = factors; sheet = book }) }
     {
-        match reckon_all(rt, alloc, &factors, &book, workers, gate) {
-            Ok(
-                Opened {
-                    rates,
-                    places,
-                    figures,
-                    links,
-                },
-            ) => Ok(Engine {
+        match opened(alloc, &factors, &book, gate) {
+            Ok(state) => Ok(Engine {
                 factors,
                 book,
-                rates,
-                places,
-                figures,
-                links,
+                state,
             }),
             Err(NoMemory) => {
                 book.close();
@@ -113,33 +99,42 @@ impl Engine {
             Ok(touched) => touched,
             Err(NoMemory) => return Err(Refusal::NoMemory),
         };
+        let step = step_of(self.book.sheet(), edit);
+        let gone = match numbers_gone(
+            alloc,
+            self.book.sheet(),
+            &self.state.places,
+            step,
+            &touched,
+        ) {
+            Ok(gone) => gone,
+            Err(NoMemory) => return Err(Refusal::NoMemory),
+        };
         let undo = match self.book.apply_kept(alloc, edit) {
             Ok(undo) => undo,
             Err(fault) => return Err(refused_for(fault)),
         };
-        let change = change_of(
+        let crew = Crew {
             rt,
             alloc,
-            &self.factors,
-            &self.book,
-            &self.rates,
-            &mut self.places,
-            &mut self.figures,
-            &mut self.links,
-            &touched,
-            edit,
             workers,
             gate,
-            steps,
-        );
-        self.places.len();
-        match change {
-            Ok(change) => {
+        };
+        let footing = Footing {
+            factors: &self.factors,
+            book: &self.book,
+        };
+        let taken = Taken {
+            edit,
+            step,
+            touched: touched.as_slice(),
+        };
+        match take_up(&crew, footing, &mut self.state, taken, gone, steps) {
+            Ok(()) => {
                 drop(undo);
-                change.make(&mut self.rates, &mut self.figures, &mut self.links);
                 Ok(())
             }
-            Err(NoMemory) => Err(take_back(&mut self.book, undo)),
+            Err(NoMemory) => Err(taken_back(&mut self.book, undo)),
         }
     }
 
@@ -164,8 +159,8 @@ impl Engine {
         ensures span { ends result.span ≡ worked self.now.factors self.now.sheet node.now }
         ensures close { result.close ≡ close_under self.now.factors self.now.sheet node.now }
     {
-        match self.places.find(node) {
-            Some(place) => figure_kept(&self.figures, place),
+        match find(&self.state.places, self.book.sheet(), node) {
+            Some(number) => self.state.figures[number as usize],
             None => unreachable!(),
         }
     }
@@ -192,7 +187,7 @@ impl Engine {
 }
 
 /// Takes a record back for want of memory, which is the refusal.
-fn take_back(book: &mut Book, undo: Undo) -> Refusal
+fn taken_back(book: &mut Book, undo: Undo) -> Refusal
     requires { Fits undo book.old }
     ensures before { book.new ≡ back undo book.old }
     ensures refusal { result ≡ Refusal.NoMemory }

@@ -1,16 +1,20 @@
-//! The figures that are known.
-ghost use Rattle.std.specs.Prelude.{◌≡◌, ◌<◌, ℕ, [], Some, All, length, nat_eq, slice_get, IfOk, OnOk, OnErr, if◌then◌else◌};
-ghost use Rattle.std.specs.Map.{lookup};
-ghost use Rattle.scr_rounds.specs.declared.ranks.Due.{Due};
-ghost use Rattle.scr_reach.specs.Dues.{numbers_of};
-ghost use Rattle.scr_tree.specs.Dues.{AreWritten};
-ghost use Rattle.scr_tree.specs.Figures.{figure_at};
+//! The figures that are known, each at its number, and one figure reckoned from those of its sources.
+ghost use Rattle.std.specs.Prelude.{◌≡◌, ◌+◌, ◌<◌, ◌||◌, true, All, length, OnOk};
+ghost use Rattle.scr_num.specs.Rounding.{ends};
+ghost use Rattle.scr_nodes.specs.Live.{is_live};
+ghost use Rattle.scr_nodes.specs.Sources.{sources_of};
+ghost use Rattle.scr_rules.specs.Close.{is_open as open_mask};
+ghost use Rattle.scr_tree.specs.Figures.{AreReadAt, AreSpansOf, opens, worth_at, worth_of};
+ghost use Rattle.scr_tree.specs.Inputs.{AreOfBook};
 
-use indexmap::IndexMap;
+use scr_book::Book;
+use scr_factors::Factors;
+use scr_io::{Gate, Steps};
+use scr_nodes::{Node, OfCurrency, Whole};
 use scr_num::Span;
-use scr_rounds::Due;
-use std::alloc::{AllocError as NoMemory, Global};
-use std::marker::Model;
+use scr_rules::{Rates, evaluate_by};
+use std::alloc::AllocError as NoMemory;
+use std::sync::ledger::Ledger;
 
 /// A figure: its span, and whether it rests on a choice that is open.
 #[derive(Clone, Copy)]
@@ -19,91 +23,115 @@ pub(crate) struct Figure {
     pub(crate) close: bool,
 }
 
-/// What stands at a place of which no figure is known.
+/// What stands at a number of which no figure is known.
 pub(crate) const NO_FIGURE: Figure = Figure {
     span: Span { low: 0, high: 0 },
     close: false,
 };
 
-/// Figures that were reckoned anew, each under its place. Those that are kept stand beside them.
+/// What figures are reckoned from beside those of their sources.
+#[derive(Clone, Copy)]
+pub(crate) struct Inputs<'a> {
+    pub(crate) factors: &'a Factors,
+    pub(crate) book: &'a Book,
+    pub(crate) rates: &'a Rates,
+}
+
+/// The spans of a figure's sources, and whether one of them rests on a choice that is open.
 #[derive(Drop)]
-pub(crate) struct Fresh {
-    map: IndexMap<u32, Figure>,
+pub(crate) struct Below {
+    pub(crate) spans: Vec<Span>,
+    pub(crate) close: bool,
 }
 
-impl Model for Fresh {
-    ghost use Rattle.scr_tree.specs.Figures.{Fresh};
+impl Below {
+    ghost use Rattle.std.specs.Prelude.{◌≡◌, ◌||◌, ◌∷◌, ◌++◌, [], false, OnOk};
 
-    ghost Value = { Fresh };
-
-    ghost view = { λ figures. figures.map.entries };
-}
-
-impl Fresh {
-    /// No figure, and room for so many.
-    pub(crate) fn with_capacity(alloc: Global, count: usize) -> Result<Fresh, NoMemory>
-        ensures { IfOk result (λ fresh. fresh ≡ []) }
+    /// Of no figure.
+    pub(crate) fn clear(&mut self)
+        ensures spans { self.new.spans.items ≡ [] }
+        ensures close { self.new.close ≡ false }
     {
-        let map = IndexMap::with_capacity(alloc, count)?;
-        Ok(Fresh { map })
+        self.spans.clear();
+        self.close = false;
     }
 
-    /// The figure of a place, if it is new.
-    pub(crate) fn get(&self, place: u32) -> Option<Figure>
-        ensures { result ≡ lookup (nat_eq place) self.now }
+    /// Of one figure more.
+    pub(crate) fn push(&mut self, figure: &Figure) -> Result<(), NoMemory>
+        ensures spans { OnOk result (self.new.spans.items ≡ self.old.spans.items ++ figure.now.span ∷ []) }
+        ensures close { OnOk result (self.new.close ≡ (self.old.close || figure.now.close)) }
     {
-        self.map.get(&place).copied()
-    }
-
-    /// The figure of a place: the new one, and where there is none the one that is kept.
-    pub(crate) fn or_kept(&self, kept: &[Figure], place: u32) -> Option<Figure>
-        ensures { result ≡ figure_at kept.now self.now place }
-    {
-        match self.get(place) {
-            Some(figure) => Some(figure),
-            None => kept.get(place as usize).copied(),
-        }
-    }
-
-    /// Puts the figure of a place, and leaves the others.
-    pub(crate) fn put(&mut self, place: u32, figure: Figure) -> Result<(), NoMemory>
-        ensures ok { OnOk result ((other : ℕ) → lookup (nat_eq other) self.new
-            ≡ (if nat_eq place other then Some figure else lookup (nat_eq other) self.old)) }
-        ensures err { OnErr result (self.new ≡ self.old) }
-    {
-        match self.map.insert(place, figure) {
-            Ok(_) => Ok(()),
-            Err(_) => Err(NoMemory),
-        }
-    }
-
-    /// Writes the new figures of these places over those that are kept.
-    pub(crate) fn write(&self, dues: &[Due], kept: &mut [Figure])
-        requires { All (λ (due : Due). due.number < length kept.old) dues.now }
-        ensures count { length kept.new ≡ length kept.old }
-        ensures written { AreWritten self.now (numbers_of dues.now) kept.old kept.new }
-    {
-        for due in dues {
-            kept[due.number as usize] = self.current(kept, due.number);
-        }
-    }
-
-    /// The figure that stands at a place: the new one, and where there is none the one that is kept.
-    fn current(&self, kept: &[Figure], place: u32) -> Figure
-        requires { place < length kept.now }
-        ensures { figure_at kept.now self.now place ≡ Some result }
-    {
-        match self.get(place) {
-            Some(figure) => figure,
-            None => figure_kept(kept, place),
-        }
+        self.spans.push(figure.span)?;
+        self.close = self.close || figure.close;
+        Ok(())
     }
 }
 
-/// The figure that is kept at a place.
-pub(crate) fn figure_kept(kept: &[Figure], place: u32) -> Figure
-    requires { place < length kept.now }
-    ensures { slice_get kept.now place ≡ Some result }
+/// Reads the figures at these numbers, in their order.
+pub(crate) fn read(figures: &[Figure], numbers: &[u32], below: &mut Below) -> Result<(), NoMemory>
+    requires { All (λ number. number < length figures.now) numbers.now }
+    ensures { OnOk result (AreReadAt figures.now numbers.now below.new) }
 {
-    kept[place as usize]
+    below.clear();
+    for number in numbers {
+        below.push(&figures[*number as usize])?;
+    }
+    Ok(())
+}
+
+/// The figure of a node by its rule, where those of its sources are known. The gate is passed before it is evaluated.
+pub(crate) fn reckoned<G: Gate, L: Ledger>(
+    inputs: Inputs<'_>,
+    below: &Below,
+    number: u32,
+    node: &Node,
+    gate: &G,
+    steps: &mut Steps<L>,
+) -> Figure
+    requires inputs { AreOfBook inputs }
+    requires live { is_live inputs.book.now node.now ≡ true }
+    requires below { AreSpansOf inputs.factors.now inputs.book.now (sources_of inputs.book.now node.now) below.now }
+    ensures figure { worth_of result ≡ worth_at inputs.entry.factors.now inputs.entry.book.now node.now }
+    ensures step { steps.new ≡ steps.old + 1 }
+{
+    inputs.factors.known();
+    inputs.book.sheet();
+    gate.pass(number);
+    let span = evaluate_by(
+        inputs.factors,
+        inputs.book,
+        inputs.rates,
+        *node,
+        below.spans.as_slice(),
+        steps,
+    );
+    Figure {
+        span,
+        close: is_close(node, span, below),
+    }
+}
+
+/// The figure is a choice that is open, or one of those below rests on one.
+fn is_close(node: &Node, span: Span, below: &Below) -> bool
+    ensures { result ≡ (opens node.now (ends span) || below.now.close) }
+{
+    is_open_choice(node, span) || below.close
+}
+
+/// The mask of a choice of which two or more alternatives may decide.
+pub(crate) fn is_open_choice(node: &Node, span: Span) -> bool
+    ensures { result ≡ opens node.now (ends span) }
+{
+    match node {
+        Node::Whole(Whole::Choice(_))
+        | Node::Currency(_, OfCurrency::Choice)
+        | Node::Whole(Whole::DefaultBand) => is_open(span),
+        _ => false,
+    }
+}
+
+fn is_open(mask: Span) -> bool
+    ensures { result ≡ open_mask (ends mask) }
+{
+    mask.low.max(0).unsigned_abs().count_ones() >= 2
 }

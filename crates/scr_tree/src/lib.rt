@@ -1,19 +1,22 @@
 //! The engine: a book with all its figures.
 #![tactic(auto)]
 
-mod changes;
+mod basis;
 mod edits;
 mod engine;
 mod figures;
-mod inputs;
+mod first;
+mod first_rows;
+mod first_totals;
+mod journal;
 pub mod laws;
+mod making;
 mod opening;
-mod reckon;
+mod order;
+mod reckoning;
 mod refusal;
-mod rest;
-mod rounds;
-mod spread;
-mod totals;
+mod starts;
+mod together;
 
 pub use engine::Engine;
 pub use refusal::Refusal;

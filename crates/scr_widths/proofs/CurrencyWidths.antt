@@ -36,7 +36,8 @@ use Rattle.scr_nodes.specs.Rows.{is_foreign, is_owed_in, liability_of}
 use Rattle.scr_nodes.specs.Sources.{liability_present, currency_picked}
 use Rattle.scr_nodes.proofs.OwnRows.{own-liabilities}
 use Rattle.scr_discounts.specs.Discounts.{discounts_at}
-use Rattle.scr_rules.specs.MarketExact.{assets_in}
+use Rattle.scr_rules.specs.Alternatives.{currency_alternatives}
+use Rattle.scr_rules.specs.Holdings.{assets_in}
 use Rattle.scr_rules.specs.MarketRules.{worth_ends, foreign_ends}
 use Rattle.scr_rules.specs.Rules.{amount_of}
 use Rattle.scr_rules.specs.Worked.{worked}
@@ -45,7 +46,6 @@ use Rattle.scr_rules.proofs.Equations.{worked-equation}
 use Rattle.scr_rules.proofs.MarketSizes.{present-worked, change-worked, currency-worked, owed_ends}
 use Rattle.scr_rules.proofs.MarketSums.{all-times}
 use Rattle.scr_rules.proofs.Payments.{liability-known, liability-fits}
-use Rattle.scr_widths.specs.Choices.{currency_alternatives}
 use Rattle.scr_widths.specs.Widths.{currency_width, payments_width, scale_of}
 use Rattle.scr_widths.proofs.Cleared.{Clear, clear-choice, clear-sources, each-passing, not-several}
 use Rattle.scr_widths.proofs.InterestWidths.{narrow-discounts_at}
@@ -123,15 +123,15 @@ module _ (factors : FactorValues) (sheet : BalanceSheet) (valid : Valid sheet) w
       (figure (nodes.Currency currency (of_currencies.Scenario direction measures.Gross))) (change-gross direction currency))
 
   alternatives-gross : (currency : List ℕ)
-      → AllByRecursion (λ (a : Alternative). IsNarrow (change_width currency) a.gross) (currency_alternatives factors sheet currency)
+      → AllByRecursion (λ (a : Alternative). IsNarrow (change_width currency) a.gross) (currency_alternatives (worked factors sheet) currency)
   alternatives-gross currency = (change-narrow directions.Up measures.Gross currency, (change-narrow directions.Down measures.Gross currency, tt))
 
   alternatives-net : (currency : List ℕ)
-      → AllByRecursion (λ (a : Alternative). IsNarrow (change_width currency) a.net) (currency_alternatives factors sheet currency)
+      → AllByRecursion (λ (a : Alternative). IsNarrow (change_width currency) a.net) (currency_alternatives (worked factors sheet) currency)
   alternatives-net currency = (change-narrow directions.Up measures.Net currency, (change-narrow directions.Down measures.Net currency, tt))
 
   one-decides : (currency : List ℕ) → Clear factors sheet valid (nodes.Currency currency of_currencies.Choice)
-      → HasSeveral (mask_of (currency_alternatives factors sheet currency)) → ⊥
+      → HasSeveral (mask_of (currency_alternatives (worked factors sheet) currency)) → ⊥
   one-decides currency clear =
       subst (λ (e : Ends). HasSeveral (amount_of e) → ⊥)
       (worked-equation factors sheet valid (nodes.Currency currency of_currencies.Choice))
@@ -144,12 +144,12 @@ module _ (factors : FactorValues) (sheet : BalanceSheet) (valid : Valid sheet) w
       let below = clear-sources factors sheet valid (nodes.Currency currency (of_currencies.Picked measures.Gross)) clear in
       subst (IsNarrow (change_width currency))
       (sym (worked-equation factors sheet valid (nodes.Currency currency (of_currencies.Picked measures.Gross))))
-      (narrow-chosen_gross (change_width currency) (currency_alternatives factors sheet currency) (alternatives-gross currency)
+      (narrow-chosen_gross (change_width currency) (currency_alternatives (worked factors sheet) currency) (alternatives-gross currency)
       (one-decides currency below.1.1.1.1.0))
   picked-narrow measures.Net currency clear =
       subst (IsNarrow (change_width currency))
       (sym (worked-equation factors sheet valid (nodes.Currency currency (of_currencies.Picked measures.Net))))
-      (narrow-chosen_net (change_width currency) (currency_alternatives factors sheet currency) (alternatives-net currency))
+      (narrow-chosen_net (change_width currency) (currency_alternatives (worked factors sheet) currency) (alternatives-net currency))
 
   -- ---- the payments of all liabilities
   all-owed : sum_by (λ (c : Curve). owed_width c.currency) sheet.curves ≤ 548 * ((scale_of sheet).multiple * 10_000_000_000_000)
@@ -170,14 +170,14 @@ module _ (factors : FactorValues) (sheet : BalanceSheet) (valid : Valid sheet) w
       by n m le some = omega (arith, le, some)
 
   pub near-gross : (currency : List ℕ)
-      → AllByRecursion (λ (a : Alternative). IsNarrow (payments_width (scale_of sheet)) a.gross) (currency_alternatives factors sheet currency)
+      → AllByRecursion (λ (a : Alternative). IsNarrow (payments_width (scale_of sheet)) a.gross) (currency_alternatives (worked factors sheet) currency)
   near-gross currency =
       let w = payments_width (scale_of sheet) in
       let le = one-within currency in
       (narrow-wider _ w _ le (change-narrow directions.Up measures.Gross currency), (narrow-wider _ w _ le (change-narrow directions.Down measures.Gross currency), tt))
 
   pub near-net : (currency : List ℕ)
-      → AllByRecursion (λ (a : Alternative). IsNarrow (payments_width (scale_of sheet)) a.net) (currency_alternatives factors sheet currency)
+      → AllByRecursion (λ (a : Alternative). IsNarrow (payments_width (scale_of sheet)) a.net) (currency_alternatives (worked factors sheet) currency)
   near-net currency =
       let w = payments_width (scale_of sheet) in
       let le = one-within currency in

@@ -18,7 +18,7 @@ use Rattle.scr_profile.specs.declared.correlations.TheConstants.{DEFAULT}
 use Rattle.scr_sheet.specs.Absorptions.{absorbed}
 use Rattle.scr_sheet.specs.Validity.{Valid}
 use Rattle.scr_sheet.specs.declared.sheet.BalanceSheet.{BalanceSheet}
-use Rattle.scr_rules.specs.DefaultExact.{class_grains, class_square_grains, in_classes, total_grains}
+use Rattle.scr_rules.specs.DefaultGrains.{class_grains, class_square_grains, in_classes, total_grains}
 use Rattle.scr_rules.specs.Rules.{amount_of}
 use Rattle.scr_rules.specs.Worked.{worked}
 use Rattle.scr_rules.proofs.DefaultSizes.{variance-is, variance-amount, band-is, type1-is, type1-amount, type2-is, type2-amount, default-is, net-is}

@@ -44,6 +44,7 @@ use Rattle.scr_nodes.specs.OwnOf.{interest_key, paid_by_security, paid_by_liabil
 use Rattle.scr_nodes.specs.Rows.{is_paying, is_paying_in, is_owed_in, liability_of}
 use Rattle.scr_nodes.specs.Sources.{security_rate, liability_rate, currency_loss, rates_in}
 use Rattle.scr_nodes.proofs.OwnRows.{own-securities, own-liabilities}
+use Rattle.scr_rules.specs.Alternatives.{interest_alternatives}
 use Rattle.scr_rules.specs.Discounts.{tilt_of, changed}
 use Rattle.scr_discounts.specs.Discounts.{discounts_at}
 use Rattle.scr_rules.specs.Holdings.{security_cents}
@@ -54,7 +55,6 @@ use Rattle.scr_rules.proofs.Equations.{worked-equation}
 use Rattle.scr_rules.proofs.MarketSums.{all-times}
 use Rattle.scr_rules.proofs.Payments.{security-known, liability-known, security-fits, liability-fits, base-is, changed-is}
 use Rattle.scr_rules.proofs.Sizes.{unit-worked, rate-worked, cost-worked, lost-worked, gross-worked}
-use Rattle.scr_widths.specs.Choices.{interest_alternatives}
 use Rattle.scr_widths.specs.Widths.{payments_width, scale_of}
 use Rattle.scr_widths.proofs.Cleared.{Clear, clear-choice, clear-sources, not-several}
 use Rattle.scr_widths.proofs.Loads.{loaded}
@@ -197,14 +197,14 @@ module _ (factors : FactorValues) (sheet : BalanceSheet) (valid : Valid sheet) w
       (figure (nodes.Whole (wholes.InterestScenario direction measures.Gross))) (gross-narrow direction))
 
   -- ---- the one that decides
-  pub alternatives-gross : AllByRecursion (λ (a : Alternative). IsNarrow (payments_width (scale_of sheet)) a.gross) (interest_alternatives factors sheet)
+  pub alternatives-gross : AllByRecursion (λ (a : Alternative). IsNarrow (payments_width (scale_of sheet)) a.gross) (interest_alternatives (worked factors sheet))
   alternatives-gross = (scenario-narrow directions.Up measures.Gross, (scenario-narrow directions.Down measures.Gross, tt))
 
-  pub alternatives-net : AllByRecursion (λ (a : Alternative). IsNarrow (payments_width (scale_of sheet)) a.net) (interest_alternatives factors sheet)
+  pub alternatives-net : AllByRecursion (λ (a : Alternative). IsNarrow (payments_width (scale_of sheet)) a.net) (interest_alternatives (worked factors sheet))
   alternatives-net = (scenario-narrow directions.Up measures.Net, (scenario-narrow directions.Down measures.Net, tt))
 
   pub one-decides : Clear factors sheet valid (nodes.Whole (wholes.Choice alternatives.Interest))
-      → HasSeveral (mask_of (interest_alternatives factors sheet)) → ⊥
+      → HasSeveral (mask_of (interest_alternatives (worked factors sheet))) → ⊥
   one-decides clear =
       subst (λ (e : Ends). HasSeveral (amount_of e) → ⊥)
       (worked-equation factors sheet valid (nodes.Whole (wholes.Choice alternatives.Interest)))
@@ -217,9 +217,9 @@ module _ (factors : FactorValues) (sheet : BalanceSheet) (valid : Valid sheet) w
       let below = clear-sources factors sheet valid (nodes.Whole (wholes.Picked alternatives.Interest measures.Gross)) clear in
       subst (IsNarrow (payments_width (scale_of sheet)))
       (sym (worked-equation factors sheet valid (nodes.Whole (wholes.Picked alternatives.Interest measures.Gross))))
-      (narrow-chosen_gross (payments_width (scale_of sheet)) (interest_alternatives factors sheet) alternatives-gross
+      (narrow-chosen_gross (payments_width (scale_of sheet)) (interest_alternatives (worked factors sheet)) alternatives-gross
       (one-decides below.1.1.1.1.0))
   interest-narrow measures.Net clear =
       subst (IsNarrow (payments_width (scale_of sheet)))
       (sym (worked-equation factors sheet valid (nodes.Whole (wholes.Picked alternatives.Interest measures.Net))))
-      (narrow-chosen_net (payments_width (scale_of sheet)) (interest_alternatives factors sheet) alternatives-net)
+      (narrow-chosen_net (payments_width (scale_of sheet)) (interest_alternatives (worked factors sheet)) alternatives-net)

@@ -36,6 +36,7 @@ use Rattle.scr_nodes.specs.Rows.{is_stressed, liability_of, rates_of}
 use Rattle.scr_nodes.specs.Sources.{liability_loss, life_parts, losses_under, slt_parts}
 use Rattle.scr_nodes.proofs.OwnRows.{own-liabilities}
 use Rattle.scr_discounts.specs.Discounts.{discounts_at}
+use Rattle.scr_rules.specs.Alternatives.{lapse_alternatives}
 use Rattle.scr_rules.specs.LifeRules.{excess_dues, excess_ends}
 use Rattle.scr_rules.specs.Rules.{amount_of}
 use Rattle.scr_rules.specs.Worked.{worked}
@@ -43,7 +44,6 @@ use Rattle.scr_rules.proofs.Equations.{worked-equation}
 use Rattle.scr_rules.proofs.ExcessValues.{apart-small}
 use Rattle.scr_rules.proofs.LifeSizes.{excess-fits, excess-worked, most_of_scenario, stress-worked, net-worked, life-amounts, slt-amounts, life-worked, slt-worked}
 use Rattle.scr_rules.proofs.MarketSums.{all-times}
-use Rattle.scr_widths.specs.Choices.{lapse_alternatives}
 use Rattle.scr_widths.specs.Widths.{life_width, payments_width, scale_of, slt_width}
 use Rattle.scr_widths.proofs.Cleared.{Clear, clear-choice, clear-sources, not-several}
 use Rattle.scr_widths.proofs.InterestWidths.{narrow-discounts_at}
@@ -118,17 +118,17 @@ module _ (factors : FactorValues) (sheet : BalanceSheet) (valid : Valid sheet) w
 
   -- ---- lapses
   pub lapses-gross : (biometric : Biometric)
-      → AllByRecursion (λ (a : Alternative). IsNarrow (payments_width (scale_of sheet)) a.gross) (lapse_alternatives factors sheet biometric)
+      → AllByRecursion (λ (a : Alternative). IsNarrow (payments_width (scale_of sheet)) a.gross) (lapse_alternatives (worked factors sheet) biometric)
   lapses-gross biometric =
       (stress-narrow biometric projections.LapseUp measures.Gross, (stress-narrow biometric projections.LapseDown measures.Gross, (stress-narrow biometric projections.LapseMass measures.Gross, tt)))
 
   pub lapses-net : (biometric : Biometric)
-      → AllByRecursion (λ (a : Alternative). IsNarrow (payments_width (scale_of sheet)) a.net) (lapse_alternatives factors sheet biometric)
+      → AllByRecursion (λ (a : Alternative). IsNarrow (payments_width (scale_of sheet)) a.net) (lapse_alternatives (worked factors sheet) biometric)
   lapses-net biometric =
       (stress-narrow biometric projections.LapseUp measures.Net, (stress-narrow biometric projections.LapseDown measures.Net, (stress-narrow biometric projections.LapseMass measures.Net, tt)))
 
   life-one : Clear factors sheet valid (nodes.Whole (wholes.Choice alternatives.LifeLapse))
-      → HasSeveral (mask_of (lapse_alternatives factors sheet biometrics.Life)) → ⊥
+      → HasSeveral (mask_of (lapse_alternatives (worked factors sheet) biometrics.Life)) → ⊥
   life-one clear =
       subst (λ (e : Ends). HasSeveral (amount_of e) → ⊥)
       (worked-equation factors sheet valid (nodes.Whole (wholes.Choice alternatives.LifeLapse)))
@@ -136,7 +136,7 @@ module _ (factors : FactorValues) (sheet : BalanceSheet) (valid : Valid sheet) w
       (clear-choice factors sheet valid (nodes.Whole (wholes.Choice alternatives.LifeLapse)) clear))
 
   health-one : Clear factors sheet valid (nodes.Whole (wholes.Choice alternatives.HealthLapse))
-      → HasSeveral (mask_of (lapse_alternatives factors sheet biometrics.Health)) → ⊥
+      → HasSeveral (mask_of (lapse_alternatives (worked factors sheet) biometrics.Health)) → ⊥
   health-one clear =
       subst (λ (e : Ends). HasSeveral (amount_of e) → ⊥)
       (worked-equation factors sheet valid (nodes.Whole (wholes.Choice alternatives.HealthLapse)))
@@ -149,12 +149,12 @@ module _ (factors : FactorValues) (sheet : BalanceSheet) (valid : Valid sheet) w
       let below = clear-sources factors sheet valid (nodes.Whole (wholes.Picked alternatives.LifeLapse measures.Gross)) clear in
       subst (IsNarrow (payments_width (scale_of sheet)))
       (sym (worked-equation factors sheet valid (nodes.Whole (wholes.Picked alternatives.LifeLapse measures.Gross))))
-      (narrow-chosen_gross (payments_width (scale_of sheet)) (lapse_alternatives factors sheet biometrics.Life) (lapses-gross biometrics.Life)
+      (narrow-chosen_gross (payments_width (scale_of sheet)) (lapse_alternatives (worked factors sheet) biometrics.Life) (lapses-gross biometrics.Life)
       (life-one below.1.1.1.1.1.1.0))
   life_lapse-narrow measures.Net clear =
       subst (IsNarrow (payments_width (scale_of sheet)))
       (sym (worked-equation factors sheet valid (nodes.Whole (wholes.Picked alternatives.LifeLapse measures.Net))))
-      (narrow-chosen_net (payments_width (scale_of sheet)) (lapse_alternatives factors sheet biometrics.Life) (lapses-net biometrics.Life))
+      (narrow-chosen_net (payments_width (scale_of sheet)) (lapse_alternatives (worked factors sheet) biometrics.Life) (lapses-net biometrics.Life))
 
   pub health_lapse-narrow : (measure : Measure) → Clear factors sheet valid (nodes.Whole (wholes.Picked alternatives.HealthLapse measure))
       → IsNarrow (payments_width (scale_of sheet)) (figure (nodes.Whole (wholes.Picked alternatives.HealthLapse measure)))
@@ -162,12 +162,12 @@ module _ (factors : FactorValues) (sheet : BalanceSheet) (valid : Valid sheet) w
       let below = clear-sources factors sheet valid (nodes.Whole (wholes.Picked alternatives.HealthLapse measures.Gross)) clear in
       subst (IsNarrow (payments_width (scale_of sheet)))
       (sym (worked-equation factors sheet valid (nodes.Whole (wholes.Picked alternatives.HealthLapse measures.Gross))))
-      (narrow-chosen_gross (payments_width (scale_of sheet)) (lapse_alternatives factors sheet biometrics.Health) (lapses-gross biometrics.Health)
+      (narrow-chosen_gross (payments_width (scale_of sheet)) (lapse_alternatives (worked factors sheet) biometrics.Health) (lapses-gross biometrics.Health)
       (health-one below.1.1.1.1.1.1.0))
   health_lapse-narrow measures.Net clear =
       subst (IsNarrow (payments_width (scale_of sheet)))
       (sym (worked-equation factors sheet valid (nodes.Whole (wholes.Picked alternatives.HealthLapse measures.Net))))
-      (narrow-chosen_net (payments_width (scale_of sheet)) (lapse_alternatives factors sheet biometrics.Health) (lapses-net biometrics.Health))
+      (narrow-chosen_net (payments_width (scale_of sheet)) (lapse_alternatives (worked factors sheet) biometrics.Health) (lapses-net biometrics.Health))
 
   -- ---- the roots
   abbrev one : ℕ

@@ -35,8 +35,7 @@ use Rattle.scr_sheet.specs.BalanceSheet.{position_name, position_of}
 use Rattle.scr_sheet.specs.Validity.{Valid}
 use Rattle.scr_sheet.specs.declared.rows.Class.TheVariants as classes
 use Rattle.scr_sheet.specs.declared.{rows.Position.Position, sheet.BalanceSheet.BalanceSheet}
-use Rattle.scr_rules.specs.Holdings.{class_total}
-use Rattle.scr_rules.specs.MarketExact.{assets_cents}
+use Rattle.scr_rules.specs.Holdings.{class_total, assets_cents}
 use Rattle.scr_rules.specs.Rules.{amount_of}
 use Rattle.scr_rules.specs.Worked.{worked}
 use Rattle.scr_rules.proofs.MarketSizes.{IsMaskOfTwo, bond-worked, bond_ends_of, spread-worked, concentration-worked, exposures, property-worked, net-worked, interest-mask, six, six_most, six-amounts, market-worked}

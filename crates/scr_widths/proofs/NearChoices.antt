@@ -1,6 +1,6 @@
 -- A choice that is left open is one between alternatives that are near, and a figure that rests on an open choice rests on
 -- such a one.
-use Rattle.std.proofs.Common.{◌≡◌, ◌∙◌, ℕ, zero, suc, ◌+◌, ◌*◌, ◌<◌, ◌≤◌, Bool, true, false, ◌||◌, ◌⊎◌, inl, inr, List, [], ◌∷◌, length, map, nat_le, refl, sym, subst, arith}
+use Rattle.std.proofs.Common.{◌≡◌, ℕ, zero, suc, ◌+◌, ◌*◌, ◌≤◌, Bool, true, false, ◌||◌, ◌⊎◌, inl, inr, List, [], ◌∷◌, length, map, nat_le, refl, sym, subst, arith}
 use Rattle.std.specs.Prelude.{Any}
 use Rattle.std.specs.Int.RustNames.{count_ones}
 use Rattle.std.specs.List.{AllByRecursion, list_any}
@@ -12,7 +12,7 @@ use Rattle.scr_num.specs.Rounding.{Ends, root_ends}
 use Rattle.scr_num.proofs.Enclosing.{Encloses-root_of}
 use Rattle.scr_agg.specs.Choice.{Outcome}
 use Rattle.scr_agg.specs.Nearness.{HasOpen}
-use Rattle.scr_agg.specs.Unbeaten.{Alternative, EncloseOutcomes, HasSeveral, mask_of, unbeaten}
+use Rattle.scr_agg.specs.Unbeaten.{Alternative, EncloseOutcomes, HasSeveral, mask_of}
 use Rattle.scr_agg.proofs.Bits.{several_bits}
 use Rattle.scr_agg.proofs.ChoiceWidths.{open_choice}
 use Rattle.scr_default.specs.Type1Ends.{type1_mask}
@@ -26,23 +26,17 @@ use Rattle.scr_nodes.specs.declared.node.Biometric.TheVariants as biometrics
 use Rattle.scr_nodes.specs.declared.node.Node.{Node}
 use Rattle.scr_nodes.specs.declared.node.Node.TheVariants as nodes
 use Rattle.scr_nodes.specs.declared.node.OfCurrency.TheVariants as of_currencies
-use Rattle.scr_nodes.specs.declared.node.OfFund.TheVariants as of_funds
 use Rattle.scr_nodes.specs.declared.node.Whole.TheVariants as wholes
 use Rattle.scr_sheet.specs.Validity.{Valid}
 use Rattle.scr_sheet.specs.declared.sheet.BalanceSheet.{BalanceSheet}
+use Rattle.scr_rules.specs.Alternatives.{EncloseAlternatives, Outcomes, currency_alternatives, interest_alternatives, lapse_alternatives}
 use Rattle.scr_rules.specs.Close.{close_under, is_open, is_open_choice}
-use Rattle.scr_rules.specs.DefaultExact.{total_grains}
-use Rattle.scr_rules.specs.LifeExact.{lapse_outcomes}
-use Rattle.scr_rules.specs.MarketExact.{change_outcomes}
+use Rattle.scr_rules.specs.DefaultGrains.{total_grains}
 use Rattle.scr_rules.specs.Rules.{amount_of}
 use Rattle.scr_rules.specs.Worked.{worked}
-use Rattle.scr_rules.proofs.DefaultEnclosures.{variance-holds}
 use Rattle.scr_rules.proofs.DefaultSizes.{band-is, variance-amount}
-use Rattle.scr_rules.proofs.Enclosures as interest
 use Rattle.scr_rules.proofs.Equations.{worked-equation}
-use Rattle.scr_rules.proofs.LifeEnclosures.{lapses-enclose}
-use Rattle.scr_rules.proofs.MarketEnclosures as currencies
-use Rattle.scr_widths.specs.Choices.{HasNearBands, IsNearChoice, RestsOnNearChoice, RestsWithin, currency_alternatives, gap_width, interest_alternatives, interest_outcomes, lapse_alternatives}
+use Rattle.scr_widths.specs.Choices.{HasNearBands, IsNearChoice, RestsOnNearChoice, RestsWithin, gap_width}
 use Rattle.scr_widths.specs.Widths.{payments_width, scale_of}
 use Rattle.scr_widths.proofs.CurrencyWidths.{near-gross, near-net}
 use Rattle.scr_widths.proofs.DefaultWidths.{variance-narrow}
@@ -79,7 +73,7 @@ any-true test P step (n ∷ list) e = elim (or_either (test n) (list_any (λ b. 
       (suc found.0, found.1, omega (arith, found.2), found.3, found.4)
 ]
 
-module _ (factors : FactorValues) (sheet : BalanceSheet) (valid : Valid sheet) where
+module _ (factors : FactorValues) (sheet : BalanceSheet) (valid : Valid sheet) (outcomes : Outcomes) (enclosed : EncloseAlternatives (worked factors sheet) outcomes) where
   abbrev figure : Node → Ends
   figure node = worked factors sheet node
 
@@ -90,38 +84,38 @@ module _ (factors : FactorValues) (sheet : BalanceSheet) (valid : Valid sheet) w
       by m = omega arith
 
   interest-near : is_open (figure (nodes.Whole (wholes.Choice alternatives.Interest))) ≡ true
-      → HasOpen 1000 (gap_width sheet) (interest_alternatives factors sheet) (interest_outcomes sheet)
+      → HasOpen 1000 (gap_width sheet) (interest_alternatives figure) outcomes.interest
   interest-near e =
-      near-of (payments_width (scale_of sheet)) (gap_width sheet) (interest_alternatives factors sheet) (interest_outcomes sheet) twice-payments
-      (interest.both-enclose factors sheet valid) (alternatives-gross factors sheet valid) (alternatives-net factors sheet valid)
+      near-of (payments_width (scale_of sheet)) (gap_width sheet) (interest_alternatives figure) outcomes.interest twice-payments
+      enclosed.interest (alternatives-gross factors sheet valid) (alternatives-net factors sheet valid)
       (subst (λ (mask : Ends). HasSeveral (amount_of mask)) (worked-equation factors sheet valid (nodes.Whole (wholes.Choice alternatives.Interest)))
       (several-in (figure (nodes.Whole (wholes.Choice alternatives.Interest))) e))
 
   currency-near : (currency : List ℕ) → is_open (figure (nodes.Currency currency of_currencies.Choice)) ≡ true
-      → HasOpen 1000 (gap_width sheet) (currency_alternatives factors sheet currency) (change_outcomes sheet currency)
+      → HasOpen 1000 (gap_width sheet) (currency_alternatives figure currency) (outcomes.change currency)
   currency-near currency e =
-      near-of (payments_width (scale_of sheet)) (gap_width sheet) (currency_alternatives factors sheet currency) (change_outcomes sheet currency) twice-payments
-      (currencies.both-enclose factors sheet valid currency) (near-gross factors sheet valid currency) (near-net factors sheet valid currency)
+      near-of (payments_width (scale_of sheet)) (gap_width sheet) (currency_alternatives figure currency) (outcomes.change currency) twice-payments
+      (enclosed.change currency) (near-gross factors sheet valid currency) (near-net factors sheet valid currency)
       (subst (λ (mask : Ends). HasSeveral (amount_of mask)) (worked-equation factors sheet valid (nodes.Currency currency of_currencies.Choice))
       (several-in (figure (nodes.Currency currency of_currencies.Choice)) e))
 
-  lapses-near : (biometric : Biometric) → HasSeveral (mask_of (lapse_alternatives factors sheet biometric))
-      → HasOpen 1000 (gap_width sheet) (lapse_alternatives factors sheet biometric) (lapse_outcomes sheet biometric)
+  lapses-near : (biometric : Biometric) → HasSeveral (mask_of (lapse_alternatives figure biometric))
+      → HasOpen 1000 (gap_width sheet) (lapse_alternatives figure biometric) (outcomes.lapses biometric)
   lapses-near biometric several =
-      near-of (payments_width (scale_of sheet)) (gap_width sheet) (lapse_alternatives factors sheet biometric) (lapse_outcomes sheet biometric) twice-payments
-      (lapses-enclose factors sheet valid biometric) (lapses-gross factors sheet valid biometric) (lapses-net factors sheet valid biometric) several
+      near-of (payments_width (scale_of sheet)) (gap_width sheet) (lapse_alternatives figure biometric) (outcomes.lapses biometric) twice-payments
+      (enclosed.lapses biometric) (lapses-gross factors sheet valid biometric) (lapses-net factors sheet valid biometric) several
 
-  life-several : is_open (figure (nodes.Whole (wholes.Choice alternatives.LifeLapse))) ≡ true → HasSeveral (mask_of (lapse_alternatives factors sheet biometrics.Life))
+  life-several : is_open (figure (nodes.Whole (wholes.Choice alternatives.LifeLapse))) ≡ true → HasSeveral (mask_of (lapse_alternatives figure biometrics.Life))
   life-several e =
       subst (λ (mask : Ends). HasSeveral (amount_of mask)) (worked-equation factors sheet valid (nodes.Whole (wholes.Choice alternatives.LifeLapse)))
       (several-in (figure (nodes.Whole (wholes.Choice alternatives.LifeLapse))) e)
 
-  health-several : is_open (figure (nodes.Whole (wholes.Choice alternatives.HealthLapse))) ≡ true → HasSeveral (mask_of (lapse_alternatives factors sheet biometrics.Health))
+  health-several : is_open (figure (nodes.Whole (wholes.Choice alternatives.HealthLapse))) ≡ true → HasSeveral (mask_of (lapse_alternatives figure biometrics.Health))
   health-several e =
       subst (λ (mask : Ends). HasSeveral (amount_of mask)) (worked-equation factors sheet valid (nodes.Whole (wholes.Choice alternatives.HealthLapse)))
       (several-in (figure (nodes.Whole (wholes.Choice alternatives.HealthLapse))) e)
 
-  bands-near : is_open (figure (nodes.Whole wholes.DefaultBand)) ≡ true → HasNearBands sheet
+  bands-near : is_open (figure (nodes.Whole wholes.DefaultBand)) ≡ true → HasNearBands sheet outcomes.variance
   bands-near e =
       let variance = figure (nodes.Whole wholes.Variance) in
       let amount = variance-amount factors sheet valid in
@@ -129,12 +123,12 @@ module _ (factors : FactorValues) (sheet : BalanceSheet) (valid : Valid sheet) w
       subst (λ (mask : Ends). HasSeveral (amount_of mask)) (band-is factors sheet valid) (several-in (figure (nodes.Whole wholes.DefaultBand)) e) in
       record {
         deviation = root_ends variance;
-        encloses = Encloses-root_of 1000 variance.low variance.high (Frac _) (variance-holds factors sheet valid);
+        encloses = Encloses-root_of 1000 variance.low variance.high (Frac outcomes.variance) enclosed.variance;
         narrow = narrow-deviation variance amount.not_negative (variance-narrow factors sheet valid);
         between = (type1-near (total_grains sheet) variance amount.not_negative (variance-narrow factors sheet valid) several).0;
       }
 
-  pub choice-near : (node : Node) → is_open_choice factors sheet node ≡ true → IsNearChoice factors sheet node
+  pub choice-near : (node : Node) → is_open_choice factors sheet node ≡ true → IsNearChoice factors sheet outcomes node
   choice-near (nodes.Whole (wholes.Choice alternatives.Interest)) e = interest-near e
   choice-near (nodes.Whole (wholes.Choice alternatives.LifeLapse)) e = lapses-near biometrics.Life (life-several e)
   choice-near (nodes.Whole (wholes.Choice alternatives.HealthLapse)) e = lapses-near biometrics.Health (health-several e)
@@ -146,15 +140,15 @@ module _ (factors : FactorValues) (sheet : BalanceSheet) (valid : Valid sheet) w
   abbrev closes : Node → List Bool → Bool
   closes node below = is_open_choice factors sheet node || list_any (λ b. b) below
 
-  rests : (steps : ℕ) (node : Node) → reckoned_within false closes sheet steps node ≡ true → RestsWithin factors sheet steps node
+  rests : (steps : ℕ) (node : Node) → reckoned_within false closes sheet steps node ≡ true → RestsWithin factors sheet outcomes steps node
   unfolding reckoned_within
   rests zero node e = absurd (true≢false (sym e))
   rests (suc steps) node e =
       elim (or_either (is_open_choice factors sheet node) (list_any (λ b. b) (map (reckoned_within false closes sheet steps) (sources_of sheet node))) e) [
         | inl here ↦ inl (choice-near node here)
-        | inr below ↦ inr (any-true (reckoned_within false closes sheet steps) (RestsWithin factors sheet steps) (rests steps) (sources_of sheet node) below)
+        | inr below ↦ inr (any-true (reckoned_within false closes sheet steps) (RestsWithin factors sheet outcomes steps) (rests steps) (sources_of sheet node) below)
       ]
 
-  pub rests-near : (node : Node) → close_under factors sheet node ≡ true → RestsOnNearChoice factors sheet node
+  pub rests-near : (node : Node) → close_under factors sheet node ≡ true → RestsOnNearChoice factors sheet outcomes node
   unfolding close_under reckoned
   rests-near node e = record { steps = length sheet.funds + 200; there = rests (length sheet.funds + 200) node e }

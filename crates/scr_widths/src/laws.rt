@@ -9,6 +9,7 @@ ghost use Rattle.scr_sheet.specs.declared.sheet.BalanceSheet.{BalanceSheet};
 ghost use Rattle.scr_sheet.specs.Validity.{Valid};
 ghost use Rattle.scr_nodes.specs.declared.node.Node.{Node};
 ghost use Rattle.scr_nodes.specs.Live.{is_live};
+ghost use Rattle.scr_rules.specs.Alternatives.{EncloseAlternatives, Outcomes};
 ghost use Rattle.scr_rules.specs.Close.{close_under, is_open_choice};
 ghost use Rattle.scr_rules.specs.Worked.{worked};
 ghost use Rattle.scr_widths.specs.Choices.{IsNearChoice, RestsOnNearChoice};
@@ -36,13 +37,16 @@ pub fn held()
     ensures seen { (sheet : BalanceSheet) → Valid sheet → seen_total sheet ≡ held_total sheet }
 {}
 
-/// For every valid balance sheet a choice that is left open is one between alternatives that are near: scenarios of which two
-/// have exact net requirements within 32 grains for each multiple of the scale, and gross ones too where the net ones are
-/// known and equal (Delegated Regulation (EU) 2015/35, Article 206(2)), or bands of which an edge lies within 7 grains of the
-/// standard deviation (Article 200). A figure that rests on an open choice rests on one of these.
+/// For every valid balance sheet, whatever outcomes the worked figures of its alternatives enclose, a choice that is left open
+/// is one between alternatives that are near by these: scenarios of which two have net requirements within 32 grains for each
+/// multiple of the scale, and gross ones too where the net ones are known and equal (Delegated Regulation (EU) 2015/35,
+/// Article 206(2)), or bands of which an edge lies within 7 grains of the standard deviation (Article 200). A figure that
+/// rests on an open choice rests on one of these. They enclose the exact outcomes (`scr_exact::laws::outcomes`).
 pub fn open_choices()
-    ensures near { (factors : FactorValues) (sheet : BalanceSheet) → Valid sheet → (node : Node)
-        → is_open_choice factors sheet node ≡ true → IsNearChoice factors sheet node }
-    ensures under { (factors : FactorValues) (sheet : BalanceSheet) → Valid sheet → (node : Node)
-        → close_under factors sheet node ≡ true → RestsOnNearChoice factors sheet node }
+    ensures near { (factors : FactorValues) (sheet : BalanceSheet) → Valid sheet → (outcomes : Outcomes)
+        → EncloseAlternatives (worked factors sheet) outcomes → (node : Node)
+        → is_open_choice factors sheet node ≡ true → IsNearChoice factors sheet outcomes node }
+    ensures under { (factors : FactorValues) (sheet : BalanceSheet) → Valid sheet → (outcomes : Outcomes)
+        → EncloseAlternatives (worked factors sheet) outcomes → (node : Node)
+        → close_under factors sheet node ≡ true → RestsOnNearChoice factors sheet outcomes node }
 {}

@@ -13,7 +13,7 @@ invariant_of-result c =
     let low : to_z w128 (of_z w128 c.whole-low.result) ≡ c.whole-low.result = omega (arith, ints) in
     let high : to_z w128 (of_z w128 c.whole-high.result) ≡ c.whole-high.result = omega (arith, ints) in
     record {
-      ordered = ordered_of c.requires.shown.0 shown.ends _ _ _ _ (found_at words _ _ c.word-first.ensures ∙ shown.first)
+      ordered = ordered_of c.requires.shown.0 _ _ _ _ c.word-first.type_inv (found_at words _ _ c.word-first.ensures ∙ shown.first)
           (found_at words _ _ c.word-second.ensures ∙ shown.second) (found_at words _ _ c.word-third.ensures ∙ shown.third)
           (found_at words _ _ c.word-fourth.ensures ∙ shown.fourth) _ _ (λ v within x y. low ∙ c.whole-low.ensures v within x y) (λ v within x y. high ∙ c.whole-high.ensures v within x y);
     }
@@ -23,6 +23,6 @@ returns c = λ figure shown.
     let words = slots_items c.args.closed.now.words in
     let low : to_z w128 (of_z w128 c.whole-low.result) ≡ c.whole-low.result = omega (arith, ints) in
     let high : to_z w128 (of_z w128 c.whole-high.result) ≡ c.whole-high.result = omega (arith, ints) in
-    ends_of figure shown.ends _ _ _ _ (found_at words _ _ c.word-first.ensures ∙ shown.first)
+    ends_of figure _ _ _ _ c.word-first.type_inv (found_at words _ _ c.word-first.ensures ∙ shown.first)
     (found_at words _ _ c.word-second.ensures ∙ shown.second) (found_at words _ _ c.word-third.ensures ∙ shown.third)
     (found_at words _ _ c.word-fourth.ensures ∙ shown.fourth) _ _ (λ v within x y. low ∙ c.whole-low.ensures v within x y) (λ v within x y. high ∙ c.whole-high.ensures v within x y)

@@ -1,4 +1,4 @@
-use Rattle.std.proofs.Common.{◌≡◌, ◌<◌, ◌++◌, ◌∷◌, ◌^◌, List, [], ℕ, Some, ap, arith, get_or, length, slice_get, sym, ◌∙◌}
+use Rattle.std.proofs.Common.{◌≡◌, ◌<◌, ◌^◌, List, [], ℕ, Some, arith, get_or, length, slice_get, sym, ◌∙◌}
 use Rattle.scr_board.proofs.Rows.{each_row, get-past_end, get-within, take-past, taken-next}
 use Rattle.scr_board.proofs.making.node_dependants.Goals as goal
 use Rattle.scr_board.proofs.making.node_dependants.Goals.{else-loop-k-test, then-loop-k-test+in-None}

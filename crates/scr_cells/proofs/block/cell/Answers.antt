@@ -5,16 +5,16 @@ use Rattle.scr_sheet.specs.declared.sheet.BalanceSheet.{BalanceSheet}
 use Rattle.scr_nodes.specs.declared.node.Node.{Node}
 use Rattle.scr_nodes.specs.Live.{is_live}
 use Rattle.scr_cells.specs.Block.{bounds_at, cell_of}
+use Rattle.scr_cells.specs.Certified.{RestsOnNearChoice}
 use Rattle.scr_cells.specs.Shown.{node_of}
 use Rattle.scr_cells.specs.Table.{NamedFigure, seen, table}
 use Rattle.scr_cells.specs.declared.bounds.Bounds.{Bounds}
 use Rattle.scr_cells.specs.declared.cells.Cell.{Cell}
+use Rattle.scr_cells.proofs.Bounded.{rests}
 use Rattle.scr_cells.proofs.LiveCells.{live_at, stated_at}
 use Rattle.scr_cells.proofs.block.cell.Goals as goal
-use Rattle.scr_widths.specs.Choices.{RestsOnNearChoice}
 use Rattle.scr_widths.specs.Widths.{stated_width}
 use Rattle.scr_widths.proofs.AllWidths.{cents-kept}
-use Rattle.scr_widths.proofs.NearChoices.{rests-near}
 
 pub bounds_at-bounds-requires : goal.bounds_at-bounds-requires
 bounds_at-bounds-requires c =
@@ -62,9 +62,9 @@ returns-clause-near c = λ close shown is.
     let engine = c.args.engine.now in
     let node = node_of c.entry_of.result.now.shown in
     let bounds = c.bounds_at-bounds.ensures ∙ ap (bounds_at engine.factors engine.sheet) c.node_of-node.ensures in
-    let rests : c.cell_of.result.close ≡ true → RestsOnNearChoice engine.factors engine.sheet node =
+    let near : c.cell_of.result.close ≡ true → RestsOnNearChoice engine.factors engine.sheet node =
     subst (λ (cell : Cell). cell.close ≡ true → RestsOnNearChoice engine.factors engine.sheet node)
     (sym (c.cell_of.ensures ∙ ap (λ (b : Bounds). cell_of k b c.width_of.result) bounds))
-    (λ open_choice. rests-near engine.factors engine.sheet c.book.ensures.valid node open_choice) in
+    (λ open_choice. rests engine.factors engine.sheet c.book.ensures.valid node open_choice) in
     subst (λ (cell : NamedFigure). RestsOnNearChoice engine.factors engine.sheet cell.node)
-    (one-cell k (seen c.entry_of.result.now) shown c.entry_of.ensures is) (rests close)
+    (one-cell k (seen c.entry_of.result.now) shown c.entry_of.ensures is) (near close)

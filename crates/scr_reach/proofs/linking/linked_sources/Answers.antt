@@ -10,4 +10,4 @@ loop-source-init c =
     (ap (map (λ (source : ℕ × ℕ). source.0))
     (c.into_iter-source-iterator.ensures.into_iter_gives ∙ c.sources-source-items.ensures)
     ∙ map-map (λ (source : ℕ × ℕ). source.0) (λ (e : Edge). (e.source, e.id))
-    (edges_to c.args.links.now.edges c.args.place))
+    (edges_to c.args.links.now.edges c.args.number))

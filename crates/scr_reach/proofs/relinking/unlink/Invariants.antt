@@ -2,9 +2,9 @@ use Rattle.std.proofs.Common.{length}
 use Rattle.scr_reach.proofs.Cutting.{IsCutting}
 use Rattle.scr_reach.proofs.relinking.unlink.Given as goal
 
--- to all other places the links are as before
+-- to all other numbers the links are as before
 abbrev pub invariant-loop-edge : goal.invariant-loop-edge
-invariant-loop-edge l = IsCutting l.place l.fn.links l.links
+invariant-loop-edge l = IsCutting l.number l.fn.links l.links
 
 abbrev pub decreases-loop-edge : goal.decreases-loop-edge
 decreases-loop-edge l = length l.links.edges

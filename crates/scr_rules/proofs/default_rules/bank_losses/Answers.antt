@@ -1,6 +1,6 @@
 use Rattle.std.proofs.Common.{sym, ◌∙◌}
 use Rattle.scr_nodes.specs.Rows.{is_bank_of}
-use Rattle.scr_rules.specs.DefaultExact.{bank_grains}
+use Rattle.scr_rules.specs.DefaultGrains.{bank_grains}
 use Rattle.scr_rules.proofs.DefaultCode.{tallied-here, tallied-past}
 use Rattle.scr_rules.proofs.default_rules.bank_losses.Goals as goal
 use Rattle.scr_rules.proofs.default_rules.bank_losses.Goals.{then-eq, else-eq}

@@ -1,5 +1,5 @@
 use Rattle.scr_nodes.specs.Rows.{is_bank_of}
-use Rattle.scr_rules.specs.DefaultExact.{bank_grains}
+use Rattle.scr_rules.specs.DefaultGrains.{bank_grains}
 use Rattle.scr_rules.proofs.DefaultCode.{IsTallied}
 use Rattle.scr_rules.proofs.default_rules.bank_losses.Given as goal
 

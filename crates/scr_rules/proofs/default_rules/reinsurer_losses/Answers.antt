@@ -1,6 +1,6 @@
 use Rattle.std.proofs.Common.{sym, ◌∙◌}
 use Rattle.scr_nodes.specs.Rows.{is_reinsurer_of}
-use Rattle.scr_rules.specs.DefaultExact.{reinsurer_grains}
+use Rattle.scr_rules.specs.DefaultGrains.{reinsurer_grains}
 use Rattle.scr_rules.proofs.DefaultCode.{tallied-here, tallied-past}
 use Rattle.scr_rules.proofs.default_rules.reinsurer_losses.Goals as goal
 use Rattle.scr_rules.proofs.default_rules.reinsurer_losses.Goals.{then-eq, else-eq}

@@ -1,5 +1,5 @@
 use Rattle.scr_nodes.specs.Rows.{is_reinsurer_of}
-use Rattle.scr_rules.specs.DefaultExact.{reinsurer_grains}
+use Rattle.scr_rules.specs.DefaultGrains.{reinsurer_grains}
 use Rattle.scr_rules.proofs.DefaultCode.{IsTallied}
 use Rattle.scr_rules.proofs.default_rules.reinsurer_losses.Given as goal
 

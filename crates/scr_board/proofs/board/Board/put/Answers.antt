@@ -12,7 +12,7 @@ pub store_word-requires-clause-stored : goal.store_word-requires-clause-stored
 store_word-requires-clause-stored c = stored_first (view c.args.pass.now) c.args.n c.requires.pass.unstored c.requires.hand
 
 pub store_word-requires-clause-value : goal.store_word-requires-clause-value
-store_word-requires-clause-value c = listed (view c.args.pass.now) c.args.n (ends c.args.span) c.requires.worked 0 _ c.halves-first.ensures.upper
+store_word-requires-clause-value c = listed (view c.args.pass.now) c.args.n (ends c.args.span) (record { low = c.halves-first.ensures.within; high = c.halves-third.ensures.within; ordered = c.args.span.ordered }) c.requires.worked 0 _ c.halves-first.ensures.upper
 
 pub store_word-requires-2-clause-hand : goal.store_word-requires-2-clause-hand
 store_word-requires-2-clause-hand c = subst (λ (w : View). 0 < holds c.args.n w.progress.hand) (sym c.store_word.ensures.view)
@@ -23,7 +23,7 @@ store_word-requires-2-clause-stored c = ap (λ (w : View). stored_of c.args.n w.
     ∙ stored_second (view c.args.pass.now) c.args.n c.requires.pass.unstored c.requires.hand
 
 pub store_word-requires-2-clause-value : goal.store_word-requires-2-clause-value
-store_word-requires-2-clause-value c = listed (view c.args.pass.now) c.args.n (ends c.args.span) c.requires.worked 1 _ c.halves-first.ensures.lower
+store_word-requires-2-clause-value c = listed (view c.args.pass.now) c.args.n (ends c.args.span) (record { low = c.halves-first.ensures.within; high = c.halves-third.ensures.within; ordered = c.args.span.ordered }) c.requires.worked 1 _ c.halves-first.ensures.lower
     ∙ sym (ap (λ (w : View). word_of w.round c.args.n 1) c.store_word.ensures.view)
 
 pub store_word-requires-3-clause-hand : goal.store_word-requires-3-clause-hand
@@ -37,7 +37,7 @@ store_word-requires-3-clause-stored c =
     ∙ stored_third (view c.args.pass.now) c.args.n c.requires.pass.unstored c.requires.hand
 
 pub store_word-requires-3-clause-value : goal.store_word-requires-3-clause-value
-store_word-requires-3-clause-value c = listed (view c.args.pass.now) c.args.n (ends c.args.span) c.requires.worked 2 _ c.halves-third.ensures.upper
+store_word-requires-3-clause-value c = listed (view c.args.pass.now) c.args.n (ends c.args.span) (record { low = c.halves-first.ensures.within; high = c.halves-third.ensures.within; ordered = c.args.span.ordered }) c.requires.worked 2 _ c.halves-third.ensures.upper
     ∙ sym (ap (λ (w : View). word_of w.round c.args.n 2) (c.store_word-2.ensures.view ∙ ap (view_stored c.args.n) c.store_word.ensures.view))
 
 pub store_word-requires-4-clause-hand : goal.store_word-requires-4-clause-hand
@@ -53,7 +53,7 @@ store_word-requires-4-clause-stored c =
     ∙ stored_fourth (view c.args.pass.now) c.args.n c.requires.pass.unstored c.requires.hand
 
 pub store_word-requires-4-clause-value : goal.store_word-requires-4-clause-value
-store_word-requires-4-clause-value c = listed (view c.args.pass.now) c.args.n (ends c.args.span) c.requires.worked 3 _ c.halves-third.ensures.lower
+store_word-requires-4-clause-value c = listed (view c.args.pass.now) c.args.n (ends c.args.span) (record { low = c.halves-first.ensures.within; high = c.halves-third.ensures.within; ordered = c.args.span.ordered }) c.requires.worked 3 _ c.halves-third.ensures.lower
     ∙ sym (ap (λ (w : View). word_of w.round c.args.n 3)
     (c.store_word-3.ensures.view ∙ ap (view_stored c.args.n) (c.store_word-2.ensures.view ∙ ap (view_stored c.args.n) c.store_word.ensures.view)))
 

@@ -5,7 +5,7 @@ use mir.Val.{of_z, to_z}
 use Rattle.scr_round.specs.Rounds.{word_of}
 use Rattle.scr_board.specs.declared.views.View.{View}
 use Rattle.scr_board.specs.Passes.{view}
-use Rattle.scr_board.proofs.Figures.{figure-ends, figure-of, figure-word}
+use Rattle.scr_board.proofs.Figures.{figure-of, figure-word}
 use Rattle.scr_board.proofs.Reading.{ends_of, ordered_of, same_count}
 use Rattle.scr_board.proofs.Seats.{can_node}
 use Rattle.scr_board.proofs.board.Board.read.Goals as goal
@@ -23,7 +23,7 @@ invariant_of-result c =
     let low : to_z w128 (of_z w128 c.whole-low.result) ≡ c.whole-low.result = omega (arith, ints) in
     let high : to_z w128 (of_z w128 c.whole-high.result) ≡ c.whole-high.result = omega (arith, ints) in
     record {
-      ordered = ordered_of figure.0 (figure-ends round.worked n figure.0 seat.formed.ends figure.1) _ _ _ _
+      ordered = ordered_of figure.0 _ _ _ _ c.load_word-first.type_inv
           (c.load_word-first.ensures.word ∙ figure-word round lists n 0 figure.0 seat.lists figure.1)
           (c.load_word-second.ensures.word ∙ ap (λ (w : View). word_of w.round n 1) one ∙ figure-word round lists n 1 figure.0 seat.lists figure.1)
           (c.load_word-third.ensures.word ∙ ap (λ (w : View). word_of w.round n 2) two ∙ figure-word round lists n 2 figure.0 seat.lists figure.1)
@@ -44,7 +44,7 @@ returns-clause-read c = λ round formed is.
     let three = c.load_word-third.ensures.view ∙ two in
     let low : to_z w128 (of_z w128 c.whole-low.result) ≡ c.whole-low.result = omega (arith, ints) in
     let high : to_z w128 (of_z w128 c.whole-high.result) ≡ c.whole-high.result = omega (arith, ints) in
-    figure.1 ∙ ap Some (sym (ends_of figure.0 (figure-ends round.worked n figure.0 formed.ends figure.1) _ _ _ _
+    figure.1 ∙ ap Some (sym (ends_of figure.0 _ _ _ _ c.load_word-first.type_inv
     (c.load_word-first.ensures.word ∙ figure-word round lists n 0 figure.0 is figure.1)
     (c.load_word-second.ensures.word ∙ ap (λ (w : View). word_of w.round n 1) one ∙ figure-word round lists n 1 figure.0 is figure.1)
     (c.load_word-third.ensures.word ∙ ap (λ (w : View). word_of w.round n 2) two ∙ figure-word round lists n 2 figure.0 is figure.1)

@@ -1,0 +1,10 @@
+pub mod RowsEnclosed
+pub mod Covered
+pub mod MarketEnclosures
+pub mod LifeEnclosures
+pub mod DefaultEnclosures
+pub mod NonlifeEnclosures
+pub mod LossEnclosures
+pub mod Enclosures
+pub mod WorkedCovers
+pub mod Enclosed

@@ -1,0 +1,9 @@
+pub mod Measured
+pub mod InterestExact
+pub mod MarketExact
+pub mod LifeExact
+pub mod DefaultExact
+pub mod NonlifeExact
+pub mod LossExact
+pub mod Exact
+pub mod Covering

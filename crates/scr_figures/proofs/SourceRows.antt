@@ -1,0 +1,252 @@
+-- The rows that were gathered are those that are read.
+use Rattle.std.proofs.Common.{◌≡◌, ℕ, zero, suc, ◌+◌, ◌<◌, ◌≤◌, Bool, true, false, cond, List, [], ◌∷◌, ◌++◌, length, map, take, get_or, Some, option_map, slice_get, Result, OnOk, refl, sym, ap, subst, ◌∙◌, arith, append_assoc, append-nil}
+use Rattle.std.specs.List.{AllByRecursion}
+use Rattle.std.proofs.lemmas.Bool.{ltb-true}
+use Rattle.std.proofs.lemmas.List.{length-map, map-append, take_more}
+use Rattle.std.proofs.lemmas.Option.{slice_get-map, slice_get_within}
+use Rattle.scr_numbers.specs.Ranges.{Numbered, count}
+use Rattle.scr_numbers.specs.declared.table.Table.{Table}
+use Rattle.scr_numbers.specs.declared.table.Table.TheVariants as tables
+use Rattle.scr_sheet.specs.declared.{rows.Class.Class, sheet.BalanceSheet.BalanceSheet}
+use Rattle.scr_sheet.specs.declared.keys.Projection.TheVariants as projection_kinds
+use Rattle.scr_sheet.specs.declared.rows.Class.TheVariants as class_kinds
+use Rattle.scr_nodes.specs.Live.{is_live}
+use Rattle.scr_nodes.specs.Table.{first_of, second_of}
+use Rattle.scr_nodes.specs.declared.{node.Direction.Direction, node.Measure.Measure, node.Node.Node, node.OfCurrency.OfCurrency, node.OfFund.OfFund, node.OfGroup.OfGroup, node.OfLiability.OfLiability, node.OfSecurity.OfSecurity}
+use Rattle.scr_nodes.specs.declared.node.Direction.TheVariants.{Up, Down}
+use Rattle.scr_nodes.specs.declared.node.Measure.TheVariants.{Gross, Net}
+use Rattle.scr_nodes.specs.declared.node.Node.TheVariants as nodes
+use Rattle.scr_nodes.specs.declared.node.OfCurrency.TheVariants as of_currencies
+use Rattle.scr_nodes.specs.declared.node.OfFund.TheVariants as of_funds
+use Rattle.scr_nodes.specs.declared.node.OfGroup.TheVariants as of_groups
+use Rattle.scr_nodes.specs.declared.node.OfLiability.TheVariants as of_liabilities
+use Rattle.scr_nodes.specs.declared.node.OfSecurity.TheVariants as of_securities
+use Rattle.scr_nodes.specs.declared.node.Whole.TheVariants as wholes
+use Rattle.scr_nodes.specs.declared.selections.Holders.TheVariants as holders
+use Rattle.scr_nodes.specs.declared.selections.Selection.TheVariants as selections
+use Rattle.scr_figures.specs.Families.{currency_family, direction_place, fund_family, group_family, liability_family, measure_place, name_of, security_family, table_of}
+use Rattle.scr_figures.specs.Numbers.{IsNumbered, names_in}
+use Rattle.scr_sheet.specs.BalanceSheet.{group_name, liability_name, position_name, stake_name}
+use Rattle.scr_figures.specs.Gathered.{class_place, classes, default_classes}
+use Rattle.scr_figures.specs.Places.{places_by, places_where}
+use Rattle.scr_figures.proofs.Entering.{places-more}
+use Rattle.scr_figures.specs.SourceNumbers.{IsGathered, numbers_at}
+
+-- ---- places of rows
+
+module _ {Row : Type 0} (test : Row → Bool) where
+  where-within : (s : ℕ) (rows : List Row) → AllByRecursion (λ k. k < s + length rows) (places_where test s rows)
+  where-within s [] = tt
+  where-within s (row ∷ rows) =
+      let here : s < s + suc (length rows) = omega arith in
+      let one : suc s + length rows ≡ s + suc (length rows) = omega arith in
+      let rest : AllByRecursion (λ k. k < s + suc (length rows)) (places_where test (suc s) rows) =
+      subst (λ n. AllByRecursion (λ k. k < n) (places_where test (suc s) rows)) one (where-within (suc s) rows) in
+      by (test row) here rest
+    where
+      by : (t : Bool) → s < s + suc (length rows)
+          → AllByRecursion (λ k. k < s + suc (length rows)) (places_where test (suc s) rows)
+          → AllByRecursion (λ k. k < s + suc (length rows)) (cond t (s ∷ places_where test (suc s) rows) (places_where test (suc s) rows))
+      by true here rest = (here, rest)
+      by false here rest = rest
+
+  -- each is that of a row
+  pub rows-within : (n : ℕ) (rows : List Row) → n ≡ length rows → AllByRecursion (λ k. k < n) (places_where test 0 rows)
+  rows-within n rows is =
+      let all : 0 + length rows ≡ n = omega (arith, is) in
+      subst (λ m. AllByRecursion (λ k. k < m) (places_where test 0 rows)) all (where-within 0 rows)
+
+-- the list under a key
+module _ {Key Row : Type 0} (test : Key → Row → Bool) (keys : List Key) (rows : List Row) (lists : List (List ℕ))
+    (are : lists ≡ places_by test keys rows) (j : ℕ) (key : Key) (at : slice_get keys j ≡ Some key) where
+  pub key-within : j < length lists
+  key-within =
+      let within : j < length keys = slice_get_within keys j key at in
+      let same : length lists ≡ length keys = ap length are ∙ length-map keys (λ k. places_where (test k) 0 rows) in
+      omega (arith, within, same)
+
+  pub key-found : (found : List ℕ) → slice_get lists j ≡ Some found → found ≡ places_where (test key) 0 rows
+  key-found found is =
+      let same : Some found ≡ Some (places_where (test key) 0 rows) =
+      sym is ∙ ap (λ (ls : List (List ℕ)). slice_get ls j) are ∙ slice_get-map (λ k. places_where (test k) 0 rows) keys j
+      ∙ ap (option_map (λ k. places_where (test k) 0 rows)) at in
+      cc
+
+-- ---- closed lists of keys
+
+pub class-at : (class : Class) → slice_get classes (class_place class) ≡ Some class
+class-at class_kinds.Type1Equity = refl
+class-at class_kinds.Type1Strategic = refl
+class-at class_kinds.Type2Equity = refl
+class-at class_kinds.Type2Strategic = refl
+class-at class_kinds.Infrastructure = refl
+class-at class_kinds.InfrastructureCorporate = refl
+class-at class_kinds.Property = refl
+class-at class_kinds.Bond = refl
+class-at class_kinds.Government = refl
+class-at class_kinds.Other = refl
+
+pub default-at : (class : ℕ) → class < 6 → slice_get default_classes class ≡ Some class
+default-at zero few = refl
+default-at (suc zero) few = refl
+default-at (suc (suc zero)) few = refl
+default-at (suc (suc (suc zero))) few = refl
+default-at (suc (suc (suc (suc zero)))) few = refl
+default-at (suc (suc (suc (suc (suc zero))))) few = refl
+default-at (suc (suc (suc (suc (suc (suc class)))))) few = let no : ⊥ = omega arith in absurd no
+
+-- ---- families are within the strides
+
+direction-few : (x : Direction) → direction_place x < 2
+direction-few Up = omega arith
+direction-few Down = omega arith
+
+measure-few : (x : Measure) → measure_place x < 2
+measure-few Gross = omega arith
+measure-few Net = omega arith
+
+pub security-few : (what : OfSecurity) → security_family what ≤ 6
+security-few of_securities.Total = omega arith
+security-few (of_securities.UnitLoss direction) = let few = direction-few direction in omega (arith, few)
+security-few (of_securities.Rate direction) = let few = direction-few direction in omega (arith, few)
+security-few of_securities.Spread = omega arith
+
+pub liability-few : (what : OfLiability) → liability_family what ≤ 12
+liability-few (of_liabilities.Rate direction) = let few = direction-few direction in omega (arith, few)
+liability-few of_liabilities.Present = omega arith
+liability-few (of_liabilities.Loss projection_kinds.Base) = omega arith
+liability-few (of_liabilities.Loss projection) = omega arith
+
+pub currency-few : (what : OfCurrency) → currency_family what ≤ 9
+currency-few (of_currencies.Loss direction) = let few = direction-few direction in omega (arith, few)
+currency-few (of_currencies.Scenario direction measure) =
+    let few = direction-few direction in let two = measure-few measure in omega (arith, few, two)
+currency-few of_currencies.Choice = omega arith
+currency-few (of_currencies.Picked measure) = let two = measure-few measure in omega (arith, two)
+
+pub group-few : (what : OfGroup) → group_family what ≤ 3
+group-few of_groups.Total = omega arith
+group-few of_groups.ConcentrationSquare = omega arith
+group-few of_groups.Loss = omega arith
+
+-- ---- the row by whose name rows are read
+
+module _ (sheet : BalanceSheet) where
+  abbrev IsOwn : Node → ℕ → Type 0
+  IsOwn node row = slice_get (names_in sheet (table_of node)) row ≡ Some (name_of node)
+
+  pub first-gathered : (node : Node) (row : ℕ) → is_live sheet node ≡ true → IsOwn node row → IsGathered sheet (first_of node) row
+  first-gathered (nodes.Fund name of_funds.Total) row live is = tt
+  first-gathered (nodes.Security name of_securities.Total) row live is = tt
+  first-gathered (nodes.Liability name of_liabilities.Present) row live is = tt
+  first-gathered (nodes.Currency name (of_currencies.Loss direction)) row live is = is
+  first-gathered (nodes.Currency name (of_currencies.Scenario direction Gross)) row live is = is
+  first-gathered (nodes.Group name of_groups.Total) row live is = is
+  first-gathered (nodes.Whole (wholes.InterestScenario direction Gross)) row live is = tt
+  first-gathered (nodes.Whole (wholes.BioScenario biometric projection Gross)) row live is = tt
+  first-gathered (nodes.Whole (wholes.ClassLoss class)) row live is = ltb-true class 6 live
+  first-gathered (nodes.Whole (wholes.ClassSquare class)) row live is = ltb-true class 6 live
+  first-gathered node row live is = tt
+
+  pub second-gathered : (node : Node) (row : ℕ) → IsOwn node row → IsGathered sheet (second_of node) row
+  second-gathered (nodes.Fund name of_funds.Total) row is = tt
+  second-gathered (nodes.Security name of_securities.Total) row is = tt
+  second-gathered (nodes.Liability name of_liabilities.Present) row is = tt
+  second-gathered (nodes.Currency name (of_currencies.Loss direction)) row is = is
+  second-gathered (nodes.Currency name (of_currencies.Scenario direction Gross)) row is = is
+  second-gathered (nodes.Group name of_groups.Total) row is = tt
+  second-gathered (nodes.Whole (wholes.ClassSum class_kinds.Type2Equity)) row is = tt
+  second-gathered node row is = tt
+
+-- ---- what a figure of a fund reads
+
+pub fund-family : (what : OfFund) → fund_family what ≡ 0
+fund-family of_funds.Total = refl
+
+pub fund-first : (name : List ℕ) (what : OfFund) → first_of (nodes.Fund name what) ≡ selections.Funds (holders.Of name) of_funds.Total
+fund-first name of_funds.Total = refl
+
+-- a figure of a security that is no total reads no rows
+pub other-first : (name : List ℕ) (what : OfSecurity) → (what ≡ of_securities.Total → ⊥)
+    → first_of (nodes.Security name what) ≡ selections.None
+other-first name of_securities.Total not = absurd (not refl)
+other-first name what not = refl
+
+-- what follows where the lists are the same
+pub read-alike : {A E : Type 0} (result : Result A E) (new old xs ys : List ℕ) → xs ≡ ys → OnOk result (new ≡ old ++ xs)
+    → OnOk result (new ≡ old ++ ys)
+read-alike result new old xs ys same on = subst (λ zs. OnOk result (new ≡ old ++ zs)) same on
+
+-- each place of a list is within
+pub within-at : (n : ℕ) (places : List ℕ) (i d : ℕ) → AllByRecursion (λ k. k < n) places → i < length places → get_or places i d < n
+within-at n [] i d all within = let no : ⊥ = omega arith in absurd no
+within-at n (k ∷ places) zero d all within = all.0
+within-at n (k ∷ places) (suc i) d all within = within-at n places i d all.1 (omega arith)
+
+-- one more of a list that is mapped
+pub mapped-next : (number : ℕ → ℕ) (places items start after : List ℕ) (i d : ℕ) → i < length places
+    → items ≡ start ++ map number (take i places) → after ≡ items ++ number (get_or places i d) ∷ []
+    → after ≡ start ++ map number (take (i + 1) places)
+mapped-next number places items start after i d within so_far more =
+    more ∙ ap (λ xs. xs ++ number (get_or places i d) ∷ []) so_far
+    ∙ append_assoc start (map number (take i places)) (number (get_or places i d) ∷ [])
+    ∙ ap (λ xs. start ++ xs) (sym (map-append number (take i places) (get_or places i d ∷ []))
+    ∙ ap (map number) (sym (take_more places i d within)))
+
+-- ---- walks
+
+module _ {Row : Type 0} (test : Row → Bool) (number : ℕ → ℕ) where
+  -- the number of the row at place k is pushed where the row passes
+  abbrev pub AreRead : List ℕ → List ℕ → List Row → ℕ → Type 0
+  AreRead items start rows k = items ≡ start ++ map number (places_where test 0 (take k rows))
+
+  next-place : (rows : List Row) (k : ℕ) (row : Row) → slice_get rows k ≡ Some row
+      → places_where test 0 (take (k + 1) rows) ≡ places_where test 0 (take k rows) ++ cond (test row) (k ∷ []) []
+  next-place rows k row is =
+      let next : k + 1 ≡ suc k = omega arith in
+      let here : 0 + k ≡ k = omega arith in
+      ap (λ n. places_where test 0 (take n rows)) next ∙ places-more test rows 0 k row is
+      ∙ ap (λ n. places_where test 0 (take k rows) ++ cond (test row) (n ∷ []) []) here
+
+  pub place-read : (rows : List Row) (k : ℕ) (row : Row) (items start after : List ℕ) → slice_get rows k ≡ Some row
+      → test row ≡ true → AreRead items start rows k → after ≡ items ++ number k ∷ [] → AreRead after start rows (k + 1)
+  place-read rows k row items start after is pass so_far more =
+      let front : List ℕ = places_where test 0 (take k rows) in
+      more ∙ ap (λ xs. xs ++ number k ∷ []) so_far ∙ append_assoc start (map number front) (number k ∷ [])
+      ∙ ap (λ xs. start ++ xs) (sym (map-append number front (k ∷ []))
+      ∙ ap (map number) (ap (λ t. front ++ cond t (k ∷ []) []) (sym pass) ∙ sym (next-place rows k row is)))
+
+  pub place-passed : (rows : List Row) (k : ℕ) (row : Row) (items start after : List ℕ) → slice_get rows k ≡ Some row
+      → test row ≡ false → AreRead items start rows k → after ≡ items → AreRead after start rows (k + 1)
+  place-passed rows k row items start after is fail so_far more =
+      let front : List ℕ = places_where test 0 (take k rows) in
+      more ∙ so_far
+      ∙ ap (λ xs. start ++ map number xs)
+      (sym (append-nil front) ∙ ap (λ t. front ++ cond t (k ∷ []) []) (sym fail) ∙ sym (next-place rows k row is))
+
+-- ---- rows that are counted
+
+module _ (sheet : BalanceSheet) (places : Numbered) (numbered : IsNumbered sheet places) where
+  pub counted-funds : count places tables.Fund ≡ length sheet.funds
+  counted-funds = numbered.rows tables.Fund ∙ length-map sheet.funds stake_name
+
+  pub counted-securities : count places tables.Security ≡ length sheet.securities
+  counted-securities = numbered.rows tables.Security ∙ length-map sheet.securities position_name
+
+  pub counted-liabilities : count places tables.Liability ≡ length sheet.liabilities
+  counted-liabilities = numbered.rows tables.Liability ∙ length-map sheet.liabilities liability_name
+
+  pub counted-groups : count places tables.Group ≡ length sheet.groups
+  counted-groups = numbered.rows tables.Group ∙ length-map sheet.groups group_name
+
+-- those of a test are within
+pub found-within : {Row : Type 0} (test : Row → Bool) (n : ℕ) (rows : List Row) (found : List ℕ) → n ≡ length rows
+    → found ≡ places_where test 0 rows → AllByRecursion (λ k. k < n) found
+found-within test n rows found all is = subst (AllByRecursion (λ k. k < n)) (sym is) (rows-within test n rows all)
+
+-- and so are their numbers read
+pub found-read : {A E Row : Type 0} (test : Row → Bool) (rows : List Row) (result : Result A E) (places : Numbered) (table : Table)
+    (own : ℕ) (new old found : List ℕ) → found ≡ places_where test 0 rows → OnOk result (new ≡ old ++ numbers_at places table own found)
+    → OnOk result (new ≡ old ++ numbers_at places table own (places_where test 0 rows))
+found-read test rows result places table own new old found is on =
+    subst (λ ks. OnOk result (new ≡ old ++ numbers_at places table own ks)) is on

@@ -1,0 +1,10 @@
+-- The order in which the figures of the whole sheet can be reckoned (this project's own).
+use Rattle.std.specs.Prelude.{ℕ, suc}
+use Rattle.scr_nodes.specs.declared.node.Whole.{Whole}
+use Rattle.scr_nodes.specs.declared.node.Whole.TheVariants as wholes
+use Rattle.scr_figures.specs.Families.{whole_family}
+
+-- the assets come first, and all others go by their families
+abbrev pub turn_of : Whole → ℕ
+turn_of wholes.Assets = 0
+turn_of what = suc (whole_family what)

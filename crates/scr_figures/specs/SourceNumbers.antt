@@ -1,0 +1,75 @@
+-- The numbers of the sources of figures (this project's own).
+use Rattle.std.specs.Prelude.{◌≡◌, ℕ, ◌+◌, ◌<◌, ◌++◌, true, List, [], Some, map, slice_get}
+use Rattle.std.specs.List.{AllByRecursion, AllZip}
+use Rattle.scr_numbers.specs.Ranges.{Numbered, first}
+use Rattle.scr_numbers.specs.declared.table.Table.{Table}
+use Rattle.scr_numbers.specs.declared.table.Table.TheVariants as tables
+use Rattle.scr_sheet.specs.BalanceSheet.{curve_name, group_name}
+use Rattle.scr_sheet.specs.declared.sheet.BalanceSheet.{BalanceSheet}
+use Rattle.scr_nodes.specs.Live.{is_live}
+use Rattle.scr_nodes.specs.Selections.{is_counted, is_counterparty, is_currency, is_holder, is_obligation}
+use Rattle.scr_nodes.specs.Sources.{sources_of}
+use Rattle.scr_nodes.specs.declared.{node.Node.Node, selections.Counterparties.Counterparties, selections.Holdings.Holdings, selections.Obligations.Obligations, selections.Selection.Selection}
+use Rattle.scr_nodes.specs.declared.selections.Counterparties.TheVariants as counterparties
+use Rattle.scr_nodes.specs.declared.selections.Holdings.TheVariants as holdings
+use Rattle.scr_nodes.specs.declared.selections.Obligations.TheVariants as obligations
+use Rattle.scr_nodes.specs.declared.selections.Selection.TheVariants as selections
+use Rattle.scr_figures.specs.Families.{currency_family, fund_family, group_family, liability_family, security_family}
+use Rattle.scr_figures.specs.Numbers.{StandsAt}
+use Rattle.scr_figures.specs.Places.{places_where}
+
+-- the balance sheet has all of these figures
+abbrev pub are_live : BalanceSheet → List Node → Type 0
+are_live sheet nodes = AllByRecursion (λ node. is_live sheet node ≡ true) nodes
+
+-- the numbers of these figures stand behind what stood in the list
+pub record AreAllPushed (sheet : BalanceSheet) (places : Numbered) (nodes : List Node) (before now : List ℕ) : Type 0 where
+  pub more : List ℕ
+  pub list : now ≡ before ++ more
+  pub at : AllZip (λ number node. StandsAt sheet places node number) more nodes
+
+-- those of all sources of a figure do
+abbrev pub ArePushed : BalanceSheet → Numbered → Node → List ℕ → List ℕ → Type 0
+ArePushed sheet places node before now = AreAllPushed sheet places (sources_of sheet node) before now
+
+-- ---- what is read off a table
+
+-- the numbers of one family's figures of the rows at these places
+abbrev pub numbers_at : Numbered → Table → ℕ → List ℕ → List ℕ
+numbers_at places table family rows = map (λ row. first places table row + family) rows
+
+abbrev pub selected_numbers : BalanceSheet → Numbered → Selection → List ℕ
+selected_numbers sheet places selections.None = []
+selected_numbers sheet places (selections.Funds which what) =
+    numbers_at places tables.Fund (fund_family what) (places_where (is_holder which) 0 sheet.funds)
+selected_numbers sheet places (selections.Securities which what) =
+    numbers_at places tables.Security (security_family what) (places_where (is_counted which) 0 sheet.securities)
+selected_numbers sheet places (selections.Liabilities which what) =
+    numbers_at places tables.Liability (liability_family what) (places_where (is_obligation which) 0 sheet.liabilities)
+selected_numbers sheet places (selections.Currencies which what) =
+    numbers_at places tables.Currency (currency_family what) (places_where (is_currency sheet which) 0 sheet.curves)
+selected_numbers sheet places (selections.Groups which what) =
+    numbers_at places tables.Group (group_family what) (places_where (is_counterparty which) 0 sheet.groups)
+
+-- securities that are read by the name of one row: it stands at the place
+abbrev pub AreHeldBy : BalanceSheet → Holdings → ℕ → Type 0
+AreHeldBy sheet (holdings.In currency) row = slice_get (map curve_name sheet.curves) row ≡ Some currency
+AreHeldBy sheet (holdings.PayingIn currency) row = slice_get (map curve_name sheet.curves) row ≡ Some currency
+AreHeldBy sheet (holdings.OfGroup name) row = slice_get (map group_name sheet.groups) row ≡ Some name
+AreHeldBy sheet which row = Unit {0}
+
+-- so of liabilities
+abbrev pub AreOwedBy : BalanceSheet → Obligations → ℕ → Type 0
+AreOwedBy sheet (obligations.In currency) row = slice_get (map curve_name sheet.curves) row ≡ Some currency
+AreOwedBy sheet which row = Unit {0}
+
+-- groups of a class of probabilities of default
+abbrev pub AreClassed : Counterparties → Type 0
+AreClassed (counterparties.OfClass class) = class < 6
+AreClassed which = Unit {0}
+
+abbrev pub IsGathered : BalanceSheet → Selection → ℕ → Type 0
+IsGathered sheet (selections.Securities which what) row = AreHeldBy sheet which row
+IsGathered sheet (selections.Liabilities which what) row = AreOwedBy sheet which row
+IsGathered sheet (selections.Groups which what) row = AreClassed which
+IsGathered sheet selection row = Unit {0}

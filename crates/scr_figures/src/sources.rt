@@ -1,0 +1,495 @@
+//! The numbers of a figure's sources: off the gathered rows, or by walks along the tables.
+ghost use Rattle.std.specs.Prelude.{◌≡◌, ◌+◌, ◌<◌, ◌≤◌, ◌++◌, true, OnOk, Some, map, slice_get};
+ghost use Rattle.std.specs.List.{AllByRecursion};
+ghost use Rattle.scr_numbers.specs.Ranges.{count, stride};
+ghost use Rattle.scr_numbers.specs.declared.table.Table.TheVariants as tables;
+ghost use Rattle.scr_sheet.specs.BalanceSheet.{position_name};
+ghost use Rattle.scr_sheet.specs.Validity.{Valid};
+ghost use Rattle.scr_nodes.specs.Live.{is_live};
+ghost use Rattle.scr_nodes.specs.Rows.{is_stressed};
+ghost use Rattle.scr_nodes.specs.Selections.{is_counted, is_counterparty, is_currency, is_holder, is_obligation};
+ghost use Rattle.scr_nodes.specs.Sources.{words_of};
+ghost use Rattle.scr_nodes.specs.Table.{first_of, second_of};
+ghost use Rattle.scr_nodes.specs.declared.node.Node.TheVariants as nodes;
+ghost use Rattle.scr_figures.specs.Families.{name_of, table_of};
+ghost use Rattle.scr_figures.specs.Numbers.{IsNumbered, StandsAt, names_in};
+ghost use Rattle.scr_figures.specs.Gathered.{AreMembersOf};
+ghost use Rattle.scr_figures.specs.Places.{places_where};
+ghost use Rattle.scr_figures.specs.SourceNumbers.{AreAllPushed, AreClassed, AreHeldBy, AreOwedBy, ArePushed, IsGathered, are_live, numbers_at, selected_numbers};
+
+use crate::families::{currency_family, family, group_family, liability_family, security_family};
+use crate::finding::find;
+use crate::gathered::{Members, class_place, projection_place};
+use scr_names::Name;
+use scr_nodes::selections::{
+    Counterparties, Currencies, Holders, Holdings, Obligations, Selection, is_counted,
+    is_counterparty, is_currency, is_holder, is_obligation,
+};
+use scr_nodes::{Biometric, Node, Nth, OfSecurity, first_of, nth_word, second_of};
+use scr_numbers::{Places, Table};
+use scr_sheet::{BalanceSheet, Projection};
+use std::alloc::AllocError as NoMemory;
+
+/// No figure is reckoned from more by name.
+const MOST_WORDS: u32 = 12;
+
+/// A balance sheet with the numbers of its figures.
+#[derive(Clone, Copy)]
+pub struct View<'a> {
+    pub sheet: &'a BalanceSheet,
+    pub places: &'a Places,
+}
+
+/// Pushes the numbers of all sources of a figure of the row at a place, in the order of `scr_nodes::sources`, behind what the list
+/// has. The rows that sums are read off are those gathered of this very sheet. Only want of memory is refused. The cost is that of
+/// the sources alone, but for all currencies and all groups where those are its sources.
+pub fn push_gathered(
+    list: &mut Vec<u32>,
+    view: View<'_>,
+    members: &Members,
+    node: &Node,
+    row: usize,
+) -> Result<(), NoMemory>
+    requires valid { Valid view.sheet.now }
+    requires numbered { IsNumbered view.sheet.now view.places.now }
+    requires members { AreMembersOf view.sheet.now members.now }
+    requires live { is_live view.sheet.now node.now ≡ true }
+    requires row { slice_get (names_in view.sheet.now (table_of node.now)) row ≡ Some (name_of node.now) }
+    ensures { OnOk result (ArePushed view.entry.sheet.now view.entry.places.now node.now list.old.items list.new.items) }
+{
+    push_first(list, view, members, node, row)?;
+    push_members(list, view, members, &second_of(node), row)?;
+    push_words(list, view, node)
+}
+
+/// Pushes the same for any figure of the sheet, by walks along the tables: nothing need be gathered, but each row of a table that
+/// sources are read off is looked at. Only want of memory is refused.
+pub fn push_walked(list: &mut Vec<u32>, view: View<'_>, node: &Node) -> Result<(), NoMemory>
+    requires valid { Valid view.sheet.now }
+    requires numbered { IsNumbered view.sheet.now view.places.now }
+    requires live { is_live view.sheet.now node.now ≡ true }
+    ensures { OnOk result (ArePushed view.entry.sheet.now view.entry.places.now node.now list.old.items list.new.items) }
+{
+    push_selected(list, view, &first_of(node))?;
+    push_selected(list, view, &second_of(node))?;
+    push_words(list, view, node)
+}
+
+/// The number of a figure of the sheet.
+fn number_of(view: View<'_>, node: &Node) -> u32
+    requires numbered { IsNumbered view.sheet.now view.places.now }
+    requires live { is_live view.sheet.now node.now ≡ true }
+    ensures { StandsAt view.entry.sheet.now view.entry.places.now node.now result }
+{
+    if let Node::Whole(_) = node {
+        return family(node);
+    }
+    match find(view.places, view.sheet, node) {
+        Some(number) => number,
+        None => unreachable!(),
+    }
+}
+
+/// The sources that no table gives.
+fn push_words(list: &mut Vec<u32>, view: View<'_>, node: &Node) -> Result<(), NoMemory>
+    requires numbered { IsNumbered view.sheet.now view.places.now }
+    requires live { are_live view.sheet.now (words_of node.now) }
+    ensures { OnOk result (AreAllPushed view.entry.sheet.now view.entry.places.now (words_of node.now) list.old.items
+        list.new.items) }
+{
+    for place in 0..MOST_WORDS {
+        match nth_word(node, place) {
+            Nth::There(word) => list.push(number_of(view, &word))?,
+            Nth::Past(_) => return Ok(()),
+        }
+    }
+    Ok(())
+}
+
+/// The sources that come first, the holders of a fund or a security among them.
+fn push_first(
+    list: &mut Vec<u32>,
+    view: View<'_>,
+    members: &Members,
+    node: &Node,
+    row: usize,
+) -> Result<(), NoMemory>
+    requires numbered { IsNumbered view.sheet.now view.places.now }
+    requires members { AreMembersOf view.sheet.now members.now }
+    requires live { is_live view.sheet.now node.now ≡ true }
+    requires row { slice_get (names_in view.sheet.now (table_of node.now)) row ≡ Some (name_of node.now) }
+    ensures { OnOk result (list.new.items ≡ list.old.items
+        ++ selected_numbers view.entry.sheet.now view.entry.places.now (first_of node.now)) }
+{
+    match node {
+        Node::Fund(_, _) => {
+            let rows = members.funds.holding_funds.at(row);
+            push_rows(list, view.places, Table::Fund, rows, 0)
+        }
+        Node::Security(name, what) => push_holders(list, view, members, name, *what, row),
+        _ => push_members(list, view, members, &first_of(node), row),
+    }
+}
+
+/// The funds that hold a security are the sources of its total, and its other figures read nothing first.
+fn push_holders(
+    list: &mut Vec<u32>,
+    view: View<'_>,
+    members: &Members,
+    name: &Name,
+    what: OfSecurity,
+    row: usize,
+) -> Result<(), NoMemory>
+    requires numbered { IsNumbered view.sheet.now view.places.now }
+    requires members { AreMembersOf view.sheet.now members.now }
+    requires row { slice_get (map position_name view.sheet.now.securities) row ≡ Some name.now }
+    ensures { OnOk result (list.new.items ≡ list.old.items
+        ++ selected_numbers view.entry.sheet.now view.entry.places.now (first_of (nodes.Security name.now what))) }
+{
+    match what {
+        OfSecurity::Total => {
+            let rows = members.funds.holding_securities.at(row);
+            push_rows(list, view.places, Table::Fund, rows, 0)
+        }
+        _ => Ok(()),
+    }
+}
+
+/// What is read off a table, for a figure of the row at a place.
+fn push_members(
+    list: &mut Vec<u32>,
+    view: View<'_>,
+    members: &Members,
+    selection: &Selection,
+    row: usize,
+) -> Result<(), NoMemory>
+    requires numbered { IsNumbered view.sheet.now view.places.now }
+    requires members { AreMembersOf view.sheet.now members.now }
+    requires row { IsGathered view.sheet.now selection.now row }
+    ensures { OnOk result (list.new.items ≡ list.old.items
+        ++ selected_numbers view.entry.sheet.now view.entry.places.now selection.now) }
+{
+    match selection {
+        Selection::Funds(holders, _) => push_funds(list, view, members, holders),
+        Selection::Securities(holdings, what) => {
+            push_securities(list, view, members, holdings, security_family(*what), row)
+        }
+        Selection::Liabilities(obligations, what) => {
+            push_liabilities(
+                list,
+                view,
+                members,
+                obligations,
+                liability_family(*what),
+                row,
+            )
+        }
+        Selection::Groups(counterparties, what) => {
+            push_groups(list, view, members, *counterparties, group_family(*what))
+        }
+        Selection::Currencies(currencies, what) => {
+            push_of_currencies(list, view, *currencies, currency_family(*what))
+        }
+        Selection::None => Ok(()),
+    }
+}
+
+fn push_funds(
+    list: &mut Vec<u32>,
+    view: View<'_>,
+    members: &Members,
+    holders: &Holders,
+) -> Result<(), NoMemory>
+    requires numbered { IsNumbered view.sheet.now view.places.now }
+    requires members { AreMembersOf view.sheet.now members.now }
+    ensures { OnOk result (list.new.items ≡ list.old.items ++ numbers_at view.entry.places.now tables.Fund 0
+        (places_where (is_holder holders.now) 0 view.entry.sheet.now.funds)) }
+{
+    match holders {
+        Holders::Closed => push_rows(list, view.places, Table::Fund, &members.funds.closed, 0),
+        Holders::Of(_) => push_of_funds(list, view, holders),
+    }
+}
+
+fn push_securities(
+    list: &mut Vec<u32>,
+    view: View<'_>,
+    members: &Members,
+    holdings: &Holdings,
+    own: u32,
+    row: usize,
+) -> Result<(), NoMemory>
+    requires numbered { IsNumbered view.sheet.now view.places.now }
+    requires members { AreMembersOf view.sheet.now members.now }
+    requires own { own ≤ stride tables.Security }
+    requires row { AreHeldBy view.sheet.now holdings.now row }
+    ensures { OnOk result (list.new.items ≡ list.old.items ++ numbers_at view.entry.places.now tables.Security own
+        (places_where (is_counted holdings.now) 0 view.entry.sheet.now.securities)) }
+{
+    let lists = &members.securities;
+    match holdings {
+        Holdings::OfClass(class) => {
+            let rows = lists.of_class.at(class_place(*class));
+            push_rows(list, view.places, Table::Security, rows, own)
+        }
+        Holdings::In(_) => {
+            push_rows(
+                list,
+                view.places,
+                Table::Security,
+                lists.held_in.at(row),
+                own,
+            )
+        }
+        Holdings::PayingIn(_) => {
+            push_rows(
+                list,
+                view.places,
+                Table::Security,
+                lists.paying_in.at(row),
+                own,
+            )
+        }
+        Holdings::OfGroup(_) => {
+            push_rows(
+                list,
+                view.places,
+                Table::Security,
+                lists.of_group.at(row),
+                own,
+            )
+        }
+        Holdings::Grouped => push_rows(list, view.places, Table::Security, &lists.grouped, own),
+        Holdings::Paying => push_of_securities(list, view, holdings, own),
+    }
+}
+
+fn push_liabilities(
+    list: &mut Vec<u32>,
+    view: View<'_>,
+    members: &Members,
+    obligations: &Obligations,
+    own: u32,
+    row: usize,
+) -> Result<(), NoMemory>
+    requires numbered { IsNumbered view.sheet.now view.places.now }
+    requires members { AreMembersOf view.sheet.now members.now }
+    requires own { own ≤ stride tables.Liability }
+    requires row { AreOwedBy view.sheet.now obligations.now row }
+    ensures { OnOk result (list.new.items ≡ list.old.items ++ numbers_at view.entry.places.now tables.Liability own
+        (places_where (is_obligation obligations.now) 0 view.entry.sheet.now.liabilities)) }
+{
+    let lists = &members.liabilities;
+    match obligations {
+        Obligations::In(_) => {
+            push_rows(
+                list,
+                view.places,
+                Table::Liability,
+                lists.owed_in.at(row),
+                own,
+            )
+        }
+        Obligations::Stressed(biometric, projection) => {
+            push_stressed(list, view, members, *biometric, *projection, own)
+        }
+        _ => push_of_liabilities(list, view, obligations, own),
+    }
+}
+
+fn push_stressed(
+    list: &mut Vec<u32>,
+    view: View<'_>,
+    members: &Members,
+    biometric: Biometric,
+    projection: Projection,
+    own: u32,
+) -> Result<(), NoMemory>
+    requires numbered { IsNumbered view.sheet.now view.places.now }
+    requires members { AreMembersOf view.sheet.now members.now }
+    requires own { own ≤ stride tables.Liability }
+    ensures { OnOk result (list.new.items ≡ list.old.items ++ numbers_at view.entry.places.now tables.Liability own
+        (places_where (is_stressed biometric projection) 0 view.entry.sheet.now.liabilities)) }
+{
+    let lists = &members.liabilities;
+    let place = projection_place(projection);
+    match biometric {
+        Biometric::Life => {
+            push_rows(
+                list,
+                view.places,
+                Table::Liability,
+                lists.life.at(place),
+                own,
+            )
+        }
+        Biometric::Health => {
+            push_rows(
+                list,
+                view.places,
+                Table::Liability,
+                lists.health.at(place),
+                own,
+            )
+        }
+    }
+}
+
+fn push_groups(
+    list: &mut Vec<u32>,
+    view: View<'_>,
+    members: &Members,
+    counterparties: Counterparties,
+    own: u32,
+) -> Result<(), NoMemory>
+    requires numbered { IsNumbered view.sheet.now view.places.now }
+    requires members { AreMembersOf view.sheet.now members.now }
+    requires own { own ≤ stride tables.Group }
+    requires class { AreClassed counterparties }
+    ensures { OnOk result (list.new.items ≡ list.old.items ++ numbers_at view.entry.places.now tables.Group own
+        (places_where (is_counterparty counterparties) 0 view.entry.sheet.now.groups)) }
+{
+    match counterparties {
+        Counterparties::OfClass(class) => {
+            let rows = members.groups.at(class as usize);
+            push_rows(list, view.places, Table::Group, rows, own)
+        }
+        Counterparties::All => push_of_groups(list, view, counterparties, own),
+    }
+}
+
+/// The numbers of one family of the rows at these places.
+fn push_rows(
+    list: &mut Vec<u32>,
+    places: &Places,
+    table: Table,
+    rows: &[usize],
+    own: u32,
+) -> Result<(), NoMemory>
+    requires rows { AllByRecursion (λ row. row < count places.now table) rows.now }
+    requires own { own ≤ stride table }
+    ensures { OnOk result (list.new.items ≡ list.old.items ++ numbers_at places.now table own rows.now) }
+{
+    for row in rows {
+        list.push(places.first(table, *row) + own)?;
+    }
+    Ok(())
+}
+
+/// What is read off a table, by a walk along it.
+fn push_selected(list: &mut Vec<u32>, view: View<'_>, selection: &Selection) -> Result<(), NoMemory>
+    requires { IsNumbered view.sheet.now view.places.now }
+    ensures { OnOk result (list.new.items ≡ list.old.items
+        ++ selected_numbers view.entry.sheet.now view.entry.places.now selection.now) }
+{
+    match selection {
+        Selection::None => Ok(()),
+        Selection::Funds(holders, _) => push_of_funds(list, view, holders),
+        Selection::Securities(holdings, what) => {
+            push_of_securities(list, view, holdings, security_family(*what))
+        }
+        Selection::Liabilities(obligations, what) => {
+            push_of_liabilities(list, view, obligations, liability_family(*what))
+        }
+        Selection::Currencies(currencies, what) => {
+            push_of_currencies(list, view, *currencies, currency_family(*what))
+        }
+        Selection::Groups(counterparties, what) => {
+            push_of_groups(list, view, *counterparties, group_family(*what))
+        }
+    }
+}
+
+fn push_of_funds(list: &mut Vec<u32>, view: View<'_>, holders: &Holders) -> Result<(), NoMemory>
+    requires numbered { IsNumbered view.sheet.now view.places.now }
+    ensures { OnOk result (list.new.items ≡ list.old.items ++ numbers_at view.entry.places.now tables.Fund 0
+        (places_where (is_holder holders.now) 0 view.entry.sheet.now.funds)) }
+{
+    for k in 0..view.sheet.funds.len() {
+        let stake = view.sheet.funds.at(k);
+        if is_holder(holders, stake) {
+            list.push(view.places.first(Table::Fund, k))?;
+        }
+    }
+    Ok(())
+}
+
+fn push_of_securities(
+    list: &mut Vec<u32>,
+    view: View<'_>,
+    holdings: &Holdings,
+    own: u32,
+) -> Result<(), NoMemory>
+    requires numbered { IsNumbered view.sheet.now view.places.now }
+    requires own { own ≤ stride tables.Security }
+    ensures { OnOk result (list.new.items ≡ list.old.items ++ numbers_at view.entry.places.now tables.Security own
+        (places_where (is_counted holdings.now) 0 view.entry.sheet.now.securities)) }
+{
+    for k in 0..view.sheet.securities.len() {
+        let position = view.sheet.securities.at(k);
+        if is_counted(holdings, position) {
+            list.push(view.places.first(Table::Security, k) + own)?;
+        }
+    }
+    Ok(())
+}
+
+fn push_of_liabilities(
+    list: &mut Vec<u32>,
+    view: View<'_>,
+    obligations: &Obligations,
+    own: u32,
+) -> Result<(), NoMemory>
+    requires numbered { IsNumbered view.sheet.now view.places.now }
+    requires own { own ≤ stride tables.Liability }
+    ensures { OnOk result (list.new.items ≡ list.old.items ++ numbers_at view.entry.places.now tables.Liability own
+        (places_where (is_obligation obligations.now) 0 view.entry.sheet.now.liabilities)) }
+{
+    for k in 0..view.sheet.liabilities.len() {
+        let liability = view.sheet.liabilities.at(k);
+        if is_obligation(obligations, liability) {
+            list.push(view.places.first(Table::Liability, k) + own)?;
+        }
+    }
+    Ok(())
+}
+
+fn push_of_currencies(
+    list: &mut Vec<u32>,
+    view: View<'_>,
+    currencies: Currencies,
+    own: u32,
+) -> Result<(), NoMemory>
+    requires numbered { IsNumbered view.sheet.now view.places.now }
+    requires own { own ≤ stride tables.Currency }
+    ensures { OnOk result (list.new.items ≡ list.old.items ++ numbers_at view.entry.places.now tables.Currency own
+        (places_where (is_currency view.entry.sheet.now currencies) 0 view.entry.sheet.now.curves)) }
+{
+    for k in 0..view.sheet.curves.len() {
+        let curve = view.sheet.curves.at(k);
+        if is_currency(view.sheet, currencies, curve) {
+            list.push(view.places.first(Table::Currency, k) + own)?;
+        }
+    }
+    Ok(())
+}
+
+fn push_of_groups(
+    list: &mut Vec<u32>,
+    view: View<'_>,
+    counterparties: Counterparties,
+    own: u32,
+) -> Result<(), NoMemory>
+    requires numbered { IsNumbered view.sheet.now view.places.now }
+    requires own { own ≤ stride tables.Group }
+    ensures { OnOk result (list.new.items ≡ list.old.items ++ numbers_at view.entry.places.now tables.Group own
+        (places_where (is_counterparty counterparties) 0 view.entry.sheet.now.groups)) }
+{
+    for k in 0..view.sheet.groups.len() {
+        let group = view.sheet.groups.at(k);
+        if is_counterparty(counterparties, group) {
+            list.push(view.places.first(Table::Group, k) + own)?;
+        }
+    }
+    Ok(())
+}

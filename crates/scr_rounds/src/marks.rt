@@ -1,0 +1,116 @@
+//! Numbers that are marked.
+ghost use Rattle.std.specs.Prelude.{◌≡◌, ◌<◌, ◌≤◌, [], All, IfSome, OnOk, OnErr};
+ghost use Rattle.std.specs.Prelude.{ℕ, Some, max, nat_eq, slice_get};
+ghost use Rattle.std.specs.List.{IsDistinct};
+ghost use Rattle.indexmap.specs.IndexSet.{insert_key};
+ghost use Rattle.scr_rounds.specs.Marks.{MarkedNumbers};
+
+use std::alloc::{AllocError as NoMemory, Global};
+use std::marker::Model;
+
+/// Numbers, each once, in the order in which they were marked. Contracts see the list and the number
+/// below which numbers can be marked (`size`).
+///
+/// A number is marked where the list has it at the place that is kept of it. So all marks are taken
+/// away with the list.
+#[derive(Drop)]
+pub struct Marked {
+    list: Vec<u32>,
+    places: Vec<u32>,
+}
+
+impl Model for Marked {
+    ghost use Rattle.scr_rounds.specs.Marks.{AreMarked, MarkedNumbers, marked_of};
+
+    ghost Value = { MarkedNumbers };
+
+    ghost view = { marked_of };
+
+    ghost invariant = { AreMarked };
+}
+
+impl Marked {
+    /// No number, and none that can be marked.
+    pub fn new(alloc: Global) -> Marked
+        ensures size { result.size ≡ 0 }
+        ensures list { result.list ≡ [] }
+    {
+        Marked {
+            list: Vec::new(alloc),
+            places: Vec::new(alloc),
+        }
+    }
+
+    /// The number below which numbers can be marked.
+    pub fn size(&self) -> usize
+        ensures size { result ≡ self.now.size }
+        ensures once { IsDistinct nat_eq self.now.list }
+    {
+        self.places.len()
+    }
+
+    /// Numbers below `size` can be marked. Those that are marked stay so.
+    pub fn grow(&mut self, size: usize) -> Result<(), NoMemory>
+        ensures list { self.new.list ≡ self.old.list }
+        ensures ok { OnOk result (self.new.size ≡ max self.old.size size) }
+        ensures err { OnErr result (self.new.size ≡ self.old.size) }
+    {
+        if size > self.places.len() {
+            self.places.resize(size, 0)?;
+        }
+        Ok(())
+    }
+
+    /// The place of a number among those that are marked.
+    pub fn place(&self, number: u32) -> Option<u32>
+        requires { number < self.now.size }
+        ensures there { IfSome result (λ place. slice_get self.now.list place ≡ Some number) }
+        ensures only { (place : ℕ) → slice_get self.now.list place ≡ Some number
+            → result ≡ Some place }
+    {
+        let place = self.places[number as usize];
+        if place as usize >= self.list.len() {
+            return None;
+        }
+        if self.list[place as usize] != number {
+            return None;
+        }
+        Some(place)
+    }
+
+    /// Marks a number, where it is not marked. Where memory is refused, all is as before; room for more
+    /// than 2^32 numbers is refused as if for want of memory.
+    pub fn insert(&mut self, number: u32) -> Result<(), NoMemory>
+        requires { number < self.old.size }
+        ensures size { self.new.size ≡ self.old.size }
+        ensures ok { OnOk result (self.new.list ≡ insert_key nat_eq self.old.list number) }
+        ensures err { OnErr result (self.new.list ≡ self.old.list) }
+    {
+        if self.place(number).is_some() {
+            return Ok(());
+        }
+        let Ok(place) = u32::try_from(self.list.len()) else {
+            return Err(NoMemory);
+        };
+        self.list.push(number)?;
+        self.places[number as usize] = place;
+        Ok(())
+    }
+
+    /// All numbers that are marked.
+    pub fn as_slice(&self) -> &[u32]
+        ensures list { result.now ≡ self.now.list }
+        ensures once { IsDistinct nat_eq self.now.list }
+        ensures within { All (λ number. number < self.now.size) self.now.list }
+    {
+        self.list.as_slice()
+    }
+
+    /// Takes all marks away, without memory.
+    pub fn clear(&mut self)
+        ensures size { self.new.size ≡ self.old.size }
+        ensures list { self.new.list ≡ [] }
+    {
+        self.list.clear();
+    }
+}

@@ -1,0 +1,226 @@
+-- Figures that are reckoned one after another, each after all that it is reckoned from.
+use Rattle.std.proofs.Common.{◌≡◌, ◌⊎◌, inl, inr, ◌||◌, ℕ, zero, suc, ◌+◌, ◌<◌, ◌≤◌, ◌++◌, true, false, cond, nat_eq, All, List, [], ◌∷◌, drop, length, Option, Some, None, slice_get, Contains, refl, sym, ap, subst, ◌∙◌, arith}
+use Rattle.std.specs.List.{AllByRecursion}
+use Rattle.std.specs.Option.{option_map}
+use Rattle.std.proofs.lemmas.Bool.{cases_Bool, cases_lt, eq-eqb, eqb-true}
+use Rattle.std.proofs.lemmas.List.{append-nil, append_assoc, drop_all, drop_more}
+use Rattle.std.proofs.lemmas.Option.{get_or_from_slice_get, slice_get_within}
+use Rattle.scr_funds.proofs.Members.{All-from_members, IsMember, IsMember-from_Contains, Contains-from_IsMember, IsMember-right, at_member, each-from_members}
+use Rattle.scr_links.specs.Edges.{Edge}
+use Rattle.scr_factors.specs.Values.{FactorValues}
+use Rattle.scr_sheet.specs.declared.sheet.BalanceSheet.{BalanceSheet}
+use Rattle.scr_nodes.specs.declared.node.Node.{Node}
+use Rattle.scr_nodes.specs.Live.{is_live}
+use Rattle.scr_nodes.specs.Sources.{sources_of}
+use Rattle.scr_nodes.proofs.LiveSources.{IsLive, sources-live}
+use Rattle.scr_numbers.specs.Ranges.{Numbered}
+use Rattle.scr_figures.specs.Numbers.{StandsAt}
+use Rattle.scr_reach.specs.Dues.{IsLiveAt}
+use Rattle.scr_reach.specs.Linked.{AreAt, sources_in}
+use Rattle.scr_reach.proofs.Placed.{get-contains}
+use Rattle.scr_tree.specs.Figures.{AreKnownOf, AreReadAt, AreSettled, HasFigure, HaveFigures, worth_at, worth_of}
+use Rattle.scr_tree.specs.Order.{AreLiveOf, IsOrder, start_of}
+use Rattle.scr_tree.specs.Ready.{AreInTurn, IsLinkedUp, IsNoneOf, IsReady, IsRight}
+use Rattle.scr_tree.specs.declared.figures.Below.{Below}
+use Rattle.scr_tree.specs.declared.figures.Figure.{Figure}
+use Rattle.scr_tree.proofs.Known.{known-have, known-put, known-weaker, read-next}
+
+-- ---- places in a list
+
+pub place-from : (xs : List ℕ) (k m : ℕ) → IsMember m (drop k xs) → (i : ℕ) × (k ≤ i) × (slice_get xs i ≡ Some m)
+place-from [] zero m h = absurd h
+place-from [] (suc k) m h = absurd h
+place-from (x ∷ xs) zero m (inl e) = (0, omega arith, ap Some (sym e))
+place-from (x ∷ xs) zero m (inr h) = let r = place-from xs zero m h in (suc r.0, omega arith, r.2)
+place-from (x ∷ xs) (suc k) m h =
+    let r = place-from xs k m h in let l : k ≤ r.0 = r.1 in (suc r.0, omega (arith, l), r.2)
+
+pub drop-next : (xs : List ℕ) (k x : ℕ) → slice_get xs k ≡ Some x → drop k xs ≡ x ∷ drop (k + 1) xs
+drop-next xs k x is =
+    drop_more xs k x (slice_get_within xs k x is)
+    ∙ ap (λ y. y ∷ drop (k + 1) xs) (get_or_from_slice_get xs k x x is)
+
+-- ---- an order, one after another
+
+-- where a place stands among slices
+slice-of : (ends : List ℕ) (j k : ℕ) → j ≤ length ends → k < start_of ends j
+    → (i : ℕ) × (i < length ends) × (start_of ends i ≤ k) × (k < start_of ends (suc i))
+slice-of ends zero k l low = absurd (omega (arith, low))
+slice-of ends (suc j) k l low = by (cases_lt k (start_of ends j)) (slice-of ends j k (omega (arith, l)))
+  where
+    by : (k < start_of ends j) ⊎ (start_of ends j ≤ k)
+        → (k < start_of ends j → (i : ℕ) × (i < length ends) × (start_of ends i ≤ k) × (k < start_of ends (suc i)))
+        → (i : ℕ) × (i < length ends) × (start_of ends i ≤ k) × (k < start_of ends (suc i))
+    by (inl below) further = further below
+    by (inr from) further = (j, omega (arith, l), from, low)
+
+pub in-turn : (sheet : BalanceSheet) (places : Numbered) (reached numbers ends : List ℕ)
+    → IsOrder sheet (StandsAt sheet places) reached numbers ends → AreInTurn sheet places numbers
+in-turn sheet places reached numbers ends order = record {
+  once = order.once;
+  each = λ number h. (order.each number h).1;
+  before = λ k i number source_number node source here at has there before.
+      let low = slice_get_within numbers k number here in
+      let all = order.whole in
+      let s = slice-of ends (length ends) k (omega arith) (omega (arith, low, all)) in
+      let first = order.after s.0 k i number source_number node source s.1 s.2 s.3 here at has there before in
+      let from = s.2 in
+      omega (arith, first, from);
+}
+
+-- ---- figures known and reckoned
+
+module _ (factors : FactorValues) (sheet : BalanceSheet) (places : Numbered) (edges : List Edge)
+    (up : IsLinkedUp sheet places edges) where
+  abbrev At : Node → ℕ → Type 0
+  At = StandsAt sheet places
+
+  abbrev Known : List Figure → List ℕ → Type 0
+  Known figures numbers = AreKnownOf factors sheet At figures (IsNoneOf At numbers)
+
+  -- the figure of a number whose sources stand before the numbers that are left can be reckoned
+  pub ready : (figures : List Figure) (numbers : List ℕ) (from number : ℕ) (node : Node) → At node number
+      → is_live sheet node ≡ true
+      → ((i source_number : ℕ) (source : Node) → Contains (sources_of sheet node) source → At source source_number
+      → slice_get numbers i ≡ Some source_number → i < from)
+      → Known figures (drop from numbers) → IsReady factors sheet places edges figures number
+  ready figures numbers from number node at live before known = record {
+    node = node;
+    at = at;
+    live = live;
+    sources = known-have factors sheet At figures (IsNoneOf At (drop from numbers)) known (sources_in edges number)
+        (sources_of sheet node)
+        (subst (AreAt At (sources_in edges number)) (ap (λ b. cond b (sources_of sheet node) []) live)
+        (up.linked.linked node number at))
+        (each-from_members (λ s. (is_live sheet s ≡ true) × IsNoneOf At (drop from numbers) s) (sources_of sheet node) done);
+  }
+    where
+      done : (s : Node) → IsMember s (sources_of sheet node)
+          → (is_live sheet s ≡ true) × IsNoneOf At (drop from numbers) s
+      done s h = (
+        at_member (IsLive sheet) (sources_of sheet node) s (sources-live sheet up.valid node live) h,
+        λ m there left.
+            let i = place-from numbers from m (IsMember-from_Contains (drop from numbers) m left) in
+            let low = before i.0 m s (Contains-from_IsMember (sources_of sheet node) s h) there i.2 in
+            let high = i.1 in
+            let no : ⊥ = omega (arith, low, high) in no,
+      )
+
+  -- of the number at a place of those in turn
+  pub ready-next : (figures : List Figure) (numbers : List ℕ) (k number : ℕ) → AreInTurn sheet places numbers
+      → slice_get numbers k ≡ Some number → Known figures (drop k numbers) → IsReady factors sheet places edges figures number
+  ready-next figures numbers k number turn here known =
+      let live = turn.each number (get-contains numbers k number here) in
+      ready figures numbers k number live.0 live.1 live.2
+      (λ i source_number source has there before. turn.before k i number source_number live.0 source here live.1 has there before)
+      known
+
+  -- the figures of its sources are there
+  have-within : (figures : List Figure) (numbers : List ℕ) (nodes : List Node) → HaveFigures factors sheet figures numbers nodes
+      → AllByRecursion (λ number. number < length figures) numbers
+  have-within figures [] [] have = tt
+  have-within figures [] (m ∷ nodes) have = absurd have
+  have-within figures (n ∷ numbers) [] have = absurd have
+  have-within figures (n ∷ numbers) (m ∷ nodes) have =
+      (there (slice_get figures n) refl have.0, have-within figures numbers nodes have.1)
+    where
+      there : (found : Option Figure) → slice_get figures n ≡ found → HasFigure factors sheet figures n m → n < length figures
+      there None e has =
+          let clash : None ≡ Some (worth_at factors sheet m) = sym (ap (option_map worth_of) e) ∙ has in absurd (cc)
+      there (Some figure) e has = slice_get_within figures n figure e
+
+  pub ready-within : (figures : List Figure) (number : ℕ) → IsReady factors sheet places edges figures number
+      → AllByRecursion (λ source. source < length figures) (sources_in edges number)
+  ready-within figures number is = have-within figures (sources_in edges number) (sources_of sheet is.node) is.sources
+
+  -- all numbers in turn are below the size
+  pub turn-within : (numbers : List ℕ) (size : ℕ) → places.size ≤ size → AreInTurn sheet places numbers
+      → All (λ number. number < size) numbers
+  turn-within numbers size room turn =
+      All-from_members (λ number. number < size) numbers
+      (λ number h. let live = turn.each number (Contains-from_IsMember numbers number h) in
+      let low = up.numbers.within live.0 number live.1 in omega (arith, low, room))
+
+  -- once the right figure is written at the next number, one figure more is known
+  pub known-next : (numbers : List ℕ) (k number : ℕ) (figure : Figure) (old now : List Figure) → AreInTurn sheet places numbers
+      → slice_get numbers k ≡ Some number → IsRight factors sheet places number figure
+      → slice_get now number ≡ Some figure
+      → ((other : ℕ) → (other ≡ number → ⊥) → slice_get now other ≡ slice_get old other)
+      → Known old (drop k numbers) → Known now (drop (k + 1) numbers)
+  known-next numbers k number figure old now turn here right there others known =
+      known-weaker factors sheet At now (λ n. IsNoneOf At (drop k numbers) n ⊎ (n ≡ live.0)) (IsNoneOf At (drop (k + 1) numbers))
+      left
+      (known-put factors sheet At places.size up.numbers old now (IsNoneOf At (drop k numbers)) live.0 number known
+      (record { at = live.1; there = ap (option_map worth_of) there ∙ ap Some (right live.0 live.1); others = others }))
+    where
+      live : IsLiveAt sheet At number
+      live = turn.each number (get-contains numbers k number here)
+
+      next : drop k numbers ≡ number ∷ drop (k + 1) numbers
+      next = drop-next numbers k number here
+
+      left : (n : Node) → is_live sheet n ≡ true → IsNoneOf At (drop (k + 1) numbers) n
+          → IsNoneOf At (drop k numbers) n ⊎ (n ≡ live.0)
+      left n is none = by (eq-or own.0 number)
+        where
+          own : (m : ℕ) × At n m
+          own = up.numbers.live n is
+
+          eq-or : (a b : ℕ) → (a ≡ b) ⊎ (a ≡ b → ⊥)
+          eq-or a b = elim (cases_Bool (nat_eq a b)) [
+            | inl e ↦ inl (eqb-true a b e)
+            | inr e ↦ inr (λ same. let clash : true ≡ false = sym (eq-eqb a b same) ∙ e in absurd (cc))
+          ]
+
+          none-yet : (own.0 ≡ number → ⊥) → (m : ℕ) → At n m → IsMember m (drop k numbers) → ⊥
+          none-yet other m at h = still (subst (IsMember m) next h)
+            where
+              still : IsMember m (number ∷ drop (k + 1) numbers) → ⊥
+              still (inl e) = other (up.numbers.only n own.0 m own.1 at ∙ e)
+              still (inr rest) = none m at (Contains-from_IsMember (drop (k + 1) numbers) m rest)
+
+          by : (own.0 ≡ number) ⊎ (own.0 ≡ number → ⊥) → IsNoneOf At (drop k numbers) n ⊎ (n ≡ live.0)
+          by (inl e) = inr (up.numbers.exact number n live.0 (subst (At n) e own.1) live.1)
+          by (inr other) = inl (λ m at has. none-yet other m at (IsMember-from_Contains (drop k numbers) m has))
+
+  -- once none is left all are known
+  pub settled-all : (figures : List Figure) (numbers : List ℕ) (k : ℕ) → length numbers ≤ k → Known figures (drop k numbers)
+      → AreSettled factors sheet At figures
+  settled-all figures numbers k end known =
+      known-weaker factors sheet At figures (IsNoneOf At (drop k numbers)) (λ n. Unit {0})
+      (λ n live any m at has. IsMember-from_Contains [] m (subst (λ xs. Contains xs m) (drop_all k numbers end) has)) known
+
+-- ---- figures that are read along links
+
+-- those of the numbers but for these, which are left
+pub record AreReadYet (figures : List Figure) (left numbers : List ℕ) (below : Below) : Type 0 where
+  pub done : List ℕ
+  pub split : done ++ left ≡ numbers
+  pub read : AreReadAt figures done below
+
+pub read-all : (figures : List Figure) (numbers : List ℕ) (below : Below) → AreReadYet figures [] numbers below
+    → AreReadAt figures numbers below
+read-all figures numbers below yet =
+    subst (λ done. AreReadAt figures done below) (sym (append-nil yet.done) ∙ yet.split) yet.read
+
+pub read-one : (figures : List Figure) (source : ℕ) (left numbers : List ℕ) (old now : Below) (figure : Figure)
+    → AreReadYet figures (source ∷ left) numbers old → slice_get figures source ≡ Some figure
+    → now.spans.items ≡ old.spans.items ++ figure.span ∷ [] → now.close ≡ (old.close || figure.close)
+    → AreReadYet figures left numbers now
+read-one figures source left numbers old now figure yet here spans close = record {
+  done = yet.done ++ source ∷ [];
+  split = append_assoc yet.done (source ∷ []) left ∙ yet.split;
+  read = read-next figures yet.done source figure old now yet.read here spans close;
+}
+
+-- the next is one of all
+pub next-within : (figures : List Figure) (source : ℕ) (left numbers : List ℕ) (below : Below)
+    → AreReadYet figures (source ∷ left) numbers below → AllByRecursion (λ n. n < length figures) numbers
+    → source < length figures
+next-within figures source left numbers below yet within =
+    at_member (λ n. n < length figures) numbers source within
+    (subst (IsMember source) yet.split (IsMember-right yet.done (source ∷ left) source (inl refl)))
+
+pub order-live : (sheet : BalanceSheet) (At : Node → ℕ → Type 0) (reached numbers ends : List ℕ)
+    → IsOrder sheet At reached numbers ends → AreLiveOf sheet At reached numbers
+order-live sheet At reached numbers ends order = record { once = order.once; each = order.each; all = order.all }

@@ -1,0 +1,12 @@
+use Rattle.std.proofs.Common.{◌≡◌, take}
+use Rattle.std.specs.List.{AllZip}
+use Rattle.scr_reach.specs.Dues.{numbers_of}
+use Rattle.scr_tree.specs.Starts.{IsStart}
+use Rattle.scr_tree.proofs.starts.starts_of.Given as goal
+
+-- what is due at the numbers so far
+abbrev pub invariant-loop-number : goal.invariant-loop-number
+invariant-loop-number l = record {
+  due : numbers_of l.dues.items ≡ take l.number-index l.fn.numbers.items;
+  each : AllZip (IsStart l.view.sheet.now l.view.places.now) l.dues.items l.live.items;
+}

@@ -1,0 +1,10 @@
+use Rattle.std.proofs.Common.{◌≡◌, drop, length}
+use Rattle.scr_tree.specs.Ready.{AreKnownBut}
+use Rattle.scr_tree.proofs.together.write_all.Given as goal
+
+-- the figures so far are known
+abbrev pub invariant-loop-k : goal.invariant-loop-k
+invariant-loop-k l = record {
+  known : AreKnownBut l.basis l.figures (drop l.k l.numbers);
+  long : length l.figures ≡ length l.fn.figures;
+}
