@@ -1,5 +1,10 @@
 pub mod Places
 pub mod Settled
+mod Seated
+mod SeatLists
+mod SeatedTables
+mod SeatMoves
+mod SeatRolls
 pub mod PartLemmas
 pub mod BlockTests
 pub mod Regrouped
@@ -9,3 +14,4 @@ pub mod TopChanges
 pub mod ChangedLists
 pub mod ListedSums
 pub mod BlockSizes
+mod Examples

@@ -1,4 +1,7 @@
 pub mod Members
+pub mod Rosters
+pub mod Seatings
+pub mod Owned
 pub mod Rolls
 pub mod Blocks
 pub mod ChangedBlocks

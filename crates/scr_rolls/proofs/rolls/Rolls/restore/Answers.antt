@@ -1,4 +1,4 @@
-use Rattle.std.proofs.Common.{◌≡◌, ap, sym, refl, false, Some}
+use Rattle.std.proofs.Common.{ap, sym, false, Some}
 use Rattle.scr_rolls.specs.Members.{returned, moved, has}
 use Rattle.scr_rolls.specs.Rolls.{names_in}
 use Rattle.scr_rolls.proofs.Settled.{changed-as}

@@ -1,9 +1,9 @@
-use Rattle.std.proofs.Common.{◌≡◌, ℕ, true, false, List, Option, Some, None, position, refl, sym, ap, subst, ◌∙◌, rules}
+use Rattle.std.proofs.Common.{◌≡◌, true, false, sym, ap, ◌∙◌, rules}
 use Rattle.std.specs.Prelude.{if◌then◌else◌}
 use Rattle.scr_names.specs.Names.{same_name}
-use Rattle.scr_rolls.specs.Members.{has, name_at, moved, left, come}
+use Rattle.scr_rolls.specs.Members.{has, moved, left, come}
 use Rattle.scr_rolls.specs.Rolls.{names_in}
-use Rattle.scr_rolls.proofs.Settled.{Stands, stands, stands-nowhere, settled-leaves, settled-comes, settled-stays, has-stays, unchanged, changed-as}
+use Rattle.scr_rolls.proofs.Settled.{stands, stands-nowhere, settled-leaves, settled-comes, settled-stays, has-stays, unchanged, changed-as}
 use Rattle.scr_rolls.proofs.rolls.Rolls.settle.Goals as goal
 
 pub come-requires-clause-room : goal.come-requires-clause-room

@@ -1,4 +1,4 @@
-use Rattle.std.proofs.Common.{◌≡◌, Some, is_some, sym, ap, ◌∙◌}
+use Rattle.std.proofs.Common.{Some, is_some, sym, ap, ◌∙◌}
 use Rattle.scr_names.specs.Names.{same_name}
 use Rattle.scr_rolls.specs.Members.{returned, back_at}
 use Rattle.scr_rolls.specs.Rolls.{names_in}

@@ -1,0 +1,430 @@
+//! The rolls of a table's rows by number, and where each row stands in them.
+ghost use Rattle.std.specs.Prelude.{◌≡◌, ◌≢◌, ◌⊎◌, ℕ, ◌+◌, ◌-◌, ◌<◌, ◌≤◌, ◌==◌, List, [], ◌∷◌, ◌++◌, Some, None, true, insert, remove, length, map, IfOk, OnOk, OnErr, if◌then◌else◌};
+ghost use Rattle.std.specs.List.{IsDistinct};
+ghost use Rattle.scr_names.specs.Names.{same_name};
+ghost use Rattle.scr_names.specs.Tables.{has_row};
+ghost use Rattle.scr_rolls.specs.Members.{name_at, come, left, back_at, has, moved, returned};
+ghost use Rattle.scr_rolls.specs.Rosters.{drawn_out};
+ghost use Rattle.scr_rolls.specs.Seatings.{NOWHERE, AreSeated, IsFor, KeepsSeats, free, names_of, place_in, roll_in, room_of, seat_at, seat_of, seats_of};
+
+use crate::roster::Roster;
+use crate::seats::{NOWHERE, Seats};
+use scr_names::{Name, Row, Rows};
+use std::alloc::{AllocError as NoMemory, Global};
+use std::marker::Model;
+
+/// A roll, whose members have it in this seat.
+#[derive(Drop)]
+pub(crate) struct Numbered {
+    seat: usize,
+    roster: Roster,
+}
+
+/// The rolls of a table's rows, each under a number, and the seats of the rows, place by place. Contracts see the rolls in the order
+/// of their numbers, and the seats in the order of the table.
+#[derive(Drop)]
+pub struct Seating {
+    rolls: Vec<Numbered>,
+    seats: Vec<Seats>,
+}
+
+impl Model for Seating {
+    ghost use Rattle.std.specs.Prelude.{◌-◌, length};
+    ghost use Rattle.std.specs.Vec.{vec_capacity};
+    ghost use Rattle.scr_rolls.specs.Seatings.{Seated};
+
+    ghost Value = { Seated };
+
+    ghost view = { λ seating. record {
+      rolls = seating.rolls.items;
+      seats = seating.seats.items;
+      room = vec_capacity seating.seats - length seating.seats.items;
+    } };
+}
+
+impl Seating {
+    /// No roll and no row.
+    pub fn new(alloc: Global) -> Seating
+        ensures rolls { result.rolls ≡ [] }
+        ensures seats { result.seats ≡ [] }
+    {
+        Seating {
+            rolls: Vec::new(alloc),
+            seats: Vec::new(alloc),
+        }
+    }
+
+    /// A roll more, without members, who are to have it in this seat. Its number is told.
+    pub fn add(&mut self, alloc: Global, seat: usize) -> Result<u32, NoMemory>
+        ensures number { IfOk result (λ number. number ≡ length self.old.rolls) }
+        ensures count { OnOk result (length self.new.rolls ≡ length self.old.rolls + 1) }
+        ensures few { OnOk result (length self.new.rolls ≤ NOWHERE) }
+        ensures seat { IfOk result (λ number. seat_of number self.new.rolls ≡ seat) }
+        ensures own { (number : ℕ) → number < length self.old.rolls → seat_of number self.new.rolls ≡ seat_of number self.old.rolls }
+        ensures names { (number : ℕ) → names_of number self.new.rolls ≡ names_of number self.old.rolls }
+        ensures seats { self.new.seats ≡ self.old.seats }
+        ensures err { OnErr result (self.new ≡ self.old) }
+    {
+        let number = self.rolls.len();
+        if number >= NOWHERE as usize {
+            return Err(NoMemory);
+        }
+        self.rolls.push(Numbered {
+            seat,
+            roster: Roster::new(alloc),
+        })?;
+        Ok(number as u32)
+    }
+
+    /// The members of a roll in the order of their places. No name stands twice.
+    pub fn roll(&self, number: u32) -> &[Name]
+        requires { number < length self.now.rolls }
+        ensures names { result.now ≡ names_of number self.now.rolls }
+        ensures apart { (names : List (List ℕ)) → AreSeated names self.now → IsDistinct same_name (names_of number self.now.rolls) }
+    {
+        self.rolls[number as usize].roster.as_slice()
+    }
+
+    /// How many rows have seats.
+    pub fn rows(&self) -> usize
+        ensures { result ≡ length self.now.seats }
+    {
+        self.seats.len()
+    }
+
+    /// The seats of the row at a place.
+    pub fn seats(&self, place: usize) -> Seats
+        requires { place < length self.now.seats }
+        ensures { result ≡ seat_at place self.now.seats }
+    {
+        self.seats[place]
+    }
+
+    /// Makes room for a member more in a roll. All rolls stay, whether there is memory or not.
+    pub fn reserve(&mut self, alloc: Global, number: u32) -> Result<(), NoMemory>
+        requires { number < length self.old.rolls }
+        ensures ok { OnOk result (0 < room_of number self.new.rolls) }
+        ensures own { KeepsSeats self.old.rolls self.new.rolls }
+        ensures names { (other : ℕ) → names_of other self.new.rolls ≡ names_of other self.old.rolls }
+        ensures room { (other : ℕ) → room_of other self.old.rolls ≤ room_of other self.new.rolls }
+        ensures seats { self.new.seats ≡ self.old.seats }
+        ensures rows { self.new.room ≡ self.old.room }
+    {
+        self.rolls[number as usize].roster.reserve(alloc)
+    }
+
+    /// Makes room for the seats of a row more.
+    pub fn reserve_row(&mut self, _alloc: Global) -> Result<(), NoMemory>
+        ensures ok { OnOk result (0 < self.new.room) }
+        ensures rolls { self.new.rolls ≡ self.old.rolls }
+        ensures seats { self.new.seats ≡ self.old.seats }
+        ensures room { self.old.room ≤ self.new.room }
+    {
+        self.seats.try_reserve(1)
+    }
+
+    /// The row that came last has seats from now on, all of them free. It takes a place of the room, and no memory.
+    pub fn enter(&mut self)
+        requires { 0 < self.old.room }
+        ensures rolls { self.new.rolls ≡ self.old.rolls }
+        ensures seats { self.new.seats ≡ self.old.seats ++ free ∷ [] }
+        ensures room { self.old.room ≤ self.new.room + 1 }
+    {
+        self.seats.push_reserved(Seats::free());
+    }
+
+    /// The row at a place stands in this roll in a seat from now on, or nowhere: it leaves where it stood, the last there takes
+    /// its place, and it goes last.
+    pub fn seat<R: Row>(&mut self, rows: &Rows<R>, place: usize, seat: usize, roll: u32)
+        requires seated { AreSeated (map R.name_of rows.now) self.old }
+        requires place { place < length rows.now }
+        requires seat { seat < 11 }
+        requires roll { IsFor self.old.rolls seat roll }
+        requires room { roll ≢ NOWHERE → roll ≢ roll_in seat (seat_at place self.old.seats) → 0 < room_of roll self.old.rolls }
+        ensures seated { AreSeated (map R.name_of rows.now) self.new }
+        ensures seats { KeepsSeats self.old.rolls self.new.rolls }
+        ensures own { (s : ℕ) → roll_in s (seat_at place self.new.seats)
+            ≡ (if seat == s then roll else roll_in s (seat_at place self.old.seats)) }
+        ensures names { (number : ℕ) → number < length self.old.rolls → names_of number self.new.rolls
+            ≡ (if seat_of number self.old.rolls == seat then moved (name_at place (map R.name_of rows.now))
+            (has (name_at place (map R.name_of rows.now)) (names_of number self.old.rolls)) (roll == number) (names_of number self.old.rolls)
+            else names_of number self.old.rolls) }
+        ensures room { (number : ℕ) → number ≢ roll → room_of number self.old.rolls ≤ room_of number self.new.rolls }
+    {
+        let _count = rows.len();
+        if self.seats[place].roll(seat) == roll {
+            return;
+        }
+        self.clear(rows, place, seat);
+        if roll != NOWHERE {
+            self.occupy(rows, place, seat, roll);
+        }
+    }
+
+    // The row at a place stands nowhere in a seat from now on.
+    fn clear<R: Row>(&mut self, rows: &Rows<R>, place: usize, seat: usize)
+        requires seated { AreSeated (map R.name_of rows.now) self.old }
+        requires apart { IsDistinct same_name (map R.name_of rows.now) }
+        requires place { place < length rows.now }
+        requires seat { seat < 11 }
+        ensures seated { AreSeated (map R.name_of rows.now) self.new }
+        ensures seats { KeepsSeats self.old.rolls self.new.rolls }
+        ensures own { (s : ℕ) → roll_in s (seat_at place self.new.seats)
+            ≡ (if seat == s then NOWHERE else roll_in s (seat_at place self.old.seats)) }
+        ensures names { roll_in seat (seat_at place self.old.seats) ≢ NOWHERE
+            → names_of (roll_in seat (seat_at place self.old.seats)) self.new.rolls
+            ≡ left (place_in seat (seat_at place self.old.seats)) (names_of (roll_in seat (seat_at place self.old.seats)) self.old.rolls) }
+        ensures rolls { (other : ℕ) → other ≢ roll_in seat (seat_at place self.old.seats)
+            → names_of other self.new.rolls ≡ names_of other self.old.rolls }
+        ensures room { (other : ℕ) → room_of other self.old.rolls ≤ room_of other self.new.rolls }
+    {
+        if self.seats[place].roll(seat) != NOWHERE {
+            self.vacate(rows, place, seat);
+        }
+    }
+
+    // The row at a place leaves the roll in which it stands in a seat.
+    fn vacate<R: Row>(&mut self, rows: &Rows<R>, place: usize, seat: usize)
+        requires seated { AreSeated (map R.name_of rows.now) self.old }
+        requires apart { IsDistinct same_name (map R.name_of rows.now) }
+        requires place { place < length rows.now }
+        requires seat { seat < 11 }
+        requires some { roll_in seat (seat_at place self.old.seats) ≢ NOWHERE }
+        ensures seated { AreSeated (map R.name_of rows.now) self.new }
+        ensures seats { KeepsSeats self.old.rolls self.new.rolls }
+        ensures own { (s : ℕ) → roll_in s (seat_at place self.new.seats)
+            ≡ (if seat == s then NOWHERE else roll_in s (seat_at place self.old.seats)) }
+        ensures names { names_of (roll_in seat (seat_at place self.old.seats)) self.new.rolls
+            ≡ left (place_in seat (seat_at place self.old.seats)) (names_of (roll_in seat (seat_at place self.old.seats)) self.old.rolls) }
+        ensures rolls { (other : ℕ) → other ≢ roll_in seat (seat_at place self.old.seats)
+            → names_of other self.new.rolls ≡ names_of other self.old.rolls }
+        ensures room { (other : ℕ) → room_of other self.old.rolls ≤ room_of other self.new.rolls }
+    {
+        let own = self.seats[place];
+        self.leave(rows, seat, own.roll(seat), own.place(seat));
+        self.seats[place].set_free(seat);
+    }
+
+    // The row at a place, which stands nowhere in a seat, comes to a roll.
+    fn occupy<R: Row>(&mut self, rows: &Rows<R>, place: usize, seat: usize, roll: u32)
+        requires seated { AreSeated (map R.name_of rows.now) self.old }
+        requires apart { IsDistinct same_name (map R.name_of rows.now) }
+        requires place { place < length rows.now }
+        requires seat { seat < 11 }
+        requires none { roll_in seat (seat_at place self.old.seats) ≡ NOWHERE }
+        requires number { roll < length self.old.rolls }
+        requires kind { seat_of roll self.old.rolls ≡ seat }
+        requires room { 0 < room_of roll self.old.rolls }
+        ensures seated { AreSeated (map R.name_of rows.now) self.new }
+        ensures seats { KeepsSeats self.old.rolls self.new.rolls }
+        ensures own { (s : ℕ) → roll_in s (seat_at place self.new.seats)
+            ≡ (if seat == s then roll else roll_in s (seat_at place self.old.seats)) }
+        ensures names { names_of roll self.new.rolls
+            ≡ come (name_at place (map R.name_of rows.now)) (names_of roll self.old.rolls) }
+        ensures rolls { (other : ℕ) → other ≢ roll → names_of other self.new.rolls ≡ names_of other self.old.rolls }
+        ensures room { (other : ℕ) → other ≢ roll → room_of other self.new.rolls ≡ room_of other self.old.rolls }
+    {
+        let name = rows.at(place).name();
+        let at = self.come(roll, name);
+        self.seats[place].put(seat, roll, at);
+    }
+
+    /// The row that stood at a place of the table, and nowhere in a roll, is gone from it. There is room for one more.
+    pub fn gone(&mut self, place: usize)
+        requires { place < length self.old.seats }
+        ensures rolls { self.new.rolls ≡ self.old.rolls }
+        ensures seats { self.new.seats ≡ remove self.old.seats place }
+        ensures room { self.old.room + 1 ≤ self.new.room }
+    {
+        self.seats.remove(place);
+    }
+
+    /// A row that was gone is at a place of its table again, without memory: its seats are free.
+    pub fn rejoin(&mut self, place: usize)
+        requires place { place ≤ length self.old.seats }
+        requires room { 0 < self.old.room }
+        ensures rolls { self.new.rolls ≡ self.old.rolls }
+        ensures seats { self.new.seats ≡ insert self.old.seats place free }
+    {
+        self.seats.insert(place, Seats::free()).unwrap();
+    }
+
+    /// In a seat the row at a place stands again at a place of this roll, or nowhere, without memory: it leaves another where it
+    /// stood, and who stands at its place goes last.
+    pub fn put_back<R: Row>(
+        &mut self,
+        rows: &Rows<R>,
+        place: usize,
+        seat: usize,
+        roll: u32,
+        at: u32,
+    )
+        requires seated { AreSeated (map R.name_of rows.now) self.old }
+        requires place { place < length rows.now }
+        requires seat { seat < 11 }
+        requires roll { IsFor self.old.rolls seat roll }
+        requires room { roll ≢ NOWHERE → roll ≢ roll_in seat (seat_at place self.old.seats)
+            → (at ≤ length (names_of roll self.old.rolls)) × (0 < room_of roll self.old.rolls) }
+        ensures seated { AreSeated (map R.name_of rows.now) self.new }
+        ensures seats { KeepsSeats self.old.rolls self.new.rolls }
+        ensures own { (s : ℕ) → roll_in s (seat_at place self.new.seats)
+            ≡ (if seat == s then roll else roll_in s (seat_at place self.old.seats)) }
+        ensures names { (number : ℕ) → number < length self.old.rolls → names_of number self.new.rolls
+            ≡ (if seat_of number self.old.rolls == seat then returned (name_at place (map R.name_of rows.now))
+            (if roll == number then Some at else None) (names_of number self.old.rolls) else names_of number self.old.rolls) }
+        ensures room { (number : ℕ) → number ≢ roll → room_of number self.old.rolls ≤ room_of number self.new.rolls }
+    {
+        let _count = rows.len();
+        if self.seats[place].roll(seat) == roll {
+            return;
+        }
+        self.clear(rows, place, seat);
+        if roll != NOWHERE {
+            self.go_back(rows, place, seat, roll, at);
+        }
+    }
+
+    // The row at a place, which stands nowhere in a seat, goes back to a place of a roll, and who stands there goes last.
+    fn go_back<R: Row>(&mut self, rows: &Rows<R>, place: usize, seat: usize, roll: u32, at: u32)
+        requires seated { AreSeated (map R.name_of rows.now) self.old }
+        requires apart { IsDistinct same_name (map R.name_of rows.now) }
+        requires place { place < length rows.now }
+        requires seat { seat < 11 }
+        requires none { roll_in seat (seat_at place self.old.seats) ≡ NOWHERE }
+        requires number { roll < length self.old.rolls }
+        requires kind { seat_of roll self.old.rolls ≡ seat }
+        requires at { at ≤ length (names_of roll self.old.rolls) }
+        requires room { 0 < room_of roll self.old.rolls }
+        ensures seated { AreSeated (map R.name_of rows.now) self.new }
+        ensures seats { KeepsSeats self.old.rolls self.new.rolls }
+        ensures own { (s : ℕ) → roll_in s (seat_at place self.new.seats)
+            ≡ (if seat == s then roll else roll_in s (seat_at place self.old.seats)) }
+        ensures names { names_of roll self.new.rolls
+            ≡ back_at at (name_at place (map R.name_of rows.now)) (names_of roll self.old.rolls) }
+        ensures rolls { (other : ℕ) → other ≢ roll → names_of other self.new.rolls ≡ names_of other self.old.rolls }
+        ensures room { (other : ℕ) → other ≢ roll → room_of other self.new.rolls ≡ room_of other self.old.rolls }
+    {
+        let name = rows.at(place).name();
+        self.give_back(rows, seat, roll, at, name);
+        self.seats[place].put(seat, roll, at);
+    }
+
+    // A name goes back to a place of a roll, and who stands there goes last.
+    fn give_back<R: Row>(
+        &mut self,
+        rows: &Rows<R>,
+        seat: usize,
+        number: u32,
+        place: u32,
+        name: Name,
+    )
+        requires beside { length self.old.seats ≡ length rows.now }
+        requires apart { IsDistinct same_name (map R.name_of rows.now) }
+        requires seat { seat < 11 }
+        requires number { number < length self.old.rolls }
+        requires place { place ≤ length (names_of number self.old.rolls) }
+        requires room { 0 < room_of number self.old.rolls }
+        requires there { place < length (names_of number self.old.rolls)
+            → has_row R.name_of (name_at place (names_of number self.old.rolls)) rows.now ≡ true }
+        ensures beside { length self.new.seats ≡ length self.old.seats }
+        ensures seats { KeepsSeats self.old.rolls self.new.rolls }
+        ensures names { names_of number self.new.rolls ≡ back_at place name (names_of number self.old.rolls) }
+        ensures rolls { (other : ℕ) → other ≢ number → names_of other self.new.rolls ≡ names_of other self.old.rolls }
+        ensures room { (other : ℕ) → other ≢ number → room_of other self.new.rolls ≡ room_of other self.old.rolls }
+        ensures at { (other : List ℕ) (s : ℕ) → roll_in s (seats_of (map R.name_of rows.now) self.new.seats other)
+            ≡ roll_in s (seats_of (map R.name_of rows.now) self.old.seats other) }
+        ensures drawn { place < length (names_of number self.old.rolls) → place_in seat (seats_of (map R.name_of rows.now) self.new.seats
+            (name_at place (names_of number self.old.rolls))) ≡ length (names_of number self.old.rolls) }
+        ensures still { (other : List ℕ) (s : ℕ)
+            → ((place < length (names_of number self.old.rolls) → other ≢ name_at place (names_of number self.old.rolls)) ⊎ (s ≢ seat))
+            → place_in s (seats_of (map R.name_of rows.now) self.new.seats other) ≡ place_in s (seats_of (map R.name_of rows.now) self.old.seats other) }
+    {
+        let last = self.count(number);
+        if let Some(drawn) = self.put_at(number, place, name) {
+            self.move_to(rows, &drawn, seat, last);
+        }
+    }
+
+    // How many members a roll has.
+    fn count(&self, number: u32) -> u32
+        requires { number < length self.now.rolls }
+        ensures { result ≡ length (names_of number self.now.rolls) }
+    {
+        self.rolls[number as usize].roster.len()
+    }
+
+    // A name goes back to a place of a roll. Who stood there, if anyone, is told, and stands last.
+    fn put_at(&mut self, number: u32, place: u32, name: Name) -> Option<Name>
+        requires number { number < length self.old.rolls }
+        requires place { place ≤ length (names_of number self.old.rolls) }
+        requires room { 0 < room_of number self.old.rolls }
+        ensures drawn { result ≡ drawn_out place (names_of number self.old.rolls) }
+        ensures seats { KeepsSeats self.old.rolls self.new.rolls }
+        ensures names { names_of number self.new.rolls ≡ back_at place name (names_of number self.old.rolls) }
+        ensures rolls { (other : ℕ) → other ≢ number → names_of other self.new.rolls ≡ names_of other self.old.rolls }
+        ensures room { (other : ℕ) → other ≢ number → room_of other self.new.rolls ≡ room_of other self.old.rolls }
+        ensures rows { self.new.seats ≡ self.old.seats }
+    {
+        self.rolls[number as usize].roster.put_back(place, name)
+    }
+
+    // The member at a place of a roll leaves, and the last takes its place.
+    fn leave<R: Row>(&mut self, rows: &Rows<R>, seat: usize, number: u32, place: u32)
+        requires beside { length self.old.seats ≡ length rows.now }
+        requires apart { IsDistinct same_name (map R.name_of rows.now) }
+        requires seat { seat < 11 }
+        requires number { number < length self.old.rolls }
+        requires place { place < length (names_of number self.old.rolls) }
+        requires there { place + 1 < length (names_of number self.old.rolls)
+            → has_row R.name_of (name_at (length (names_of number self.old.rolls) - 1) (names_of number self.old.rolls)) rows.now ≡ true }
+        ensures beside { length self.new.seats ≡ length self.old.seats }
+        ensures seats { KeepsSeats self.old.rolls self.new.rolls }
+        ensures names { names_of number self.new.rolls ≡ left place (names_of number self.old.rolls) }
+        ensures rolls { (other : ℕ) → other ≢ number → names_of other self.new.rolls ≡ names_of other self.old.rolls }
+        ensures room { (other : ℕ) → room_of other self.old.rolls ≤ room_of other self.new.rolls }
+        ensures at { (name : List ℕ) (s : ℕ) → roll_in s (seats_of (map R.name_of rows.now) self.new.seats name)
+            ≡ roll_in s (seats_of (map R.name_of rows.now) self.old.seats name) }
+        ensures drawn { place + 1 < length (names_of number self.old.rolls) → place_in seat (seats_of (map R.name_of rows.now) self.new.seats
+            (name_at (length (names_of number self.old.rolls) - 1) (names_of number self.old.rolls))) ≡ place }
+        ensures still { (name : List ℕ) (s : ℕ)
+            → ((name ≢ name_at (length (names_of number self.old.rolls) - 1) (names_of number self.old.rolls)) ⊎ (s ≢ seat))
+            → place_in s (seats_of (map R.name_of rows.now) self.new.seats name) ≡ place_in s (seats_of (map R.name_of rows.now) self.old.seats name) }
+    {
+        if let Some(drawn) = self.rolls[number as usize].roster.leave(place) {
+            self.move_to(rows, &drawn, seat, place);
+        }
+    }
+
+    // A name comes to a roll. Its place there is told.
+    fn come(&mut self, number: u32, name: Name) -> u32
+        requires number { number < length self.old.rolls }
+        requires room { 0 < room_of number self.old.rolls }
+        ensures place { result ≡ length (names_of number self.old.rolls) }
+        ensures seats { KeepsSeats self.old.rolls self.new.rolls }
+        ensures names { names_of number self.new.rolls ≡ come name (names_of number self.old.rolls) }
+        ensures rolls { (other : ℕ) → other ≢ number → names_of other self.new.rolls ≡ names_of other self.old.rolls }
+        ensures room { (other : ℕ) → other ≢ number → room_of other self.new.rolls ≡ room_of other self.old.rolls }
+        ensures rows { self.new.seats ≡ self.old.seats }
+    {
+        self.rolls[number as usize].roster.come(name)
+    }
+
+    // The place of the row of a name in a seat is another one.
+    fn move_to<R: Row>(&mut self, rows: &Rows<R>, name: &Name, seat: usize, place: u32)
+        requires beside { length self.old.seats ≡ length rows.now }
+        requires apart { IsDistinct same_name (map R.name_of rows.now) }
+        requires seat { seat < 11 }
+        requires there { has_row R.name_of name.now rows.now ≡ true }
+        ensures rolls { self.new.rolls ≡ self.old.rolls }
+        ensures beside { length self.new.seats ≡ length self.old.seats }
+        ensures at { (other : List ℕ) (s : ℕ) → roll_in s (seats_of (map R.name_of rows.now) self.new.seats other)
+            ≡ roll_in s (seats_of (map R.name_of rows.now) self.old.seats other) }
+        ensures own { place_in seat (seats_of (map R.name_of rows.now) self.new.seats name.now) ≡ place }
+        ensures others { (other : List ℕ) (s : ℕ) → ((other ≢ name.now) ⊎ (s ≢ seat))
+            → place_in s (seats_of (map R.name_of rows.now) self.new.seats other) ≡ place_in s (seats_of (map R.name_of rows.now) self.old.seats other) }
+    {
+        if let Some(k) = rows.place(name) {
+            self.seats[k].set_place(seat, place);
+        }
+    }
+}

@@ -1,0 +1,72 @@
+//! Where a row stands.
+ghost use Rattle.std.specs.Prelude.{◌≡◌, ℕ, ◌<◌, ◌==◌, if◌then◌else◌};
+ghost use Rattle.scr_rolls.specs.Seatings.{NOWHERE, free, place_in, roll_in};
+
+/// The number of no roll: a seat with it is free.
+pub const NOWHERE: u32 = u32::MAX;
+
+/// How many seats a row has.
+pub const SEATS: usize = 11;
+
+/// The seats of a row: in each it stands at a place of the roll of a number, or nowhere.
+#[derive(Clone, Copy)]
+pub struct Seats {
+    rolls: [u32; 11],
+    places: [u32; 11],
+}
+
+impl Seats {
+    /// Nowhere in any seat.
+    pub fn free() -> Seats
+        ensures { result ≡ free }
+    {
+        Seats {
+            rolls: [NOWHERE; 11],
+            places: [0; 11],
+        }
+    }
+
+    /// The number of the roll in which the row stands in a seat.
+    pub fn roll(&self, seat: usize) -> u32
+        requires { seat < 11 }
+        ensures { result ≡ roll_in seat self.now }
+    {
+        self.rolls[seat]
+    }
+
+    /// Its place there.
+    pub fn place(&self, seat: usize) -> u32
+        requires { seat < 11 }
+        ensures { result ≡ place_in seat self.now }
+    {
+        self.places[seat]
+    }
+
+    /// The row stands nowhere in a seat.
+    pub(crate) fn set_free(&mut self, seat: usize)
+        requires { seat < 11 }
+        ensures rolls { (other : ℕ) → roll_in other self.new ≡ (if seat == other then NOWHERE else roll_in other self.old) }
+        ensures places { (other : ℕ) → place_in other self.new ≡ place_in other self.old }
+    {
+        self.rolls[seat] = NOWHERE;
+    }
+
+    /// The row stands at this place of a roll in a seat.
+    pub(crate) fn put(&mut self, seat: usize, roll: u32, place: u32)
+        requires { seat < 11 }
+        ensures rolls { (other : ℕ) → roll_in other self.new ≡ (if seat == other then roll else roll_in other self.old) }
+        ensures places { (other : ℕ) → place_in other self.new ≡ (if seat == other then place else place_in other self.old) }
+    {
+        self.rolls[seat] = roll;
+        self.places[seat] = place;
+    }
+
+    /// The place in a seat is another one.
+    pub(crate) fn set_place(&mut self, seat: usize, place: u32)
+        requires { seat < 11 }
+        ensures places { (other : ℕ) → place_in other self.new ≡ (if seat == other then place else place_in other self.old) }
+        ensures rolls { (other : ℕ) → roll_in other self.new ≡ roll_in other self.old }
+    {
+        self.places[seat] = place;
+    }
+}
