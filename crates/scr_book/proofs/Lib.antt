@@ -5,7 +5,8 @@ pub mod LastDays
 pub mod LastYears
 pub mod Holders
 pub mod HoldersBack
-pub mod OnlyHoldings
+pub mod NamesInOrder
+pub mod NoFault
 pub mod Tallies
 pub mod Restored
 pub mod DaysBack

@@ -38,3 +38,9 @@ is_liability_flows edit = false
 abbrev pub is_segment : Edit → Bool
 is_segment (edits.Segment set number region premium reserve) = true
 is_segment edit = false
+
+-- a record of payments, of a security or of a liability
+abbrev pub hands_in_payments : Edit → Bool
+hands_in_payments (edits.Flows security flows) = true
+hands_in_payments (edits.LiabilityFlows liability projection flows) = true
+hands_in_payments edit = false

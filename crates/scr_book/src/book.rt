@@ -10,6 +10,7 @@ ghost use Rattle.scr_book.specs.Places.{names_in, shares_names};
 
 use crate::checks::checked;
 use crate::ledger::Ledger;
+use crate::puts::hands_in_payments;
 use crate::users::Users;
 use crate::{
     BalanceSheet, Bank, Curve, Edit, Fault, Fund, Group, Liability, Name, Numbers, Rein, Security,
@@ -65,6 +66,39 @@ impl Book {
             Ok(()) => Ok(()),
             Err(NoMemory) => Err(Fault::NoMemory),
         }
+    }
+
+    /// Applies the record, or refuses it exactly as `check` does, and then the book is as before. Payments that the record
+    /// hands in are kept as they are, and not copied.
+    pub fn take(&mut self, alloc: Global, edit: Edit) -> Result<(), Fault>
+        requires { Formed edit }
+        ensures answer { Answers (fault_of edit self.old) result }
+        ensures ok { OnOk result (self.new ≡ applied edit self.old) }
+        ensures err { OnErr result (self.new ≡ self.old) }
+    {
+        let numbers = match checked(alloc, self, &edit) {
+            Ok(numbers) => numbers,
+            Err(first) => return Err(first),
+        };
+        match self.keep(alloc, edit, &numbers) {
+            Ok(()) => Ok(()),
+            Err(NoMemory) => Err(Fault::NoMemory),
+        }
+    }
+
+    // Applies a record that has no fault, and keeps its payments. Where memory is refused the book is as before.
+    fn keep(&mut self, alloc: Global, edit: Edit, numbers: &[u32]) -> Result<(), NoMemory>
+        requires formed { Formed edit }
+        requires no_fault { fault_of edit self.old ≡ None }
+        ensures ok { OnOk result (self.new ≡ applied edit self.old) }
+        ensures err { OnErr result (self.new ≡ self.old) }
+    {
+        if !hands_in_payments(&edit) {
+            return self.put(alloc, &edit, numbers);
+        }
+        self.users.exchange(alloc, self.ledger.sheet(), &edit);
+        self.ledger.keep_payments(edit);
+        Ok(())
     }
 
     // Applies a record that has no fault. Where memory is refused the book is as before.

@@ -1,15 +1,17 @@
 //! Whether a record may be applied.
-ghost use Rattle.std.specs.Prelude.{◌≡◌, None, true, false};
-ghost use Rattle.scr_sheet.specs.Faults.{unknown_name, wrong_kind, in_use, cycle, fault_of, Answers};
+ghost use Rattle.std.specs.Prelude.{◌≡◌, ◌||◌, None, true, false};
+ghost use Rattle.scr_sheet.specs.BalanceSheet.{is_in};
+ghost use Rattle.scr_sheet.specs.Faults.{list_fault, unknown_name, wrong_kind, in_use, cycle, fault_of, Answers};
 ghost use Rattle.scr_sheet.specs.Users.{user_of, absorption_of};
 ghost use Rattle.scr_sheet.specs.Forms.{Formed};
+ghost use Rattle.scr_sheet.specs.declared.sheet.BalanceSheet.{BalanceSheet as Sheet};
 ghost use Rattle.scr_names.specs.Names.{same_name};
 ghost use Rattle.scr_book.specs.Holders.{IsGraphOf};
-ghost use Rattle.scr_book.specs.Holdings.{is_component, are_components, has_only_holdings};
+ghost use Rattle.scr_book.specs.Holdings.{is_component, are_components, is_apart, is_group, is_projected, are_in_order};
 
 use crate::due::graph_of;
-use crate::ranges::check_ranges;
-use crate::{BalanceSheet, Book, Components, Edit, Fault, Name, Table};
+use crate::ranges::{check_ranges, is_within};
+use crate::{BalanceSheet, Book, Components, Edit, Fault, MAX_FLOWS, Name, Projection, Table};
 use scr_graph::{FundGraph, GraphFault};
 use scr_sheet::{check_kinds, check_lists, check_names, check_uses};
 use std::alloc::{AllocError as NoMemory, Global};
@@ -30,14 +32,60 @@ pub(crate) fn checked(alloc: Global, book: &Book, edit: &Edit) -> Result<Vec<u32
     requires { Formed edit.now }
     ensures { Answers (fault_of edit.now book.now) result }
 {
+    if passes(book, edit) {
+        return Ok(Vec::new(alloc));
+    }
+    first_fault(alloc, book, edit)
+}
+
+// The record has no fault. Of the records that come most often a few look-ups and numbers tell so; of others it is not told.
+fn passes(book: &Book, edit: &Edit) -> bool
+    requires { Formed edit.now }
+    ensures { result ≡ true → fault_of edit.now book.now ≡ None }
+{
+    is_in_place(book.sheet(), edit) && is_within(&book.ledger, edit)
+}
+
+// The record is one of those that come most often, its list is as long as it may be, and each of its names is in order.
+fn is_in_place(sheet: &BalanceSheet, edit: &Edit) -> bool
+    ensures list { result ≡ true → list_fault edit.now ≡ None }
+    ensures known { result ≡ true → unknown_name edit.now sheet.now ≡ None }
+    ensures kind { result ≡ true → wrong_kind edit.now sheet.now ≡ None }
+    ensures free { result ≡ true → in_use edit.now sheet.now ≡ None }
+    ensures apart { result ≡ true → cycle edit.now sheet.now ≡ None }
+{
+    is_short(edit) && names_pass(sheet, edit)
+}
+
+// The record is one of those that come most often, and its list is as long as it may be. Nothing is dropped, and no fund is made.
+fn is_short(edit: &Edit) -> bool
+    ensures list { result ≡ true → list_fault edit.now ≡ None }
+    ensures free { result ≡ true → (sheet : Sheet) → in_use edit.now sheet ≡ None }
+    ensures apart { result ≡ true → (sheet : Sheet) → cycle edit.now sheet ≡ None }
+{
+    match edit {
+        Edit::Security { .. } | Edit::Hold { .. } => true,
+        Edit::Flows { flows, .. } | Edit::LiabilityFlows { flows, .. } => {
+            flows.as_slice().len() <= MAX_FLOWS as usize
+        }
+        _ => false,
+    }
+}
+
+// The first fault of the record in its order.
+#[inline(never)]
+fn first_fault(alloc: Global, book: &Book, edit: &Edit) -> Result<Vec<u32>, Fault>
+    requires { Formed edit.now }
+    ensures { Answers (fault_of edit.now book.now) result }
+{
     if let Err(fault) = check_lists(alloc, edit) {
         return Err(fault);
     }
     if !names_pass(book.sheet(), edit) {
-        if let Err(fault) = check_names(book.sheet(), edit) {
+        if let Err(fault) = first_unknown(book.sheet(), edit) {
             return Err(fault);
         }
-        if let Err(fault) = check_kinds(book.sheet(), edit) {
+        if let Err(fault) = first_misplaced(book.sheet(), edit) {
             return Err(fault);
         }
     }
@@ -54,27 +102,102 @@ pub(crate) fn checked(alloc: Global, book: &Book, edit: &Edit) -> Result<Vec<u32
     }
 }
 
-// ---- names of a fund's record, of which most are in order
+// ---- names, of which most are in order: few look-ups tell so
 
-// The record is one of a fund that holds only what it may: each of its names exists and stands where it may.
+// Apart, since few records come here.
+#[inline(never)]
+fn first_unknown(sheet: &BalanceSheet, edit: &Edit) -> Result<(), Fault>
+    ensures { Answers (unknown_name edit.now sheet.now) result }
+{
+    check_names(sheet, edit)
+}
+
+#[inline(never)]
+fn first_misplaced(sheet: &BalanceSheet, edit: &Edit) -> Result<(), Fault>
+    ensures { Answers (wrong_kind edit.now sheet.now) result }
+{
+    check_kinds(sheet, edit)
+}
+
+// Each name of the record exists and stands where it may. Of records that seldom come it is not told.
 fn names_pass(sheet: &BalanceSheet, edit: &Edit) -> bool
-    ensures told { result ≡ has_only_holdings edit.now sheet.now }
+    ensures told { result ≡ are_in_order edit.now sheet.now }
     ensures known { result ≡ true → unknown_name edit.now sheet.now ≡ None }
     ensures kind { result ≡ true → wrong_kind edit.now sheet.now ≡ None }
 {
-    has_only_holdings(sheet, edit)
+    are_in_order(sheet, edit)
 }
 
-// The fund has its name for itself, and each component is a security or a fund: one look-up for most.
-fn has_only_holdings(sheet: &BalanceSheet, edit: &Edit) -> bool
-    ensures { result ≡ has_only_holdings edit.now sheet.now }
+fn are_in_order(sheet: &BalanceSheet, edit: &Edit) -> bool
+    ensures { result ≡ are_in_order edit.now sheet.now }
 {
     match edit {
+        Edit::Security {
+            name,
+            group,
+            currency,
+            ..
+        } => {
+            is_security_apart(sheet, name)
+                && is_group(sheet, group)
+                && sheet.curves.contains(currency)
+        }
+        Edit::Flows { security, .. } => sheet.securities.contains(security),
+        Edit::Hold { name, .. } => sheet.securities.contains(name) || sheet.funds.contains(name),
+        Edit::LiabilityFlows {
+            liability,
+            projection,
+            ..
+        } => has_projection(sheet, liability, *projection),
         Edit::Fund { name, components } => {
-            (sheet.has(Table::Fund, name) || !sheet.is_named(name))
-                && are_components(sheet, name, components.as_slice())
+            is_apart(sheet, Table::Fund, name) && are_components(sheet, name, components.as_slice())
         }
         _ => false,
+    }
+}
+
+// The name stands in this table, or nowhere.
+fn is_apart(sheet: &BalanceSheet, table: Table, name: &Name) -> bool
+    ensures { result ≡ is_apart table name.now sheet.now }
+{
+    !sheet.is_named(name) || sheet.has(table, name)
+}
+
+// As `is_apart`, of a security: looked up table by table, since most tables have nothing yet where securities come.
+fn is_security_apart(sheet: &BalanceSheet, name: &Name) -> bool
+    ensures { result ≡ is_apart Table.Security name.now sheet.now }
+{
+    sheet.securities.contains(name) || !is_named_elsewhere(sheet, name)
+}
+
+// The name stands in one of the tables that share one set of names, that of securities apart.
+fn is_named_elsewhere(sheet: &BalanceSheet, name: &Name) -> bool
+    ensures { result ≡ (is_in Table.Group name.now sheet.now || is_in Table.Liability name.now sheet.now
+        || is_in Table.Bank name.now sheet.now || is_in Table.Rein name.now sheet.now || is_in Table.Fund name.now sheet.now) }
+{
+    sheet.groups.contains(name)
+        || sheet.liabilities.contains(name)
+        || sheet.banks.contains(name)
+        || sheet.reinsurers.contains(name)
+        || sheet.funds.contains(name)
+}
+
+fn is_group(sheet: &BalanceSheet, group: &Option<Name>) -> bool
+    ensures { result ≡ is_group group.now sheet.now }
+{
+    match group {
+        Some(group) => sheet.groups.contains(group),
+        None => true,
+    }
+}
+
+// The liability is there, and its kind has the projection.
+fn has_projection(sheet: &BalanceSheet, liability: &Name, projection: Projection) -> bool
+    ensures { result ≡ is_projected projection liability.now sheet.now }
+{
+    match sheet.liabilities.get(liability) {
+        Some(row) => row.kind.has(projection),
+        None => false,
     }
 }
 
@@ -89,7 +212,7 @@ fn are_components(sheet: &BalanceSheet, fund: &Name, components: &[(Name, i64)])
 fn is_component(sheet: &BalanceSheet, fund: &Name, name: &Name) -> bool
     ensures { result ≡ is_component fund.now sheet.now name.now }
 {
-    sheet.has(Table::Security, name) || sheet.has(Table::Fund, name) || *name == *fund
+    sheet.securities.contains(name) || sheet.funds.contains(name) || *name == *fund
 }
 
 // ---- nothing uses what would be dropped
@@ -100,8 +223,16 @@ fn check_users(book: &Book, edit: &Edit) -> Result<(), Fault>
 {
     match edit {
         Edit::Remove { table, name } if is_idle(book, *table, name) => Ok(()),
-        _ => check_uses(book.sheet(), edit),
+        Edit::Remove { .. } | Edit::Liability { .. } => first_use(book.sheet(), edit),
+        _ => Ok(()),
     }
+}
+
+#[inline(never)]
+fn first_use(sheet: &BalanceSheet, edit: &Edit) -> Result<(), Fault>
+    ensures { Answers (in_use edit.now sheet.now) result }
+{
+    check_uses(sheet, edit)
 }
 
 // By what the book counts, nothing uses the row.
@@ -138,6 +269,7 @@ fn check_cycle(alloc: Global, book: &Book, edit: &Edit) -> Result<Vec<u32>, Faul
     }
 }
 
+#[inline(never)]
 fn no_cycle(
     alloc: Global,
     book: &Book,

@@ -1,28 +1,58 @@
 //! What a record without a fault makes of the ledger. All memory is taken before the first change, and each sum moves by
-//! what goes out and what comes in.
-ghost use Rattle.std.specs.Prelude.{◌≡◌, ◌+◌, None, true, OnOk, OnErr};
+//! what goes out and what comes in. Each kind of record stands apart from the others, so that none pays for their frames.
+ghost use Rattle.std.specs.Prelude.{◌≡◌, ◌+◌, None, true, IsOk, OnOk, OnErr};
 ghost use Rattle.std.specs.Option.{option_map_or};
-ghost use Rattle.scr_sheet.specs.BalanceSheet.{curve_name};
+ghost use Rattle.scr_sheet.specs.BalanceSheet.{curve_name, position_name, stake_name, held_of};
 ghost use Rattle.scr_sheet.specs.CashFlows.{total};
 ghost use Rattle.scr_sheet.specs.Faults.{fault_of};
 ghost use Rattle.scr_sheet.specs.Forms.{Formed};
 ghost use Rattle.scr_sheet.specs.Records.{applied};
-ghost use Rattle.scr_names.specs.Tables.{row_of};
-ghost use Rattle.scr_book.specs.Verbs.{is_of_numbers, takes_no_memory};
+ghost use Rattle.scr_sheet.specs.Validity.{Valid};
+ghost use Rattle.scr_names.specs.Tables.{row_of, changed};
+ghost use Rattle.scr_book.specs.Verbs.{is_of_numbers, takes_no_memory, hands_in_payments};
 
 use crate::days::take_projected;
 use crate::due::refresh;
 use crate::ledger::Ledger;
 use crate::{
-    AbsorbKey, Bank, Class, Components, Curve, Edit, Flows, Fund, Group, GroupKind, Liability,
-    LiabilityFlows, LiabilityKind, Name, Position, Projection, Rates, Rein, Security, Stake, Table,
+    AbsorbKey, BalanceSheet, Bank, Class, Components, Curve, Edit, Flows, Fund, Group, GroupKind,
+    Liability, LiabilityFlows, LiabilityKind, Name, Position, Projection, Rates, Rein, Security,
+    Stake, Table,
 };
 use scr_profile::Set;
 use scr_sheet::{PROJECTIONS, natural};
 use std::alloc::{AllocError as NoMemory, Global};
 
+// The record hands in payments, of a security or of a liability.
+pub(crate) fn hands_in_payments(edit: &Edit) -> bool
+    ensures { result ≡ hands_in_payments edit.now }
+{
+    matches!(edit, Edit::Flows { .. } | Edit::LiabilityFlows { .. })
+}
+
+// Puts what is held of the security of this name, or else of the fund, and answers what was held of it.
+fn exchange_held(sheet: &mut BalanceSheet, name: &Name, held: u64) -> u64
+    requires { Valid sheet.old }
+    ensures was { result ≡ held_of sheet.old name.now }
+    ensures is { sheet.new ≡ record sheet.old {
+      securities = changed position_name (λ p. record p { held = held }) name.now sheet.old.securities;
+      funds = changed stake_name (λ s. record s { held = held }) name.now sheet.old.funds;
+    } }
+{
+    let Some(position) = sheet.securities.get(name) else {
+        let before = sheet.fund_hold(name);
+        sheet.funds.change(name, |stake| stake.held = held);
+        return before;
+    };
+    let before = position.held;
+    sheet
+        .securities
+        .change(name, |position| position.held = held);
+    before
+}
+
 impl Ledger {
-    // Applies a record that has no fault. Where memory is refused the ledger is as before.
+    // Applies a record that has no fault. Where memory is refused the ledger is as before; one that takes none is not refused.
     pub(crate) fn put(
         &mut self,
         alloc: Global,
@@ -33,6 +63,7 @@ impl Ledger {
         requires no_fault { fault_of edit.now self.old ≡ None }
         ensures ok { OnOk result (self.new ≡ applied edit.now self.old) }
         ensures err { OnErr result (self.new ≡ self.old) }
+        ensures in_place { takes_no_memory edit.now ≡ true → IsOk result }
     {
         match edit {
             Edit::Curve { currency, rates } => self.put_curve(alloc, currency, rates),
@@ -71,6 +102,7 @@ impl Ledger {
         }
     }
 
+    #[inline(never)]
     fn put_in_place(&mut self, edit: &Edit)
         requires in_place { takes_no_memory edit.now ≡ true }
         requires formed { Formed edit.now }
@@ -92,6 +124,7 @@ impl Ledger {
         }
     }
 
+    #[inline(never)]
     fn put_numbers(&mut self, edit: &Edit)
         requires numbers { is_of_numbers edit.now ≡ true }
         requires formed { Formed edit.now }
@@ -101,6 +134,7 @@ impl Ledger {
         self.sheet.numbers.put(edit);
     }
 
+    #[inline(never)]
     fn put_curve(&mut self, alloc: Global, currency: &Name, rates: &Rates) -> Result<(), NoMemory>
         requires formed { Formed (Edit.Curve currency.now rates.now) }
         requires no_fault { fault_of (Edit.Curve currency.now rates.now) self.old ≡ None }
@@ -121,6 +155,7 @@ impl Ledger {
         Ok(())
     }
 
+    #[inline(never)]
     fn put_group(
         &mut self,
         alloc: Global,
@@ -144,6 +179,7 @@ impl Ledger {
         Ok(())
     }
 
+    #[inline(never)]
     fn put_security(
         &mut self,
         alloc: Global,
@@ -185,6 +221,7 @@ impl Ledger {
         Ok(())
     }
 
+    #[inline(never)]
     fn put_promise(&mut self, alloc: Global, name: &Name, flows: &Flows) -> Result<(), NoMemory>
         requires formed { Formed (Edit.Flows name.now flows.now) }
         requires no_fault { fault_of (Edit.Flows name.now flows.now) self.old ≡ None }
@@ -192,15 +229,43 @@ impl Ledger {
         ensures err { OnErr result (self.new ≡ self.old) }
     {
         let promised = flows.copy(alloc)?;
+        self.keep_promise(name, promised);
+        Ok(())
+    }
+
+    // Applies a record of payments that has no fault, and keeps them.
+    pub(crate) fn keep_payments(&mut self, edit: Edit)
+        requires payments { hands_in_payments edit ≡ true }
+        requires formed { Formed edit }
+        requires no_fault { fault_of edit self.old ≡ None }
+        ensures { self.new ≡ applied edit self.old }
+    {
+        match edit {
+            Edit::Flows { security, flows } => self.keep_promise(&security, flows),
+            Edit::LiabilityFlows {
+                liability,
+                projection,
+                flows,
+            } => self.keep_projected(&liability, projection, flows),
+            _ => {}
+        }
+    }
+
+    // These payments take the place of those that the security promised.
+    fn keep_promise(&mut self, name: &Name, flows: Flows)
+        requires formed { Formed (Edit.Flows name.now flows) }
+        requires no_fault { fault_of (Edit.Flows name.now flows) self.old ≡ None }
+        ensures { self.new ≡ applied (Edit.Flows name.now flows) self.old }
+    {
         let old = self.last_promised(name);
         self.days.take(old);
         self.days.add(flows.last_day());
         self.sheet
             .securities
-            .change(name, |position| position.security.flows = promised);
-        Ok(())
+            .change(name, |position| position.security.flows = flows);
     }
 
+    #[inline(never)]
     fn put_fund(
         &mut self,
         alloc: Global,
@@ -238,15 +303,12 @@ impl Ledger {
         requires no_fault { fault_of (Edit.Hold name.now cents) self.old ≡ None }
         ensures { self.new ≡ applied (Edit.Hold name.now cents) self.old }
     {
-        let old = self.held(name);
         let new = natural(cents);
-        self.sheet
-            .securities
-            .change(name, |position| position.held = new);
-        self.sheet.funds.change(name, |stake| stake.held = new);
+        let old = exchange_held(&mut self.sheet, name, new);
         self.sums.held = self.sums.held - old + new;
     }
 
+    #[inline(never)]
     fn put_liability(
         &mut self,
         alloc: Global,
@@ -279,6 +341,7 @@ impl Ledger {
         Ok(())
     }
 
+    #[inline(never)]
     fn put_liability_flows(
         &mut self,
         alloc: Global,
@@ -293,16 +356,28 @@ impl Ledger {
         ensures err { OnErr result (self.new ≡ self.old) }
     {
         let projected = flows.copy(alloc)?;
+        self.keep_projected(name, projection, projected);
+        Ok(())
+    }
+
+    // These flows take the place of those that the liability had under the projection.
+    fn keep_projected(&mut self, name: &Name, projection: Projection, flows: Flows)
+        requires formed { Formed (Edit.LiabilityFlows name.now projection flows) }
+        requires no_fault { fault_of (Edit.LiabilityFlows name.now projection flows) self.old ≡ None }
+        ensures { self.new ≡ applied (Edit.LiabilityFlows name.now projection flows) self.old }
+    {
         let old = self.liability_total(name, projection);
         let new = flows.total() as u64;
         let last = self.last_projected(name, projection);
         self.days.take(last);
         self.days.add(flows.last_day());
-        self.sheet.liabilities.change(name, |liability| liability.flows.put(projection, projected));
+        self.sheet
+            .liabilities
+            .change(name, |liability| liability.flows.put(projection, flows));
         self.sums.exchange_liability_flows(projection, old, new);
-        Ok(())
     }
 
+    #[inline(never)]
     fn put_absorb(&mut self, key: AbsorbKey, cents: i64)
         requires formed { Formed (Edit.Absorb key cents) }
         requires no_fault { fault_of (Edit.Absorb key cents) self.old ≡ None }
@@ -322,6 +397,7 @@ impl Ledger {
         }
     }
 
+    #[inline(never)]
     fn put_segment(&mut self, set: Set, number: u8, region: u8, premium: i64, reserve: i64)
         requires formed { Formed (Edit.Segment set number region premium reserve) }
         requires no_fault { fault_of (Edit.Segment set number region premium reserve) self.old ≡ None }
@@ -334,6 +410,7 @@ impl Ledger {
             .exchange_volumes(set, old.0 + old.1, new.0 + new.1);
     }
 
+    #[inline(never)]
     fn put_rein(
         &mut self,
         alloc: Global,
@@ -366,6 +443,7 @@ impl Ledger {
         Ok(())
     }
 
+    #[inline(never)]
     fn put_bank(
         &mut self,
         alloc: Global,
@@ -392,6 +470,7 @@ impl Ledger {
         Ok(())
     }
 
+    #[inline(never)]
     fn remove(&mut self, table: Table, name: &Name)
         requires formed { Formed (Edit.Remove table name.now) }
         requires no_fault { fault_of (Edit.Remove table name.now) self.old ≡ None }

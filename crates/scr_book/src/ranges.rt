@@ -1,21 +1,22 @@
-//! The quantities of the whole sheet, as a record would leave it.
-ghost use Rattle.std.specs.Prelude.{◌≡◌, ◌^◌, ◌+◌, ◌-◌, ◌<◌, ◌≤◌, None, true, if◌then◌else◌, length, max};
+//! The quantities of the whole sheet, as a record would leave it. Each kind of record stands apart from the others, so that none
+//! pays for their frames.
+ghost use Rattle.std.specs.Prelude.{◌≡◌, ◌^◌, ◌+◌, ◌-◌, ◌<◌, ◌≤◌, ◌↔◌, [], IsTrue, None, pos, true, if◌then◌else◌, length, max};
 ghost use Rattle.std.specs.Option.{option_or, option_map_or};
 ghost use Rattle.scr_dates.specs.Civil.{IsDay};
 ghost use Rattle.scr_names.specs.Tables.{row_of, rows_with};
 ghost use Rattle.scr_sheet.specs.CashFlows as cash;
 ghost use Rattle.scr_sheet.specs.CashFlows.{greatest_years, flows_under};
 ghost use Rattle.scr_sheet.specs.BalanceSheet.{liability_name, bank_name, rein_name, held_of, held_total, liability_flows_total, volumes_total, defaults_total, components_total, stake_name, greatest, security_years, liability_years};
-ghost use Rattle.scr_sheet.specs.Faults.{Answers, list_fault, unknown_name, wrong_kind, in_use, out_of_range, sheet_outside, above};
+ghost use Rattle.scr_sheet.specs.Faults.{Answers, list_fault, unknown_name, wrong_kind, in_use, out_of_range, fields_outside, outside, sheet_outside, above};
 ghost use Rattle.scr_sheet.specs.Forms.{Formed, AreOnDays};
 ghost use Rattle.scr_sheet.specs.Records.{applied, natural};
 ghost use Rattle.scr_book.specs.Verbs.{is_liability_flows, is_segment};
 
 use crate::ledger::Ledger;
 use crate::{
-    Components, Edit, Fault, Flows, MAX_AMOUNT, MAX_COMPONENTS, MAX_CURRENCIES, MAX_EXPOSURES,
-    MAX_FUNDS, MAX_GROUPS, MAX_HELD, MAX_LIABILITIES, MAX_LIABILITY_FLOWS, MAX_SECURITIES,
-    MAX_YEARS, Name, Projection, Quantity, Table,
+    Components, Edit, Fault, Flows, MAX_AMOUNT, MAX_COMPONENTS, MAX_CURRENCIES, MAX_DURATION,
+    MAX_EXPOSURES, MAX_FUNDS, MAX_GROUPS, MAX_HELD, MAX_LIABILITIES, MAX_LIABILITY_FLOWS,
+    MAX_PROMISED, MAX_SECURITIES, MAX_YEARS, Name, Projection, Quantity, Table,
 };
 use scr_dates::{Day, Maturity, maturity};
 use scr_profile::Set;
@@ -38,7 +39,52 @@ pub(crate) fn check_ranges(ledger: &Ledger, edit: &Edit) -> Result<(), Fault>
     }
 }
 
+/// The quantities of the record and of the whole sheet are within their limits: of the records that come most often few numbers
+/// tell so. Of others it is not told.
+pub(crate) fn is_within(ledger: &Ledger, edit: &Edit) -> bool
+    requires formed { Formed edit.now }
+    requires known { unknown_name edit.now ledger.now ≡ None }
+    requires kind { wrong_kind edit.now ledger.now ≡ None }
+    ensures { result ≡ true → out_of_range edit.now ledger.now ≡ None }
+{
+    gives_within(edit) && sheet_outside(ledger, edit).is_none()
+}
+
+// What the record gives itself is within its limits.
+#[tactic(auto, using(crate::proofs::NoFault::outside_between, crate::proofs::NoFault::not_below_zero))]
+fn gives_within(edit: &Edit) -> bool
+    ensures { result ≡ true → fields_outside edit.now ≡ None }
+{
+    match edit {
+        Edit::Security { duration, .. } => 0 <= *duration && *duration <= MAX_DURATION,
+        Edit::Hold { cents, .. } => 0 <= *cents,
+        Edit::Flows { flows, .. } => are_promised(flows),
+        Edit::LiabilityFlows { .. } => true,
+        _ => false,
+    }
+}
+
+fn are_promised(flows: &Flows) -> bool
+    ensures { result ≡ true → fields_outside (Edit.Flows [] flows.now) ≡ None }
+{
+    for flow in flows.as_slice() {
+        if !is_promised(flow.1) {
+            return false;
+        }
+    }
+    above(Quantity::SecFlows, flows.total(), MAX_PROMISED).is_none()
+}
+
+// A payment is not below 0, nor above what all payments may come to.
+#[tactic(auto, using(crate::proofs::NoFault::outside_between))]
+fn is_promised(amount: i64) -> bool
+    ensures { result ≡ true → outside Quantity.Flow (pos 0) (pos MAX_PROMISED) amount ≡ None }
+{
+    0 <= amount && amount <= MAX_PROMISED as i64
+}
+
 // The first quantity of the whole sheet outside its limits, of the few that the record can take there.
+#[inline(always)]
 fn sheet_outside(ledger: &Ledger, edit: &Edit) -> Option<Fault>
     requires formed { Formed edit.now }
     requires known { unknown_name edit.now ledger.now ≡ None }
@@ -47,35 +93,32 @@ fn sheet_outside(ledger: &Ledger, edit: &Edit) -> Option<Fault>
 {
     let sheet = ledger.sheet();
     let asof = sheet.numbers.asof;
-    match *edit {
-        Edit::Asof { date, .. } => outside_years(years_at(ledger, date)),
+    match edit {
+        Edit::Asof { date, .. } => outside_years(years_at(ledger, *date)),
         Edit::Curve { currency, .. } => outside_rows(
             Quantity::Currencies,
             &sheet.curves,
-            &currency,
+            currency,
             MAX_CURRENCIES,
         ),
         Edit::Group { name, .. } => {
-            outside_rows(Quantity::Groups, &sheet.groups, &name, MAX_GROUPS)
+            outside_rows(Quantity::Groups, &sheet.groups, name, MAX_GROUPS)
         }
         Edit::Security { name, .. } => outside_rows(
             Quantity::Securities,
             &sheet.securities,
-            &name,
+            name,
             MAX_SECURITIES,
         ),
-        Edit::Fund {
-            name,
-            ref components,
-        } => outside_funds(ledger, &name, components),
+        Edit::Fund { name, components } => outside_funds(ledger, name, components),
         Edit::Liability { name, .. } => outside_rows(
             Quantity::Liabilities,
             &sheet.liabilities,
-            &name,
+            name,
             MAX_LIABILITIES,
         ),
-        Edit::Flows { ref flows, .. } => outside_years(years(asof, flows)),
-        Edit::Hold { name, cents } => outside_held(ledger, &name, cents),
+        Edit::Flows { flows, .. } => outside_years(years(asof, flows)),
+        Edit::Hold { name, cents } => outside_held(ledger, name, *cents),
         Edit::LiabilityFlows { .. } => outside_projection(ledger, edit),
         Edit::Segment { .. } => outside_segment(ledger, edit),
         Edit::Rein {
@@ -83,8 +126,8 @@ fn sheet_outside(ledger: &Ledger, edit: &Edit) -> Option<Fault>
             recoverables,
             mitigation,
             ..
-        } => outside_rein(ledger, &name, (natural(recoverables), natural(mitigation))),
-        Edit::Bank { name, cents, .. } => outside_bank(ledger, &name, natural(cents)),
+        } => outside_rein(ledger, name, (natural(*recoverables), natural(*mitigation))),
+        Edit::Bank { name, cents, .. } => outside_bank(ledger, name, natural(*cents)),
         Edit::Absorb { .. }
         | Edit::Cat { .. }
         | Edit::Lapse { .. }
@@ -99,6 +142,7 @@ fn sheet_outside(ledger: &Ledger, edit: &Edit) -> Option<Fault>
 }
 
 // Where both the flows of all liabilities and the years are outside, the flows are told.
+#[inline(never)]
 fn outside_projection(ledger: &Ledger, edit: &Edit) -> Option<Fault>
     requires liability_flows { is_liability_flows edit.now ≡ true }
     requires formed { Formed edit.now }
@@ -120,6 +164,7 @@ fn outside_projection(ledger: &Ledger, edit: &Edit) -> Option<Fault>
     }
 }
 
+#[inline(never)]
 fn outside_segment(ledger: &Ledger, edit: &Edit) -> Option<Fault>
     requires segment { is_segment edit.now ≡ true }
     requires formed { Formed edit.now }
@@ -142,6 +187,7 @@ fn outside_segment(ledger: &Ledger, edit: &Edit) -> Option<Fault>
 
 // ---- numbers of rows, each a row more, unless there is one of the name
 
+#[inline(never)]
 fn outside_rows<R: Row>(
     quantity: Quantity,
     rows: &Rows<R>,
@@ -150,6 +196,10 @@ fn outside_rows<R: Row>(
 ) -> Option<Fault>
     ensures { result ≡ above quantity (rows_with R.name_of name.now rows.now) limit }
 {
+    // Where there is room for a row more, the name is not looked up.
+    if rows.len() < limit as usize {
+        return None;
+    }
     outside_count(quantity, rows.len() as u128, rows.contains(name), limit)
 }
 
@@ -161,6 +211,7 @@ fn outside_count(quantity: Quantity, rows: u128, is_there: bool, limit: u32) -> 
     above(quantity, rows + new, u64::from(limit))
 }
 
+#[inline(never)]
 fn outside_funds(ledger: &Ledger, name: &Name, components: &Components) -> Option<Fault>
     ensures { result ≡ option_or
         (above Quantity.Funds (rows_with stake_name name.now ledger.now.funds) MAX_FUNDS)
@@ -180,14 +231,28 @@ fn outside_funds(ledger: &Ledger, name: &Name, components: &Components) -> Optio
 
 // ---- sums, each with what the record gives in place of what stood for it
 
+// The sum with what the record gives is within the limit, even if nothing goes out.
+fn fits_beside(total: u64, new: u128, limit: u64) -> bool
+    requires { new < 2 ^ 127 }
+    ensures { IsTrue result ↔ (total + new ≤ limit) }
+{
+    u128::from(total) + new <= u128::from(limit)
+}
+
+#[inline(never)]
 fn outside_held(ledger: &Ledger, name: &Name, cents: i64) -> Option<Fault>
     ensures { result ≡ above Quantity.Held
         (held_total ledger.now - held_of ledger.now name.now + natural cents) MAX_HELD }
 {
+    let new = natural(cents);
+    // Where there is room for it beside what was held of the name, that is not looked up.
+    if fits_beside(ledger.held_total(), u128::from(new), MAX_HELD) {
+        return None;
+    }
     let others = ledger.held_total() - ledger.held(name);
     above(
         Quantity::Held,
-        u128::from(others) + u128::from(natural(cents)),
+        u128::from(others) + u128::from(new),
         MAX_HELD,
     )
 }
@@ -203,8 +268,11 @@ fn outside_liability_flows(
         - option_map_or (λ l. cash.total (flows_under projection l.flows)) (row_of liability_name liability.now ledger.now.liabilities) 0
         + cash.total flows.now) MAX_LIABILITY_FLOWS }
 {
-    let others = ledger.liability_flows_total(projection)
-        - ledger.liability_total(liability, projection);
+    let all = ledger.liability_flows_total(projection);
+    if fits_beside(all, flows.total(), MAX_LIABILITY_FLOWS) {
+        return None;
+    }
+    let others = all - ledger.liability_total(liability, projection);
     above(
         Quantity::LiabilityFlows,
         u128::from(others) + flows.total(),
@@ -223,6 +291,7 @@ fn outside_volumes(ledger: &Ledger, set: Set, old: (u64, u64), new: (u64, u64)) 
 
 // ---- exposures: their sum, and a row more, unless there is one of the name
 
+#[inline(never)]
 fn outside_rein(ledger: &Ledger, name: &Name, new: (u64, u64)) -> Option<Fault>
     ensures { result ≡ option_or
         (above Quantity.Defaults
@@ -236,6 +305,7 @@ fn outside_rein(ledger: &Ledger, name: &Name, new: (u64, u64)) -> Option<Fault>
     outside_exposures(ledger, ledger.rein_total(name), sum(new), is_there)
 }
 
+#[inline(never)]
 fn outside_bank(ledger: &Ledger, name: &Name, cents: u64) -> Option<Fault>
     ensures { result ≡ option_or
         (above Quantity.Defaults

@@ -1,6 +1,6 @@
 //! How often each name is used: a group by securities, banks and reinsurers, a security or a fund by funds, and a currency by
 //! securities and liabilities. Nothing is counted before the first record that drops a row.
-ghost use Rattle.std.specs.Prelude.{◌≡◌, List, [], Some, None};
+ghost use Rattle.std.specs.Prelude.{◌≡◌, List, [], Some, None, true};
 ghost use Rattle.scr_tally.specs.Users.{nothing, Moves};
 ghost use Rattle.scr_sheet.specs.Records.{applied};
 ghost use Rattle.scr_sheet.specs.declared.sheet.BalanceSheet.{BalanceSheet as Sheet};
@@ -150,8 +150,18 @@ impl Users {
         ensures { AreUsersOf (applied edit.now sheet.now) self.new }
     {
         self.renew(alloc, sheet, edit);
+        if self.is_lost() {
+            return;
+        }
         self.take(used_before(sheet, edit));
         self.add(alloc, used_after(edit));
+    }
+
+    // Nothing is counted.
+    fn is_lost(&self) -> bool
+        ensures { result ≡ true → (sheet : Sheet) → AreUsersOf sheet self.now }
+    {
+        self.names.is_lost() && self.currencies.is_lost()
     }
 
     /// Back from `exchange`, without memory: the sheet is as it was before the record.

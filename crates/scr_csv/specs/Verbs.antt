@@ -27,8 +27,10 @@ verb_word verbs.Fdb = codes "fdb"
 verb_word verbs.Intangible = codes "intangible"
 verb_word verbs.Remove = codes "drop"
 
+-- every verb, of which those that come most often stand first
 abbrev pub all_verbs : List Verb
 all_verbs =
-    verbs.Asof ∷ verbs.Curve ∷ verbs.Group ∷ verbs.Security ∷ verbs.Flows ∷ verbs.Fund ∷ verbs.Hold ∷
-    verbs.Liability ∷ verbs.LiabilityFlows ∷ verbs.Absorb ∷ verbs.Segment ∷ verbs.Cat ∷ verbs.Lapse ∷ verbs.Rein ∷
-    verbs.Bank ∷ verbs.Due ∷ verbs.Op ∷ verbs.Sym ∷ verbs.Tax ∷ verbs.Fdb ∷ verbs.Intangible ∷ verbs.Remove ∷ []
+    verbs.Hold ∷ verbs.Security ∷ verbs.Flows ∷ verbs.LiabilityFlows ∷ verbs.Fund ∷ verbs.Group ∷ verbs.Rein ∷
+    verbs.Bank ∷ verbs.Liability ∷ verbs.Curve ∷ verbs.Segment ∷ verbs.Cat ∷ verbs.Absorb ∷ verbs.Remove ∷
+    verbs.Lapse ∷ verbs.Due ∷ verbs.Op ∷ verbs.Sym ∷ verbs.Tax ∷ verbs.Fdb ∷ verbs.Intangible ∷
+    verbs.Asof ∷ []

@@ -16,14 +16,16 @@ ghost use Rattle.scr_csv.specs.Reading.{field, next, only, found_to, read_to, ma
 ghost use Rattle.scr_csv.specs.Reading.{pairs_from, Answers};
 ghost use Rattle.scr_csv.specs.LineFields.{line_fields, is_printed, is_quote};
 ghost use Rattle.scr_csv.specs.Parts.{parts};
-ghost use Rattle.scr_spelling.specs.Words.{value_of};
+ghost use Rattle.scr_csv.specs.Verbs.{verb_word, all_verbs};
+ghost use Rattle.scr_spelling.specs.Words.{value_of, class_word, all_classes};
 
 use crate::LineFault;
 use crate::source::Source;
+use crate::verb::{Verb, verb_of};
 use scr_dates::{Day, parse_day};
 use scr_profile::{MAX_FLOWS, MAX_FUND_COMPONENTS, MAX_RATES, Set};
-use scr_sheet::{AbsorbKey, Components, Edit, Flows, Name, Rates};
-use scr_spelling::{Word, forms, read_number, value};
+use scr_sheet::{AbsorbKey, Class, Components, Edit, Flows, Name, Rates};
+use scr_spelling::{Word, class, forms, read_number, value};
 use std::alloc::{AllocError as NoMemory, Global};
 use std::marker::Model;
 
@@ -72,6 +74,7 @@ impl<'a> Fields<'a> {
         }
     }
 
+    #[inline(always)]
     fn field(&mut self) -> Result<(u32, &'a [u8]), LineFault>
         ensures { found_to result self.new ≡ field self.old }
     {
@@ -90,6 +93,23 @@ impl<'a> Fields<'a> {
         value(field).ok_or(LineFault::Syntax(number))
     }
 
+    /// The verb of the record.
+    pub fn verb(&mut self) -> Result<Verb, LineFault>
+        ensures { read_to result self.new ≡ next (value_of verb_word all_verbs) self.old }
+    {
+        let (number, field) = self.field()?;
+        verb_of(field).ok_or(LineFault::Syntax(number))
+    }
+
+    /// The class of a security.
+    pub fn class(&mut self) -> Result<Class, LineFault>
+        ensures { read_to result self.new ≡ next (value_of class_word all_classes) self.old }
+    {
+        let (number, field) = self.field()?;
+        class(field).ok_or(LineFault::Syntax(number))
+    }
+
+    #[inline(always)]
     pub fn date(&mut self) -> Result<Day, LineFault>
         ensures value { read_to result self.new ≡ next day_of_text self.old }
         ensures formed { IfOk result (λ day. IsDay day.number) }
@@ -108,7 +128,10 @@ impl<'a> Fields<'a> {
         ensures formed { IfOk result formed.IsCurrency }
     {
         let (number, field) = self.field()?;
-        forms::currency(field).ok_or(LineFault::Syntax(number))
+        match forms::currency(field) {
+            Some(currency) => Ok(currency),
+            None => Err(LineFault::Syntax(number)),
+        }
     }
 
     pub fn name(&mut self) -> Result<Name, LineFault>
@@ -116,7 +139,10 @@ impl<'a> Fields<'a> {
         ensures formed { IfOk result formed.IsName }
     {
         let (number, field) = self.field()?;
-        forms::name(field).ok_or(LineFault::Syntax(number))
+        match forms::name(field) {
+            Some(name) => Ok(name),
+            None => Err(LineFault::Syntax(number)),
+        }
     }
 
     pub fn group(&mut self) -> Result<Option<Name>, LineFault>
@@ -124,9 +150,13 @@ impl<'a> Fields<'a> {
         ensures formed { IfOk result formed.IsNameOrNone }
     {
         let (number, field) = self.field()?;
-        forms::group(field).ok_or(LineFault::Syntax(number))
+        match forms::group(field) {
+            Some(group) => Ok(group),
+            None => Err(LineFault::Syntax(number)),
+        }
     }
 
+    #[inline(always)]
     pub fn number(&mut self) -> Result<i64, LineFault>
         ensures value { read_to result self.new ≡ next number_value self.old }
         ensures formed { IfOk result formed.IsNumber }
@@ -182,6 +212,7 @@ impl<'a> Fields<'a> {
     }
 
     /// The record, where no field is left.
+    #[inline(always)]
     pub fn only(&self, edit: Edit) -> Result<Edit, LineFault>
         requires { formed.Formed edit }
         ensures value { result ≡ only edit self.now }
@@ -215,7 +246,9 @@ impl<'a> Fields<'a> {
             (pairs_from day_of_text self.old.number self.old.fields)) result }
         ensures formed { IfOk result formed.AreFlows }
     {
-        let mut flows = Vec::new(alloc);
+        let Ok(mut flows) = self.source.room(alloc) else {
+            return Err(LineFault::NoMemory);
+        };
         'flows: while !self.is_at_end() {
             let date = self.date()?;
             let amount = self.number()?;

@@ -14,6 +14,7 @@ use scr_sheet::Edit;
 use std::alloc::Global;
 
 /// The reference date and the reporting currency.
+#[inline(never)]
 fn asof_record(fields: &mut Fields<'_>) -> Result<Edit, LineFault>
     ensures value { result ≡ spec.asof_record fields.old }
     ensures formed { IfOk result Formed }
@@ -24,6 +25,7 @@ fn asof_record(fields: &mut Fields<'_>) -> Result<Edit, LineFault>
 }
 
 /// A currency with its rates in millionths.
+#[inline(never)]
 fn curve_record(alloc: Global, fields: &mut Fields<'_>) -> Result<Edit, LineFault>
     ensures answer { Answers (cut.kept_curve_record fields.old) result }
     ensures formed { IfOk result Formed }
@@ -34,6 +36,7 @@ fn curve_record(alloc: Global, fields: &mut Fields<'_>) -> Result<Edit, LineFaul
 }
 
 /// A group of counterparties.
+#[inline(never)]
 fn group_record(fields: &mut Fields<'_>) -> Result<Edit, LineFault>
     ensures value { result ≡ spec.group_record fields.old }
     ensures formed { IfOk result Formed }
@@ -45,12 +48,13 @@ fn group_record(fields: &mut Fields<'_>) -> Result<Edit, LineFault>
 }
 
 /// A security.
+#[inline(never)]
 fn security_record(fields: &mut Fields<'_>) -> Result<Edit, LineFault>
     ensures value { result ≡ spec.security_record fields.old }
     ensures formed { IfOk result Formed }
 {
     let name = fields.name()?;
-    let class = fields.word()?;
+    let class = fields.class()?;
     let group = fields.group()?;
     let currency = fields.currency()?;
     let duration = fields.number()?;
@@ -64,6 +68,7 @@ fn security_record(fields: &mut Fields<'_>) -> Result<Edit, LineFault>
 }
 
 /// What a security promises.
+#[inline(never)]
 fn flows_record(alloc: Global, fields: &mut Fields<'_>) -> Result<Edit, LineFault>
     ensures answer { Answers (cut.kept_flows_record fields.old) result }
     ensures formed { IfOk result Formed }
@@ -74,6 +79,7 @@ fn flows_record(alloc: Global, fields: &mut Fields<'_>) -> Result<Edit, LineFaul
 }
 
 /// A fund with its components and their weights.
+#[inline(never)]
 fn fund_record(alloc: Global, fields: &mut Fields<'_>) -> Result<Edit, LineFault>
     ensures answer { Answers (cut.kept_fund_record fields.old) result }
     ensures formed { IfOk result Formed }
@@ -84,6 +90,7 @@ fn fund_record(alloc: Global, fields: &mut Fields<'_>) -> Result<Edit, LineFault
 }
 
 /// The cents held directly of a security or a fund.
+#[inline(never)]
 fn hold_record(fields: &mut Fields<'_>) -> Result<Edit, LineFault>
     ensures value { result ≡ spec.hold_record fields.old }
     ensures formed { IfOk result Formed }
@@ -94,6 +101,7 @@ fn hold_record(fields: &mut Fields<'_>) -> Result<Edit, LineFault>
 }
 
 /// A liability: a line of insurance obligations.
+#[inline(never)]
 fn liability_record(fields: &mut Fields<'_>) -> Result<Edit, LineFault>
     ensures value { result ≡ spec.liability_record fields.old }
     ensures formed { IfOk result Formed }
@@ -109,6 +117,7 @@ fn liability_record(fields: &mut Fields<'_>) -> Result<Edit, LineFault>
 }
 
 /// The flows of a liability under a projection.
+#[inline(never)]
 fn liability_flows_record(alloc: Global, fields: &mut Fields<'_>) -> Result<Edit, LineFault>
     ensures answer { Answers (cut.kept_liability_flows_record fields.old) result }
     ensures formed { IfOk result Formed }
@@ -124,6 +133,7 @@ fn liability_flows_record(alloc: Global, fields: &mut Fields<'_>) -> Result<Edit
 }
 
 /// The absorption of a scenario.
+#[inline(never)]
 fn absorb_record(fields: &mut Fields<'_>) -> Result<Edit, LineFault>
     ensures value { result ≡ spec.absorb_record fields.old }
     ensures formed { IfOk result Formed }
@@ -134,6 +144,7 @@ fn absorb_record(fields: &mut Fields<'_>) -> Result<Edit, LineFault>
 }
 
 /// The volumes of a segment in a region.
+#[inline(never)]
 fn segment_record(fields: &mut Fields<'_>) -> Result<Edit, LineFault>
     ensures value { result ≡ spec.segment_record fields.old }
     ensures formed { IfOk result Formed }
@@ -153,6 +164,7 @@ fn segment_record(fields: &mut Fields<'_>) -> Result<Edit, LineFault>
 }
 
 /// A catastrophe charge.
+#[inline(never)]
 fn cat_record(fields: &mut Fields<'_>) -> Result<Edit, LineFault>
     ensures value { result ≡ spec.cat_record fields.old }
     ensures formed { IfOk result Formed }
@@ -163,6 +175,7 @@ fn cat_record(fields: &mut Fields<'_>) -> Result<Edit, LineFault>
 }
 
 /// The lapse charge of a set.
+#[inline(never)]
 fn lapse_record(fields: &mut Fields<'_>) -> Result<Edit, LineFault>
     ensures value { result ≡ spec.lapse_record fields.old }
     ensures formed { IfOk result Formed }
@@ -173,6 +186,7 @@ fn lapse_record(fields: &mut Fields<'_>) -> Result<Edit, LineFault>
 }
 
 /// A reinsurance arrangement.
+#[inline(never)]
 fn rein_record(fields: &mut Fields<'_>) -> Result<Edit, LineFault>
     ensures value { result ≡ spec.rein_record fields.old }
     ensures formed { IfOk result Formed }
@@ -192,6 +206,7 @@ fn rein_record(fields: &mut Fields<'_>) -> Result<Edit, LineFault>
 }
 
 /// A bank.
+#[inline(never)]
 fn bank_record(fields: &mut Fields<'_>) -> Result<Edit, LineFault>
     ensures value { result ≡ spec.bank_record fields.old }
     ensures formed { IfOk result Formed }
@@ -203,6 +218,7 @@ fn bank_record(fields: &mut Fields<'_>) -> Result<Edit, LineFault>
 }
 
 /// Type 2 exposures.
+#[inline(never)]
 fn due_record(fields: &mut Fields<'_>) -> Result<Edit, LineFault>
     ensures value { result ≡ spec.due_record fields.old }
     ensures formed { IfOk result Formed }
@@ -213,6 +229,7 @@ fn due_record(fields: &mut Fields<'_>) -> Result<Edit, LineFault>
 }
 
 /// The inputs of the operational risk.
+#[inline(never)]
 fn op_record(fields: &mut Fields<'_>) -> Result<Edit, LineFault>
     ensures value { result ≡ spec.op_record fields.old }
     ensures formed { IfOk result Formed }
@@ -242,6 +259,7 @@ fn op_record(fields: &mut Fields<'_>) -> Result<Edit, LineFault>
 }
 
 /// The symmetric adjustment.
+#[inline(never)]
 fn sym_record(fields: &mut Fields<'_>) -> Result<Edit, LineFault>
     ensures value { result ≡ spec.sym_record fields.old }
     ensures formed { IfOk result Formed }
@@ -251,6 +269,7 @@ fn sym_record(fields: &mut Fields<'_>) -> Result<Edit, LineFault>
 }
 
 /// The rate and the cap of the adjustment for deferred taxes.
+#[inline(never)]
 fn tax_record(fields: &mut Fields<'_>) -> Result<Edit, LineFault>
     ensures value { result ≡ spec.tax_record fields.old }
     ensures formed { IfOk result Formed }
@@ -261,6 +280,7 @@ fn tax_record(fields: &mut Fields<'_>) -> Result<Edit, LineFault>
 }
 
 /// Future discretionary benefits.
+#[inline(never)]
 fn fdb_record(fields: &mut Fields<'_>) -> Result<Edit, LineFault>
     ensures value { result ≡ spec.fdb_record fields.old }
     ensures formed { IfOk result Formed }
@@ -270,6 +290,7 @@ fn fdb_record(fields: &mut Fields<'_>) -> Result<Edit, LineFault>
 }
 
 /// The value of intangible assets.
+#[inline(never)]
 fn intangible_record(fields: &mut Fields<'_>) -> Result<Edit, LineFault>
     ensures value { result ≡ spec.intangible_record fields.old }
     ensures formed { IfOk result Formed }
@@ -279,6 +300,7 @@ fn intangible_record(fields: &mut Fields<'_>) -> Result<Edit, LineFault>
 }
 
 /// A row taken out of its table.
+#[inline(never)]
 fn remove_record(fields: &mut Fields<'_>) -> Result<Edit, LineFault>
     ensures value { result ≡ spec.remove_record fields.old }
     ensures formed { IfOk result Formed }
@@ -293,7 +315,7 @@ pub fn read_record(alloc: Global, fields: &mut Fields<'_>) -> Result<Edit, LineF
     ensures answer { Answers (cut.any_kept_record fields.old) result }
     ensures formed { IfOk result Formed }
 {
-    match fields.word()? {
+    match fields.verb()? {
         Verb::Asof => asof_record(fields),
         Verb::Curve => curve_record(alloc, fields),
         Verb::Group => group_record(fields),

@@ -1,19 +1,26 @@
 //! Where the fields of a line come from.
 ghost use Rattle.std.specs.Prelude.{◌≡◌, ◌↔◌, [], ◌∷◌, ◌+◌, ◌<◌, ◌≤◌, ◌==◌, length, position, true, false};
-ghost use Rattle.std.specs.Prelude.{IfNone, IfSome, IsTrue, Some, take};
+ghost use Rattle.std.specs.Prelude.{IfNone, IfOk, IfSome, IsTrue, Some, take};
 ghost use Rattle.std.specs.List.{list_all, list_any};
+ghost use Rattle.std.specs.Vec.{vec_capacity};
 ghost use Rattle.scr_dates.specs.Civil.{IsDay};
 ghost use Rattle.scr_dates.specs.Text.{day_of_text};
+ghost use Rattle.scr_profile.specs.declared.limits.TheConstants as limits;
 ghost use Rattle.scr_sheet.specs.Forms as formed;
 ghost use Rattle.scr_spelling.specs.Numbers.{number_value};
 ghost use Rattle.scr_csv.specs.LineFields.{line_fields, is_printed, is_quote};
 ghost use Rattle.scr_csv.specs.Parts.{parts, behind};
 
 use scr_dates::{Day, parse_day};
+use scr_profile::MAX_FLOWS;
 use scr_spelling::leading_number;
+use std::alloc::{AllocError as NoMemory, Global};
 
 /// How many bytes the text of a day has.
 const DAY_LEN: usize = 10;
+
+/// How many bytes most payments have at least: a day, two commas and an amount of five digits.
+const PAYMENT_LEN: usize = 17;
 
 /// The fields that are left of a text in which a certain byte stands between two fields, and nowhere
 /// else; where none is left, there is no text.
@@ -104,6 +111,18 @@ impl<'a> Source<'a> {
                 rest,
             },
         ))
+    }
+
+    /// An empty list with room for the payments that are left, of so many bytes each, and for no more than are kept.
+    pub fn room(self, alloc: Global) -> Result<Vec<(Day, i64)>, NoMemory>
+        ensures none { IfOk result (λ list. list.items ≡ []) }
+        ensures kept { IfOk result (λ list. vec_capacity list ≤ limits.MAX_FLOWS + 1) }
+    {
+        let payments = match self.rest {
+            Some(text) => text.len() / PAYMENT_LEN + 1,
+            None => 0,
+        };
+        Vec::with_capacity(alloc, payments.min(MAX_FLOWS as usize + 1))
     }
 
     /// The first field, and those after it.

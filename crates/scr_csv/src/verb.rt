@@ -1,7 +1,9 @@
 //! The verbs of records.
+ghost use Rattle.std.specs.Prelude.{◌≡◌};
+ghost use Rattle.scr_spelling.specs.Words.{value_of};
 ghost use Rattle.scr_csv.specs.Verbs.{verb_word, all_verbs};
 
-use scr_spelling::Word;
+use scr_spelling::{Word, value};
 
 /// The verbs of records.
 #[derive(Clone, Copy)]
@@ -31,29 +33,43 @@ pub enum Verb {
 }
 
 const VERBS: [Verb; 22] = [
-    Verb::Asof,
-    Verb::Curve,
-    Verb::Group,
+    Verb::Hold,
     Verb::Security,
     Verb::Flows,
-    Verb::Fund,
-    Verb::Hold,
-    Verb::Liability,
     Verb::LiabilityFlows,
-    Verb::Absorb,
-    Verb::Segment,
-    Verb::Cat,
-    Verb::Lapse,
+    Verb::Fund,
+    Verb::Group,
     Verb::Rein,
     Verb::Bank,
+    Verb::Liability,
+    Verb::Curve,
+    Verb::Segment,
+    Verb::Cat,
+    Verb::Absorb,
+    Verb::Remove,
+    Verb::Lapse,
     Verb::Due,
     Verb::Op,
     Verb::Sym,
     Verb::Tax,
     Verb::Fdb,
     Verb::Intangible,
-    Verb::Remove,
+    Verb::Asof,
 ];
+
+/// The verb that the field is.
+#[tactic(auto, unfolding(scr_spelling::specs::Words::value_of))]
+pub fn verb_of(text: &[u8]) -> Option<Verb>
+    ensures { result ≡ value_of verb_word all_verbs text.now }
+{
+    match text {
+        [b'h', b'o', b'l', b'd'] => Some(Verb::Hold),
+        [b's', b'e', b'c'] => Some(Verb::Security),
+        [b'f', b'l', b'o', b'w', b's'] => Some(Verb::Flows),
+        [b'l', b'f', b'l', b'o', b'w'] => Some(Verb::LiabilityFlows),
+        _ => value(text),
+    }
+}
 
 impl Word for Verb {
     ghost word_of = { verb_word };

@@ -72,6 +72,10 @@ impl<R: Row> Rows<R> {
     pub fn contains(&self, name: &Name) -> bool
         ensures { result ≡ has_row R.name_of name.now self.now }
     {
+        // A table in which there is nothing is not worth a name's hash.
+        if self.map.is_empty() {
+            return false;
+        }
         self.map.contains_key(name)
     }
 
@@ -79,6 +83,9 @@ impl<R: Row> Rows<R> {
     pub fn get(&self, name: &Name) -> Option<&R>
         ensures { option_copied result ≡ row_of R.name_of name.now self.now }
     {
+        if self.map.is_empty() {
+            return None;
+        }
         self.map.get(name)
     }
 
@@ -148,6 +155,9 @@ impl<R: Row> Rows<R> {
             (λ old. (new : R) × FnOnceReturnsAtMut F.FnOnce change old tt new
             × (self.new ≡ with_row R.name_of new self.old)) }
     {
+        if self.map.is_empty() {
+            return;
+        }
         let Some(row) = self.map.get_mut(name) else {
             return;
         };

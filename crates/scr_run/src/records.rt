@@ -72,7 +72,7 @@ pub fn record(alloc: Global, book: &mut Book, text: &[u8]) -> Result<(), Fault>
     ensures { Recorded (recorded text.now book.old) book.old result book.new }
 {
     match read_line(alloc, text) {
-        Ok(edit) => book.apply(alloc, &edit),
+        Ok(edit) => book.take(alloc, edit),
         Err(LineFault::Syntax(field)) => Err(Fault::Syntax(field)),
         Err(LineFault::NoMemory) => Err(Fault::NoMemory),
     }

@@ -11,4 +11,4 @@ mod words;
 pub use dates::push_day;
 pub use keys::push_absorb_key;
 pub use numbers::{leading_number, push_number, read_number};
-pub use words::{Word, value};
+pub use words::{Word, class, value};

@@ -100,6 +100,22 @@ const CLASSES: [Class; 10] = [
     Class::Other,
 ];
 
+/// The class of a security that the field is.
+pub fn class(text: &[u8]) -> Option<Class>
+    ensures { result ≡ spec.value_of spec.class_word spec.all_classes text.now }
+{
+    match text {
+        [b'e', b'q', b'1'] => Some(Class::Type1Equity),
+        [b'e', b'q', b'2'] => Some(Class::Type2Equity),
+        [b'b', b'o', b'n', b'd'] => Some(Class::Bond),
+        [b'g', b'o', b'v'] => Some(Class::Government),
+        [b'p', b'r', b'o', b'p', b'e', b'r', b't', b'y'] => Some(Class::Property),
+        [b'o', b't', b'h', b'e', b'r'] => Some(Class::Other),
+        [b'i', b'n', b'f', b'r', b'a'] => Some(Class::Infrastructure),
+        _ => value(text),
+    }
+}
+
 impl Word for Class {
     ghost word_of = { spec.class_word };
 

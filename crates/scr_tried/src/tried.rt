@@ -70,7 +70,7 @@ fn fill(alloc: Global, book: &mut Book, bytes: &[u8]) -> Result<(), Ended>
             Err(LineFault::NoMemory) => return Err(Ended::NoMemory),
             Err(_) => return Err(Ended::NoFiles),
         };
-        match book.apply(alloc, &edit) {
+        match book.take(alloc, edit) {
             Ok(()) => {}
             Err(Fault::NoMemory) => return Err(Ended::NoMemory),
             Err(_) => return Err(Ended::NoFiles),

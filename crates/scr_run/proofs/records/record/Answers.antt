@@ -6,7 +6,7 @@ use Rattle.scr_run.proofs.records.record.Goals as goal
 
 pub returns-in-Ok : goal.returns-in-Ok
 returns-in-Ok c =
-    of_record _ _ _ _ _ c.in-Ok.ensures.answer c.apply.ensures.answer c.apply.ensures.ok c.apply.ensures.err
+    of_record _ _ _ _ _ c.in-Ok.ensures.answer c.take.ensures.answer c.take.ensures.ok c.take.ensures.err
 
 pub returns-in-Err-Syntax : goal.returns-in-Err-Syntax
 returns-in-Err-Syntax c =

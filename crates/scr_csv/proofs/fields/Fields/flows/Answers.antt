@@ -61,3 +61,6 @@ returns-clause-answer c =
     let is : c.flows.flows.items ≡ c.new.result = search rules in
     kept_end (MAX_FLOWS + 1) c.flows.flows.items _ _ _ (ap (pairs_from day_of_text c.flows.self.number) ended)
     c.flows.invariant.short c.flows.invariant.read is
+
+pub flows-init : goal.flows-init
+flows-init c = rw c.in-Ok.ensures.none (search rules)
