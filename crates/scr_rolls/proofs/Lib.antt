@@ -5,6 +5,11 @@ mod SeatLists
 mod SeatedTables
 mod SeatMoves
 mod SeatRolls
+mod SeatTables
+mod SeatReturns
+mod SeatGrowth
+mod SeatLoops
+mod SeatComings
 pub mod PartLemmas
 pub mod BlockTests
 pub mod Regrouped

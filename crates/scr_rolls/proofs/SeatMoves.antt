@@ -17,7 +17,7 @@ use Rattle.scr_rolls.proofs.SeatLists.{name-there, own-before, write-own, write-
 use Rattle.scr_rolls.proofs.SeatedTables.{numbered, rolls_at, places_at, seated-of, told-of}
 
 -- free seats are nowhere
-nowhere : (s : ℕ) → roll_in s free ≡ NOWHERE
+pub nowhere : (s : ℕ) → roll_in s free ≡ NOWHERE
 nowhere s = by (cases_lt s 11)
   where
     by : ((s < 11) ⊎ (11 ≤ s)) → get_or (replicate 11 NOWHERE) s NOWHERE ≡ NOWHERE
@@ -25,7 +25,7 @@ nowhere s = by (cases_lt s 11)
     by (inr past) = get_or_past (replicate 11 NOWHERE) s NOWHERE past
 
 -- a row is under a name exactly where the name is listed
-has_row-listed : {Row : Type 0} (name_of : Row → List ℕ) (x : List ℕ) (rows : List Row) → has_row name_of x rows ≡ list_any (same_name x) (map name_of rows)
+pub has_row-listed : {Row : Type 0} (name_of : Row → List ℕ) (x : List ℕ) (rows : List Row) → has_row name_of x rows ≡ list_any (same_name x) (map name_of rows)
 has_row-listed name_of x [] = refl
 has_row-listed name_of x (row ∷ rows) = by (same_name x (name_of row)) refl (has_row-listed name_of x rows)
   where

@@ -11,15 +11,15 @@ use Rattle.scr_rolls.specs.Seatings.{NOWHERE}
 
 -- ---- lists that change
 
-left-length : (p : ℕ) (roll : List (List ℕ)) → length (left p roll) ≡ length roll - 1
+pub left-length : (p : ℕ) (roll : List (List ℕ)) → length (left p roll) ≡ length roll - 1
 left-length p roll = length-take (length roll - 1) (set roll p (get_or roll (length roll - 1) [])) ∙ (omega (arith, length-set roll p (get_or roll (length roll - 1) [])))
 
-left-at : (p : ℕ) (roll : List (List ℕ)) → p < length roll - 1 → name_at p (left p roll) ≡ name_at (length roll - 1) roll
+pub left-at : (p : ℕ) (roll : List (List ℕ)) → p < length roll - 1 → name_at p (left p roll) ≡ name_at (length roll - 1) roll
 left-at p roll h =
     get_or-take (length roll - 1) (set roll p (get_or roll (length roll - 1) [])) p [] h
     ∙ get_or-set_same roll p (get_or roll (length roll - 1) []) [] (omega (arith, h))
 
-left-other : (p q : ℕ) (roll : List (List ℕ)) → q < length roll - 1 → q ≢ p → name_at q (left p roll) ≡ name_at q roll
+pub left-other : (p q : ℕ) (roll : List (List ℕ)) → q < length roll - 1 → q ≢ p → name_at q (left p roll) ≡ name_at q roll
 left-other p q roll h apart =
     get_or-take (length roll - 1) (set roll p (get_or roll (length roll - 1) [])) q [] h
     ∙ get_or-set_other roll p q (get_or roll (length roll - 1) []) [] apart
@@ -33,14 +33,14 @@ come-last x roll = get_or_at roll x [] [] (length roll) refl
 abbrev back_by : Bool → ℕ → List ℕ → List (List ℕ) → List (List ℕ)
 back_by t p x roll = if t then come x roll else come (name_at p roll) (set roll p x)
 
-back-length : (p : ℕ) (x : List ℕ) (roll : List (List ℕ)) → length (back_at p x roll) ≡ length roll + 1
+pub back-length : (p : ℕ) (x : List ℕ) (roll : List (List ℕ)) → length (back_at p x roll) ≡ length roll + 1
 back-length p x roll = by (eqb p (length roll))
   where
     by : (t : Bool) → length (back_by t p x roll) ≡ length roll + 1
     by true = length_push roll x
     by false = length_push (set roll p x) (name_at p roll) ∙ ap (λ n. n + 1) (length-set roll p x)
 
-back-own : (p : ℕ) (x : List ℕ) (roll : List (List ℕ)) → p ≤ length roll → name_at p (back_at p x roll) ≡ x
+pub back-own : (p : ℕ) (x : List ℕ) (roll : List (List ℕ)) → p ≤ length roll → name_at p (back_at p x roll) ≡ x
 back-own p x roll h = by (eqb p (length roll)) refl
   where
     by : (t : Bool) → eqb p (length roll) ≡ t → name_at p (back_by t p x roll) ≡ x
@@ -49,14 +49,14 @@ back-own p x roll h = by (eqb p (length roll)) refl
         let before : p < length roll = grind (arith, nat_tests, e, h) in
         come-before (name_at p roll) (set roll p x) p (subst (λ n. p < n) (sym (length-set roll p x)) before) ∙ get_or-set_same roll p x [] before
 
-back-drawn : (p : ℕ) (x : List ℕ) (roll : List (List ℕ)) → p < length roll → name_at (length roll) (back_at p x roll) ≡ name_at p roll
+pub back-drawn : (p : ℕ) (x : List ℕ) (roll : List (List ℕ)) → p < length roll → name_at (length roll) (back_at p x roll) ≡ name_at p roll
 back-drawn p x roll h = by (eqb p (length roll)) refl
   where
     by : (t : Bool) → eqb p (length roll) ≡ t → name_at (length roll) (back_by t p x roll) ≡ name_at p roll
     by true e = let same = (Decides-eqb p (length roll)).0 e in absurd (omega (arith, same, h))
     by false e = ap (λ n. name_at n (come (name_at p roll) (set roll p x))) (sym (length-set roll p x)) ∙ come-last (name_at p roll) (set roll p x)
 
-back-other : (p q : ℕ) (x : List ℕ) (roll : List (List ℕ)) → q < length roll → q ≢ p → name_at q (back_at p x roll) ≡ name_at q roll
+pub back-other : (p q : ℕ) (x : List ℕ) (roll : List (List ℕ)) → q < length roll → q ≢ p → name_at q (back_at p x roll) ≡ name_at q roll
 back-other p q x roll h apart = by (eqb p (length roll))
   where
     by : (t : Bool) → name_at q (back_by t p x roll) ≡ name_at q roll

@@ -1,5 +1,5 @@
 -- The rolls of a table and its rows' seats, as the functions of which the laws on seats speak.
-use Rattle.std.proofs.Common.{◌≡◌, ◌≢◌, ℕ, ◌<◌, ◌≤◌, List, [], length, Option, ap, ◌∙◌, arith}
+use Rattle.std.proofs.Common.{◌≡◌, ◌≢◌, ℕ, ◌<◌, ◌≤◌, List, [], length, Option, sym, ap, subst, ◌∙◌, arith}
 use Rattle.std.specs.Option.{option_map_or}
 use Rattle.std.proofs.lemmas.Option.{slice_get_past}
 use Rattle.scr_rolls.specs.Members.{name_at}
@@ -36,6 +36,7 @@ module _ (names : List (List ℕ)) where
   seated-of old new seated beside keeps told = record {
     beside = beside ∙ seated.beside;
     few = let count = keeps.count in let least = seated.few in omega (arith, count, least);
+    seats = λ n. subst (λ s. s < 11) (sym (keeps.own n)) (seated.seats n);
     rolled = λ n p h. ap (λ s. rolls_at new (name_at p (names_of n new.rolls)) s) (keeps.own n) ∙ told.rolled n p h;
     placed = λ n p h. ap (λ s. places_at new (name_at p (names_of n new.rolls)) s) (keeps.own n) ∙ told.placed n p h;
     there = λ y s some. let stands = told.there y s some in let count = keeps.count in let within = stands.0 in record {

@@ -2,7 +2,6 @@ pub mod Members
 pub mod Rosters
 pub mod Seatings
 pub mod Owned
-pub mod Rolls
 pub mod Blocks
 pub mod ChangedBlocks
 pub mod Sums

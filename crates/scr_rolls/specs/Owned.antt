@@ -1,23 +1,16 @@
 -- The numbers of the rolls of groups and of currencies (this project's own).
-use Rattle.std.specs.Prelude.{◌≡◌, ℕ, ◌++◌, List, [], ◌∷◌, Option, if◌then◌else◌}
+use Rattle.std.specs.Prelude.{◌≡◌, ℕ, List, Option, if◌then◌else◌}
 use Rattle.std.specs.Map.{lookup}
-use Rattle.std.specs.Option.{option_map_or}
 use Rattle.scr_names.specs.Names.{same_name}
 
--- the first number of each owner's rolls, by name; the numbers of owners that were let go, and for how many more there is room
+-- the first number of each owner's rolls, by name
 pub record Owned : Type 0 where
   pub numbers : List (List ℕ × ℕ)
-  pub free : List ℕ
-  pub room : ℕ
 
 -- the first number of an owner's rolls, none where it owns none
 abbrev pub number_of : List ℕ → Owned → Option ℕ
 number_of owner owned = lookup (same_name owner) owned.numbers
 
--- the owner has this number, or none, and each other what it had before
+-- the owner has this number, and each other what it had before
 abbrev pub Gives : List ℕ → Option ℕ → Owned → Owned → Type 0
 Gives owner number old new = (other : List ℕ) → number_of other new ≡ (if same_name owner other then number else number_of other old)
-
--- the free numbers with one more, if there is one
-abbrev pub freed : Option ℕ → List ℕ → List ℕ
-freed number free = option_map_or (λ n. free ++ n ∷ []) number free

@@ -1,29 +1,79 @@
 //! What the definitions of rolls, Blocks and sums come to, whatever a program does. Each law is a function that does nothing,
 //! whose contract is the law; a proof above cites it from here.
-ghost use Rattle.std.specs.Prelude.{◌≡◌, ℕ, ◌+◌, ◌<◌, ◌≤◌, ◌++◌, ◌∷◌, [], Bool, List, Contains, false, filter, length, map, nat_eq, true};
+ghost use Rattle.std.specs.Prelude.{◌≡◌, ℕ, ◌+◌, ◌<◌, ◌≤◌, ◌==◌, ◌++◌, ◌∷◌, [], Bool, List, Contains, Option, Some, false, filter, if◌then◌else◌, insert, is_some, length, map, nat_eq, remove, slice_get, true};
 ghost use Rattle.std.specs.Bool.{Decides};
 ghost use Rattle.std.specs.List.{IsDistinct, list_any};
-ghost use Rattle.std.specs.Option.{option_map_or};
+ghost use Rattle.std.specs.Option.{option_map, option_map_or};
 ghost use Rattle.scr_names.specs.Names.{same_name};
-ghost use Rattle.scr_names.specs.Tables.{row_of};
+ghost use Rattle.scr_names.specs.Tables.{has_row, row_of, with_row, without};
 ghost use Rattle.scr_num.specs.Rounding.{Ends};
 ghost use Rattle.scr_num.specs.Sizes.{AreTogether};
 ghost use Rattle.scr_num.specs.Sums.{sum_ends};
-ghost use Rattle.scr_rolls.specs.Members.{has, name_at, come, left, back_at};
+ghost use Rattle.scr_rolls.specs.Members.{has, name_at, come, left, back_at, moved, returned};
+ghost use Rattle.scr_rolls.specs.Seatings.{NOWHERE, AreSeated, CanReturn, KeepsRoom, KeepsSeats, Seated, free, names_of, roll_in, seat_at, seat_of, stood};
+ghost use Rattle.scr_rolls.specs.declared.seating.Numbered.{Numbered};
+ghost use Rattle.scr_rolls.specs.declared.seats.Seats.{Seats};
 ghost use Rattle.scr_rolls.specs.Blocks.{is_block, top_count, tops, block_sources};
 ghost use Rattle.scr_rolls.specs.ChangedBlocks.{IsChangedBlock, came, went, coming, leaving};
 ghost use Rattle.scr_rolls.specs.Sums.{AddsUp, AreSums, total};
 ghost use Rattle.scr_rolls.specs.declared.blocks.Level.{Level};
 ghost use Rattle.scr_rolls.specs.declared.blocks.Level.TheVariants as levels;
 
-use crate::{Level, Members, Rolls};
-use scr_names::Name;
+use crate::{Level, Owners, Seating};
 
 /// The last of a roll leaves as it came, and what left a place stands there again as before, with all others at their places.
 pub fn moves_back()
     ensures came { (name : List ℕ) (roll : List (List ℕ)) → left (length roll) (come name roll) ≡ roll }
     ensures left { (place : ℕ) (roll : List (List ℕ)) → place < length roll
         → back_at place (name_at place roll) (left place roll) ≡ roll }
+{}
+
+/// Who is a member of a roll in which no name stands twice, once a name has come or left, or stands again where it stood before.
+pub fn members()
+    ensures moved { (name other : List ℕ) (is : Bool) (roll : List (List ℕ)) → IsDistinct same_name roll
+        → has other (moved name (has name roll) is roll) ≡ (if same_name name other then is else has other roll) }
+    ensures returned { (name other : List ℕ) (before : Option ℕ) (roll : List (List ℕ)) → IsDistinct same_name roll
+        → ((place : ℕ) → before ≡ Some place → has name roll ≡ false → place ≤ length roll)
+        → has other (returned name before roll) ≡ (if same_name name other then is_some before else has other roll) }
+{}
+
+/// The seats of a table's rows serve the rows of the table once it changes: where a row takes the place of the one of its name, and
+/// where one goes last and has free seats there; where one that stands in no roll is taken out with its seats; and where one is at a
+/// place again, and has free seats there.
+pub fn tables<R>()
+    ensures replaced { (name_of : R → List ℕ) (row : R) (rows : List R) (seated : Seated) → AreSeated (map name_of rows) seated
+        → has_row name_of (name_of row) rows ≡ true → AreSeated (map name_of (with_row name_of row rows)) seated }
+    ensures entered { (name_of : R → List ℕ) (row : R) (rows : List R) (old new : Seated) → AreSeated (map name_of rows) old
+        → has_row name_of (name_of row) rows ≡ false → new.rolls ≡ old.rolls → new.seats ≡ old.seats ++ free ∷ []
+        → AreSeated (map name_of (with_row name_of row rows)) new }
+    ensures gone { (name_of : R → List ℕ) (name : List ℕ) (place : ℕ) (rows : List R) (old new : Seated) → AreSeated (map name_of rows) old
+        → IsDistinct same_name (map name_of rows) → option_map name_of (slice_get rows place) ≡ Some name
+        → ((seat : ℕ) → roll_in seat (seat_at place old.seats) ≡ NOWHERE) → new.rolls ≡ old.rolls → new.seats ≡ remove old.seats place
+        → AreSeated (map name_of (without name_of name rows)) new }
+    ensures rejoined { (name_of : R → List ℕ) (row : R) (place : ℕ) (rows : List R) (old new : Seated) → AreSeated (map name_of rows) old
+        → has_row name_of (name_of row) rows ≡ false → place ≤ length rows → new.rolls ≡ old.rolls → new.seats ≡ insert old.seats place free
+        → AreSeated (map name_of (insert rows place row)) new }
+{}
+
+/// Where a row has come to rolls and left rolls since its seats were kept, and no other name has, each roll is as it was once the row
+/// stands again where they say, and it can go back there without memory.
+pub fn returns()
+    ensures names { (names : List (List ℕ)) (old : Seated) (place : ℕ) → AreSeated names old → IsDistinct same_name names → place < length names
+        → (number : ℕ) → number < length old.rolls → (is : Bool)
+        → returned (name_at place names) (stood (seat_of number old.rolls) number (seat_at place old.seats))
+        (moved (name_at place names) (has (name_at place names) (names_of number old.rolls)) is (names_of number old.rolls))
+        ≡ names_of number old.rolls }
+    ensures can { (names : List (List ℕ)) (old : Seated) (place : ℕ) → AreSeated names old → IsDistinct same_name names → place < length names
+        → (rolls : List Numbered) → KeepsSeats old.rolls rolls → KeepsRoom old.rolls rolls
+        → (now : Seats) → ((number : ℕ) → number < length old.rolls → names_of number rolls
+        ≡ moved (name_at place names) (has (name_at place names) (names_of number old.rolls)) (roll_in (seat_of number old.rolls) now == number)
+        (names_of number old.rolls))
+        → (seat : ℕ) → CanReturn rolls now (seat_at place old.seats) seat }
+    ensures never { (names : List (List ℕ)) (old : Seated) (name : List ℕ) → AreSeated names old → has name names ≡ false
+        → (number : ℕ) → has name (names_of number old.rolls) ≡ false }
+    ensures one { (names : List (List ℕ)) (old : Seated) (place : ℕ) → AreSeated names old → IsDistinct same_name names → place < length names
+        → (number : ℕ) → number < length old.rolls
+        → has (name_at place names) (names_of number old.rolls) ≡ (roll_in (seat_of number old.rolls) (seat_at place old.seats) == number) }
 {}
 
 /// A Block sums up 1 to 32 members or Blocks, and of a roll of at most 32,768 members at most 32 are left at the top.
@@ -117,8 +167,8 @@ pub fn listed()
 
 /// Threads may share rolls and the levels of their blocks, and hand them on.
 pub fn sharing() {
-    shared::<Members>();
-    shared::<Rolls<Name>>();
+    shared::<Seating>();
+    shared::<Owners>();
     shared::<Level>();
 }
 

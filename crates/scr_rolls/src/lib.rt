@@ -4,16 +4,12 @@
 
 mod blocks;
 pub mod laws;
-mod members;
 mod owners;
-mod rolls;
 mod roster;
 mod seating;
 mod seats;
 
 pub use blocks::{Level, came, coming, is_block, leaving, part, parts, top_count, went};
-pub use members::Members;
 pub use owners::Owners;
-pub use rolls::Rolls;
 pub use seating::Seating;
 pub use seats::{NOWHERE, SEATS, Seats};

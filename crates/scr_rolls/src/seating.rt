@@ -1,14 +1,15 @@
 //! The rolls of a table's rows by number, and where each row stands in them.
-ghost use Rattle.std.specs.Prelude.{◌≡◌, ◌≢◌, ◌⊎◌, ℕ, ◌+◌, ◌-◌, ◌<◌, ◌≤◌, ◌==◌, List, [], ◌∷◌, ◌++◌, Some, None, true, insert, remove, length, map, IfOk, OnOk, OnErr, if◌then◌else◌};
+ghost use Rattle.std.specs.Prelude.{◌≡◌, ◌≢◌, ◌⊎◌, ℕ, ◌+◌, ◌-◌, ◌<◌, ◌≤◌, ◌==◌, List, [], ◌∷◌, ◌++◌, Some, None, false, true, insert, remove, length, map, slice_get, slice_index_or, IfOk, OnOk, OnErr, if◌then◌else◌};
 ghost use Rattle.std.specs.List.{IsDistinct};
+ghost use Rattle.std.specs.Option.{option_map};
 ghost use Rattle.scr_names.specs.Names.{same_name};
-ghost use Rattle.scr_names.specs.Tables.{has_row};
+ghost use Rattle.scr_names.specs.Tables.{has_row, without};
 ghost use Rattle.scr_rolls.specs.Members.{name_at, come, left, back_at, has, moved, returned};
 ghost use Rattle.scr_rolls.specs.Rosters.{drawn_out};
-ghost use Rattle.scr_rolls.specs.Seatings.{NOWHERE, AreSeated, IsFor, KeepsSeats, free, names_of, place_in, roll_in, room_of, seat_at, seat_of, seats_of};
+ghost use Rattle.scr_rolls.specs.Seatings.{NOWHERE, AreSeated, AwaitsSeats, CanReturn, Grows, IsFor, KeepsRoom, KeepsSeats, RegainsSeats, free, names_of, place_in, roll_in, roll_then, room_of, seat_at, seat_of, seats_now, seats_of, stood, target};
 
 use crate::roster::Roster;
-use crate::seats::{NOWHERE, Seats};
+use crate::seats::{NOWHERE, SEATS, Seats};
 use scr_names::{Name, Row, Rows};
 use std::alloc::{AllocError as NoMemory, Global};
 use std::marker::Model;
@@ -47,6 +48,7 @@ impl Seating {
     pub fn new(alloc: Global) -> Seating
         ensures rolls { result.rolls ≡ [] }
         ensures seats { result.seats ≡ [] }
+        ensures seated { AreSeated [] result }
     {
         Seating {
             rolls: Vec::new(alloc),
@@ -54,15 +56,38 @@ impl Seating {
         }
     }
 
-    /// A roll more, without members, who are to have it in this seat. Its number is told.
-    pub fn add(&mut self, alloc: Global, seat: usize) -> Result<u32, NoMemory>
+    /// So many rolls more as there are seats in a list, each for the seat at its place. The number of the first is told; they follow
+    /// one another.
+    pub fn add_all(&mut self, alloc: Global, seats: &[usize]) -> Result<u32, NoMemory>
+        requires { (k : ℕ) → slice_index_or seats.now k 0 < 11 }
+        ensures number { IfOk result (λ number. number ≡ length self.old.rolls) }
+        ensures count { OnOk result (length self.new.rolls ≡ length self.old.rolls + length seats.now) }
+        ensures few { OnOk result (length self.new.rolls ≤ NOWHERE) }
+        ensures own { OnOk result ((k : ℕ) → k < length seats.now
+            → seat_of (length self.old.rolls + k) self.new.rolls ≡ slice_index_or seats.now k 0) }
+        ensures grows { Grows self.old self.new }
+    {
+        let first = self.rolls.len();
+        if first > NOWHERE as usize {
+            return Err(NoMemory);
+        }
+        for seat in seats {
+            self.add(alloc, *seat)?;
+        }
+        Ok(first as u32)
+    }
+
+    // A roll more, without members, who are to have it in this seat. Its number is told.
+    fn add(&mut self, alloc: Global, seat: usize) -> Result<u32, NoMemory>
         ensures number { IfOk result (λ number. number ≡ length self.old.rolls) }
         ensures count { OnOk result (length self.new.rolls ≡ length self.old.rolls + 1) }
         ensures few { OnOk result (length self.new.rolls ≤ NOWHERE) }
         ensures seat { IfOk result (λ number. seat_of number self.new.rolls ≡ seat) }
         ensures own { (number : ℕ) → number < length self.old.rolls → seat_of number self.new.rolls ≡ seat_of number self.old.rolls }
         ensures names { (number : ℕ) → names_of number self.new.rolls ≡ names_of number self.old.rolls }
+        ensures room { KeepsRoom self.old.rolls self.new.rolls }
         ensures seats { self.new.seats ≡ self.old.seats }
+        ensures rows { self.new.room ≡ self.old.room }
         ensures err { OnErr result (self.new ≡ self.old) }
     {
         let number = self.rolls.len();
@@ -100,8 +125,39 @@ impl Seating {
         self.seats[place]
     }
 
-    /// Makes room for a member more in a roll. All rolls stay, whether there is memory or not.
-    pub fn reserve(&mut self, alloc: Global, number: u32) -> Result<(), NoMemory>
+    /// Makes room for the seats of a row more, and for a member more in each roll of a list that is one; what is nowhere in the list
+    /// is passed over.
+    pub fn make_room(&mut self, alloc: Global, rolls: &[u32]) -> Result<(), NoMemory>
+        requires { (seat : ℕ) → target seat rolls.now ≢ NOWHERE → target seat rolls.now < length self.old.rolls }
+        ensures ok { OnOk result ((seat : ℕ) → target seat rolls.now ≢ NOWHERE → 0 < room_of (target seat rolls.now) self.new.rolls) }
+        ensures row { OnOk result (0 < self.new.room) }
+        ensures own { KeepsSeats self.old.rolls self.new.rolls }
+        ensures grows { Grows self.old self.new }
+    {
+        self.reserve_row(alloc)?;
+        for roll in rolls {
+            self.reserve(alloc, *roll)?;
+        }
+        Ok(())
+    }
+
+    /// Makes room for a member more in a roll; where the number is that of none, there is nothing to do. All rolls stay, whether there
+    /// is memory or not.
+    pub fn reserve(&mut self, alloc: Global, roll: u32) -> Result<(), NoMemory>
+        requires { roll ≢ NOWHERE → roll < length self.old.rolls }
+        ensures ok { OnOk result (roll ≢ NOWHERE → 0 < room_of roll self.new.rolls) }
+        ensures own { KeepsSeats self.old.rolls self.new.rolls }
+        ensures rows { self.new.room ≡ self.old.room }
+        ensures grows { Grows self.old self.new }
+    {
+        if roll == NOWHERE {
+            return Ok(());
+        }
+        self.reserve_in(alloc, roll)
+    }
+
+    // Makes room for a member more in the roll of a number.
+    fn reserve_in(&mut self, alloc: Global, number: u32) -> Result<(), NoMemory>
         requires { number < length self.old.rolls }
         ensures ok { OnOk result (0 < room_of number self.new.rolls) }
         ensures own { KeepsSeats self.old.rolls self.new.rolls }
@@ -113,8 +169,8 @@ impl Seating {
         self.rolls[number as usize].roster.reserve(alloc)
     }
 
-    /// Makes room for the seats of a row more.
-    pub fn reserve_row(&mut self, _alloc: Global) -> Result<(), NoMemory>
+    // Makes room for the seats of a row more.
+    fn reserve_row(&mut self, _alloc: Global) -> Result<(), NoMemory>
         ensures ok { OnOk result (0 < self.new.room) }
         ensures rolls { self.new.rolls ≡ self.old.rolls }
         ensures seats { self.new.seats ≡ self.old.seats }
@@ -133,6 +189,77 @@ impl Seating {
         self.seats.push_reserved(Seats::free());
     }
 
+    /// The place of the row of a name. Where the table has one row more than there are seats for, it is that row, which came last: its
+    /// seats are free from now on, and no name is looked up.
+    pub fn placed<R: Row>(&mut self, rows: &Rows<R>, name: &Name) -> usize
+        requires seated { AwaitsSeats R.name_of name.now rows.now self.old }
+        requires there { has_row R.name_of name.now rows.now ≡ true }
+        ensures place { result < length rows.now }
+        ensures name { name_at result (map R.name_of rows.now) ≡ name.now }
+        ensures seated { AreSeated (map R.name_of rows.now) self.new }
+        ensures rolls { self.new.rolls ≡ self.old.rolls }
+        ensures seats { seat_at result self.new.seats ≡ seats_of (map R.name_of rows.now) self.old.seats name.now }
+        ensures rows { self.old.room ≤ self.new.room + 1 }
+    {
+        let count = self.seats.len();
+        if count < rows.len() {
+            self.enter();
+            return count;
+        }
+        rows.place(name).unwrap()
+    }
+
+    /// The row of a name, which is about to go out of the table, leaves all its rolls and its seats, without memory. Nothing changes
+    /// where no row has the name.
+    pub fn release<R: Row>(&mut self, rows: &Rows<R>, name: &Name)
+        requires { AreSeated (map R.name_of rows.now) self.old }
+        ensures seated { AreSeated (map R.name_of (without R.name_of name.now rows.now)) self.new }
+        ensures seats { KeepsSeats self.old.rolls self.new.rolls }
+        ensures names { (number : ℕ) → names_of number self.new.rolls
+            ≡ moved name.now (has name.now (names_of number self.old.rolls)) false (names_of number self.old.rolls) }
+        ensures room { KeepsRoom self.old.rolls self.new.rolls }
+        ensures rows { has_row R.name_of name.now rows.now ≡ true → self.old.room + 1 ≤ self.new.room }
+    {
+        let _count = rows.len();
+        if let Some(place) = rows.place(name) {
+            self.vacate(rows, place);
+            self.gone(place);
+        }
+    }
+
+    /// The row of a name, which the table has as it was, stands again where seats that were kept say, without memory. Where it was gone
+    /// from the table, it has seats again.
+    pub fn regain<R: Row>(&mut self, rows: &Rows<R>, name: &Name, before: &Seats)
+        requires seated { RegainsSeats R.name_of name.now rows.now self.old }
+        requires there { has_row R.name_of name.now rows.now ≡ true }
+        requires before { (seat : ℕ) → seat < 11
+            → CanReturn self.old.rolls (seats_now (map R.name_of rows.now) self.old.seats name.now) before.now seat }
+        ensures seated { AreSeated (map R.name_of rows.now) self.new }
+        ensures seats { KeepsSeats self.old.rolls self.new.rolls }
+        ensures names { (number : ℕ) → number < length self.old.rolls → names_of number self.new.rolls
+            ≡ returned name.now (stood (seat_of number self.old.rolls) number before.now) (names_of number self.old.rolls) }
+        ensures room { KeepsRoom self.old.rolls self.new.rolls }
+        ensures rows { self.old.room ≤ self.new.room + 1 }
+    {
+        let place = rows.place(name).unwrap();
+        self.rejoin_if_gone(rows, name, place);
+        self.restore(rows, place, before);
+    }
+
+    // The row of a name, at its place of the table, has free seats if it has none.
+    fn rejoin_if_gone<R: Row>(&mut self, rows: &Rows<R>, _name: &Name, place: usize)
+        requires seated { RegainsSeats R.name_of _name.now rows.now self.old }
+        requires place { option_map R.name_of (slice_get rows.now place) ≡ Some _name.now }
+        ensures seated { AreSeated (map R.name_of rows.now) self.new }
+        ensures rolls { self.new.rolls ≡ self.old.rolls }
+        ensures seats { seat_at place self.new.seats ≡ seats_now (map R.name_of rows.now) self.old.seats _name.now }
+        ensures rows { self.old.room ≤ self.new.room + 1 }
+    {
+        if self.seats.len() < rows.len() {
+            self.rejoin(place);
+        }
+    }
+
     /// The row at a place stands in this roll in a seat from now on, or nowhere: it leaves where it stood, the last there takes
     /// its place, and it goes last.
     pub fn seat<R: Row>(&mut self, rows: &Rows<R>, place: usize, seat: usize, roll: u32)
@@ -149,7 +276,8 @@ impl Seating {
             ≡ (if seat_of number self.old.rolls == seat then moved (name_at place (map R.name_of rows.now))
             (has (name_at place (map R.name_of rows.now)) (names_of number self.old.rolls)) (roll == number) (names_of number self.old.rolls)
             else names_of number self.old.rolls) }
-        ensures room { (number : ℕ) → number ≢ roll → room_of number self.old.rolls ≤ room_of number self.new.rolls }
+        ensures room { KeepsRoom self.old.rolls self.new.rolls }
+        ensures rows { self.new.room ≡ self.old.room }
     {
         let _count = rows.len();
         if self.seats[place].roll(seat) == roll {
@@ -158,6 +286,67 @@ impl Seating {
         self.clear(rows, place, seat);
         if roll != NOWHERE {
             self.occupy(rows, place, seat, roll);
+        }
+    }
+
+    /// The row at a place stands, seat by seat, in the roll that a list names for the seat, or nowhere; the seats beyond the list
+    /// stay. A roll in which it stands already is passed over. Each roll has lost the name, or has it last, or is as it was.
+    pub fn arrange<R: Row>(&mut self, rows: &Rows<R>, place: usize, rolls: &[u32])
+        requires seated { AreSeated (map R.name_of rows.now) self.old }
+        requires place { place < length rows.now }
+        requires few { length rolls.now ≤ 11 }
+        requires rolls { (seat : ℕ) → seat < length rolls.now → IsFor self.old.rolls seat (roll_then seat rolls.now (seat_at place self.old.seats)) }
+        requires room { (seat : ℕ) → seat < length rolls.now → roll_then seat rolls.now (seat_at place self.old.seats) ≢ NOWHERE
+            → roll_then seat rolls.now (seat_at place self.old.seats) ≢ roll_in seat (seat_at place self.old.seats)
+            → 0 < room_of (roll_then seat rolls.now (seat_at place self.old.seats)) self.old.rolls }
+        ensures seated { AreSeated (map R.name_of rows.now) self.new }
+        ensures seats { KeepsSeats self.old.rolls self.new.rolls }
+        ensures own { (seat : ℕ) → roll_in seat (seat_at place self.new.seats) ≡ roll_then seat rolls.now (seat_at place self.old.seats) }
+        ensures names { (number : ℕ) → number < length self.old.rolls → names_of number self.new.rolls
+            ≡ moved (name_at place (map R.name_of rows.now)) (has (name_at place (map R.name_of rows.now)) (names_of number self.old.rolls))
+            (roll_then (seat_of number self.old.rolls) rolls.now (seat_at place self.old.seats) == number) (names_of number self.old.rolls) }
+        ensures room { KeepsRoom self.old.rolls self.new.rolls }
+        ensures rows { self.new.room ≡ self.old.room }
+    {
+        let _count = rows.len();
+        for seat in 0..rolls.len() {
+            self.seat(rows, place, seat, rolls[seat]);
+        }
+    }
+
+    /// The row at a place leaves all its rolls, without memory: the last of each takes its place.
+    pub fn vacate<R: Row>(&mut self, rows: &Rows<R>, place: usize)
+        requires seated { AreSeated (map R.name_of rows.now) self.old }
+        requires place { place < length rows.now }
+        ensures seated { AreSeated (map R.name_of rows.now) self.new }
+        ensures seats { KeepsSeats self.old.rolls self.new.rolls }
+        ensures own { (seat : ℕ) → roll_in seat (seat_at place self.new.seats) ≡ NOWHERE }
+        ensures names { (number : ℕ) → names_of number self.new.rolls
+            ≡ moved (name_at place (map R.name_of rows.now)) (has (name_at place (map R.name_of rows.now)) (names_of number self.old.rolls))
+            false (names_of number self.old.rolls) }
+        ensures room { KeepsRoom self.old.rolls self.new.rolls }
+        ensures rows { self.new.room ≡ self.old.room }
+    {
+        let _count = rows.len();
+        self.arrange(rows, place, &[NOWHERE; 11]);
+    }
+
+    /// The row at a place stands again where seats that were kept say, without memory: it leaves each roll that they do not name,
+    /// and in one that it left it stands at its place again, from which who took it goes last.
+    pub fn restore<R: Row>(&mut self, rows: &Rows<R>, place: usize, before: &Seats)
+        requires seated { AreSeated (map R.name_of rows.now) self.old }
+        requires place { place < length rows.now }
+        requires before { (seat : ℕ) → seat < 11 → CanReturn self.old.rolls (seat_at place self.old.seats) before.now seat }
+        ensures seated { AreSeated (map R.name_of rows.now) self.new }
+        ensures seats { KeepsSeats self.old.rolls self.new.rolls }
+        ensures own { (seat : ℕ) → seat < 11 → roll_in seat (seat_at place self.new.seats) ≡ roll_in seat before.now }
+        ensures names { (number : ℕ) → number < length self.old.rolls → names_of number self.new.rolls
+            ≡ returned (name_at place (map R.name_of rows.now)) (stood (seat_of number self.old.rolls) number before.now) (names_of number self.old.rolls) }
+        ensures room { KeepsRoom self.old.rolls self.new.rolls }
+        ensures rows { self.new.room ≡ self.old.room }
+    {
+        for seat in 0..SEATS {
+            self.put_back(rows, place, seat, before.roll(seat), before.place(seat));
         }
     }
 
@@ -176,15 +365,16 @@ impl Seating {
             ≡ left (place_in seat (seat_at place self.old.seats)) (names_of (roll_in seat (seat_at place self.old.seats)) self.old.rolls) }
         ensures rolls { (other : ℕ) → other ≢ roll_in seat (seat_at place self.old.seats)
             → names_of other self.new.rolls ≡ names_of other self.old.rolls }
-        ensures room { (other : ℕ) → room_of other self.old.rolls ≤ room_of other self.new.rolls }
+        ensures room { KeepsRoom self.old.rolls self.new.rolls }
+        ensures rows { self.new.room ≡ self.old.room }
     {
         if self.seats[place].roll(seat) != NOWHERE {
-            self.vacate(rows, place, seat);
+            self.quit(rows, place, seat);
         }
     }
 
     // The row at a place leaves the roll in which it stands in a seat.
-    fn vacate<R: Row>(&mut self, rows: &Rows<R>, place: usize, seat: usize)
+    fn quit<R: Row>(&mut self, rows: &Rows<R>, place: usize, seat: usize)
         requires seated { AreSeated (map R.name_of rows.now) self.old }
         requires apart { IsDistinct same_name (map R.name_of rows.now) }
         requires place { place < length rows.now }
@@ -198,7 +388,8 @@ impl Seating {
             ≡ left (place_in seat (seat_at place self.old.seats)) (names_of (roll_in seat (seat_at place self.old.seats)) self.old.rolls) }
         ensures rolls { (other : ℕ) → other ≢ roll_in seat (seat_at place self.old.seats)
             → names_of other self.new.rolls ≡ names_of other self.old.rolls }
-        ensures room { (other : ℕ) → room_of other self.old.rolls ≤ room_of other self.new.rolls }
+        ensures room { KeepsRoom self.old.rolls self.new.rolls }
+        ensures rows { self.new.room ≡ self.old.room }
     {
         let own = self.seats[place];
         self.leave(rows, seat, own.roll(seat), own.place(seat));
@@ -222,7 +413,8 @@ impl Seating {
         ensures names { names_of roll self.new.rolls
             ≡ come (name_at place (map R.name_of rows.now)) (names_of roll self.old.rolls) }
         ensures rolls { (other : ℕ) → other ≢ roll → names_of other self.new.rolls ≡ names_of other self.old.rolls }
-        ensures room { (other : ℕ) → other ≢ roll → room_of other self.new.rolls ≡ room_of other self.old.rolls }
+        ensures room { KeepsRoom self.old.rolls self.new.rolls }
+        ensures rows { self.new.room ≡ self.old.room }
     {
         let name = rows.at(place).name();
         let at = self.come(roll, name);
@@ -245,6 +437,7 @@ impl Seating {
         requires room { 0 < self.old.room }
         ensures rolls { self.new.rolls ≡ self.old.rolls }
         ensures seats { self.new.seats ≡ insert self.old.seats place free }
+        ensures room { self.old.room ≤ self.new.room + 1 }
     {
         self.seats.insert(place, Seats::free()).unwrap();
     }
@@ -272,7 +465,8 @@ impl Seating {
         ensures names { (number : ℕ) → number < length self.old.rolls → names_of number self.new.rolls
             ≡ (if seat_of number self.old.rolls == seat then returned (name_at place (map R.name_of rows.now))
             (if roll == number then Some at else None) (names_of number self.old.rolls) else names_of number self.old.rolls) }
-        ensures room { (number : ℕ) → number ≢ roll → room_of number self.old.rolls ≤ room_of number self.new.rolls }
+        ensures room { KeepsRoom self.old.rolls self.new.rolls }
+        ensures rows { self.new.room ≡ self.old.room }
     {
         let _count = rows.len();
         if self.seats[place].roll(seat) == roll {
@@ -302,7 +496,8 @@ impl Seating {
         ensures names { names_of roll self.new.rolls
             ≡ back_at at (name_at place (map R.name_of rows.now)) (names_of roll self.old.rolls) }
         ensures rolls { (other : ℕ) → other ≢ roll → names_of other self.new.rolls ≡ names_of other self.old.rolls }
-        ensures room { (other : ℕ) → other ≢ roll → room_of other self.new.rolls ≡ room_of other self.old.rolls }
+        ensures room { KeepsRoom self.old.rolls self.new.rolls }
+        ensures rows { self.new.room ≡ self.old.room }
     {
         let name = rows.at(place).name();
         self.give_back(rows, seat, roll, at, name);
@@ -330,7 +525,8 @@ impl Seating {
         ensures seats { KeepsSeats self.old.rolls self.new.rolls }
         ensures names { names_of number self.new.rolls ≡ back_at place name (names_of number self.old.rolls) }
         ensures rolls { (other : ℕ) → other ≢ number → names_of other self.new.rolls ≡ names_of other self.old.rolls }
-        ensures room { (other : ℕ) → other ≢ number → room_of other self.new.rolls ≡ room_of other self.old.rolls }
+        ensures room { KeepsRoom self.old.rolls self.new.rolls }
+        ensures rows { self.new.room ≡ self.old.room }
         ensures at { (other : List ℕ) (s : ℕ) → roll_in s (seats_of (map R.name_of rows.now) self.new.seats other)
             ≡ roll_in s (seats_of (map R.name_of rows.now) self.old.seats other) }
         ensures drawn { place < length (names_of number self.old.rolls) → place_in seat (seats_of (map R.name_of rows.now) self.new.seats
@@ -362,8 +558,9 @@ impl Seating {
         ensures seats { KeepsSeats self.old.rolls self.new.rolls }
         ensures names { names_of number self.new.rolls ≡ back_at place name (names_of number self.old.rolls) }
         ensures rolls { (other : ℕ) → other ≢ number → names_of other self.new.rolls ≡ names_of other self.old.rolls }
-        ensures room { (other : ℕ) → other ≢ number → room_of other self.new.rolls ≡ room_of other self.old.rolls }
-        ensures rows { self.new.seats ≡ self.old.seats }
+        ensures room { KeepsRoom self.old.rolls self.new.rolls }
+        ensures own { self.new.seats ≡ self.old.seats }
+        ensures rows { self.new.room ≡ self.old.room }
     {
         self.rolls[number as usize].roster.put_back(place, name)
     }
@@ -381,7 +578,8 @@ impl Seating {
         ensures seats { KeepsSeats self.old.rolls self.new.rolls }
         ensures names { names_of number self.new.rolls ≡ left place (names_of number self.old.rolls) }
         ensures rolls { (other : ℕ) → other ≢ number → names_of other self.new.rolls ≡ names_of other self.old.rolls }
-        ensures room { (other : ℕ) → room_of other self.old.rolls ≤ room_of other self.new.rolls }
+        ensures room { KeepsRoom self.old.rolls self.new.rolls }
+        ensures rows { self.new.room ≡ self.old.room }
         ensures at { (name : List ℕ) (s : ℕ) → roll_in s (seats_of (map R.name_of rows.now) self.new.seats name)
             ≡ roll_in s (seats_of (map R.name_of rows.now) self.old.seats name) }
         ensures drawn { place + 1 < length (names_of number self.old.rolls) → place_in seat (seats_of (map R.name_of rows.now) self.new.seats
@@ -403,8 +601,9 @@ impl Seating {
         ensures seats { KeepsSeats self.old.rolls self.new.rolls }
         ensures names { names_of number self.new.rolls ≡ come name (names_of number self.old.rolls) }
         ensures rolls { (other : ℕ) → other ≢ number → names_of other self.new.rolls ≡ names_of other self.old.rolls }
-        ensures room { (other : ℕ) → other ≢ number → room_of other self.new.rolls ≡ room_of other self.old.rolls }
-        ensures rows { self.new.seats ≡ self.old.seats }
+        ensures room { KeepsRoom self.old.rolls self.new.rolls }
+        ensures own { self.new.seats ≡ self.old.seats }
+        ensures rows { self.new.room ≡ self.old.room }
     {
         self.rolls[number as usize].roster.come(name)
     }
@@ -417,6 +616,7 @@ impl Seating {
         requires there { has_row R.name_of name.now rows.now ≡ true }
         ensures rolls { self.new.rolls ≡ self.old.rolls }
         ensures beside { length self.new.seats ≡ length self.old.seats }
+        ensures rows { self.new.room ≡ self.old.room }
         ensures at { (other : List ℕ) (s : ℕ) → roll_in s (seats_of (map R.name_of rows.now) self.new.seats other)
             ≡ roll_in s (seats_of (map R.name_of rows.now) self.old.seats other) }
         ensures own { place_in seat (seats_of (map R.name_of rows.now) self.new.seats name.now) ≡ place }

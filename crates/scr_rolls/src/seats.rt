@@ -34,6 +34,13 @@ impl Seats {
         self.rolls[seat]
     }
 
+    /// The numbers of its rolls, seat by seat.
+    pub fn rolls(&self) -> [u32; 11]
+        ensures { result ≡ self.now.rolls }
+    {
+        self.rolls
+    }
+
     /// Its place there.
     pub fn place(&self, seat: usize) -> u32
         requires { seat < 11 }

@@ -19,3 +19,4 @@ pub mod SeenThrough
 pub mod CycleFaults
 pub mod FaultKinds
 pub mod Repeated
+pub mod Membership

@@ -11,3 +11,4 @@ pub mod Absorptions
 pub mod Totals
 pub mod Verbs
 pub mod Earlier
+pub mod Members

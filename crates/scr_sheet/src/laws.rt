@@ -1,8 +1,11 @@
 //! What the definitions of the balance sheet come to, whatever a program does.
-ghost use Rattle.std.specs.Prelude.{◌≡◌, ◌↔◌, ℕ, ℤ, ◌+◌, ◌*◌, ◌<◌, ◌≤◌, [], List, Some, None, length, slice_get, sum_by, take};
+ghost use Rattle.std.specs.Prelude.{◌≡◌, ◌↔◌, ℕ, ℤ, false, ◌+◌, ◌*◌, ◌<◌, ◌≤◌, [], List, Some, None, length, slice_get, sum_by, take};
 ghost use Rattle.scr_sheet.specs.BalanceSheet.{opening, held_of, held_total, components_of};
 ghost use Rattle.scr_sheet.specs.declared.sheet.BalanceSheet.{BalanceSheet};
 ghost use Rattle.scr_sheet.specs.Records.{applied, with_fund};
+ghost use Rattle.scr_names.specs.Names.{same_name};
+ghost use Rattle.scr_sheet.specs.Members.{is_member, edit_name};
+ghost use Rattle.scr_sheet.specs.declared.roll.Roll.{Roll};
 ghost use Rattle.scr_sheet.specs.Faults.{components_fault, fault_of, list_fault, unknown_name, wrong_kind};
 ghost use Rattle.scr_sheet.specs.Forms.{Formed};
 ghost use Rattle.scr_sheet.specs.FundLists.{AreOfOneFund};
@@ -83,4 +86,10 @@ pub fn totals()
         → (name : List ℕ) → IsHeld sheet name → total_of sheet name ≤ held_total sheet }
     ensures whole { (sheet : BalanceSheet) → Valid sheet
         → securities_total sheet + closed_total sheet ≡ held_total sheet }
+{}
+
+/// A record changes whether a row is a member of a roll for no name but its own.
+pub fn membership()
+    ensures { (edit : Edit) (sheet : BalanceSheet) (roll : Roll) (name : List ℕ) → same_name (edit_name edit) name ≡ false
+        → is_member roll name (applied edit sheet) ≡ is_member roll name sheet }
 {}

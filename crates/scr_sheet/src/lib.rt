@@ -12,6 +12,7 @@ mod kinds;
 pub mod laws;
 mod numbers;
 mod opening;
+mod roll;
 mod row_names;
 mod rows;
 mod sheet;
@@ -25,6 +26,10 @@ pub use fault::{Fault, Quantity, User};
 pub use fields::{above, fields_outside, first_of};
 pub use keys::{AbsorbKey, CatKey, PROJECTIONS, Projection, Table};
 pub use numbers::Numbers;
+pub use roll::{
+    Roll, has_class, has_flows, has_group, is_closed, is_held_in, is_member, is_of_group,
+    is_owed_in, is_paying, is_paying_in, row_name,
+};
 pub use rows::{
     Bank, Class, Components, Curve, Fund, Group, Liability, LiabilityFlows, LiabilityKind,
     Position, Rates, Rein, Security, Stake,

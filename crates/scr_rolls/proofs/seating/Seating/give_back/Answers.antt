@@ -11,7 +11,7 @@ returns-in-Some-clause-still g c =
     let found = drawn-out c.args.place roll c.in-Some.drawn (sym c.put_at.ensures.drawn ∙ c.in-Some.is) in
     λ other s side.
     c.move_to.ensures.others other s (pick roll c.args.place c.in-Some.drawn c.args.seat other s found.0 found.1 side)
-    ∙ ap (λ (xs : List Seats). place_in s (seats_of (map g.R.Row.name_of c.args.rows.now) xs other)) c.put_at.ensures.rows
+    ∙ ap (λ (xs : List Seats). place_in s (seats_of (map g.R.Row.name_of c.args.rows.now) xs other)) c.put_at.ensures.own
   where
     pick : (roll : List (List ℕ)) (place : ℕ) (drawn : List ℕ) (seat : ℕ) (other : List ℕ) (s : ℕ) → place < length roll → drawn ≡ name_at place roll
         → ((place < length roll → other ≢ name_at place roll) ⊎ (s ≢ seat)) → ((other ≢ drawn) ⊎ (s ≢ seat))

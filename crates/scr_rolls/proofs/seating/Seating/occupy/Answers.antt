@@ -20,7 +20,7 @@ module _ (g : Rattle.scr_rolls.proofs.seating.Seating.occupy.Given.Over) (c : go
   inside = let h = c.requires.place in let long = length-map c.args.rows.now g.R.Row.name_of in omega (arith, h, long)
 
   same_seats : c.self.inside.seats.items ≡ c.args.self.now.seats
-  same_seats = ap (λ (s : Seated). s.seats) c.self.view_is ∙ c.come-at.ensures.rows
+  same_seats = ap (λ (s : Seated). s.seats) c.self.view_is ∙ c.come-at.ensures.own
 
   own_then : seat_at c.args.place c.come-at.new.self.seats ≡ c.index_mut.result.now
   own_then =
@@ -37,13 +37,13 @@ returns-clause-seated g c =
     let e = c.come-at.ensures in
     let room : ℕ = c.self.inside.seats.cap - length (set c.self.inside.seats.items c.args.place c.put.new.self) in
     subst (λ (mid : Seated). AreSeated (table g c) (record { rolls = mid.rolls; seats = set mid.seats c.args.place c.put.new.self; room = room })) (sym c.self.view_is)
-    (seated-back (table g c) c.args.self.now c.requires.seated c.requires.apart c.args.place (inside g c) c.come-at.new.self room c.put.new.self c.args.seat (ap length e.rows) e.seats
+    (seated-back (table g c) c.args.self.now c.requires.seated c.requires.apart c.args.place (inside g c) c.come-at.new.self room c.put.new.self c.args.seat (ap length e.own) e.seats
     c.args.roll (length (roll g c)) c.requires.none c.requires.number c.requires.kind (omega arith)
     (e.names ∙ ap (λ y. come y (roll g c)) (sym (row_name g c)) ∙ come-back (get_or (table g c) c.args.place []) (roll g c))
     e.rolls
-    (λ y t. ap (λ (xs : List Seats). roll_in t (seats_of (table g c) xs y)) e.rows)
+    (λ y t. ap (λ (xs : List Seats). roll_in t (seats_of (table g c) xs y)) e.own)
     (λ more. absurd (omega (arith, more)))
-    (λ y t side. ap (λ (xs : List Seats). place_in t (seats_of (table g c) xs y)) e.rows)
+    (λ y t side. ap (λ (xs : List Seats). place_in t (seats_of (table g c) xs y)) e.own)
     (λ t. c.put.ensures.rolls t ∙ ap (λ (o : Seats). if eqb c.args.seat t then c.args.roll else roll_in t o) (sym (own_then g c)))
     (λ t. c.put.ensures.places t ∙ ap (λ z. if eqb c.args.seat t then z else place_in t c.index_mut.result.now) e.place
     ∙ ap (λ (o : Seats). if eqb c.args.seat t then length (roll g c) else place_in t o) (sym (own_then g c))))

@@ -1,88 +1,23 @@
-use Rattle.std.proofs.Common.{◌≡◌, ℕ, ◌-◌, ◌<◌, List, length, map, set, eqb, sym, ap, subst, ◌∙◌, arith}
-use Rattle.std.specs.Prelude.{if◌then◌else◌}
-use Rattle.std.proofs.lemmas.List.{length-map}
-use Rattle.scr_rolls.specs.Seatings.{NOWHERE, Seated, AreSeated, names_of, place_in, roll_in, seat_at}
-use Rattle.scr_rolls.specs.declared.seats.Seats.{Seats}
-use Rattle.scr_rolls.proofs.SeatLists.{at-any}
-use Rattle.scr_rolls.proofs.SeatMoves.{member-there, own-after, row-taken, vacated}
+use Rattle.std.proofs.Common.{map, replicate, arith}
+use Rattle.std.proofs.lemmas.List.{get_or-replicate, length-map, length-replicate}
+use Rattle.scr_rolls.specs.Seatings.{NOWHERE, roll_in, seat_at}
+use Rattle.scr_rolls.proofs.SeatLoops.{vacated-names, vacated-own}
 use Rattle.scr_rolls.proofs.seating.Seating.vacate.Goals as goal
-
-module _ (g : Rattle.scr_rolls.proofs.seating.Seating.vacate.Given.Over) (c : goal.After-place g) where
-  abbrev names : List (List ℕ)
-  names = map g.R.Row.name_of c.args.rows.now
-
-  within : c.args.place < length names
-  within = let h = c.requires.place in let long = length-map c.args.rows.now g.R.Row.name_of in omega (arith, h, long)
-
-  own : seat_at c.args.place c.args.self.now.seats ≡ c.index.result.now
-  own =
-      let same : c.self.inside.seats.items ≡ c.args.self.now.seats = ap (λ (s : Seated). s.seats) c.self.view_is in
-      let long = ap length same in
-      let beside = c.requires.seated.beside in
-      ap (seat_at c.args.place) (sym same) ∙ at-any c.self.inside.seats.items c.args.place c.index.result.now (omega (arith, long, beside, within)) c.index.ensures
-
-  roll_is : roll_in c.args.seat (seat_at c.args.place c.args.self.now.seats) ≡ c.roll.result
-  roll_is = ap (roll_in c.args.seat) own ∙ sym c.roll.ensures
-
-  place_is : place_in c.args.seat (seat_at c.args.place c.args.self.now.seats) ≡ c.place.result
-  place_is = ap (place_in c.args.seat) own ∙ sym c.place.ensures
-
-  taken : (c.roll.result < length c.args.self.now.rolls) × (c.place.result < length (names_of c.roll.result c.args.self.now.rolls))
-  taken = row-taken names c.args.self.now c.requires.seated c.requires.apart c.args.place within c.args.seat c.roll.result c.place.result roll_is place_is c.requires.some
-
-pub leave-requires-clause-number : goal.leave-requires-clause-number
-leave-requires-clause-number g c = (taken g c).0
-
-pub leave-requires-clause-place : goal.leave-requires-clause-place
-leave-requires-clause-place g c = (taken g c).1
-
-pub leave-requires-clause-there : goal.leave-requires-clause-there
-leave-requires-clause-there g c =
-    λ more. let inside = (taken g c).1 in
-    member-there g.R.Row.name_of c.args.rows.now c.args.self.now c.requires.seated c.roll.result
-    (length (names_of c.roll.result c.args.self.now.rolls) - 1) (omega (arith, inside))
-
-module _ (g : Rattle.scr_rolls.proofs.seating.Seating.vacate.Given.Over) (c : goal.After-self-1 g) where
-  abbrev table : List (List ℕ)
-  table = map g.R.Row.name_of c.args.rows.now
-
-  inside : c.args.place < length table
-  inside = let h = c.requires.place in let long = length-map c.args.rows.now g.R.Row.name_of in omega (arith, h, long)
-
-  own_before : seat_at c.args.place c.args.self.now.seats ≡ c.index.result.now
-  own_before =
-      let same : c.self.inside.seats.items ≡ c.args.self.now.seats = ap (λ (s : Seated). s.seats) c.self.view_is in
-      let long = ap length same in
-      let beside = c.requires.seated.beside in
-      ap (seat_at c.args.place) (sym same) ∙ at-any c.self.inside.seats.items c.args.place c.index.result.now (omega (arith, long, beside, inside)) c.index.ensures
-
-  own_then : seat_at c.args.place c.leave.new.self.seats ≡ c.index_mut.result.now
-  own_then =
-      let same : c.self-2.inside.seats.items ≡ c.leave.new.self.seats = ap (λ (s : Seated). s.seats) c.self-2.view_is in
-      let long = ap length same in
-      let beside = c.requires.seated.beside in
-      let kept = c.leave.ensures.beside in
-      ap (seat_at c.args.place) (sym same) ∙ at-any c.self-2.inside.seats.items c.args.place c.index_mut.result.now (omega (arith, long, kept, beside, inside)) c.index_mut.ensures.value
-
-  rolls_written : (t : ℕ) → roll_in t c.set_free.new.self ≡ (if eqb c.args.seat t then NOWHERE else roll_in t (seat_at c.args.place c.leave.new.self.seats))
-  rolls_written t = c.set_free.ensures.rolls t ∙ ap (λ (o : Seats). if eqb c.args.seat t then NOWHERE else roll_in t o) (sym own_then)
-
-  places_written : (t : ℕ) → place_in t c.set_free.new.self ≡ place_in t (seat_at c.args.place c.leave.new.self.seats)
-  places_written t = c.set_free.ensures.places t ∙ ap (place_in t) (sym own_then)
-
-pub returns-clause-seated : goal.returns-clause-seated
-returns-clause-seated g c =
-    let e = c.leave.ensures in
-    let room : ℕ = c.self-2.inside.seats.cap - length (set c.self-2.inside.seats.items c.args.place c.set_free.new.self) in
-    subst (λ (mid : Seated). AreSeated (table g c) (record { rolls = mid.rolls; seats = set mid.seats c.args.place c.set_free.new.self; room = room })) (sym c.self-2.view_is)
-    (vacated (table g c) c.args.self.now c.requires.seated c.requires.apart c.args.place (inside g c) c.leave.new.self room c.set_free.new.self c.args.seat e.beside e.seats
-    c.roll.result c.place.result (ap (roll_in c.args.seat) (own_before g c) ∙ sym c.roll.ensures) (ap (place_in c.args.seat) (own_before g c) ∙ sym c.place.ensures)
-    (λ z. c.requires.some (ap (roll_in c.args.seat) (own_before g c) ∙ sym c.roll.ensures ∙ z))
-    e.names e.rolls e.at e.drawn e.still (rolls_written g c) (places_written g c))
 
 pub returns-clause-own : goal.returns-clause-own
 returns-clause-own g c =
-    let same : c.self-2.inside.seats.items ≡ c.leave.new.self.seats = ap (λ (s : Seated). s.seats) c.self-2.view_is in
-    λ s. ap (λ (xs : List Seats). roll_in s (seat_at c.args.place (set xs c.args.place c.set_free.new.self))) same
-    ∙ own-after (table g c) c.args.self.now c.requires.seated c.requires.apart c.args.place (inside g c) c.leave.new.self.seats c.set_free.new.self c.args.seat NOWHERE
-    c.leave.ensures.beside c.leave.ensures.at (rolls_written g c) s
+    let h = c.requires.place in
+    let long = length-map c.args.rows.now g.R.Row.name_of in
+    vacated-own (map g.R.Row.name_of c.args.rows.now) c.args.place c.args.self.now c.arrange.new.self c.requires.seated c.len-count.ensures.apart
+    (omega (arith, h, long)) (replicate 11 NOWHERE)
+    (λ s within. get_or-replicate 11 s NOWHERE (roll_in s (seat_at c.args.place c.args.self.now.seats)) within)
+    (omega (arith, length-replicate 11 NOWHERE)) c.arrange.ensures.own
+
+pub returns-clause-names : goal.returns-clause-names
+returns-clause-names g c =
+    let h = c.requires.place in
+    let long = length-map c.args.rows.now g.R.Row.name_of in
+    vacated-names (map g.R.Row.name_of c.args.rows.now) c.args.place c.args.self.now c.arrange.new.self c.requires.seated c.len-count.ensures.apart
+    (omega (arith, h, long)) (replicate 11 NOWHERE)
+    (λ s within. get_or-replicate 11 s NOWHERE (roll_in s (seat_at c.args.place c.args.self.now.seats)) within)
+    (omega (arith, length-replicate 11 NOWHERE)) c.arrange.ensures.seats c.arrange.ensures.names

@@ -1,5 +1,0 @@
-use Rattle.scr_members.proofs.Membership.{member-other}
-use Rattle.scr_members.proofs.laws.membership.Goals as goal
-
-pub returns : goal.returns
-returns c = λ edit sheet roll name. member-other sheet roll name edit
