@@ -1,10 +1,10 @@
 //! The bounds of a figure in hundredths of what is told of it.
-ghost use Rattle.std.specs.Prelude.{◌≡◌, ◌<◌, true};
-ghost use Rattle.scr_num.specs.Rounding.{ceil_div, floor_div};
+ghost use Rattle.std.specs.Prelude.{◌≡◌, true};
 ghost use Rattle.scr_nodes.specs.Live.{is_live};
 ghost use Rattle.scr_account.specs.Told.{size, told_bounds};
 
 use scr_amounts::Bounds;
+use scr_cells::{rounded_down, rounded_up};
 use scr_nodes::Node;
 use scr_titles::unit_of;
 use scr_tree::Engine;
@@ -29,25 +29,4 @@ pub(crate) fn size_of(engine: &Engine, node: &Node) -> u128
     ensures { result ≡ size engine.now.factors engine.now.sheet node.now }
 {
     engine.span(*node).high.unsigned_abs()
-}
-
-/// The greatest number of hundredths that is at most so many units.
-fn rounded_down(units: i128, scale: u64) -> i128
-    requires { 0 < scale }
-    ensures { result ≡ floor_div units scale }
-{
-    units.div_euclid(i128::from(scale))
-}
-
-/// The least number of hundredths that is at least so many units.
-fn rounded_up(units: i128, scale: u64) -> i128
-    requires { 0 < scale }
-    ensures { result ≡ ceil_div units scale }
-{
-    let scale = i128::from(scale);
-    if units > 0 {
-        (units - 1) / scale + 1
-    } else {
-        units / scale
-    }
 }

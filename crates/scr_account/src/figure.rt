@@ -2,13 +2,13 @@
 ghost use Rattle.std.specs.Prelude.{◌≡◌, ◌++◌, All, true, option_map, OnOk};
 ghost use Rattle.scr_nodes.specs.Live.{is_live};
 ghost use Rattle.scr_nodes.specs.Sources.{sources_of};
-ghost use Rattle.scr_cells.specs.Block.{close_mark};
 ghost use Rattle.scr_account.specs.Account.{alternative, alternatives, amounts, figure_line, figure_text, how_line, taken_text, worth};
 
 use crate::bounds::{bounds_of, size_of};
 use crate::taken::taken;
 use crate::texts::{push, push_between, push_indent};
 use scr_amounts::Bounds;
+use scr_cells::close_mark;
 use scr_nodes::Node;
 use scr_titles::{Unit, article, push_title, step_of, unit_of};
 use scr_tree::Engine;
@@ -86,12 +86,6 @@ fn push_amounts(
     push_between(alloc, out, &bounds_of(engine, node))?;
     push(out, unit_of(node).mark())?;
     push(out, close_mark(engine.is_close(node)))
-}
-
-fn close_mark(close: bool) -> &'static str
-    ensures { result.now ≡ close_mark close }
-{
-    if close { " close" } else { "" }
 }
 
 #[tactic(auto, unfolding(crate::specs::Account::alternatives))]

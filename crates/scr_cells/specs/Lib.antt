@@ -1,4 +1,3 @@
 pub mod Block
 pub mod Certified
-pub mod Shown
 pub mod Table

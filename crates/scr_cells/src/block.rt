@@ -2,16 +2,15 @@
 ghost use Rattle.std.specs.Prelude.{◌≡◌, ◌<◌, ◌++◌, ◌+ℤ◌, ◌≤ℤ◌, true, false, is_ok, is_some};
 ghost use Rattle.std.specs.Prelude.{if◌then◌else◌, slice_get, IfOk, OnOk, Some};
 ghost use Rattle.scr_nodes.specs.Live.{is_live};
+ghost use Rattle.scr_nodes.specs.declared.node.Node.TheVariants as nodes;
 ghost use Rattle.scr_cells.specs.Block.{block_text, cell_at, cell_line, cell_of, requirement_line};
 ghost use Rattle.scr_cells.specs.Certified.{RestsOnNearChoice};
-ghost use Rattle.scr_cells.specs.Shown.{node_of};
 ghost use Rattle.scr_cells.specs.Table.{NamedFigure, seen, table};
 ghost use Rattle.scr_widths.specs.Widths.{stated_width};
 
 use crate::bounds::{Bounds, bounds_at};
 use crate::cells::Cell;
 use crate::printing::push_bounds;
-use crate::shown::node_of;
 use crate::table::{CELL_COUNT, Entry, REQUIREMENT, entry_of};
 use scr_book::Book;
 use scr_nodes::Node;
@@ -30,7 +29,7 @@ pub fn cell(engine: &Engine, k: u32) -> Cell
         → RestsOnNearChoice engine.now.factors engine.now.sheet shown.node }
 {
     engine.factors().known();
-    let node = node_of(entry_of(k).shown);
+    let node = Node::Whole(entry_of(k).shown);
     let bounds = bounds_at(engine, &node);
     cell_of(k, &bounds, width_of(engine.book(), &node))
 }
@@ -98,10 +97,10 @@ fn push_cell(
     entry: &Entry,
     out: &mut Vec<u8>,
 ) -> Result<(), NoMemory>
-    requires { is_live engine.now.sheet (node_of entry.now.shown) ≡ true }
+    requires { is_live engine.now.sheet (nodes.Whole entry.now.shown) ≡ true }
     ensures { OnOk result (out.new.items ≡ out.old.items
         ++ cell_line engine.now.factors engine.now.sheet (seen entry.now)) }
 {
-    let bounds = bounds_at(engine, &node_of(entry.shown));
+    let bounds = bounds_at(engine, &Node::Whole(entry.shown));
     push_bounds(alloc, out, entry.name, &bounds)
 }

@@ -1,11 +1,14 @@
 //! The bounds of a figure, in cents.
-ghost use Rattle.std.specs.Prelude.{◌≡◌, true};
+ghost use Rattle.std.specs.Prelude.{◌≡◌, ◌<◌, true};
 ghost use Rattle.scr_num.specs.Rounding.{ceil_div, floor_div};
 ghost use Rattle.scr_nodes.specs.Live.{is_live};
 ghost use Rattle.scr_cells.specs.Block.{bounds_at};
 
 use scr_nodes::Node;
 use scr_tree::Engine;
+
+/// So many grains are a cent.
+const GRAINS: u64 = 1_000;
 
 /// The bounds of a figure in cents, and whether it rests on a choice that is left open.
 #[derive(Clone, Copy)]
@@ -22,26 +25,29 @@ pub(crate) fn bounds_at(engine: &Engine, node: &Node) -> Bounds
 {
     let grains = engine.span(*node);
     Bounds {
-        low: rounded_down(grains.low),
-        high: rounded_up(grains.high),
+        low: rounded_down(grains.low, GRAINS),
+        high: rounded_up(grains.high, GRAINS),
         close: engine.is_close(node),
     }
 }
 
-/// The greatest number of cents that is at most so many grains.
-fn rounded_down(grains: i128) -> i128
-    ensures { result ≡ floor_div grains 1000 }
+/// So many units, told in one that is `scale` of them and rounded down.
+pub fn rounded_down(units: i128, scale: u64) -> i128
+    requires { 0 < scale }
+    ensures { result ≡ floor_div units scale }
 {
-    grains.div_euclid(1000)
+    units.div_euclid(i128::from(scale))
 }
 
-/// The least number of cents that is at least so many grains.
-fn rounded_up(grains: i128) -> i128
-    ensures { result ≡ ceil_div grains 1000 }
+/// So many units, told in one that is `scale` of them and rounded up.
+pub fn rounded_up(units: i128, scale: u64) -> i128
+    requires { 0 < scale }
+    ensures { result ≡ ceil_div units scale }
 {
-    if grains > 0 {
-        (grains - 1) / 1000 + 1
+    let scale = i128::from(scale);
+    if units > 0 {
+        (units - 1) / scale + 1
     } else {
-        grains / 1000
+        units / scale
     }
 }

@@ -6,9 +6,10 @@ mod bounds;
 mod cells;
 pub mod laws;
 mod printing;
-mod shown;
 mod table;
 
 pub use block::{cell, print_block, requirement_line};
+pub use bounds::{rounded_down, rounded_up};
 pub use cells::Cell;
+pub use printing::close_mark;
 pub use table::{CELL_COUNT, cell_name, cell_node};

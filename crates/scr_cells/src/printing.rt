@@ -33,7 +33,8 @@ fn push(out: &mut Vec<u8>, text: &str) -> Result<(), NoMemory>
     out.extend_from_slice(text.as_bytes())
 }
 
-fn close_mark(close: bool) -> &'static str
+/// The mark behind the bounds of a figure that rests on a choice which is left open.
+pub fn close_mark(close: bool) -> &'static str
     ensures { result.now ≡ close_mark close }
 {
     if close { " close" } else { "" }

@@ -1,5 +1,5 @@
 -- The sources of a figure stand in earlier families than it.
-use Rattle.std.proofs.Common.{◌≡◌, ℕ, ◌<◌, nat_lt, Bool, true, List, map, filter, refl, arith}
+use Rattle.std.proofs.Common.{◌≡◌, ℕ, ◌<◌, nat_lt, true, List, map, filter, refl, arith}
 use Rattle.std.specs.List.{list_all}
 use Rattle.scr_names.proofs.TableRows.{All-append}
 use Rattle.scr_profile.specs.declared.set.Set.TheVariants as sets

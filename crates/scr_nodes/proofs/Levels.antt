@@ -1,6 +1,6 @@
 -- The sources of a figure stand at lower levels than it.
-use Rattle.std.proofs.Common.{◌≡◌, ℕ, ◌<◌, max, nat_lt, true, List, map, filter, Contains, refl, subst, arith}
-use Rattle.std.specs.List.{AllByRecursion, list_all}
+use Rattle.std.proofs.Common.{◌≡◌, ℕ, ◌<◌, max, nat_lt, true, map, filter, Contains, refl, arith}
+use Rattle.std.specs.List.{list_all}
 use Rattle.scr_funds.proofs.Members.{IsMember-from_Contains, at_member}
 use Rattle.scr_names.proofs.TableRows.{All-append}
 use Rattle.scr_profile.specs.declared.set.Set.TheVariants as sets
@@ -10,7 +10,7 @@ use Rattle.scr_sheet.specs.declared.rows.Class.TheVariants as classes
 use Rattle.scr_nodes.specs.declared.node.Adjustment.TheVariants as adjustments
 use Rattle.scr_nodes.specs.declared.node.Alternatives.TheVariants as alternatives
 use Rattle.scr_nodes.specs.declared.node.Equities.TheVariants as equities
-use Rattle.scr_nodes.specs.declared.node.Measure.TheVariants.{Gross, Net}
+use Rattle.scr_nodes.specs.declared.node.Measure.TheVariants.{Gross}
 use Rattle.scr_nodes.specs.declared.node.Node.{Node}
 use Rattle.scr_nodes.specs.declared.node.Node.TheVariants as nodes
 use Rattle.scr_nodes.specs.declared.node.OfCurrency.TheVariants as of_currencies
@@ -97,16 +97,6 @@ module _ (sheet : BalanceSheet) where
   sources-within (nodes.Whole (wholes.Adjust adjustments.TechnicalProvisions)) =
       tested (nodes.Whole (wholes.Adjust adjustments.TechnicalProvisions)) refl
   sources-within node = tested node refl
-
-  pub sources-lower : (node : Node) → 0 < level node → AllBelow level (level node) (sources_of sheet node)
-  sources-lower node some =
-      let same : limit node ≡ level node = omega (arith) in
-      subst (λ most. AllBelow level most (sources_of sheet node)) same (sources-within node)
-
-  pub sources-none : (node : Node) → level node ≡ 0 → AllBelow level 1 (sources_of sheet node)
-  sources-none node none =
-      let same : limit node ≡ 1 = omega (arith) in
-      subst (λ most. AllBelow level most (sources_of sheet node)) same (sources-within node)
 
   source-within : (node source : Node) → Contains (sources_of sheet node) source → level source < limit node
   source-within node source has =

@@ -1,28 +1,19 @@
 -- The list of all figures of a valid balance sheet: each once, and after its sources.
-use Rattle.std.proofs.Common.{◌≡◌, ◌≢◌, ◌==◌, ◌⊎◌, ◌↔◌, inl, inr, ℕ, zero, suc, ◌+◌, ◌-◌, ◌<◌, ◌≤◌, Bool, true, false, nat_le, cond, List, [], ◌∷◌, ◌++◌, map, take, filter, length, Contains, Option, Some, None, is_some, slice_get, refl, sym, ap, subst, ◌∙◌, arith, append_assoc}
+use Rattle.std.proofs.Common.{◌≡◌, ◌⊎◌, ◌↔◌, inl, inr, ℕ, zero, suc, ◌+◌, ◌-◌, ◌<◌, ◌≤◌, Bool, true, false, cond, List, [], ◌∷◌, ◌++◌, map, take, filter, length, Contains, Option, Some, None, is_some, slice_get, refl, sym, ap, subst, ◌∙◌, arith, append_assoc}
 use Rattle.std.specs.List.{AllByRecursion, IsDistinct}
 use Rattle.std.specs.Option.{option_map_or}
-use Rattle.std.proofs.lemmas.Bool.{leb-true, ltb-true}
-use Rattle.std.proofs.lemmas.Bool.Decides.{eqb_tells}
 use Rattle.scr_funds.proofs.Members.{IsMember, IsMember-left, IsMember-right, IsMember-cases, IsMember-mapped, IsMember-from_Contains, Contains-from_IsMember, at_member}
 use Rattle.scr_names.specs.Names.{same_name}
 use Rattle.scr_names.specs.Tables.{row_of, has_row}
 use Rattle.scr_names.proofs.TableRows.{All-append, same_or_other, same_name-is, row_of-later}
-use Rattle.scr_profile.specs.declared.set.Set.TheVariants as sets
-use Rattle.scr_profile.specs.Segments.{segments}
 use Rattle.scr_sheet.specs.BalanceSheet.{group_name, position_name, liability_name, stake_name, curve_name, position_of, stake_of}
-use Rattle.scr_sheet.specs.declared.keys.CatKey.TheVariants as cats
 use Rattle.scr_sheet.specs.declared.{keys.Projection.Projection, sheet.BalanceSheet.BalanceSheet, rows.Curve.Curve, rows.Group.Group, rows.Liability.Liability, rows.Position.Position}
 use Rattle.scr_sheet.specs.declared.keys.Projection.TheVariants as projections
 use Rattle.scr_sheet.specs.declared.rows.Class.TheVariants as classes
 use Rattle.scr_sheet.specs.Validity.{Valid}
 use Rattle.scr_sheet.proofs.Holds.{distinct-securities}
-use Rattle.scr_nodes.specs.declared.node.Adjustment.TheVariants as adjustments
-use Rattle.scr_nodes.specs.declared.node.Alternatives.TheVariants as alternatives
-use Rattle.scr_nodes.specs.declared.node.Biometric.TheVariants as biometrics
 use Rattle.scr_nodes.specs.declared.{node.Direction.Direction, node.Node.Node}
 use Rattle.scr_nodes.specs.declared.node.Direction.TheVariants.{Up, Down}
-use Rattle.scr_nodes.specs.declared.node.Equities.TheVariants as equities
 use Rattle.scr_nodes.specs.declared.node.Measure.TheVariants.{Gross, Net}
 use Rattle.scr_nodes.specs.declared.node.Node.TheVariants as nodes
 use Rattle.scr_nodes.specs.declared.node.OfFund.TheVariants as of_funds
@@ -31,8 +22,6 @@ use Rattle.scr_nodes.specs.declared.node.OfLiability.TheVariants as of_liabiliti
 use Rattle.scr_nodes.specs.declared.node.OfCurrency.TheVariants as of_currencies
 use Rattle.scr_nodes.specs.declared.node.OfGroup.TheVariants as of_groups
 use Rattle.scr_nodes.specs.declared.node.Whole.TheVariants as wholes
-use Rattle.scr_nodes.specs.declared.node.Operational.TheVariants as operations
-use Rattle.scr_nodes.specs.declared.node.Risk.TheVariants as risks
 use Rattle.scr_nodes.specs.Live.{is_live}
 use Rattle.scr_nodes.specs.Numbers.{number_of_whole, whole_nodes}
 use Rattle.scr_nodes.specs.LiveNodes.{live_nodes, nodes_above_funds, rest_nodes, total_nodes, constant_nodes, families, payment_families, stress_families, currency_families, group_families, flat, payings, foreigns, losses_of, HasNoRepeats}

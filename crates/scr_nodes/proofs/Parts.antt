@@ -1,21 +1,14 @@
 -- The families of figures in an order in which the sources of a figure stand in earlier families than it.
-use Rattle.std.proofs.Common.{◌≡◌, ◌⊎◌, inl, inr, ℕ, zero, suc, ◌+◌, ◌*◌, ◌<◌, ◌≤◌, ◌==◌, min, nat_lt, Bool, true, false, not, ◌&&◌, List, [], ◌∷◌, ◌++◌, map, Some, slice_get, refl, sym, ap, subst, ◌∙◌, arith}
+use Rattle.std.proofs.Common.{◌≡◌, ◌⊎◌, inl, inr, ℕ, zero, suc, ◌+◌, ◌*◌, ◌<◌, ◌≤◌, ◌==◌, Bool, true, false, not, ◌&&◌, List, [], ◌∷◌, ◌++◌, map, Some, slice_get, refl, sym, ap, subst, ◌∙◌, arith}
 use Rattle.std.specs.List.{AllByRecursion, list_all}
-use Rattle.std.proofs.lemmas.Bool.{eqb-true, eq-eqb, ltb-true}
+use Rattle.std.proofs.lemmas.Bool.{eqb-true, eq-eqb}
 use Rattle.scr_funds.proofs.Members.{IsMember, IsMember-cases, at_member, each_weaker}
-use Rattle.scr_profile.specs.declared.set.Set.{Set}
 use Rattle.scr_profile.specs.declared.set.Set.TheVariants as sets
-use Rattle.scr_sheet.specs.declared.{keys.CatKey.CatKey, keys.Projection.Projection, rows.Class.Class}
-use Rattle.scr_sheet.specs.declared.keys.CatKey.TheVariants as cats
+use Rattle.scr_sheet.specs.declared.{keys.Projection.Projection}
 use Rattle.scr_sheet.specs.declared.keys.Projection.TheVariants as projections
-use Rattle.scr_sheet.specs.declared.rows.Class.TheVariants as classes
-use Rattle.scr_nodes.specs.declared.{node.Adjustment.Adjustment, node.Alternatives.Alternatives, node.Biometric.Biometric, node.Direction.Direction, node.Equities.Equities, node.Measure.Measure, node.Node.Node, node.Operational.Operational, node.Risk.Risk}
-use Rattle.scr_nodes.specs.declared.node.Adjustment.TheVariants as adjustments
+use Rattle.scr_nodes.specs.declared.{node.Node.Node}
 use Rattle.scr_nodes.specs.declared.node.Alternatives.TheVariants as alternatives
 use Rattle.scr_nodes.specs.declared.node.Biometric.TheVariants as biometrics
-use Rattle.scr_nodes.specs.declared.node.Direction.TheVariants.{Up, Down}
-use Rattle.scr_nodes.specs.declared.node.Equities.TheVariants as equities
-use Rattle.scr_nodes.specs.declared.node.Measure.TheVariants.{Gross, Net}
 use Rattle.scr_nodes.specs.declared.node.Node.TheVariants as nodes
 use Rattle.scr_nodes.specs.declared.node.OfFund.TheVariants as of_funds
 use Rattle.scr_nodes.specs.declared.node.OfSecurity.TheVariants as of_securities
@@ -23,7 +16,6 @@ use Rattle.scr_nodes.specs.declared.node.OfLiability.TheVariants as of_liabiliti
 use Rattle.scr_nodes.specs.declared.node.OfCurrency.TheVariants as of_currencies
 use Rattle.scr_nodes.specs.declared.node.OfGroup.TheVariants as of_groups
 use Rattle.scr_nodes.specs.declared.node.Whole.TheVariants as wholes
-use Rattle.scr_nodes.specs.declared.node.Operational.TheVariants as operations
 use Rattle.scr_nodes.specs.declared.node.Risk.TheVariants as risks
 use Rattle.scr_nodes.specs.Numbers.{direction_place, measure_place, number_of_whole}
 use Rattle.scr_nodes.proofs.Apart.{AreApart, member-at}

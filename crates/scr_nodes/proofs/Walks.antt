@@ -97,11 +97,6 @@ pushed_next items start after list k x is so_far next =
     (sym (take_more list k x (slice_get_within list k x is)
     ∙ ap (λ y. take k list ++ y ∷ []) (get_or_from_slice_get list k x x is)))
 
--- a list pushed behind another that was pushed
-pub joined : {A : Type 0} (start next last front back : List A) → next ≡ start ++ front → last ≡ next ++ back
-    → last ≡ start ++ (front ++ back)
-joined start next last front back first second = second ∙ ap (λ xs. xs ++ back) first ∙ append_assoc start front back
-
 -- what follows where a call succeeds
 pub on_ok : {A E : Type 0} (result : Result A E) (P Q : Type 0) → (P → Q) → OnOk result P → OnOk result Q
 on_ok (Ok a) P Q f h = f h

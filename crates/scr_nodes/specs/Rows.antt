@@ -1,19 +1,16 @@
 -- Which rows of the balance sheet a figure is reckoned from (Delegated Regulation (EU) 2015/35, Articles 84, 165 and
 -- 168).
-use Rattle.std.specs.Prelude.{ℕ, ℤ, ◌+◌, ◌==◌, Bool, true, false, not, ◌&&◌, List, [], ◌∷◌, Option, Some, None, is_some, filter, sum_by, nat_lt, if◌then◌else◌}
+use Rattle.std.specs.Prelude.{ℕ, ℤ, ◌+◌, ◌==◌, Bool, true, false, not, ◌&&◌, List, [], ◌∷◌, Option, Some, None, filter, sum_by, nat_lt, if◌then◌else◌}
 use Rattle.std.specs.List.{list_any}
 use Rattle.std.specs.Option.{option_map_or}
 use Rattle.scr_names.specs.Names.{same_name}
 use Rattle.scr_names.specs.Tables.{row_of}
-use Rattle.scr_sheet.specs.CashFlows.{is_empty, flows_under}
 use Rattle.scr_sheet.specs.BalanceSheet.{curve_name, group_name, liability_name, position_of, stake_of}
 use Rattle.scr_sheet.specs.Records.{natural}
 use Rattle.scr_sheet.specs.declared.keys.Projection.{Projection}
 use Rattle.scr_sheet.specs.declared.keys.Projection.TheVariants as projections
 use Rattle.scr_sheet.specs.declared.sheet.BalanceSheet.{BalanceSheet}
 use Rattle.scr_sheet.specs.declared.rows.Bank.{Bank}
-use Rattle.scr_sheet.specs.declared.rows.Class.{Class}
-use Rattle.scr_sheet.specs.declared.rows.Class.TheVariants as classes
 use Rattle.scr_sheet.specs.declared.rows.Curve.{Curve}
 use Rattle.scr_sheet.specs.declared.rows.Group.{Group}
 use Rattle.scr_sheet.specs.declared.rows.Liability.{Liability}
@@ -25,6 +22,8 @@ use Rattle.scr_sheet.specs.declared.rows.Stake.{Stake}
 use Rattle.scr_nodes.specs.declared.node.Biometric.{Biometric}
 use Rattle.scr_nodes.specs.declared.node.Biometric.TheVariants as biometrics
 use Rattle.scr_nodes.specs.Own.{Share}
+-- the tests by which the large sums take rows
+pub use Rattle.scr_sheet.specs.Members.{has_class, has_flows, has_group, is_closed, is_held_in, is_of_class, is_of_group, is_owed_in, is_paying, is_paying_in}
 
 -- ---- funds
 
@@ -43,14 +42,6 @@ holds name stake = list_any (is_component name) stake.fund.components
 -- the funds that hold it, in the order of their table
 abbrev pub holders : List ℕ → BalanceSheet → List Stake
 holders name sheet = filter (holds name) sheet.funds
-
--- a fund without components, through which nothing is seen
-abbrev pub is_closed : Stake → Bool
-is_closed stake = nothing stake.fund.components
-  where
-    nothing : {A : Type 0} → List A → Bool
-    nothing [] = true
-    nothing (c ∷ cs) = false
 
 -- the weights of the components before the first of this name
 abbrev pub weights_before : List ℕ → List (List ℕ × ℤ) → ℕ
@@ -79,16 +70,6 @@ fund_held name sheet = option_map_or (λ s. s.held) (stake_of name sheet.funds) 
 
 -- ---- payments
 
-abbrev pub is_paying : Position → Bool
-is_paying position = not (is_empty position.security.flows)
-
--- a security in the currency that pays, and a liability in the currency
-abbrev pub is_paying_in : List ℕ → Position → Bool
-is_paying_in currency position = same_name currency position.security.currency && is_paying position
-
-abbrev pub is_owed_in : List ℕ → Liability → Bool
-is_owed_in currency liability = same_name currency liability.currency
-
 abbrev pub liability_of : List ℕ → List Liability → Option Liability
 liability_of name liabilities = row_of liability_name name liabilities
 
@@ -96,29 +77,7 @@ liability_of name liabilities = row_of liability_name name liabilities
 abbrev pub rates_of : List ℕ → BalanceSheet → List ℤ
 rates_of currency sheet = option_map_or (λ (curve : Curve). curve.rates) (row_of curve_name currency sheet.curves) []
 
--- ---- classes
-
-abbrev pub is_of_class : Class → Class → Bool
-is_of_class classes.Type1Equity classes.Type1Equity = true
-is_of_class classes.Type1Strategic classes.Type1Strategic = true
-is_of_class classes.Type2Equity classes.Type2Equity = true
-is_of_class classes.Type2Strategic classes.Type2Strategic = true
-is_of_class classes.Infrastructure classes.Infrastructure = true
-is_of_class classes.InfrastructureCorporate classes.InfrastructureCorporate = true
-is_of_class classes.Property classes.Property = true
-is_of_class classes.Bond classes.Bond = true
-is_of_class classes.Government classes.Government = true
-is_of_class classes.Other classes.Other = true
-is_of_class class of = false
-
-abbrev pub has_class : Class → Position → Bool
-has_class class position = is_of_class class position.security.class
-
 -- ---- currencies
-
--- a security in the currency, whether it pays or not
-abbrev pub is_held_in : List ℕ → Position → Bool
-is_held_in currency position = same_name currency position.security.currency
 
 -- a currency other than the reporting one (Article 188(1))
 abbrev pub is_foreign : BalanceSheet → Curve → Bool
@@ -128,13 +87,6 @@ is_foreign sheet curve = not (same_name sheet.numbers.currency curve.currency)
 
 abbrev pub group_of : List ℕ → List Group → Option Group
 group_of name groups = row_of group_name name groups
-
--- a security of the group, and one of any group
-abbrev pub is_of_group : List ℕ → Position → Bool
-is_of_group name position = option_map_or (same_name name) position.security.group false
-
-abbrev pub has_group : Position → Bool
-has_group position = is_some position.security.group
 
 -- the credit quality step of a group, none where it has none or no group has the name
 abbrev pub step_of_group : BalanceSheet → List ℕ → Option ℕ
@@ -161,10 +113,6 @@ abbrev pub is_of_default_class : ℕ → Group → Bool
 is_of_default_class class group = class_of_step group.step == class
 
 -- ---- biometric stresses
-
--- the liability has flows under the projection
-abbrev pub has_flows : Projection → Liability → Bool
-has_flows projection liability = not (is_empty (flows_under projection liability.flows))
 
 -- a projection other than the best estimate
 abbrev pub is_stress : Projection → Bool

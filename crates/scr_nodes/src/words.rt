@@ -154,35 +154,6 @@ pub fn market_parts(measure: Measure) -> [Node; 7]
     ]
 }
 
-/// The sums of the losses of all groups of each class of probabilities of default (Article
-/// 201).
-pub fn class_losses() -> [Node; 6]
-    ensures { result ≡ class_losses }
-{
-    [
-        Node::Whole(Whole::ClassLoss(0)),
-        Node::Whole(Whole::ClassLoss(1)),
-        Node::Whole(Whole::ClassLoss(2)),
-        Node::Whole(Whole::ClassLoss(3)),
-        Node::Whole(Whole::ClassLoss(4)),
-        Node::Whole(Whole::ClassLoss(5)),
-    ]
-}
-
-/// The sums of the squares of the losses of all groups of each class (Article 201).
-pub fn class_squares() -> [Node; 6]
-    ensures { result ≡ class_squares }
-{
-    [
-        Node::Whole(Whole::ClassSquare(0)),
-        Node::Whole(Whole::ClassSquare(1)),
-        Node::Whole(Whole::ClassSquare(2)),
-        Node::Whole(Whole::ClassSquare(3)),
-        Node::Whole(Whole::ClassSquare(4)),
-        Node::Whole(Whole::ClassSquare(5)),
-    ]
-}
-
 /// What the variance of the losses of all groups is reckoned from: the sums of each class, and
 /// then those of the squares (Article 201).
 pub fn variance_sources() -> [Node; 12]

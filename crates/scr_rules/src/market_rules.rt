@@ -15,7 +15,7 @@ ghost use Rattle.scr_conc.specs.declared.TheConstants.{MAX_SQUARES};
 ghost use Rattle.scr_profile.specs.declared.limits.TheConstants.{MAX_HELD, MAX_DURATION};
 ghost use Rattle.scr_sheet.specs.Validity.{Valid};
 ghost use Rattle.scr_nodes.specs.OwnOf.{own_of, held_in, liability_valued};
-ghost use Rattle.scr_nodes.specs.Rows.{is_held_in, step_of};
+ghost use Rattle.scr_nodes.specs.Rows.{step_of};
 ghost use Rattle.scr_nodes.specs.declared.node.Node.TheVariants as nodes;
 ghost use Rattle.scr_nodes.specs.declared.node.OfSecurity.TheVariants as of_securities;
 ghost use Rattle.scr_nodes.specs.declared.node.OfLiability.TheVariants as of_liabilities;
@@ -43,6 +43,7 @@ use scr_market::stress;
 use scr_nodes::Direction;
 use scr_num::{Span, add, exact};
 use scr_rate::total;
+use scr_sheet::is_held_in;
 
 /// The present value of a liability by the best estimate, in 10^-18 cents.
 pub(crate) fn worth(
@@ -131,12 +132,6 @@ fn held_count(sheet: &BalanceSheet, currency: &Name) -> usize
         }
     }
     count
-}
-
-fn is_held_in(currency: &Name, position: &Position) -> bool
-    ensures { result ≡ is_held_in currency.now position.now }
-{
-    *currency == position.security.currency
 }
 
 /// A quarter of what is held of immovable property.

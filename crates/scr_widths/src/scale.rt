@@ -9,7 +9,8 @@ ghost use Rattle.scr_widths.specs.Scales.{IsScale};
 ghost use Rattle.scr_widths.specs.Widths.{load, scale_of};
 
 use scr_book::Book;
-use scr_sheet::{BalanceSheet, Curve, PROJECTIONS, Projection};
+use scr_nodes::rows::is_foreign;
+use scr_sheet::{BalanceSheet, PROJECTIONS, Projection};
 
 /// What the widths of a book's cells depend on.
 #[derive(Clone, Copy)]
@@ -105,10 +106,4 @@ fn foreign(sheet: &BalanceSheet) -> u64
         }
     }
     count
-}
-
-fn is_foreign(sheet: &BalanceSheet, curve: &Curve) -> bool
-    ensures { result ≡ is_foreign sheet.now curve.now }
-{
-    sheet.numbers.currency != curve.currency
 }
