@@ -16,7 +16,8 @@ use Rattle.scr_sheet.specs.declared.rows.Group.{Group}
 use Rattle.scr_sheet.specs.declared.rows.Position.{Position}
 use Rattle.scr_nodes.specs.Rows.{class_of_step, is_of_class, is_of_default_class, is_of_group}
 use Rattle.scr_sheet.specs.declared.keys.Projection.TheVariants as projection_kinds
-use Rattle.scr_figures.specs.Gathered.{class_place, classes, default_classes, projection_place, projections}
+use Rattle.scr_nodes.specs.Numbers.{class_place}
+use Rattle.scr_figures.specs.Gathered.{classes, default_classes, projection_place, projections}
 use Rattle.scr_figures.specs.Places.{AreSame, IsMore, IsMoreAt, IsOnly, entered_at, entered_where, places_by, places_where}
 use Rattle.scr_figures.proofs.Entering.{entered-more, entered-next, entered-none, name-at, name-nowhere, places-more, row-entered}
 

@@ -1,20 +1,19 @@
 -- The rows that were gathered are those that are read.
-use Rattle.std.proofs.Common.{◌≡◌, ℕ, zero, suc, ◌+◌, ◌<◌, ◌≤◌, Bool, true, false, cond, List, [], ◌∷◌, ◌++◌, length, map, take, get_or, Some, option_map, slice_get, Result, OnOk, refl, sym, ap, subst, ◌∙◌, arith, append_assoc, append-nil}
+use Rattle.std.proofs.Common.{◌≡◌, ℕ, zero, suc, ◌+◌, ◌<◌, ◌≤◌, Bool, true, false, cond, List, [], ◌∷◌, ◌++◌, length, map, take, get_or, Option, Some, IfSome, option_map, slice_get, Result, OnOk, refl, sym, ap, subst, ◌∙◌, arith, append_assoc, append-nil}
 use Rattle.std.specs.List.{AllByRecursion}
 use Rattle.std.proofs.lemmas.Bool.{ltb-true}
 use Rattle.std.proofs.lemmas.List.{length-map, map-append, take_more}
 use Rattle.std.proofs.lemmas.Option.{slice_get-map, slice_get_within}
-use Rattle.scr_numbers.specs.Ranges.{Numbered, count}
-use Rattle.scr_numbers.specs.declared.table.Table.{Table}
+use Rattle.scr_numbers.specs.Ranges.{Numbered, count, stride}
 use Rattle.scr_numbers.specs.declared.table.Table.TheVariants as tables
 use Rattle.scr_sheet.specs.declared.{rows.Class.Class, sheet.BalanceSheet.BalanceSheet}
 use Rattle.scr_sheet.specs.declared.keys.Projection.TheVariants as projection_kinds
 use Rattle.scr_sheet.specs.declared.rows.Class.TheVariants as class_kinds
 use Rattle.scr_nodes.specs.Live.{is_live}
+use Rattle.scr_nodes.specs.Selections.{is_counted, is_counterparty, is_currency, is_holder, is_obligation}
 use Rattle.scr_nodes.specs.Table.{first_of, second_of}
-use Rattle.scr_nodes.specs.declared.{node.Direction.Direction, node.Measure.Measure, node.Node.Node, node.OfCurrency.OfCurrency, node.OfFund.OfFund, node.OfGroup.OfGroup, node.OfLiability.OfLiability, node.OfSecurity.OfSecurity}
-use Rattle.scr_nodes.specs.declared.node.Direction.TheVariants.{Up, Down}
-use Rattle.scr_nodes.specs.declared.node.Measure.TheVariants.{Gross, Net}
+use Rattle.scr_nodes.specs.declared.{node.Node.Node, node.OfFund.OfFund, node.OfLiability.OfLiability, selections.Selection.Selection}
+use Rattle.scr_nodes.specs.declared.node.Measure.TheVariants.{Gross}
 use Rattle.scr_nodes.specs.declared.node.Node.TheVariants as nodes
 use Rattle.scr_nodes.specs.declared.node.OfCurrency.TheVariants as of_currencies
 use Rattle.scr_nodes.specs.declared.node.OfFund.TheVariants as of_funds
@@ -24,13 +23,16 @@ use Rattle.scr_nodes.specs.declared.node.OfSecurity.TheVariants as of_securities
 use Rattle.scr_nodes.specs.declared.node.Whole.TheVariants as wholes
 use Rattle.scr_nodes.specs.declared.selections.Holders.TheVariants as holders
 use Rattle.scr_nodes.specs.declared.selections.Selection.TheVariants as selections
-use Rattle.scr_figures.specs.Families.{currency_family, direction_place, fund_family, group_family, liability_family, measure_place, name_of, security_family, table_of}
+use Rattle.scr_nodes.proofs.Numbers.{direction-place-most}
+use Rattle.scr_figures.specs.Families.{fund_family, liability_family, name_of, table_of}
 use Rattle.scr_figures.specs.Numbers.{IsNumbered, names_in}
-use Rattle.scr_sheet.specs.BalanceSheet.{group_name, liability_name, position_name, stake_name}
-use Rattle.scr_figures.specs.Gathered.{class_place, classes, default_classes}
+use Rattle.scr_sheet.specs.BalanceSheet.{curve_name, group_name, liability_name, position_name, stake_name}
+use Rattle.scr_nodes.specs.Numbers.{class_place}
+use Rattle.scr_figures.specs.Gathered.{classes, default_classes}
 use Rattle.scr_figures.specs.Places.{places_by, places_where}
 use Rattle.scr_figures.proofs.Entering.{places-more}
-use Rattle.scr_figures.specs.SourceNumbers.{IsGathered, numbers_at}
+use Rattle.scr_figures.specs.SourceNumbers.{IsGathered, selected_family, selected_rows, selected_table}
+use Rattle.scr_figures.proofs.Live.{currency-few, group-few, security-few}
 
 -- ---- places of rows
 
@@ -97,37 +99,9 @@ default-at (suc (suc (suc (suc (suc (suc class)))))) few = let no : ⊥ = omega 
 
 -- ---- families are within the strides
 
-direction-few : (x : Direction) → direction_place x < 2
-direction-few Up = omega arith
-direction-few Down = omega arith
-
-measure-few : (x : Measure) → measure_place x < 2
-measure-few Gross = omega arith
-measure-few Net = omega arith
-
-pub security-few : (what : OfSecurity) → security_family what ≤ 6
-security-few of_securities.Total = omega arith
-security-few (of_securities.UnitLoss direction) = let few = direction-few direction in omega (arith, few)
-security-few (of_securities.Rate direction) = let few = direction-few direction in omega (arith, few)
-security-few of_securities.Spread = omega arith
-
 pub liability-few : (what : OfLiability) → liability_family what ≤ 12
-liability-few (of_liabilities.Rate direction) = let few = direction-few direction in omega (arith, few)
-liability-few of_liabilities.Present = omega arith
 liability-few (of_liabilities.Loss projection_kinds.Base) = omega arith
-liability-few (of_liabilities.Loss projection) = omega arith
-
-pub currency-few : (what : OfCurrency) → currency_family what ≤ 9
-currency-few (of_currencies.Loss direction) = let few = direction-few direction in omega (arith, few)
-currency-few (of_currencies.Scenario direction measure) =
-    let few = direction-few direction in let two = measure-few measure in omega (arith, few, two)
-currency-few of_currencies.Choice = omega arith
-currency-few (of_currencies.Picked measure) = let two = measure-few measure in omega (arith, two)
-
-pub group-few : (what : OfGroup) → group_family what ≤ 3
-group-few of_groups.Total = omega arith
-group-few of_groups.ConcentrationSquare = omega arith
-group-few of_groups.Loss = omega arith
+liability-few what = omega (arith, direction-place-most)
 
 -- ---- the row by whose name rows are read
 
@@ -166,11 +140,9 @@ fund-family of_funds.Total = refl
 pub fund-first : (name : List ℕ) (what : OfFund) → first_of (nodes.Fund name what) ≡ selections.Funds (holders.Of name) of_funds.Total
 fund-first name of_funds.Total = refl
 
--- a figure of a security that is no total reads no rows
-pub other-first : (name : List ℕ) (what : OfSecurity) → (what ≡ of_securities.Total → ⊥)
-    → first_of (nodes.Security name what) ≡ selections.None
-other-first name of_securities.Total not = absurd (not refl)
-other-first name what not = refl
+-- what is told of a value, where there is one
+pub some-is : {A : Type 0} (found : Option A) (x : A) (P : A → Type 0) → found ≡ Some x → IfSome found P → P x
+some-is found x P is fact = subst (λ o. IfSome o P) is fact
 
 -- what follows where the lists are the same
 pub read-alike : {A E : Type 0} (result : Result A E) (new old xs ys : List ℕ) → xs ≡ ys → OnOk result (new ≡ old ++ xs)
@@ -236,17 +208,32 @@ module _ (sheet : BalanceSheet) (places : Numbered) (numbered : IsNumbered sheet
   pub counted-liabilities : count places tables.Liability ≡ length sheet.liabilities
   counted-liabilities = numbered.rows tables.Liability ∙ length-map sheet.liabilities liability_name
 
+  pub counted-curves : count places tables.Currency ≡ length sheet.curves
+  counted-curves = numbered.rows tables.Currency ∙ length-map sheet.curves curve_name
+
   pub counted-groups : count places tables.Group ≡ length sheet.groups
   counted-groups = numbered.rows tables.Group ∙ length-map sheet.groups group_name
 
--- those of a test are within
-pub found-within : {Row : Type 0} (test : Row → Bool) (n : ℕ) (rows : List Row) (found : List ℕ) → n ≡ length rows
-    → found ≡ places_where test 0 rows → AllByRecursion (λ k. k < n) found
-found-within test n rows found all is = subst (AllByRecursion (λ k. k < n)) (sym is) (rows-within test n rows all)
+-- those that are read
+module _ (sheet : BalanceSheet) (places : Numbered) (numbered : IsNumbered sheet places) where
+  pub selected-within : (selection : Selection)
+      → AllByRecursion (λ k. k < count places (selected_table selection)) (selected_rows sheet selection)
+  selected-within selections.None = tt
+  selected-within (selections.Funds which what) =
+      rows-within (is_holder which) (count places tables.Fund) sheet.funds (counted-funds sheet places numbered)
+  selected-within (selections.Securities which what) =
+      rows-within (is_counted which) (count places tables.Security) sheet.securities (counted-securities sheet places numbered)
+  selected-within (selections.Liabilities which what) =
+      rows-within (is_obligation which) (count places tables.Liability) sheet.liabilities (counted-liabilities sheet places numbered)
+  selected-within (selections.Currencies which what) =
+      rows-within (is_currency sheet which) (count places tables.Currency) sheet.curves (counted-curves sheet places numbered)
+  selected-within (selections.Groups which what) =
+      rows-within (is_counterparty which) (count places tables.Group) sheet.groups (counted-groups sheet places numbered)
 
--- and so are their numbers read
-pub found-read : {A E Row : Type 0} (test : Row → Bool) (rows : List Row) (result : Result A E) (places : Numbered) (table : Table)
-    (own : ℕ) (new old found : List ℕ) → found ≡ places_where test 0 rows → OnOk result (new ≡ old ++ numbers_at places table own found)
-    → OnOk result (new ≡ old ++ numbers_at places table own (places_where test 0 rows))
-found-read test rows result places table own new old found is on =
-    subst (λ ks. OnOk result (new ≡ old ++ numbers_at places table own ks)) is on
+pub selected-few : (selection : Selection) → selected_family selection ≤ stride (selected_table selection)
+selected-few selections.None = omega arith
+selected-few (selections.Funds which of_funds.Total) = omega arith
+selected-few (selections.Securities which what) = omega (arith, security-few what)
+selected-few (selections.Liabilities which what) = liability-few what
+selected-few (selections.Currencies which what) = omega (arith, currency-few what)
+selected-few (selections.Groups which what) = omega (arith, group-few what)

@@ -3,29 +3,18 @@
 use Rattle.std.specs.Prelude.{ℕ, ◌+◌, ◌*◌, List, [], if◌then◌else◌, nat_lt}
 use Rattle.scr_numbers.specs.declared.table.Table.{Table}
 use Rattle.scr_numbers.specs.declared.table.Table.TheVariants as tables
-use Rattle.scr_profile.specs.declared.set.Set.{Set}
-use Rattle.scr_profile.specs.declared.set.Set.TheVariants as sets
-use Rattle.scr_sheet.specs.declared.{keys.CatKey.CatKey, keys.Projection.Projection, rows.Class.Class}
-use Rattle.scr_sheet.specs.declared.keys.CatKey.TheVariants as cats
+use Rattle.scr_sheet.specs.declared.{keys.Projection.Projection}
 use Rattle.scr_sheet.specs.declared.keys.Projection.TheVariants as projections
-use Rattle.scr_sheet.specs.declared.rows.Class.TheVariants as classes
 use Rattle.scr_nodes.specs.Live.{is_segment}
+use Rattle.scr_nodes.specs.Numbers.{adjustment_place, charge_place, choice_place, class_place, direction_place, equities_place, measure_place, operational_place, risk_place, scenario_place, scenarios_from, segments_from, set_place}
 use Rattle.scr_nodes.specs.Rows.{has_stress, is_stress}
-use Rattle.scr_nodes.specs.declared.{node.Adjustment.Adjustment, node.Alternatives.Alternatives, node.Biometric.Biometric, node.Direction.Direction, node.Equities.Equities, node.Measure.Measure, node.Node.Node, node.OfCurrency.OfCurrency, node.OfFund.OfFund, node.OfGroup.OfGroup, node.OfLiability.OfLiability, node.OfSecurity.OfSecurity, node.Operational.Operational, node.Risk.Risk, node.Whole.Whole}
-use Rattle.scr_nodes.specs.declared.node.Adjustment.TheVariants as adjustments
-use Rattle.scr_nodes.specs.declared.node.Alternatives.TheVariants as alternatives
-use Rattle.scr_nodes.specs.declared.node.Biometric.TheVariants as biometrics
-use Rattle.scr_nodes.specs.declared.node.Direction.TheVariants.{Up, Down}
-use Rattle.scr_nodes.specs.declared.node.Equities.TheVariants as equities
-use Rattle.scr_nodes.specs.declared.node.Measure.TheVariants.{Gross, Net}
+use Rattle.scr_nodes.specs.declared.{node.Node.Node, node.OfCurrency.OfCurrency, node.OfFund.OfFund, node.OfGroup.OfGroup, node.OfLiability.OfLiability, node.OfSecurity.OfSecurity, node.Whole.Whole}
 use Rattle.scr_nodes.specs.declared.node.Node.TheVariants as nodes
 use Rattle.scr_nodes.specs.declared.node.OfCurrency.TheVariants as of_currencies
 use Rattle.scr_nodes.specs.declared.node.OfFund.TheVariants as of_funds
 use Rattle.scr_nodes.specs.declared.node.OfGroup.TheVariants as of_groups
 use Rattle.scr_nodes.specs.declared.node.OfLiability.TheVariants as of_liabilities
 use Rattle.scr_nodes.specs.declared.node.OfSecurity.TheVariants as of_securities
-use Rattle.scr_nodes.specs.declared.node.Operational.TheVariants as operations
-use Rattle.scr_nodes.specs.declared.node.Risk.TheVariants as risks
 use Rattle.scr_nodes.specs.declared.node.Whole.TheVariants as wholes
 
 -- the table of the row
@@ -46,33 +35,7 @@ name_of (nodes.Currency name what) = name
 name_of (nodes.Group name what) = name
 name_of (nodes.Whole what) = []
 
--- ---- places within a family
-
-abbrev pub direction_place : Direction → ℕ
-direction_place Up = 0
-direction_place Down = 1
-
-abbrev pub measure_place : Measure → ℕ
-measure_place Gross = 0
-measure_place Net = 1
-
-abbrev pub class_place : Class → ℕ
-class_place classes.Type1Equity = 0
-class_place classes.Type1Strategic = 1
-class_place classes.Type2Equity = 2
-class_place classes.Type2Strategic = 3
-class_place classes.Infrastructure = 4
-class_place classes.InfrastructureCorporate = 5
-class_place classes.Property = 6
-class_place classes.Bond = 7
-class_place classes.Government = 8
-class_place classes.Other = 9
-
-abbrev pub equities_place : Equities → ℕ
-equities_place equities.Type1 = 0
-equities_place equities.Type2 = 1
-equities_place equities.Infrastructure = 2
-equities_place equities.InfrastructureCorporate = 3
+-- ---- the families of each table
 
 abbrev pub stress_place : Projection → ℕ
 stress_place projections.Base = 0
@@ -85,75 +48,6 @@ stress_place projections.LapseUp = 5
 stress_place projections.LapseDown = 6
 stress_place projections.LapseMass = 7
 stress_place projections.Catastrophe = 8
-
--- the choice among lapses stands before the catastrophe
-abbrev pub scenario_place : Projection → ℕ
-scenario_place projections.Base = 0
-scenario_place projections.Mortality = 0
-scenario_place projections.Longevity = 2
-scenario_place projections.Disability = 4
-scenario_place projections.Expense = 6
-scenario_place projections.Revision = 8
-scenario_place projections.LapseUp = 10
-scenario_place projections.LapseDown = 12
-scenario_place projections.LapseMass = 14
-scenario_place projections.Catastrophe = 19
-
-abbrev pub scenarios_from : Biometric → ℕ
-scenarios_from biometrics.Life = 51
-scenarios_from biometrics.Health = 74
-
-abbrev pub choice_family : Alternatives → ℕ
-choice_family alternatives.Interest = 18
-choice_family alternatives.LifeLapse = 67
-choice_family alternatives.HealthLapse = 90
-
-abbrev pub net_family : Risk → ℕ
-net_family risks.Equity = 25
-net_family risks.Property = 26
-net_family risks.Spread = 27
-net_family risks.Concentration = 28
-net_family risks.Default = 50
-net_family risks.HealthCatastrophe = 136
-
-abbrev pub charge_place : CatKey → ℕ
-charge_place cats.Windstorm = 0
-charge_place cats.Earthquake = 1
-charge_place cats.Flood = 2
-charge_place cats.Hail = 3
-charge_place cats.Subsidence = 4
-charge_place cats.Motor = 5
-charge_place cats.Marine = 6
-charge_place cats.Aviation = 7
-charge_place cats.Fire = 8
-charge_place cats.Liability = 9
-charge_place cats.Credit = 10
-charge_place cats.NonProportionalProperty = 11
-charge_place cats.Other = 12
-charge_place cats.MassAccident = 13
-charge_place cats.AccidentConcentration = 14
-charge_place cats.Pandemic = 15
-
-abbrev pub set_place : Set → ℕ
-set_place sets.Nl = 0
-set_place sets.Nslt = 1
-
--- segments are numbered from 1
-abbrev pub segments_from : Set → ℕ
-segments_from sets.Nl = 94
-segments_from sets.Nslt = 106
-
-abbrev pub operational_place : Operational → ℕ
-operational_place operations.Premiums = 0
-operational_place operations.Provisions = 1
-operational_place operations.Cap = 2
-operational_place operations.Charge = 3
-
-abbrev pub adjustment_place : Adjustment → ℕ
-adjustment_place adjustments.TechnicalProvisions = 0
-adjustment_place adjustments.DeferredTaxes = 1
-
--- ---- the families of each table
 
 abbrev pub fund_family : OfFund → ℕ
 fund_family of_funds.Total = 0
@@ -184,13 +78,13 @@ abbrev pub whole_family : Whole → ℕ
 whole_family (wholes.ClassSum class) = class_place class
 whole_family (wholes.EquityPart equities) = 10 + equities_place equities
 whole_family (wholes.InterestScenario direction measure) = 14 + 2 * direction_place direction + measure_place measure
-whole_family (wholes.Choice which) = choice_family which
-whole_family (wholes.Picked which measure) = 1 + choice_family which + measure_place measure
+whole_family (wholes.Choice which) = choice_place which
+whole_family (wholes.Picked which measure) = 1 + choice_place which + measure_place measure
 whole_family wholes.EquityRoot = 21
 whole_family wholes.Property = 22
 whole_family wholes.Spread = 23
 whole_family wholes.Concentration = 24
-whole_family (wholes.NetPart risk) = net_family risk
+whole_family (wholes.NetPart risk) = risk_place risk
 whole_family (wholes.Currency measure) = 29 + measure_place measure
 whole_family (wholes.Market measure) = 31 + measure_place measure
 whole_family (wholes.ClassLoss class) = if nat_lt class 6 then 33 + class else 154

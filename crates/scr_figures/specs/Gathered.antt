@@ -17,18 +17,6 @@ classes =
     ∷ class_kinds.Infrastructure ∷ class_kinds.InfrastructureCorporate ∷ class_kinds.Property ∷ class_kinds.Bond
     ∷ class_kinds.Government ∷ class_kinds.Other ∷ []
 
-abbrev pub class_place : Class → ℕ
-class_place class_kinds.Type1Equity = 0
-class_place class_kinds.Type1Strategic = 1
-class_place class_kinds.Type2Equity = 2
-class_place class_kinds.Type2Strategic = 3
-class_place class_kinds.Infrastructure = 4
-class_place class_kinds.InfrastructureCorporate = 5
-class_place class_kinds.Property = 6
-class_place class_kinds.Bond = 7
-class_place class_kinds.Government = 8
-class_place class_kinds.Other = 9
-
 abbrev pub projections : List Projection
 projections =
     projection_kinds.Base ∷ projection_kinds.Mortality ∷ projection_kinds.Longevity ∷ projection_kinds.Disability

@@ -38,18 +38,34 @@ ArePushed sheet places node before now = AreAllPushed sheet places (sources_of s
 abbrev pub numbers_at : Numbered → Table → ℕ → List ℕ → List ℕ
 numbers_at places table family rows = map (λ row. first places table row + family) rows
 
+-- the table that is read, which figures of its rows, and the places of these
+abbrev pub selected_table : Selection → Table
+selected_table selections.None = tables.Whole
+selected_table (selections.Funds which what) = tables.Fund
+selected_table (selections.Securities which what) = tables.Security
+selected_table (selections.Liabilities which what) = tables.Liability
+selected_table (selections.Currencies which what) = tables.Currency
+selected_table (selections.Groups which what) = tables.Group
+
+abbrev pub selected_family : Selection → ℕ
+selected_family selections.None = 0
+selected_family (selections.Funds which what) = fund_family what
+selected_family (selections.Securities which what) = security_family what
+selected_family (selections.Liabilities which what) = liability_family what
+selected_family (selections.Currencies which what) = currency_family what
+selected_family (selections.Groups which what) = group_family what
+
+abbrev pub selected_rows : BalanceSheet → Selection → List ℕ
+selected_rows sheet selections.None = []
+selected_rows sheet (selections.Funds which what) = places_where (is_holder which) 0 sheet.funds
+selected_rows sheet (selections.Securities which what) = places_where (is_counted which) 0 sheet.securities
+selected_rows sheet (selections.Liabilities which what) = places_where (is_obligation which) 0 sheet.liabilities
+selected_rows sheet (selections.Currencies which what) = places_where (is_currency sheet which) 0 sheet.curves
+selected_rows sheet (selections.Groups which what) = places_where (is_counterparty which) 0 sheet.groups
+
 abbrev pub selected_numbers : BalanceSheet → Numbered → Selection → List ℕ
-selected_numbers sheet places selections.None = []
-selected_numbers sheet places (selections.Funds which what) =
-    numbers_at places tables.Fund (fund_family what) (places_where (is_holder which) 0 sheet.funds)
-selected_numbers sheet places (selections.Securities which what) =
-    numbers_at places tables.Security (security_family what) (places_where (is_counted which) 0 sheet.securities)
-selected_numbers sheet places (selections.Liabilities which what) =
-    numbers_at places tables.Liability (liability_family what) (places_where (is_obligation which) 0 sheet.liabilities)
-selected_numbers sheet places (selections.Currencies which what) =
-    numbers_at places tables.Currency (currency_family what) (places_where (is_currency sheet which) 0 sheet.curves)
-selected_numbers sheet places (selections.Groups which what) =
-    numbers_at places tables.Group (group_family what) (places_where (is_counterparty which) 0 sheet.groups)
+selected_numbers sheet places selection =
+    numbers_at places (selected_table selection) (selected_family selection) (selected_rows sheet selection)
 
 -- securities that are read by the name of one row: it stands at the place
 abbrev pub AreHeldBy : BalanceSheet → Holdings → ℕ → Type 0

@@ -1,6 +1,7 @@
 //! Of which row a figure is, and which of the row's figures.
 ghost use Rattle.std.specs.Prelude.{◌≡◌, ◌<◌};
-ghost use Rattle.scr_figures.specs.Families.{table_of, family_of, direction_place, measure_place, stress_place, security_family, liability_family, group_family, currency_family};
+ghost use Rattle.scr_nodes.specs.Numbers.{direction_place, measure_place};
+ghost use Rattle.scr_figures.specs.Families.{table_of, family_of, stress_place, security_family, liability_family, group_family, currency_family};
 
 use crate::wholes::whole_family;
 use scr_nodes::live::is_stress;

@@ -5,7 +5,8 @@ ghost use Rattle.scr_names.specs.Names.{same_name};
 ghost use Rattle.scr_sheet.specs.BalanceSheet.{curve_name, group_name, position_name, stake_name};
 ghost use Rattle.scr_sheet.specs.Validity.{Valid};
 ghost use Rattle.scr_nodes.specs.Rows.{holds, is_held_in, is_of_default_class, is_of_group, is_paying_in, is_stressed};
-ghost use Rattle.scr_figures.specs.Gathered.{AreFundLists, AreLiabilityLists, AreMembersOf, AreSecurityLists, class_place, default_classes, projection_place, projections};
+ghost use Rattle.scr_nodes.specs.Numbers.{class_place};
+ghost use Rattle.scr_figures.specs.Gathered.{AreFundLists, AreLiabilityLists, AreMembersOf, AreSecurityLists, default_classes, projection_place, projections};
 ghost use Rattle.scr_figures.specs.Places.{IsOnly, entered_where, places_by};
 
 use crate::lists::Lists;
@@ -71,18 +72,7 @@ pub struct LiabilityLists {
 pub fn class_place(class: Class) -> usize
     ensures { result ≡ class_place class }
 {
-    match class {
-        Class::Type1Equity => 0,
-        Class::Type1Strategic => 1,
-        Class::Type2Equity => 2,
-        Class::Type2Strategic => 3,
-        Class::Infrastructure => 4,
-        Class::InfrastructureCorporate => 5,
-        Class::Property => 6,
-        Class::Bond => 7,
-        Class::Government => 8,
-        Class::Other => 9,
-    }
+    crate::wholes::class_place(class) as usize
 }
 
 /// The place of a projection among all projections.

@@ -1,5 +1,5 @@
 //! The numbers of a figure's sources: off the gathered rows, or by walks along the tables.
-ghost use Rattle.std.specs.Prelude.{◌≡◌, ◌+◌, ◌<◌, ◌≤◌, ◌++◌, true, OnOk, Some, map, slice_get};
+ghost use Rattle.std.specs.Prelude.{◌≡◌, ◌+◌, ◌<◌, ◌≤◌, ◌++◌, true, IfSome, OnOk, Some, map, slice_get};
 ghost use Rattle.std.specs.List.{AllByRecursion};
 ghost use Rattle.scr_numbers.specs.Ranges.{count, stride};
 ghost use Rattle.scr_numbers.specs.declared.table.Table.TheVariants as tables;
@@ -15,7 +15,7 @@ ghost use Rattle.scr_figures.specs.Families.{name_of, table_of};
 ghost use Rattle.scr_figures.specs.Numbers.{IsNumbered, StandsAt, names_in};
 ghost use Rattle.scr_figures.specs.Gathered.{AreMembersOf};
 ghost use Rattle.scr_figures.specs.Places.{places_where};
-ghost use Rattle.scr_figures.specs.SourceNumbers.{AreAllPushed, AreClassed, AreHeldBy, AreOwedBy, ArePushed, IsGathered, are_live, numbers_at, selected_numbers};
+ghost use Rattle.scr_figures.specs.SourceNumbers.{AreAllPushed, AreClassed, AreHeldBy, AreOwedBy, ArePushed, IsGathered, are_live, numbers_at, selected_family, selected_numbers, selected_rows, selected_table};
 
 use crate::families::{currency_family, family, group_family, liability_family, security_family};
 use crate::finding::find;
@@ -25,7 +25,7 @@ use scr_nodes::selections::{
     Counterparties, Currencies, Holders, Holdings, Obligations, Selection, is_counted,
     is_counterparty, is_currency, is_holder, is_obligation,
 };
-use scr_nodes::{Biometric, Node, Nth, OfSecurity, first_of, nth_word, second_of};
+use scr_nodes::{Biometric, Node, Nth, OfFund, OfSecurity, first_of, nth_word, second_of};
 use scr_numbers::{Places, Table};
 use scr_sheet::{BalanceSheet, Projection};
 use std::alloc::AllocError as NoMemory;
@@ -38,6 +38,14 @@ const MOST_WORDS: u32 = 12;
 pub struct View<'a> {
     pub sheet: &'a BalanceSheet,
     pub places: &'a Places,
+}
+
+/// What the sources of a figure of the row at a place are read off: a balance sheet with its rows, gathered.
+#[derive(Clone, Copy)]
+struct Rows<'a> {
+    sheet: &'a BalanceSheet,
+    members: &'a Members,
+    row: usize,
 }
 
 /// Pushes the numbers of all sources of a figure of the row at a place, in the order of `scr_nodes::sources`, behind what the list
@@ -57,8 +65,15 @@ pub fn push_gathered(
     requires row { slice_get (names_in view.sheet.now (table_of node.now)) row ≡ Some (name_of node.now) }
     ensures { OnOk result (ArePushed view.entry.sheet.now view.entry.places.now node.now list.old.items list.new.items) }
 {
-    push_first(list, view, members, node, row)?;
-    push_members(list, view, members, &second_of(node), row)?;
+    let from = Rows {
+        sheet: view.sheet,
+        members,
+        row,
+    };
+    let first = first_of(node);
+    push_places(list, view, first_rows(from, node), &first)?;
+    let second = second_of(node);
+    push_places(list, view, gathered_rows(from, &second), &second)?;
     push_words(list, view, node)
 }
 
@@ -106,255 +121,156 @@ fn push_words(list: &mut Vec<u32>, view: View<'_>, node: &Node) -> Result<(), No
     Ok(())
 }
 
-/// The sources that come first, the holders of a fund or a security among them.
-fn push_first(
-    list: &mut Vec<u32>,
-    view: View<'_>,
-    members: &Members,
-    node: &Node,
-    row: usize,
-) -> Result<(), NoMemory>
-    requires numbered { IsNumbered view.sheet.now view.places.now }
-    requires members { AreMembersOf view.sheet.now members.now }
-    requires live { is_live view.sheet.now node.now ≡ true }
-    requires row { slice_get (names_in view.sheet.now (table_of node.now)) row ≡ Some (name_of node.now) }
-    ensures { OnOk result (list.new.items ≡ list.old.items
-        ++ selected_numbers view.entry.sheet.now view.entry.places.now (first_of node.now)) }
+/// The places of the rows that a figure is reckoned from first, the holders of a fund or a security among them, where they are
+/// gathered.
+fn first_rows<'a>(from: Rows<'a>, node: &Node) -> Option<&'a [usize]>
+    requires members { AreMembersOf from.sheet.now from.members.now }
+    requires live { is_live from.sheet.now node.now ≡ true }
+    requires row { slice_get (names_in from.sheet.now (table_of node.now)) from.row ≡ Some (name_of node.now) }
+    ensures { IfSome result (λ rows. rows.now ≡ selected_rows from.entry.sheet.now (first_of node.now)) }
 {
     match node {
-        Node::Fund(_, _) => {
-            let rows = members.funds.holding_funds.at(row);
-            push_rows(list, view.places, Table::Fund, rows, 0)
-        }
-        Node::Security(name, what) => push_holders(list, view, members, name, *what, row),
-        _ => push_members(list, view, members, &first_of(node), row),
+        Node::Fund(_, _) => Some(from.members.funds.holding_funds.at(from.row)),
+        Node::Security(name, what) => holding_rows(from, name, *what),
+        _ => gathered_rows(from, &first_of(node)),
     }
 }
 
-/// The funds that hold a security are the sources of its total, and its other figures read nothing first.
-fn push_holders(
-    list: &mut Vec<u32>,
-    view: View<'_>,
-    members: &Members,
-    name: &Name,
-    what: OfSecurity,
-    row: usize,
-) -> Result<(), NoMemory>
-    requires numbered { IsNumbered view.sheet.now view.places.now }
-    requires members { AreMembersOf view.sheet.now members.now }
-    requires row { slice_get (map position_name view.sheet.now.securities) row ≡ Some name.now }
-    ensures { OnOk result (list.new.items ≡ list.old.items
-        ++ selected_numbers view.entry.sheet.now view.entry.places.now (first_of (nodes.Security name.now what))) }
+/// The funds that hold a security are the sources of its total.
+fn holding_rows<'a>(from: Rows<'a>, name: &Name, what: OfSecurity) -> Option<&'a [usize]>
+    requires members { AreMembersOf from.sheet.now from.members.now }
+    requires row { slice_get (map position_name from.sheet.now.securities) from.row ≡ Some name.now }
+    ensures { IfSome result (λ rows. rows.now ≡ selected_rows from.entry.sheet.now (first_of (nodes.Security name.now what))) }
 {
     match what {
-        OfSecurity::Total => {
-            let rows = members.funds.holding_securities.at(row);
-            push_rows(list, view.places, Table::Fund, rows, 0)
-        }
-        _ => Ok(()),
+        OfSecurity::Total => Some(from.members.funds.holding_securities.at(from.row)),
+        _ => None,
     }
 }
 
-/// What is read off a table, for a figure of the row at a place.
-fn push_members(
+/// The places of the rows that are read off a table, where they are gathered.
+fn gathered_rows<'a>(from: Rows<'a>, selection: &Selection) -> Option<&'a [usize]>
+    requires members { AreMembersOf from.sheet.now from.members.now }
+    requires row { IsGathered from.sheet.now selection.now from.row }
+    ensures { IfSome result (λ rows. rows.now ≡ selected_rows from.entry.sheet.now selection.now) }
+{
+    match selection {
+        Selection::Funds(holders, _) => fund_rows(from, holders),
+        Selection::Securities(holdings, _) => security_rows(from, holdings),
+        Selection::Liabilities(obligations, _) => liability_rows(from, obligations),
+        Selection::Groups(counterparties, _) => group_rows(from, *counterparties),
+        _ => None,
+    }
+}
+
+fn fund_rows<'a>(from: Rows<'a>, holders: &Holders) -> Option<&'a [usize]>
+    requires { AreMembersOf from.sheet.now from.members.now }
+    ensures { IfSome result (λ rows. rows.now ≡ places_where (is_holder holders.now) 0 from.entry.sheet.now.funds) }
+{
+    match holders {
+        Holders::Closed => Some(from.members.funds.closed.as_slice()),
+        Holders::Of(_) => None,
+    }
+}
+
+fn security_rows<'a>(from: Rows<'a>, holdings: &Holdings) -> Option<&'a [usize]>
+    requires members { AreMembersOf from.sheet.now from.members.now }
+    requires row { AreHeldBy from.sheet.now holdings.now from.row }
+    ensures { IfSome result (λ rows. rows.now ≡ places_where (is_counted holdings.now) 0 from.entry.sheet.now.securities) }
+{
+    let lists = &from.members.securities;
+    match holdings {
+        Holdings::OfClass(class) => Some(lists.of_class.at(class_place(*class))),
+        Holdings::In(_) => Some(lists.held_in.at(from.row)),
+        Holdings::PayingIn(_) => Some(lists.paying_in.at(from.row)),
+        Holdings::OfGroup(_) => Some(lists.of_group.at(from.row)),
+        Holdings::Grouped => Some(lists.grouped.as_slice()),
+        Holdings::Paying => None,
+    }
+}
+
+fn liability_rows<'a>(from: Rows<'a>, obligations: &Obligations) -> Option<&'a [usize]>
+    requires members { AreMembersOf from.sheet.now from.members.now }
+    requires row { AreOwedBy from.sheet.now obligations.now from.row }
+    ensures { IfSome result (λ rows. rows.now ≡ places_where (is_obligation obligations.now) 0 from.entry.sheet.now.liabilities) }
+{
+    match obligations {
+        Obligations::In(_) => Some(from.members.liabilities.owed_in.at(from.row)),
+        Obligations::Stressed(biometric, projection) => {
+            Some(stressed_rows(from, *biometric, *projection))
+        }
+        _ => None,
+    }
+}
+
+fn stressed_rows<'a>(from: Rows<'a>, biometric: Biometric, projection: Projection) -> &'a [usize]
+    requires { AreMembersOf from.sheet.now from.members.now }
+    ensures { result.now ≡ places_where (is_stressed biometric projection) 0 from.entry.sheet.now.liabilities }
+{
+    let place = projection_place(projection);
+    match biometric {
+        Biometric::Life => from.members.liabilities.life.at(place),
+        Biometric::Health => from.members.liabilities.health.at(place),
+    }
+}
+
+fn group_rows<'a>(from: Rows<'a>, counterparties: Counterparties) -> Option<&'a [usize]>
+    requires members { AreMembersOf from.sheet.now from.members.now }
+    requires class { AreClassed counterparties }
+    ensures { IfSome result (λ rows. rows.now ≡ places_where (is_counterparty counterparties) 0 from.entry.sheet.now.groups) }
+{
+    match counterparties {
+        Counterparties::OfClass(class) => Some(from.members.groups.at(class as usize)),
+        Counterparties::All => None,
+    }
+}
+
+/// What is read off a table: the rows at these places, or by a walk along it.
+fn push_places(
     list: &mut Vec<u32>,
     view: View<'_>,
-    members: &Members,
+    rows: Option<&[usize]>,
     selection: &Selection,
-    row: usize,
 ) -> Result<(), NoMemory>
     requires numbered { IsNumbered view.sheet.now view.places.now }
-    requires members { AreMembersOf view.sheet.now members.now }
-    requires row { IsGathered view.sheet.now selection.now row }
+    requires rows { IfSome rows (λ found. found.now ≡ selected_rows view.sheet.now selection.now) }
     ensures { OnOk result (list.new.items ≡ list.old.items
         ++ selected_numbers view.entry.sheet.now view.entry.places.now selection.now) }
 {
+    match rows {
+        Some(found) => {
+            let table = selected_table(selection);
+            push_rows(list, view.places, table, found, selected_family(selection))
+        }
+        None => push_selected(list, view, selection),
+    }
+}
+
+/// The table that is read.
+fn selected_table(selection: &Selection) -> Table
+    ensures { result ≡ selected_table selection.now }
+{
     match selection {
-        Selection::Funds(holders, _) => push_funds(list, view, members, holders),
-        Selection::Securities(holdings, what) => {
-            push_securities(list, view, members, holdings, security_family(*what), row)
-        }
-        Selection::Liabilities(obligations, what) => {
-            push_liabilities(
-                list,
-                view,
-                members,
-                obligations,
-                liability_family(*what),
-                row,
-            )
-        }
-        Selection::Groups(counterparties, what) => {
-            push_groups(list, view, members, *counterparties, group_family(*what))
-        }
-        Selection::Currencies(currencies, what) => {
-            push_of_currencies(list, view, *currencies, currency_family(*what))
-        }
-        Selection::None => Ok(()),
+        Selection::Funds(_, _) => Table::Fund,
+        Selection::Securities(_, _) => Table::Security,
+        Selection::Liabilities(_, _) => Table::Liability,
+        Selection::Currencies(_, _) => Table::Currency,
+        Selection::Groups(_, _) => Table::Group,
+        Selection::None => Table::Whole,
     }
 }
 
-fn push_funds(
-    list: &mut Vec<u32>,
-    view: View<'_>,
-    members: &Members,
-    holders: &Holders,
-) -> Result<(), NoMemory>
-    requires numbered { IsNumbered view.sheet.now view.places.now }
-    requires members { AreMembersOf view.sheet.now members.now }
-    ensures { OnOk result (list.new.items ≡ list.old.items ++ numbers_at view.entry.places.now tables.Fund 0
-        (places_where (is_holder holders.now) 0 view.entry.sheet.now.funds)) }
+/// Which figures of its rows are read.
+fn selected_family(selection: &Selection) -> u32
+    ensures { result ≡ selected_family selection.now }
 {
-    match holders {
-        Holders::Closed => push_rows(list, view.places, Table::Fund, &members.funds.closed, 0),
-        Holders::Of(_) => push_of_funds(list, view, holders),
-    }
-}
-
-fn push_securities(
-    list: &mut Vec<u32>,
-    view: View<'_>,
-    members: &Members,
-    holdings: &Holdings,
-    own: u32,
-    row: usize,
-) -> Result<(), NoMemory>
-    requires numbered { IsNumbered view.sheet.now view.places.now }
-    requires members { AreMembersOf view.sheet.now members.now }
-    requires own { own ≤ stride tables.Security }
-    requires row { AreHeldBy view.sheet.now holdings.now row }
-    ensures { OnOk result (list.new.items ≡ list.old.items ++ numbers_at view.entry.places.now tables.Security own
-        (places_where (is_counted holdings.now) 0 view.entry.sheet.now.securities)) }
-{
-    let lists = &members.securities;
-    match holdings {
-        Holdings::OfClass(class) => {
-            let rows = lists.of_class.at(class_place(*class));
-            push_rows(list, view.places, Table::Security, rows, own)
-        }
-        Holdings::In(_) => {
-            push_rows(
-                list,
-                view.places,
-                Table::Security,
-                lists.held_in.at(row),
-                own,
-            )
-        }
-        Holdings::PayingIn(_) => {
-            push_rows(
-                list,
-                view.places,
-                Table::Security,
-                lists.paying_in.at(row),
-                own,
-            )
-        }
-        Holdings::OfGroup(_) => {
-            push_rows(
-                list,
-                view.places,
-                Table::Security,
-                lists.of_group.at(row),
-                own,
-            )
-        }
-        Holdings::Grouped => push_rows(list, view.places, Table::Security, &lists.grouped, own),
-        Holdings::Paying => push_of_securities(list, view, holdings, own),
-    }
-}
-
-fn push_liabilities(
-    list: &mut Vec<u32>,
-    view: View<'_>,
-    members: &Members,
-    obligations: &Obligations,
-    own: u32,
-    row: usize,
-) -> Result<(), NoMemory>
-    requires numbered { IsNumbered view.sheet.now view.places.now }
-    requires members { AreMembersOf view.sheet.now members.now }
-    requires own { own ≤ stride tables.Liability }
-    requires row { AreOwedBy view.sheet.now obligations.now row }
-    ensures { OnOk result (list.new.items ≡ list.old.items ++ numbers_at view.entry.places.now tables.Liability own
-        (places_where (is_obligation obligations.now) 0 view.entry.sheet.now.liabilities)) }
-{
-    let lists = &members.liabilities;
-    match obligations {
-        Obligations::In(_) => {
-            push_rows(
-                list,
-                view.places,
-                Table::Liability,
-                lists.owed_in.at(row),
-                own,
-            )
-        }
-        Obligations::Stressed(biometric, projection) => {
-            push_stressed(list, view, members, *biometric, *projection, own)
-        }
-        _ => push_of_liabilities(list, view, obligations, own),
-    }
-}
-
-fn push_stressed(
-    list: &mut Vec<u32>,
-    view: View<'_>,
-    members: &Members,
-    biometric: Biometric,
-    projection: Projection,
-    own: u32,
-) -> Result<(), NoMemory>
-    requires numbered { IsNumbered view.sheet.now view.places.now }
-    requires members { AreMembersOf view.sheet.now members.now }
-    requires own { own ≤ stride tables.Liability }
-    ensures { OnOk result (list.new.items ≡ list.old.items ++ numbers_at view.entry.places.now tables.Liability own
-        (places_where (is_stressed biometric projection) 0 view.entry.sheet.now.liabilities)) }
-{
-    let lists = &members.liabilities;
-    let place = projection_place(projection);
-    match biometric {
-        Biometric::Life => {
-            push_rows(
-                list,
-                view.places,
-                Table::Liability,
-                lists.life.at(place),
-                own,
-            )
-        }
-        Biometric::Health => {
-            push_rows(
-                list,
-                view.places,
-                Table::Liability,
-                lists.health.at(place),
-                own,
-            )
-        }
-    }
-}
-
-fn push_groups(
-    list: &mut Vec<u32>,
-    view: View<'_>,
-    members: &Members,
-    counterparties: Counterparties,
-    own: u32,
-) -> Result<(), NoMemory>
-    requires numbered { IsNumbered view.sheet.now view.places.now }
-    requires members { AreMembersOf view.sheet.now members.now }
-    requires own { own ≤ stride tables.Group }
-    requires class { AreClassed counterparties }
-    ensures { OnOk result (list.new.items ≡ list.old.items ++ numbers_at view.entry.places.now tables.Group own
-        (places_where (is_counterparty counterparties) 0 view.entry.sheet.now.groups)) }
-{
-    match counterparties {
-        Counterparties::OfClass(class) => {
-            let rows = members.groups.at(class as usize);
-            push_rows(list, view.places, Table::Group, rows, own)
-        }
-        Counterparties::All => push_of_groups(list, view, counterparties, own),
+    match selection {
+        Selection::Funds(_, OfFund::Total) => 0,
+        Selection::Securities(_, what) => security_family(*what),
+        Selection::Liabilities(_, what) => liability_family(*what),
+        Selection::Currencies(_, what) => currency_family(*what),
+        Selection::Groups(_, what) => group_family(*what),
+        Selection::None => 0,
     }
 }
 

@@ -1,7 +1,8 @@
 //! The figures of the whole sheet, one by one.
 ghost use Rattle.std.specs.Prelude.{◌≡◌, ◌+◌, ◌<◌, if◌then◌else◌, length, nat_lt};
 ghost use Rattle.std.specs.List.{slice_index_or};
-ghost use Rattle.scr_figures.specs.Families.{adjustment_place, charge_place, choice_family, class_place, equities_place, net_family, operational_place, scenario_place, scenarios_from, segments_from, set_place, whole_family};
+ghost use Rattle.scr_nodes.specs.Numbers.{adjustment_place, charge_place, choice_place, class_place, equities_place, operational_place, risk_place, scenario_place, scenarios_from, segments_from, set_place};
+ghost use Rattle.scr_figures.specs.Families.{whole_family};
 ghost use Rattle.scr_nodes.specs.declared.node.Whole.TheVariants as wholes;
 
 use crate::families::{direction_place, measure_place};
@@ -198,13 +199,13 @@ pub(crate) fn whole_family(what: Whole) -> u32
         Whole::InterestScenario(direction, measure) => {
             14 + 2 * direction_place(direction) + measure_place(measure)
         }
-        Whole::Choice(which) => choice_family(which),
-        Whole::Picked(which, measure) => 1 + choice_family(which) + measure_place(measure),
+        Whole::Choice(which) => choice_place(which),
+        Whole::Picked(which, measure) => 1 + choice_place(which) + measure_place(measure),
         Whole::EquityRoot => 21,
         Whole::Property => 22,
         Whole::Spread => 23,
         Whole::Concentration => 24,
-        Whole::NetPart(risk) => net_family(risk),
+        Whole::NetPart(risk) => risk_place(risk),
         Whole::Currency(measure) => 29 + measure_place(measure),
         Whole::Market(measure) => 31 + measure_place(measure),
         Whole::ClassLoss(class) => default_class_family(33, class),
@@ -271,7 +272,7 @@ fn segment_family(set: Set, number: u8) -> u32
     }
 }
 
-fn class_place(class: Class) -> u32
+pub(crate) fn class_place(class: Class) -> u32
     ensures place { result ≡ class_place class }
     ensures few { class_place class < 10 }
 {
@@ -301,9 +302,9 @@ fn equities_place(equities: Equities) -> u32
     }
 }
 
-fn choice_family(which: Alternatives) -> u32
-    ensures place { result ≡ choice_family which }
-    ensures few { choice_family which < 91 }
+fn choice_place(which: Alternatives) -> u32
+    ensures place { result ≡ choice_place which }
+    ensures few { choice_place which < 91 }
 {
     match which {
         Alternatives::Interest => 18,
@@ -312,9 +313,9 @@ fn choice_family(which: Alternatives) -> u32
     }
 }
 
-fn net_family(risk: Risk) -> u32
-    ensures place { result ≡ net_family risk }
-    ensures few { net_family risk < 137 }
+fn risk_place(risk: Risk) -> u32
+    ensures place { result ≡ risk_place risk }
+    ensures few { risk_place risk < 137 }
 {
     match risk {
         Risk::Equity => 25,

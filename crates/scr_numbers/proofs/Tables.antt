@@ -1,5 +1,5 @@
 -- Tables by number, and ranges that stay.
-use Rattle.std.proofs.Common.{◌≡◌, ℕ, zero, suc, ◌<◌, ◌≤◌, true, List, refl, sym, ap, subst, ◌∙◌, arith}
+use Rattle.std.proofs.Common.{◌≡◌, ℕ, zero, suc, ◌<◌, true, List, refl, sym, ap, subst, ◌∙◌, arith}
 use Rattle.std.proofs.lemmas.Bool.{eqb-true}
 use Rattle.scr_numbers.specs.Ranges.{number_of, same_table, stride}
 use Rattle.scr_numbers.specs.Kept.{AreKept, IsOwned, range_at}
@@ -36,14 +36,6 @@ same_table-self tables.Liability = refl
 same_table-self tables.Group = refl
 same_table-self tables.Currency = refl
 
-pub number-few : (table : Table) → number_of table < 6
-number-few tables.Whole = omega arith
-number-few tables.Fund = omega arith
-number-few tables.Security = omega arith
-number-few tables.Liability = omega arith
-number-few tables.Group = omega arith
-number-few tables.Currency = omega arith
-
 pub stride-some : (table : Table) → 0 < stride table
 stride-some tables.Whole = omega arith
 stride-some tables.Fund = omega arith
@@ -51,14 +43,6 @@ stride-some tables.Security = omega arith
 stride-some tables.Liability = omega arith
 stride-some tables.Group = omega arith
 stride-some tables.Currency = omega arith
-
-pub stride-most : (table : Table) → stride table ≤ 154
-stride-most tables.Whole = omega arith
-stride-most tables.Fund = omega arith
-stride-most tables.Security = omega arith
-stride-most tables.Liability = omega arith
-stride-most tables.Group = omega arith
-stride-most tables.Currency = omega arith
 
 -- the same ranges, told of another view
 module _ (made_in made_now : Table → ℕ) (first_of first_now : Table → ℕ → ℕ) (ranges : List Range) (owner : List ℕ)

@@ -5,7 +5,7 @@ use Rattle.std.proofs.lemmas.List.{get_or_read, get_or_append_left, get_or_push,
 use Rattle.scr_numbers.specs.Ranges.{IsApart, IsAt, IsWithin, Numbered, RangeList, count, first, first_in, made, roll_at, same_table, stride}
 use Rattle.scr_numbers.specs.Moves.{IsSameBut, Sunk}
 use Rattle.scr_numbers.specs.Steps.{IsRollsBut}
-use Rattle.scr_numbers.specs.Kept.{AreKept, IsKept, IsListed, IsOf, IsOwned, numbered_of, owner_at, range_at, range_of}
+use Rattle.scr_numbers.specs.Kept.{AreKept, IsKept, IsOf, IsOwned, numbered_of, owner_at, range_at, range_of}
 use Rattle.scr_numbers.specs.declared.places.Places.TheInside.{Inside}
 use Rattle.scr_numbers.specs.declared.places.Range.{Range}
 use Rattle.scr_numbers.specs.declared.table.Table.{Table}
@@ -144,37 +144,8 @@ module _ (places : Inside) (kept : IsKept places) (value : Numbered) (view : num
     holds : IsOf places.ranges.items number id
     holds = subst (IsOf places.ranges.items number) (sym own-id) (kept.ranges.held number below)
 
-    pub at-known : id < length places.ranges.items
-    at-known = id-known
-
     pub at-low : range.first ≤ number
     at-low = subst (λ r. r.first ≤ number) (sym own-range) holds.low
-
-    pub at-there : range.place < count value range.table → IsAt value range.table range.place (number - range.first) number
-    at-there row = record {
-      row = row;
-      family = omega (arith, at-low, high);
-      is = omega (arith, at-low, start);
-    }
-      where
-        high : number < range.first + stride range.table
-        high = subst (λ r. number < r.first + stride r.table) (sym own-range) holds.high
-
-        listed : IsListed (made (numbered_of places)) (first (numbered_of places)) places.owner.items id range
-        listed = subst (IsListed (made (numbered_of places)) (first (numbered_of places)) places.owner.items id) (sym own-range)
-            (kept.ranges.listed id id-known)
-
-        start : first value range.table range.place ≡ range.first
-        start = sym (ap (λ v. first v range.table range.place) view) ∙ listed.start
-
-    pub at-absent : count value range.table ≤ range.place → (table : Table) (k j : ℕ) → IsAt value table k j number → ⊥
-    at-absent past table k j at =
-        let same : range ≡ range_of table k (first value table k) =
-        own-range ∙ ap (range_at places.ranges.items) own-id ∙ at-owned table k j number at in
-        let place : range.place ≡ k = ap (λ (r : Range). r.place) same in
-        let rows : count value range.table ≡ count value table = ap (λ (r : Range). count value r.table) same in
-        let row = at.row in
-        absurd (omega (arith, place, rows, row, past))
 
 -- ---- what the roll of a table tells
 

@@ -1,8 +1,8 @@
 -- Numbers of a list of which the places are kept.
-use Rattle.std.proofs.Common.{◌≡◌, ◌⊎◌, ℕ, zero, suc, ◌+◌, ◌<◌, ◌≤◌, true, false, nat_eq, List, [], ◌∷◌, ◌++◌, Option, Some, None, if◌then◌else◌, length, take, set, get_or, replicate, slice_get, refl, sym, ap, subst, ◌∙◌, inl, inr, arith}
+use Rattle.std.proofs.Common.{◌≡◌, ◌⊎◌, ℕ, zero, suc, ◌+◌, ◌<◌, true, false, nat_eq, List, [], ◌∷◌, ◌++◌, Option, Some, None, if◌then◌else◌, length, set, get_or, slice_get, refl, sym, ap, subst, ◌∙◌, inl, inr, arith}
 use Rattle.std.specs.List.{IsDistinct, list_any}
 use Rattle.std.proofs.lemmas.Bool.Decides.{eqb_tells}
-use Rattle.std.proofs.lemmas.List.{get_or-set_same, get_or-set_other, get_or_append_left, length-append, length-set, take_all}
+use Rattle.std.proofs.lemmas.List.{get_or-set_same, get_or-set_other, length-set}
 use Rattle.std.proofs.lemmas.Map.Keys.{IsDistinct-from_apart}
 use Rattle.std.proofs.lemmas.Option.{none-some, slice_get-get_or}
 use Rattle.std.specs.Option.{IfSome, is_some}
@@ -10,28 +10,10 @@ use Rattle.indexmap.specs.IndexSet.{insert_key}
 use Rattle.scr_rounds.specs.Marks.{AreMarks}
 use Rattle.scr_rounds.proofs.Members.{IsMember, IsMember-from_place, any-from_member, any-from_none, place_of}
 
-pub none-marked : AreMarks [] []
-none-marked = record { within = λ k n e. absurd (cc); kept = λ k n e. absurd (cc) }
-
 pub same-marked : (list list' places places' : List ℕ) → list' ≡ list → places' ≡ places → AreMarks list places
     → AreMarks list' places'
 same-marked list list' places places' e f h =
     subst (λ l. AreMarks l places') (sym e) (subst (λ ps. AreMarks list ps) (sym f) h)
-
--- ---- more numbers can be marked
-
-pub grown-marked : (list places later : List ℕ) (size k : ℕ) → length places ≤ size
-    → later ≡ take size places ++ replicate k 0 → AreMarks list places → AreMarks list later
-grown-marked list places later size k l is h = record {
-  within = λ p n e. let low = h.within p n e in
-      let len : length later ≡ length places + length (replicate k 0) = ap length same ∙ length-append places (replicate k 0) in
-      omega arith;
-  kept = λ p n e. ap (λ ps. get_or ps n 0) same ∙ get_or_append_left places (replicate k 0) 0 n (h.within p n e)
-      ∙ h.kept p n e;
-}
-  where
-    same : later ≡ places ++ replicate k 0
-    same = is ∙ ap (λ ps. ps ++ replicate k 0) (take_all size places l)
 
 -- ---- a number is marked
 

@@ -1,4 +1,4 @@
-use Rattle.scr_figures.proofs.WholeOrder.{family-listed}
+use Rattle.scr_figures.proofs.Told.{family-listed}
 use Rattle.scr_figures.proofs.laws.families.Goals as goal
 
 pub returns : goal.returns

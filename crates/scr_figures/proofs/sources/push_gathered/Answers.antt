@@ -1,13 +1,18 @@
-use Rattle.std.proofs.Common.{◌++◌, ap, sym, subst, ◌∙◌}
+use Rattle.std.proofs.Common.{◌≡◌, ◌++◌, IfSome, ap, sym, subst, ◌∙◌}
 use Rattle.scr_nodes.proofs.Walks.{on_ok}
-use Rattle.scr_figures.specs.SourceNumbers.{IsGathered, selected_numbers}
+use Rattle.scr_figures.specs.SourceNumbers.{IsGathered, selected_numbers, selected_rows}
 use Rattle.scr_figures.proofs.SourceRows.{second-gathered}
 use Rattle.scr_figures.proofs.Zipped.{pieces-pushed, words-live}
 use Rattle.scr_figures.proofs.sources.push_gathered.Goals as goal
 
-pub push_members-requires-clause-row : goal.push_members-requires-clause-row
-push_members-requires-clause-row c =
-    subst (λ s. IsGathered c.args.view.sheet.now s c.args.row) (sym c.second_of.ensures)
+pub push_places-requires-clause-rows : goal.push_places-requires-clause-rows
+push_places-requires-clause-rows c =
+    subst (λ s. IfSome c.first_rows.result (λ rows. rows.now ≡ selected_rows c.args.view.sheet.now s)) (sym c.first_of-first.ensures)
+    c.first_rows.ensures
+
+pub gathered_rows-requires-clause-row : goal.gathered_rows-requires-clause-row
+gathered_rows-requires-clause-row c =
+    subst (λ s. IsGathered c.args.view.sheet.now s c.args.row) (sym c.second_of-second.ensures)
     (second-gathered c.args.view.sheet.now c.args.node.now c.args.row c.requires.row)
 
 pub push_words-requires-clause-live : goal.push_words-requires-clause-live
@@ -18,9 +23,10 @@ pub returns : goal.returns
 returns c =
     on_ok c.push_words.result _ _
     (λ words. pieces-pushed c.args.view.sheet.now c.args.view.places.now c.requires.numbered c.requires.valid c.args.node.now
-    c.requires.live c.args.list.now.items c.push_first.new.list.items c.push_members.new.list.items c.push_words.new.list.items
-    c.in_ok-push_first.ensures
-    (c.in_ok-push_members.ensures
-    ∙ ap (λ s. c.push_first.new.list.items ++ selected_numbers c.args.view.sheet.now c.args.view.places.now s) c.second_of.ensures)
+    c.requires.live c.args.list.now.items c.push_places.new.list.items c.push_places-2.new.list.items c.push_words.new.list.items
+    (c.in_ok-push_places.ensures
+    ∙ ap (λ s. c.args.list.now.items ++ selected_numbers c.args.view.sheet.now c.args.view.places.now s) c.first_of-first.ensures)
+    (c.in_ok-push_places-2.ensures
+    ∙ ap (λ s. c.push_places.new.list.items ++ selected_numbers c.args.view.sheet.now c.args.view.places.now s) c.second_of-second.ensures)
     words)
     c.push_words.ensures

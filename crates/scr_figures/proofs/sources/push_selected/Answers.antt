@@ -3,7 +3,8 @@ use Rattle.scr_numbers.specs.declared.table.Table.TheVariants as tables
 use Rattle.scr_nodes.specs.Selections.{is_counted, is_counterparty, is_currency, is_holder, is_obligation}
 use Rattle.scr_figures.specs.Places.{places_where}
 use Rattle.scr_figures.specs.SourceNumbers.{numbers_at, selected_numbers}
-use Rattle.scr_figures.proofs.SourceRows.{currency-few, fund-family, group-few, liability-few, read-alike, security-few}
+use Rattle.scr_figures.proofs.Live.{currency-few, group-few, security-few}
+use Rattle.scr_figures.proofs.SourceRows.{fund-family, liability-few, read-alike}
 use Rattle.scr_figures.proofs.sources.push_selected.Goals as goal
 
 pub returns-in-Funds : goal.returns-in-Funds
