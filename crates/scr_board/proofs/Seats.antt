@@ -1,7 +1,6 @@
 -- What a seat knows stays known after each step.
-use Rattle.std.proofs.Common.{◌≡◌, ℕ, zero, suc, ◌+◌, ◌*◌, ◌^◌, ◌<◌, ◌≢◌, ◌⊎◌, Bool, true, false, nat_eq, nat_lt, ◌&&◌, if◌then◌else◌, List, [], ◌∷◌, Option, Some, None, length, get_or, slice_get, refl, sym, ap, ◌∙◌, subst, inl, inr, arith}
-use Rattle.std.specs.Prelude.{Vec, ⊤}
-use Rattle.std.specs.Global.{Global}
+use Rattle.std.proofs.Common.{◌≡◌, ℕ, ◌+◌, ◌*◌, ◌^◌, ◌<◌, ◌≢◌, ◌⊎◌, Bool, true, false, nat_eq, nat_lt, ◌&&◌, if◌then◌else◌, List, [], Option, Some, None, length, get_or, slice_get, refl, sym, ap, ◌∙◌, subst, inl, inr, arith}
+use Rattle.std.specs.Prelude.{⊤}
 use Rattle.std.proofs.lemmas.List.{length-map}
 use Rattle.std.proofs.lemmas.Bool.Decides.{eqb_tells}
 use Rattle.atomic_table.specs.declared.shared.Seat.{Seat}
@@ -17,7 +16,7 @@ use Rattle.scr_round.proofs.Storing.{named-writes, put-grows}
 use Rattle.scr_board.specs.declared.views.View.{View}
 use Rattle.scr_board.specs.declared.board.Board.{Board}
 use Rattle.scr_board.specs.Plays.{CanRead, Sat}
-use Rattle.scr_board.specs.Passes.{IsSeatOf, lists_in}
+use Rattle.scr_board.specs.Passes.{IsSeatOf}
 use Rattle.scr_board.specs.Rounds.{BoardRound, lists_of, nodes_in}
 use Rattle.scr_board.specs.Views.{view_delivered, view_drawn, view_stored, with_progress}
 use Rattle.scr_board.proofs.Rows.{each_row}
@@ -149,26 +148,9 @@ module _ (board : Board) (old new : Seat ⊤ View) (h : IsSeatOf board old) (tab
       own false = gave_own
 
 -- the dependants that the board keeps of a node
-pub row_items : (rows : List (Vec ℕ Global)) (n : ℕ) (row : Vec ℕ Global) → n < length rows → row ≡ get_or rows n row
-    → row.items ≡ get_or (lists_in rows) n []
-row_items [] n row low e = absurd (omega (arith, low))
-row_items (r ∷ rows) zero row low e = ap (λ (v : Vec ℕ Global). v.items) e
-row_items (r ∷ rows) (suc n) row low e = row_items rows n row (omega (arith, low)) e
-
 module _ (board : Board) (seat : Seat ⊤ View) (h : IsSeatOf board seat) where
-  pub rows_long : length board.dependants.items ≡ length h.round.places
-  rows_long =
-      let all = ap (λ (xs : List (List ℕ)). length xs) h.dependants in
-      let count = length-map board.dependants.items (λ (v : Vec ℕ Global). v.items) in
-      let known = h.formed.known in
-      omega (arith, all, count, known)
-
-  pub row_of : (n : ℕ) (row : Vec ℕ Global) → n < length h.round.places → row ≡ get_or board.dependants.items n row
-      → row.items ≡ dependants_of seat.me.0.round n
-  row_of n row node e =
-      let long = rows_long in
-      row_items board.dependants.items n row (omega (arith, long, node)) e
-      ∙ ap (λ (rows : List (List ℕ)). get_or rows n []) (sym h.dependants) ∙ ap (λ (R : Round). dependants_of R n) (sym h.lists)
+  pub row_of : (n : ℕ) → get_or board.dependants n [] ≡ dependants_of seat.me.0.round n
+  row_of n = ap (λ (rows : List (List ℕ)). get_or rows n []) (sym h.dependants) ∙ ap (λ (R : Round). dependants_of R n) (sym h.lists)
 
   pub row_few : (n : ℕ) → n < length h.round.places → length (dependants_of seat.me.0.round n) < 2 ^ 32
   row_few n node =

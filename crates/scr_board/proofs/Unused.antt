@@ -10,7 +10,6 @@ use Rattle.scr_round.specs.States.{fresh, named}
 use Rattle.scr_board.specs.declared.board.Board.{Board}
 use Rattle.scr_board.specs.declared.views.View.{View}
 use Rattle.scr_board.specs.Making.{IsUnused, opening_words}
-use Rattle.scr_board.specs.Passes.{lists_in}
 use Rattle.scr_board.specs.Plays.{Sat, begun}
 use Rattle.scr_board.specs.Rounds.{BoardRound, IsBoardRound, lists_of}
 use Rattle.scr_board.specs.Rule.{Holds}
@@ -33,7 +32,7 @@ opens slots id me st round lists named_workers workers formed is same some most 
 pub unused_opened : (board : Board) (round : BoardRound) (old new : Seat ⊤ View) (lists : Round) (named_workers : ℕ) → IsBoardRound round
     → lists ≡ lists_of round → named_workers ≡ board.workers → 0 < board.workers → new.table_id ≡ board.table.shared.table_id
     → board.table.shared.table_id.words ≡ 5 * length round.places + 1 → board.table.shared.table_id.slots ≡ 0 → board.starts.items ≡ round.starts
-    → lists_in board.dependants.items ≡ round.dependants → old.me ≡ (blank (opening_words round), [])
+    → board.dependants ≡ round.dependants → old.me ≡ (blank (opening_words round), [])
     → new.me ≡ (opened lists named_workers, old.me.1) → IsUnused board round board.workers new
 unused_opened board round old new lists named_workers formed is same some table words slotless starts dependants old_is me = record {
   of_board = record {

@@ -1,7 +1,6 @@
 -- The passes of a board.
-use Rattle.std.specs.Prelude.{◌≡◌, ℕ, ◌+◌, ◌*◌, ◌<◌, List, [], ◌∷◌, Option, Some, None, Vec, ⊤, length, map, if◌then◌else◌, nat_eq}
+use Rattle.std.specs.Prelude.{◌≡◌, ℕ, ◌+◌, ◌*◌, ◌<◌, List, [], ◌∷◌, Option, Some, None, ⊤, length, if◌then◌else◌, nat_eq}
 use Rattle.std.specs.Prelude.{slice_get}
-use Rattle.std.specs.Global.{Global}
 use Rattle.std.specs.List.{AllByRecursion}
 use Rattle.atomic_table.specs.declared.shared.Seat.{Seat}
 use Rattle.scr_num.specs.Rounding.{Ends}
@@ -14,9 +13,6 @@ use Rattle.scr_board.specs.declared.views.View.{View}
 use Rattle.scr_board.specs.declared.board.Board.{Board}
 use Rattle.scr_board.specs.declared.board.Pass.{Pass}
 use Rattle.scr_board.specs.Rounds.{BoardRound, IsBoardRound, lists_of}
-
-abbrev pub lists_in : List (Vec ℕ Global) → List (List ℕ)
-lists_in lists = map (λ list. list.items) lists
 
 abbrev pub seen_by : Seat ⊤ View → View
 seen_by seat = seat.me.0
@@ -40,7 +36,7 @@ pub record IsSeatOf (board : Board) (seat : Seat ⊤ View) : Type 0 where
   pub formed : IsBoardRound round
   pub lists : seat.me.0.round ≡ lists_of round
   pub starts : round.starts ≡ board.starts.items
-  pub dependants : round.dependants ≡ lists_in board.dependants.items
+  pub dependants : round.dependants ≡ board.dependants
   pub words : board.table.shared.table_id.words ≡ 5 * length round.places + 1
   pub slotless : board.table.shared.table_id.slots ≡ 0
   pub workers : seat.me.0.workers ≡ board.workers

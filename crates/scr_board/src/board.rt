@@ -5,6 +5,7 @@ use crate::rule::Rules;
 use crate::views::View;
 use atomic_table::{Seat, Table};
 use scr_num::Span;
+use scr_rows::Rows;
 use std::alloc::Global;
 
 pub(crate) type BoardTable = Table<(), View, Vec<u64>, Rules, Global>;
@@ -17,7 +18,7 @@ pub(crate) type BoardSeat = Seat<(), View>;
 pub struct Board {
     pub(crate) table: BoardTable,
     pub(crate) starts: Vec<u32>,
-    pub(crate) dependants: Vec<Vec<u32>>,
+    pub(crate) dependants: Rows<u32>,
     pub(crate) workers: u32,
     ghost some: { 0 < workers },
 }
@@ -28,4 +29,9 @@ pub struct Pass {
     pub(crate) seat: BoardSeat,
     pub(crate) hand: Vec<u32>,
     pub(crate) got: Vec<Span>,
+    pub(crate) apart: Apart,
 }
+
+/// Room that nobody uses. It keeps what one worker writes in its pass off the lines of memory on
+/// which the passes of the others lie.
+pub(crate) type Apart = [u64; 16];

@@ -84,7 +84,7 @@ impl Board {
             × (result ≡ last_of left d) }
         ensures once { AreNamedOnce (view pass.new).round (progress pass.new) }
     {
-        let dependant = self.dependants[n as usize][k as usize];
+        let dependant = self.dependants.row(n as usize)[k as usize];
         let left = self.deliver_to(&mut pass.seat, dependant, n, k);
         if left == 1 { Some(dependant) } else { None }
     }

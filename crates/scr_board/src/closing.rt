@@ -52,12 +52,14 @@ impl Board {
             mut seat,
             hand: _,
             got: _,
+            apart: _,
         } = first;
         while let Some(pass) = passes.pop() {
             let Pass {
                 seat: other,
                 hand: _,
                 got: _,
+                apart: _,
             } = pass;
             self.table.shared.join_seat::<Whole>(&mut seat, other);
         }

@@ -2,7 +2,6 @@
 ghost use Rattle.std.specs.Prelude.{◌≡◌, ◌<◌, ◌≤◌, ◌*◌, ◌+◌, IfOk, OnOk, [], ◌∷◌, ◌++◌, length, slice_index_or};
 ghost use Rattle.std.specs.List.{AllByRecursion};
 ghost use Rattle.scr_board.specs.Making.{AreWithin, IsUnused, opening_words};
-ghost use Rattle.scr_board.specs.Passes.{lists_in};
 ghost use Rattle.scr_board.specs.Places.{spot_of};
 ghost use Rattle.scr_board.specs.Rounds.{lists_of, nodes_in, places_at};
 ghost use Rattle.scr_board.specs.Views.{blank};
@@ -13,6 +12,7 @@ use crate::graph::Graph;
 use crate::places::Place;
 use crate::rule::{First, Opening, Part};
 use atomic_table::Table;
+use scr_rows::Rows;
 use std::alloc::{AllocError as NoMemory, Global};
 use std::marker::Brand;
 
@@ -57,7 +57,7 @@ impl Board {
         requires words { self.now.table.shared.table_id.words ≡ 5 * length (G.round _graph.now).places + 1 }
         requires seat { seat.me ≡ (blank (opening_words (G.round _graph.now)), []) }
         requires starts { self.now.starts.items ≡ (G.round _graph.now).starts }
-        requires dependants { lists_in self.now.dependants.items ≡ (G.round _graph.now).dependants }
+        requires dependants { self.now.dependants ≡ (G.round _graph.now).dependants }
         ensures { IsUnused self.now (G.round _graph.now) self.now.workers result }
     {
         self.table.shared.load::<First<W>>(&mut seat, 0);
@@ -104,36 +104,43 @@ impl Board {
     {
         let hand = Vec::with_capacity(alloc, graph.nodes() as usize)?;
         let got = Vec::with_capacity(alloc, most)?;
-        Ok(Pass { seat, hand, got })
+        Ok(Pass {
+            seat,
+            hand,
+            got,
+            apart: [0; 16],
+        })
     }
 }
 
 /// The dependants of each node.
-fn all_dependants<G: Graph>(alloc: Global, graph: &G) -> Result<Vec<Vec<u32>>, NoMemory>
+fn all_dependants<G: Graph>(alloc: Global, graph: &G) -> Result<Rows<u32>, NoMemory>
     requires { G.is_graph graph.now }
-    ensures { IfOk result (λ rows. lists_in rows.items ≡ (G.round graph.now).dependants) }
+    ensures { IfOk result (λ rows. rows ≡ (G.round graph.now).dependants) }
 {
-    let mut rows = Vec::with_capacity(alloc, graph.nodes() as usize)?;
+    let mut rows = Rows::with_capacity(alloc, graph.nodes() as usize)?;
+    let mut row = Vec::new(alloc);
     for n in 0..graph.nodes() {
-        rows.push(node_dependants(alloc, graph, n)?)?;
+        fill_dependants(&mut row, graph, n)?;
+        rows.push(row.as_slice())?;
     }
     Ok(rows)
 }
 
-fn node_dependants<G: Graph>(alloc: Global, graph: &G, n: u32) -> Result<Vec<u32>, NoMemory>
+/// The dependants of a node, in the place of what was in the row.
+fn fill_dependants<G: Graph>(row: &mut Vec<u32>, graph: &G, n: u32) -> Result<(), NoMemory>
     requires graph { G.is_graph graph.now }
     requires node { n < length (G.round graph.now).places }
-    ensures { IfOk result
-        (λ row. row.items ≡ slice_index_or (G.round graph.now).dependants n []) }
+    ensures { OnOk result (row.new.items ≡ slice_index_or (G.round graph.now).dependants n []) }
 {
-    let mut row = Vec::new(alloc);
+    row.clear();
     for k in 0..u32::MAX {
         match graph.dependant(n, k) {
             None => break,
             Some(dependant) => row.push(dependant)?,
         }
     }
-    Ok(row)
+    Ok(())
 }
 
 /// The words with which the board opens.

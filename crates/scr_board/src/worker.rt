@@ -187,7 +187,7 @@ impl<'a, G: Graph> Worker<'a, G> {
         ensures between { IsBetween self.now.board.now (G.round self.now.graph.now) pass.new }
         ensures put { (progress pass.new).put ≡ (progress pass.old).put }
     {
-        let count = self.board.dependants[n as usize].len() as u32;
+        let count = self.board.dependants.row(n as usize).len() as u32;
         for k in 0..count {
             match self.board.deliver(pass, n, k) {
                 Some(dependant) => pass.hand.push_reserved(dependant),

@@ -1,34 +1,55 @@
 -- How the lists of dependants are filled, slot by slot and due by due.
-use Rattle.std.proofs.Common.{◌≡◌, ℕ, ◌+◌, ◌<◌, ◌≤◌, suc, zero, true, false, nat_eq, List, [], ◌∷◌, ◌++◌, Vec, drop, get_or, length, map, set, Option, Some, None, position, if◌then◌else◌, refl, sym, ap, subst, ◌∙◌, arith}
-use Rattle.std.specs.Global.{Global}
-use Rattle.std.specs.List.{AllByRecursion}
+use Rattle.std.proofs.Common.{◌≡◌, ◌⊎◌, ℕ, ◌+◌, ◌<◌, ◌≤◌, suc, zero, Bool, true, false, cond, nat_eq, nat_lt, List, [], ◌∷◌, ◌++◌, drop, get_or, length, map, replicate, set, Option, Some, None, IfSome, position, slice_get, slice_index_or, if◌then◌else◌, refl, sym, ap, subst, ◌∙◌, inl, inr, arith}
+use Rattle.std.specs.List.{AllByRecursion, position_or_len}
 use Rattle.std.proofs.Math.ListN.{drop_of_length-le}
-use Rattle.std.proofs.lemmas.List.{append-nil, append_assoc}
+use Rattle.std.proofs.lemmas.Bool.{eqb-true, true≢false}
+use Rattle.std.proofs.lemmas.Bool.Decides.{eqb_tells, nat_tests}
+use Rattle.std.proofs.lemmas.List.{append-nil, append_assoc, drop_more, get_or-set_other, get_or-set_same, length-append, length-replicate, length-set}
+use Rattle.std.proofs.lemmas.List.Quantifiers.{position-Some}
+use Rattle.std.proofs.lemmas.List.Sums.{fails_before_first}
+use Rattle.std.proofs.lemmas.Option.{get_or_from_slice_get, slice_get-get_or, slice_get_within}
+use Rattle.scr_round.specs.Counts.{one_if, times, total}
 use Rattle.scr_rounds.specs.declared.ranks.Due.{Due}
-use Rattle.scr_rounds.specs.Buckets.{lists_of}
 use Rattle.scr_rounds.specs.Levels.{numbers_of}
 use Rattle.scr_rounds.specs.Ranks.{rank_at}
-use Rattle.scr_rounds.proofs.Placing.{put_here, rank_at-list}
+use Rattle.scr_rounds.proofs.Members.{same_number}
 use Rattle.scr_rounds.proofs.Ranking.{place_within}
+use Rattle.scr_rows.specs.Parts.{AreEmpty, Binned}
 use Rattle.scr_dues.specs.declared.round.Slot.{Slot}
 use Rattle.scr_dues.specs.declared.round.Slot.TheVariants as slots
-use Rattle.scr_dues.specs.Naming.{AreBelow, AreEmpty, AreNamed, IsEntered, IsPushed, begun, is_start, named, named_in}
-use Rattle.scr_dues.specs.Slots.{rows_in, slot_of, slot_or, slots_with}
+use Rattle.scr_dues.specs.Naming.{AreBelow, AreCounted, AreNamed, HaveRoom, IsCounted, IsEntered, IsPushed, begun, dues_in, is_start, named, named_in}
+use Rattle.scr_dues.specs.Slots.{slot_of, slot_or, slots_with}
 
 -- ---- a place more in one list
 
-length-set : (lists : List (Vec ℕ Global)) (r : ℕ) (new : Vec ℕ Global) → length (lists_of (set lists r new)) ≡ length (lists_of lists)
-length-set [] r new = refl
-length-set (x ∷ xs) zero new = refl
-length-set (x ∷ xs) (suc r) new = ap suc (length-set xs r new)
+set_same : (lists : List (List ℕ)) (source : ℕ) (list : List ℕ) → source < length lists → rank_at (set lists source list) source ≡ list
+set_same [] source list l = absurd (omega arith)
+set_same (x ∷ xs) zero list l = refl
+set_same (x ∷ xs) (suc source) list l = set_same xs source list (omega arith)
 
-pub pushed : (lists : List (Vec ℕ Global)) (source place : ℕ) (old new : Vec ℕ Global) → source < length lists
-    → old ≡ get_or lists source old → new.items ≡ old.items ++ place ∷ []
-    → IsPushed source place (lists_of lists) (lists_of (set lists source new))
-pushed lists source place old new l at e = record {
-  long = length-set lists source new;
-  each = put_here lists source place new l (e ∙ ap (λ list. list ++ place ∷ []) (sym (rank_at-list lists source old l at)));
+set_other : (lists : List (List ℕ)) (source m : ℕ) (list : List ℕ) → (source ≡ m → ⊥) → rank_at (set lists source list) m ≡ rank_at lists m
+set_other [] source m list apart = refl
+set_other (x ∷ xs) zero zero list apart = absurd (apart refl)
+set_other (x ∷ xs) zero (suc m) list apart = refl
+set_other (x ∷ xs) (suc source) zero list apart = refl
+set_other (x ∷ xs) (suc source) (suc m) list apart = set_other xs source m list (λ e. apart (ap suc e))
+
+pub pushed : (lists later : List (List ℕ)) (source place : ℕ) → source < length lists → later ≡ set lists source (rank_at lists source ++ place ∷ [])
+    → IsPushed source place lists later
+pushed lists later source place l is = record {
+  long = ap length is ∙ length-set lists source (rank_at lists source ++ place ∷ []);
+  each = λ m. ap (λ ls. rank_at ls m) is ∙ by m (eqb_tells source m);
 }
+  where
+    by : (m : ℕ) → ((nat_eq source m ≡ true) × (source ≡ m)) ⊎ ((nat_eq source m ≡ false) × (source ≡ m → ⊥))
+        → rank_at (set lists source (rank_at lists source ++ place ∷ [])) m ≡ rank_at lists m ++ (if nat_eq source m then place ∷ [] else [])
+    by m (inl t) =
+        subst (λ b. rank_at (set lists source (rank_at lists source ++ place ∷ [])) m ≡ rank_at lists m ++ (if b then place ∷ [] else [])) (sym t.0)
+        (subst (λ j. rank_at (set lists source (rank_at lists source ++ place ∷ [])) j ≡ rank_at lists j ++ place ∷ []) t.1
+        (set_same lists source (rank_at lists source ++ place ∷ []) l))
+    by m (inr f) =
+        subst (λ b. rank_at (set lists source (rank_at lists source ++ place ∷ [])) m ≡ rank_at lists m ++ (if b then place ∷ [] else [])) (sym f.0)
+        (set_other lists source m (rank_at lists source ++ place ∷ []) f.1 ∙ sym (append-nil (rank_at lists m)))
 
 -- ---- slot by slot
 
@@ -52,6 +73,20 @@ entering_due place source row rest before now later h p = record {
       ∙ append_assoc (rank_at now m) (if nat_eq source m then place ∷ [] else []) (named_in place m rest) ∙ h.each m;
 }
 
+-- the due that comes next has room for its dependant
+pub entering_room : (place source : ℕ) (row rest : List Slot) (before now : Binned) → IsEntering place row (slots.Due source ∷ rest) before.rows now.rows
+    → now.rooms ≡ before.rooms → HaveRoom place row before → length (rank_at now.rows source) < slice_index_or now.rooms source 0
+entering_room place source row rest before now h rooms have =
+    let room = have source h.below.0 in
+    let same = ap length (h.each source) in
+    let a = length-append (rank_at now.rows source) (named_in place source (slots.Due source ∷ rest)) in
+    let b = length-append (rank_at before.rows source) (named_in place source row) in
+    let one : named_in place source (slots.Due source ∷ rest) ≡ place ∷ named_in place source rest =
+    ap (λ t. (if t then place ∷ [] else []) ++ named_in place source rest) (same_number source) in
+    let long = ap length one in
+    let it = ap (λ rs. slice_index_or rs source 0) rooms in
+    omega (arith, room, same, a, b, long, it)
+
 pub entering_done : (place : ℕ) (row : List Slot) (before now : List (List ℕ)) → IsEntering place row [] before now
     → IsEntered place row before now
 entering_done place row before now h = record { long = h.long; each = λ m. sym (append-nil (rank_at now m)) ∙ h.each m }
@@ -63,8 +98,13 @@ pub record IsNaming (rows : List (List Slot)) (lists : List (List ℕ)) (place :
   pub long : length lists ≡ length rows
   pub each : (m : ℕ) → rank_at lists m ++ named m (drop place rows) place ≡ named m rows 0
 
-pub naming_none : (rows : List (List Slot)) (lists : List (List ℕ)) → AreEmpty (length rows) lists → IsNaming rows lists 0
-naming_none rows lists h = record { long = h.long; each = λ m. ap (λ list. list ++ named m rows 0) (h.each m) }
+all-empty : (lists : List (List ℕ)) (m : ℕ) → AreEmpty lists → rank_at lists m ≡ []
+all-empty [] m all = refl
+all-empty (list ∷ lists) zero all = all.0
+all-empty (list ∷ lists) (suc m) all = all-empty lists m all.1
+
+pub naming_none : (rows : List (List Slot)) (lists : List (List ℕ)) → length lists ≡ length rows → AreEmpty lists → IsNaming rows lists 0
+naming_none rows lists long h = record { long = long; each = λ m. ap (λ list. list ++ named m rows 0) (all-empty lists m h) }
 
 pub naming_next : (rows : List (List Slot)) (lists later : List (List ℕ)) (place : ℕ) (row : List Slot)
     → IsNaming rows lists place → drop place rows ≡ row ∷ drop (place + 1) rows → IsEntered place row lists later
@@ -86,24 +126,139 @@ naming_done rows lists place l h = record {
   each = λ m. sym (append-nil (rank_at lists m)) ∙ ap (λ rs. rank_at lists m ++ named m rs place) (sym (drop_of_length-le rows l)) ∙ h.each m;
 }
 
+-- ---- how many are named
+
+turned : (a b : ℕ) → nat_eq a b ≡ nat_eq b a
+turned a b = pick (eqb_tells a b) (eqb_tells b a)
+  where
+    pick : ((nat_eq a b ≡ true) × (a ≡ b)) ⊎ ((nat_eq a b ≡ false) × (a ≡ b → ⊥))
+        → ((nat_eq b a ≡ true) × (b ≡ a)) ⊎ ((nat_eq b a ≡ false) × (b ≡ a → ⊥)) → nat_eq a b ≡ nat_eq b a
+    pick (inl t) (inl u) = t.0 ∙ sym u.0
+    pick (inl t) (inr g) = absurd (g.1 (sym t.1))
+    pick (inr f) (inl u) = absurd (f.1 (sym u.1))
+    pick (inr f) (inr g) = f.0 ∙ sym g.0
+
+length-named_in : (place m : ℕ) (row : List Slot) → length (named_in place m row) ≡ times m (dues_in row)
+length-named_in place m [] = refl
+length-named_in place m (slots.Kept number ∷ row) = length-named_in place m row
+length-named_in place m (slots.Due source ∷ row) =
+    length-append (if nat_eq source m then place ∷ [] else []) (named_in place m row)
+    ∙ ap (λ n. length (if nat_eq source m then place ∷ [] else []) + n) (length-named_in place m row)
+    ∙ ap (λ n. n + times m (dues_in row)) (one (nat_eq source m) ∙ ap one_if (turned source m))
+  where
+    one : (b : Bool) → length (if b then place ∷ [] else []) ≡ one_if b
+    one true = refl
+    one false = refl
+
+length-named : (m : ℕ) (rows : List (List Slot)) (k : ℕ) → length (named m rows k) ≡ total (λ row. times m (dues_in row)) rows
+length-named m [] k = refl
+length-named m (row ∷ rows) k =
+    length-append (named_in k m row) (named m rows (suc k)) ∙ ap (λ n. n + length (named m rows (suc k))) (length-named_in k m row)
+    ∙ ap (λ n. times m (dues_in row) + n) (length-named m rows (suc k))
+
+-- the dues at a place have room, where each list has room for all that will be named
+pub naming_room : (rows : List (List Slot)) (lists : Binned) (counts : List ℕ) (place : ℕ) (row : List Slot) → IsNaming rows lists.rows place
+    → lists.rooms ≡ counts → AreCounted rows counts → drop place rows ≡ row ∷ drop (place + 1) rows → HaveRoom place row lists
+naming_room rows lists counts place row h rooms counted e = λ m low.
+    let all = ap length (h.each m) in
+    let a = length-append (rank_at lists.rows m) (named m (drop place rows) place) in
+    let whole = length-named m rows 0 in
+    let here = ap (λ rs. length (named m rs place)) e in
+    let b = length-append (named_in place m row) (named m (drop (place + 1) rows) (suc place)) in
+    let room = ap (λ rs. slice_index_or rs m 0) rooms in
+    let count = counted.each m in
+    omega (arith, all, a, whole, here, b, room, count)
+
+-- ---- counts
+
+-- what is counted so far, and what is to come, is all of the row
+pub record IsCounting (row rest : List Slot) (before now : List ℕ) : Type 0 where
+  pub long : length now ≡ length before
+  pub below : AreBelow (length before) rest
+  pub each : (m : ℕ) → slice_index_or now m 0 + times m (dues_in rest) ≡ slice_index_or before m 0 + times m (dues_in row)
+
+pub counting_kept : (number : ℕ) (row rest : List Slot) (before now : List ℕ) → IsCounting row (slots.Kept number ∷ rest) before now
+    → IsCounting row rest before now
+counting_kept number row rest before now h = record { long = h.long; below = h.below; each = h.each }
+
+pub counting_due : (source : ℕ) (row rest : List Slot) (before now later : List ℕ) → IsCounting row (slots.Due source ∷ rest) before now
+    → later ≡ set now source (slice_index_or now source 0 + 1) → IsCounting row rest before later
+counting_due source row rest before now later h is = record {
+  long = ap length is ∙ length-set now source (slice_index_or now source 0 + 1) ∙ h.long;
+  below = h.below.1;
+  each = λ m. ap (λ xs. slice_index_or xs m 0 + times m (dues_in rest)) is ∙ by m (eqb_tells m source) ∙ h.each m;
+}
+  where
+    by : (m : ℕ) → ((nat_eq m source ≡ true) × (m ≡ source)) ⊎ ((nat_eq m source ≡ false) × (m ≡ source → ⊥))
+        → slice_index_or (set now source (slice_index_or now source 0 + 1)) m 0 + times m (dues_in rest)
+        ≡ slice_index_or now m 0 + (one_if (nat_eq m source) + times m (dues_in rest))
+    by m (inl t) =
+        let long = h.long in
+        let low = h.below.0 in
+        let same = ap (λ j. slice_index_or (set now source (slice_index_or now source 0 + 1)) j 0) t.1
+        ∙ get_or-set_same now source (slice_index_or now source 0 + 1) 0 (omega (arith, long, low)) in
+        let old = ap (λ j. slice_index_or now j 0) t.1 in
+        let one = ap one_if t.0 in
+        omega (arith, same, old, one)
+    by m (inr f) =
+        let same = get_or-set_other now source m (slice_index_or now source 0 + 1) 0 f.1 in
+        let none = ap one_if f.0 in
+        omega (arith, same, none)
+
+pub counting_done : (row : List Slot) (before now : List ℕ) → IsCounting row [] before now → IsCounted row before now
+counting_done row before now h = record { long = h.long; each = λ m. let all = h.each m in omega (arith, all) }
+
+-- and of the rows before a place
+pub record IsAdding (rows : List (List Slot)) (counts : List ℕ) (place : ℕ) : Type 0 where
+  pub long : length counts ≡ length rows
+  pub each : (m : ℕ) → slice_index_or counts m 0 + total (λ row. times m (dues_in row)) (drop place rows) ≡ total (λ row. times m (dues_in row)) rows
+
+pub adding_none : (rows : List (List Slot)) (counts : List ℕ) → counts ≡ replicate (length rows) 0 → IsAdding rows counts 0
+adding_none rows counts is = record {
+  long = ap length is ∙ length-replicate (length rows) 0;
+  each = λ m. ap (λ n. n + total (λ row. times m (dues_in row)) rows) (ap (λ xs. slice_index_or xs m 0) is ∙ zero-at (length rows) m)
+      ∙ past-zero (total (λ row. times m (dues_in row)) rows);
+}
+  where
+    zero-at : (n m : ℕ) → ◌≡◌ {A = ℕ} (slice_index_or (replicate n 0) m 0) 0
+    zero-at zero m = refl
+    zero-at (suc n) zero = refl
+    zero-at (suc n) (suc m) = zero-at n m
+
+    past-zero : (n : ℕ) → 0 + n ≡ n
+    past-zero n = omega arith
+
+pub adding_next : (rows : List (List Slot)) (counts later : List ℕ) (place : ℕ) (row : List Slot) → IsAdding rows counts place
+    → drop place rows ≡ row ∷ drop (place + 1) rows → IsCounted row counts later → IsAdding rows later (place + 1)
+adding_next rows counts later place row h e counted = record {
+  long = counted.long ∙ h.long;
+  each = λ m.
+      let all = h.each m in
+      let here = ap (total (λ row. times m (dues_in row))) e in
+      let more = counted.each m in
+      omega (arith, all, here, more);
+}
+
+pub adding_done : (rows : List (List Slot)) (counts : List ℕ) (place : ℕ) → length rows ≤ place → IsAdding rows counts place → AreCounted rows counts
+adding_done rows counts place l h = record {
+  long = h.long;
+  each = λ m.
+      let all = h.each m in
+      let none = ap (total (λ row. times m (dues_in row))) (drop_of_length-le rows l) in
+      omega (arith, all, none);
+}
+
 -- ---- rows
 
-pub length-rows_in : (rows : List (Vec Slot Global)) → length (rows_in rows) ≡ length rows
-length-rows_in [] = refl
-length-rows_in (row ∷ rows) = ap suc (length-rows_in rows)
+-- the row at a place, and those after it
+pub rows-from : (rows : List (List Slot)) (k : ℕ) (row : List Slot) → k < length rows → row ≡ slice_index_or rows k []
+    → drop k rows ≡ row ∷ drop (k + 1) rows
+rows-from rows k row l e = drop_more rows k [] l ∙ ap (λ r. r ∷ drop (k + 1) rows) (sym e)
 
-pub rows-from : (rows : List (Vec Slot Global)) (k : ℕ) (row : Vec Slot Global) → k < length rows → row ≡ get_or rows k row
-    → drop k (rows_in rows) ≡ row.items ∷ drop (k + 1) (rows_in rows)
-rows-from [] k row l e = absurd (omega arith)
-rows-from (r ∷ rs) zero row l e = ap (λ (v : Vec Slot Global). v.items ∷ rows_in rs) (sym e)
-rows-from (r ∷ rs) (suc k) row l e =
-    let one : suc (k + 1) ≡ suc k + 1 = omega arith in
-    rows-from rs k row (omega arith) e ∙ ap (λ i. row.items ∷ drop i (r.items ∷ rows_in rs)) one
-
-pub below-at : (count : ℕ) (rows : List (Vec Slot Global)) (k : ℕ) (row : Vec Slot Global) → k < length rows → row ≡ get_or rows k row
-    → AllByRecursion (AreBelow count) (rows_in rows) → AreBelow count row.items
+pub below-at : (count : ℕ) (rows : List (List Slot)) (k : ℕ) (row : List Slot) → k < length rows → row ≡ slice_index_or rows k []
+    → AllByRecursion (AreBelow count) rows → AreBelow count row
 below-at count [] k row l e all = absurd (omega arith)
-below-at count (r ∷ rs) zero row l e all = subst (λ (v : Vec Slot Global). AreBelow count v.items) (sym e) all.0
+below-at count (r ∷ rs) zero row l e all = subst (AreBelow count) (sym e) all.0
 below-at count (r ∷ rs) (suc k) row l e all = below-at count rs k row (omega arith) e all.1
 
 -- the places of what is due are below their number
@@ -176,9 +331,33 @@ pub mapped_done : {A B : Type 0} (f : A → B) (xs : List A) (ys : List B) (k : 
     → ys ≡ map f xs
 mapped_done f xs ys k l h = sym (append-nil ys) ∙ ap (λ zs. ys ++ map f zs) (sym (drop_of_length-le xs l)) ∙ h
 
-pub rows-push : (old new : List (Vec Slot Global)) (row : Vec Slot Global) → new ≡ old ++ row ∷ [] → rows_in new ≡ rows_in old ++ row.items ∷ []
-rows-push old new row e = ap rows_in e ∙ pushed-row old row
+-- ---- the slot of a number that is looked up
+
+no-place : (n : ℕ) (numbers : List ℕ) (place : ℕ) → position (nat_eq n) numbers ≡ None → slice_get numbers place ≡ Some n → ⊥
+no-place n numbers place none at = by (nat_lt (position_or_len (nat_eq n) numbers) (length numbers)) refl none
   where
-    pushed-row : (rows : List (Vec Slot Global)) (r : Vec Slot Global) → rows_in (rows ++ r ∷ []) ≡ rows_in rows ++ r.items ∷ []
-    pushed-row [] r = refl
-    pushed-row (x ∷ xs) r = ap (λ zs. x.items ∷ zs) (pushed-row xs r)
+    by : (b : Bool) → nat_lt (position_or_len (nat_eq n) numbers) (length numbers) ≡ b
+        → cond b (Some (position_or_len (nat_eq n) numbers)) None ≡ None → ⊥
+    by true is clash = cc
+    by false is e =
+        let past : length numbers ≤ position_or_len (nat_eq n) numbers = grind (arith, nat_tests) in
+        let low = slice_get_within numbers place n at in
+        let fails = fails_before_first (nat_eq n) numbers place 0 (omega (arith, low, past)) in
+        true≢false (sym (same_number n) ∙ ap (nat_eq n) (sym (get_or_from_slice_get numbers place n 0 at)) ∙ fails)
+
+placed-at : (n : ℕ) (numbers : List ℕ) (place : ℕ) → position (nat_eq n) numbers ≡ Some place → slice_get numbers place ≡ Some n
+placed-at n numbers place is =
+    let at = position-Some (nat_eq n) numbers place 0 is in
+    slice_get-get_or numbers place 0 at.0 ∙ ap Some (sym (eqb-true n (get_or numbers place 0) at.1))
+
+pub slot-looked_up : (numbers : List ℕ) (n : ℕ) (found : Option ℕ) → IfSome found (λ place. slice_get numbers place ≡ Some n)
+    → ((place : ℕ) → slice_get numbers place ≡ Some n → found ≡ Some place) → slot_or n found ≡ slot_of numbers n
+slot-looked_up numbers n found there only = by (position (nat_eq n) numbers) refl
+  where
+    none : position (nat_eq n) numbers ≡ None → (f : Option ℕ) → IfSome f (λ place. slice_get numbers place ≡ Some n) → slot_or n f ≡ slots.Kept n
+    none is None at = refl
+    none is (Some place) at = absurd (no-place n numbers place is at)
+
+    by : (p : Option ℕ) → position (nat_eq n) numbers ≡ p → slot_or n found ≡ slot_of numbers n
+    by None is = none is found there ∙ sym (ap (slot_or n) is)
+    by (Some place) is = ap (slot_or n) (only place (placed-at n numbers place is)) ∙ sym (ap (slot_or n) is)

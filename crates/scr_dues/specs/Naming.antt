@@ -1,6 +1,8 @@
 -- Which of the dues are reckoned from which, by their places (this project's own).
-use Rattle.std.specs.Prelude.{◌≡◌, ℕ, suc, ◌<◌, Bool, true, false, List, [], ◌∷◌, ◌++◌, if◌then◌else◌, length, nat_eq}
+use Rattle.std.specs.Prelude.{◌≡◌, ℕ, suc, ◌+◌, ◌<◌, ◌≤◌, Bool, true, false, List, [], ◌∷◌, ◌++◌, if◌then◌else◌, length, nat_eq, slice_index_or}
+use Rattle.scr_round.specs.Counts.{times, total}
 use Rattle.scr_rounds.specs.Ranks.{rank_at}
+use Rattle.scr_rows.specs.Parts.{Binned}
 use Rattle.scr_dues.specs.declared.round.Slot.{Slot}
 use Rattle.scr_dues.specs.declared.round.Slot.TheVariants as slots
 
@@ -37,9 +39,15 @@ pub record AreNamed (rows : List (List Slot)) (lists : List (List ℕ)) : Type 0
   pub long : length lists ≡ length rows
   pub each : (m : ℕ) → rank_at lists m ≡ named m rows 0
 
-pub record AreEmpty (count : ℕ) (lists : List (List ℕ)) : Type 0 where
-  pub long : length lists ≡ count
-  pub each : (m : ℕ) → rank_at lists m ≡ []
+-- how many dues each is the source of
+pub record AreCounted (rows : List (List Slot)) (counts : List ℕ) : Type 0 where
+  pub long : length counts ≡ length rows
+  pub each : (m : ℕ) → slice_index_or counts m 0 ≡ total (λ row. times m (dues_in row)) rows
+
+-- one more for each slot that is of a due
+pub record IsCounted (row : List Slot) (before after : List ℕ) : Type 0 where
+  pub long : length after ≡ length before
+  pub each : (m : ℕ) → slice_index_or after m 0 ≡ slice_index_or before m 0 + times m (dues_in row)
 
 -- no slot is of a due at this place or a later one
 abbrev pub AreBelow : ℕ → List Slot → Type 0
@@ -56,3 +64,7 @@ pub record IsPushed (source place : ℕ) (before after : List (List ℕ)) : Type
 pub record IsEntered (place : ℕ) (row : List Slot) (before after : List (List ℕ)) : Type 0 where
   pub long : length after ≡ length before
   pub each : (m : ℕ) → rank_at after m ≡ rank_at before m ++ named_in place m row
+
+-- there is room for it in each of these lists
+abbrev pub HaveRoom : ℕ → List Slot → Binned → Type 0
+HaveRoom place row lists = (m : ℕ) → m < length lists.rows → length (rank_at lists.rows m) + length (named_in place m row) ≤ slice_index_or lists.rooms m 0

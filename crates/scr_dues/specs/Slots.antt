@@ -1,6 +1,5 @@
 -- The slots of what is due, and the round that they make (this project's own).
-use Rattle.std.specs.Prelude.{◌≡◌, ℕ, List, [], Option, Some, None, Vec, map, nat_eq, position, slice_index_or}
-use Rattle.std.specs.Global.{Global}
+use Rattle.std.specs.Prelude.{◌≡◌, ℕ, List, [], Option, Some, None, map, nat_eq, position, slice_index_or}
 use Rattle.scr_rounds.specs.declared.ranks.Due.{Due}
 use Rattle.scr_rounds.specs.Levels.{numbers_of}
 use Rattle.scr_dues.specs.declared.round.Slot.{Slot}
@@ -12,9 +11,6 @@ pub record Lists : Type 0 where
   pub slots : List (List Slot)
   pub dependants : List (List ℕ)
   pub starts : List ℕ
-
-abbrev pub rows_in : List (Vec Slot Global) → List (List Slot)
-rows_in rows = map (λ (row : Vec Slot Global). row.items) rows
 
 -- what is due at its place, all else at its number
 abbrev pub slot_or : ℕ → Option ℕ → Slot

@@ -1,26 +1,34 @@
-use Rattle.std.proofs.Common.{◌≡◌, subst, sym, arith, length}
-use Rattle.scr_rounds.specs.Buckets.{lists_of}
-use Rattle.scr_rounds.proofs.Placing.{length-lists_of}
-use Rattle.scr_dues.specs.Naming.{AreBelow, IsEntered}
-use Rattle.scr_dues.specs.Slots.{rows_in}
-use Rattle.scr_dues.proofs.Entering.{below-at, length-rows_in, naming_next, rows-from}
+use Rattle.std.proofs.Common.{ap, arith, length, subst, sym, ◌∙◌}
+use Rattle.scr_dues.specs.Naming.{AreBelow, AreNamed}
+use Rattle.scr_dues.proofs.Entering.{below-at, naming_done, naming_next, naming_none, naming_room, rows-from}
 use Rattle.scr_dues.proofs.round.all_dependants.Goals as goal
 
-pub enter-requires : goal.enter-requires
-enter-requires c =
-    let row = c.index-slots-place.result in
-    let a = length-lists_of c.loop-place.lists.items in
-    let b = length-rows_in c.args.slots.now in
-    let d = c.loop-place.invariant.long in
-    let long : length c.args.slots.now ≡ length c.loop-place.lists.items = omega (arith, a, b, d) in
-    subst (AreBelow (length c.loop-place.lists.items)) (sym c.as_slice.ensures.value)
-    (subst (λ n. AreBelow n row.items) long
-    (below-at (length c.args.slots.now) c.args.slots.now c.loop-place.place row (omega arith) c.index-slots-place.is c.requires.within))
+pub loop-place-init : goal.loop-place-init
+loop-place-init c = record {
+  naming = naming_none c.args.slots.now c.in_ok-lists.lists.rows
+      (c.in_ok-lists.ensures.count ∙ ap length c.as_slice.ensures.value ∙ c.in_ok-counts.ensures.long) c.in_ok-lists.ensures.empty;
+  rooms = c.in_ok-lists.ensures.rooms ∙ c.as_slice.ensures.value;
+}
+
+pub enter-requires-clause-below : goal.enter-requires-clause-below
+enter-requires-clause-below c =
+    subst (λ n. AreBelow n c.row.result.now) (sym c.loop-place.invariant.naming.long)
+    (below-at (length c.args.slots.now) c.args.slots.now c.loop-place.place c.row.result.now (omega arith) c.row.ensures c.requires.within)
+
+pub enter-requires-clause-room : goal.enter-requires-clause-room
+enter-requires-clause-room c =
+    naming_room c.args.slots.now c.loop-place.lists c.in_ok-counts.counts.items c.loop-place.place c.row.result.now c.loop-place.invariant.naming
+    c.loop-place.invariant.rooms c.in_ok-counts.ensures
+    (rows-from c.args.slots.now c.loop-place.place c.row.result.now (omega arith) c.row.ensures)
 
 pub loop-place-preserved : goal.loop-place-preserved
-loop-place-preserved c =
-    let row = c.index-slots-place.result in
-    naming_next (rows_in c.args.slots.now) (lists_of c.loop-place.lists.items) (lists_of c.enter.new.lists.items) c.loop-place.place
-    row.items c.loop-place.invariant (rows-from c.args.slots.now c.loop-place.place row (omega arith) c.index-slots-place.is)
-    (subst (λ items. IsEntered c.loop-place.place items (lists_of c.loop-place.lists.items) (lists_of c.enter.new.lists.items))
-    c.as_slice.ensures.value c.in_ok-enter.ensures)
+loop-place-preserved c = record {
+  naming = naming_next c.args.slots.now c.loop-place.lists.rows c.enter.new.lists.rows c.loop-place.place c.row.result.now
+      c.loop-place.invariant.naming (rows-from c.args.slots.now c.loop-place.place c.row.result.now (omega arith) c.row.ensures) c.enter.ensures.entered;
+  rooms = c.enter.ensures.rooms ∙ c.loop-place.invariant.rooms;
+}
+
+pub returns : goal.returns
+returns c =
+    subst (AreNamed c.args.slots.now) (sym c.into_rows.ensures)
+    (naming_done c.args.slots.now c.loop-place.lists.rows c.loop-place.place (omega arith) c.loop-place.invariant.naming)

@@ -2,10 +2,10 @@
 use Rattle.std.proofs.Common.{map}
 use Rattle.scr_rounds.specs.declared.ranks.Due.{Due}
 use Rattle.scr_rounds.specs.Levels.{numbers_of}
-use Rattle.scr_dues.specs.Slots.{rows_in, slot_of}
+use Rattle.scr_dues.specs.Slots.{slot_of}
 use Rattle.scr_dues.proofs.Entering.{AreMapped}
 use Rattle.scr_dues.proofs.round.all_slots.Given as goal
 
 abbrev pub invariant-loop-due : goal.invariant-loop-due
 invariant-loop-due l =
-    AreMapped (λ (due : Due). map (slot_of (numbers_of l.dues)) due.sources.items) l.dues (rows_in l.rows.items) l.due-index
+    AreMapped (λ (due : Due). map (slot_of (numbers_of l.dues)) due.sources.items) l.dues l.rows l.due-index

@@ -3,4 +3,4 @@ use Rattle.scr_rounds.proofs.Ranking.{IsPlacing}
 use Rattle.scr_dues.proofs.round.places_of.Given as goal
 
 abbrev pub invariant-loop-due : goal.invariant-loop-due
-invariant-loop-due l = IsPlacing l.dues l.places.keys l.due-index
+invariant-loop-due l = IsPlacing l.dues l.places.list l.due-index

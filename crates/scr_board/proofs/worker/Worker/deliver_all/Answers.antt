@@ -14,11 +14,10 @@ overflow_cast-count g c =
     let seat = c.requires.ready.of_board.seat in
     let put = c.requires.put in
     let node = seat.nodes c.args.n (omega (arith, put)) in
-    let row = ap (λ (xs : List ℕ). length xs) (row_of c.args.self.now.board.now c.args.pass.now.seat seat c.args.n c.index.result.now node c.index.ensures) in
+    let row = ap (λ (xs : List ℕ). length xs) (row_of c.args.self.now.board.now c.args.pass.now.seat seat c.args.n) in
     let few = row_few c.args.self.now.board.now c.args.pass.now.seat seat c.args.n node in
-    let ok = c.index.result.now.ok in
-    let long = c.len-count.ensures in
-    omega (arith, row, few, ok, long)
+    let kept = ap (λ (xs : List ℕ). length xs) c.row.ensures in
+    omega (arith, row, few, kept)
 
 pub returns-clause-between : goal.returns-clause-between
 returns-clause-between g c =
@@ -26,13 +25,11 @@ returns-clause-between g c =
     let put = c.requires.put in
     let node = seat.nodes c.args.n (omega (arith, put)) in
     let row = ap (λ (xs : List ℕ). length xs)
-    (row_of c.args.self.now.board.now c.args.pass.now.seat seat c.args.n c.index.result.now node c.index.ensures
-    ∙ ap (λ (R : Round). dependants_of R c.args.n) c.requires.ready.lists) in
-    let ok = c.index.result.now.ok in
-    let long = c.len-count.ensures in
+    (row_of c.args.self.now.board.now c.args.pass.now.seat seat c.args.n ∙ ap (λ (R : Round). dependants_of R c.args.n) c.requires.ready.lists) in
+    let kept = ap (λ (xs : List ℕ). length xs) c.row.ensures in
     let end = c.loop-k-test.false in
     delivered_all c.args.self.now.board.now (g.G.Graph.round c.args.self.now.graph.now) c.loop-k.pass c.args.n c.loop-k.k c.loop-k.invariant.delivering
-    (omega (arith, row, ok, long, end))
+    (omega (arith, row, kept, end))
 
 pub push_reserved-requires : goal.push_reserved-requires
 push_reserved-requires g c =
@@ -61,7 +58,7 @@ loop-k-preserved g c =
     let room = c.deliver.ensures.room in
     elim c.match-deliver.branch [
       | in-Some w ↦
-          let new : Pass = record { seat = c.deliver.new.pass.seat; hand = w.push_reserved.new.self; got = c.deliver.new.pass.got } in
+          let new : Pass = record { seat = c.deliver.new.pass.seat; hand = w.push_reserved.new.self; got = c.deliver.new.pass.got; apart = c.deliver.new.pass.apart } in
           let pass = pass_seat board c.deliver.new.pass new c.deliver.ensures.pass refl in
           let last = last_some left d w.in-Some.dependant (sym told.4 ∙ w.in-Some.is) in
           let capacity = w.push_reserved.ensures.capacity ∙ ap (λ v. v.cap) room.hand in

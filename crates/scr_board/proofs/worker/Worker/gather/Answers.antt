@@ -23,7 +23,7 @@ loop-k-init g c =
     let board = c.args.self.now.board.now in
     let round = g.G.Graph.round c.args.self.now.graph.now in
     let old = c.args.pass.now in
-    let new : Pass = record { seat = old.seat; hand = old.hand; got = c.clear.new.self } in
+    let new : Pass = record { seat = old.seat; hand = old.hand; got = c.clear.new.self; apart = old.apart } in
     record {
       taken = taken_again board round old new c.args.n c.requires.taken (pass_seat board old new c.requires.taken.ready.of_board refl) refl refl
           c.clear.ensures.capacity;
@@ -55,7 +55,7 @@ loop-k-preserved g c =
     let round = g.G.Graph.round c.args.self.now.graph.now in
     let old = c.loop-k.pass in
     let found = c.figure_at-span.new.pass in
-    let new : Pass = record { seat = found.seat; hand = found.hand; got = c.push_reserved.new.self } in
+    let new : Pass = record { seat = found.seat; hand = found.hand; got = c.push_reserved.new.self; apart = found.apart } in
     let at = sym c.place.ensures ∙ ap (option_map spot_of) c.in-Some.is in
     let span = c.figure_at-span.result in
     let items = c.push_reserved.ensures.items ∙ ap (λ v. v.items ++ span ∷ []) c.figure_at-span.ensures.room.got in

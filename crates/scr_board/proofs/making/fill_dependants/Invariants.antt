@@ -1,5 +1,5 @@
 use Rattle.std.proofs.Common.{◌≡◌, ◌≤◌, [], get_or, length, take}
-use Rattle.scr_board.proofs.making.node_dependants.Given as goal
+use Rattle.scr_board.proofs.making.fill_dependants.Given as goal
 
 abbrev pub invariant-loop-k : goal.invariant-loop-k
 invariant-loop-k g l = record {
