@@ -1,7 +1,9 @@
 //! Tests of what no stored run of the program shows: calls that it does not make, ends of spans that no printed cent
-//! tells apart, texts that it does not print, and runs whose reads or writes fail in their midst.
+//! tells apart, texts that it does not print, runs whose reads or writes fail in their midst, and what shows at the gate alone.
 #![tactic(auto)]
 
+#[cfg(test)]
+mod board;
 #[cfg(test)]
 mod curve;
 #[cfg(test)]
@@ -24,3 +26,5 @@ mod spans;
 mod statuses;
 #[cfg(test)]
 mod threads;
+#[cfg(test)]
+mod workers;

@@ -3,14 +3,14 @@
 use crate::outside::{Outside, SOUND, outcome};
 use std::test::Fail;
 
-const BOOK: &str =
+pub const BOOK: &str =
     "sec,ALPHA,eq1,-,EUR,0\nhold,ALPHA,100000\nsec,BETA,eq2,-,EUR,0\nhold,BETA,50000\n";
 
 /// The first hundred bytes of the report on that book, worked by hand.
 const FRONT: &str =
     "# 0 book\nS2501.market.gross 596.19 596.20\nS2501.market.net 596.19 596.20\nS2501.default.gross 0.00 0.";
 
-const FACTORS: &str = "form = 1
+pub const FACTORS: &str = "form = 1
 [spread]
 s0 = [0, 14000, 70000, 7000, 105000, 5000, 130000, 5000, 155000, 5000]
 s1 = [0, 14000, 70000, 7000, 105000, 5000, 130000, 5000, 155000, 5000]
@@ -43,7 +43,7 @@ reserve = [100000, 100000, 100000, 100000]
 ";
 
 /// The factor file, the book, and edits of one record.
-const FILES: [(&str, &str); 3] = [("f", FACTORS), ("b", BOOK), ("e", "hold,BETA,0\n")];
+pub const FILES: [(&str, &str); 3] = [("f", FACTORS), ("b", BOOK), ("e", "hold,BETA,0\n")];
 
 // Each of the three files takes an open and two reads, the second of which finds the end.
 #[test]

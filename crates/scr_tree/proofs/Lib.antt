@@ -24,3 +24,5 @@ pub mod ByRow
 pub mod RowsMade
 pub mod Edited
 pub mod Spanned
+pub mod Begun
+pub mod Entering

@@ -56,7 +56,7 @@ from-own (x ∷ edges) number e has = by (nat_eq x.dependant number) (λ h. from
     by false rest h = inr (rest h)
 
 -- no edge leads to the number
-none-linked : (edges : List Edge) (number : ℕ) → ((e : Edge) → IsMember e edges → e.dependant ≡ number → ⊥)
+pub none-linked : (edges : List Edge) (number : ℕ) → ((e : Edge) → IsMember e edges → e.dependant ≡ number → ⊥)
     → sources_in edges number ≡ []
 none-linked [] number none = refl
 none-linked (x ∷ edges) number none =
@@ -69,7 +69,7 @@ none-linked (x ∷ edges) number none =
     by false h rest = rest
 
 -- what leads to another number than this was there before
-was-there : (old now : List Edge) (number : ℕ) → ((other : ℕ) → nat_eq number other ≡ false → edges_to now other ≡ edges_to old other)
+pub was-there : (old now : List Edge) (number : ℕ) → ((other : ℕ) → nat_eq number other ≡ false → edges_to now other ≡ edges_to old other)
     → (e : Edge) → IsMember e now → (e.dependant ≡ number → ⊥) → IsMember e old
 was-there old now number kept e has other =
     from-own old e.dependant e

@@ -8,6 +8,8 @@ pub mod KeptRates
 pub mod Changed
 pub mod Turns
 pub mod First
+pub mod Begun
+pub mod FirstDues
 pub mod Opened
 pub mod Standing
 pub mod Kept

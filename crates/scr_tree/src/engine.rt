@@ -50,8 +50,8 @@ impl Model for Engine {
 }
 
 impl Engine {
-    /// The engine over a book. All figures are reckoned once, one after another on this thread, whatever the number of workers,
-    /// which edits are shared out among. The gate is passed before each evaluation. Want of memory lets factors and book go.
+    /// The engine over a book. All figures are reckoned once: by one worker one after another on this thread, by several each as
+    /// soon as those of its sources are known. The gate is passed before each evaluation. Want of memory lets factors and book go.
     pub fn new<R: Threads + Sync, G: Gate + Sync>(
         rt: &R,
         alloc: Global,
@@ -63,7 +63,13 @@ impl Engine {
         requires { (1 ≤ workers) × (workers ≤ 64) }
         ensures { IfOk result (λ engine. engine ≡ record { factors = factors; sheet = book }) }
     {
-        match opened(alloc, &factors, &book, gate) {
+        let crew = Crew {
+            rt,
+            alloc,
+            workers,
+            gate,
+        };
+        match opened(&crew, &factors, &book) {
             Ok(state) => Ok(Engine {
                 factors,
                 book,
@@ -99,14 +105,9 @@ impl Engine {
             Ok(touched) => touched,
             Err(NoMemory) => return Err(Refusal::NoMemory),
         };
-        let step = step_of(self.book.sheet(), edit);
-        let gone = match numbers_gone(
-            alloc,
-            self.book.sheet(),
-            &self.state.places,
-            step,
-            &touched,
-        ) {
+        let sheet = self.book.sheet();
+        let step = step_of(sheet, edit);
+        let gone = match numbers_gone(alloc, sheet, &self.state.places, step, &touched) {
             Ok(gone) => gone,
             Err(NoMemory) => return Err(Refusal::NoMemory),
         };

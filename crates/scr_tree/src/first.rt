@@ -1,11 +1,15 @@
-//! The figures of a book, all reckoned for the first time: row by row, and then those of the whole sheet in their order.
+//! The figures of a book, all reckoned for the first time: by several workers at once, or by one row by row, and then those of the
+//! whole sheet in their order.
 ghost use Rattle.std.specs.Prelude.{◌≡◌, ◌<◌, [], length, IfOk, OnOk};
+ghost use Rattle.scr_tree.specs.Begun.{IsAllMade};
 ghost use Rattle.scr_tree.specs.First.{IsDone, IsGround};
 ghost use Rattle.scr_tree.specs.Opened.{IsOpened};
 ghost use Rattle.scr_tree.specs.Turns.{turn};
 
+use crate::basis::Crew;
 use crate::figures::{Below, Figure, Inputs, NO_FIGURE};
 use crate::first_rows::{put_currency, put_group, put_liability, put_security, put_square};
+use crate::first_together::reckon_round;
 use crate::first_totals::put_totals;
 use crate::making::{Ground, Made, Making, put_live};
 use scr_book::Book;
@@ -21,6 +25,7 @@ use scr_sheet::BalanceSheet;
 use std::alloc::{AllocError as NoMemory, Global};
 use std::marker::Brand;
 use std::sync::ledger::{Blank, Ledger};
+use std::thread::Threads;
 
 /// What an engine keeps beside its factors and its book.
 #[derive(Drop)]
@@ -36,14 +41,14 @@ pub(crate) struct Opened {
 const WHOLES: u32 = 153;
 
 /// All figures of a book with their links. The gate is passed before each evaluation. Only want of memory is refused.
-pub(crate) fn reckon_all<G: Gate>(
-    alloc: Global,
+pub(crate) fn reckon_all<R: Threads + Sync, G: Gate + Sync>(
+    crew: &Crew<'_, R, G>,
     factors: &Factors,
     book: &Book,
-    gate: &G,
 ) -> Result<Opened, NoMemory>
     ensures { IfOk result (IsOpened factors.now book.now) }
 {
+    let alloc = crew.alloc;
     factors.known();
     let rates = rates(alloc, factors, book)?;
     let losses = group_losses(alloc, book)?;
@@ -61,7 +66,7 @@ pub(crate) fn reckon_all<G: Gate>(
         members: &members,
         losses: &losses,
     };
-    reckon_tables::<G, Brand>(ground, &mut making, gate, Blank::new(1))?;
+    reckon_by(crew, ground, &mut making)?;
     Ok(Opened {
         rates,
         places,
@@ -69,6 +74,22 @@ pub(crate) fn reckon_all<G: Gate>(
         links: making.made.links,
         below: making.below,
     })
+}
+
+/// By one worker one after another, by several at once.
+fn reckon_by<R: Threads + Sync, G: Gate + Sync>(
+    crew: &Crew<'_, R, G>,
+    ground: Ground<'_>,
+    making: &mut Making,
+) -> Result<(), NoMemory>
+    requires ground { IsGround ground }
+    requires nothing { IsDone ground making.old.made (turn 0 0 0) }
+    ensures { OnOk result (IsAllMade ground.entry making.new.made) }
+{
+    if crew.workers == 1 {
+        return reckon_tables::<G, Brand>(ground, making, crew.gate, Blank::new(1));
+    }
+    reckon_round(crew, ground, &mut making.made)
 }
 
 /// No figure and no link, with room for those of so many numbers.
@@ -121,7 +142,7 @@ fn reckon_tables<G: Gate, L: Ledger>(
     requires some { 0 < blank.parts }
     requires ground { IsGround ground }
     requires nothing { IsDone ground making.old.made (turn 0 0 0) }
-    ensures { OnOk result (IsDone ground.entry making.new.made (turn 8 0 153)) }
+    ensures { OnOk result (IsAllMade ground.entry making.new.made) }
 {
     let mut steps = Steps::<L>::new(blank);
     put_totals(ground, making, gate)?;

@@ -31,13 +31,27 @@ pub(crate) fn put_totals<G: Gate>(
     requires nothing { IsDone ground making.old.made (turn 0 0 0) }
     ensures { OnOk result (IsDone ground.entry making.new.made (turn 2 0 0)) }
 {
+    enter_totals(ground, &mut making.made, gate)?;
+    link_funds(ground, making)?;
+    link_securities(ground, making)
+}
+
+/// The totals alone. The gate is passed before each is written.
+pub(crate) fn enter_totals<G: Gate>(
+    ground: Ground<'_>,
+    made: &mut Made,
+    gate: &G,
+) -> Result<(), NoMemory>
+    requires ground { IsGround ground }
+    requires nothing { IsDone ground made.old (turn 0 0 0) }
+    ensures { OnOk result (IsMadeTo ground.entry made.new (turn 2 0 0) (turn 0 0 0)) }
+{
     let sheet = ground.inputs.book.sheet();
     let totals = totals(ground.alloc, sheet)?;
     let funds = sheet.funds.len();
-    put_funds(ground, &mut making.made, &totals[..funds], gate);
-    put_securities(ground, &mut making.made, &totals[funds..], gate);
-    link_funds(ground, making)?;
-    link_securities(ground, making)
+    put_funds(ground, made, &totals[..funds], gate);
+    put_securities(ground, made, &totals[funds..], gate);
+    Ok(())
 }
 
 fn put_funds<G: Gate>(ground: Ground<'_>, made: &mut Made, totals: &[u64], gate: &G)

@@ -3,21 +3,22 @@ ghost use Rattle.std.specs.Prelude.{◌≡◌, [], IfOk};
 ghost use Rattle.scr_sheet.specs.Validity.{Valid};
 ghost use Rattle.scr_tree.specs.Changed.{IsStateOf};
 
+use crate::basis::Crew;
 use crate::edits::State;
 use crate::first::{Opened, reckon_all};
 use scr_book::Book;
 use scr_factors::Factors;
 use scr_io::Gate;
 use scr_rounds::Marked;
-use std::alloc::{AllocError as NoMemory, Global};
+use std::alloc::AllocError as NoMemory;
+use std::thread::Threads;
 
 /// All figures of a book with their numbers and links, and room for the marks of all. The gate is passed before each
 /// evaluation. Only want of memory is refused.
-pub(crate) fn opened<G: Gate>(
-    alloc: Global,
+pub(crate) fn opened<R: Threads + Sync, G: Gate + Sync>(
+    crew: &Crew<'_, R, G>,
     factors: &Factors,
     book: &Book,
-    gate: &G,
 ) -> Result<State, NoMemory>
     ensures valid { IfOk result (λ state. Valid book.now) }
     ensures state { IfOk result (IsStateOf factors.now book.now) }
@@ -29,8 +30,8 @@ pub(crate) fn opened<G: Gate>(
         figures,
         links,
         below,
-    } = reckon_all(alloc, factors, book, gate)?;
-    let mut marks = Marked::new(alloc);
+    } = reckon_all(crew, factors, book)?;
+    let mut marks = Marked::new(crew.alloc);
     marks.grow(places.len() as usize)?;
     Ok(State {
         rates,

@@ -102,7 +102,7 @@ fn start_at(alloc: Global, view: View<'_>, number: u32) -> Result<(Due, bool), N
 }
 
 /// The live figure at a number.
-fn live_at(view: View<'_>, number: u32) -> Option<Node>
+pub(crate) fn live_at(view: View<'_>, number: u32) -> Option<Node>
     requires numbered { IsNumbered view.sheet.now view.places.now }
     requires numbers { AreNumbers view.sheet.now (StandsAt view.sheet.now view.places.now) view.places.now.size }
     ensures there { IfSome result (λ node. StandsAt view.entry.sheet.now view.entry.places.now node number) }

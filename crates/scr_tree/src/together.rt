@@ -102,7 +102,7 @@ impl<'a> Plan for Known<'a> {
 }
 
 /// The span of a figure by its rule, from those of its sources.
-fn span_from<L: Ledger>(
+pub(crate) fn span_from<L: Ledger>(
     inputs: Inputs<'_>,
     node: &Node,
     below: &[Span],
@@ -128,7 +128,7 @@ fn span_from<L: Ledger>(
 }
 
 /// Writes the figures that have these spans, each after those of its sources.
-fn write_all(basis: Basis<'_>, figures: &mut [Figure], numbers: &[u32], spans: &[Span])
+pub(crate) fn write_all(basis: Basis<'_>, figures: &mut [Figure], numbers: &[u32], spans: &[Span])
     requires basis { IsBasis basis }
     requires turn { AreInTurnOn basis numbers.now }
     requires known { AreKnownBut basis figures.old numbers.now }

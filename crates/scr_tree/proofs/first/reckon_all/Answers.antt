@@ -1,14 +1,12 @@
 use Rattle.std.proofs.Common.{subst, ◌∙◌, arith}
 use Rattle.scr_figures.specs.Numbers.{IsNumbered}
 use Rattle.scr_figures.specs.Gathered.{AreMembersOf}
-use Rattle.scr_tree.specs.First.{IsMade}
-use Rattle.scr_tree.specs.Turns.{turn}
-use Rattle.scr_tree.proofs.Made.{made-all, made-none}
+use Rattle.scr_tree.proofs.Made.{made-none}
 use Rattle.scr_tree.proofs.Numbering.{are-numbers}
 use Rattle.scr_tree.proofs.first.reckon_all.Goals as goal
 
-pub reckon_tables-requires-clause-ground : goal.reckon_tables-requires-clause-ground
-reckon_tables-requires-clause-ground g c =
+pub reckon_by-requires-clause-ground : goal.reckon_by-requires-clause-ground
+reckon_by-requires-clause-ground g c κs within =
     let numbered = subst (λ s. IsNumbered s c.in_ok-places.places) c.sheet-2.ensures.sheet c.in_ok-places.ensures in
     record {
       form = c.known.ensures;
@@ -20,8 +18,8 @@ reckon_tables-requires-clause-ground g c =
       losses = c.in_ok-losses.ensures;
     }
 
-pub reckon_tables-requires-clause-nothing : goal.reckon_tables-requires-clause-nothing
-reckon_tables-requires-clause-nothing g c =
+pub reckon_by-requires-clause-nothing : goal.reckon_by-requires-clause-nothing
+reckon_by-requires-clause-nothing g c κs within =
     let numbered = subst (λ s. IsNumbered s c.in_ok-places.places) c.sheet-2.ensures.sheet c.in_ok-places.ensures in
     made-none c.args.factors.now c.args.book.now c.sheet.ensures.valid c.in_ok-places.places numbered
     (are-numbers c.args.book.now c.in_ok-places.places c.sheet.ensures.valid numbered c.len.ensures.within c.len.ensures.apart)
@@ -31,19 +29,15 @@ reckon_tables-requires-clause-nothing g c =
 pub returns : goal.returns
 returns g c =
     let numbered = subst (λ s. IsNumbered s c.in_ok-places.places) c.sheet-2.ensures.sheet c.in_ok-places.ensures in
-    let made = c.reckon_tables.new.making.made in
-    let done : IsMade c.args.factors.now c.args.book.now c.in_ok-places.places made (turn 8 0 153) (turn 8 0 153) = c.in_ok-reckon_tables.ensures in
-    let all = made-all c.args.factors.now c.args.book.now c.sheet.ensures.valid c.in_ok-places.places numbered
-    (are-numbers c.args.book.now c.in_ok-places.places c.sheet.ensures.valid numbered c.len.ensures.within c.len.ensures.apart)
-    made done in
-    let count = done.count in
-    let size = done.size in
+    let all = c.in_ok-reckon_by.ensures in
+    let count = all.count in
+    let size = all.size in
     record {
       valid = c.sheet.ensures.valid;
       rates = c.in_ok-rates.ensures;
       numbered = numbered;
       room = omega (arith, count);
       size = omega (arith, size);
-      figures = all.0;
-      links = all.1;
+      figures = all.figures;
+      links = all.links;
     }

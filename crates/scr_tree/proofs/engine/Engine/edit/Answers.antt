@@ -31,28 +31,28 @@ refuses due (faults.Cycle path) refusal is told = subst (λ r. Refuses due (Err 
 refuses due (faults.Range quantity value limit) refusal is told = subst (λ r. Refuses due (Err r)) (sym is) told
 
 pub numbers_gone-requires-clause-valid : goal.numbers_gone-requires-clause-valid
-numbers_gone-requires-clause-valid g c = subst Valid (sym c.sheet-2.ensures.sheet) c.self.invariant.valid
+numbers_gone-requires-clause-valid g c = subst Valid (sym c.sheet-sheet.ensures.sheet) c.self.invariant.valid
 
 pub numbers_gone-requires-clause-numbered : goal.numbers_gone-requires-clause-numbered
 numbers_gone-requires-clause-numbered g c =
-    subst (λ sheet. IsNumbered sheet c.self.inside.state.places) (sym c.sheet-2.ensures.sheet)
+    subst (λ sheet. IsNumbered sheet c.self.inside.state.places) (sym c.sheet-sheet.ensures.sheet)
     c.self.invariant.state.numbered
 
 pub numbers_gone-requires-clause-numbers : goal.numbers_gone-requires-clause-numbers
 numbers_gone-requires-clause-numbers g c =
     subst (λ sheet. AreNumbers sheet (StandsAt sheet c.self.inside.state.places) c.self.inside.state.places.size)
-    (sym c.sheet-2.ensures.sheet) c.self.invariant.state.numbers
+    (sym c.sheet-sheet.ensures.sheet) c.self.invariant.state.numbers
 
 pub take_up-requires-after_bounds : goal.take_up-requires-after_bounds
 take_up-requires-after_bounds g c κs within =
     recorded c.self.inside.factors c.self.inside.book c.apply_kept.new.self _ _ c.self.inside.state c.self.invariant.valid
     c.in-Ok-apply_kept.ensures.ok c.in-Ok-apply_kept.ensures.answer
-    (c.step_of-step.ensures ∙ ap (step_of c.args.edit.now) c.sheet.ensures.sheet)
+    (c.step_of-step.ensures ∙ ap (step_of c.args.edit.now) c.sheet-sheet.ensures.sheet)
     (subst (AreTouched c.self.inside.book c.args.edit.now) (sym c.as_slice.ensures.value) c.in-Ok.ensures.touched)
     (subst HasNoRepeats (sym c.as_slice.ensures.value) c.in-Ok.ensures.once)
     (subst (λ sheet. AreGone c.step_of-step.result sheet c.self.inside.state.places c.as_slice.result.now
-    c.in-Ok-numbers_gone.gone) c.sheet-2.ensures.sheet
-    (subst (λ list. AreGone c.step_of-step.result c.sheet-2.result.now c.self.inside.state.places list
+    c.in-Ok-numbers_gone.gone) c.sheet-sheet.ensures.sheet
+    (subst (λ list. AreGone c.step_of-step.result c.sheet-sheet.result.now c.self.inside.state.places list
     c.in-Ok-numbers_gone.gone) (c.deref.ensures.value ∙ sym c.as_slice.ensures.value) c.in-Ok-numbers_gone.ensures))
     c.self.invariant.state c.self.invariant.marks
 
@@ -73,7 +73,7 @@ returns-in-Ok-take_up-clause-steps g c =
     (taken-steps c.self.inside.factors c.self.inside.book c.apply_kept.new.self taken
     (taken-by c.self.inside.factors c.self.inside.book c.apply_kept.new.self taken c.self.invariant.valid
     c.in-Ok-apply_kept.ensures.ok c.in-Ok-apply_kept.ensures.answer
-    (c.step_of-step.ensures ∙ ap (step_of c.args.edit.now) c.sheet.ensures.sheet)
+    (c.step_of-step.ensures ∙ ap (step_of c.args.edit.now) c.sheet-sheet.ensures.sheet)
     (subst (AreTouched c.self.inside.book c.args.edit.now) (sym c.as_slice.ensures.value) c.in-Ok.ensures.touched)
     (subst HasNoRepeats (sym c.as_slice.ensures.value) c.in-Ok.ensures.once)) c.args.workers c.args.steps.now
     c.take_up.new.steps c.in-Ok-take_up.ensures.steps)
@@ -85,7 +85,7 @@ invariant_of-self-in-Err-take_up g c =
     let kept = c.in-Err-take_up.ensures.err before
     (taken-by c.self.inside.factors before c.apply_kept.new.self _ c.self.invariant.valid
     c.in-Ok-apply_kept.ensures.ok c.in-Ok-apply_kept.ensures.answer
-    (c.step_of-step.ensures ∙ ap (step_of c.args.edit.now) c.sheet.ensures.sheet)
+    (c.step_of-step.ensures ∙ ap (step_of c.args.edit.now) c.sheet-sheet.ensures.sheet)
     (subst (AreTouched before c.args.edit.now) (sym c.as_slice.ensures.value) c.in-Ok.ensures.touched)
     (subst HasNoRepeats (sym c.as_slice.ensures.value) c.in-Ok.ensures.once))
     c.self.invariant.state c.self.invariant.marks in

@@ -3,7 +3,7 @@ use Rattle.scr_sheet.specs.BalanceSheet.{position_name, stake_name}
 use Rattle.scr_sheet.specs.Totals.{total_of}
 use Rattle.scr_sheet.specs.declared.sheet.BalanceSheet.{BalanceSheet}
 use Rattle.scr_totals.proofs.SeenThrough.{front-totals, rest-totals}
-use Rattle.scr_tree.proofs.first_totals.put_totals.Goals as goal
+use Rattle.scr_tree.proofs.first_totals.enter_totals.Goals as goal
 
 fronts : (sheet book : BalanceSheet) (found : List ℕ) → sheet ≡ book → found ≡ map (λ s. total_of sheet (stake_name s)) sheet.funds
     → found ≡ map (λ s. total_of book (stake_name s)) book.funds
