@@ -1,13 +1,16 @@
 -- The first field of a text, where it is known how many bytes it has: those of a day, or the digits of a number.
-use Rattle.std.proofs.Common.{◌≡◌, ℕ, zero, suc, ◌+◌, ◌<◌, ◌==◌, Bool, true, false, List, [], ◌∷◌, length, take, drop, get_or, Option, Some, None, Ok, refl, ap, arith, inl, inr}
-use Rattle.std.specs.Prelude.{nat_le, ◌&&◌, not, IsTrue, is_some, option_map, ok_or, slice_index}
+use Rattle.std.proofs.Common.{◌≡◌, ℕ, zero, suc, ◌+◌, ◌<◌, ◌==◌, Bool, true, false, cond, List, [], ◌∷◌, length, take, drop, get_or, Option, Some, None, Ok, refl, ap, ◌∙◌, arith, inl, inr}
+use Rattle.std.specs.Prelude.{nat_eq, nat_le, ◌&&◌, not, IsTrue, is_some, option_map, ok_or, slice_index}
 use Rattle.std.specs.Borrow.{Bor}
-use Rattle.std.specs.Char.{is_ascii_digit}
+use Rattle.std.specs.Char.{is_ascii_alphanumeric, is_ascii_digit}
+use Rattle.std.specs.Cmp.Lexicographic.{pointwise}
 use Rattle.std.specs.List.{list_all, list_any}
 use Rattle.std.proofs.lemmas.Bool.{cases_Bool, and_parts, or_parts, eqb-true}
 use Rattle.std.proofs.lemmas.List.{take_all}
 use Rattle.scr_dates.specs.declared.day.Day.{Day}
 use Rattle.scr_dates.specs.Text.{has_date_form, has_two_digits, day_of_text}
+use Rattle.scr_names.specs.Names.{is_name, is_name_byte}
+use Rattle.scr_spelling.specs.FieldForms.{name_of, group_of}
 use Rattle.scr_spelling.proofs.FormLemmas.{list_all-weaker}
 use Rattle.scr_csv.specs.Parts.{parts, behind, first_as}
 use Rattle.scr_csv.specs.declared.fault.LineFault.TheVariants.{Syntax}
@@ -30,6 +33,12 @@ digit_high b h = grind (arith, h)
 pub digits_apart : (end : ℕ) (bs : List ℕ) → end < 45 → list_all is_ascii_digit bs ≡ true
     → list_any (λ b. b == end) bs ≡ false
 digits_apart end bs low all = apart end bs low (list_all-weaker is_ascii_digit (nat_le 45) digit_high bs all)
+
+name_high : (b : ℕ) → is_name_byte b ≡ true → nat_le 45 b ≡ true
+name_high b h = grind (arith, h)
+
+pub name_apart : (end : ℕ) (bs : List ℕ) → end < 45 → list_all is_name_byte bs ≡ true → list_any (λ b. b == end) bs ≡ false
+name_apart end bs low all = apart end bs low (list_all-weaker is_name_byte (nat_le 45) name_high bs all)
 
 two_high : (x y : ℕ) → (is_ascii_digit x && is_ascii_digit y) ≡ true → (nat_le 45 x ≡ true) × (nat_le 45 y ≡ true)
 two_high x y h =
@@ -160,3 +169,21 @@ pub next_first : {A : Type 0} (form : List ℕ → Option A) (rest : Rest) (a : 
     → first_as form rest.fields ≡ Some (a, after)
     → next form rest ≡ Ok (a, record { number = rest.number + 1; fields = after })
 next_first form rest a after h = go form rest.number rest.fields a after h
+
+-- a name is that of its own bytes, and as a group it is no dash
+pub name_read : (bs : List ℕ) → is_name bs ≡ true → name_of bs ≡ Some bs
+unfolding name_of
+name_read bs h = rw h refl
+
+no_dash : (b : ℕ) (rest : Bool) → is_ascii_alphanumeric b ≡ true → (nat_eq 45 b && rest) ≡ false
+no_dash b rest h = let other : nat_eq 45 b ≡ false = grind (arith, h) in rw other refl
+
+pub group_read : (bs : List ℕ) → is_name bs ≡ true → group_of bs ≡ Some (Some bs)
+unfolding name_of group_of
+group_read [] h = absurd (cc)
+group_read (b ∷ bs) h =
+    let front = and_parts (is_ascii_alphanumeric b && list_all is_name_byte bs) (nat_le (length (b ∷ bs)) 32) h in
+    let begins = (and_parts (is_ascii_alphanumeric b) (list_all is_name_byte bs) front.0).0 in
+    ap (λ t. cond {A = Option (Option (List ℕ))} t (Some None) (option_map Some (name_of (b ∷ bs))))
+    (no_dash b (pointwise nat_eq [] bs) begins)
+    ∙ ap (option_map (λ name. Some name)) (name_read (b ∷ bs) h)

@@ -1,3 +1,5 @@
+pub mod Lanes
+pub mod Blocks
 pub mod Cuts
 pub mod Fronts
 pub mod TextLines

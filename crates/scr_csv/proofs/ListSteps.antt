@@ -1,10 +1,12 @@
 -- Lists in a line, member by member.
-use Rattle.std.proofs.Common.{◌≡◌, ◌≢◌, ℕ, ℤ, zero, suc, ◌+◌, ◌<◌, ◌≤◌, List, [], ◌∷◌, ◌++◌, length, take, Option, Result, Ok, Err, refl, ap, sym, ◌∙◌, append_assoc, length-append, arith}
+use Rattle.std.proofs.Common.{◌≡◌, ◌≢◌, ℕ, ℤ, zero, suc, ◌+◌, ◌<◌, ◌≤◌, List, [], ◌∷◌, ◌++◌, length, take, Option, Some, None, Result, Ok, Err, refl, ap, sym, ◌∙◌, append_assoc, length-append, arith}
+use Rattle.std.specs.Prelude.{option_map, option_and_then}
 use Rattle.std.specs.List.{AllByRecursion}
 use Rattle.std.proofs.lemmas.List.{append-nil, take_all, take-append-le}
 use Rattle.scr_csv.specs.declared.fault.LineFault.{LineFault}
 use Rattle.scr_csv.specs.declared.fault.LineFault.TheVariants.{Syntax, NoMemory}
 use Rattle.scr_spelling.specs.Numbers.{number_value}
+use Rattle.scr_csv.specs.Parts.{first_as, first_pair}
 use Rattle.scr_csv.specs.Reading.{Rest, field, next, read_to, made, listed, value_in, numbers_from, pairs_from, Answers}
 
 -- the members so far, and those that follow them
@@ -101,6 +103,45 @@ pairs-number_fault form number (first ∷ second ∷ fields) a mid fault h k =
     let read = read_ok (value_in form number first) a
     (record { number = number + 1; fields = second ∷ fields }) mid h in
     rw (read.value, read_err (value_in number_value (number + 1) second) _ fault (rw (← read.same) at k)) refl
+
+-- ---- two fields at once
+
+pub pair_of : {A B : Type 0} (one : List ℕ → Option A) (two : List ℕ → Option B) (fields mid rest : List (List ℕ)) (a : A) (b : B)
+    → first_as one fields ≡ Some (a, mid) → first_as two mid ≡ Some (b, rest)
+    → first_pair one two fields ≡ Some ((a, b), rest)
+pair_of one two fields mid rest a b h k = rw (h, k) refl
+
+second_of : {A B : Type 0} (a : A) (o : Option B) (fields rest : List (List ℕ)) (p : A × B)
+    → option_map {U = (A × B) × List (List ℕ)} (λ more. ((a, more.0), more.1)) (option_map {U = B × List (List ℕ)} (λ value. (value, fields)) o) ≡ Some (p, rest)
+    → (o ≡ Some p.1) × (a ≡ p.0) × (fields ≡ rest)
+second_of a None fields rest p h = absurd (cc)
+second_of {A} {B} a (Some b) fields rest p h =
+    let same : ◌≡◌ {A = (A × B) × List (List ℕ)} ((a, b), fields) (p, rest) = cc in
+    (ap (λ q. Some q.0.1) same, ap (λ q. q.0.0) same, ap (λ q. q.1) same)
+
+first_of : {A B : Type 0} (o : Option A) (two : List ℕ → Option B) (second : List ℕ) (fields rest : List (List ℕ)) (p : A × B)
+    → option_and_then {U = (A × B) × List (List ℕ)} (λ read. option_map (λ more. ((read.0, more.0), more.1)) (first_as two read.1))
+    (option_map {U = A × List (List ℕ)} (λ value. (value, second ∷ fields)) o) ≡ Some (p, rest)
+    → (o ≡ Some p.0) × (two second ≡ Some p.1) × (fields ≡ rest)
+first_of None two second fields rest p h = absurd (cc)
+first_of (Some a) two second fields rest p h =
+    let read = second_of a (two second) fields rest p h in
+    (ap Some read.1, read.0, read.2)
+
+lone : {A B : Type 0} (o : Option A) (two : List ℕ → Option B) (rest : List (List ℕ)) (p : A × B)
+    → option_and_then {U = (A × B) × List (List ℕ)} (λ read. option_map (λ more. ((read.0, more.0), more.1)) (first_as two read.1))
+    (option_map {U = A × List (List ℕ)} (λ value. (value, [])) o) ≡ Some (p, rest) → ⊥
+lone None two rest p h = absurd (cc)
+lone (Some a) two rest p h = absurd (cc)
+
+pub pair-next : {A : Type 0} (form : List ℕ → Option A) (number : ℕ) (fields rest : List (List ℕ)) (p : A × ℤ)
+    → first_pair form number_value fields ≡ Some (p, rest)
+    → pairs_from form number fields ≡ made (λ more. p ∷ more) (pairs_from form (number + 2) rest)
+pair-next form number [] rest p h = absurd (cc)
+pair-next form number (first ∷ []) rest p h = absurd (lone (form first) number_value rest p h)
+pair-next form number (first ∷ second ∷ fields) rest p h =
+    let read = first_of (form first) number_value second fields rest p h in
+    rw (read.0, read.1, read.2) (listed_ok p (pairs_from form (number + 2) rest))
 
 -- ---- how many members are kept
 

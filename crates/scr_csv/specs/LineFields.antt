@@ -18,6 +18,10 @@ line_fields text = fields_read (next_record default_config state.StartRecord [] 
 abbrev pub is_printed : ℕ → Bool
 is_printed b = nat_le 0x20 b && nat_le b 0x7E
 
+-- any other byte
+abbrev pub is_unprinted : ℕ → Bool
+is_unprinted b = not (is_printed b)
+
 -- a double quote
 abbrev pub is_quote : ℕ → Bool
 is_quote b = b == 34

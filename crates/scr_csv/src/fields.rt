@@ -119,6 +119,15 @@ impl<'a> Fields<'a> {
             self.number += 1;
             return Ok(day);
         }
+        self.date_field()
+    }
+
+    // A field that is looked at once more, for its end. Few are, and their code would make the rest slow.
+    #[inline(never)]
+    fn date_field(&mut self) -> Result<Day, LineFault>
+        ensures value { read_to result self.new ≡ next day_of_text self.old }
+        ensures formed { IfOk result (λ day. IsDay day.number) }
+    {
         let (number, field) = self.field()?;
         parse_day(field).ok_or(LineFault::Syntax(number))
     }
@@ -138,6 +147,19 @@ impl<'a> Fields<'a> {
         ensures value { read_to result self.new ≡ next forms_of.name_of self.old }
         ensures formed { IfOk result formed.IsName }
     {
+        if let Some((name, rest)) = self.source.name() {
+            self.source = rest;
+            self.number += 1;
+            return Ok(name);
+        }
+        self.name_field()
+    }
+
+    #[inline(never)]
+    fn name_field(&mut self) -> Result<Name, LineFault>
+        ensures value { read_to result self.new ≡ next forms_of.name_of self.old }
+        ensures formed { IfOk result formed.IsName }
+    {
         let (number, field) = self.field()?;
         match forms::name(field) {
             Some(name) => Ok(name),
@@ -146,6 +168,19 @@ impl<'a> Fields<'a> {
     }
 
     pub fn group(&mut self) -> Result<Option<Name>, LineFault>
+        ensures value { read_to result self.new ≡ next forms_of.group_of self.old }
+        ensures formed { IfOk result formed.IsNameOrNone }
+    {
+        if let Some((name, rest)) = self.source.name() {
+            self.source = rest;
+            self.number += 1;
+            return Ok(Some(name));
+        }
+        self.group_field()
+    }
+
+    #[inline(never)]
+    fn group_field(&mut self) -> Result<Option<Name>, LineFault>
         ensures value { read_to result self.new ≡ next forms_of.group_of self.old }
         ensures formed { IfOk result formed.IsNameOrNone }
     {
@@ -166,6 +201,14 @@ impl<'a> Fields<'a> {
             self.number += 1;
             return Ok(value);
         }
+        self.number_field()
+    }
+
+    #[inline(never)]
+    fn number_field(&mut self) -> Result<i64, LineFault>
+        ensures value { read_to result self.new ≡ next number_value self.old }
+        ensures formed { IfOk result formed.IsNumber }
+    {
         let (number, field) = self.field()?;
         read_number(field).ok_or(LineFault::Syntax(number))
     }
@@ -249,6 +292,16 @@ impl<'a> Fields<'a> {
         let Ok(mut flows) = self.source.room(alloc) else {
             return Err(LineFault::NoMemory);
         };
+        // Most payments are read by the source alone, which is kept apart for as long.
+        let mut source = self.source;
+        let mut number = self.number;
+        'payments: while let Some((payment, rest)) = source.payment() {
+            keep(&mut flows, MAX_FLOWS as usize + 1, payment).map_err(|_| LineFault::NoMemory)?;
+            source = rest;
+            number += 2;
+        }
+        self.source = source;
+        self.number = number;
         'flows: while !self.is_at_end() {
             let date = self.date()?;
             let amount = self.number()?;

@@ -7,12 +7,14 @@ ghost use Rattle.scr_dates.specs.Civil.{IsDay};
 ghost use Rattle.scr_dates.specs.Text.{day_of_text};
 ghost use Rattle.scr_profile.specs.declared.limits.TheConstants as limits;
 ghost use Rattle.scr_sheet.specs.Forms as formed;
+ghost use Rattle.scr_spelling.specs.FieldForms as forms_of;
 ghost use Rattle.scr_spelling.specs.Numbers.{number_value};
 ghost use Rattle.scr_csv.specs.LineFields.{line_fields, is_printed, is_quote};
 ghost use Rattle.scr_csv.specs.Parts.{parts, behind};
 
 use scr_dates::{Day, parse_day};
 use scr_profile::MAX_FLOWS;
+use scr_sheet::Name;
 use scr_spelling::leading_number;
 use std::alloc::{AllocError as NoMemory, Global};
 
@@ -34,7 +36,7 @@ pub struct Source<'a> {
 
 impl<'a> Source<'a> {
     ghost use Rattle.scr_csv.specs.Sources.{fields_in};
-    ghost use Rattle.scr_csv.specs.Parts.{first_as};
+    ghost use Rattle.scr_csv.specs.Parts.{first_as, first_pair};
 
     /// The fields of a line that has no double quote. An empty line has none.
     pub fn of_text(text: &'a [u8]) -> Source<'a>
@@ -73,6 +75,7 @@ impl<'a> Source<'a> {
 
     /// The day that the first field spells, and the fields after it. Its end is looked for behind ten bytes that spell
     /// one, and nowhere else.
+    #[inline(always)]
     pub fn day(self) -> Option<(Day, Source<'a>)>
         ensures value { IfSome result
             (λ read. first_as day_of_text (fields_in self.entry) ≡ Some (read.0, fields_in read.1)) }
@@ -94,6 +97,7 @@ impl<'a> Source<'a> {
 
     /// The number that the first field spells, and the fields after it, where the number has no sign. Its end is looked
     /// for behind the digits in front, and nowhere else.
+    #[inline(always)]
     pub fn number(self) -> Option<(i64, Source<'a>)>
         ensures value { IfSome result
             (λ read. first_as number_value (fields_in self.entry) ≡ Some (read.0, fields_in read.1)) }
@@ -106,6 +110,45 @@ impl<'a> Source<'a> {
         let rest = behind_first(text, self.end, digits)?;
         Some((
             number,
+            Source {
+                end: self.end,
+                rest,
+            },
+        ))
+    }
+
+    /// The payment that the first two fields spell, and the fields after them.
+    #[tactic(auto, using(crate::proofs::ListSteps::pair_of))]
+    #[inline(always)]
+    pub fn payment(self) -> Option<((Day, i64), Source<'a>)>
+        ensures value { IfSome result
+            (λ read. first_pair day_of_text number_value (fields_in self.entry) ≡ Some (read.0, fields_in read.1)) }
+        ensures shorter { IfSome result
+            (λ read. length (fields_in read.1) + 2 ≡ length (fields_in self.entry)) }
+        ensures day { IfSome result (λ read. IsDay read.0.0.number) }
+        ensures amount { IfSome result (λ read. formed.IsNumber read.0.1) }
+    {
+        let (day, rest) = self.day()?;
+        let (amount, rest) = rest.number()?;
+        Some(((day, amount), rest))
+    }
+
+    /// The name that the first field is, and the fields after it. Its end is looked for behind the bytes of a name in front, and
+    /// nowhere else.
+    pub fn name(self) -> Option<(Name, Source<'a>)>
+        ensures value { IfSome result
+            (λ read. first_as forms_of.name_of (fields_in self.entry) ≡ Some (read.0, fields_in read.1)) }
+        ensures group { IfSome result
+            (λ read. first_as forms_of.group_of (fields_in self.entry) ≡ Some (Some read.0, fields_in read.1)) }
+        ensures shorter { IfSome result
+            (λ read. length (fields_in read.1) + 1 ≡ length (fields_in self.entry)) }
+        ensures formed { IfSome result (λ read. formed.IsName read.0) }
+    {
+        let text = self.rest?;
+        let (name, count) = Name::leading(text)?;
+        let rest = behind_first(text, self.end, count)?;
+        Some((
+            name,
             Source {
                 end: self.end,
                 rest,

@@ -1,35 +1,83 @@
 //! The split of a line with double quotes into fields.
 #![tactic(auto, unfolding(crate::specs::Splits::reads))]
 
-ghost use Rattle.std.specs.Prelude.{◌≡◌, ◌∷◌, ◌<◌, List, ℕ, length, true, IfOk};
+ghost use Rattle.std.specs.Prelude.{◌≡◌, ◌∷◌, ◌<◌, List, ℕ, length, map, true, IfOk};
 ghost use Rattle.std.specs.Prelude.{IfErr, OnOk};
 ghost use Rattle.std.specs.List.{list_all};
+ghost use Rattle.std.specs.Simd.Lanes.{mask_l};
 ghost use Rattle.csv.specs.Machine as machine;
 ghost use Rattle.csv.specs.Reading.{default_config};
 ghost use Rattle.csv.specs.declared.parser.State.TheVariants as state;
-ghost use Rattle.scr_csv.specs.LineFields.{line_fields, is_plain, is_printed};
+ghost use Rattle.scr_csv.specs.LineFields.{line_fields, is_plain, is_printed, is_unprinted, is_quote};
 ghost use Rattle.scr_csv.specs.Parts.{parts};
 ghost use Rattle.scr_csv.specs.Splits.{state_of, action_of, Copied};
 
 use crate::LineFault;
 use std::alloc::{AllocError as NoMemory, Global};
+use std::simd::prelude::*;
+
+/// How many bytes of a line are tested together.
+const BLOCK: usize = 16;
 
 /// Whether each byte is one from 20 to 7E and none is a double quote, so that commas alone split the line.
+#[tactic(auto, using(crate::proofs::Blocks::block_passes, crate::proofs::Blocks::block_fails, crate::proofs::Blocks::rest_tells))]
 pub fn is_plain(text: &[u8]) -> bool
     ensures { result ≡ list_all is_plain text.now }
 {
-    // No byte ends the loop, so that many are tested at a time.
-    let mut plain = true;
-    for byte in text {
-        plain &= is_plain_byte(*byte);
+    if text.len() < BLOCK {
+        return are_plain(text);
     }
-    plain
+    // The last block may overlap the one before it, so that no byte is tested by itself.
+    let last = text.len() - BLOCK;
+    let mut at = 0;
+    'walk: while at < last {
+        if !is_plain_block(&text[at..at + BLOCK]) {
+            return false;
+        }
+        at += BLOCK;
+    }
+    is_plain_block(&text[last..])
+}
+
+fn are_plain(text: &[u8]) -> bool
+    ensures { result ≡ list_all is_plain text.now }
+{
+    text.iter().all(|b| is_plain_byte(*b))
 }
 
 fn is_plain_byte(byte: u8) -> bool
     ensures { result ≡ is_plain byte }
 {
     (0x20..=0x7E).contains(&byte) && byte != b'"'
+}
+
+// As many bytes as are tested together.
+#[tactic(auto, using(crate::proofs::Lanes::told_printed, crate::proofs::Lanes::told_unprinted))]
+#[inline(always)]
+fn is_plain_block(block: &[u8]) -> bool
+    requires { length block.now ≡ BLOCK }
+    ensures { result ≡ list_all is_plain block.now }
+{
+    let lanes = u8x16::from_slice(block);
+    unprinted(lanes) == 0 && quotes(lanes) == 0
+}
+
+// A bit for each lane that has no byte from 20 to 7E. Counted from 7F on, round past FF, these come first.
+#[inline(always)]
+fn unprinted(lanes: u8x16) -> u64
+    ensures { result ≡ mask_l (map is_unprinted lanes) }
+{
+    (lanes - u8x16::splat(0x7F))
+        .simd_lt(u8x16::splat(0xA1))
+        .to_bitmask()
+}
+
+// A bit for each lane that has a double quote.
+#[inline(always)]
+fn quotes(lanes: u8x16) -> u64
+    ensures { result ≡ mask_l (map is_quote lanes) }
+{
+    lanes.simd_eq(u8x16::splat(b'"')).to_bitmask()
 }
 
 /// Whether each byte is one from 20 to 7E.

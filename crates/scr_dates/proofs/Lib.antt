@@ -1,4 +1,5 @@
 pub mod Dates
+pub mod Lanes
 pub mod Texts
 pub mod Anniversaries
 pub mod LastDays

@@ -13,6 +13,10 @@ has_two_digits text k = is_ascii_digit (slice_index text k) && is_ascii_digit (s
 abbrev pub two_digits : List ℕ → ℕ → ℕ
 two_digits text k = 10 * (slice_index text k - 48) + (slice_index text (k + 1) - 48)
 
+-- digits in all places but the fifth and the eighth
+abbrev pub has_eight_digits : List ℕ → Bool
+has_eight_digits text = ((has_two_digits text 0 && has_two_digits text 2) && has_two_digits text 5) && has_two_digits text 8
+
 -- ten bytes: digits, but for a dash (45) in the fifth and in the eighth place
 abbrev pub has_date_form : List ℕ → Bool
 has_date_form text =

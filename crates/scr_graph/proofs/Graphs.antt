@@ -2,7 +2,7 @@
 use Rattle.std.proofs.Common.{◌≡◌, ◌≢◌, ◌⊎◌, ℕ, ℤ, ◌<◌, ◌≤◌, true, false, cond, ◌||◌, IsTrue, List, [], ◌∷◌, ◌++◌, map, max, fold, length, get_or, Contains, Some, None, refl, sym, ap, subst, ◌∙◌, inl, inr, arith}
 use Rattle.std.specs.List.{list_any, IsDistinct}
 use Rattle.std.proofs.lemmas.Bool.{cases_Bool, cases_eq, cases_lt, true≢false}
-use Rattle.std.proofs.lemmas.List.{get_or_append_left, get_or_past, get_or_default, get_or-set_other, length-map}
+use Rattle.std.proofs.lemmas.List.{get_or_append_left, get_or_past, get_or_default, get_or-set_other}
 use Rattle.std.specs.Cmp.Lexicographic.{bytes_decides}
 use Rattle.scr_funds.specs.Chains.{IsChain, LeadsTo, IsAcyclic, IsFirstShortest}
 use Rattle.scr_funds.specs.Components.{Components, IsOrder, components_of, components_with, with_components, with_edges, number_above, size_of}
@@ -14,7 +14,7 @@ use Rattle.scr_funds.proofs.NamedPaths.{no_cycle_named, cycle_named}
 use Rattle.scr_names.specs.Names.{same_name}
 use Rattle.scr_names.proofs.TableRows.{same_name-itself, same_name-is, same_or_other}
 use Rattle.scr_graph.specs.Graph.{Graph, number_in, entered_in, components_under, components_after, AreEntered, AreEnteredOr}
-use Rattle.scr_graph.specs.GraphInside.{node_name, graph_of, IsNumbered}
+use Rattle.scr_graph.specs.GraphInside.{graph_of, IsNumbered}
 use Rattle.scr_graph.specs.declared.graph.FundGraph.TheInside.{Inside}
 use Rattle.scr_graph.proofs.Numbering.{at_all, map_same, map_undone, name-number, number-entered, number-new, number-name, number-kept, number-past}
 
@@ -26,9 +26,8 @@ pub record Sound (graph : Graph) : Type 0 where
 
 pub sound-from_inside : (graph : Inside) → IsNumbered graph → Sound (graph_of graph)
 sound-from_inside graph kept =
-    let short = length-map graph.nodes node_name in
     let named = kept.named in
-    record { distinct = kept.distinct; few = omega (arith, short, named); order = kept.order }
+    record { distinct = kept.distinct; few = omega (arith, named); order = kept.order }
 
 -- the fund's components, where it has these in the place of its own, and those of each other
 after-own : (fund : List ℕ) (components : List (List ℕ × ℤ)) (graph : Graph) (name : List ℕ)

@@ -1,4 +1,4 @@
 pub mod Numbering
-pub mod Nodes
+pub mod Places
 pub mod Graphs
 pub mod KeptRows

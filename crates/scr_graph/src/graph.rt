@@ -10,36 +10,22 @@ ghost use Rattle.scr_graph.specs.Graph.{AreEntered, AreEnteredOr};
 ghost use Rattle.scr_graph.specs.KeptNumbers.{AreNumbersOf, is_number, are_numbers, stands_for};
 
 use crate::{GraphFault, KeptComponents};
+use indexmap::IndexSet;
 use scr_funds::{FundOrder, Kept, OrderFault};
-use scr_names::{Name, Names, Row, Rows};
+use scr_names::{Name, Names};
 use std::alloc::{AllocError as NoMemory, Global};
 use std::marker::Model;
 
 /// The most names that can be entered: their numbers have 32 bits.
 const MAX_NAMES: usize = u32::MAX as usize;
 
-/// A name that was entered.
-#[derive(Clone, Copy)]
-struct Node {
-    name: Name,
-}
-
-impl Row for Node {
-    ghost use Rattle.scr_graph.specs.GraphInside.{node_name};
-
-    ghost name_of = { node_name };
-
-    fn name(&self) -> Name {
-        self.name
-    }
-}
-
 /// Which funds hold which (Article 84 of Delegated Regulation (EU) 2015/35): securities and funds
 /// by name, none of which holds itself. Contracts see the names that were entered and the
 /// components under each.
 #[derive(Drop)]
 pub struct FundGraph {
-    nodes: Rows<Node>,
+    // In the order in which they were entered.
+    names: IndexSet<Name>,
     order: FundOrder,
 }
 
@@ -62,7 +48,7 @@ impl FundGraph {
         ensures components { IfOk result (λ graph. (x : List ℕ) → components_under graph x ≡ []) }
     {
         Ok(FundGraph {
-            nodes: Rows::new(alloc),
+            names: IndexSet::new(alloc),
             order: FundOrder::new(alloc)?,
         })
     }
@@ -76,14 +62,28 @@ impl FundGraph {
         ensures err { OnErr result (self.new ≡ self.old) }
         ensures new_name { OnErr result (entered_in self.old name ≡ false) }
     {
-        if self.nodes.contains(&name) {
-            return Ok(());
+        // The names grow by their own allocator.
+        let _ = alloc;
+        if self.names.len() >= MAX_NAMES {
+            return self.known(&name);
         }
-        if self.nodes.len() >= MAX_NAMES {
+        // One look-up enters a new name, and leaves one that is there.
+        let Ok(_) = self.names.insert(name) else {
             return Err(NoMemory);
-        }
-        self.nodes.put(alloc, Node { name })?;
+        };
         Ok(())
+    }
+
+    // Where no more names can be entered: whether this one was.
+    fn known(&self, name: &Name) -> Result<(), NoMemory>
+        ensures ok { OnOk result (entered_in self.now name.now ≡ true) }
+        ensures err { OnErr result (entered_in self.now name.now ≡ false) }
+    {
+        if self.has(name) {
+            Ok(())
+        } else {
+            Err(NoMemory)
+        }
     }
 
     /// Whether a fund could have these components in the place of its own; nothing changes. `Cycle`
@@ -161,7 +161,7 @@ impl FundGraph {
     pub fn has(&self, name: &Name) -> bool
         ensures { result ≡ entered_in self.now name.now }
     {
-        self.nodes.contains(name)
+        self.names.contains(name)
     }
 
     /// The components of a fund, kept so that they can be put back without memory.
@@ -230,16 +230,16 @@ impl FundGraph {
         ensures { result ≡ is_number below number name.now self.now }
     {
         let place = number as usize;
-        place < below && self.nodes.at(place).name == *name
+        place < below && self.names.as_slice()[place] == *name
     }
 
     /// The number of a name: the next one, where it was not entered.
     fn number(&self, name: &Name) -> u32
         ensures { result ≡ number_in self.now.names name.now }
     {
-        match self.nodes.place(name) {
+        match self.names.get_index_of(name) {
             Some(place) => place as u32,
-            None => self.nodes.len() as u32,
+            None => self.names.len() as u32,
         }
     }
 
@@ -253,7 +253,7 @@ impl FundGraph {
         ensures { IfOk result
             (λ numbers. numbers.items ≡ map (λ c. number_in self.now.names c.0) components.now) }
     {
-        if self.are_numbers(self.nodes.len(), found, components) {
+        if self.are_numbers(self.names.len(), found, components) {
             return Vec::from_slice(alloc, found);
         }
         self.numbers(alloc, components)
@@ -288,8 +288,8 @@ impl FundGraph {
         ensures { result ≡ slice_index_or self.now.names number fund.now }
     {
         let place = number as usize;
-        if place < self.nodes.len() {
-            self.nodes.at(place).name
+        if place < self.names.len() {
+            self.names.as_slice()[place]
         } else {
             *fund
         }

@@ -1,4 +1,5 @@
 pub mod NameBytes
+pub mod Leading
 pub mod TableRows
 pub mod Entries
 pub mod Moves

@@ -1,8 +1,8 @@
 -- The names of groups, securities, funds, lines, banks and reinsurers, and the codes of currencies (this project's
 -- own).
-use Rattle.std.specs.Prelude.{ℕ, ◌-◌, ◌++◌, ◌==◌, ◌&&◌, ◌||◌, Bool, false, List, [], ◌∷◌, Option, Some, None, if◌then◌else◌, length, fold, nat_le, nat_eq, replicate}
+use Rattle.std.specs.Prelude.{ℕ, ◌-◌, ◌++◌, ◌==◌, ◌&&◌, ◌||◌, Bool, false, List, [], ◌∷◌, Option, Some, None, if◌then◌else◌, length, take, fold, nat_le, nat_eq, replicate}
 use Rattle.std.specs.Char.{is_ascii_alphanumeric, is_ascii_uppercase}
-use Rattle.std.specs.List.{list_all}
+use Rattle.std.specs.List.{list_all, take_while}
 use Rattle.std.specs.Ordering.{nat_cmp, is_lt}
 use Rattle.std.specs.Cmp.Lexicographic.{pointwise, slice_cmp}
 
@@ -14,6 +14,19 @@ is_name_byte b = ((is_ascii_alphanumeric b || (b == 95)) || (b == 46)) || (b == 
 abbrev pub is_name : List ℕ → Bool
 is_name [] = false
 is_name (b ∷ bs) = (is_ascii_alphanumeric b && list_all is_name_byte bs) && nat_le (length (b ∷ bs)) 32
+
+-- the first byte is a letter or a digit
+abbrev pub begins_name : List ℕ → Bool
+begins_name [] = false
+begins_name (b ∷ bs) = is_ascii_alphanumeric b
+
+-- the bytes of a name in front of a text, of which at most 32 are looked at
+abbrev pub name_bytes : List ℕ → List ℕ
+name_bytes text = take_while is_name_byte (take 32 text)
+
+-- the name that these bytes are, and how many they are
+abbrev pub leading_name : List ℕ → Option (List ℕ × ℕ)
+leading_name text = if begins_name text then Some (name_bytes text, length (name_bytes text)) else None
 
 -- three letters A to Z
 abbrev pub is_currency : List ℕ → Bool

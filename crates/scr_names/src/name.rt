@@ -1,15 +1,14 @@
 //! Names of rows, and of currencies.
-ghost use Rattle.std.specs.Prelude.{◌≡◌, ℕ, ◌≤◌, List, length, Some, None, IfSome, IsTrue};
+ghost use Rattle.std.specs.Prelude.{◌≡◌, ℕ, ◌≤◌, List, [], ◌∷◌, length, Some, None, IfSome, IsTrue};
 ghost use Rattle.std.specs.Prelude.{if◌then◌else◌, nat_eq, refl};
 ghost use Rattle.std.specs.Ordering.{nat_cmp};
 ghost use Rattle.std.specs.Cmp.{on_equiv, on_total, on_po, on_per, partial_equiv_from_equiv};
 ghost use Rattle.std.specs.Cmp.Lexicographic.{slice_cmp, nat_list_eq_equiv, nat_list_cmp_total};
 ghost use Rattle.std.specs.Cmp.Lexicographic.{texts_po, texts_ties};
 ghost use Rattle.std.specs.Cmp.Rules.{hashing};
-ghost use Rattle.std.specs.Hash as fed;
 ghost use Rattle.std.proofs.Common.{rules};
-ghost use Rattle.std.specs.List.{list_all};
-ghost use Rattle.scr_names.specs.Names.{is_name, is_name_byte, same_name};
+ghost use Rattle.std.specs.List.{take_while};
+ghost use Rattle.scr_names.specs.Names.{is_name, is_name_byte, begins_name, leading_name, padded, same_name};
 
 use std::cmp::Ordering;
 use std::hash::{Hash, Hasher};
@@ -22,7 +21,8 @@ const MAX_LEN: usize = 32;
 #[derive(Clone, Copy, Debug)]
 pub struct Name {
     cells: [u8; 32],
-    len: u8,
+    // Of two bytes: a value of an odd size is copied in parts that overlap, and their reading waits for all writes.
+    len: u16,
 }
 
 impl Model for Name {
@@ -42,27 +42,52 @@ impl Model for Name {
 impl Name {
     /// The name that the text spells: 1 to 32 letters, digits, `_`, `.` and `-`, of which the first
     /// is a letter or a digit. None exactly where the text has another form.
+    #[tactic(auto, using(crate::proofs::Leading::told_name, crate::proofs::Leading::told_otherwise, crate::proofs::Leading::told_long, crate::proofs::Leading::told_byte))]
     pub fn parse(text: &[u8]) -> Option<Name>
         ensures cases { result ≡ (if is_name text.now then Some text.now else None) }
         ensures formed { IfSome result (λ name. IsTrue (is_name name)) }
     {
-        if is_name(text) {
-            Some(Name::of_bytes(text))
+        if !begins_name(text) || text.len() > MAX_LEN {
+            return None;
+        }
+        // One pass tests the bytes and copies them.
+        let (name, count) = Name::of_front(text);
+        if count == text.len() {
+            Some(name)
         } else {
             None
         }
     }
 
-    fn of_bytes(text: &[u8]) -> Name
-        requires { length text.now ≤ 32 }
-        ensures { result ≡ text.now }
+    /// The name that the bytes in front of a text spell, as many as a name may have and 32 at most, and how many they are. None
+    /// where the text does not begin with a letter or a digit.
+    #[tactic(auto, using(crate::proofs::Leading::found_name, crate::proofs::Leading::found_none))]
+    #[inline(always)]
+    pub fn leading(text: &[u8]) -> Option<(Name, usize)>
+        ensures { result ≡ leading_name text.now }
+    {
+        let front = &text[..text.len().min(MAX_LEN)];
+        if begins_name(front) {
+            Some(Name::of_front(front))
+        } else {
+            None
+        }
+    }
+
+    // The bytes of a name in front of a text of at most 32, and how many they are.
+    fn of_front(text: &[u8]) -> (Name, usize)
+        requires few { length text.now ≤ 32 }
+        ensures name { result.0 ≡ take_while is_name_byte text.now }
+        ensures count { result.1 ≡ length (take_while is_name_byte text.now) }
     {
         let mut cells = [0; 32];
-        cells[..text.len()].copy_from_slice(text);
-        Name {
-            cells,
-            len: text.len() as u8,
+        let mut count = 0;
+        'bytes: while count < text.len() && is_name_byte(text[count]) {
+            cells[count] = text[count];
+            count += 1;
         }
+        let len = count as u16;
+        (Name { cells, len }, count)
     }
 
     /// The bytes of the name.
@@ -74,21 +99,14 @@ impl Name {
     }
 }
 
-fn is_name(text: &[u8]) -> bool
-    ensures { result ≡ is_name text.now }
+// The text begins with a letter or a digit.
+fn begins_name(text: &[u8]) -> bool
+    ensures { result ≡ begins_name text.now }
 {
-    match text.split_first() {
-        Some((first, rest)) => {
-            first.is_ascii_alphanumeric() && are_name_bytes(rest) && text.len() <= MAX_LEN
-        }
-        None => false,
+    match text {
+        [first, ..] => first.is_ascii_alphanumeric(),
+        [] => false,
     }
-}
-
-fn are_name_bytes(text: &[u8]) -> bool
-    ensures { result ≡ list_all is_name_byte text.now }
-{
-    text.iter().all(|b| is_name_byte(*b))
 }
 
 fn is_name_byte(b: u8) -> bool
@@ -102,8 +120,10 @@ impl PartialEq for Name {
 
     ghost laws = { partial_equiv_from_equiv nat_list_eq_equiv };
 
+    #[inline(always)]
     fn eq(&self, other: &Self) -> bool {
-        self.as_bytes() == other.as_bytes()
+        // The bytes behind the end are 0, so all 32 are compared at once.
+        self.len == other.len && self.cells == other.cells
     }
 }
 
@@ -136,11 +156,12 @@ impl Ord for Name {
 }
 
 impl Hash for Name {
-    ghost hash_input = { λ name. fed.slice fed.u8 name };
+    ghost hash_input = { λ name. padded name ∷ [] };
 
     ghost respects_eq = { Prim.search (hashing, rules) };
 
     fn hash<H: Hasher>(&self, state: &mut H) {
-        self.as_bytes().hash(state);
+        // All 32 bytes in one write, which a hasher takes by words.
+        state.write(&self.cells);
     }
 }

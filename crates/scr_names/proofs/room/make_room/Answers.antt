@@ -1,7 +1,6 @@
 use Rattle.std.proofs.Common.{◌≡◌, Result, Ok, Err, OnOk, sym, ◌∙◌, refl}
 use Rattle.std.specs.Map.{values_of}
 use Rattle.scr_names.proofs.Moves.{moved-kept}
-use Rattle.scr_names.proofs.room.make_room.Given as given
 use Rattle.scr_names.proofs.room.make_room.Goals as goal
 
 held : {A E P : Type 0} (r : Result A E) (a : A) → r ≡ Ok a → OnOk r P → P

@@ -8,7 +8,8 @@ use Rattle.scr_profile.specs.declared.limits.TheConstants.{MAX_FLOWS}
 use Rattle.scr_spelling.specs.Numbers.{number_value}
 use Rattle.scr_csv.specs.Reading.{made, pairs_from}
 use Rattle.scr_csv.specs.Kept.{kept_members}
-use Rattle.scr_csv.proofs.ListSteps.{behind, kept_next, kept_end, take_short, take_every, due_answers, all_push, next-shorter, pairs-next, pairs-value_fault, pairs-number_fault}
+use Rattle.scr_csv.specs.Sources.{fields_in}
+use Rattle.scr_csv.proofs.ListSteps.{behind, kept_next, kept_end, take_short, take_every, due_answers, all_push, next-shorter, pairs-next, pair-next, pairs-value_fault, pairs-number_fault}
 use Rattle.scr_csv.proofs.fields.Fields.flows.Goals as goal
 
 pub returns-in_err-date-clause-answer : goal.returns-in_err-date-clause-answer
@@ -41,9 +42,9 @@ flows-preserved c =
     let step = pairs-next day_of_text c.flows.self.number c.flows.self.fields c.in_ok-date.date c.date.new.self
     c.in_ok-amount.amount c.number.new.self (sym c.in_ok-date.ensures.value) (sym c.in_ok-amount.ensures.value) in
     let flow : Day × ℤ = (c.in_ok-date.date, c.in_ok-amount.amount) in
-    let ok : is_ok c.keep.result ≡ true = sym c.map_err.ensures.variant ∙ ap is_ok c.in_ok-map_err.was in
+    let ok : is_ok c.keep-in-flows.result ≡ true = sym c.map_err-in-flows.ensures.variant ∙ ap is_ok c.in_ok-map_err-2.was in
     let fits : FitsSigned w64 c.in_ok-amount.amount = search rules in
-    let kept : c.keep.new.list.items ≡ take (MAX_FLOWS + 1) (c.flows.flows.items ++ (flow ∷ [])) = search rules in
+    let kept : c.keep-in-flows.new.list.items ≡ take (MAX_FLOWS + 1) (c.flows.flows.items ++ (flow ∷ [])) = search rules in
     let more = pairs_from day_of_text c.number.new.self.number c.number.new.self.fields in
     record {
       read = rw kept (kept_next (MAX_FLOWS + 1) c.flows.flows.items flow more
@@ -62,5 +63,24 @@ returns-clause-answer c =
     kept_end (MAX_FLOWS + 1) c.flows.flows.items _ _ _ (ap (pairs_from day_of_text c.flows.self.number) ended)
     c.flows.invariant.short c.flows.invariant.read is
 
-pub flows-init : goal.flows-init
-flows-init c = rw c.in-Ok.ensures.none (search rules)
+pub payments-init : goal.payments-init
+payments-init c = rw c.in-Ok.ensures.none (search rules)
+
+pub payments-preserved : goal.payments-preserved
+payments-preserved c =
+    let step = pair-next day_of_text c.payments.number (fields_in c.payments.source) (fields_in c.in-Some.rest)
+    c.in-Some.payment c.in-Some.ensures.value in
+    let flow : Day × ℤ = c.in-Some.payment in
+    let ok : is_ok c.keep.result ≡ true = sym c.map_err.ensures.variant ∙ ap is_ok c.in_ok-map_err.was in
+    let kept : c.keep.new.list.items ≡ take (MAX_FLOWS + 1) (c.payments.flows.items ++ (flow ∷ [])) = search rules in
+    let more = pairs_from day_of_text (c.payments.number + 2) (fields_in c.in-Some.rest) in
+    record {
+      read = rw kept (kept_next (MAX_FLOWS + 1) c.payments.flows.items flow more
+          ∙ ap (λ left. made (kept_members MAX_FLOWS) (behind c.payments.flows.items left)) (sym step)
+          ∙ c.payments.invariant.read);
+      short = rw kept (take_short (MAX_FLOWS + 1) (c.payments.flows.items ++ (flow ∷ [])));
+      formed = rw kept (take_every _ (MAX_FLOWS + 1) (c.payments.flows.items ++ (flow ∷ []))
+          (all_push _ c.payments.flows.items flow c.payments.invariant.formed
+          (c.in-Some.ensures.day, c.in-Some.ensures.amount)));
+      fits = omega (arith, c.payments.invariant.fits, c.in-Some.ensures.shorter);
+    }

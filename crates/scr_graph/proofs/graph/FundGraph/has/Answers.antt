@@ -1,8 +1,6 @@
 use Rattle.std.proofs.Common.{ap, ◌∙◌}
 use Rattle.scr_graph.specs.Graph.{Graph, entered_in}
-use Rattle.scr_graph.specs.GraphInside.{node_name}
-use Rattle.scr_graph.proofs.Nodes.{has_row-any}
 use Rattle.scr_graph.proofs.graph.FundGraph.has.Goals as goal
 
 pub returns : goal.returns
-returns c = c.contains.ensures ∙ has_row-any node_name c.args.name.now c.self.inside.nodes ∙ ap (λ (g : Graph). entered_in g c.args.name.now) c.self.view_is
+returns c = c.contains.ensures ∙ ap (λ (g : Graph). entered_in g c.args.name.now) c.self.view_is

@@ -1,10 +1,8 @@
 use Rattle.std.proofs.Common.{◌≡◌, length, map, sym, ap, subst, ◌∙◌, arith}
-use Rattle.std.proofs.lemmas.List.{length-map}
 use Rattle.scr_funds.specs.Chains.{LeadsTo}
 use Rattle.scr_funds.specs.Components.{components_of, components_with, with_edges, size_of}
 use Rattle.scr_funds.proofs.Rows.{with_edges-is}
 use Rattle.scr_graph.specs.Graph.{Graph, number_in, components_under}
-use Rattle.scr_graph.specs.GraphInside.{node_name}
 use Rattle.scr_graph.proofs.Graphs.{Sound, sound-from_inside, acyclic-under, carried, entered_or-from_entered, apart_numbered, under-put, size_put}
 use Rattle.scr_graph.proofs.graph.FundGraph.put.Goals as goal
 
@@ -43,11 +41,10 @@ invariant_of-self-2 c =
     let most = size_put c.args.self.now.names c.args.self.now.components s.distinct s.few s.order
     c.args.fund.now c.args.components.now c.requires.fund c.requires.components in
     let count = ap (λ (g : Graph). length g.names) c.self.view_is in
-    let short = length-map c.self.inside.nodes node_name in
     record {
       distinct = c.self.invariant.distinct;
       few = c.self.invariant.few;
-      named = omega (arith, size, most, count, short);
+      named = omega (arith, size, most, count);
       order = c.in_ok-replace.ensures.order;
     }
 
@@ -64,5 +61,5 @@ returns-clause-ok c =
 
 pub returns-clause-acyclic : goal.returns-clause-acyclic
 returns-clause-acyclic c =
-    acyclic-under (record { names = map node_name c.self.inside.nodes; components = c.replace.new.self })
-    (sound-from_inside (record { nodes = c.self.inside.nodes; order = c.replace.new.self }) (invariant_of-self-2 c))
+    acyclic-under (record { names = c.self.inside.names.keys; components = c.replace.new.self })
+    (sound-from_inside (record { names = c.self.inside.names; order = c.replace.new.self }) (invariant_of-self-2 c))

@@ -1,4 +1,4 @@
-use Rattle.std.proofs.Common.{◌≡◌, sym, ap, subst, ◌∙◌}
+use Rattle.std.proofs.Common.{sym, ap, subst, ◌∙◌}
 use Rattle.scr_funds.specs.Components.{size_of}
 use Rattle.scr_graph.specs.Graph.{Graph, components_under}
 use Rattle.scr_graph.specs.KeptNumbers.{is_number, are_numbers}

@@ -1,0 +1,12 @@
+-- The name is that of the next field.
+use Rattle.std.proofs.Common.{rules}
+use Rattle.scr_spelling.specs.FieldForms.{name_of}
+use Rattle.scr_csv.specs.Sources.{fields_in}
+use Rattle.scr_csv.proofs.Fronts.{next_first}
+use Rattle.scr_csv.proofs.fields.Fields.name.Goals as goal
+
+pub returns-in-Some-clause-value : goal.returns-in-Some-clause-value
+returns-in-Some-clause-value c =
+    let told = next_first name_of (record { number = c.self.inside.number; fields = fields_in c.self.inside.source })
+    c.in-Some.name (fields_in c.in-Some.rest) c.in-Some.ensures.value in
+    rw (← c.self.view_is) (search (rules, told))
