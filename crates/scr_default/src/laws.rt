@@ -7,8 +7,9 @@ ghost use Rattle.scr_num.specs.Figure.{Figure, Frac};
 ghost use Rattle.scr_num.specs.Enclosure.{Encloses, Measures};
 ghost use Rattle.scr_num.specs.Rounding.{Ends, root_ends};
 ghost use Rattle.scr_agg.specs.Unbeaten.{HasSeveral};
+ghost use Rattle.scr_profile.specs.DefaultClasses.{class_of_step, first_step};
 ghost use Rattle.scr_profile.specs.declared.tables.TheConstants.{PD};
-ghost use Rattle.scr_default.specs.Probabilities.{probability_of_step, probability_of_class, class_of_step};
+ghost use Rattle.scr_default.specs.Probabilities.{probability_of_step, probability_of_class};
 ghost use Rattle.scr_default.specs.Losses.{grains, lgd_bank_exact, lgd_rein_exact};
 ghost use Rattle.scr_default.specs.LossesEnds.{lgd_bank_grains, lgd_rein_grains, totals_in, squares_in};
 ghost use Rattle.scr_default.specs.Variance.{variance_exact};
@@ -36,7 +37,7 @@ pub fn probabilities()
     ensures table { (step : ℕ) → step < 7
         → Measures 100_000 (pos (slice_index PD step)) (probability_of_step step) }
     ensures shared { (step : ℕ) → step < 7
-        → probability_of_step step ≡ probability_of_class (class_of_step (Some step)) }
+        → probability_of_step step ≡ probability_of_class (first_step (class_of_step (Some step))) }
     ensures no_step { class_of_step None ≡ class_of_step (Some 5) }
     ensures apart { (j k : ℕ) → j < k → k < 6
         → is_less (probability_of_class j) (probability_of_class k) ≡ true }

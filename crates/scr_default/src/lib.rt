@@ -18,7 +18,6 @@ mod quotients;
 mod terms;
 
 pub use banded::{Banded, type1};
-pub use classes::class_of_step;
 pub use losses::{lgd_bank, lgd_rein, type2};
 use scr_agg::quad;
 use scr_num::Span;

@@ -45,7 +45,7 @@ is_leaf (nodes.Whole wholes.Property) = true
 is_leaf (nodes.Whole wholes.Concentration) = true
 is_leaf (nodes.Whole wholes.Variance) = true
 is_leaf (nodes.Whole wholes.DefaultType2) = true
-is_leaf (nodes.Whole (wholes.Segment set number)) = true
+is_leaf (nodes.Whole (wholes.Segment segment)) = true
 is_leaf (nodes.Whole (wholes.CatCharge key)) = true
 is_leaf (nodes.Whole (wholes.Lapse set)) = true
 is_leaf (nodes.Whole wholes.Intangible) = true
@@ -89,7 +89,7 @@ module _ (factors : FactorValues) (sheet : BalanceSheet) (valid : Valid sheet) w
   leaves-closed (nodes.Whole wholes.Concentration) is = each-number concentration_square (λ g. refl) sheet.groups
   leaves-closed (nodes.Whole wholes.Variance) is = (refl, (refl, (refl, (refl, (refl, (refl, (refl, (refl, (refl, (refl, (refl, (refl, tt))))))))))))
   leaves-closed (nodes.Whole wholes.DefaultType2) is = tt
-  leaves-closed (nodes.Whole (wholes.Segment set number)) is = tt
+  leaves-closed (nodes.Whole (wholes.Segment segment)) is = tt
   leaves-closed (nodes.Whole (wholes.CatCharge key)) is = tt
   leaves-closed (nodes.Whole (wholes.Lapse set)) is = tt
   leaves-closed (nodes.Whole wholes.Intangible) is = tt
@@ -128,7 +128,7 @@ module _ (factors : FactorValues) (sheet : BalanceSheet) (valid : Valid sheet) w
   leaves-alike (nodes.Whole wholes.Concentration) is a b figures = refl
   leaves-alike (nodes.Whole wholes.Variance) is a b figures = refl
   leaves-alike (nodes.Whole wholes.DefaultType2) is a b figures = refl
-  leaves-alike (nodes.Whole (wholes.Segment set number)) is a b figures = refl
+  leaves-alike (nodes.Whole (wholes.Segment segment)) is a b figures = refl
   leaves-alike (nodes.Whole (wholes.CatCharge key)) is a b figures = refl
   leaves-alike (nodes.Whole (wholes.Lapse set)) is a b figures = refl
   leaves-alike (nodes.Whole wholes.Intangible) is a b figures = refl

@@ -26,6 +26,9 @@ use Rattle.scr_default.proofs.Band.{type1-encloses, type1-bit}
 use Rattle.scr_default.proofs.Enclosed.{variance-encloses}
 use Rattle.scr_default.proofs.Roots.{type2-encloses, default-encloses}
 use Rattle.scr_factors.specs.Values.{FactorValues}
+use Rattle.scr_profile.specs.DefaultClasses.{class_of_step}
+use Rattle.scr_profile.specs.declared.default_class.DefaultClass.{DefaultClass}
+use Rattle.scr_profile.specs.declared.default_class.DefaultClass.TheVariants as default_classes
 use Rattle.scr_sheet.specs.Absorptions.{absorbed}
 use Rattle.scr_sheet.specs.Validity.{Valid}
 use Rattle.scr_sheet.specs.declared.{rows.Group.Group, sheet.BalanceSheet.BalanceSheet}
@@ -37,7 +40,7 @@ use Rattle.scr_nodes.specs.declared.node.Risk.TheVariants as risks
 use Rattle.scr_nodes.specs.OwnOf.{risk_key}
 use Rattle.scr_nodes.specs.Rows.{is_bank_of, is_reinsurer_of, is_of_default_class}
 use Rattle.scr_rules.specs.DefaultGrains.{total_where, bank_grains, reinsurer_grains, group_grains, class_grains, class_square_grains, in_classes, total_grains, overdue_cents, other_due_cents}
-use Rattle.scr_exact.specs.DefaultExact.{bank_loss, reinsurer_loss, group_loss, class_loss, class_square, total_loss, default_variance, default_band, type1_exact, due_exact, default_exact}
+use Rattle.scr_exact.specs.DefaultExact.{bank_loss, reinsurer_loss, group_loss, class_loss, class_square, loss_at, square_at, total_loss, default_variance, default_band, type1_exact, due_exact, default_exact}
 use Rattle.scr_exact.specs.Exact.{exact, unit_of}
 use Rattle.scr_exact.specs.LifeExact.{sum_where}
 use Rattle.scr_rules.specs.Rules.{amount_of}
@@ -140,13 +143,13 @@ module _ (sheet : BalanceSheet) where
       subst (λ (e : Ends). Enclosed 1000 e (plus (sum_where (is_bank_of name) bank_loss sheet.banks) (sum_where (is_reinsurer_of name) reinsurer_loss sheet.reinsurers))) (added-exactly a b (a + b) refl)
       (sum-encloses 1000 (lit< tt) (exact_ends (pos a)) (exact_ends (pos b)) _ _ banks reinsurers)
 
-  pub class-told : (class : ℕ) → Told 1000 (class_grains sheet class) (class_loss sheet class)
+  pub class-told : (class : DefaultClass) → Told 1000 (class_grains sheet class) (class_loss sheet class)
   unfolding class_grains class_loss
   class-told class =
       where-told 1000 (lit< tt) (is_of_default_class class) (λ (g : Group). group_grains sheet g.name) (λ (g : Group). group_loss sheet g.name) sheet.groups
       (every (λ (g : Group). Told 1000 (group_grains sheet g.name) (group_loss sheet g.name)) sheet.groups (λ g. group-told g.name))
 
-  pub square-told : (class : ℕ) → Told 1_000_000 (class_square_grains sheet class) (class_square sheet class)
+  pub square-told : (class : DefaultClass) → Told 1_000_000 (class_square_grains sheet class) (class_square sheet class)
   unfolding class_square_grains class_square
   square-told class =
       where-told 1_000_000 (lit< tt) (is_of_default_class class) (λ (g : Group). group_grains sheet g.name * group_grains sheet g.name) (λ (g : Group). square (group_loss sheet g.name)) sheet.groups
@@ -154,41 +157,41 @@ module _ (sheet : BalanceSheet) where
       (λ g. told-exactly 1_000_000 (group_grains sheet g.name * group_grains sheet g.name) (square (group_loss sheet g.name)) (square-measured (group_grains sheet g.name) (group_loss sheet g.name) (measured-by (group_grains sheet g.name) (group_loss sheet g.name) (group-told g.name)))))
 
   -- so they are the same fractions, and none is negative
-  totals-alike : AreAlike (totals_in (in_classes (class_grains sheet))) (class_loss sheet)
+  totals-alike : AreAlike (totals_in (in_classes (class_grains sheet))) (loss_at sheet)
   totals-alike = record { least = λ j a. grains-least (slice_index (in_classes (class_grains sheet)) j); equal = by }
     where
-      one : (class : ℕ) → Equals (grains (class_grains sheet class)) (class_loss sheet class)
+      one : (class : DefaultClass) → Equals (grains (class_grains sheet class)) (class_loss sheet class)
       one class = grains-equal (class_grains sheet class) (class_loss sheet class) (class-told class)
 
-      by : (j : ℕ) → j < 6 → Equals (totals_in (in_classes (class_grains sheet)) j) (class_loss sheet j)
-      by zero a = one 0
-      by (suc zero) a = one 1
-      by (suc (suc zero)) a = one 2
-      by (suc (suc (suc zero))) a = one 3
-      by (suc (suc (suc (suc zero)))) a = one 4
-      by (suc (suc (suc (suc (suc zero))))) a = one 5
+      by : (j : ℕ) → j < 6 → Equals (totals_in (in_classes (class_grains sheet)) j) (loss_at sheet j)
+      by zero a = one default_classes.Step0
+      by (suc zero) a = one default_classes.Step1
+      by (suc (suc zero)) a = one default_classes.Step2
+      by (suc (suc (suc zero))) a = one default_classes.Step3
+      by (suc (suc (suc (suc zero)))) a = one default_classes.Step4
+      by (suc (suc (suc (suc (suc zero))))) a = one default_classes.Steps5And6
       by (suc (suc (suc (suc (suc (suc n)))))) a = absurd (omega (arith, a))
 
-  squares-alike : AreAlike (squares_in (in_classes (class_square_grains sheet))) (class_square sheet)
+  squares-alike : AreAlike (squares_in (in_classes (class_square_grains sheet))) (square_at sheet)
   squares-alike = record { least = λ j a. square_grains-least (slice_index (in_classes (class_square_grains sheet)) j); equal = by }
     where
-      one : (class : ℕ) → Equals (square_grains (class_square_grains sheet class)) (class_square sheet class)
+      one : (class : DefaultClass) → Equals (square_grains (class_square_grains sheet class)) (class_square sheet class)
       one class = square_grains-equal (class_square_grains sheet class) (class_square sheet class) (square-told class)
 
-      by : (j : ℕ) → j < 6 → Equals (squares_in (in_classes (class_square_grains sheet)) j) (class_square sheet j)
-      by zero a = one 0
-      by (suc zero) a = one 1
-      by (suc (suc zero)) a = one 2
-      by (suc (suc (suc zero))) a = one 3
-      by (suc (suc (suc (suc zero)))) a = one 4
-      by (suc (suc (suc (suc (suc zero))))) a = one 5
+      by : (j : ℕ) → j < 6 → Equals (squares_in (in_classes (class_square_grains sheet)) j) (square_at sheet j)
+      by zero a = one default_classes.Step0
+      by (suc zero) a = one default_classes.Step1
+      by (suc (suc zero)) a = one default_classes.Step2
+      by (suc (suc (suc zero))) a = one default_classes.Step3
+      by (suc (suc (suc (suc zero)))) a = one default_classes.Step4
+      by (suc (suc (suc (suc (suc zero))))) a = one default_classes.Steps5And6
       by (suc (suc (suc (suc (suc (suc n)))))) a = absurd (omega (arith, a))
 
   total-alike : Equals (grains (total_grains sheet)) (total_loss sheet)
   total-alike =
       grains-equal (total_grains sheet) (total_loss sheet)
-      (subst (λ (e : Ends). Enclosed 1000 e (total_loss sheet)) (six-added (class_grains sheet))
-      (Encloses-sum 1000 (λ class. exact_ends (pos (class_grains sheet class))) (class_loss sheet) 6 (lit< tt) (λ class a. class-told class)))
+      (subst (λ (e : Ends). Enclosed 1000 e (total_loss sheet)) (six-added (λ step. class_grains sheet (class_of_step (Some step))))
+      (Encloses-sum 1000 (λ step. exact_ends (pos (class_grains sheet (class_of_step (Some step))))) (loss_at sheet) 6 (lit< tt) (λ step a. class-told (class_of_step (Some step)))))
 
 abbrev Holds : ℕ → Ends → Figure → Type 0
 Holds unit e f = Encloses unit e.low e.high f
@@ -206,10 +209,10 @@ module _ (factors : FactorValues) (sheet : BalanceSheet) (valid : Valid sheet) (
   pub group-encloses : (name : List ℕ) → NodeEncloses (nodes.Group name of_groups.Loss)
   group-encloses name f is = told 1000 _ _ f is (number-encloses factors sheet valid figure covering 1000 (nodes.Group name of_groups.Loss) (Frac (group_loss sheet name)) refl (subst (λ (e : Ends). Enclosed 1000 e (group_loss sheet name)) (sym (group-is factors sheet valid name)) (group-told sheet name)))
 
-  pub class-encloses : (class : ℕ) → NodeEncloses (nodes.Whole (wholes.ClassLoss class))
+  pub class-encloses : (class : DefaultClass) → NodeEncloses (nodes.Whole (wholes.ClassLoss class))
   class-encloses class f is = told 1000 _ _ f is (number-encloses factors sheet valid figure covering 1000 (nodes.Whole (wholes.ClassLoss class)) (Frac (class_loss sheet class)) refl (subst (λ (e : Ends). Enclosed 1000 e (class_loss sheet class)) (sym (class-is factors sheet valid class)) (class-told sheet class)))
 
-  pub square-encloses : (class : ℕ) → NodeEncloses (nodes.Whole (wholes.ClassSquare class))
+  pub square-encloses : (class : DefaultClass) → NodeEncloses (nodes.Whole (wholes.ClassSquare class))
   square-encloses class f is = told 1_000_000 _ _ f is (number-encloses factors sheet valid figure covering 1_000_000 (nodes.Whole (wholes.ClassSquare class)) (Frac (class_square sheet class)) refl (subst (λ (e : Ends). Enclosed 1_000_000 e (class_square sheet class)) (sym (square-is factors sheet valid class)) (square-told sheet class)))
 
   pub variance-holds : Enclosed 1_000_000 (figure (nodes.Whole wholes.Variance)) (default_variance sheet)
@@ -217,19 +220,19 @@ module _ (factors : FactorValues) (sheet : BalanceSheet) (valid : Valid sheet) (
   variance-holds =
       leaf-encloses factors sheet valid figure covering 1_000_000 (nodes.Whole wholes.Variance) (Frac (default_variance sheet)) refl
       (subst (λ (e : Ends). Enclosed 1_000_000 e (default_variance sheet)) (sym (variance-is factors sheet valid))
-      (Encloses-alike 1_000_000 _ _ (variance_exact (totals_in (in_classes (class_grains sheet))) (squares_in (in_classes (class_square_grains sheet)))) (variance_exact (class_loss sheet) (class_square sheet))
-      (variance-alike (totals_in (in_classes (class_grains sheet))) (class_loss sheet) (squares_in (in_classes (class_square_grains sheet))) (class_square sheet) (totals-alike sheet) (squares-alike sheet))
+      (Encloses-alike 1_000_000 _ _ (variance_exact (totals_in (in_classes (class_grains sheet))) (squares_in (in_classes (class_square_grains sheet)))) (variance_exact (loss_at sheet) (square_at sheet))
+      (variance-alike (totals_in (in_classes (class_grains sheet))) (loss_at sheet) (squares_in (in_classes (class_square_grains sheet))) (square_at sheet) (totals-alike sheet) (squares-alike sheet))
       (variance-encloses (in_classes (class_grains sheet)) (in_classes (class_square_grains sheet)))))
 
   pub variance-node-encloses : NodeEncloses (nodes.Whole wholes.Variance)
   variance-node-encloses f is = told 1_000_000 _ _ f is variance-holds
 
   -- the losses of all classes in grains, and the figures of the bands and of type 1 exposures by them
-  total-is : amount_of (figure (nodes.Whole (wholes.ClassLoss 0))) + amount_of (figure (nodes.Whole (wholes.ClassLoss 1))) + amount_of (figure (nodes.Whole (wholes.ClassLoss 2))) + amount_of (figure (nodes.Whole (wholes.ClassLoss 3)))
-      + amount_of (figure (nodes.Whole (wholes.ClassLoss 4))) + amount_of (figure (nodes.Whole (wholes.ClassLoss 5))) ≡ total_grains sheet
-  total-is = rw (loss-is 0, loss-is 1, loss-is 2, loss-is 3, loss-is 4, loss-is 5) refl
+  total-is : amount_of (figure (nodes.Whole (wholes.ClassLoss default_classes.Step0))) + amount_of (figure (nodes.Whole (wholes.ClassLoss default_classes.Step1))) + amount_of (figure (nodes.Whole (wholes.ClassLoss default_classes.Step2))) + amount_of (figure (nodes.Whole (wholes.ClassLoss default_classes.Step3)))
+      + amount_of (figure (nodes.Whole (wholes.ClassLoss default_classes.Step4))) + amount_of (figure (nodes.Whole (wholes.ClassLoss default_classes.Steps5And6))) ≡ total_grains sheet
+  total-is = rw (loss-is default_classes.Step0, loss-is default_classes.Step1, loss-is default_classes.Step2, loss-is default_classes.Step3, loss-is default_classes.Step4, loss-is default_classes.Steps5And6) refl
     where
-      loss-is : (class : ℕ) → figure (nodes.Whole (wholes.ClassLoss class)) ≡ exact_ends (pos (class_grains sheet class))
+      loss-is : (class : DefaultClass) → figure (nodes.Whole (wholes.ClassLoss class)) ≡ exact_ends (pos (class_grains sheet class))
       loss-is class = number-is factors sheet valid figure covering (nodes.Whole (wholes.ClassLoss class)) refl ∙ class-is factors sheet valid class
 
   band-is : figure (nodes.Whole wholes.DefaultBand) ≡ exact_ends (pos (type1_mask (total_grains sheet) (figure (nodes.Whole wholes.Variance))))

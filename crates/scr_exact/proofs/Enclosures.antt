@@ -470,7 +470,7 @@ module _ (factors : FactorValues) (known : IsInForm factors) (sheet : BalanceShe
   node-encloses (nodes.Whole wholes.Default) live f is = defaults.default-node-encloses factors sheet valid figure covering least f is
   node-encloses (nodes.Whole (wholes.NetPart risks.Default)) live f is = defaults.net-node-encloses factors sheet valid figure covering least f is
   node-encloses (nodes.Whole (wholes.NetPart risks.HealthCatastrophe)) live f is = told 1000 _ _ f is (nonlife.health_catastrophe-holds factors known sheet valid figure covering least measures.Net)
-  node-encloses (nodes.Whole (wholes.Segment set number)) live f is = told 1000 _ _ f is (nonlife.segment-holds factors known sheet valid figure covering least set number)
+  node-encloses (nodes.Whole (wholes.Segment segment)) live f is = told 1000 _ _ f is (nonlife.segment-holds factors known sheet valid figure covering least segment)
   node-encloses (nodes.Whole (wholes.PremiumReserve set)) live f is = told 1000 _ _ f is (nonlife.premium_reserve-holds factors known sheet valid figure covering least set)
   node-encloses (nodes.Whole (wholes.CatCharge key)) live f is = told 1000 _ _ f is (nonlife.charge-encloses factors known sheet valid figure covering least key)
   node-encloses (nodes.Whole (wholes.Lapse set)) live f is = told 1000 _ _ f is (nonlife.lapse-encloses factors known sheet valid figure covering least set)

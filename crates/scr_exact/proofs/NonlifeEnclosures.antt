@@ -1,7 +1,6 @@
 -- The figures of charges that are handed in, of segments, of catastrophes, and of the non-life and health modules enclose the
 -- exact ones, where they cover their rules.
-use Rattle.std.proofs.Common.{◌≡◌, refl, ℕ, ◌<◌, ◌≤◌, nat_le, true, length, map, ℤ, pos, ◌<ℤ◌, ◌≤ℤ◌, sym, subst, arith, lit≤}
-use Rattle.std.proofs.lemmas.Bool.Decides.{nat_tests}
+use Rattle.std.proofs.Common.{◌≡◌, refl, ◌<◌, ◌≤◌, length, map, ℤ, pos, ◌<ℤ◌, ◌≤ℤ◌, sym, subst, arith}
 use Rattle.std.proofs.lemmas.Int.{ints}
 use Rattle.scr_num.specs.Figure.{Figure}
 use Rattle.scr_num.specs.Enclosure.{Encloses, EncloseAll}
@@ -14,10 +13,11 @@ use Rattle.scr_agg.proofs.Roots.{table_of-square}
 use Rattle.scr_bio.proofs.BiometricBounds.{nslt-encloses, health_cat-encloses, health-encloses}
 use Rattle.scr_nonlife.proofs.NonlifeBounds.{premium_reserve-encloses, nat-encloses, manmade-encloses, cat-encloses, nonlife-encloses}
 use Rattle.scr_nonlife.proofs.SegmentBounds.{segment-encloses}
-use Rattle.scr_profile.specs.Segments.{segments}
 use Rattle.scr_profile.specs.declared.set.Set.{Set}
 use Rattle.scr_profile.specs.declared.set.Set.TheVariants as sets
-use Rattle.scr_factors.specs.Values.{FactorValues, IsInForm, sigma_of}
+use Rattle.scr_profile.specs.declared.segment.Segment.{Segment}
+use Rattle.scr_profile.specs.declared.segment.Segment.TheVariants as kinds
+use Rattle.scr_factors.specs.Values.{FactorValues, IsInForm}
 use Rattle.scr_sheet.specs.Absorptions.{absorbed}
 use Rattle.scr_sheet.specs.Validity.{Valid}
 use Rattle.scr_sheet.specs.declared.{keys.CatKey.CatKey, sheet.BalanceSheet.BalanceSheet}
@@ -27,7 +27,7 @@ use Rattle.scr_nodes.specs.declared.node.Measure.TheVariants as measures
 use Rattle.scr_nodes.specs.declared.node.Node.TheVariants as nodes
 use Rattle.scr_nodes.specs.declared.node.Whole.TheVariants as wholes
 use Rattle.scr_nodes.specs.declared.node.Risk.TheVariants as risks
-use Rattle.scr_nodes.specs.OwnOf.{risk_key, catastrophe_cents, lapse_cents, volumes_in_regions, segment_correlations}
+use Rattle.scr_nodes.specs.OwnOf.{risk_key, catastrophe_cents, lapse_cents, deviations_of, volumes_in_regions, segment_correlations}
 use Rattle.scr_nodes.specs.Sources.{risk_part, segments_of, natural_perils, man_made_perils, health_perils}
 use Rattle.scr_nonlife.specs.Nonlife.{premium_reserve_figure}
 use Rattle.scr_nonlife.specs.NonlifeEnds.{premium_reserve_ends}
@@ -55,27 +55,24 @@ module _ (factors : FactorValues) (known : IsInForm factors) (sheet : BalanceShe
   lapse-encloses set = reaches (nodes.Whole (wholes.Lapse set)) _ (Encloses-cents (lapse_cents set sheet.numbers))
 
   -- ---- premium and reserve risk
-  pub segment-holds : (set : Set) (number : ℕ) → Holds (figure (nodes.Whole (wholes.Segment set number))) (segment_exact factors sheet set number)
+  pub segment-holds : (segment : Segment) → Holds (figure (nodes.Whole (wholes.Segment segment))) (segment_exact factors sheet segment)
   unfolding segment_exact
-  segment-holds set number =
-      reaches (nodes.Whole (wholes.Segment set number)) _
-      (segment-encloses (volumes_in_regions set number sheet.numbers) (sigma_of factors set number).0 (sigma_of factors set number).1)
+  segment-holds segment =
+      reaches (nodes.Whole (wholes.Segment segment)) _
+      (segment-encloses (volumes_in_regions segment sheet.numbers) (deviations_of factors segment).0 (deviations_of factors segment).1)
 
-  within : (n most : ℕ) → n ≤ most → nat_le n most ≡ true
-  within n most le = grind (arith, nat_tests, le)
-
-  low : (set : Set) (number : ℕ) → number ≤ segments set → pos 0 ≤ℤ (figure (nodes.Whole (wholes.Segment set number))).low
-  low set number le = least (nodes.Whole (wholes.Segment set number)) (within number (segments set) le)
+  low : (segment : Segment) → pos 0 ≤ℤ (figure (nodes.Whole (wholes.Segment segment))).low
+  low segment = least (nodes.Whole (wholes.Segment segment)) refl
 
   segments-hold : (set : Set) → EncloseAll 1000 (map figure (segments_of set)) (segments_exact factors sheet set)
   segments-hold sets.Nl =
-      let p = low sets.Nl in
-      let e = segment-holds sets.Nl in
-      (p 1 (lit≤ tt), e 1, (p 2 (lit≤ tt), e 2, (p 3 (lit≤ tt), e 3, (p 4 (lit≤ tt), e 4, (p 5 (lit≤ tt), e 5, (p 6 (lit≤ tt), e 6, (p 7 (lit≤ tt), e 7, (p 8 (lit≤ tt), e 8, (p 9 (lit≤ tt), e 9, (p 10 (lit≤ tt), e 10, (p 11 (lit≤ tt), e 11, (p 12 (lit≤ tt), e 12, tt))))))))))))
+      let p = low in
+      let e = segment-holds in
+      (p kinds.MotorLiability, e kinds.MotorLiability, (p kinds.OtherMotor, e kinds.OtherMotor, (p kinds.Transport, e kinds.Transport, (p kinds.Property, e kinds.Property, (p kinds.GeneralLiability, e kinds.GeneralLiability, (p kinds.Credit, e kinds.Credit, (p kinds.LegalExpenses, e kinds.LegalExpenses, (p kinds.Assistance, e kinds.Assistance, (p kinds.FinancialLoss, e kinds.FinancialLoss, (p kinds.CasualtyReinsurance, e kinds.CasualtyReinsurance, (p kinds.TransportReinsurance, e kinds.TransportReinsurance, (p kinds.PropertyReinsurance, e kinds.PropertyReinsurance, tt))))))))))))
   segments-hold sets.Nslt =
-      let p = low sets.Nslt in
-      let e = segment-holds sets.Nslt in
-      (p 1 (lit≤ tt), e 1, (p 2 (lit≤ tt), e 2, (p 3 (lit≤ tt), e 3, (p 4 (lit≤ tt), e 4, tt))))
+      let p = low in
+      let e = segment-holds in
+      (p kinds.MedicalExpense, e kinds.MedicalExpense, (p kinds.IncomeProtection, e kinds.IncomeProtection, (p kinds.WorkersCompensation, e kinds.WorkersCompensation, (p kinds.HealthReinsurance, e kinds.HealthReinsurance, tt))))
 
   segments-counted : (set : Set) → length (map figure (segments_of set)) ≡ (segment_correlations factors set).n
   segments-counted sets.Nl = sym known.nl_segments

@@ -1,12 +1,10 @@
 -- The worked figures cover their rules, since they are what these give, and none that is a part of a root is below 0.
-use Rattle.std.proofs.Common.{◌≡◌, ℕ, ◌≤◌, nat_le, true, List, [], Option, Some, sym, subst, arith}
+use Rattle.std.proofs.Common.{◌≡◌, ℕ, true, List, [], Option, Some, sym, subst, arith}
 use Rattle.std.specs.Option.{option_map_or}
 use Rattle.std.proofs.lemmas.Bool.{true≢false}
-use Rattle.std.proofs.lemmas.Bool.Decides.{nat_tests}
 use Rattle.std.proofs.lemmas.Int.{ints}
 use Rattle.scr_num.specs.Rounding.{Ends}
 use Rattle.scr_factors.specs.Values.{FactorValues, IsInForm}
-use Rattle.scr_profile.specs.Segments.{segments}
 use Rattle.scr_sheet.specs.BalanceSheet.{position_of}
 use Rattle.scr_sheet.specs.Validity.{Valid}
 use Rattle.scr_sheet.specs.declared.{keys.Projection.Projection, rows.Liability.Liability, rows.Position.Position, sheet.BalanceSheet.BalanceSheet}
@@ -41,9 +39,6 @@ use Rattle.scr_exact.specs.Covering.{AreCovering, AreNotNegative, Covers, is_par
 -- what a rule gives covers it
 covers-own : (e due : Ends) → e ≡ due → Covers e due
 covers-own e due is = subst (Covers e) is (record { low = omega (arith, ints); high = omega (arith, ints) })
-
-le-of : (n most : ℕ) → nat_le n most ≡ true → n ≤ most
-le-of n most is = grind (arith, nat_tests)
 
 module _ (factors : FactorValues) (sheet : BalanceSheet) (valid : Valid sheet) where
   abbrev nothing_valued : Valued
@@ -111,7 +106,7 @@ module _ (factors : FactorValues) (known : IsInForm factors) (sheet : BalanceShe
   modules-least (nodes.Whole (wholes.BioScenario biometric projection measure)) of = (life.stress-amount factors sheet valid biometric projection measure).not_negative
   modules-least (nodes.Whole (wholes.Picked alternatives.LifeLapse measure)) of = (life.life_lapse-amount factors sheet valid measure).not_negative
   modules-least (nodes.Whole (wholes.Picked alternatives.HealthLapse measure)) of = (life.health_lapse-amount factors sheet valid measure).not_negative
-  modules-least (nodes.Whole (wholes.Segment set number)) of = (nonlife.segment-amount factors known sheet valid set number (le-of number (segments set) of)).not_negative
+  modules-least (nodes.Whole (wholes.Segment segment)) of = (nonlife.segment-amount factors known sheet valid segment).not_negative
   modules-least (nodes.Whole (wholes.PremiumReserve set)) of = (nonlife.premium_reserve-amount factors known sheet valid set).not_negative
   modules-least (nodes.Whole (wholes.CatCharge key)) of = (nonlife.charge-amount factors known sheet valid key).not_negative
   modules-least (nodes.Whole wholes.Natural) of = (nonlife.natural-amount factors known sheet valid).not_negative

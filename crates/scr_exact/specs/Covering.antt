@@ -1,10 +1,9 @@
 -- Figures that cover their rules (this project's own): the ends of each reach as far as those that its rule gives on the
 -- figures of its sources, at discounts that enclose the exact ones. Then they enclose the exact figures, whoever found them
 -- and whatever they are. The worked figures are such.
-use Rattle.std.specs.Prelude.{◌≡◌, ℕ, nat_le, pos, ◌≤ℤ◌, Bool, true, false, List, Some, map}
+use Rattle.std.specs.Prelude.{◌≡◌, ℕ, pos, ◌≤ℤ◌, Bool, true, false, List, Some, map}
 use Rattle.scr_num.specs.Rounding.{Ends}
 use Rattle.scr_factors.specs.Values.{FactorValues}
-use Rattle.scr_profile.specs.Segments.{segments}
 use Rattle.scr_sheet.specs.BalanceSheet.{position_of}
 use Rattle.scr_sheet.specs.declared.keys.Projection.{Projection}
 use Rattle.scr_sheet.specs.declared.rows.Liability.{Liability}
@@ -98,7 +97,7 @@ is_part_of_modules (nodes.Whole wholes.DefaultType2) = true
 is_part_of_modules (nodes.Whole (wholes.BioScenario biometric projection measure)) = true
 is_part_of_modules (nodes.Whole (wholes.Picked alternatives.LifeLapse measure)) = true
 is_part_of_modules (nodes.Whole (wholes.Picked alternatives.HealthLapse measure)) = true
-is_part_of_modules (nodes.Whole (wholes.Segment set number)) = nat_le number (segments set)
+is_part_of_modules (nodes.Whole (wholes.Segment segment)) = true
 is_part_of_modules (nodes.Whole (wholes.PremiumReserve set)) = true
 is_part_of_modules (nodes.Whole (wholes.CatCharge key)) = true
 is_part_of_modules (nodes.Whole wholes.Natural) = true

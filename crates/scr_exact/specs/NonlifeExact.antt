@@ -1,6 +1,5 @@
 -- The exact figures of the non-life module, of health that is not similar to life and of the health module, in cents
 -- (Articles 114 to 128, 144 to 148 and 160 of Delegated Regulation (EU) 2015/35). Nothing is rounded.
-use Rattle.std.specs.Prelude.{ℕ}
 use Rattle.scr_num.specs.Figure.{Figure, Figures}
 use Rattle.scr_num.specs.Figure.Figures.{more, none}
 use Rattle.scr_num.specs.Table.{Table}
@@ -10,9 +9,11 @@ use Rattle.scr_agg.specs.Correlated.{table_of}
 use Rattle.scr_bio.specs.Biometric.{nslt_figure, health_cat_figure, health_figure}
 use Rattle.scr_nonlife.specs.Segment.{segment_figure}
 use Rattle.scr_nonlife.specs.Nonlife.{premium_reserve_figure, nslt_correlations, nat_figure, manmade_figure, cat_figure, nonlife_figure}
+use Rattle.scr_profile.specs.declared.segment.Segment.{Segment}
+use Rattle.scr_profile.specs.declared.segment.Segment.TheVariants as kinds
 use Rattle.scr_profile.specs.declared.set.Set.{Set}
 use Rattle.scr_profile.specs.declared.set.Set.TheVariants as sets
-use Rattle.scr_factors.specs.Values.{FactorValues, sigma_of}
+use Rattle.scr_factors.specs.Values.{FactorValues}
 use Rattle.scr_sheet.specs.Absorptions.{absorbed}
 use Rattle.scr_sheet.specs.declared.keys.AbsorbKey.TheVariants as absorb
 use Rattle.scr_sheet.specs.declared.keys.CatKey.{CatKey}
@@ -20,7 +21,7 @@ use Rattle.scr_sheet.specs.declared.keys.CatKey.TheVariants as cats
 use Rattle.scr_sheet.specs.declared.sheet.BalanceSheet.{BalanceSheet}
 use Rattle.scr_nodes.specs.declared.node.Measure.{Measure}
 use Rattle.scr_nodes.specs.declared.node.Measure.TheVariants as measures
-use Rattle.scr_nodes.specs.OwnOf.{catastrophe_cents, lapse_cents, volumes_in_regions}
+use Rattle.scr_nodes.specs.OwnOf.{catastrophe_cents, lapse_cents, deviations_of, volumes_in_regions}
 
 -- ---- charges that are handed in
 
@@ -32,22 +33,24 @@ lapse_charge sheet set = cents_figure (lapse_cents set sheet.numbers)
 
 -- ---- premium and reserve risk
 
--- a segment, numbered from 1: its standard deviation times its volume (Articles 116, 117, 147 and 148)
-unfoldable pub segment_exact : FactorValues → BalanceSheet → Set → ℕ → Figure
-segment_exact factors sheet set number =
-    let sigma = sigma_of factors set number in
-    segment_figure (volumes_in_regions set number sheet.numbers) sigma.0 sigma.1
+-- a segment: its standard deviation times its volume (Articles 116, 117, 147 and 148)
+unfoldable pub segment_exact : FactorValues → BalanceSheet → Segment → Figure
+segment_exact factors sheet segment =
+    let deviations = deviations_of factors segment in
+    segment_figure (volumes_in_regions segment sheet.numbers) deviations.0 deviations.1
 
 -- the twelve of non-life (Annex II), and the four of health (Annex XIV)
 abbrev pub segments_exact : FactorValues → BalanceSheet → Set → Figures
 segments_exact factors sheet sets.Nl =
-    let segment = segment_exact factors sheet sets.Nl in
-    more (segment 1) (more (segment 2) (more (segment 3) (more (segment 4) (more (segment 5) (more (segment 6)
-    (more (segment 7) (more (segment 8) (more (segment 9) (more (segment 10) (more (segment 11) (more (segment 12)
-    none)))))))))))
+    let segment = segment_exact factors sheet in
+    more (segment kinds.MotorLiability) (more (segment kinds.OtherMotor) (more (segment kinds.Transport) (
+    more (segment kinds.Property) (more (segment kinds.GeneralLiability) (more (segment kinds.Credit) (
+    more (segment kinds.LegalExpenses) (more (segment kinds.Assistance) (more (segment kinds.FinancialLoss) (
+    more (segment kinds.CasualtyReinsurance) (more (segment kinds.TransportReinsurance) (more (segment kinds.PropertyReinsurance) none)))))))))))
 segments_exact factors sheet sets.Nslt =
-    let segment = segment_exact factors sheet sets.Nslt in
-    more (segment 1) (more (segment 2) (more (segment 3) (more (segment 4) none)))
+    let segment = segment_exact factors sheet in
+    more (segment kinds.MedicalExpense) (more (segment kinds.IncomeProtection) (more (segment kinds.WorkersCompensation) (
+    more (segment kinds.HealthReinsurance) none)))
 
 -- the correlations between segments: those of non-life are handed in (Annex IV of the Delegated Regulation), and those of
 -- health are the Regulation's (Annex XV)

@@ -6,6 +6,7 @@ ghost use Rattle.scr_num.specs.Figure.{Figure, Frac};
 ghost use Rattle.scr_num.specs.Rounding.{Ends};
 ghost use Rattle.scr_agg.specs.Choice.{chosen};
 ghost use Rattle.scr_factors.specs.Values.{FactorValues, IsInForm};
+ghost use Rattle.scr_profile.specs.declared.default_class.DefaultClass.{DefaultClass};
 ghost use Rattle.scr_sheet.specs.declared.sheet.BalanceSheet.{BalanceSheet};
 ghost use Rattle.scr_sheet.specs.Validity.{Valid};
 ghost use Rattle.scr_nodes.specs.declared.node.Alternatives.TheVariants as alternatives;
@@ -86,9 +87,9 @@ pub fn default_bands()
 pub fn default_losses()
     ensures group { (sheet : BalanceSheet) (name : List ℕ)
         → Encloses 1000 (pos (group_grains sheet name)) (pos (group_grains sheet name)) (Frac (group_loss sheet name)) }
-    ensures class { (sheet : BalanceSheet) (class : ℕ)
+    ensures class { (sheet : BalanceSheet) (class : DefaultClass)
         → Encloses 1000 (pos (class_grains sheet class)) (pos (class_grains sheet class)) (Frac (class_loss sheet class)) }
-    ensures squares { (sheet : BalanceSheet) (class : ℕ)
+    ensures squares { (sheet : BalanceSheet) (class : DefaultClass)
         → Encloses 1_000_000 (pos (class_square_grains sheet class)) (pos (class_square_grains sheet class))
         (Frac (class_square sheet class)) }
 {}

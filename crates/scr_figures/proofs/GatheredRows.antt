@@ -1,23 +1,25 @@
 -- Under which keys each row is entered.
-use Rattle.std.proofs.Common.{◌≡◌, ℕ, zero, suc, ◌+◌, ◌<◌, ◌==◌, Bool, true, false, cond, ◌&&◌, ◌||◌, List, [], ◌∷◌, ◌++◌, length, map, take, get_or, replicate, slice_get, nat_lt, Option, Some, None, IfSome, is_some, option_map, Result, Ok, Err, OnOk, refl, sym, ap, subst, ◌∙◌, arith}
+use Rattle.std.proofs.Common.{◌≡◌, ℕ, zero, suc, ◌+◌, ◌<◌, ◌==◌, Bool, true, false, cond, ◌&&◌, ◌||◌, List, [], ◌∷◌, ◌++◌, length, map, take, get_or, replicate, slice_get, Option, Some, None, IfSome, is_some, option_map, Result, Ok, Err, OnOk, refl, sym, ap, subst, ◌∙◌, arith}
 use Rattle.std.specs.List.{AllByRecursion, IsDistinct, list_any}
 use Rattle.std.specs.Option.{option_map_or}
-use Rattle.std.proofs.lemmas.Bool.{ltb-true}
 use Rattle.std.proofs.lemmas.List.{length-map}
 use Rattle.std.proofs.lemmas.Option.{slice_get-get_or, slice_get-map, slice_get_within}
 use Rattle.std.specs.Bool.{then_some}
 use Rattle.scr_names.specs.Names.{same_name}
 use Rattle.scr_names.specs.Tables.{has_row}
-use Rattle.scr_names.proofs.TableRows.{IsFresh, fresh_from_has_row, passes_or_fails, same_name-flip}
+use Rattle.scr_names.proofs.TableRows.{IsFresh, fresh_from_has_row, same_name-flip}
+use Rattle.scr_profile.specs.DefaultClasses.{class_of_step, default_classes, first_step}
+use Rattle.scr_profile.specs.declared.default_class.DefaultClass.{DefaultClass}
+use Rattle.scr_profile.specs.declared.default_class.DefaultClass.TheVariants as default_kinds
 use Rattle.scr_sheet.specs.declared.rows.Class.{Class}
 use Rattle.scr_sheet.specs.declared.rows.Class.TheVariants as class_kinds
 use Rattle.scr_sheet.specs.declared.keys.Projection.{Projection}
 use Rattle.scr_sheet.specs.declared.rows.Group.{Group}
 use Rattle.scr_sheet.specs.declared.rows.Position.{Position}
-use Rattle.scr_nodes.specs.Rows.{class_of_step, is_of_class, is_of_default_class, is_of_group}
+use Rattle.scr_nodes.specs.Rows.{is_of_class, is_of_default_class, is_of_group}
 use Rattle.scr_sheet.specs.declared.keys.Projection.TheVariants as projection_kinds
 use Rattle.scr_nodes.specs.Numbers.{class_place}
-use Rattle.scr_figures.specs.Gathered.{classes, default_classes, projection_place, projections}
+use Rattle.scr_figures.specs.Gathered.{classes, projection_place, projections}
 use Rattle.scr_figures.specs.Places.{AreSame, IsMore, IsMoreAt, IsOnly, entered_at, entered_where, places_by, places_where}
 use Rattle.scr_figures.proofs.Entering.{entered-more, entered-next, entered-none, name-at, name-nowhere, places-more, row-entered}
 
@@ -81,27 +83,17 @@ class-only class_kinds.Bond = tested (λ class. is_of_class class class_kinds.Bo
 class-only class_kinds.Government = tested (λ class. is_of_class class class_kinds.Government) 8 classes (omega arith) refl
 class-only class_kinds.Other = tested (λ class. is_of_class class class_kinds.Other) 9 classes (omega arith) refl
 
-pub class-few : (step : Option ℕ) → class_of_step step < 6
-class-few None = omega arith
-class-few (Some step) =
-    passes_or_fails (nat_lt step 5)
-    (λ e.
-    let less : step < 5 = ltb-true step 5 e in
-    let is : class_of_step (Some step) ≡ step = ap (λ t. cond t step 5) e in
-    omega (arith, less, is))
-    (λ e. let is : class_of_step (Some step) ≡ 5 = ap (λ t. cond t step 5) e in omega (arith, is))
+default-at : (of : DefaultClass) → IsOnly (λ class. first_step of == first_step class) (Some (first_step of)) default_classes
+default-at default_kinds.Step0 = tested (λ class. 0 == first_step class) 0 default_classes (omega arith) refl
+default-at default_kinds.Step1 = tested (λ class. 1 == first_step class) 1 default_classes (omega arith) refl
+default-at default_kinds.Step2 = tested (λ class. 2 == first_step class) 2 default_classes (omega arith) refl
+default-at default_kinds.Step3 = tested (λ class. 3 == first_step class) 3 default_classes (omega arith) refl
+default-at default_kinds.Step4 = tested (λ class. 4 == first_step class) 4 default_classes (omega arith) refl
+default-at default_kinds.Steps5And6 = tested (λ class. 5 == first_step class) 5 default_classes (omega arith) refl
 
-default-at : (c : ℕ) → c < 6 → IsMoreAt (λ class. false) (λ class. c == class) c default_classes
-default-at zero few = tested (λ class. 0 == class) 0 default_classes (omega arith) refl
-default-at (suc zero) few = tested (λ class. 1 == class) 1 default_classes (omega arith) refl
-default-at (suc (suc zero)) few = tested (λ class. 2 == class) 2 default_classes (omega arith) refl
-default-at (suc (suc (suc zero))) few = tested (λ class. 3 == class) 3 default_classes (omega arith) refl
-default-at (suc (suc (suc (suc zero)))) few = tested (λ class. 4 == class) 4 default_classes (omega arith) refl
-default-at (suc (suc (suc (suc (suc zero))))) few = tested (λ class. 5 == class) 5 default_classes (omega arith) refl
-default-at (suc (suc (suc (suc (suc (suc c)))))) few = let no : ⊥ = omega arith in absurd no
-
-pub default-only : (group : Group) → IsOnly (λ class. is_of_default_class class group) (Some (class_of_step group.step)) default_classes
-default-only group = default-at (class_of_step group.step) (class-few group.step)
+pub default-only : (group : Group)
+    → IsOnly (λ class. is_of_default_class class group) (Some (first_step (class_of_step group.step))) default_classes
+default-only group = default-at (class_of_step group.step)
 
 -- ---- names
 

@@ -57,7 +57,7 @@ module _ (sheet : BalanceSheet) where
   lowest (nodes.Group name of_groups.Loss) h = tt
   lowest (nodes.Group name what) h = absurd (omega (arith, h))
   lowest (nodes.Whole wholes.DefaultType2) h = tt
-  lowest (nodes.Whole (wholes.Segment set number)) h = tt
+  lowest (nodes.Whole (wholes.Segment segment)) h = tt
   lowest (nodes.Whole (wholes.CatCharge key)) h = tt
   lowest (nodes.Whole (wholes.Lapse set)) h = tt
   lowest (nodes.Whole wholes.Intangible) h = tt

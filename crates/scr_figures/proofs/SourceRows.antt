@@ -1,7 +1,6 @@
 -- The rows that were gathered are those that are read.
 use Rattle.std.proofs.Common.{◌≡◌, ℕ, zero, suc, ◌+◌, ◌<◌, ◌≤◌, Bool, true, false, cond, List, [], ◌∷◌, ◌++◌, length, map, take, get_or, Option, Some, IfSome, option_map, slice_get, Result, OnOk, refl, sym, ap, subst, ◌∙◌, arith, append_assoc, append-nil}
 use Rattle.std.specs.List.{AllByRecursion}
-use Rattle.std.proofs.lemmas.Bool.{ltb-true}
 use Rattle.std.proofs.lemmas.List.{length-map, map-append, take_more}
 use Rattle.std.proofs.lemmas.Option.{slice_get-map, slice_get_within}
 use Rattle.scr_numbers.specs.Ranges.{Numbered, count, stride}
@@ -9,7 +8,6 @@ use Rattle.scr_numbers.specs.declared.table.Table.TheVariants as tables
 use Rattle.scr_sheet.specs.declared.{rows.Class.Class, sheet.BalanceSheet.BalanceSheet}
 use Rattle.scr_sheet.specs.declared.keys.Projection.TheVariants as projection_kinds
 use Rattle.scr_sheet.specs.declared.rows.Class.TheVariants as class_kinds
-use Rattle.scr_nodes.specs.Live.{is_live}
 use Rattle.scr_nodes.specs.Selections.{is_counted, is_counterparty, is_currency, is_holder, is_obligation}
 use Rattle.scr_nodes.specs.Table.{first_of, second_of}
 use Rattle.scr_nodes.specs.declared.{node.Node.Node, node.OfFund.OfFund, node.OfLiability.OfLiability, selections.Selection.Selection}
@@ -28,7 +26,7 @@ use Rattle.scr_figures.specs.Families.{fund_family, liability_family, name_of, t
 use Rattle.scr_figures.specs.Numbers.{IsNumbered, names_in}
 use Rattle.scr_sheet.specs.BalanceSheet.{curve_name, group_name, liability_name, position_name, stake_name}
 use Rattle.scr_nodes.specs.Numbers.{class_place}
-use Rattle.scr_figures.specs.Gathered.{classes, default_classes}
+use Rattle.scr_figures.specs.Gathered.{classes}
 use Rattle.scr_figures.specs.Places.{places_by, places_where}
 use Rattle.scr_figures.proofs.Entering.{places-more}
 use Rattle.scr_figures.specs.SourceNumbers.{IsGathered, selected_family, selected_rows, selected_table}
@@ -88,15 +86,6 @@ class-at class_kinds.Bond = refl
 class-at class_kinds.Government = refl
 class-at class_kinds.Other = refl
 
-pub default-at : (class : ℕ) → class < 6 → slice_get default_classes class ≡ Some class
-default-at zero few = refl
-default-at (suc zero) few = refl
-default-at (suc (suc zero)) few = refl
-default-at (suc (suc (suc zero))) few = refl
-default-at (suc (suc (suc (suc zero)))) few = refl
-default-at (suc (suc (suc (suc (suc zero))))) few = refl
-default-at (suc (suc (suc (suc (suc (suc class)))))) few = let no : ⊥ = omega arith in absurd no
-
 -- ---- families are within the strides
 
 pub liability-few : (what : OfLiability) → liability_family what ≤ 12
@@ -109,18 +98,16 @@ module _ (sheet : BalanceSheet) where
   abbrev IsOwn : Node → ℕ → Type 0
   IsOwn node row = slice_get (names_in sheet (table_of node)) row ≡ Some (name_of node)
 
-  pub first-gathered : (node : Node) (row : ℕ) → is_live sheet node ≡ true → IsOwn node row → IsGathered sheet (first_of node) row
-  first-gathered (nodes.Fund name of_funds.Total) row live is = tt
-  first-gathered (nodes.Security name of_securities.Total) row live is = tt
-  first-gathered (nodes.Liability name of_liabilities.Present) row live is = tt
-  first-gathered (nodes.Currency name (of_currencies.Loss direction)) row live is = is
-  first-gathered (nodes.Currency name (of_currencies.Scenario direction Gross)) row live is = is
-  first-gathered (nodes.Group name of_groups.Total) row live is = is
-  first-gathered (nodes.Whole (wholes.InterestScenario direction Gross)) row live is = tt
-  first-gathered (nodes.Whole (wholes.BioScenario biometric projection Gross)) row live is = tt
-  first-gathered (nodes.Whole (wholes.ClassLoss class)) row live is = ltb-true class 6 live
-  first-gathered (nodes.Whole (wholes.ClassSquare class)) row live is = ltb-true class 6 live
-  first-gathered node row live is = tt
+  pub first-gathered : (node : Node) (row : ℕ) → IsOwn node row → IsGathered sheet (first_of node) row
+  first-gathered (nodes.Fund name of_funds.Total) row is = tt
+  first-gathered (nodes.Security name of_securities.Total) row is = tt
+  first-gathered (nodes.Liability name of_liabilities.Present) row is = tt
+  first-gathered (nodes.Currency name (of_currencies.Loss direction)) row is = is
+  first-gathered (nodes.Currency name (of_currencies.Scenario direction Gross)) row is = is
+  first-gathered (nodes.Group name of_groups.Total) row is = is
+  first-gathered (nodes.Whole (wholes.InterestScenario direction Gross)) row is = tt
+  first-gathered (nodes.Whole (wholes.BioScenario biometric projection Gross)) row is = tt
+  first-gathered node row is = tt
 
   pub second-gathered : (node : Node) (row : ℕ) → IsOwn node row → IsGathered sheet (second_of node) row
   second-gathered (nodes.Fund name of_funds.Total) row is = tt

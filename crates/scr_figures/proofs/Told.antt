@@ -1,16 +1,13 @@
 -- A figure is told by its table, its family and its row's name: these lead back to it.
-use Rattle.std.proofs.Common.{◌≡◌, ℕ, zero, suc, ◌+◌, ◌<◌, ◌≤◌, ◌&&◌, min, Bool, true, false, if◌then◌else◌, nat_lt, nat_le, List, [], ◌∷◌, Some, length, get_or, eqb, refl, sym, ap, subst, ◌∙◌, arith}
+use Rattle.std.proofs.Common.{◌≡◌, ℕ, zero, suc, ◌+◌, ◌<◌, ◌&&◌, Bool, true, false, if◌then◌else◌, List, [], ◌∷◌, Some, length, get_or, eqb, refl, sym, ap, subst, ◌∙◌, arith}
 use Rattle.std.specs.List.{slice_get}
-use Rattle.std.proofs.lemmas.Bool.{and_parts, eqb-true, leb-true, ltb-true}
+use Rattle.std.proofs.lemmas.Bool.{and_parts, eqb-true}
 use Rattle.scr_numbers.specs.Ranges.{stride}
 use Rattle.scr_numbers.specs.declared.table.Table.{Table}
 use Rattle.scr_numbers.specs.declared.table.Table.TheVariants as tables
-use Rattle.scr_profile.specs.Segments.{segments}
-use Rattle.scr_profile.specs.declared.set.Set.{Set}
-use Rattle.scr_profile.specs.declared.set.Set.TheVariants as sets
 use Rattle.scr_sheet.specs.declared.keys.Projection.TheVariants as projections
-use Rattle.scr_nodes.specs.Live.{is_segment, whole_lives}
-use Rattle.scr_nodes.specs.Numbers.{measure_place, number_of_whole, scenario_place, scenarios_from, segments_from, whole_nodes}
+use Rattle.scr_nodes.specs.Live.{whole_lives}
+use Rattle.scr_nodes.specs.Numbers.{measure_place, number_of_whole, scenario_place, scenarios_from, whole_nodes}
 use Rattle.scr_nodes.specs.Rows.{has_stress}
 use Rattle.scr_nodes.specs.declared.{node.Node.Node, node.OfCurrency.OfCurrency, node.OfGroup.OfGroup, node.OfLiability.OfLiability, node.OfSecurity.OfSecurity, node.Whole.Whole}
 use Rattle.scr_nodes.specs.declared.node.Direction.TheVariants.{Up, Down}
@@ -54,24 +51,10 @@ whole-at k d room = let at = numbered-at 0 WHOLES refl k d room in omega (arith,
 chosen : (b : Bool) (n m : ℕ) → b ≡ true → n ≡ m → (if b then n else 154) ≡ m
 chosen b n m live same = subst (λ t. (if t then n else 154) ≡ m) (sym live) same
 
-segment-most : (set : Set) (number : ℕ) → is_segment set number ≡ true → number ≤ 12
-segment-most sets.Nl number h = leb-true number 12 (and_parts (nat_le 1 number) (nat_le number (segments sets.Nl)) h).1
-segment-most sets.Nslt number h =
-    let most : number ≤ 4 = leb-true number 4 (and_parts (nat_le 1 number) (nat_le number (segments sets.Nslt)) h).1 in omega arith
-
 pub family-listed : (what : Whole) → whole_lives what ≡ true → whole_family what ≡ number_of_whole what
-family-listed (wholes.ClassLoss class) h =
-    let few : class < 6 = ltb-true class 6 h in
-    chosen (nat_lt class 6) (33 + class) (33 + min class 5) h (omega arith)
-family-listed (wholes.ClassSquare class) h =
-    let few : class < 6 = ltb-true class 6 h in
-    chosen (nat_lt class 6) (39 + class) (39 + min class 5) h (omega arith)
 family-listed (wholes.BioScenario biometric projection measure) h =
     let number = scenarios_from biometric + scenario_place projection + measure_place measure in
     chosen (has_stress biometric projection) number number h refl
-family-listed (wholes.Segment set number) h =
-    let most : number ≤ 12 = segment-most set number h in
-    chosen (is_segment set number) (segments_from set + number) (segments_from set + min number 12) h (omega (arith, most))
 family-listed what h = refl
 
 -- what has a family lives
@@ -80,11 +63,8 @@ given true n low = refl
 given false n low = absurd (omega arith)
 
 whole-given : (what : Whole) → whole_family what < 154 → whole_lives what ≡ true
-whole-given (wholes.ClassLoss class) low = given (nat_lt class 6) (33 + class) low
-whole-given (wholes.ClassSquare class) low = given (nat_lt class 6) (39 + class) low
 whole-given (wholes.BioScenario biometric projection measure) low =
     given (has_stress biometric projection) (scenarios_from biometric + scenario_place projection + measure_place measure) low
-whole-given (wholes.Segment set number) low = given (is_segment set number) (segments_from set + number) low
 whole-given what low = refl
 
 whole-told : (a b : Whole) → whole_family a ≡ whole_family b → whole_family b < 154 → a ≡ b

@@ -1,11 +1,12 @@
 -- Of which row a figure is, and which of the row's figures (this project's own). Each table has families of figures, numbered from
 -- 0, as many as its stride; a figure that no balance sheet can have has the stride for its family.
-use Rattle.std.specs.Prelude.{ℕ, ◌+◌, ◌*◌, List, [], if◌then◌else◌, nat_lt}
+use Rattle.std.specs.Prelude.{ℕ, ◌+◌, ◌*◌, List, [], if◌then◌else◌}
 use Rattle.scr_numbers.specs.declared.table.Table.{Table}
 use Rattle.scr_numbers.specs.declared.table.Table.TheVariants as tables
+use Rattle.scr_profile.specs.DefaultClasses.{first_step}
+use Rattle.scr_profile.specs.Segments.{number_of, set_of}
 use Rattle.scr_sheet.specs.declared.{keys.Projection.Projection}
 use Rattle.scr_sheet.specs.declared.keys.Projection.TheVariants as projections
-use Rattle.scr_nodes.specs.Live.{is_segment}
 use Rattle.scr_nodes.specs.Numbers.{adjustment_place, charge_place, choice_place, class_place, direction_place, equities_place, measure_place, operational_place, risk_place, scenario_place, scenarios_from, segments_from, set_place}
 use Rattle.scr_nodes.specs.Rows.{has_stress, is_stress}
 use Rattle.scr_nodes.specs.declared.{node.Node.Node, node.OfCurrency.OfCurrency, node.OfFund.OfFund, node.OfGroup.OfGroup, node.OfLiability.OfLiability, node.OfSecurity.OfSecurity, node.Whole.Whole}
@@ -87,8 +88,8 @@ whole_family wholes.Concentration = 24
 whole_family (wholes.NetPart risk) = risk_place risk
 whole_family (wholes.Currency measure) = 29 + measure_place measure
 whole_family (wholes.Market measure) = 31 + measure_place measure
-whole_family (wholes.ClassLoss class) = if nat_lt class 6 then 33 + class else 154
-whole_family (wholes.ClassSquare class) = if nat_lt class 6 then 39 + class else 154
+whole_family (wholes.ClassLoss class) = 33 + first_step class
+whole_family (wholes.ClassSquare class) = 39 + first_step class
 whole_family wholes.Variance = 45
 whole_family wholes.DefaultBand = 46
 whole_family wholes.DefaultType1 = 47
@@ -98,7 +99,7 @@ whole_family (wholes.BioScenario biometric projection measure) =
     if has_stress biometric projection then scenarios_from biometric + scenario_place projection + measure_place measure else 154
 whole_family (wholes.Life measure) = 72 + measure_place measure
 whole_family (wholes.Slt measure) = 93 + measure_place measure
-whole_family (wholes.Segment set number) = if is_segment set number then segments_from set + number else 154
+whole_family (wholes.Segment segment) = segments_from (set_of segment) + number_of segment
 whole_family (wholes.CatCharge key) = 111 + charge_place key
 whole_family (wholes.Lapse set) = 127 + set_place set
 whole_family wholes.Intangible = 129

@@ -1,5 +1,6 @@
 -- The rows from which sums are reckoned, gathered as lists of their places (this project's own).
 use Rattle.std.specs.Prelude.{◌≡◌, ℕ, List, [], ◌∷◌, map}
+use Rattle.scr_profile.specs.DefaultClasses.{default_classes}
 use Rattle.scr_sheet.specs.BalanceSheet.{curve_name, group_name, position_name, stake_name}
 use Rattle.scr_sheet.specs.declared.{keys.Projection.Projection, rows.Class.Class, rows.Liability.Liability, rows.Position.Position, rows.Stake.Stake, sheet.BalanceSheet.BalanceSheet}
 use Rattle.scr_sheet.specs.declared.keys.Projection.TheVariants as projection_kinds
@@ -34,10 +35,6 @@ projection_place projection_kinds.LapseUp = 6
 projection_place projection_kinds.LapseDown = 7
 projection_place projection_kinds.LapseMass = 8
 projection_place projection_kinds.Catastrophe = 9
-
--- the classes of probabilities of default (Article 199(2))
-abbrev pub default_classes : List ℕ
-default_classes = 0 ∷ 1 ∷ 2 ∷ 3 ∷ 4 ∷ 5 ∷ []
 
 -- ---- the lists of some rows of a table
 

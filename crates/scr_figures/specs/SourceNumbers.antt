@@ -1,5 +1,5 @@
 -- The numbers of the sources of figures (this project's own).
-use Rattle.std.specs.Prelude.{◌≡◌, ℕ, ◌+◌, ◌<◌, ◌++◌, true, List, [], Some, map, slice_get}
+use Rattle.std.specs.Prelude.{◌≡◌, ℕ, ◌+◌, ◌++◌, true, List, [], Some, map, slice_get}
 use Rattle.std.specs.List.{AllByRecursion, AllZip}
 use Rattle.scr_numbers.specs.Ranges.{Numbered, first}
 use Rattle.scr_numbers.specs.declared.table.Table.{Table}
@@ -9,8 +9,7 @@ use Rattle.scr_sheet.specs.declared.sheet.BalanceSheet.{BalanceSheet}
 use Rattle.scr_nodes.specs.Live.{is_live}
 use Rattle.scr_nodes.specs.Selections.{is_counted, is_counterparty, is_currency, is_holder, is_obligation}
 use Rattle.scr_nodes.specs.Sources.{sources_of}
-use Rattle.scr_nodes.specs.declared.{node.Node.Node, selections.Counterparties.Counterparties, selections.Holdings.Holdings, selections.Obligations.Obligations, selections.Selection.Selection}
-use Rattle.scr_nodes.specs.declared.selections.Counterparties.TheVariants as counterparties
+use Rattle.scr_nodes.specs.declared.{node.Node.Node, selections.Holdings.Holdings, selections.Obligations.Obligations, selections.Selection.Selection}
 use Rattle.scr_nodes.specs.declared.selections.Holdings.TheVariants as holdings
 use Rattle.scr_nodes.specs.declared.selections.Obligations.TheVariants as obligations
 use Rattle.scr_nodes.specs.declared.selections.Selection.TheVariants as selections
@@ -79,13 +78,7 @@ abbrev pub AreOwedBy : BalanceSheet → Obligations → ℕ → Type 0
 AreOwedBy sheet (obligations.In currency) row = slice_get (map curve_name sheet.curves) row ≡ Some currency
 AreOwedBy sheet which row = Unit {0}
 
--- groups of a class of probabilities of default
-abbrev pub AreClassed : Counterparties → Type 0
-AreClassed (counterparties.OfClass class) = class < 6
-AreClassed which = Unit {0}
-
 abbrev pub IsGathered : BalanceSheet → Selection → ℕ → Type 0
 IsGathered sheet (selections.Securities which what) row = AreHeldBy sheet which row
 IsGathered sheet (selections.Liabilities which what) row = AreOwedBy sheet which row
-IsGathered sheet (selections.Groups which what) row = AreClassed which
 IsGathered sheet selection row = Unit {0}

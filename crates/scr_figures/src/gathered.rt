@@ -4,14 +4,16 @@ ghost use Rattle.std.specs.List.{IsDistinct};
 ghost use Rattle.scr_names.specs.Names.{same_name};
 ghost use Rattle.scr_sheet.specs.BalanceSheet.{curve_name, group_name, position_name, stake_name};
 ghost use Rattle.scr_sheet.specs.Validity.{Valid};
+ghost use Rattle.scr_profile.specs.DefaultClasses.{default_classes};
 ghost use Rattle.scr_nodes.specs.Rows.{holds, is_held_in, is_of_default_class, is_of_group, is_paying_in, is_stressed};
 ghost use Rattle.scr_nodes.specs.Numbers.{class_place};
-ghost use Rattle.scr_figures.specs.Gathered.{AreFundLists, AreLiabilityLists, AreMembersOf, AreSecurityLists, default_classes, projection_place, projections};
+ghost use Rattle.scr_figures.specs.Gathered.{AreFundLists, AreLiabilityLists, AreMembersOf, AreSecurityLists, projection_place, projections};
 ghost use Rattle.scr_figures.specs.Places.{IsOnly, entered_where, places_by};
 
 use crate::lists::Lists;
 use scr_nodes::Biometric;
-use scr_nodes::rows::{class_of_step, is_closed, is_paying, is_stressed};
+use scr_nodes::rows::{is_closed, is_paying, is_stressed};
+use scr_profile::DefaultClass;
 use scr_sheet::{BalanceSheet, Class, Liability, Name, Position, Projection, Stake};
 use std::alloc::{AllocError as NoMemory, Global};
 
@@ -27,7 +29,7 @@ pub struct Members {
     pub funds: FundLists,
     pub securities: SecurityLists,
     pub liabilities: LiabilityLists,
-    /// The groups of each class of probabilities of default, from 0 to 5 (Article 199(2)).
+    /// The groups of each class of probabilities of default (Article 199(2)).
     pub groups: Lists,
 }
 
@@ -325,8 +327,8 @@ fn group_lists(alloc: Global, sheet: &BalanceSheet) -> Result<Lists, NoMemory>
 {
     let mut lists = Lists::new(alloc, 6)?;
     for k in 0..sheet.groups.len() {
-        let class = class_of_step(sheet.groups.at(k).step);
-        lists.enter(Some(class as usize), k)?;
+        let class = DefaultClass::of_step(sheet.groups.at(k).step);
+        lists.enter(Some(class.first_step() as usize), k)?;
     }
     Ok(lists)
 }

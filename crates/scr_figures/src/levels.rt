@@ -70,7 +70,7 @@ fn whole_level(what: Whole) -> u32
     ensures few { whole_level what < 14 }
 {
     match what {
-        Whole::DefaultType2 | Whole::Segment(_, _) | Whole::CatCharge(_) | Whole::Lapse(_) => 0,
+        Whole::DefaultType2 | Whole::Segment(_) | Whole::CatCharge(_) | Whole::Lapse(_) => 0,
         Whole::Intangible | Whole::OpPart(Operational::Premiums | Operational::Provisions) => 0,
         Whole::ClassLoss(_) | Whole::ClassSquare(_) | Whole::PremiumReserve(_) => 1,
         Whole::Natural | Whole::ManMade | Whole::HealthCatastrophe => 1,

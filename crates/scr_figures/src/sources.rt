@@ -15,7 +15,7 @@ ghost use Rattle.scr_figures.specs.Families.{name_of, table_of};
 ghost use Rattle.scr_figures.specs.Numbers.{IsNumbered, StandsAt, names_in};
 ghost use Rattle.scr_figures.specs.Gathered.{AreMembersOf};
 ghost use Rattle.scr_figures.specs.Places.{places_where};
-ghost use Rattle.scr_figures.specs.SourceNumbers.{AreAllPushed, AreClassed, AreHeldBy, AreOwedBy, ArePushed, IsGathered, are_live, numbers_at, selected_family, selected_numbers, selected_rows, selected_table};
+ghost use Rattle.scr_figures.specs.SourceNumbers.{AreAllPushed, AreHeldBy, AreOwedBy, ArePushed, IsGathered, are_live, numbers_at, selected_family, selected_numbers, selected_rows, selected_table};
 
 use crate::families::{currency_family, family, group_family, liability_family, security_family};
 use crate::finding::find;
@@ -125,7 +125,6 @@ fn push_words(list: &mut Vec<u32>, view: View<'_>, node: &Node) -> Result<(), No
 /// gathered.
 fn first_rows<'a>(from: Rows<'a>, node: &Node) -> Option<&'a [usize]>
     requires members { AreMembersOf from.sheet.now from.members.now }
-    requires live { is_live from.sheet.now node.now ≡ true }
     requires row { slice_get (names_in from.sheet.now (table_of node.now)) from.row ≡ Some (name_of node.now) }
     ensures { IfSome result (λ rows. rows.now ≡ selected_rows from.entry.sheet.now (first_of node.now)) }
 {
@@ -215,12 +214,11 @@ fn stressed_rows<'a>(from: Rows<'a>, biometric: Biometric, projection: Projectio
 }
 
 fn group_rows<'a>(from: Rows<'a>, counterparties: Counterparties) -> Option<&'a [usize]>
-    requires members { AreMembersOf from.sheet.now from.members.now }
-    requires class { AreClassed counterparties }
+    requires { AreMembersOf from.sheet.now from.members.now }
     ensures { IfSome result (λ rows. rows.now ≡ places_where (is_counterparty counterparties) 0 from.entry.sheet.now.groups) }
 {
     match counterparties {
-        Counterparties::OfClass(class) => Some(from.members.groups.at(class as usize)),
+        Counterparties::OfClass(class) => Some(from.members.groups.at(class.first_step() as usize)),
         Counterparties::All => None,
     }
 }

@@ -1,16 +1,16 @@
 //! The figures of the whole sheet, one by one.
-ghost use Rattle.std.specs.Prelude.{◌≡◌, ◌+◌, ◌<◌, if◌then◌else◌, length, nat_lt};
+ghost use Rattle.std.specs.Prelude.{◌≡◌, ◌<◌, length};
 ghost use Rattle.std.specs.List.{slice_index_or};
 ghost use Rattle.scr_nodes.specs.Numbers.{adjustment_place, charge_place, choice_place, class_place, equities_place, operational_place, risk_place, scenario_place, scenarios_from, segments_from, set_place};
 ghost use Rattle.scr_figures.specs.Families.{whole_family};
 ghost use Rattle.scr_nodes.specs.declared.node.Whole.TheVariants as wholes;
 
 use crate::families::{direction_place, measure_place};
-use scr_nodes::live::{has_stress, is_segment};
+use scr_nodes::live::has_stress;
 use scr_nodes::{
     Adjustment, Alternatives, Biometric, Direction, Equities, Measure, Operational, Risk, Whole,
 };
-use scr_profile::Set;
+use scr_profile::{DefaultClass, Segment, Set};
 use scr_sheet::{CatKey, Class, Projection};
 
 /// The family of a figure that no balance sheet can have.
@@ -51,18 +51,18 @@ const WHOLES: [Whole; 154] = [
     Whole::Currency(Measure::Net),
     Whole::Market(Measure::Gross),
     Whole::Market(Measure::Net),
-    Whole::ClassLoss(0),
-    Whole::ClassLoss(1),
-    Whole::ClassLoss(2),
-    Whole::ClassLoss(3),
-    Whole::ClassLoss(4),
-    Whole::ClassLoss(5),
-    Whole::ClassSquare(0),
-    Whole::ClassSquare(1),
-    Whole::ClassSquare(2),
-    Whole::ClassSquare(3),
-    Whole::ClassSquare(4),
-    Whole::ClassSquare(5),
+    Whole::ClassLoss(DefaultClass::Step0),
+    Whole::ClassLoss(DefaultClass::Step1),
+    Whole::ClassLoss(DefaultClass::Step2),
+    Whole::ClassLoss(DefaultClass::Step3),
+    Whole::ClassLoss(DefaultClass::Step4),
+    Whole::ClassLoss(DefaultClass::Steps5And6),
+    Whole::ClassSquare(DefaultClass::Step0),
+    Whole::ClassSquare(DefaultClass::Step1),
+    Whole::ClassSquare(DefaultClass::Step2),
+    Whole::ClassSquare(DefaultClass::Step3),
+    Whole::ClassSquare(DefaultClass::Step4),
+    Whole::ClassSquare(DefaultClass::Steps5And6),
     Whole::Variance,
     Whole::DefaultBand,
     Whole::DefaultType1,
@@ -113,22 +113,22 @@ const WHOLES: [Whole; 154] = [
     Whole::Picked(Alternatives::HealthLapse, Measure::Net),
     Whole::Slt(Measure::Gross),
     Whole::Slt(Measure::Net),
-    Whole::Segment(Set::Nl, 1),
-    Whole::Segment(Set::Nl, 2),
-    Whole::Segment(Set::Nl, 3),
-    Whole::Segment(Set::Nl, 4),
-    Whole::Segment(Set::Nl, 5),
-    Whole::Segment(Set::Nl, 6),
-    Whole::Segment(Set::Nl, 7),
-    Whole::Segment(Set::Nl, 8),
-    Whole::Segment(Set::Nl, 9),
-    Whole::Segment(Set::Nl, 10),
-    Whole::Segment(Set::Nl, 11),
-    Whole::Segment(Set::Nl, 12),
-    Whole::Segment(Set::Nslt, 1),
-    Whole::Segment(Set::Nslt, 2),
-    Whole::Segment(Set::Nslt, 3),
-    Whole::Segment(Set::Nslt, 4),
+    Whole::Segment(Segment::MotorLiability),
+    Whole::Segment(Segment::OtherMotor),
+    Whole::Segment(Segment::Transport),
+    Whole::Segment(Segment::Property),
+    Whole::Segment(Segment::GeneralLiability),
+    Whole::Segment(Segment::Credit),
+    Whole::Segment(Segment::LegalExpenses),
+    Whole::Segment(Segment::Assistance),
+    Whole::Segment(Segment::FinancialLoss),
+    Whole::Segment(Segment::CasualtyReinsurance),
+    Whole::Segment(Segment::TransportReinsurance),
+    Whole::Segment(Segment::PropertyReinsurance),
+    Whole::Segment(Segment::MedicalExpense),
+    Whole::Segment(Segment::IncomeProtection),
+    Whole::Segment(Segment::WorkersCompensation),
+    Whole::Segment(Segment::HealthReinsurance),
     Whole::CatCharge(CatKey::Windstorm),
     Whole::CatCharge(CatKey::Earthquake),
     Whole::CatCharge(CatKey::Flood),
@@ -208,8 +208,8 @@ pub(crate) fn whole_family(what: Whole) -> u32
         Whole::NetPart(risk) => risk_place(risk),
         Whole::Currency(measure) => 29 + measure_place(measure),
         Whole::Market(measure) => 31 + measure_place(measure),
-        Whole::ClassLoss(class) => default_class_family(33, class),
-        Whole::ClassSquare(class) => default_class_family(39, class),
+        Whole::ClassLoss(class) => 33 + u32::from(class.first_step()),
+        Whole::ClassSquare(class) => 39 + u32::from(class.first_step()),
         Whole::Variance => 45,
         Whole::DefaultBand => 46,
         Whole::DefaultType1 => 47,
@@ -220,7 +220,7 @@ pub(crate) fn whole_family(what: Whole) -> u32
         }
         Whole::Life(measure) => 72 + measure_place(measure),
         Whole::Slt(measure) => 93 + measure_place(measure),
-        Whole::Segment(set, number) => segment_family(set, number),
+        Whole::Segment(segment) => segments_from(segment.set()) + u32::from(segment.number()),
         Whole::CatCharge(key) => 111 + charge_place(key),
         Whole::Lapse(set) => 127 + set_place(set),
         Whole::Intangible => 129,
@@ -241,32 +241,11 @@ pub(crate) fn whole_family(what: Whole) -> u32
     }
 }
 
-fn default_class_family(from: u32, class: u8) -> u32
-    requires { from < 154 }
-    ensures { result ≡ (if nat_lt class 6 then from + class else 154) }
-{
-    if class < 6 {
-        from + u32::from(class)
-    } else {
-        NO_FAMILY
-    }
-}
-
 fn scenario_family(biometric: Biometric, projection: Projection, measure: Measure) -> u32
     ensures { result ≡ whole_family (wholes.BioScenario biometric projection measure) }
 {
     if has_stress(biometric, projection) {
         scenarios_from(biometric) + scenario_place(projection) + measure_place(measure)
-    } else {
-        NO_FAMILY
-    }
-}
-
-fn segment_family(set: Set, number: u8) -> u32
-    ensures { result ≡ whole_family (wholes.Segment set number) }
-{
-    if is_segment(set, number) {
-        segments_from(set) + u32::from(number)
     } else {
         NO_FAMILY
     }

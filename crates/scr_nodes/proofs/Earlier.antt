@@ -2,6 +2,7 @@
 use Rattle.std.proofs.Common.{◌≡◌, ℕ, ◌<◌, nat_lt, true, List, map, filter, refl, arith}
 use Rattle.std.specs.List.{list_all}
 use Rattle.scr_names.proofs.TableRows.{All-append}
+use Rattle.scr_profile.specs.declared.default_class.DefaultClass.{DefaultClass}
 use Rattle.scr_profile.specs.declared.set.Set.TheVariants as sets
 use Rattle.scr_sheet.specs.declared.{keys.Projection.Projection, sheet.BalanceSheet.BalanceSheet, rows.Class.Class, rows.Curve.Curve, rows.Liability.Liability, rows.Position.Position}
 use Rattle.scr_sheet.specs.declared.keys.Projection.TheVariants as projections
@@ -76,7 +77,7 @@ module _ (sheet : BalanceSheet) where
       loss projections.Base l = omega arith
       loss p l = omega arith
 
-  below-class : (class : ℕ) → AllBelow part_of 32 (losses_of_class class sheet)
+  below-class : (class : DefaultClass) → AllBelow part_of 32 (losses_of_class class sheet)
   below-class class = below-chosen part_of 32 (is_of_default_class class) group_loss sheet.groups (λ g. omega arith)
 
   below-picked : (measure : Measure) → AllBelow part_of 27 (foreign_picked measure sheet)

@@ -5,6 +5,7 @@ use Rattle.std.specs.Option.{option_map_or}
 use Rattle.scr_names.specs.Names.{same_name}
 use Rattle.scr_names.specs.Tables.{row_of}
 use Rattle.scr_names.proofs.TableRows.{All-append}
+use Rattle.scr_profile.specs.declared.default_class.DefaultClass.{DefaultClass}
 use Rattle.scr_profile.specs.declared.set.Set.{Set}
 use Rattle.scr_profile.specs.declared.set.Set.TheVariants as sets
 use Rattle.scr_sheet.specs.BalanceSheet.{group_name, position_name, liability_name, stake_name, curve_name, position_of, stake_of}
@@ -118,7 +119,7 @@ module _ (sheet : BalanceSheet) (valid : Valid sheet) where
       each-mapped (λ g. group_of (group_name g) sheet.groups ≡ Some g) (IsLive sheet) (λ g. true) concentration_square
       sheet.groups (own-groups sheet valid) (λ g own. ap is_some own)
 
-  live-losses_of_class : (class : ℕ) → AllByRecursion (IsLive sheet) (losses_of_class class sheet)
+  live-losses_of_class : (class : DefaultClass) → AllByRecursion (IsLive sheet) (losses_of_class class sheet)
   live-losses_of_class class =
       each-chosen (λ g. group_of (group_name g) sheet.groups ≡ Some g) (IsLive sheet) (is_of_default_class class)
       group_loss sheet.groups (own-groups sheet valid) (λ g own e. ap is_some own)

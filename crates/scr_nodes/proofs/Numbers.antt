@@ -1,10 +1,11 @@
 -- The figures of the whole sheet by their numbers, and back.
-use Rattle.std.proofs.Common.{◌≡◌, ◌≢◌, ◌==◌, ◌⊎◌, inl, inr, ℕ, zero, suc, ◌+◌, ◌<◌, ◌≤◌, true, false, nat_le, List, [], ◌∷◌, Some, slice_get, refl, arith}
-use Rattle.std.specs.List.{AllByRecursion}
-use Rattle.std.proofs.lemmas.Bool.{and_parts, leb-true, ltb-true}
-use Rattle.std.proofs.lemmas.Bool.Decides.{eqb_tells}
-use Rattle.scr_funds.proofs.Members.{IsMember, at_member}
-use Rattle.scr_profile.specs.Segments.{segments}
+use Rattle.std.proofs.Common.{◌≡◌, ◌+◌, ◌≤◌, true, Some, slice_get, refl, arith}
+use Rattle.scr_profile.specs.DefaultClasses.{first_step}
+use Rattle.scr_profile.specs.Segments.{number_of, set_of}
+use Rattle.scr_profile.specs.declared.default_class.DefaultClass.{DefaultClass}
+use Rattle.scr_profile.specs.declared.default_class.DefaultClass.TheVariants as default_classes
+use Rattle.scr_profile.specs.declared.segment.Segment.{Segment}
+use Rattle.scr_profile.specs.declared.segment.Segment.TheVariants as segments
 use Rattle.scr_profile.specs.declared.set.Set.{Set}
 use Rattle.scr_profile.specs.declared.set.Set.TheVariants as sets
 use Rattle.scr_sheet.specs.declared.keys.CatKey.{CatKey}
@@ -74,10 +75,6 @@ set-place-most : (x : Set) → set_place x ≤ 1
 set-place-most sets.Nl = omega arith
 set-place-most sets.Nslt = omega arith
 
-segments-from-most : (x : Set) → segments_from x ≤ 106
-segments-from-most sets.Nl = omega arith
-segments-from-most sets.Nslt = omega arith
-
 operational-place-most : (x : Operational) → operational_place x ≤ 3
 operational-place-most operations.Premiums = omega arith
 operational-place-most x = omega arith
@@ -89,6 +86,14 @@ adjustment-place-most adjustments.DeferredTaxes = omega arith
 class-place-most : (x : Class) → class_place x ≤ 9
 class-place-most classes.Type1Equity = omega arith
 class-place-most x = omega arith
+
+first-step-most : (x : DefaultClass) → first_step x ≤ 5
+first-step-most default_classes.Step0 = omega arith
+first-step-most x = omega arith
+
+segment-most : (x : Segment) → segments_from (set_of x) + number_of x ≤ 110
+segment-most segments.MotorLiability = omega arith
+segment-most x = omega arith
 
 pub number-most : (what : Whole) → number_of_whole what ≤ 153
 number-most wholes.Assets = omega arith
@@ -104,7 +109,8 @@ number-most what =
       choice-place-most,
       charge-place-most,
       set-place-most,
-      segments-from-most,
+      segment-most,
+      first-step-most,
       operational-place-most,
       adjustment-place-most,
       class-place-most,
@@ -112,30 +118,9 @@ number-most what =
 
 -- ---- from a number back to the figure
 
--- the numbers from one on, so many
-abbrev numbers : ℕ → ℕ → List ℕ
-numbers first zero = []
-numbers first (suc count) = first ∷ numbers (suc first) count
-
-member-number : (first count n : ℕ) → first ≤ n → n < first + count → IsMember n (numbers first count)
-member-number first zero n least most = absurd (omega arith)
-member-number first (suc count) n least most = by (eqb_tells n first) (member-number (suc first) count n)
-  where
-    by : (((n == first) ≡ true) × (n ≡ first)) ⊎ (((n == first) ≡ false) × (n ≢ first))
-        → (suc first ≤ n → n < suc first + count → IsMember n (numbers (suc first) count))
-        → IsMember n (first ∷ numbers (suc first) count)
-    by (inl e) later = inl e.1
-    by (inr e) later = let other = e.1 in inr (later (omega (arith, other, least)) (omega (arith, most)))
-
 -- the figure stands at the place that is its number
 abbrev pub IsAt : Whole → Type 0
 IsAt what = slice_get whole_nodes (number_of_whole what) ≡ Some (nodes.Whole what)
-
--- one for each of so many numbers
-numbered : (what : ℕ → Whole) (first count number : ℕ) → AllByRecursion (λ n. IsAt (what n)) (numbers first count)
-    → first ≤ number → number < first + count → IsAt (what number)
-numbered what first count number are least most =
-    at_member (λ n. IsAt (what n)) (numbers first count) number are (member-number first count number least most)
 
 pub whole-at : (what : Whole) → whole_lives what ≡ true → IsAt what
 whole-at (wholes.ClassSum classes.Type1Equity) h = refl
@@ -146,21 +131,14 @@ whole-at (wholes.Picked alternatives.Interest Gross) h = refl
 whole-at (wholes.NetPart risks.Equity) h = refl
 whole-at (wholes.Currency Gross) h = refl
 whole-at (wholes.Market Gross) h = refl
-whole-at (wholes.ClassLoss class) h = numbered (λ n. wholes.ClassLoss n) 0 6 class (refl, (refl, (refl, (refl, (refl, (refl, tt)))))) (omega arith) (ltb-true class 6 h)
-whole-at (wholes.ClassSquare class) h = numbered (λ n. wholes.ClassSquare n) 0 6 class (refl, (refl, (refl, (refl, (refl, (refl, tt)))))) (omega arith) (ltb-true class 6 h)
+whole-at (wholes.ClassLoss default_classes.Step0) h = refl
+whole-at (wholes.ClassSquare default_classes.Step0) h = refl
 whole-at (wholes.BioScenario biometric projections.Base measure) h = absurd (cc)
 whole-at (wholes.BioScenario biometrics.Health projections.Catastrophe measure) h = absurd (cc)
 whole-at (wholes.BioScenario biometrics.Life projections.Mortality Gross) h = refl
 whole-at (wholes.Life Gross) h = refl
 whole-at (wholes.Slt Gross) h = refl
-whole-at (wholes.Segment sets.Nl number) h =
-    let two = and_parts (nat_le 1 number) (nat_le number (segments sets.Nl)) h in
-    let most : number ≤ 12 = leb-true number 12 two.1 in
-    numbered (λ n. wholes.Segment sets.Nl n) 1 12 number (refl, (refl, (refl, (refl, (refl, (refl, (refl, (refl, (refl, (refl, (refl, (refl, tt)))))))))))) (leb-true 1 number two.0) (omega arith)
-whole-at (wholes.Segment sets.Nslt number) h =
-    let two = and_parts (nat_le 1 number) (nat_le number (segments sets.Nslt)) h in
-    let most : number ≤ 4 = leb-true number 4 two.1 in
-    numbered (λ n. wholes.Segment sets.Nslt n) 1 4 number (refl, (refl, (refl, (refl, tt)))) (leb-true 1 number two.0) (omega arith)
+whole-at (wholes.Segment segments.MotorLiability) h = refl
 whole-at (wholes.CatCharge cats.Windstorm) h = refl
 whole-at (wholes.Lapse sets.Nl) h = refl
 whole-at (wholes.PremiumReserve sets.Nl) h = refl

@@ -3,7 +3,7 @@ use Rattle.std.proofs.Common.{◌≡◌, ◌⊎◌, inl, inr, ℕ, zero, suc, �
 use Rattle.std.specs.List.{AllByRecursion, list_all}
 use Rattle.std.proofs.lemmas.Bool.{eqb-true, eq-eqb}
 use Rattle.scr_funds.proofs.Members.{IsMember, IsMember-cases, at_member, each_weaker}
-use Rattle.scr_profile.specs.declared.set.Set.TheVariants as sets
+use Rattle.scr_profile.specs.declared.segment.Segment.TheVariants as segments
 use Rattle.scr_sheet.specs.declared.{keys.Projection.Projection}
 use Rattle.scr_sheet.specs.declared.keys.Projection.TheVariants as projections
 use Rattle.scr_nodes.specs.declared.{node.Node.Node}
@@ -191,5 +191,5 @@ fund-or-above (nodes.Group name of_groups.Total) = inr (omega arith)
 fund-or-above (nodes.Whole (wholes.Choice alternatives.Interest)) = inr (omega arith)
 fund-or-above (nodes.Whole (wholes.NetPart risks.Equity)) = inr (omega arith)
 fund-or-above (nodes.Whole (wholes.BioScenario biometrics.Life projection measure)) = inr (omega arith)
-fund-or-above (nodes.Whole (wholes.Segment sets.Nl number)) = inr (omega arith)
+fund-or-above (nodes.Whole (wholes.Segment segments.MotorLiability)) = inr (omega arith)
 fund-or-above node = inr (omega arith)

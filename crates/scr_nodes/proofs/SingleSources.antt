@@ -1,6 +1,7 @@
 -- No figure is a source of another twice.
 use Rattle.std.proofs.Common.{◌≡◌, ◌⊎◌, inl, inr, ℕ, Bool, true, List, [], ◌∷◌, map, filter, refl}
 use Rattle.scr_funds.proofs.Members.{IsMember}
+use Rattle.scr_profile.specs.declared.default_class.DefaultClass.{DefaultClass}
 use Rattle.scr_profile.specs.declared.set.Set.TheVariants as sets
 use Rattle.scr_sheet.specs.BalanceSheet.{group_name, position_name, liability_name, stake_name, curve_name}
 use Rattle.scr_sheet.specs.declared.{sheet.BalanceSheet.BalanceSheet, rows.Class.Class, rows.Liability.Liability, rows.Position.Position, rows.Stake.Stake}
@@ -98,7 +99,7 @@ module _ (sheet : BalanceSheet) (valid : Valid sheet) where
       apart-append (map security_total (filter (has_class class) sheet.securities)) (funds_of_class class sheet)
       (apart-securities (has_class class)) (funds-apart class) (not-fund class)
 
-  apart-losses_of_class : (class : ℕ) → AreApart (losses_of_class class sheet)
+  apart-losses_of_class : (class : DefaultClass) → AreApart (losses_of_class class sheet)
   apart-losses_of_class class =
       apart-chosen group_loss (is_of_default_class class) group_name told-group_loss sheet.groups
       (distinct-groups sheet valid)

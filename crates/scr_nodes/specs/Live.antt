@@ -1,9 +1,7 @@
 -- Which figures a balance sheet has (this project's own).
-use Rattle.std.specs.Prelude.{ℕ, ◌&&◌, List, Bool, true, false, nat_le, nat_lt}
+use Rattle.std.specs.Prelude.{ℕ, ◌&&◌, List, Bool, true, false}
 use Rattle.std.specs.Option.{option_map_or}
 use Rattle.scr_names.specs.Tables.{has_row, row_of}
-use Rattle.scr_profile.specs.Segments.{segments}
-use Rattle.scr_profile.specs.declared.set.Set.{Set}
 use Rattle.scr_sheet.specs.BalanceSheet.{group_name, position_name, stake_name, liability_name, curve_name, position_of}
 use Rattle.scr_sheet.specs.declared.keys.Projection.{Projection}
 use Rattle.scr_sheet.specs.declared.rows.Class.TheVariants as classes
@@ -40,9 +38,6 @@ is_foreign_currency sheet currency = option_map_or (is_foreign sheet) (row_of cu
 abbrev pub is_group : BalanceSheet → List ℕ → Bool
 is_group sheet name = has_row group_name name sheet.groups
 
-abbrev pub is_segment : Set → ℕ → Bool
-is_segment set number = nat_le 1 number && nat_le number (segments set)
-
 -- ---- figures of rows, by their table, and of the whole sheet
 
 abbrev pub security_lives : BalanceSheet → List ℕ → OfSecurity → Bool
@@ -62,12 +57,8 @@ currency_lives sheet currency (of_currencies.Scenario direction measure) = is_fo
 currency_lives sheet currency of_currencies.Choice = is_foreign_currency sheet currency
 currency_lives sheet currency (of_currencies.Picked measure) = is_foreign_currency sheet currency
 
--- classes of probabilities of default are numbered from 0 to 5
 abbrev pub whole_lives : Whole → Bool
-whole_lives (wholes.ClassLoss class) = nat_lt class 6
-whole_lives (wholes.ClassSquare class) = nat_lt class 6
 whole_lives (wholes.BioScenario biometric projection measure) = has_stress biometric projection
-whole_lives (wholes.Segment set number) = is_segment set number
 whole_lives what = true
 
 abbrev pub is_live : BalanceSheet → Node → Bool

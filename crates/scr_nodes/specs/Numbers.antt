@@ -1,5 +1,7 @@
 -- A number for each figure of the whole sheet, in the order in which they are listed (this project's own).
-use Rattle.std.specs.Prelude.{ℕ, ◌+◌, ◌*◌, List, [], ◌∷◌, ◌++◌, min}
+use Rattle.std.specs.Prelude.{ℕ, ◌+◌, ◌*◌, List, [], ◌∷◌, ◌++◌}
+use Rattle.scr_profile.specs.DefaultClasses.{first_step}
+use Rattle.scr_profile.specs.Segments.{number_of, set_of}
 use Rattle.scr_profile.specs.declared.set.Set.{Set}
 use Rattle.scr_profile.specs.declared.set.Set.TheVariants as sets
 use Rattle.scr_sheet.specs.declared.keys.CatKey.{CatKey}
@@ -140,8 +142,8 @@ number_of_whole wholes.Concentration = 24
 number_of_whole (wholes.NetPart risk) = risk_place risk
 number_of_whole (wholes.Currency measure) = 29 + measure_place measure
 number_of_whole (wholes.Market measure) = 31 + measure_place measure
-number_of_whole (wholes.ClassLoss class) = 33 + min class 5
-number_of_whole (wholes.ClassSquare class) = 39 + min class 5
+number_of_whole (wholes.ClassLoss class) = 33 + first_step class
+number_of_whole (wholes.ClassSquare class) = 39 + first_step class
 number_of_whole wholes.Variance = 45
 number_of_whole wholes.DefaultBand = 46
 number_of_whole wholes.DefaultType1 = 47
@@ -150,7 +152,7 @@ number_of_whole wholes.Default = 49
 number_of_whole (wholes.BioScenario biometric projection measure) = scenarios_from biometric + scenario_place projection + measure_place measure
 number_of_whole (wholes.Life measure) = 72 + measure_place measure
 number_of_whole (wholes.Slt measure) = 93 + measure_place measure
-number_of_whole (wholes.Segment set number) = segments_from set + min number 12
+number_of_whole (wholes.Segment segment) = segments_from (set_of segment) + number_of segment
 number_of_whole (wholes.CatCharge key) = 111 + charge_place key
 number_of_whole (wholes.Lapse set) = 127 + set_place set
 number_of_whole wholes.Intangible = 129

@@ -4,10 +4,12 @@ use Rattle.std.specs.Option.{option_map_or}
 use Rattle.scr_dates.specs.declared.day.Day.{Day}
 use Rattle.scr_factors.specs.Values.{FactorValues, sigma_of}
 use Rattle.scr_names.specs.Tables.{row_of}
+use Rattle.scr_profile.specs.Segments.{number_of, set_of}
 use Rattle.scr_profile.specs.declared.correlations.TheConstants.{NSLT}
 use Rattle.scr_profile.specs.declared.group_kind.GroupKind.TheVariants as group_kinds
 use Rattle.scr_profile.specs.declared.matrix.Matrix.{Matrix}
 use Rattle.scr_profile.specs.declared.operational.OpInput.{OpInput}
+use Rattle.scr_profile.specs.declared.segment.Segment.{Segment}
 use Rattle.scr_profile.specs.declared.set.Set.{Set}
 use Rattle.scr_profile.specs.declared.set.Set.TheVariants as sets
 use Rattle.scr_sheet.specs.Absorptions.{absorbed}
@@ -48,7 +50,7 @@ use Rattle.scr_nodes.specs.declared.node.Risk.TheVariants as risks
 use Rattle.scr_nodes.specs.Own.{Own, Paid, Reinsured, Valued}
 use Rattle.scr_nodes.specs.Own.Own.{Held, Loss, Cost, Scaled, Lost, Gross, Net, Choice, Picked, Added, Fall, EquityRoot}
 use Rattle.scr_nodes.specs.Own.Own.{Worth, Excess, Multiple, Charged, Stressed, Spread, Foreign, Square, SquareRoot, Market}
-use Rattle.scr_nodes.specs.Own.Own.{Losses, Squares, Variance, Band, Banded, Due, Correlated, CorrelatedWith, Segment}
+use Rattle.scr_nodes.specs.Own.Own.{Losses, Squares, Variance, Band, Banded, Due, Correlated, CorrelatedWith, Segment as SegmentOwn}
 use Rattle.scr_nodes.specs.Own.Own.{PremiumReserve, Catastrophes, Bscr, Diversified, Premiums, Provisions, Cap, OperationalCharge}
 use Rattle.scr_nodes.specs.Own.Own.{Absorbing, Taxed, Requirement}
 use Rattle.scr_nodes.specs.Own.Root.{DefaultRoot, LifeRoot, SltRoot, HealthRoot, NaturalRoot, ManMadeRoot, HealthCatastropheRoot}
@@ -198,15 +200,19 @@ catastrophe_cents key numbers =
 abbrev pub lapse_cents : Set → Numbers → ℕ
 lapse_cents set numbers = slice_index_or numbers.lapse (lapse_place set) 0
 
--- the volumes of a segment, numbered from 1, by region
-abbrev pub volumes_in_regions : Set → ℕ → Numbers → List (ℕ × ℕ)
-volumes_in_regions set number numbers =
-    slice_index_or (volumes_of set numbers) (number - 1) []
+-- the volumes of a segment by region
+abbrev pub volumes_in_regions : Segment → Numbers → List (ℕ × ℕ)
+volumes_in_regions segment numbers =
+    slice_index_or (volumes_of (set_of segment) numbers) (number_of segment - 1) []
 
-abbrev pub segment_own : FactorValues → Set → ℕ → Numbers → Own
-segment_own factors set number numbers =
-    let sigma = sigma_of factors set number in
-    Segment (volumes_in_regions set number numbers) sigma.0 sigma.1
+-- its standard deviations of premium and of reserve risk, in millionths
+abbrev pub deviations_of : FactorValues → Segment → ℕ × ℕ
+deviations_of factors segment = sigma_of factors (set_of segment) (number_of segment)
+
+abbrev pub segment_own : FactorValues → Segment → Numbers → Own
+segment_own factors segment numbers =
+    let deviations = deviations_of factors segment in
+    SegmentOwn (volumes_in_regions segment numbers) deviations.0 deviations.1
 
 -- of the segments of a set: those of non-life are handed in (Annex IV), and those of health are the Regulation's (Annex XV)
 abbrev pub segment_correlations : FactorValues → Set → Matrix
@@ -292,7 +298,7 @@ own_of factors sheet (nodes.Whole (wholes.BioScenario biometric projection measu
     Net (stress_absorbed sheet biometric projection)
 own_of factors sheet (nodes.Whole (wholes.Life measure)) = Correlated LifeRoot
 own_of factors sheet (nodes.Whole (wholes.Slt measure)) = Correlated SltRoot
-own_of factors sheet (nodes.Whole (wholes.Segment set number)) = segment_own factors set number sheet.numbers
+own_of factors sheet (nodes.Whole (wholes.Segment segment)) = segment_own factors segment sheet.numbers
 own_of factors sheet (nodes.Whole (wholes.PremiumReserve set)) = PremiumReserve (segment_correlations factors set)
 own_of factors sheet (nodes.Whole (wholes.CatCharge key)) = Charged 1000 (catastrophe_cents key sheet.numbers)
 own_of factors sheet (nodes.Whole (wholes.Lapse set)) = Charged 1000 (lapse_cents set sheet.numbers)

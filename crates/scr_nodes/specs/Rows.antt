@@ -1,10 +1,12 @@
 -- Which rows of the balance sheet a figure is reckoned from (Delegated Regulation (EU) 2015/35, Articles 84, 165 and
 -- 168).
-use Rattle.std.specs.Prelude.{ℕ, ℤ, ◌+◌, ◌==◌, Bool, true, false, not, ◌&&◌, List, [], ◌∷◌, Option, Some, None, filter, sum_by, nat_lt, if◌then◌else◌}
+use Rattle.std.specs.Prelude.{ℕ, ℤ, ◌+◌, ◌==◌, Bool, true, false, not, ◌&&◌, List, [], ◌∷◌, Option, None, filter, sum_by, if◌then◌else◌}
 use Rattle.std.specs.List.{list_any}
 use Rattle.std.specs.Option.{option_map_or}
 use Rattle.scr_names.specs.Names.{same_name}
 use Rattle.scr_names.specs.Tables.{row_of}
+use Rattle.scr_profile.specs.DefaultClasses.{class_of_step, first_step}
+use Rattle.scr_profile.specs.declared.default_class.DefaultClass.{DefaultClass}
 use Rattle.scr_sheet.specs.BalanceSheet.{curve_name, group_name, liability_name, position_of, stake_of}
 use Rattle.scr_sheet.specs.Records.{natural}
 use Rattle.scr_sheet.specs.declared.keys.Projection.{Projection}
@@ -103,14 +105,9 @@ is_bank_of name bank = same_name name bank.group
 abbrev pub is_reinsurer_of : List ℕ → Rein → Bool
 is_reinsurer_of name reinsurer = same_name name reinsurer.group
 
--- Steps with one probability of default are a class, numbered by the first of them (Article 199(2)). A group without a
--- step has the class of step 5 (this project's own).
-abbrev pub class_of_step : Option ℕ → ℕ
-class_of_step None = 5
-class_of_step (Some step) = if nat_lt step 5 then step else 5
-
-abbrev pub is_of_default_class : ℕ → Group → Bool
-is_of_default_class class group = class_of_step group.step == class
+-- its step is of the class of probabilities of default (Article 199(2))
+abbrev pub is_of_default_class : DefaultClass → Group → Bool
+is_of_default_class class group = first_step (class_of_step group.step) == first_step class
 
 -- ---- biometric stresses
 

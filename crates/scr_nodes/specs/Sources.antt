@@ -1,6 +1,9 @@
 -- From which other figures each figure is reckoned, in the order in which its rule takes them (Delegated Regulation
 -- (EU) 2015/35, Articles 84, 165, 168 and 206(2); the graph is this project's own).
 use Rattle.std.specs.Prelude.{ℕ, ◌++◌, List, [], ◌∷◌, filter, map}
+use Rattle.scr_profile.specs.declared.default_class.DefaultClass.{DefaultClass}
+use Rattle.scr_profile.specs.declared.default_class.DefaultClass.TheVariants as default_classes
+use Rattle.scr_profile.specs.declared.segment.Segment.TheVariants as segments
 use Rattle.scr_profile.specs.declared.set.Set.{Set}
 use Rattle.scr_profile.specs.declared.set.Set.TheVariants as sets
 use Rattle.scr_sheet.specs.declared.keys.CatKey.TheVariants as cats
@@ -186,18 +189,18 @@ market_parts measure =
 -- ---- counterparty default risk (Articles 199 to 201)
 
 -- the losses of the groups of a class
-abbrev pub losses_of_class : ℕ → BalanceSheet → List Node
+abbrev pub losses_of_class : DefaultClass → BalanceSheet → List Node
 losses_of_class class sheet = map group_loss (filter (is_of_default_class class) sheet.groups)
 
 abbrev pub class_losses : List Node
 class_losses =
-    nodes.Whole (wholes.ClassLoss 0) ∷ nodes.Whole (wholes.ClassLoss 1) ∷ nodes.Whole (wholes.ClassLoss 2) ∷ nodes.Whole (wholes.ClassLoss 3) ∷ nodes.Whole (wholes.ClassLoss 4)
-    ∷ nodes.Whole (wholes.ClassLoss 5) ∷ []
+    nodes.Whole (wholes.ClassLoss default_classes.Step0) ∷ nodes.Whole (wholes.ClassLoss default_classes.Step1) ∷ nodes.Whole (wholes.ClassLoss default_classes.Step2)
+    ∷ nodes.Whole (wholes.ClassLoss default_classes.Step3) ∷ nodes.Whole (wholes.ClassLoss default_classes.Step4) ∷ nodes.Whole (wholes.ClassLoss default_classes.Steps5And6) ∷ []
 
 abbrev pub class_squares : List Node
 class_squares =
-    nodes.Whole (wholes.ClassSquare 0) ∷ nodes.Whole (wholes.ClassSquare 1) ∷ nodes.Whole (wholes.ClassSquare 2) ∷ nodes.Whole (wholes.ClassSquare 3) ∷ nodes.Whole (wholes.ClassSquare 4)
-    ∷ nodes.Whole (wholes.ClassSquare 5) ∷ []
+    nodes.Whole (wholes.ClassSquare default_classes.Step0) ∷ nodes.Whole (wholes.ClassSquare default_classes.Step1) ∷ nodes.Whole (wholes.ClassSquare default_classes.Step2)
+    ∷ nodes.Whole (wholes.ClassSquare default_classes.Step3) ∷ nodes.Whole (wholes.ClassSquare default_classes.Step4) ∷ nodes.Whole (wholes.ClassSquare default_classes.Steps5And6) ∷ []
 
 abbrev pub default_types : List Node
 default_types = nodes.Whole wholes.DefaultType1 ∷ nodes.Whole wholes.DefaultType2 ∷ []
@@ -234,11 +237,13 @@ health_parts measure = nodes.Whole (wholes.Slt measure) ∷ nodes.Whole (wholes.
 
 abbrev pub segments_of : Set → List Node
 segments_of sets.Nl =
-    nodes.Whole (wholes.Segment sets.Nl 1) ∷ nodes.Whole (wholes.Segment sets.Nl 2) ∷ nodes.Whole (wholes.Segment sets.Nl 3) ∷ nodes.Whole (wholes.Segment sets.Nl 4)
-    ∷ nodes.Whole (wholes.Segment sets.Nl 5) ∷ nodes.Whole (wholes.Segment sets.Nl 6) ∷ nodes.Whole (wholes.Segment sets.Nl 7) ∷ nodes.Whole (wholes.Segment sets.Nl 8)
-    ∷ nodes.Whole (wholes.Segment sets.Nl 9) ∷ nodes.Whole (wholes.Segment sets.Nl 10) ∷ nodes.Whole (wholes.Segment sets.Nl 11) ∷ nodes.Whole (wholes.Segment sets.Nl 12) ∷ []
+    nodes.Whole (wholes.Segment segments.MotorLiability) ∷ nodes.Whole (wholes.Segment segments.OtherMotor) ∷ nodes.Whole (wholes.Segment segments.Transport)
+    ∷ nodes.Whole (wholes.Segment segments.Property) ∷ nodes.Whole (wholes.Segment segments.GeneralLiability) ∷ nodes.Whole (wholes.Segment segments.Credit)
+    ∷ nodes.Whole (wholes.Segment segments.LegalExpenses) ∷ nodes.Whole (wholes.Segment segments.Assistance) ∷ nodes.Whole (wholes.Segment segments.FinancialLoss)
+    ∷ nodes.Whole (wholes.Segment segments.CasualtyReinsurance) ∷ nodes.Whole (wholes.Segment segments.TransportReinsurance) ∷ nodes.Whole (wholes.Segment segments.PropertyReinsurance) ∷ []
 segments_of sets.Nslt =
-    nodes.Whole (wholes.Segment sets.Nslt 1) ∷ nodes.Whole (wholes.Segment sets.Nslt 2) ∷ nodes.Whole (wholes.Segment sets.Nslt 3) ∷ nodes.Whole (wholes.Segment sets.Nslt 4) ∷ []
+    nodes.Whole (wholes.Segment segments.MedicalExpense) ∷ nodes.Whole (wholes.Segment segments.IncomeProtection) ∷ nodes.Whole (wholes.Segment segments.WorkersCompensation)
+    ∷ nodes.Whole (wholes.Segment segments.HealthReinsurance) ∷ []
 
 abbrev pub nonlife_parts : List Node
 nonlife_parts = nodes.Whole (wholes.PremiumReserve sets.Nl) ∷ nodes.Whole wholes.NonlifeCatastrophe ∷ []

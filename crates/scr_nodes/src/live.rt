@@ -1,13 +1,10 @@
-//! Whether a balance sheet has a figure, and the rows, the stresses and the segments that figures
-//! stand for.
+//! Whether a balance sheet has a figure, and the rows and the stresses that figures stand for.
 ghost use Rattle.std.specs.Prelude.{◌≡◌};
-ghost use Rattle.scr_nodes.specs.Live.{currency_lives, is_live, liability_lives, pays, is_bond, is_stressed_liability, is_foreign_currency, is_segment, security_lives, whole_lives};
+ghost use Rattle.scr_nodes.specs.Live.{currency_lives, is_live, liability_lives, pays, is_bond, is_stressed_liability, is_foreign_currency, security_lives, whole_lives};
 ghost use Rattle.scr_nodes.specs.Rows.{has_stress, is_stress};
-ghost use Rattle.scr_profile.specs.Segments.{segments};
 
 use crate::rows::{has_class, has_flows, is_foreign, is_paying};
 use crate::{Biometric, Node, OfCurrency, OfLiability, OfSecurity, Whole};
-use scr_profile::Set;
 use scr_sheet::{BalanceSheet, Class, Name, Projection};
 
 /// Whether the balance sheet has this figure. The cost is that of a look-up.
@@ -57,9 +54,7 @@ fn whole_lives(what: Whole) -> bool
     ensures { result ≡ whole_lives what }
 {
     match what {
-        Whole::ClassLoss(class) | Whole::ClassSquare(class) => class < 6,
         Whole::BioScenario(biometric, projection, _) => has_stress(biometric, projection),
-        Whole::Segment(set, number) => is_segment(set, number),
         _ => true,
     }
 }
@@ -120,22 +115,5 @@ pub fn has_stress(biometric: Biometric, projection: Projection) -> bool
     match (biometric, projection) {
         (_, Projection::Base) | (Biometric::Health, Projection::Catastrophe) => false,
         _ => true,
-    }
-}
-
-/// Whether the set has a segment of this number, from 1 on (Annexes II and XIV).
-pub fn is_segment(set: Set, number: u8) -> bool
-    ensures { result ≡ is_segment set number }
-{
-    1 <= number && number <= segments(set)
-}
-
-/// How many segments the set has.
-fn segments(set: Set) -> u8
-    ensures { result ≡ segments set }
-{
-    match set {
-        Set::Nl => 12,
-        Set::Nslt => 4,
     }
 }

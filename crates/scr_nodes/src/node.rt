@@ -1,6 +1,6 @@
 //! The figures of a balance sheet, each a node of a graph.
 
-use scr_profile::Set;
+use scr_profile::{DefaultClass, Segment, Set};
 use scr_sheet::{CatKey, Class, Name, Projection};
 
 /// The way in which rates, or a currency, change.
@@ -174,11 +174,10 @@ pub enum Whole {
     NetPart(Risk),
     /// The requirement for market risk (Article 164).
     Market(Measure),
-    /// The sum of the losses of all groups of a class of probabilities of default, from 0 to 5
-    /// (Article 201).
-    ClassLoss(u8),
+    /// The sum of the losses of all groups of a class of probabilities of default (Article 201).
+    ClassLoss(DefaultClass),
     /// The sum of the squares of these losses, in squares of a grain.
-    ClassSquare(u8),
+    ClassSquare(DefaultClass),
     /// The variance of the losses of all groups, in squares of a grain (Article 201).
     Variance,
     /// Which band of the standard deviation may be the one that decides, one bit for each (Article
@@ -196,9 +195,8 @@ pub enum Whole {
     Life(Measure),
     /// The requirement for health underwriting risk similar to life (Article 151).
     Slt(Measure),
-    /// The standard deviation of a segment, numbered from 1, times its volume (Articles 116, 117,
-    /// 147 and 148).
-    Segment(Set, u8),
+    /// The standard deviation of a segment times its volume (Articles 116, 117, 147 and 148).
+    Segment(Segment),
     /// The requirement for premium and reserve risk (Articles 115 and 146).
     PremiumReserve(Set),
     /// The handed-in requirement for a catastrophe (Articles 120 to 135 and 160 to 163).

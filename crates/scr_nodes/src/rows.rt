@@ -1,9 +1,10 @@
 //! Which rows of the balance sheet a figure is reckoned from (Delegated Regulation (EU) 2015/35, by
 //! its Articles).
 ghost use Rattle.std.specs.Prelude.{◌≡◌};
-ghost use Rattle.scr_nodes.specs.Rows.{holds, is_foreign, class_of_step, is_of_default_class, is_of_kind, is_stressed};
+ghost use Rattle.scr_nodes.specs.Rows.{holds, is_foreign, is_of_default_class, is_of_kind, is_stressed};
 
 use crate::Biometric;
+use scr_profile::DefaultClass;
 use scr_sheet::{BalanceSheet, Curve, Group, Liability, LiabilityKind, Name, Projection, Stake};
 pub use scr_sheet::{
     has_class, has_flows, has_group, is_closed, is_held_in, is_of_group, is_owed_in, is_paying,
@@ -31,24 +32,12 @@ pub fn is_foreign(sheet: &BalanceSheet, curve: &Curve) -> bool
     sheet.numbers.currency != curve.currency
 }
 
-/// The class of probabilities of default of a credit quality step, by number as in
-/// `is_of_default_class`; 5 where there is no step.
-pub fn class_of_step(step: Option<u8>) -> u8
-    ensures { result ≡ class_of_step step }
-{
-    match step {
-        Some(step) if step < 5 => step,
-        _ => 5,
-    }
-}
-
-/// Whether the group of counterparties is of the class of probabilities of default, numbered
-/// from 0 to 5 by the first credit quality step of the class (Article 199(2)). A group without
-/// a step is of class 5 (this project's own).
-pub fn is_of_default_class(class: u8, group: &Group) -> bool
+/// Whether the group of counterparties is of the class of probabilities of default (Article
+/// 199(2)).
+pub fn is_of_default_class(class: DefaultClass, group: &Group) -> bool
     ensures { result ≡ is_of_default_class class group.now }
 {
-    class_of_step(group.step) == class
+    DefaultClass::of_step(group.step) == class
 }
 
 /// The liability's kind is the one that the stresses fall on.

@@ -7,6 +7,7 @@ use crate::rows::{
     is_of_group, is_owed_in, is_paying, is_paying_in, is_stressed,
 };
 use crate::{Biometric, OfCurrency, OfFund, OfGroup, OfLiability, OfSecurity};
+use scr_profile::DefaultClass;
 use scr_sheet::{BalanceSheet, Class, Curve, Group, Liability, Name, Position, Projection, Stake};
 
 /// The figures that are read off one table, in the order of its rows: which rows, and which figure of
@@ -71,8 +72,8 @@ pub enum Currencies {
 #[derive(Clone, Copy)]
 pub enum Counterparties {
     All,
-    /// Those of a class of probabilities of default, from 0 to 5 (Article 199(2)).
-    OfClass(u8),
+    /// Those of a class of probabilities of default (Article 199(2)).
+    OfClass(DefaultClass),
 }
 
 /// Whether the fund is one of them.

@@ -1,9 +1,9 @@
 //! What figures read of the single numbers of a balance sheet.
 ghost use Rattle.std.specs.Prelude.{◌≡◌};
-ghost use Rattle.scr_nodes.specs.OwnOf.{catastrophe_cents, interest_key, lapse_cents, risk_key, stress_key};
+ghost use Rattle.scr_nodes.specs.OwnOf.{catastrophe_cents, interest_key, lapse_cents, risk_key, stress_key, volumes_in_regions};
 
 use crate::{Biometric, Direction, Risk};
-use scr_profile::Set;
+use scr_profile::{Segment, Set};
 use scr_sheet::{AbsorbKey, CatKey, Numbers, Projection};
 
 /// Under which key it is handed in how much technical provisions absorb of a change of interest
@@ -90,5 +90,17 @@ pub fn lapse_cents(numbers: &Numbers, set: Set) -> u64
     match set {
         Set::Nl => numbers.lapse[0],
         Set::Nslt => numbers.lapse[1],
+    }
+}
+
+/// The handed-in volumes of a segment by region, each with that of premium and that of reserve risk
+/// (Articles 116 and 147), in cents.
+pub fn volumes_in_regions(numbers: &Numbers, segment: Segment) -> &[(u64, u64); 18]
+    ensures { result.now ≡ volumes_in_regions segment numbers.now }
+{
+    let place = usize::from(segment.number()) - 1;
+    match segment.set() {
+        Set::Nl => &numbers.nl[place],
+        Set::Nslt => &numbers.nslt[place],
     }
 }

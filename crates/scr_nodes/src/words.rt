@@ -13,7 +13,7 @@ use crate::{
     Adjustment, Alternatives, Biometric, Direction, Equities, Measure, Node, OfCurrency,
     Operational, Risk, Whole,
 };
-use scr_profile::Set;
+use scr_profile::{DefaultClass, Segment, Set};
 use scr_sheet::{CatKey, Class, Name, Projection};
 
 /// The requirements for the rise and the fall of interest rates, each before and after
@@ -160,18 +160,18 @@ pub fn variance_sources() -> [Node; 12]
     ensures { result ≡ (class_losses ++ class_squares) }
 {
     [
-        Node::Whole(Whole::ClassLoss(0)),
-        Node::Whole(Whole::ClassLoss(1)),
-        Node::Whole(Whole::ClassLoss(2)),
-        Node::Whole(Whole::ClassLoss(3)),
-        Node::Whole(Whole::ClassLoss(4)),
-        Node::Whole(Whole::ClassLoss(5)),
-        Node::Whole(Whole::ClassSquare(0)),
-        Node::Whole(Whole::ClassSquare(1)),
-        Node::Whole(Whole::ClassSquare(2)),
-        Node::Whole(Whole::ClassSquare(3)),
-        Node::Whole(Whole::ClassSquare(4)),
-        Node::Whole(Whole::ClassSquare(5)),
+        Node::Whole(Whole::ClassLoss(DefaultClass::Step0)),
+        Node::Whole(Whole::ClassLoss(DefaultClass::Step1)),
+        Node::Whole(Whole::ClassLoss(DefaultClass::Step2)),
+        Node::Whole(Whole::ClassLoss(DefaultClass::Step3)),
+        Node::Whole(Whole::ClassLoss(DefaultClass::Step4)),
+        Node::Whole(Whole::ClassLoss(DefaultClass::Steps5And6)),
+        Node::Whole(Whole::ClassSquare(DefaultClass::Step0)),
+        Node::Whole(Whole::ClassSquare(DefaultClass::Step1)),
+        Node::Whole(Whole::ClassSquare(DefaultClass::Step2)),
+        Node::Whole(Whole::ClassSquare(DefaultClass::Step3)),
+        Node::Whole(Whole::ClassSquare(DefaultClass::Step4)),
+        Node::Whole(Whole::ClassSquare(DefaultClass::Steps5And6)),
     ]
 }
 
@@ -181,12 +181,12 @@ pub fn band_sources() -> [Node; 7]
     ensures { result ≡ (class_losses ++ nodes.Whole wholes.Variance ∷ []) }
 {
     [
-        Node::Whole(Whole::ClassLoss(0)),
-        Node::Whole(Whole::ClassLoss(1)),
-        Node::Whole(Whole::ClassLoss(2)),
-        Node::Whole(Whole::ClassLoss(3)),
-        Node::Whole(Whole::ClassLoss(4)),
-        Node::Whole(Whole::ClassLoss(5)),
+        Node::Whole(Whole::ClassLoss(DefaultClass::Step0)),
+        Node::Whole(Whole::ClassLoss(DefaultClass::Step1)),
+        Node::Whole(Whole::ClassLoss(DefaultClass::Step2)),
+        Node::Whole(Whole::ClassLoss(DefaultClass::Step3)),
+        Node::Whole(Whole::ClassLoss(DefaultClass::Step4)),
+        Node::Whole(Whole::ClassLoss(DefaultClass::Steps5And6)),
         Node::Whole(Whole::Variance),
     ]
 }
@@ -197,12 +197,12 @@ pub fn type1_sources() -> [Node; 8]
     ensures { result ≡ (class_losses ++ nodes.Whole wholes.Variance ∷ nodes.Whole wholes.DefaultBand ∷ []) }
 {
     [
-        Node::Whole(Whole::ClassLoss(0)),
-        Node::Whole(Whole::ClassLoss(1)),
-        Node::Whole(Whole::ClassLoss(2)),
-        Node::Whole(Whole::ClassLoss(3)),
-        Node::Whole(Whole::ClassLoss(4)),
-        Node::Whole(Whole::ClassLoss(5)),
+        Node::Whole(Whole::ClassLoss(DefaultClass::Step0)),
+        Node::Whole(Whole::ClassLoss(DefaultClass::Step1)),
+        Node::Whole(Whole::ClassLoss(DefaultClass::Step2)),
+        Node::Whole(Whole::ClassLoss(DefaultClass::Step3)),
+        Node::Whole(Whole::ClassLoss(DefaultClass::Step4)),
+        Node::Whole(Whole::ClassLoss(DefaultClass::Steps5And6)),
         Node::Whole(Whole::Variance),
         Node::Whole(Whole::DefaultBand),
     ]
@@ -266,18 +266,18 @@ pub fn nonlife_segments() -> [Node; 12]
     ensures { result ≡ segments_of sets.Nl }
 {
     [
-        Node::Whole(Whole::Segment(Set::Nl, 1)),
-        Node::Whole(Whole::Segment(Set::Nl, 2)),
-        Node::Whole(Whole::Segment(Set::Nl, 3)),
-        Node::Whole(Whole::Segment(Set::Nl, 4)),
-        Node::Whole(Whole::Segment(Set::Nl, 5)),
-        Node::Whole(Whole::Segment(Set::Nl, 6)),
-        Node::Whole(Whole::Segment(Set::Nl, 7)),
-        Node::Whole(Whole::Segment(Set::Nl, 8)),
-        Node::Whole(Whole::Segment(Set::Nl, 9)),
-        Node::Whole(Whole::Segment(Set::Nl, 10)),
-        Node::Whole(Whole::Segment(Set::Nl, 11)),
-        Node::Whole(Whole::Segment(Set::Nl, 12)),
+        Node::Whole(Whole::Segment(Segment::MotorLiability)),
+        Node::Whole(Whole::Segment(Segment::OtherMotor)),
+        Node::Whole(Whole::Segment(Segment::Transport)),
+        Node::Whole(Whole::Segment(Segment::Property)),
+        Node::Whole(Whole::Segment(Segment::GeneralLiability)),
+        Node::Whole(Whole::Segment(Segment::Credit)),
+        Node::Whole(Whole::Segment(Segment::LegalExpenses)),
+        Node::Whole(Whole::Segment(Segment::Assistance)),
+        Node::Whole(Whole::Segment(Segment::FinancialLoss)),
+        Node::Whole(Whole::Segment(Segment::CasualtyReinsurance)),
+        Node::Whole(Whole::Segment(Segment::TransportReinsurance)),
+        Node::Whole(Whole::Segment(Segment::PropertyReinsurance)),
     ]
 }
 
@@ -286,10 +286,10 @@ pub fn nslt_segments() -> [Node; 4]
     ensures { result ≡ segments_of sets.Nslt }
 {
     [
-        Node::Whole(Whole::Segment(Set::Nslt, 1)),
-        Node::Whole(Whole::Segment(Set::Nslt, 2)),
-        Node::Whole(Whole::Segment(Set::Nslt, 3)),
-        Node::Whole(Whole::Segment(Set::Nslt, 4)),
+        Node::Whole(Whole::Segment(Segment::MedicalExpense)),
+        Node::Whole(Whole::Segment(Segment::IncomeProtection)),
+        Node::Whole(Whole::Segment(Segment::WorkersCompensation)),
+        Node::Whole(Whole::Segment(Segment::HealthReinsurance)),
     ]
 }
 

@@ -2,3 +2,4 @@ pub mod CorrelationRules
 pub mod Ranges
 pub mod StressRules
 pub mod PrintedRules
+pub mod Words

@@ -1,8 +1,9 @@
 //! What the tables of the standard formula come to. Each law is a function that does nothing, whose
 //! contract is the law.
 
-ghost use Rattle.std.specs.Prelude.{◌≡◌, ◌*◌, map, pos};
+ghost use Rattle.std.specs.Prelude.{◌≡◌, ◌*◌, ◌-◌, ◌<◌, ℕ, Some, length, map, pos, slice_get, slice_index};
 ghost use Rattle.std.specs.List.{range_with_len};
+ghost use Rattle.scr_profile.specs.DefaultClasses.{class_of_step, default_classes, first_step};
 ghost use Rattle.scr_profile.specs.Interest.{fall, rise, stress};
 ghost use Rattle.scr_profile.specs.Matrix.{IsCorrelation};
 ghost use Rattle.scr_profile.specs.declared.correlations.TheConstants.{BSCR, DEFAULT, EQUITY};
@@ -13,7 +14,11 @@ ghost use Rattle.scr_profile.specs.declared.tables.TheConstants.{CT, G, INTEREST
 ghost use Rattle.scr_profile.specs.declared.tables.TheConstants.{PD};
 ghost use Rattle.scr_profile.specs.CorrelationTables as printed;
 ghost use Rattle.scr_profile.specs.CorrelationTables.{IsPrinted};
+ghost use Rattle.scr_profile.specs.Segments.{number_of, segments, segments_in, set_of};
 ghost use Rattle.scr_profile.specs.StepTables.{thresholds, risk_factors, probabilities};
+ghost use Rattle.scr_profile.specs.declared.default_class.DefaultClass.{DefaultClass};
+ghost use Rattle.scr_profile.specs.declared.segment.Segment.{Segment};
+ghost use Rattle.scr_profile.specs.declared.set.Set.{Set};
 
 /// Each table of correlations is the same in both directions, has 1 on the diagonal, and no
 /// coefficient beyond 1.
@@ -58,4 +63,20 @@ pub fn printed_steps()
     ensures thresholds { map (λ n. 100 * n) CT ≡ thresholds }
     ensures risk_factors { map (λ n. 1000 * n) G ≡ risk_factors }
     ensures probabilities { PD ≡ probabilities }
+{}
+
+/// The steps of one class share one probability of default, and each class is that of its first
+/// step, at which it stands in their list.
+pub fn classes_of_default()
+    ensures shared { (step : ℕ) → step < 7
+        → slice_index PD (first_step (class_of_step (Some step))) ≡ slice_index PD step }
+    ensures first { (class : DefaultClass) → class_of_step (Some (first_step class)) ≡ class }
+    ensures listed { (class : DefaultClass) → slice_get default_classes (first_step class) ≡ Some class }
+{}
+
+/// Each segment stands in the list of its set by its number, and the lists have no others.
+pub fn segments_by_number()
+    ensures listed { (segment : Segment)
+        → slice_get (segments_in (set_of segment)) (number_of segment - 1) ≡ Some segment }
+    ensures count { (set : Set) → length (segments_in set) ≡ segments set }
 {}

@@ -3,17 +3,20 @@
 #![tactic(auto)]
 
 mod correlations;
+mod default_class;
 mod group_kind;
 pub mod laws;
 mod limits;
 mod matrix;
 mod operational;
+mod segment;
 mod set;
 mod tables;
 
 pub use correlations::{
     BSCR, DEFAULT, EQUITY, HEALTH, LIFE, MARKET_0, MARKET_HALF, NONLIFE, NSLT, SLT,
 };
+pub use default_class::DefaultClass;
 pub use group_kind::GroupKind;
 pub use limits::{
     MAX_AMOUNT, MAX_COMPONENTS, MAX_CURRENCIES, MAX_DURATION, MAX_EXPOSURES, MAX_FLOWS,
@@ -23,5 +26,6 @@ pub use limits::{
 };
 pub use matrix::Matrix;
 pub use operational::OpInput;
+pub use segment::Segment;
 pub use set::Set;
 pub use tables::{CT, G, INTEREST_DOWN, INTEREST_UP, PD};

@@ -1,6 +1,7 @@
 -- What figures are called, the articles that they are by, how they come from their sources, and their units (this project's
 -- own, after Delegated Regulation (EU) 2015/35).
 use Rattle.std.specs.Prelude.{ℕ, ◌++◌, List, [], codes}
+use Rattle.scr_profile.specs.Segments.{set_of}
 use Rattle.scr_nodes.specs.declared.node.Node.{Node}
 use Rattle.scr_nodes.specs.declared.node.Node.TheVariants as nodes
 use Rattle.scr_nodes.specs.declared.node.OfFund.TheVariants as of_funds
@@ -62,7 +63,7 @@ family (nodes.Whole (wholes.BioScenario biometrics.Life projection measure)) = c
 family (nodes.Whole (wholes.BioScenario biometrics.Health projection measure)) = codes "health similar to life: "
 family (nodes.Whole (wholes.Life measure)) = codes "life underwriting risk"
 family (nodes.Whole (wholes.Slt measure)) = codes "health underwriting risk similar to life"
-family (nodes.Whole (wholes.Segment set number)) = codes "premium and reserve risk of a segment, "
+family (nodes.Whole (wholes.Segment segment)) = codes "premium and reserve risk of a segment, "
 family (nodes.Whole (wholes.PremiumReserve set)) = codes "premium and reserve risk of "
 family (nodes.Whole (wholes.CatCharge key)) = codes "charge handed in for "
 family (nodes.Whole (wholes.Lapse set)) = codes "lapse risk, handed in, of "
@@ -94,10 +95,10 @@ detail (nodes.Whole (wholes.Picked alternatives measure)) = alternatives_words a
 detail (nodes.Whole (wholes.ClassSum class)) = class_words class
 detail (nodes.Whole (wholes.EquityPart kind)) = equities_words kind
 detail (nodes.Whole (wholes.NetPart risk)) = risk_words risk
-detail (nodes.Whole (wholes.ClassLoss digit)) = probability_words digit
-detail (nodes.Whole (wholes.ClassSquare digit)) = probability_words digit
+detail (nodes.Whole (wholes.ClassLoss class)) = probability_words class
+detail (nodes.Whole (wholes.ClassSquare class)) = probability_words class
 detail (nodes.Whole (wholes.BioScenario biometric projection measure)) = projection_words projection
-detail (nodes.Whole (wholes.Segment set number)) = segment_words set number
+detail (nodes.Whole (wholes.Segment segment)) = segment_words segment
 detail (nodes.Whole (wholes.PremiumReserve set)) = set_words set
 detail (nodes.Whole (wholes.CatCharge key)) = catastrophe_words key
 detail (nodes.Whole (wholes.Lapse set)) = set_words set
@@ -169,7 +170,7 @@ article (nodes.Whole wholes.Default) = codes "Article 189(1)"
 article (nodes.Whole (wholes.BioScenario biometric projection measure)) = stress_article biometric projection
 article (nodes.Whole (wholes.Life measure)) = codes "Article 136"
 article (nodes.Whole (wholes.Slt measure)) = codes "Article 151"
-article (nodes.Whole (wholes.Segment set number)) = segment_article set
+article (nodes.Whole (wholes.Segment segment)) = segment_article (set_of segment)
 article (nodes.Whole (wholes.PremiumReserve set)) = premium_article set
 article (nodes.Whole (wholes.CatCharge key)) = catastrophe_article key
 article (nodes.Whole (wholes.Lapse set)) = lapse_article set
@@ -230,7 +231,7 @@ step_of (nodes.Whole (wholes.BioScenario biometric projection measures.Gross)) =
 step_of (nodes.Whole (wholes.BioScenario biometric projection measures.Net)) = steps.Absorbed
 step_of (nodes.Whole (wholes.Life measure)) = steps.Root
 step_of (nodes.Whole (wholes.Slt measure)) = steps.Root
-step_of (nodes.Whole (wholes.Segment set number)) = steps.Records
+step_of (nodes.Whole (wholes.Segment segment)) = steps.Records
 step_of (nodes.Whole (wholes.PremiumReserve set)) = steps.ThreeRoots
 step_of (nodes.Whole (wholes.CatCharge key)) = steps.Records
 step_of (nodes.Whole (wholes.Lapse set)) = steps.Records

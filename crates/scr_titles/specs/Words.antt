@@ -1,5 +1,5 @@
 -- The words for what figures are told apart by (this project's own).
-use Rattle.std.specs.Prelude.{ℕ, ◌==◌, if◌then◌else◌, List, codes}
+use Rattle.std.specs.Prelude.{ℕ, List, codes}
 use Rattle.scr_nodes.specs.declared.node.Direction.{Direction}
 use Rattle.scr_nodes.specs.declared.node.Direction.TheVariants as directions
 use Rattle.scr_nodes.specs.declared.node.Measure.{Measure}
@@ -14,6 +14,10 @@ use Rattle.scr_nodes.specs.declared.node.Risk.{Risk}
 use Rattle.scr_nodes.specs.declared.node.Risk.TheVariants as risks
 use Rattle.scr_sheet.specs.declared.keys.Projection.{Projection}
 use Rattle.scr_sheet.specs.declared.keys.Projection.TheVariants as projections
+use Rattle.scr_profile.specs.declared.default_class.DefaultClass.{DefaultClass}
+use Rattle.scr_profile.specs.declared.default_class.DefaultClass.TheVariants as default_classes
+use Rattle.scr_profile.specs.declared.segment.Segment.{Segment}
+use Rattle.scr_profile.specs.declared.segment.Segment.TheVariants as segments
 use Rattle.scr_profile.specs.declared.set.Set.{Set}
 use Rattle.scr_profile.specs.declared.set.Set.TheVariants as sets
 use Rattle.scr_sheet.specs.declared.keys.CatKey.{CatKey}
@@ -106,40 +110,30 @@ abbrev pub adjustment_words : Adjustment → List ℕ
 adjustment_words adjustments.TechnicalProvisions = codes "technical provisions"
 adjustment_words adjustments.DeferredTaxes = codes "deferred taxes"
 
--- the classes of probabilities of default, by number from 0 (Article 199)
-abbrev pub probability_words : ℕ → List ℕ
-probability_words class =
-    if class == 0 then codes "first class of probabilities" else
-    if class == 1 then codes "second class of probabilities" else
-    if class == 2 then codes "third class of probabilities" else
-    if class == 3 then codes "fourth class of probabilities" else
-    if class == 4 then codes "fifth class of probabilities" else
-    codes "sixth class of probabilities"
+-- the classes of probabilities of default (Article 199)
+abbrev pub probability_words : DefaultClass → List ℕ
+probability_words default_classes.Step0 = codes "first class of probabilities"
+probability_words default_classes.Step1 = codes "second class of probabilities"
+probability_words default_classes.Step2 = codes "third class of probabilities"
+probability_words default_classes.Step3 = codes "fourth class of probabilities"
+probability_words default_classes.Step4 = codes "fifth class of probabilities"
+probability_words default_classes.Steps5And6 = codes "sixth class of probabilities"
 
--- a segment of non-life, by its number from 1 (Annex II)
-abbrev pub nonlife_segment : ℕ → List ℕ
-nonlife_segment number =
-    if number == 1 then codes "motor vehicle liability" else
-    if number == 2 then codes "other motor" else
-    if number == 3 then codes "marine, aviation and transport" else
-    if number == 4 then codes "fire and other damage to property" else
-    if number == 5 then codes "general liability" else
-    if number == 6 then codes "credit and suretyship" else
-    if number == 7 then codes "legal expenses" else
-    if number == 8 then codes "assistance" else
-    if number == 9 then codes "miscellaneous financial loss" else
-    if number == 10 then codes "non-proportional casualty reinsurance" else
-    if number == 11 then codes "non-proportional marine, aviation and transport reinsurance" else
-    codes "non-proportional property reinsurance"
-
--- a segment of health not similar to life, by its number from 1 (Annex XIV)
-abbrev pub health_segment : ℕ → List ℕ
-health_segment number =
-    if number == 1 then codes "medical expense" else
-    if number == 2 then codes "income protection" else
-    if number == 3 then codes "workers' compensation" else
-    codes "non-proportional health reinsurance"
-
-abbrev pub segment_words : Set → ℕ → List ℕ
-segment_words sets.Nl number = nonlife_segment number
-segment_words sets.Nslt number = health_segment number
+-- the segments of non-life (Annex II) and of health not similar to life (Annex XIV)
+abbrev pub segment_words : Segment → List ℕ
+segment_words segments.MotorLiability = codes "motor vehicle liability"
+segment_words segments.OtherMotor = codes "other motor"
+segment_words segments.Transport = codes "marine, aviation and transport"
+segment_words segments.Property = codes "fire and other damage to property"
+segment_words segments.GeneralLiability = codes "general liability"
+segment_words segments.Credit = codes "credit and suretyship"
+segment_words segments.LegalExpenses = codes "legal expenses"
+segment_words segments.Assistance = codes "assistance"
+segment_words segments.FinancialLoss = codes "miscellaneous financial loss"
+segment_words segments.CasualtyReinsurance = codes "non-proportional casualty reinsurance"
+segment_words segments.TransportReinsurance = codes "non-proportional marine, aviation and transport reinsurance"
+segment_words segments.PropertyReinsurance = codes "non-proportional property reinsurance"
+segment_words segments.MedicalExpense = codes "medical expense"
+segment_words segments.IncomeProtection = codes "income protection"
+segment_words segments.WorkersCompensation = codes "workers' compensation"
+segment_words segments.HealthReinsurance = codes "non-proportional health reinsurance"

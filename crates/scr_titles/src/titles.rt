@@ -63,7 +63,7 @@ pub fn family(node: &Node) -> &'static str
         Node::Whole(Whole::BioScenario(Biometric::Health, _, _)) => "health similar to life: ",
         Node::Whole(Whole::Life(_)) => "life underwriting risk",
         Node::Whole(Whole::Slt(_)) => "health underwriting risk similar to life",
-        Node::Whole(Whole::Segment(_, _)) => "premium and reserve risk of a segment, ",
+        Node::Whole(Whole::Segment(_)) => "premium and reserve risk of a segment, ",
         Node::Whole(Whole::PremiumReserve(_)) => "premium and reserve risk of ",
         Node::Whole(Whole::CatCharge(_)) => "charge handed in for ",
         Node::Whole(Whole::Lapse(_)) => "lapse risk, handed in, of ",
@@ -103,7 +103,7 @@ pub fn detail(node: &Node) -> &'static str
         Node::Whole(Whole::NetPart(risk)) => risk_words(*risk),
         Node::Whole(Whole::ClassLoss(class)) | Node::Whole(Whole::ClassSquare(class)) =>
             probability_words(*class),
-        Node::Whole(Whole::Segment(set, number)) => segment_words(*set, *number),
+        Node::Whole(Whole::Segment(segment)) => segment_words(*segment),
         Node::Whole(Whole::PremiumReserve(set)) | Node::Whole(Whole::Lapse(set)) => set_words(*set),
         Node::Whole(Whole::CatCharge(key)) => catastrophe_words(*key),
         Node::Whole(Whole::OpPart(part)) => operational_words(*part),
@@ -185,7 +185,7 @@ pub fn article(node: &Node) -> &'static str
         Node::Whole(Whole::Default) => "Article 189(1)",
         Node::Whole(Whole::Life(_)) => "Article 136",
         Node::Whole(Whole::Slt(_)) => "Article 151",
-        Node::Whole(Whole::Segment(set, _)) => segment_article(*set),
+        Node::Whole(Whole::Segment(segment)) => segment_article(segment.set()),
         Node::Whole(Whole::PremiumReserve(set)) => premium_article(*set),
         Node::Whole(Whole::CatCharge(key)) => catastrophe_article(*key),
         Node::Whole(Whole::Lapse(set)) => lapse_article(*set),
@@ -236,7 +236,7 @@ pub fn step_of(node: &Node) -> Step
         Node::Group(_, OfGroup::ConcentrationSquare) => Step::Excess,
         Node::Group(_, OfGroup::Loss)
         | Node::Whole(Whole::DefaultType2)
-        | Node::Whole(Whole::Segment(_, _))
+        | Node::Whole(Whole::Segment(_))
         | Node::Whole(Whole::CatCharge(_))
         | Node::Whole(Whole::Lapse(_))
         | Node::Whole(Whole::Intangible)

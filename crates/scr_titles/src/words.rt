@@ -3,7 +3,7 @@ ghost use Rattle.std.specs.Prelude.{◌≡◌};
 ghost use Rattle.scr_titles.specs.Words as words;
 
 use scr_nodes::{Adjustment, Alternatives, Direction, Equities, Measure, Operational, Risk};
-use scr_profile::Set;
+use scr_profile::{DefaultClass, Segment, Set};
 use scr_sheet::{CatKey, Class, Projection};
 
 /// A rise or a fall.
@@ -155,58 +155,41 @@ pub fn adjustment_words(adjustment: Adjustment) -> &'static str
     }
 }
 
-/// A class of probabilities of default, by its number from 0.
-pub fn probability_words(class: u8) -> &'static str
+/// A class of probabilities of default.
+pub fn probability_words(class: DefaultClass) -> &'static str
     ensures { result.now ≡ words.probability_words class }
 {
     match class {
-        0 => "first class of probabilities",
-        1 => "second class of probabilities",
-        2 => "third class of probabilities",
-        3 => "fourth class of probabilities",
-        4 => "fifth class of probabilities",
-        _ => "sixth class of probabilities",
+        DefaultClass::Step0 => "first class of probabilities",
+        DefaultClass::Step1 => "second class of probabilities",
+        DefaultClass::Step2 => "third class of probabilities",
+        DefaultClass::Step3 => "fourth class of probabilities",
+        DefaultClass::Step4 => "fifth class of probabilities",
+        DefaultClass::Steps5And6 => "sixth class of probabilities",
     }
 }
 
-/// A segment of non-life, by its number from 1 (Annex II).
-fn nonlife_segment(number: u8) -> &'static str
-    ensures { result.now ≡ words.nonlife_segment number }
+/// A segment of non-life or of health not similar to life (Annexes II and XIV).
+pub fn segment_words(segment: Segment) -> &'static str
+    ensures { result.now ≡ words.segment_words segment }
 {
-    match number {
-        1 => "motor vehicle liability",
-        2 => "other motor",
-        3 => "marine, aviation and transport",
-        4 => "fire and other damage to property",
-        5 => "general liability",
-        6 => "credit and suretyship",
-        7 => "legal expenses",
-        8 => "assistance",
-        9 => "miscellaneous financial loss",
-        10 => "non-proportional casualty reinsurance",
-        11 => "non-proportional marine, aviation and transport reinsurance",
-        _ => "non-proportional property reinsurance",
-    }
-}
-
-/// A segment of health not similar to life, by its number from 1 (Annex XIV).
-fn health_segment(number: u8) -> &'static str
-    ensures { result.now ≡ words.health_segment number }
-{
-    match number {
-        1 => "medical expense",
-        2 => "income protection",
-        3 => "workers' compensation",
-        _ => "non-proportional health reinsurance",
-    }
-}
-
-/// A segment of a set, by its number from 1.
-pub fn segment_words(set: Set, number: u8) -> &'static str
-    ensures { result.now ≡ words.segment_words set number }
-{
-    match set {
-        Set::Nl => nonlife_segment(number),
-        Set::Nslt => health_segment(number),
+    match segment {
+        Segment::MotorLiability => "motor vehicle liability",
+        Segment::OtherMotor => "other motor",
+        Segment::Transport => "marine, aviation and transport",
+        Segment::Property => "fire and other damage to property",
+        Segment::GeneralLiability => "general liability",
+        Segment::Credit => "credit and suretyship",
+        Segment::LegalExpenses => "legal expenses",
+        Segment::Assistance => "assistance",
+        Segment::FinancialLoss => "miscellaneous financial loss",
+        Segment::CasualtyReinsurance => "non-proportional casualty reinsurance",
+        Segment::TransportReinsurance =>
+            "non-proportional marine, aviation and transport reinsurance",
+        Segment::PropertyReinsurance => "non-proportional property reinsurance",
+        Segment::MedicalExpense => "medical expense",
+        Segment::IncomeProtection => "income protection",
+        Segment::WorkersCompensation => "workers' compensation",
+        Segment::HealthReinsurance => "non-proportional health reinsurance",
     }
 }

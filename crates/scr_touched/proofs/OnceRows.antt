@@ -5,12 +5,14 @@ use Rattle.std.proofs.lemmas.Bool.Decides.{Decides-eqb}
 use Rattle.scr_funds.proofs.Members.{IsMember, IsMember-cases, IsMember-right}
 use Rattle.scr_names.specs.Names.{same_name}
 use Rattle.scr_names.proofs.TableRows.{same_name-is, same_name-itself}
+use Rattle.scr_profile.specs.DefaultClasses.{class_of_step, first_step}
+use Rattle.scr_profile.proofs.Words.{class-told}
 use Rattle.scr_sheet.specs.BalanceSheet.{position_name}
 use Rattle.scr_sheet.specs.Validity.{Valid}
 use Rattle.scr_sheet.specs.declared.{sheet.BalanceSheet.BalanceSheet, rows.Class.Class, rows.Group.Group, rows.Liability.Liability, rows.Position.Position}
 use Rattle.scr_sheet.specs.declared.rows.Class.TheVariants as classes
 use Rattle.scr_sheet.proofs.Holds.{distinct-securities}
-use Rattle.scr_nodes.specs.Rows.{class_of_step, has_class, is_held_in, is_of_class, is_of_default_class, is_of_group, is_owed_in}
+use Rattle.scr_nodes.specs.Rows.{has_class, is_held_in, is_of_class, is_of_default_class, is_of_group, is_owed_in}
 use Rattle.scr_nodes.specs.Sources.{security_spread}
 use Rattle.scr_nodes.specs.declared.node.Node.{Node}
 use Rattle.scr_nodes.specs.declared.node.Direction.TheVariants.{Up, Down}
@@ -242,9 +244,9 @@ group-apart name (Some g) = apart-by kind (groups.group_nodes name (Some g)) ref
 
 group-known : (g : Group) (x : Node) → IsMember x (class_nodes (Some g)) → is_of_class_of (Some g) x ≡ true
 group-known g x (inl e) =
-    ap (is_of_class_of (Some g)) e ∙ (Decides-eqb (class_of_step g.step) (class_of_step g.step)).1 refl
+    ap (is_of_class_of (Some g)) e ∙ (Decides-eqb (first_step (class_of_step g.step)) (first_step (class_of_step g.step))).1 refl
 group-known g x (inr (inl e)) =
-    ap (is_of_class_of (Some g)) e ∙ (Decides-eqb (class_of_step g.step) (class_of_step g.step)).1 refl
+    ap (is_of_class_of (Some g)) e ∙ (Decides-eqb (first_step (class_of_step g.step)) (first_step (class_of_step g.step))).1 refl
 group-known g x (inr (inr m)) = absurd m
 
 group-there : (name : List ℕ) (old : Option Group) (x : Node) → is_of_class_of old x ≡ true
@@ -252,11 +254,11 @@ group-there : (name : List ℕ) (old : Option Group) (x : Node) → is_of_class_
 group-there name old (nodes.Whole (wholes.ClassLoss class)) e =
     IsMember-right (groups.own_nodes name) (class_nodes old) (nodes.Whole (wholes.ClassLoss class))
     (given-row (is_of_default_class class) class_nodes (nodes.Whole (wholes.ClassLoss class))
-    (λ row f. inl (ap (λ name. nodes.Whole (wholes.ClassLoss name)) (sym ((Decides-eqb (class_of_step row.step) class).0 f)))) old e)
+    (λ row f. inl (ap (λ name. nodes.Whole (wholes.ClassLoss name)) (sym (class-told (class_of_step row.step) class ((Decides-eqb (first_step (class_of_step row.step)) (first_step class)).0 f))))) old e)
 group-there name old (nodes.Whole (wholes.ClassSquare class)) e =
     IsMember-right (groups.own_nodes name) (class_nodes old) (nodes.Whole (wholes.ClassSquare class))
     (given-row (is_of_default_class class) class_nodes (nodes.Whole (wholes.ClassSquare class))
-    (λ row f. inr (inl (ap (λ name. nodes.Whole (wholes.ClassSquare name)) (sym ((Decides-eqb (class_of_step row.step) class).0 f))))) old e)
+    (λ row f. inr (inl (ap (λ name. nodes.Whole (wholes.ClassSquare name)) (sym (class-told (class_of_step row.step) class ((Decides-eqb (first_step (class_of_step row.step)) (first_step class)).0 f)))))) old e)
 group-there name old x e = absurd (cc)
 
 -- a figure of a bond is no other

@@ -1,7 +1,6 @@
 -- An exchanged group of counterparties touches just the figures that its test tells, and they are among its candidates.
 use Rattle.std.proofs.Common.{◌≡◌, ℕ, Bool, true, false, not, ◌&&◌, ◌||◌, ◌++◌, List, Option, Some, None, is_some, refl, sym, ap, subst, ◌∙◌, inl, inr, append_assoc}
 use Rattle.std.specs.Bool.{Decides, beq}
-use Rattle.std.specs.Prelude.{nat_lt}
 use Rattle.std.specs.Option.{option_map_or}
 use Rattle.std.proofs.lemmas.Bool.Decides.{Decides-and, Decides-eqb, Decides-like}
 use Rattle.scr_factors.specs.Values.{FactorValues}
@@ -11,6 +10,9 @@ use Rattle.scr_names.specs.Tables.{row_of}
 use Rattle.scr_names.proofs.TableRows.{same_name-is, same_name-flip, same_or_other}
 use Rattle.scr_profile.specs.declared.group_kind.GroupKind.{GroupKind}
 use Rattle.scr_profile.specs.declared.group_kind.GroupKind.TheVariants as group_kinds
+use Rattle.scr_profile.specs.DefaultClasses.{class_of_step, first_step}
+use Rattle.scr_profile.specs.declared.default_class.DefaultClass.{DefaultClass}
+use Rattle.scr_profile.proofs.Words.{class-told}
 use Rattle.scr_sheet.specs.BalanceSheet.{group_name, position_name, position_of}
 use Rattle.scr_sheet.specs.Validity.{Valid}
 use Rattle.scr_sheet.specs.declared.rows.Group.{Group}
@@ -20,7 +22,7 @@ use Rattle.scr_nodes.proofs.OwnRows.{distinct-groups}
 use Rattle.scr_nodes.specs.Live.{is_bond}
 use Rattle.scr_nodes.specs.Own.Own.{Square, Stressed}
 use Rattle.scr_nodes.specs.OwnOf.{bond_stressed, group_square}
-use Rattle.scr_nodes.specs.Rows.{class_of_step, is_of_default_class, is_of_group, step_of_group}
+use Rattle.scr_nodes.specs.Rows.{is_of_default_class, is_of_group, step_of_group}
 use Rattle.scr_nodes.specs.Sources.{concentration_square, group_loss, security_spread, sources_of}
 use Rattle.scr_nodes.specs.declared.node.Node.{Node}
 use Rattle.scr_nodes.specs.declared.node.Node.TheVariants as nodes
@@ -131,7 +133,7 @@ module _ (factors : FactorValues) (sheet : BalanceSheet) (name : List ℕ) (new 
 
   -- ---- all figures
 
-  of-class : (class : ℕ) → Decides (is_kept (is_of_default_class class) old new)
+  of-class : (class : DefaultClass) → Decides (is_kept (is_of_default_class class) old new)
       (sources_of sheet (nodes.Whole (wholes.ClassLoss class)) ≡ sources_of later (nodes.Whole (wholes.ClassLoss class)))
   of-class class =
       listed group_name name new sheet.groups named (is_of_default_class class) group_loss
@@ -161,10 +163,10 @@ module _ (factors : FactorValues) (sheet : BalanceSheet) (name : List ℕ) (new 
       (told-by factors sheet later (nodes.Group x of_groups.Loss) (is_some (found x)) (is_some (found_after x)) true true refl refl
       (always refl) (always refl))
   told (nodes.Whole (wholes.ClassLoss class)) =
-      told-by factors sheet later (nodes.Whole (wholes.ClassLoss class)) (nat_lt class 6) (nat_lt class 6) true
+      told-by factors sheet later (nodes.Whole (wholes.ClassLoss class)) true true true
       (is_kept (is_of_default_class class) old new) refl refl (always refl) (of-class class)
   told (nodes.Whole (wholes.ClassSquare class)) =
-      told-by factors sheet later (nodes.Whole (wholes.ClassSquare class)) (nat_lt class 6) (nat_lt class 6) true
+      told-by factors sheet later (nodes.Whole (wholes.ClassSquare class)) true true true
       (is_kept (is_of_default_class class) old new) refl refl (always refl) (of-class class)
   told (nodes.Whole (wholes.ClassSum class)) =
       unread factors sheet later (nodes.Whole (wholes.ClassSum class)) (same-class factors sheet later class refl refl)
@@ -186,15 +188,15 @@ module _ (factors : FactorValues) (sheet : BalanceSheet) (name : List ℕ) (new 
   abbrev whole : List Node
   whole = own_nodes name ++ ((class_nodes old ++ class_nodes new) ++ spread_nodes sheet name)
 
-  in-class : (node : Node) (class : ℕ)
-      → is_touched (nat_lt class 6) (nat_lt class 6) true (is_kept (is_of_default_class class) old new) ≡ true
+  in-class : (node : Node) (class : DefaultClass)
+      → is_touched true true true (is_kept (is_of_default_class class) old new) ≡ true
       → ((group : Group) → is_of_default_class class group ≡ true → IsMember node (class_nodes (Some group)))
       → IsMember node whole
   in-class node class e each =
       IsMember-right (own_nodes name) others node
       (IsMember-left (class_nodes old ++ class_nodes new) (spread_nodes sheet name) node
       (in-either (is_of_default_class class) class_nodes node each old new
-      (moved (nat_lt class 6) true (is_kept (is_of_default_class class) old new) e)))
+      (moved true true (is_kept (is_of_default_class class) old new) e)))
 
   whole-covers : (node : Node) → group_touches sheet name old new node ≡ true
       → IsMember node whole
@@ -211,10 +213,10 @@ module _ (factors : FactorValues) (sheet : BalanceSheet) (name : List ℕ) (new 
   whole-covers (nodes.Whole wholes.Concentration) e = inr (inr (inr (inl refl)))
   whole-covers (nodes.Whole (wholes.ClassLoss class)) e =
       in-class (nodes.Whole (wholes.ClassLoss class)) class e
-      (λ group f. inl (ap (λ name. nodes.Whole (wholes.ClassLoss name)) (sym ((Decides-eqb (class_of_step group.step) class).0 f))))
+      (λ group f. inl (ap (λ name. nodes.Whole (wholes.ClassLoss name)) (sym (class-told (class_of_step group.step) class ((Decides-eqb (first_step (class_of_step group.step)) (first_step class)).0 f)))))
   whole-covers (nodes.Whole (wholes.ClassSquare class)) e =
       in-class (nodes.Whole (wholes.ClassSquare class)) class e
-      (λ group f. inr (inl (ap (λ name. nodes.Whole (wholes.ClassSquare name)) (sym ((Decides-eqb (class_of_step group.step) class).0 f)))))
+      (λ group f. inr (inl (ap (λ name. nodes.Whole (wholes.ClassSquare name)) (sym (class-told (class_of_step group.step) class ((Decides-eqb (first_step (class_of_step group.step)) (first_step class)).0 f))))))
   whole-covers node e = absurd (cc)
 
   pub covers : (node : Node) → group_touches sheet name old new node ≡ true

@@ -10,6 +10,7 @@ use Rattle.scr_funds.proofs.Members.{IsMember, IsMember-left, IsMember-right}
 use Rattle.scr_names.specs.Names.{same_name}
 use Rattle.scr_names.specs.Tables.{row_of}
 use Rattle.scr_names.proofs.TableRows.{same_name-is, same_name-itself}
+use Rattle.scr_profile.specs.declared.segment.Segment.TheVariants as segments
 use Rattle.scr_sheet.specs.BalanceSheet.{curve_name, position_of}
 use Rattle.scr_sheet.specs.Validity.{Valid}
 use Rattle.scr_sheet.specs.declared.keys.Projection.{Projection}
@@ -18,7 +19,6 @@ use Rattle.scr_sheet.specs.declared.rows.Curve.{Curve}
 use Rattle.scr_sheet.specs.declared.rows.Liability.{Liability}
 use Rattle.scr_sheet.specs.declared.rows.Position.{Position}
 use Rattle.scr_sheet.specs.declared.sheet.BalanceSheet.{BalanceSheet}
-use Rattle.scr_profile.specs.declared.set.Set.TheVariants as sets
 use Rattle.scr_nodes.proofs.Apart.{chosen-member, member-chosen}
 use Rattle.scr_nodes.proofs.Told.{told-picked}
 use Rattle.scr_nodes.specs.Own.{Paid, Valued}
@@ -187,8 +187,8 @@ module _ (factors : FactorValues) (sheet : BalanceSheet) (date : Day) (currency 
   told (nodes.Whole (wholes.BioScenario biometric projection measures.Gross)) =
       unread factors sheet later (nodes.Whole (wholes.BioScenario biometric projection measures.Gross))
       (record { live = refl; own = refl; sources = refl })
-  told (nodes.Whole (wholes.Segment sets.Nl number)) =
-      unread factors sheet later (nodes.Whole (wholes.Segment sets.Nl number)) (record { live = refl; own = refl; sources = refl })
+  told (nodes.Whole (wholes.Segment segments.MotorLiability)) =
+      unread factors sheet later (nodes.Whole (wholes.Segment segments.MotorLiability)) (record { live = refl; own = refl; sources = refl })
   told (nodes.Whole (wholes.OpPart operations.Premiums)) =
       unread factors sheet later (nodes.Whole (wholes.OpPart operations.Premiums))
       (record { live = refl; own = refl; sources = refl })

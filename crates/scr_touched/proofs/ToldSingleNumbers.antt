@@ -1,24 +1,27 @@
 -- Other single numbers touch just the figures that the test tells, and they are among the candidates.
-use Rattle.std.proofs.Common.{◌≡◌, ◌≢◌, ◌⊎◌, inl, inr, ℕ, suc, zero, ◌<◌, ◌≤◌, ◌&&◌, ◌==◌, true, false, nat_le, int_eq, List, Some, slice_get, refl, sym, ap, subst, ◌∙◌, arith, leb→le}
-use Rattle.std.specs.Bool.{Decides, passes}
-use Rattle.std.proofs.lemmas.Bool.Decides.{Decides-and, Decides-eqb, Decides-int_eq, Decides-like, eqb_tells}
+use Rattle.std.proofs.Common.{◌≡◌, ℕ, ◌-◌, ◌&&◌, ◌==◌, true, int_eq, List, [], Some, slice_get, refl, sym, ap, ◌∙◌}
+use Rattle.std.specs.Prelude.{slice_index_or}
+use Rattle.std.specs.Bool.{Decides}
+use Rattle.std.proofs.lemmas.Bool.Decides.{Decides-and, Decides-eqb, Decides-int_eq, Decides-like}
 use Rattle.std.proofs.lemmas.Slice.Eq.{slice_eq-Decides}
 use Rattle.scr_factors.specs.Values.{FactorValues}
 use Rattle.scr_funds.proofs.Members.{IsMember}
 use Rattle.scr_profile.specs.declared.operational.OpInput.{OpInput}
+use Rattle.scr_profile.specs.Segments.{number_of, set_of}
+use Rattle.scr_profile.specs.declared.segment.Segment.TheVariants as segments
 use Rattle.scr_profile.specs.declared.set.Set.{Set}
 use Rattle.scr_profile.specs.declared.set.Set.TheVariants as sets
 use Rattle.scr_sheet.specs.Absorptions.{absorbed}
+use Rattle.scr_sheet.specs.BalanceSheet.{volumes_of}
 use Rattle.scr_sheet.specs.declared.keys.CatKey.TheVariants as cats
 use Rattle.scr_sheet.specs.declared.keys.Projection.TheVariants as projections
 use Rattle.scr_sheet.specs.declared.numbers.Numbers.{Numbers}
 use Rattle.scr_sheet.specs.declared.rows.Class.TheVariants as classes
 use Rattle.scr_sheet.specs.declared.sheet.BalanceSheet.{BalanceSheet}
-use Rattle.scr_nodes.specs.Live.{is_segment}
 use Rattle.scr_nodes.specs.Own.{Own}
 use Rattle.scr_nodes.specs.Own.ChargedRoot.{NsltRoot, NonlifeRoot}
 use Rattle.scr_nodes.specs.Own.Own.{Absorbing, Bscr, Charged, CorrelatedWith, Diversified, Due, Fall, Net as NetOwn, OperationalCharge, Premiums, Provisions, Segment, Taxed}
-use Rattle.scr_nodes.specs.OwnOf.{catastrophe_cents, interest_key, lapse_cents, no_operations, premiums_of, provisions_of, risk_key, volumes_in_regions}
+use Rattle.scr_nodes.specs.OwnOf.{catastrophe_cents, interest_key, lapse_cents, no_operations, premiums_of, provisions_of, risk_key}
 use Rattle.scr_nodes.specs.Rows.{has_stress}
 use Rattle.scr_nodes.specs.declared.node.Adjustment.TheVariants as adjustments
 use Rattle.scr_nodes.specs.declared.node.Biometric.TheVariants as biometrics
@@ -35,7 +38,7 @@ use Rattle.scr_nodes.proofs.Apart.{member-at}
 use Rattle.scr_changes.specs.Changes.{after}
 use Rattle.scr_touched.specs.SingleNumbers.{earned_at, number_nodes, numbers_touch, provision_at, same_earned, same_operations, same_provision, same_volume, same_volumes, stress_cents}
 use Rattle.scr_changes.specs.declared.change.Change.TheVariants as changes
-use Rattle.scr_changes.proofs.Compared.{always, first_of_both, second_of_both}
+use Rattle.scr_changes.proofs.Compared.{always}
 use Rattle.scr_touched.proofs.Decided.{Tells, told-always, told-moved, unread}
 
 -- ---- own data that is the same where its numbers are
@@ -181,91 +184,10 @@ module _ (old new : Numbers) where
       (ap (λ (p : OpInput). p.tpl) same, (ap (λ (p : OpInput). p.tpul) same, ap (λ (p : OpInput). p.tpn) same)))
       (Decides-and _ _ (provision-told 0) (Decides-and _ _ (provision-told 1) (provision-told 2)))
 
--- ---- segments by their numbers
-
-abbrev AllFirst : (ℕ → Type 0) → ℕ → Type 0
-AllFirst P zero = Unit {0}
-AllFirst P (suc k) = P k × AllFirst P k
-
-of-first : (P : ℕ → Type 0) (count n : ℕ) → n < count → AllFirst P count → P n
-of-first P zero n l all = absurd (omega (arith, l))
-of-first P (suc k) n l all = by (eqb_tells n k) (of-first P k n)
-  where
-    by : ((n == k) ≡ true) × (n ≡ k) ⊎ ((n == k) ≡ false) × (n ≢ k) → (n < k → AllFirst P k → P n) → P n
-    by (inl e) rest = subst P (sym e.1) all.0
-    by (inr e) rest = rest (omega (arith, l, e.1)) all.1
+-- ---- each stands among the candidates
 
 in-place : (place : ℕ) (node : Node) → slice_get number_nodes place ≡ Some node → IsMember node number_nodes
 in-place place node at = member-at number_nodes place node at
-
-nl-listed : (number : ℕ) → number < 13 → 1 ≤ number → IsMember (nodes.Whole (wholes.Segment sets.Nl number)) number_nodes
-nl-listed number l =
-    of-first (λ n. 1 ≤ n → IsMember (nodes.Whole (wholes.Segment sets.Nl n)) number_nodes) 13 number l (
-      (λ l. in-place 50 (nodes.Whole (wholes.Segment sets.Nl 12)) refl),
-      (
-        (λ l. in-place 49 (nodes.Whole (wholes.Segment sets.Nl 11)) refl),
-        (
-          (λ l. in-place 48 (nodes.Whole (wholes.Segment sets.Nl 10)) refl),
-          (
-            (λ l. in-place 47 (nodes.Whole (wholes.Segment sets.Nl 9)) refl),
-            (
-              (λ l. in-place 46 (nodes.Whole (wholes.Segment sets.Nl 8)) refl),
-              (
-                (λ l. in-place 45 (nodes.Whole (wholes.Segment sets.Nl 7)) refl),
-                (
-                  (λ l. in-place 44 (nodes.Whole (wholes.Segment sets.Nl 6)) refl),
-                  (
-                    (λ l. in-place 43 (nodes.Whole (wholes.Segment sets.Nl 5)) refl),
-                    (
-                      (λ l. in-place 42 (nodes.Whole (wholes.Segment sets.Nl 4)) refl),
-                      (
-                        (λ l. in-place 41 (nodes.Whole (wholes.Segment sets.Nl 3)) refl),
-                        (
-                          (λ l. in-place 40 (nodes.Whole (wholes.Segment sets.Nl 2)) refl),
-                          (
-                            (λ l. in-place 39 (nodes.Whole (wholes.Segment sets.Nl 1)) refl),
-                            ((λ l. absurd (omega (arith, l))), tt),
-                          ),
-                        ),
-                      ),
-                    ),
-                  ),
-                ),
-              ),
-            ),
-          ),
-        ),
-      ),
-    )
-
-nslt-listed : (number : ℕ) → number < 5 → 1 ≤ number → IsMember (nodes.Whole (wholes.Segment sets.Nslt number)) number_nodes
-nslt-listed number l =
-    of-first (λ n. 1 ≤ n → IsMember (nodes.Whole (wholes.Segment sets.Nslt n)) number_nodes) 5 number l (
-      (λ l. in-place 54 (nodes.Whole (wholes.Segment sets.Nslt 4)) refl),
-      (
-        (λ l. in-place 53 (nodes.Whole (wholes.Segment sets.Nslt 3)) refl),
-        (
-          (λ l. in-place 52 (nodes.Whole (wholes.Segment sets.Nslt 2)) refl),
-          (
-            (λ l. in-place 51 (nodes.Whole (wholes.Segment sets.Nslt 1)) refl),
-            ((λ l. absurd (omega (arith, l))), tt),
-          ),
-        ),
-      ),
-    )
-
-segment-listed : (set : Set) (number : ℕ) → is_segment set number ≡ true
-    → IsMember (nodes.Whole (wholes.Segment set number)) number_nodes
-segment-listed sets.Nl number e =
-    let least : 1 ≤ number = leb→le 1 number (passes (nat_le 1 number) (first_of_both (nat_le 1 number) _ e)) in
-    let most : number ≤ 12 = leb→le number 12
-    (passes (nat_le number 12) (second_of_both (nat_le 1 number) (nat_le number 12) e)) in
-    nl-listed number (omega (arith, most)) least
-segment-listed sets.Nslt number e =
-    let least : 1 ≤ number = leb→le 1 number (passes (nat_le 1 number) (first_of_both (nat_le 1 number) _ e)) in
-    let most : number ≤ 4 = leb→le number 4
-    (passes (nat_le number 4) (second_of_both (nat_le 1 number) (nat_le number 4) e)) in
-    nslt-listed number (omega (arith, most)) least
 
 module _ (factors : FactorValues) (sheet : BalanceSheet) (new : Numbers) where
   abbrev later : BalanceSheet
@@ -273,6 +195,14 @@ module _ (factors : FactorValues) (sheet : BalanceSheet) (new : Numbers) where
 
   abbrev old : Numbers
   old = sheet.numbers
+
+  -- all volumes of a set are those of the new numbers
+  in-set : (set : Set) (place premium reserve : ℕ)
+      → Decides (same_volumes (slice_index_or (volumes_of set old) place []) (slice_index_or (volumes_of set new) place []))
+      (Segment (slice_index_or (volumes_of set old) place []) premium reserve
+      ≡ Segment (slice_index_or (volumes_of set later.numbers) place []) premium reserve)
+  in-set sets.Nl place premium reserve = segment-same premium reserve _ _
+  in-set sets.Nslt place premium reserve = segment-same premium reserve _ _
 
   pub told : (node : Node) → Tells factors sheet later node (numbers_touch sheet.numbers new node)
   told (nodes.Whole (wholes.InterestScenario direction Net)) =
@@ -290,12 +220,9 @@ module _ (factors : FactorValues) (sheet : BalanceSheet) (new : Numbers) where
   told (nodes.Whole (wholes.BioScenario biometric projection Net)) =
       told-moved factors sheet later (nodes.Whole (wholes.BioScenario biometric projection Net)) (has_stress biometric projection) _
       refl refl (net-same (stress_cents biometric projection old) (stress_cents biometric projection new)) refl
-  told (nodes.Whole (wholes.Segment sets.Nl number)) =
-      told-moved factors sheet later (nodes.Whole (wholes.Segment sets.Nl number)) (is_segment sets.Nl number) _ refl refl
-      (segment-same _ _ (volumes_in_regions sets.Nl number old) (volumes_in_regions sets.Nl number new)) refl
-  told (nodes.Whole (wholes.Segment sets.Nslt number)) =
-      told-moved factors sheet later (nodes.Whole (wholes.Segment sets.Nslt number)) (is_segment sets.Nslt number) _ refl refl
-      (segment-same _ _ (volumes_in_regions sets.Nslt number old) (volumes_in_regions sets.Nslt number new)) refl
+  told (nodes.Whole (wholes.Segment segment)) =
+      told-always factors sheet later (nodes.Whole (wholes.Segment segment)) _ refl refl
+      (in-set (set_of segment) (number_of segment - 1) _ _) refl
   told (nodes.Whole (wholes.CatCharge key)) =
       told-always factors sheet later (nodes.Whole (wholes.CatCharge key)) _ refl refl
       (charged-same 1000 (catastrophe_cents key old) (catastrophe_cents key new)) refl
@@ -342,7 +269,22 @@ module _ (factors : FactorValues) (sheet : BalanceSheet) (new : Numbers) where
   told node = unread factors sheet later node (record { live = refl; own = refl; sources = refl })
 
   pub covers : (node : Node) → numbers_touch sheet.numbers new node ≡ true → IsMember node number_nodes
-  covers (nodes.Whole (wholes.Segment set number)) e = segment-listed set number (first_of_both (is_segment set number) _ e)
+  covers (nodes.Whole (wholes.Segment segments.MotorLiability)) e = in-place 39 _ refl
+  covers (nodes.Whole (wholes.Segment segments.OtherMotor)) e = in-place 40 _ refl
+  covers (nodes.Whole (wholes.Segment segments.Transport)) e = in-place 41 _ refl
+  covers (nodes.Whole (wholes.Segment segments.Property)) e = in-place 42 _ refl
+  covers (nodes.Whole (wholes.Segment segments.GeneralLiability)) e = in-place 43 _ refl
+  covers (nodes.Whole (wholes.Segment segments.Credit)) e = in-place 44 _ refl
+  covers (nodes.Whole (wholes.Segment segments.LegalExpenses)) e = in-place 45 _ refl
+  covers (nodes.Whole (wholes.Segment segments.Assistance)) e = in-place 46 _ refl
+  covers (nodes.Whole (wholes.Segment segments.FinancialLoss)) e = in-place 47 _ refl
+  covers (nodes.Whole (wholes.Segment segments.CasualtyReinsurance)) e = in-place 48 _ refl
+  covers (nodes.Whole (wholes.Segment segments.TransportReinsurance)) e = in-place 49 _ refl
+  covers (nodes.Whole (wholes.Segment segments.PropertyReinsurance)) e = in-place 50 _ refl
+  covers (nodes.Whole (wholes.Segment segments.MedicalExpense)) e = in-place 51 _ refl
+  covers (nodes.Whole (wholes.Segment segments.IncomeProtection)) e = in-place 52 _ refl
+  covers (nodes.Whole (wholes.Segment segments.WorkersCompensation)) e = in-place 53 _ refl
+  covers (nodes.Whole (wholes.Segment segments.HealthReinsurance)) e = in-place 54 _ refl
   covers (nodes.Whole (wholes.InterestScenario Up Net)) e = in-place 1 _ refl
   covers (nodes.Whole (wholes.InterestScenario Down Net)) e = in-place 3 _ refl
   covers (nodes.Whole (wholes.EquityPart equities.Type1)) e = in-place 4 _ refl

@@ -1,14 +1,16 @@
 -- Which figures an exchanged group of counterparties touches (this project's own).
-use Rattle.std.specs.Prelude.{ℕ, ◌&&◌, ◌||◌, ◌++◌, Bool, true, false, not, List, [], ◌∷◌, Option, Some, None, nat_lt, is_some, filter, map}
+use Rattle.std.specs.Prelude.{ℕ, ◌&&◌, ◌||◌, ◌++◌, Bool, true, false, not, List, [], ◌∷◌, Option, Some, None, is_some, filter, map}
 use Rattle.std.specs.Bool.{beq}
 use Rattle.std.specs.Option.{option_map_or}
 use Rattle.scr_names.specs.Names.{same_name}
+use Rattle.scr_profile.specs.DefaultClasses.{class_of_step}
+use Rattle.scr_profile.specs.declared.default_class.DefaultClass.{DefaultClass}
 use Rattle.scr_profile.specs.declared.group_kind.GroupKind.TheVariants as group_kinds
 use Rattle.scr_sheet.specs.BalanceSheet.{position_of}
 use Rattle.scr_sheet.specs.declared.rows.Group.{Group}
 use Rattle.scr_sheet.specs.declared.sheet.BalanceSheet.{BalanceSheet}
 use Rattle.scr_nodes.specs.Live.{is_bond}
-use Rattle.scr_nodes.specs.Rows.{is_of_group, is_of_default_class, class_of_step}
+use Rattle.scr_nodes.specs.Rows.{is_of_group, is_of_default_class}
 use Rattle.scr_nodes.specs.Sources.{security_spread}
 use Rattle.scr_nodes.specs.declared.node.Node.{Node}
 use Rattle.scr_nodes.specs.declared.node.Node.TheVariants as nodes
@@ -35,9 +37,8 @@ abbrev pub square_touched : Option Group → Option Group → Bool
 square_touched old new =
     is_touched (is_some old) (is_some new) (is_same_kind (kind_of old) (kind_of new) && same_step old new) true
 
-abbrev pub class_touched : Option Group → Option Group → ℕ → Bool
-class_touched old new class =
-    let has = nat_lt class 6 in is_touched has has true (is_kept (is_of_default_class class) old new)
+abbrev pub class_touched : Option Group → Option Group → DefaultClass → Bool
+class_touched old new class = is_touched true true true (is_kept (is_of_default_class class) old new)
 
 -- the step of a bond is that of its group
 abbrev pub step_touched : BalanceSheet → List ℕ → Option Group → Option Group → List ℕ → Bool

@@ -9,7 +9,6 @@ use Rattle.scr_sheet.specs.declared.keys.CatKey.TheVariants as cats
 use Rattle.scr_sheet.specs.declared.keys.Projection.{Projection}
 use Rattle.scr_sheet.specs.declared.keys.Projection.TheVariants as projections
 use Rattle.scr_sheet.specs.declared.numbers.Numbers.{Numbers}
-use Rattle.scr_nodes.specs.Live.{is_segment}
 use Rattle.scr_nodes.specs.OwnOf.{catastrophe_cents, interest_key, lapse_cents, risk_key, stress_key, volumes_in_regions}
 use Rattle.scr_nodes.specs.Rows.{has_stress}
 use Rattle.scr_nodes.specs.Sources.{equity_parts, health_perils, interest_scenarios, lapse_scenarios, man_made_perils, natural_perils, segments_of}
@@ -70,9 +69,8 @@ numbers_touch old new (nodes.Whole wholes.DefaultType2) = not (same_due 0 old ne
 numbers_touch old new (nodes.Whole (wholes.BioScenario biometric projection Net)) =
     has_stress biometric projection
     && not (stress_cents biometric projection old == stress_cents biometric projection new)
-numbers_touch old new (nodes.Whole (wholes.Segment set number)) =
-    is_segment set number
-    && not (same_volumes (volumes_in_regions set number old) (volumes_in_regions set number new))
+numbers_touch old new (nodes.Whole (wholes.Segment segment)) =
+    not (same_volumes (volumes_in_regions segment old) (volumes_in_regions segment new))
 numbers_touch old new (nodes.Whole (wholes.CatCharge key)) = not (catastrophe_cents key old == catastrophe_cents key new)
 numbers_touch old new (nodes.Whole (wholes.Lapse set)) = not (lapse_cents set old == lapse_cents set new)
 numbers_touch old new (nodes.Whole (wholes.Nslt measure)) = not (lapse_cents sets.Nslt old == lapse_cents sets.Nslt new)

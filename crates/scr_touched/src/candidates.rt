@@ -32,7 +32,7 @@ use std::mem::drop;
 /// securities and liabilities.
 pub fn touched(alloc: Global, book: &Book, edit: &Edit) -> Result<Vec<Node>, NoMemory>
     requires formed { Formed edit.now }
-    ensures touched { IfOk result (λ list. AreTouched book.now edit.now list.items) }
+    ensures touched { IfOk result (λ list. AreTouched book.now.sheet edit.now list.items) }
     ensures once { IfOk result (λ list. HasNoRepeats list.items) }
 {
     let faulty = is_faulty(alloc, edit)?;

@@ -2,7 +2,7 @@
 ghost use Rattle.std.specs.Prelude.{◌≡◌, ◌++◌, IfOk, OnOk};
 ghost use Rattle.std.specs.Option.{option_copied};
 ghost use Rattle.scr_nodes.specs.Live.{is_bond};
-ghost use Rattle.scr_nodes.specs.Rows.{class_of_step, is_of_default_class, is_of_group};
+ghost use Rattle.scr_nodes.specs.Rows.{is_of_default_class, is_of_group};
 ghost use Rattle.scr_changes.specs.Comparisons.{passes};
 ghost use Rattle.scr_changes.specs.Readings.{same_step, kind_of};
 ghost use Rattle.scr_touched.specs.Groups.{group_touches, group_nodes, later_group_nodes, is_of_class_of, is_moved, square_touched, class_touched, step_touched, counts_in, class_nodes, spread_nodes};
@@ -10,8 +10,9 @@ ghost use Rattle.scr_touched.specs.Groups.{group_touches, group_nodes, later_gro
 use crate::comparisons::is_touched;
 use scr_changes::readings::{kind_of, same_step};
 use scr_nodes::live::is_bond;
-use scr_nodes::rows::{class_of_step, is_of_default_class, is_of_group};
+use scr_nodes::rows::{is_of_default_class, is_of_group};
 use scr_nodes::{Node, OfGroup, OfSecurity, Whole};
+use scr_profile::DefaultClass;
 use scr_sheet::{BalanceSheet, Group, Name};
 use std::alloc::{AllocError as NoMemory, Global};
 
@@ -55,12 +56,10 @@ fn square_touched(old: Option<&Group>, new: Option<&Group>) -> bool
 }
 
 /// It begins or ends to be of the class.
-fn class_touched(old: Option<&Group>, new: Option<&Group>, class: u8) -> bool
+fn class_touched(old: Option<&Group>, new: Option<&Group>, class: DefaultClass) -> bool
     ensures { result ≡ class_touched (option_copied old.entry) (option_copied new.entry) class }
 {
-    let has = class < 6;
-    let kept = is_of_class(class, old) == is_of_class(class, new);
-    is_touched(has, has, true, kept)
+    is_of_class(class, old) != is_of_class(class, new)
 }
 
 /// The security is a bond of the group, whose credit quality step changes.
@@ -89,7 +88,7 @@ fn counts_in(sheet: &BalanceSheet, group: &Name, security: &Name) -> bool
     }
 }
 
-fn is_of_class(class: u8, group: Option<&Group>) -> bool
+fn is_of_class(class: DefaultClass, group: Option<&Group>) -> bool
     ensures { result ≡ passes (is_of_default_class class) (option_copied group.entry) }
 {
     match group {
@@ -151,7 +150,7 @@ fn push_class(list: &mut Vec<Node>, group: Option<&Group>) -> Result<(), NoMemor
     let Some(group) = group else {
         return Ok(());
     };
-    let class = class_of_step(group.step);
+    let class = DefaultClass::of_step(group.step);
     list.extend_from_slice(&[
         Node::Whole(Whole::ClassLoss(class)),
         Node::Whole(Whole::ClassSquare(class)),

@@ -1,6 +1,5 @@
 //! Which figures other single numbers touch, the reference date and the reporting currency aside.
-ghost use Rattle.std.specs.Prelude.{◌≡◌, ◌++◌, ◌&&◌, true, IfOk, OnOk};
-ghost use Rattle.scr_nodes.specs.Live.{is_segment};
+ghost use Rattle.std.specs.Prelude.{◌≡◌, ◌++◌, ◌&&◌, IfOk, OnOk};
 ghost use Rattle.scr_nodes.specs.OwnOf.{volumes_in_regions};
 ghost use Rattle.scr_nodes.specs.Rows.{has_stress};
 ghost use Rattle.scr_nodes.specs.declared.node.Measure.TheVariants.{Net};
@@ -8,16 +7,16 @@ ghost use Rattle.scr_nodes.specs.declared.node.Node.TheVariants as nodes;
 ghost use Rattle.scr_nodes.specs.declared.node.Whole.TheVariants as wholes;
 ghost use Rattle.scr_touched.specs.SingleNumbers.{same_volumes, stress_cents, same_operations, numbers_touch, scenario_nodes, nonlife_nodes, number_nodes, risk_nodes, stress_nodes, charge_nodes, requirement_nodes};
 
-use scr_nodes::live::{has_stress, is_segment};
+use scr_nodes::live::has_stress;
 use scr_nodes::single_numbers::{
-    catastrophe_cents, interest_key, lapse_cents, risk_key, stress_key,
+    catastrophe_cents, interest_key, lapse_cents, risk_key, stress_key, volumes_in_regions,
 };
 use scr_nodes::words::{
     equity_parts, health_perils, interest_scenarios, lapse_scenarios, man_made_perils,
     natural_perils, nonlife_segments, nslt_segments,
 };
 use scr_nodes::{Adjustment, Biometric, Measure, Node, Operational, Risk, Whole};
-use scr_profile::Set;
+use scr_profile::{Segment, Set};
 use scr_sheet::{CatKey, Numbers, Projection};
 use std::alloc::{AllocError as NoMemory, Global};
 
@@ -39,7 +38,7 @@ pub(crate) fn numbers_touch(old: &Numbers, new: &Numbers, node: &Node) -> bool
         Node::Whole(Whole::BioScenario(biometric, projection, Measure::Net)) => {
             is_stress_touched(old, new, *biometric, *projection)
         }
-        Node::Whole(Whole::Segment(set, number)) => is_segment_touched(old, new, *set, *number),
+        Node::Whole(Whole::Segment(segment)) => !are_volumes_same(old, new, *segment),
         Node::Whole(Whole::CatCharge(key)) => catastrophe_cents(old, *key)
             != catastrophe_cents(new, *key),
         Node::Whole(Whole::Lapse(set)) => lapse_cents(old, *set) != lapse_cents(new, *set),
@@ -78,22 +77,10 @@ fn stress_cents(numbers: &Numbers, biometric: Biometric, projection: Projection)
     }
 }
 
-fn is_segment_touched(old: &Numbers, new: &Numbers, set: Set, number: u8) -> bool
-    ensures { result ≡ numbers_touch old.now new.now (nodes.Whole (wholes.Segment set number)) }
+fn are_volumes_same(old: &Numbers, new: &Numbers, segment: Segment) -> bool
+    ensures { result ≡ same_volumes (volumes_in_regions segment old.now) (volumes_in_regions segment new.now) }
 {
-    is_segment(set, number) && !are_volumes_same(old, new, set, number)
-}
-
-fn are_volumes_same(old: &Numbers, new: &Numbers, set: Set, number: u8) -> bool
-    requires { is_segment set number ≡ true }
-    ensures { result ≡ same_volumes (volumes_in_regions set number old.now)
-        (volumes_in_regions set number new.now) }
-{
-    let place = usize::from(number) - 1;
-    match set {
-        Set::Nl => old.nl[place] == new.nl[place],
-        Set::Nslt => old.nslt[place] == new.nslt[place],
-    }
+    volumes_in_regions(old, segment) == volumes_in_regions(new, segment)
 }
 
 fn are_operations_same(old: &Numbers, new: &Numbers, part: Operational) -> bool

@@ -101,7 +101,7 @@ module _ (factors : FactorValues) (known : IsInForm factors) (sheet : BalanceShe
   whole-narrow (wholes.BioScenario biometric projection measure) live clear = stress-narrow factors sheet valid biometric projection measure
   whole-narrow (wholes.Life measure) live clear = life-narrow factors sheet valid measure clear
   whole-narrow (wholes.Slt measure) live clear = slt-narrow factors sheet valid measure clear
-  whole-narrow (wholes.Segment set number) live clear = nonlife.live-segment factors known sheet valid set number live
+  whole-narrow (wholes.Segment segment) live clear = nonlife.segment-narrow factors known sheet valid segment
   whole-narrow (wholes.PremiumReserve set) live clear = nonlife.premium_reserve-narrow factors known sheet valid set
   whole-narrow (wholes.CatCharge key) live clear = nonlife.charge-narrow factors known sheet valid key
   whole-narrow (wholes.Lapse set) live clear = nonlife.lapse-narrow factors known sheet valid set

@@ -1,5 +1,5 @@
 -- How far apart the worked figures of segments, of catastrophes, of non-life risk and of health risk are.
-use Rattle.std.proofs.Common.{◌≡◌, ℕ, zero, suc, ◌+◌, ◌*◌, ◌^◌, ◌≤◌, ℤ, List, [], ◌∷◌, map, sum_by, true, pos, ◌+ℤ◌, ◌≤ℤ◌, refl, sym, subst, arith, lit<, lit≤}
+use Rattle.std.proofs.Common.{ℕ, zero, suc, ◌+◌, ◌*◌, ◌^◌, ◌≤◌, ℤ, List, [], ◌∷◌, map, sum_by, pos, ◌+ℤ◌, ◌≤ℤ◌, refl, sym, subst, arith, lit<, lit≤}
 use Rattle.std.proofs.lemmas.Int.{ints}
 use Rattle.std.proofs.lemmas.Nat.{mul-le}
 use Rattle.scr_num.specs.Amounts.{IsAmount, AreAmounts}
@@ -12,9 +12,8 @@ use Rattle.scr_num.proofs.Roots.{ceil_root-least, floor_root-le-ceil_root}
 use Rattle.scr_num.proofs.Spreads.{narrow-wider, narrow-exact, narrow-add, narrow-product, narrow-ratio, narrow-root, narrow-times}
 use Rattle.scr_agg.specs.Correlated.{SpreadsBy, table_of}
 use Rattle.scr_agg.proofs.RootWidths.{narrow-table}
-use Rattle.scr_factors.specs.Values.{FactorValues, IsInForm, sigma_of}
-use Rattle.scr_nodes.specs.Live.{is_segment}
-use Rattle.scr_nodes.specs.OwnOf.{lapse_cents, risk_key, segment_correlations, volumes_in_regions}
+use Rattle.scr_factors.specs.Values.{FactorValues, IsInForm}
+use Rattle.scr_nodes.specs.OwnOf.{lapse_cents, risk_key, deviations_of, segment_correlations, volumes_in_regions}
 use Rattle.scr_nodes.specs.Sources.{risk_part, segments_of}
 use Rattle.scr_nodes.specs.declared.{node.Measure.Measure, node.Node.Node}
 use Rattle.scr_nodes.specs.declared.node.Measure.TheVariants as measures
@@ -24,7 +23,8 @@ use Rattle.scr_nodes.specs.declared.node.Whole.TheVariants as wholes
 use Rattle.scr_nonlife.specs.Segment.{premium_volume, reserve_volume, total_volume}
 use Rattle.scr_nonlife.specs.SegmentEnds.{deviation_ends, diversification_ends, diversified_ends, products_of_a_grain, segment_ends, share_ends, squared_deviation}
 use Rattle.scr_nonlife.proofs.SegmentBounds.{diversification-size, products, total-is}
-use Rattle.scr_profile.specs.Segments.{segments}
+use Rattle.scr_profile.specs.declared.segment.Segment.{Segment}
+use Rattle.scr_profile.specs.declared.segment.Segment.TheVariants as kinds
 use Rattle.scr_profile.specs.declared.correlations.TheConstants.{HEALTH, NONLIFE, NSLT}
 use Rattle.scr_profile.specs.declared.limits.TheConstants.{MAX_AMOUNT}
 use Rattle.scr_profile.specs.declared.set.Set.{Set}
@@ -35,7 +35,6 @@ use Rattle.scr_sheet.specs.declared.{keys.CatKey.CatKey, sheet.BalanceSheet.Bala
 use Rattle.scr_sheet.specs.declared.keys.CatKey.TheVariants as cats
 use Rattle.scr_rules.specs.NonlifeFits.{MAX_CHARGE}
 use Rattle.scr_rules.specs.Worked.{worked}
-use Rattle.scr_rules.proofs.NonlifeRanges.{numbered}
 use Rattle.scr_rules.proofs.NonlifeSizes as sizes
 use Rattle.scr_rules.proofs.NonlifeSizes.{most_charges}
 use Rattle.scr_widths.specs.Widths.{health_catastrophe_width, health_width, man_made_width, natural_width, nonlife_catastrophe_width, nonlife_width, nslt_width, premium_reserve_width, scale_of, slt_width}
@@ -112,15 +111,12 @@ module _ (factors : FactorValues) (known : IsInForm factors) (sheet : BalanceShe
   lapse-narrow set = subst (IsNarrow 0) (sym (sizes.lapse-worked factors known sheet valid set)) (narrow-exact _)
 
   -- ---- segments
-  pub segment-narrow : (set : Set) (number : ℕ) → number ≤ segments set → IsNarrow 2 (figure (nodes.Whole (wholes.Segment set number)))
-  segment-narrow set number le =
-      let small = sizes.deviations-within factors known sheet valid set number le in
-      subst (IsNarrow 2) (sym (sizes.segment-worked factors known sheet valid set number))
-      (narrow-segment (volumes_in_regions set number sheet.numbers) (sigma_of factors set number).0 (sigma_of factors set number).1 small.0 small.1
-      (sizes.volumes-within factors known sheet valid set number))
-
-  pub live-segment : (set : Set) (number : ℕ) → is_segment set number ≡ true → IsNarrow 2 (figure (nodes.Whole (wholes.Segment set number)))
-  live-segment set number live = segment-narrow set number (numbered factors known sheet valid set number live)
+  pub segment-narrow : (segment : Segment) → IsNarrow 2 (figure (nodes.Whole (wholes.Segment segment)))
+  segment-narrow segment =
+      let small = sizes.deviations-within factors known sheet valid segment in
+      subst (IsNarrow 2) (sym (sizes.segment-worked factors known sheet valid segment))
+      (narrow-segment (volumes_in_regions segment sheet.numbers) (deviations_of factors segment).0 (deviations_of factors segment).1 small.0 small.1
+      (sizes.volumes-within factors known sheet valid segment))
 
   abbrev segment_widths : Set → List ℕ
   segment_widths sets.Nl = 2 ∷ 2 ∷ 2 ∷ 2 ∷ 2 ∷ 2 ∷ 2 ∷ 2 ∷ 2 ∷ 2 ∷ 2 ∷ 2 ∷ []
@@ -128,12 +124,11 @@ module _ (factors : FactorValues) (known : IsInForm factors) (sheet : BalanceShe
 
   segments-narrow : (set : Set) → AreNarrow (segment_widths set) (map figure (segments_of set))
   segments-narrow sets.Nl =
-      let s = segment-narrow sets.Nl in (
-        s 1 (lit≤ tt),
-        (s 2 (lit≤ tt), (s 3 (lit≤ tt), (s 4 (lit≤ tt), (s 5 (lit≤ tt), (s 6 (lit≤ tt), (s 7 (lit≤ tt), (s 8 (lit≤ tt), (s 9 (lit≤ tt), (s 10 (lit≤ tt), (s 11 (lit≤ tt), (s 12 (lit≤ tt), tt))))))))))),
-      )
+      let s = segment-narrow in
+      (s kinds.MotorLiability, (s kinds.OtherMotor, (s kinds.Transport, (s kinds.Property, (s kinds.GeneralLiability, (s kinds.Credit, (s kinds.LegalExpenses, (s kinds.Assistance, (s kinds.FinancialLoss, (s kinds.CasualtyReinsurance, (s kinds.TransportReinsurance, (s kinds.PropertyReinsurance, tt))))))))))))
   segments-narrow sets.Nslt =
-      let s = segment-narrow sets.Nslt in (s 1 (lit≤ tt), (s 2 (lit≤ tt), (s 3 (lit≤ tt), (s 4 (lit≤ tt), tt))))
+      let s = segment-narrow in
+      (s kinds.MedicalExpense, (s kinds.IncomeProtection, (s kinds.WorkersCompensation, (s kinds.HealthReinsurance, tt))))
 
   -- the root of at least as many as there are segments
   abbrev times : Set → ℕ

@@ -25,7 +25,7 @@ pub(crate) struct Scale {
 
 /// That of a book.
 pub(crate) fn scale_of(book: &Book) -> Scale
-    ensures value { result ≡ scale_of book.now }
+    ensures value { result ≡ scale_of book.now.sheet }
     ensures small { IsScale result }
 {
     let sheet = book.sheet();

@@ -12,7 +12,7 @@ use scr_profile::Set;
 /// cents adds less than two. None where it is not stated: of the payments of one row or of one currency, and of the variance
 /// of losses. A law says that they are no further apart.
 pub fn stated_width(book: &Book, node: &Node) -> Option<u64>
-    ensures { result ≡ widths.stated_width book.now node.now }
+    ensures { result ≡ widths.stated_width book.now.sheet node.now }
 {
     let grains = width(&scale_of(book), node)?;
     Some(grains / 1000 + 2)
@@ -56,7 +56,7 @@ fn whole(scale: &Scale, what: &Whole) -> Option<u64>
 {
     let grains = match what {
         Whole::InterestScenario(_, _) | Whole::Picked(_, _) => payments(scale),
-        Whole::EquityPart(_) | Whole::Segment(_, _) => 2,
+        Whole::EquityPart(_) | Whole::Segment(_) => 2,
         Whole::EquityRoot => risk_width(Risk::Equity),
         Whole::Property => risk_width(Risk::Property),
         Whole::Spread => risk_width(Risk::Spread),

@@ -1,25 +1,25 @@
 use Rattle.std.proofs.Common.{ℕ, false, Some, subst, sym, ap, ◌∙◌, arith, take}
 use Rattle.std.proofs.lemmas.List.{take_all}
+use Rattle.scr_profile.specs.DefaultClasses.{default_classes, first_step}
 use Rattle.scr_nodes.specs.Rows.{is_of_default_class}
-use Rattle.scr_figures.specs.Gathered.{default_classes}
 use Rattle.scr_figures.specs.Places.{IsOnly, places_by}
 use Rattle.scr_figures.proofs.GatheredRows.{default-only, key-entered, long, only-within}
 use Rattle.scr_figures.proofs.gathered.group_lists.Goals as goal
 
 pub enter-requires : goal.enter-requires
 enter-requires c =
-    only-within (λ class. false) (λ class. is_of_default_class class c.at.result.now) (Some c.class_of_step-class.result)
+    only-within (λ class. false) (λ class. is_of_default_class class c.at.result.now) (Some c.first_step.result)
     default_classes c.loop-k.lists
     (long is_of_default_class default_classes (take c.loop-k.k c.args.sheet.now.groups) c.loop-k.lists c.loop-k.invariant)
     (subst (λ (n : ℕ). IsOnly (λ class. is_of_default_class class c.at.result.now) (Some n) default_classes)
-    (sym c.class_of_step-class.ensures) (default-only c.at.result.now))
+    (sym (c.first_step.ensures.value ∙ ap first_step c.of_step-class.ensures)) (default-only c.at.result.now))
 
 pub loop-k-preserved : goal.loop-k-preserved
 loop-k-preserved c =
     key-entered is_of_default_class default_classes c.args.sheet.now.groups c.loop-k.k c.at.result.now
-    (Some c.class_of_step-class.result) c.loop-k.lists c.enter.new.self c.at.ensures
+    (Some c.first_step.result) c.loop-k.lists c.enter.new.self c.at.ensures
     (subst (λ (n : ℕ). IsOnly (λ class. is_of_default_class class c.at.result.now) (Some n) default_classes)
-    (sym c.class_of_step-class.ensures) (default-only c.at.result.now)) c.loop-k.invariant c.in_ok-enter.ensures
+    (sym (c.first_step.ensures.value ∙ ap first_step c.of_step-class.ensures)) (default-only c.at.result.now)) c.loop-k.invariant c.in_ok-enter.ensures
 
 pub returns : goal.returns
 returns c =

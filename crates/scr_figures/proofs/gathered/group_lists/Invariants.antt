@@ -1,6 +1,6 @@
 use Rattle.std.proofs.Common.{◌≡◌, take}
+use Rattle.scr_profile.specs.DefaultClasses.{default_classes}
 use Rattle.scr_nodes.specs.Rows.{is_of_default_class}
-use Rattle.scr_figures.specs.Gathered.{default_classes}
 use Rattle.scr_figures.specs.Places.{places_by}
 use Rattle.scr_figures.proofs.gathered.group_lists.Given as goal
 

@@ -36,7 +36,7 @@ returns-in-Security c =
 pub gathered_rows-requires-clause-row : goal.gathered_rows-requires-clause-row
 gathered_rows-requires-clause-row c =
     subst (λ s. IsGathered c.args.from.sheet.now s c.args.from.row) (sym c.first_of.ensures)
-    (first-gathered c.args.from.sheet.now c.args.node.now c.args.from.row c.requires.live c.requires.row)
+    (first-gathered c.args.from.sheet.now c.args.node.now c.args.from.row c.requires.row)
 
 pub returns-in_default : goal.returns-in_default
 returns-in_default c =

@@ -22,9 +22,6 @@ returns-in-Liabilities c =
     subst (λ s. IfSome c.liability_rows.result (λ rows. rows.now ≡ selected_rows c.args.from.sheet.now s)) (sym c.in-Liabilities.is)
     c.liability_rows.ensures
 
-pub group_rows-requires-clause-class : goal.group_rows-requires-clause-class
-group_rows-requires-clause-class c = subst (λ s. IsGathered c.args.from.sheet.now s c.args.from.row) c.in-Groups.is c.requires.row
-
 pub returns-in-Groups : goal.returns-in-Groups
 returns-in-Groups c =
     subst (λ s. IfSome c.group_rows.result (λ rows. rows.now ≡ selected_rows c.args.from.sheet.now s)) (sym c.in-Groups.is) c.group_rows.ensures
