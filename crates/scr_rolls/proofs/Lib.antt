@@ -1,22 +1,13 @@
 pub mod Places
 pub mod Settled
 mod Seated
-mod SeatLists
+pub mod SeatLists
 mod SeatedTables
-mod SeatMoves
-mod SeatRolls
-mod SeatTables
-mod SeatReturns
+pub mod SeatMoves
+pub mod SeatRolls
+pub mod SeatTables
+pub mod SeatReturns
 mod SeatGrowth
 mod SeatLoops
 mod SeatComings
-pub mod PartLemmas
-pub mod BlockTests
-pub mod Regrouped
-pub mod SameMembers
-pub mod BlockChanges
-pub mod TopChanges
-pub mod ChangedLists
-pub mod ListedSums
-pub mod BlockSizes
 mod Examples

@@ -373,7 +373,8 @@ impl Seating {
         }
     }
 
-    // The row at a place leaves the roll in which it stands in a seat.
+    // The row at a place leaves the roll in which it stands in a seat. Apart, since few records come here.
+    #[inline(never)]
     fn quit<R: Row>(&mut self, rows: &Rows<R>, place: usize, seat: usize)
         requires seated { AreSeated (map R.name_of rows.now) self.old }
         requires apart { IsDistinct same_name (map R.name_of rows.now) }

@@ -9,6 +9,8 @@ use Rattle.scr_num.specs.Sizes.{IsWithin}
 use Rattle.scr_num.proofs.AmountBounds.{amount-high}
 use Rattle.scr_default.specs.declared.TheConstants.{MAX_LOSS}
 use Rattle.scr_factors.specs.Values.{FactorValues}
+use Rattle.scr_profile.specs.declared.default_class.DefaultClass.{DefaultClass}
+use Rattle.scr_profile.specs.declared.default_class.DefaultClass.TheVariants as default_classes
 use Rattle.scr_profile.specs.declared.limits.TheConstants.{MAX_AMOUNT}
 use Rattle.scr_sheet.specs.Validity.{Valid, IsBank, IsRein}
 use Rattle.scr_sheet.specs.declared.{rows.Bank.Bank, rows.Group.Group, sheet.BalanceSheet.BalanceSheet}
@@ -61,7 +63,7 @@ module _ (factors : FactorValues) (sheet : BalanceSheet) (valid : Valid sheet) w
     together = subst (λ n. n ≤ MAX_LOSS) (sym (losses-are factors sheet valid name)) (group-small sheet valid name);
   }
 
-  pub class-fits : (class : ℕ) → NodeFits (nodes.Whole (wholes.ClassLoss class))
+  pub class-fits : (class : DefaultClass) → NodeFits (nodes.Whole (wholes.ClassLoss class))
   class-fits class =
       together-wider _ _ _
       (omega (arith, where-at-most (is_of_default_class class) (λ (g : Group). group_grains sheet g.name) sheet.groups, groups-small sheet valid))
@@ -72,7 +74,7 @@ module _ (factors : FactorValues) (sheet : BalanceSheet) (valid : Valid sheet) w
       each [] = tt
       each (g ∷ groups) = ((λ passed. subst (IsWithin (group_grains sheet g.name)) (sym (group-is factors sheet valid g.name)) (record { low = omega arith; high = omega arith })), each groups)
 
-  pub squares-fit : (class : ℕ) → NodeFits (nodes.Whole (wholes.ClassSquare class))
+  pub squares-fit : (class : DefaultClass) → NodeFits (nodes.Whole (wholes.ClassSquare class))
   squares-fit class = record {
     each = All-from_recursion (IsAmount MAX_LOSS) (map figure (losses_of_class class sheet)) (every-figure figure (IsAmount MAX_LOSS) (filter (is_of_default_class class) sheet.groups) (λ name. group-amount factors sheet valid name));
     together = subst (λ n. n ≤ MAX_LOSS) (sym (losses-sum factors sheet valid class)) (class-small sheet valid class);
@@ -84,8 +86,8 @@ module _ (factors : FactorValues) (sheet : BalanceSheet) (valid : Valid sheet) w
       let loss = class-amount factors sheet valid in
       let square = square-amount factors sheet valid in
       record {
-        losses = six (λ k. IsAmount MAX_LOSS (figure_at figures k)) (loss 0) (loss 1) (loss 2) (loss 3) (loss 4) (loss 5);
-        squares = six (λ k. IsAmount (amount_at figures k * amount_at figures k) (figure_at figures (6 + k))) (square 0) (square 1) (square 2) (square 3) (square 4) (square 5);
+        losses = six (λ k. IsAmount MAX_LOSS (figure_at figures k)) (loss default_classes.Step0) (loss default_classes.Step1) (loss default_classes.Step2) (loss default_classes.Step3) (loss default_classes.Step4) (loss default_classes.Steps5And6);
+        squares = six (λ k. IsAmount (amount_at figures k * amount_at figures k) (figure_at figures (6 + k))) (square default_classes.Step0) (square default_classes.Step1) (square default_classes.Step2) (square default_classes.Step3) (square default_classes.Step4) (square default_classes.Steps5And6);
       }
 
   pub band-fits : NodeFits (nodes.Whole wholes.DefaultBand)
@@ -94,7 +96,7 @@ module _ (factors : FactorValues) (sheet : BalanceSheet) (valid : Valid sheet) w
       let loss = class-amount factors sheet valid in
       let variance = variance-amount factors sheet valid in
       record {
-        losses = six (λ k. IsAmount MAX_LOSS (figure_at figures k)) (loss 0) (loss 1) (loss 2) (loss 3) (loss 4) (loss 5);
+        losses = six (λ k. IsAmount MAX_LOSS (figure_at figures k)) (loss default_classes.Step0) (loss default_classes.Step1) (loss default_classes.Step2) (loss default_classes.Step3) (loss default_classes.Step4) (loss default_classes.Steps5And6);
         together = subst (λ n. n ≤ MAX_LOSS) (sym (total-is factors sheet valid)) (total-small sheet valid);
         low = variance.not_negative;
         high = omega (arith, ints, amount-high (105 * 10 ^ 30) (figure (nodes.Whole wholes.Variance)) variance);
@@ -106,7 +108,7 @@ module _ (factors : FactorValues) (sheet : BalanceSheet) (valid : Valid sheet) w
       let loss = class-amount factors sheet valid in
       let variance = variance-amount factors sheet valid in
       record {
-        losses = six (λ k. IsAmount MAX_LOSS (figure_at figures k)) (loss 0) (loss 1) (loss 2) (loss 3) (loss 4) (loss 5);
+        losses = six (λ k. IsAmount MAX_LOSS (figure_at figures k)) (loss default_classes.Step0) (loss default_classes.Step1) (loss default_classes.Step2) (loss default_classes.Step3) (loss default_classes.Step4) (loss default_classes.Steps5And6);
         together = subst (λ n. n ≤ MAX_LOSS) (sym (total-is factors sheet valid)) (total-small sheet valid);
         low = variance.not_negative;
         high = omega (arith, ints, amount-high (105 * 10 ^ 30) (figure (nodes.Whole wholes.Variance)) variance);

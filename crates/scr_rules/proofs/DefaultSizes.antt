@@ -15,6 +15,8 @@ use Rattle.scr_default.proofs.Band.{type1-size}
 use Rattle.scr_default.proofs.Enclosed.{variance-size, squares-size}
 use Rattle.scr_default.proofs.Roots.{type2-size, default-size}
 use Rattle.scr_factors.specs.Values.{FactorValues}
+use Rattle.scr_profile.specs.declared.default_class.DefaultClass.{DefaultClass}
+use Rattle.scr_profile.specs.declared.default_class.DefaultClass.TheVariants as default_classes
 use Rattle.scr_profile.specs.declared.limits.TheConstants.{MAX_AMOUNT}
 use Rattle.scr_sheet.specs.Absorptions.{absorbed}
 use Rattle.scr_sheet.specs.Validity.{Valid}
@@ -41,8 +43,8 @@ every : {X : Type 0} (P : X → Type 0) (xs : List X) → ((x : X) → P x) → 
 every P [] each = tt
 every P (x ∷ xs) each = (each x, every P xs each)
 
-in_classes-same : (f g : ℕ → ℕ) → ((class : ℕ) → f class ≡ g class) → in_classes f ≡ in_classes g
-in_classes-same f g same = rw (same 0, same 1, same 2, same 3, same 4, same 5) refl
+in_classes-same : (f g : DefaultClass → ℕ) → ((class : DefaultClass) → f class ≡ g class) → in_classes f ≡ in_classes g
+in_classes-same f g same = rw (same default_classes.Step0, same default_classes.Step1, same default_classes.Step2, same default_classes.Step3, same default_classes.Step4, same default_classes.Steps5And6) refl
 
 -- what holds of six places
 pub six : (P : ℕ → Type 0) → P 0 → P 1 → P 2 → P 3 → P 4 → P 5 → (k : ℕ) → k < 6 → P k
@@ -81,23 +83,23 @@ module _ (factors : FactorValues) (sheet : BalanceSheet) (valid : Valid sheet) w
   pub group-amount : (name : List ℕ) → IsAmount MAX_LOSS (figure (nodes.Group name of_groups.Loss))
   group-amount name = subst (IsAmount MAX_LOSS) (sym (group-is name)) (amount-exact MAX_LOSS (group_grains sheet name) (group-small sheet valid name))
 
-  pub class-is : (class : ℕ) → figure (nodes.Whole (wholes.ClassLoss class)) ≡ exact_ends (pos (class_grains sheet class))
+  pub class-is : (class : DefaultClass) → figure (nodes.Whole (wholes.ClassLoss class)) ≡ exact_ends (pos (class_grains sheet class))
   unfolding class_grains
   class-is class =
       worked-equation factors sheet valid (nodes.Whole (wholes.ClassLoss class))
       ∙ rows-sum figure group_loss (is_of_default_class class) (λ g. group_grains sheet g.name) sheet.groups
       (every (λ (g : Group). figure (group_loss g) ≡ exact_ends (pos (group_grains sheet g.name))) sheet.groups (λ g. group-is g.name))
 
-  pub class-amount : (class : ℕ) → IsAmount MAX_LOSS (figure (nodes.Whole (wholes.ClassLoss class)))
+  pub class-amount : (class : DefaultClass) → IsAmount MAX_LOSS (figure (nodes.Whole (wholes.ClassLoss class)))
   class-amount class = subst (IsAmount MAX_LOSS) (sym (class-is class)) (amount-exact MAX_LOSS (class_grains sheet class) (class-small sheet valid class))
 
-  pub losses-sum : (class : ℕ) → sum_by amount_of (map figure (losses_of_class class sheet)) ≡ class_grains sheet class
+  pub losses-sum : (class : DefaultClass) → sum_by amount_of (map figure (losses_of_class class sheet)) ≡ class_grains sheet class
   unfolding class_grains
   losses-sum class =
       where-measured figure group_loss (is_of_default_class class) amount_of (λ g. group_grains sheet g.name) sheet.groups
       (every (λ (g : Group). amount_of (figure (group_loss g)) ≡ group_grains sheet g.name) sheet.groups (λ g. ap amount_of (group-is g.name)))
 
-  pub square-is : (class : ℕ) → figure (nodes.Whole (wholes.ClassSquare class)) ≡ exact_ends (pos (class_square_grains sheet class))
+  pub square-is : (class : DefaultClass) → figure (nodes.Whole (wholes.ClassSquare class)) ≡ exact_ends (pos (class_square_grains sheet class))
   unfolding class_square_grains
   square-is class =
       worked-equation factors sheet valid (nodes.Whole (wholes.ClassSquare class))
@@ -106,7 +108,7 @@ module _ (factors : FactorValues) (sheet : BalanceSheet) (valid : Valid sheet) w
       (every (λ (g : Group). amount_of (figure (group_loss g)) * amount_of (figure (group_loss g)) ≡ group_grains sheet g.name * group_grains sheet g.name) sheet.groups
       (λ g. ap (λ e. amount_of e * amount_of e) (group-is g.name))))
 
-  pub square-amount : (class : ℕ) → IsAmount (amount_of (figure (nodes.Whole (wholes.ClassLoss class))) * amount_of (figure (nodes.Whole (wholes.ClassLoss class)))) (figure (nodes.Whole (wholes.ClassSquare class)))
+  pub square-amount : (class : DefaultClass) → IsAmount (amount_of (figure (nodes.Whole (wholes.ClassLoss class))) * amount_of (figure (nodes.Whole (wholes.ClassLoss class)))) (figure (nodes.Whole (wholes.ClassSquare class)))
   square-amount class =
       subst (λ (e : Ends). IsAmount (amount_of e * amount_of e) (figure (nodes.Whole (wholes.ClassSquare class)))) (sym (class-is class))
       (subst (IsAmount (class_grains sheet class * class_grains sheet class)) (sym (square-is class)) (amount-exact (class_grains sheet class * class_grains sheet class) (class_square_grains sheet class) (squares-small sheet valid class)))
@@ -122,14 +124,14 @@ module _ (factors : FactorValues) (sheet : BalanceSheet) (valid : Valid sheet) w
   variance-amount =
       let totals = in_classes (class_grains sheet) in
       let squares = in_classes (class_square_grains sheet) in
-      let small = six (λ k. slice_index totals k ≤ MAX_LOSS) (class-small sheet valid 0) (class-small sheet valid 1) (class-small sheet valid 2) (class-small sheet valid 3) (class-small sheet valid 4) (class-small sheet valid 5) in
-      let squared = six (λ k. slice_index squares k ≤ slice_index totals k * slice_index totals k) (squares-small sheet valid 0) (squares-small sheet valid 1) (squares-small sheet valid 2) (squares-small sheet valid 3) (squares-small sheet valid 4) (squares-small sheet valid 5) in
+      let small = six (λ k. slice_index totals k ≤ MAX_LOSS) (class-small sheet valid default_classes.Step0) (class-small sheet valid default_classes.Step1) (class-small sheet valid default_classes.Step2) (class-small sheet valid default_classes.Step3) (class-small sheet valid default_classes.Step4) (class-small sheet valid default_classes.Steps5And6) in
+      let squared = six (λ k. slice_index squares k ≤ slice_index totals k * slice_index totals k) (squares-small sheet valid default_classes.Step0) (squares-small sheet valid default_classes.Step1) (squares-small sheet valid default_classes.Step2) (squares-small sheet valid default_classes.Step3) (squares-small sheet valid default_classes.Step4) (squares-small sheet valid default_classes.Steps5And6) in
       subst (IsAmount (105 * 10 ^ 30)) (sym variance-is) (variance-size totals squares small (squares-size totals squares small squared))
 
   -- ---- type 1 and type 2 exposures
-  pub total-is : amount_of (figure (nodes.Whole (wholes.ClassLoss 0))) + amount_of (figure (nodes.Whole (wholes.ClassLoss 1))) + amount_of (figure (nodes.Whole (wholes.ClassLoss 2))) + amount_of (figure (nodes.Whole (wholes.ClassLoss 3)))
-      + amount_of (figure (nodes.Whole (wholes.ClassLoss 4))) + amount_of (figure (nodes.Whole (wholes.ClassLoss 5))) ≡ total_grains sheet
-  total-is = rw (class-is 0, class-is 1, class-is 2, class-is 3, class-is 4, class-is 5) refl
+  pub total-is : amount_of (figure (nodes.Whole (wholes.ClassLoss default_classes.Step0))) + amount_of (figure (nodes.Whole (wholes.ClassLoss default_classes.Step1))) + amount_of (figure (nodes.Whole (wholes.ClassLoss default_classes.Step2))) + amount_of (figure (nodes.Whole (wholes.ClassLoss default_classes.Step3)))
+      + amount_of (figure (nodes.Whole (wholes.ClassLoss default_classes.Step4))) + amount_of (figure (nodes.Whole (wholes.ClassLoss default_classes.Steps5And6))) ≡ total_grains sheet
+  total-is = rw (class-is default_classes.Step0, class-is default_classes.Step1, class-is default_classes.Step2, class-is default_classes.Step3, class-is default_classes.Step4, class-is default_classes.Steps5And6) refl
 
   pub band-is : figure (nodes.Whole wholes.DefaultBand) ≡ exact_ends (pos (type1_mask (total_grains sheet) (figure (nodes.Whole wholes.Variance))))
   band-is = worked-equation factors sheet valid (nodes.Whole wholes.DefaultBand) ∙ ap (λ n. exact_ends (pos (type1_mask n (figure (nodes.Whole wholes.Variance))))) total-is

@@ -6,11 +6,14 @@ use Rattle.std.proofs.lemmas.List.Sums.{sum_by-cons, sum_by-le-sum_by}
 use Rattle.scr_num.specs.Rounding.{Ends}
 use Rattle.scr_default.specs.declared.TheConstants.{MAX_LOSS}
 use Rattle.scr_funds.proofs.SumsBy.{sum_by-add, sum_by-map, sum_by-filter}
+use Rattle.scr_profile.specs.DefaultClasses.{class_of_step, first_step}
+use Rattle.scr_profile.specs.declared.default_class.DefaultClass.{DefaultClass}
+use Rattle.scr_profile.specs.declared.default_class.DefaultClass.TheVariants as default_classes
 use Rattle.scr_sheet.specs.BalanceSheet.{group_name}
 use Rattle.scr_sheet.specs.Validity.{Valid}
 use Rattle.scr_sheet.specs.declared.{rows.Bank.Bank, rows.Group.Group, rows.Rein.Rein, sheet.BalanceSheet.BalanceSheet}
 use Rattle.scr_nodes.specs.declared.node.Node.{Node}
-use Rattle.scr_nodes.specs.Rows.{is_bank_of, is_reinsurer_of, is_of_default_class, class_of_step}
+use Rattle.scr_nodes.specs.Rows.{is_bank_of, is_reinsurer_of, is_of_default_class}
 use Rattle.scr_nodes.proofs.OwnRows.{distinct-groups}
 use Rattle.scr_rules.specs.DefaultGrains.{total_where, bank_grains, reinsurer_grains, group_grains, class_grains, class_square_grains, total_grains}
 use Rattle.scr_rules.proofs.Currencies.{each-row-once}
@@ -84,21 +87,21 @@ one-class class most =
     omega (arith, all.within)
 
 in-one-class : (amount : Group → ℕ) (groups : List Group)
-    → total_where (is_of_default_class 0) amount groups + total_where (is_of_default_class 1) amount groups + total_where (is_of_default_class 2) amount groups
-    + total_where (is_of_default_class 3) amount groups + total_where (is_of_default_class 4) amount groups + total_where (is_of_default_class 5) amount groups ≤ sum_by amount groups
+    → total_where (is_of_default_class default_classes.Step0) amount groups + total_where (is_of_default_class default_classes.Step1) amount groups + total_where (is_of_default_class default_classes.Step2) amount groups
+    + total_where (is_of_default_class default_classes.Step3) amount groups + total_where (is_of_default_class default_classes.Step4) amount groups + total_where (is_of_default_class default_classes.Steps5And6) amount groups ≤ sum_by amount groups
 in-one-class amount [] = omega arith
 in-one-class amount (group ∷ groups) =
     omega (
       arith,
-      one-class (class_of_step group.step) (amount group),
+      one-class (first_step (class_of_step group.step)) (amount group),
       in-one-class amount groups,
       sum_by-cons amount group groups,
-      sum_by-cons (λ (g : Group). if is_of_default_class 0 g then amount g else 0) group groups,
-      sum_by-cons (λ (g : Group). if is_of_default_class 1 g then amount g else 0) group groups,
-      sum_by-cons (λ (g : Group). if is_of_default_class 2 g then amount g else 0) group groups,
-      sum_by-cons (λ (g : Group). if is_of_default_class 3 g then amount g else 0) group groups,
-      sum_by-cons (λ (g : Group). if is_of_default_class 4 g then amount g else 0) group groups,
-      sum_by-cons (λ (g : Group). if is_of_default_class 5 g then amount g else 0) group groups,
+      sum_by-cons (λ (g : Group). if is_of_default_class default_classes.Step0 g then amount g else 0) group groups,
+      sum_by-cons (λ (g : Group). if is_of_default_class default_classes.Step1 g then amount g else 0) group groups,
+      sum_by-cons (λ (g : Group). if is_of_default_class default_classes.Step2 g then amount g else 0) group groups,
+      sum_by-cons (λ (g : Group). if is_of_default_class default_classes.Step3 g then amount g else 0) group groups,
+      sum_by-cons (λ (g : Group). if is_of_default_class default_classes.Step4 g then amount g else 0) group groups,
+      sum_by-cons (λ (g : Group). if is_of_default_class default_classes.Steps5And6 g then amount g else 0) group groups,
     )
 
 -- ---- of a valid balance sheet
@@ -122,7 +125,7 @@ module _ (sheet : BalanceSheet) (valid : Valid sheet) where
       let parts = sum_by-add (λ (g : Group). total_where (is_bank_of g.name) bank_grains sheet.banks) (λ (g : Group). total_where (is_reinsurer_of g.name) reinsurer_grains sheet.reinsurers) sheet.groups in
       omega (arith, banks, reinsurers, parts, all-grains)
 
-  pub class-small : (class : ℕ) → class_grains sheet class ≤ MAX_LOSS
+  pub class-small : (class : DefaultClass) → class_grains sheet class ≤ MAX_LOSS
   unfolding class_grains
   class-small class = omega (arith, where-at-most (is_of_default_class class) (λ (g : Group). group_grains sheet g.name) sheet.groups, groups-small)
 
@@ -130,6 +133,6 @@ module _ (sheet : BalanceSheet) (valid : Valid sheet) where
   unfolding class_grains
   total-small = omega (arith, in-one-class (λ (g : Group). group_grains sheet g.name) sheet.groups, groups-small)
 
-  pub squares-small : (class : ℕ) → class_square_grains sheet class ≤ class_grains sheet class * class_grains sheet class
+  pub squares-small : (class : DefaultClass) → class_square_grains sheet class ≤ class_grains sheet class * class_grains sheet class
   unfolding class_grains class_square_grains
   squares-small class = where-squares (is_of_default_class class) (λ (g : Group). group_grains sheet g.name) sheet.groups

@@ -30,6 +30,7 @@ pub mod Ranges
 pub mod KeptRows
 pub mod CodeLemmas
 pub mod MarketCode
+pub mod BySums
 pub mod LifeCode
 pub mod DefaultCode
 pub mod NonlifeCode

@@ -1,8 +1,7 @@
 -- For a valid balance sheet the rules of charges that are handed in, of segments, of catastrophes, and of the non-life and
 -- health modules fit their own data and the worked figures of their sources.
-use Rattle.std.proofs.Common.{◌≡◌, ℕ, ◌*◌, ◌^◌, ◌<◌, ◌≤◌, true, List, [], ◌∷◌, map, sum_by, pos, ◌≤ℤ◌, arith}
+use Rattle.std.proofs.Common.{ℕ, ◌*◌, ◌^◌, ◌<◌, ◌≤◌, List, [], ◌∷◌, map, sum_by, pos, ◌≤ℤ◌, arith}
 use Rattle.std.specs.List.{AllByRecursion}
-use Rattle.std.proofs.lemmas.Bool.{and_parts, leb-true}
 use Rattle.std.proofs.lemmas.Int.{ints}
 use Rattle.std.proofs.lemmas.List.Sums.{sum_by-cons}
 use Rattle.scr_num.specs.Amounts.{IsAmount, AreAmounts}
@@ -10,7 +9,7 @@ use Rattle.scr_num.specs.Rounding.{Ends, or_zero}
 use Rattle.scr_num.specs.Sizes.{IsWithin}
 use Rattle.scr_num.proofs.AmountBounds.{amount-high}
 use Rattle.scr_num.proofs.CentAmounts.{or_zero-at_most, square-small}
-use Rattle.scr_profile.specs.Segments.{segments}
+use Rattle.scr_profile.specs.declared.segment.Segment.{Segment}
 use Rattle.scr_profile.specs.declared.set.Set.{Set}
 use Rattle.scr_profile.specs.declared.set.Set.TheVariants as sets
 use Rattle.scr_factors.specs.Values.{FactorValues, IsInForm}
@@ -22,7 +21,6 @@ use Rattle.scr_nodes.specs.declared.{node.Measure.Measure, node.Node.Node}
 use Rattle.scr_nodes.specs.declared.node.Node.TheVariants as nodes
 use Rattle.scr_nodes.specs.declared.node.Whole.TheVariants as wholes
 use Rattle.scr_nodes.specs.declared.node.Risk.TheVariants as risks
-use Rattle.scr_nodes.specs.Live.{is_segment}
 use Rattle.scr_nodes.specs.OwnOf.{own_of, risk_key, segment_correlations}
 use Rattle.scr_nodes.specs.Sources.{sources_of, segments_of}
 use Rattle.scr_rules.specs.Fits.{Fits}
@@ -72,13 +70,10 @@ module _ (factors : FactorValues) (known : IsInForm factors) (sheet : BalanceShe
   lapse-fits set = record { small = omega (arith, sizes.lapse-within factors known sheet valid set) }
 
   -- ---- premium and reserve risk
-  pub numbered : (set : Set) (number : ℕ) → is_segment set number ≡ true → number ≤ segments set
-  numbered set number live = leb-true number (segments set) (and_parts _ _ live).1
-
-  pub segment-fits : (set : Set) (number : ℕ) → is_segment set number ≡ true → NodeFits (nodes.Whole (wholes.Segment set number))
-  segment-fits set number live =
-      let small = sizes.deviations-within factors known sheet valid set number (numbered set number live) in
-      record { volume = sizes.volumes-within factors known sheet valid set number; premium_deviation = small.0; reserve_deviation = small.1 }
+  pub segment-fits : (segment : Segment) → NodeFits (nodes.Whole (wholes.Segment segment))
+  segment-fits segment =
+      let small = sizes.deviations-within factors known sheet valid segment in
+      record { volume = sizes.volumes-within factors known sheet valid segment; premium_deviation = small.0; reserve_deviation = small.1 }
 
   places : (set : Set) → (segment_correlations factors set).n ≤ 16
   places sets.Nl = omega (arith, known.nl_segments)

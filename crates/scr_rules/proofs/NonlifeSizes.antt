@@ -1,6 +1,6 @@
 -- The worked figures of charges that are handed in, of segments, of catastrophes, and of the non-life and health modules of
 -- a valid balance sheet: what they are, and how large.
-use Rattle.std.proofs.Common.{◌≡◌, ℕ, zero, suc, ◌+◌, ◌-◌, ◌*◌, ◌^◌, ◌≤◌, List, [], ◌∷◌, length, map, drop, sum_by, pos, ◌<ℤ◌, Option, Some, None, refl, sym, subst, arith, lit≤}
+use Rattle.std.proofs.Common.{◌≡◌, ℕ, zero, suc, ◌+◌, ◌-◌, ◌*◌, ◌^◌, ◌≤◌, List, [], ◌∷◌, length, map, drop, sum_by, pos, ◌<ℤ◌, Option, Some, None, refl, sym, subst, arith}
 use Rattle.std.specs.Prelude.{slice_index_or}
 use Rattle.std.specs.List.{AllByRecursion}
 use Rattle.std.specs.Option.{option_map_or}
@@ -19,9 +19,12 @@ use Rattle.scr_nonlife.specs.SegmentEnds.{segment_ends}
 use Rattle.scr_nonlife.proofs.NonlifeBounds.{premium_reserve-size, nat-size, manmade-size, cat-size, nonlife-size}
 use Rattle.scr_nonlife.proofs.SegmentBounds.{segment-size}
 use Rattle.scr_profile.proofs.CorrelationRules.{is_correlation-holds}
-use Rattle.scr_profile.specs.Segments.{segments}
+use Rattle.scr_profile.proofs.Words.{segment-numbered}
+use Rattle.scr_profile.specs.Segments.{number_of, segments, set_of}
 use Rattle.scr_profile.specs.declared.correlations.TheConstants.{NSLT}
 use Rattle.scr_profile.specs.declared.limits.TheConstants.{MAX_AMOUNT}
+use Rattle.scr_profile.specs.declared.segment.Segment.{Segment}
+use Rattle.scr_profile.specs.declared.segment.Segment.TheVariants as kinds
 use Rattle.scr_profile.specs.declared.set.Set.{Set}
 use Rattle.scr_profile.specs.declared.set.Set.TheVariants as sets
 use Rattle.scr_factors.specs.Values.{FactorValues, IsInForm, sigma_of}
@@ -37,7 +40,7 @@ use Rattle.scr_nodes.specs.declared.node.Measure.TheVariants as measures
 use Rattle.scr_nodes.specs.declared.node.Node.TheVariants as nodes
 use Rattle.scr_nodes.specs.declared.node.Whole.TheVariants as wholes
 use Rattle.scr_nodes.specs.declared.node.Risk.TheVariants as risks
-use Rattle.scr_nodes.specs.OwnOf.{risk_key, catastrophe_cents, lapse_cents, volumes_in_regions, segment_correlations}
+use Rattle.scr_nodes.specs.OwnOf.{risk_key, catastrophe_cents, lapse_cents, volumes_in_regions, deviations_of, segment_correlations}
 use Rattle.scr_nodes.specs.Sources.{risk_part, segments_of}
 use Rattle.scr_rules.specs.NonlifeFits.{MAX_CHARGE}
 use Rattle.scr_rules.specs.Worked.{worked}
@@ -133,30 +136,34 @@ module _ (factors : FactorValues) (known : IsInForm factors) (sheet : BalanceShe
   lapse-worked set = worked-equation factors sheet valid (nodes.Whole (wholes.Lapse set))
 
   -- ---- segments
-  pub segment-worked : (set : Set) (number : ℕ) → figure (nodes.Whole (wholes.Segment set number))
-      ≡ segment_ends (volumes_in_regions set number sheet.numbers) (sigma_of factors set number).0 (sigma_of factors set number).1
-  segment-worked set number = worked-equation factors sheet valid (nodes.Whole (wholes.Segment set number))
+  pub segment-worked : (segment : Segment) → figure (nodes.Whole (wholes.Segment segment))
+      ≡ segment_ends (volumes_in_regions segment sheet.numbers) (deviations_of factors segment).0 (deviations_of factors segment).1
+  segment-worked segment = worked-equation factors sheet valid (nodes.Whole (wholes.Segment segment))
 
-  pub deviations-within : (set : Set) (number : ℕ) → number ≤ segments set
+  sigmas-within : (set : Set) (number : ℕ) → number ≤ segments set
       → ((sigma_of factors set number).0 ≤ 1_000_000) × ((sigma_of factors set number).1 ≤ 1_000_000)
-  deviations-within sets.Nl number le = (
+  sigmas-within sets.Nl number le = (
     known.nl_premium.1 (number - 1) 0 (omega (arith, le, known.nl_premium.0)),
     known.nl_reserve.1 (number - 1) 0 (omega (arith, le, known.nl_reserve.0)),
   )
-  deviations-within sets.Nslt number le = (
+  sigmas-within sets.Nslt number le = (
     known.nslt_premium.1 (number - 1) 0 (omega (arith, le, known.nslt_premium.0)),
     known.nslt_reserve.1 (number - 1) 0 (omega (arith, le, known.nslt_reserve.0)),
   )
 
-  pub volumes-within : (set : Set) (number : ℕ) → total_volume (volumes_in_regions set number sheet.numbers) ≤ MAX_AMOUNT
-  volumes-within set number = omega (arith, volume-within (volumes_of set sheet.numbers) (number - 1), valid.within.volumes set)
+  pub deviations-within : (segment : Segment) → ((deviations_of factors segment).0 ≤ 1_000_000) × ((deviations_of factors segment).1 ≤ 1_000_000)
+  deviations-within segment = sigmas-within (set_of segment) (number_of segment) (segment-numbered segment).1
 
-  pub segment-amount : (set : Set) (number : ℕ) → number ≤ segments set
-      → IsAmount (1000 * total_volume (volumes_in_regions set number sheet.numbers)) (figure (nodes.Whole (wholes.Segment set number)))
-  segment-amount set number le =
-      let small = deviations-within set number le in
-      subst (IsAmount (1000 * total_volume (volumes_in_regions set number sheet.numbers))) (sym (segment-worked set number))
-      (segment-size (volumes_in_regions set number sheet.numbers) (sigma_of factors set number).0 (sigma_of factors set number).1 small.0 small.1)
+  pub volumes-within : (segment : Segment) → total_volume (volumes_in_regions segment sheet.numbers) ≤ MAX_AMOUNT
+  volumes-within segment =
+      omega (arith, volume-within (volumes_of (set_of segment) sheet.numbers) (number_of segment - 1), valid.within.volumes (set_of segment))
+
+  pub segment-amount : (segment : Segment)
+      → IsAmount (1000 * total_volume (volumes_in_regions segment sheet.numbers)) (figure (nodes.Whole (wholes.Segment segment)))
+  segment-amount segment =
+      let small = deviations-within segment in
+      subst (IsAmount (1000 * total_volume (volumes_in_regions segment sheet.numbers))) (sym (segment-worked segment))
+      (segment-size (volumes_in_regions segment sheet.numbers) (deviations_of factors segment).0 (deviations_of factors segment).1 small.0 small.1)
 
   -- ---- premium and reserve risk
   abbrev pub segment_grains : Set → List ℕ
@@ -164,12 +171,11 @@ module _ (factors : FactorValues) (known : IsInForm factors) (sheet : BalanceShe
 
   pub segments-amounts : (set : Set) → AreAmounts (segment_grains set) (map figure (segments_of set))
   segments-amounts sets.Nl =
-      let s = segment-amount sets.Nl in (
-        s 1 (lit≤ tt),
-        (s 2 (lit≤ tt), (s 3 (lit≤ tt), (s 4 (lit≤ tt), (s 5 (lit≤ tt), (s 6 (lit≤ tt), (s 7 (lit≤ tt), (s 8 (lit≤ tt), (s 9 (lit≤ tt), (s 10 (lit≤ tt), (s 11 (lit≤ tt), (s 12 (lit≤ tt), tt))))))))))),
-      )
+      let s = segment-amount in
+      (s kinds.MotorLiability, (s kinds.OtherMotor, (s kinds.Transport, (s kinds.Property, (s kinds.GeneralLiability, (s kinds.Credit, (s kinds.LegalExpenses, (s kinds.Assistance, (s kinds.FinancialLoss, (s kinds.CasualtyReinsurance, (s kinds.TransportReinsurance, (s kinds.PropertyReinsurance, tt))))))))))))
   segments-amounts sets.Nslt =
-      let s = segment-amount sets.Nslt in (s 1 (lit≤ tt), (s 2 (lit≤ tt), (s 3 (lit≤ tt), (s 4 (lit≤ tt), tt))))
+      let s = segment-amount in
+      (s kinds.MedicalExpense, (s kinds.IncomeProtection, (s kinds.WorkersCompensation, (s kinds.HealthReinsurance, tt))))
 
   pub segments-within : (set : Set) → sum_by (λ most. most) (segment_grains set) ≤ MAX_CHARGE
   segments-within set = omega (arith, grains-within (segments set) 0 (volumes_of set sheet.numbers), valid.within.volumes set)

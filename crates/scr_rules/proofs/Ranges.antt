@@ -134,7 +134,7 @@ module _ (factors : FactorValues) (known : IsInForm factors) (sheet : BalanceShe
   node-fits (nodes.Whole wholes.Default) live = defaults.default-fits factors sheet valid
   node-fits (nodes.Whole (wholes.NetPart risks.Default)) live = defaults.net-fits factors sheet valid
   node-fits (nodes.Whole (wholes.NetPart risks.HealthCatastrophe)) live = nonlife.health_net-fits factors known sheet valid
-  node-fits (nodes.Whole (wholes.Segment set number)) live = nonlife.segment-fits factors known sheet valid set number live
+  node-fits (nodes.Whole (wholes.Segment segment)) live = nonlife.segment-fits factors known sheet valid segment
   node-fits (nodes.Whole (wholes.PremiumReserve set)) live = nonlife.premium_reserve-fits factors known sheet valid set
   node-fits (nodes.Whole (wholes.CatCharge key)) live = nonlife.charge-fits factors known sheet valid key
   node-fits (nodes.Whole (wholes.Lapse set)) live = nonlife.lapse-fits factors known sheet valid set

@@ -2,6 +2,8 @@
 -- a whole number, and so exactly those of Article 192 of Delegated Regulation (EU) 2015/35. Beside them what is due.
 use Rattle.std.specs.Prelude.{ℕ, ◌+◌, ◌*◌, Bool, List, [], ◌∷◌, slice_index_or, sum_by, if◌then◌else◌}
 use Rattle.scr_default.specs.LossesEnds.{lgd_bank_grains, lgd_rein_grains}
+use Rattle.scr_profile.specs.declared.default_class.DefaultClass.{DefaultClass}
+use Rattle.scr_profile.specs.declared.default_class.DefaultClass.TheVariants as default_classes
 use Rattle.scr_sheet.specs.declared.rows.Bank.{Bank}
 use Rattle.scr_sheet.specs.declared.rows.Rein.{Rein}
 use Rattle.scr_sheet.specs.declared.sheet.BalanceSheet.{BalanceSheet}
@@ -21,22 +23,26 @@ unfoldable pub group_grains : BalanceSheet → (name : List ℕ) → ℕ
 group_grains sheet name =
     total_where (is_bank_of name) bank_grains sheet.banks + total_where (is_reinsurer_of name) reinsurer_grains sheet.reinsurers
 
-unfoldable pub class_grains : BalanceSheet → (class : ℕ) → ℕ
+unfoldable pub class_grains : BalanceSheet → DefaultClass → ℕ
 class_grains sheet class = total_where (is_of_default_class class) (λ group. group_grains sheet group.name) sheet.groups
 
-unfoldable pub class_square_grains : BalanceSheet → (class : ℕ) → ℕ
+unfoldable pub class_square_grains : BalanceSheet → DefaultClass → ℕ
 class_square_grains sheet class =
     total_where (is_of_default_class class) (λ group. group_grains sheet group.name * group_grains sheet group.name)
     sheet.groups
 
-abbrev pub in_classes : (ℕ → ℕ) → List ℕ
-in_classes of_class = of_class 0 ∷ of_class 1 ∷ of_class 2 ∷ of_class 3 ∷ of_class 4 ∷ of_class 5 ∷ []
+-- of each class, by their first steps
+abbrev pub in_classes : (DefaultClass → ℕ) → List ℕ
+in_classes of_class =
+    of_class default_classes.Step0 ∷ of_class default_classes.Step1 ∷ of_class default_classes.Step2
+    ∷ of_class default_classes.Step3 ∷ of_class default_classes.Step4 ∷ of_class default_classes.Steps5And6 ∷ []
 
 -- of all groups
 abbrev pub total_grains : BalanceSheet → ℕ
 total_grains sheet =
-    class_grains sheet 0 + class_grains sheet 1 + class_grains sheet 2 + class_grains sheet 3 + class_grains sheet 4
-    + class_grains sheet 5
+    class_grains sheet default_classes.Step0 + class_grains sheet default_classes.Step1
+    + class_grains sheet default_classes.Step2 + class_grains sheet default_classes.Step3
+    + class_grains sheet default_classes.Step4 + class_grains sheet default_classes.Steps5And6
 
 -- what has been due for more than three months, and all else that is due, in cents
 abbrev pub overdue_cents : BalanceSheet → ℕ

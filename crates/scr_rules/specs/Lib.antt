@@ -6,6 +6,7 @@ pub mod DefaultRules
 pub mod NonlifeRules
 pub mod LossRules
 pub mod Rules
+pub mod BySums
 pub mod RootFits
 pub mod MarketFits
 pub mod LifeFits

@@ -1,7 +1,7 @@
 -- The rules of charges that are handed in, of segments, of catastrophes, and of the non-life and health modules, from the
 -- figures of their sources (Articles 114 to 128, 144 to 148 and 160 of Delegated Regulation (EU) 2015/35; the rounding is
 -- this project's own).
-use Rattle.std.specs.Prelude.{ℕ, ◌-◌, ◌*◌, pos, List, [], slice_index_or}
+use Rattle.std.specs.Prelude.{ℕ, ◌*◌, pos, List}
 use Rattle.scr_num.specs.Rounding.{Ends, exact_ends}
 use Rattle.scr_agg.specs.Correlated.{table_of}
 use Rattle.scr_profile.specs.declared.matrix.Matrix.{Matrix}
@@ -14,10 +14,6 @@ abbrev pub charged_ends : (times cents : ℕ) → Ends
 charged_ends times cents = exact_ends (pos (times * cents))
 
 -- ---- premium and reserve risk
-
--- the volumes of a segment by its number from 1, none where there is no such segment
-abbrev pub numbered_volumes : List (List (ℕ × ℕ)) → ℕ → List (ℕ × ℕ)
-numbered_volumes segments number = slice_index_or segments (number - 1) []
 
 abbrev pub premium_reserve_from : Matrix → List Ends → Ends
 premium_reserve_from correlations figures = premium_reserve_ends figures (table_of correlations)

@@ -44,7 +44,7 @@ impl GroupLosses {
 /// The losses of all groups of a book. Only want of memory keeps them back. The cost is that of all
 /// groups, banks and reinsurers.
 pub fn group_losses(alloc: Global, book: &Book) -> Result<GroupLosses, NoMemory>
-    ensures { IfOk result (λ losses. AreLossesOf book.now losses) }
+    ensures { IfOk result (λ losses. AreLossesOf book.now.sheet losses) }
 {
     let sheet = book.sheet();
     let mut sums = no_losses(alloc, sheet)?;
@@ -59,10 +59,10 @@ pub fn group_losses(alloc: Global, book: &Book) -> Result<GroupLosses, NoMemory>
 
 /// The loss of the group at a place, known exactly.
 pub fn group_loss(book: &Book, losses: &GroupLosses, place: usize) -> Span
-    requires losses { AreLossesOf book.now losses.now }
-    requires place { place < length book.now.groups }
-    ensures { (factors : FactorValues) (group : Group) → slice_get book.now.groups place ≡ Some group
-        → ends result ≡ by_rule factors book.now [] (nodes.Group group.name of_groups.Loss) [] }
+    requires losses { AreLossesOf book.now.sheet losses.now }
+    requires place { place < length book.now.sheet.groups }
+    ensures { (factors : FactorValues) (group : Group) → slice_get book.now.sheet.groups place ≡ Some group
+        → ends result ≡ by_rule factors book.now.sheet [] (nodes.Group group.name of_groups.Loss) [] }
 {
     book.sheet();
     grains(losses.at(place))

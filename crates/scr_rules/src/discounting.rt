@@ -10,14 +10,14 @@ use std::alloc::{AllocError as NoMemory, Global};
 
 /// The discounts of each currency of the book. Only want of memory keeps them back.
 pub fn curves(alloc: Global, factors: &Factors, book: &Book) -> Result<Curves, NoMemory>
-    ensures { IfOk result (λ curves. rows_of curves ≡ all_discounts book.now) }
+    ensures { IfOk result (λ curves. rows_of curves ≡ all_discounts book.now.sheet) }
 {
     curves_of(alloc, book.sheet())
 }
 
 /// The discounts of each currency of the book with their falls. Only want of memory keeps them back.
 pub fn rates(alloc: Global, factors: &Factors, book: &Book) -> Result<Rates, NoMemory>
-    ensures { IfOk result (λ rates. known_of rates ≡ all_rates book.now) }
+    ensures { IfOk result (λ rates. known_of rates ≡ all_rates book.now.sheet) }
 {
     rates_of(alloc, book.sheet())
 }
@@ -30,8 +30,8 @@ pub fn rates_after(
     kept: &Rates,
     currency: &Name,
 ) -> Result<Rates, NoMemory>
-    requires { AreKeptBut currency.now book.now.curves (rows_of kept.now.curves) }
-    ensures { IfOk result (λ rates. known_of rates ≡ all_rates book.now) }
+    requires { AreKeptBut currency.now book.now.sheet.curves (rows_of kept.now.curves) }
+    ensures { IfOk result (λ rates. known_of rates ≡ all_rates book.now.sheet) }
 {
     scr_discounts::rates_after(alloc, book.sheet(), kept, currency)
 }

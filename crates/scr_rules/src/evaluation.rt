@@ -26,7 +26,7 @@ use crate::market_rules::{
 };
 use crate::nonlife_rules::{
     catastrophes, charged, health, health_catastrophe, man_made, natural, nonlife, nslt,
-    premium_reserve, segment,
+    premium_reserve, segment_deviation,
 };
 use crate::paid::{cost, unit};
 use crate::rules::{choice, equities, fall, lost, net, picked, scaled};
@@ -54,13 +54,13 @@ pub fn evaluate<L: Ledger>(
     spans: &[Span],
     steps: &mut Steps<L>,
 ) -> Span
-    requires rows { AreDiscountsOf book.now.curves (rows_of curves.now) }
-    requires fits { Fits (own_of factors.now book.now node) (map ends spans.now) }
+    requires rows { AreDiscountsOf book.now.sheet.curves (rows_of curves.now) }
+    requires fits { Fits (own_of factors.now book.now.sheet node) (map ends spans.now) }
     ensures rule { ends result
-        ≡ rule (own_of factors.now book.now node) (discounts_in book.now (rows_of curves.now) node) (map ends spans.now) }
-    ensures worked { rows_of curves.now ≡ all_discounts book.now
-        → map ends spans.now ≡ map (worked factors.now book.now) (sources_of book.now node)
-        → ends result ≡ worked factors.now book.now node }
+        ≡ rule (own_of factors.now book.now.sheet node) (discounts_in book.now.sheet (rows_of curves.now) node) (map ends spans.now) }
+    ensures worked { rows_of curves.now ≡ all_discounts book.now.sheet
+        → map ends spans.now ≡ map (worked factors.now book.now.sheet) (sources_of book.now.sheet node)
+        → ends result ≡ worked factors.now book.now.sheet node }
     ensures step { steps.new ≡ steps.old + 1 }
 {
     steps.tick();
@@ -76,14 +76,14 @@ pub fn evaluate_by<L: Ledger>(
     spans: &[Span],
     steps: &mut Steps<L>,
 ) -> Span
-    requires rows { AreDiscountsOf book.now.curves (rows_of rates.now.curves) }
-    requires rates { AreRatesOf book.now (rows_of rates.now.curves) rates.now }
-    requires fits { Fits (own_of factors.now book.now node) (map ends spans.now) }
-    ensures rule { ends result ≡ rule (own_of factors.now book.now node)
-        (discounts_in book.now (rows_of rates.now.curves) node) (map ends spans.now) }
-    ensures worked { rows_of rates.now.curves ≡ all_discounts book.now
-        → map ends spans.now ≡ map (worked factors.now book.now) (sources_of book.now node)
-        → ends result ≡ worked factors.now book.now node }
+    requires rows { AreDiscountsOf book.now.sheet.curves (rows_of rates.now.curves) }
+    requires rates { AreRatesOf book.now.sheet (rows_of rates.now.curves) rates.now }
+    requires fits { Fits (own_of factors.now book.now.sheet node) (map ends spans.now) }
+    ensures rule { ends result ≡ rule (own_of factors.now book.now.sheet node)
+        (discounts_in book.now.sheet (rows_of rates.now.curves) node) (map ends spans.now) }
+    ensures worked { rows_of rates.now.curves ≡ all_discounts book.now.sheet
+        → map ends spans.now ≡ map (worked factors.now book.now.sheet) (sources_of book.now.sheet node)
+        → ends result ≡ worked factors.now book.now.sheet node }
     ensures step { steps.new ≡ steps.old + 1 }
 {
     steps.tick();
@@ -107,15 +107,15 @@ pub fn evaluate_with<L: Ledger>(
     spans: &[Span],
     steps: &mut Steps<L>,
 ) -> Span
-    requires rows { AreDiscountsOf book.now.curves (rows_of rates.now.curves) }
-    requires rates { AreRatesOf book.now (rows_of rates.now.curves) rates.now }
-    requires losses { AreLossesOf book.now losses.now }
-    requires fits { Fits (own_of factors.now book.now node) (map ends spans.now) }
-    ensures rule { ends result ≡ rule (own_of factors.now book.now node)
-        (discounts_in book.now (rows_of rates.now.curves) node) (map ends spans.now) }
-    ensures worked { rows_of rates.now.curves ≡ all_discounts book.now
-        → map ends spans.now ≡ map (worked factors.now book.now) (sources_of book.now node)
-        → ends result ≡ worked factors.now book.now node }
+    requires rows { AreDiscountsOf book.now.sheet.curves (rows_of rates.now.curves) }
+    requires rates { AreRatesOf book.now.sheet (rows_of rates.now.curves) rates.now }
+    requires losses { AreLossesOf book.now.sheet losses.now }
+    requires fits { Fits (own_of factors.now book.now.sheet node) (map ends spans.now) }
+    ensures rule { ends result ≡ rule (own_of factors.now book.now.sheet node)
+        (discounts_in book.now.sheet (rows_of rates.now.curves) node) (map ends spans.now) }
+    ensures worked { rows_of rates.now.curves ≡ all_discounts book.now.sheet
+        → map ends spans.now ≡ map (worked factors.now book.now.sheet) (sources_of book.now.sheet node)
+        → ends result ≡ worked factors.now book.now.sheet node }
     ensures step { steps.new ≡ steps.old + 1 }
 {
     steps.tick();
@@ -224,7 +224,7 @@ fn of_whole(factors: &Factors, sheet: &BalanceSheet, what: &Whole, spans: &[Span
         Whole::BioScenario(kind, under, measure) => stress(sheet, *kind, *under, *measure, spans),
         Whole::Life(_) => life(spans),
         Whole::Slt(_) => slt(spans),
-        Whole::Segment(set, number) => segment(factors, &sheet.numbers, *set, *number),
+        Whole::Segment(segment) => segment_deviation(factors, &sheet.numbers, *segment),
         Whole::PremiumReserve(set) => premium_reserve(factors, spans, *set),
         Whole::CatCharge(key) => charged(1000, catastrophe_cents(&sheet.numbers, *key)),
         Whole::Lapse(set) => charged(1000, lapse_cents(&sheet.numbers, *set)),

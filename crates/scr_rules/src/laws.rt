@@ -1,8 +1,12 @@
 //! Laws of the figures of a balance sheet, whatever a program does. Each is a function that does nothing, whose contract is
 //! the law.
-ghost use Rattle.std.specs.Prelude.{◌≡◌, ◌||◌, true, ℕ, pos, List, map};
+ghost use Rattle.std.specs.Prelude.{◌≡◌, ◌||◌, ◌++◌, ◌∷◌, ◌^◌, true, ℕ, pos, List, [], length, map};
 ghost use Rattle.std.specs.List.{list_any};
+ghost use Rattle.scr_num.specs.Amounts.{IsAmount};
 ghost use Rattle.scr_num.specs.Rounding.{Ends, exact_ends};
+ghost use Rattle.scr_num.specs.Sizes.{IsWithin};
+ghost use Rattle.scr_num.specs.Sums.{sum_ends};
+ghost use Rattle.scr_profile.specs.declared.limits.TheConstants.{MAX_HELD};
 ghost use Rattle.scr_factors.specs.Values.{FactorValues, IsInForm};
 ghost use Rattle.scr_names.specs.Tables.{has_row};
 ghost use Rattle.scr_sheet.specs.BalanceSheet.{position_name, stake_name};
@@ -14,11 +18,19 @@ ghost use Rattle.scr_nodes.specs.declared.node.Node.TheVariants as nodes;
 ghost use Rattle.scr_nodes.specs.declared.node.OfFund.TheVariants as of_funds;
 ghost use Rattle.scr_nodes.specs.declared.node.OfSecurity.TheVariants as of_securities;
 ghost use Rattle.scr_nodes.specs.Live.{is_live};
+ghost use Rattle.scr_nodes.specs.Own.{Own};
+ghost use Rattle.scr_nodes.specs.Own.Own.{Foreign as foreign};
 ghost use Rattle.scr_nodes.specs.OwnOf.{own_of};
+ghost use Rattle.scr_nodes.specs.declared.node.Direction.{Direction};
 ghost use Rattle.scr_nodes.specs.Sources.{sources_of};
 ghost use Rattle.scr_rules.specs.Close.{is_open_choice, close_under};
 ghost use Rattle.scr_rules.specs.Fits.{Fits};
+ghost use Rattle.scr_discounts.specs.Discounts.{CurrencyDiscounts};
 ghost use Rattle.scr_discounts.specs.Kept.{all_discounts, AreDiscountsOf};
+ghost use Rattle.scr_rules.specs.BySums.{is_of_sum};
+ghost use Rattle.scr_rules.specs.MarketFits.{FitsForeign};
+ghost use Rattle.scr_rules.specs.MarketRules.{foreign_ends};
+ghost use Rattle.scr_rules.specs.Rules.{amount_of, rule};
 ghost use Rattle.scr_rules.specs.Worked.{node_rule, worked};
 
 use scr_discounts::Curves;
@@ -57,6 +69,20 @@ pub fn ranges()
         → is_live sheet node ≡ true
         → Fits (own_of factors sheet node) (map (worked factors sheet) (sources_of sheet node)) }
     ensures discounts { (sheet : BalanceSheet) → Valid sheet → AreDiscountsOf sheet.curves (all_discounts sheet) }
+{}
+
+/// The rules of large sums see the figures of their sources by the sum alone, and that of a foreign currency by what is held of its
+/// securities and what is owed in it. So they may be regrouped, and where a rule fits the figures it fits their sums.
+pub fn sums()
+    ensures one { (own : Own) (discounts : CurrencyDiscounts) (figures others : List Ends) → is_of_sum own ≡ true
+        → sum_ends figures ≡ sum_ends others → rule own discounts figures ≡ rule own discounts others }
+    ensures two { (direction : Direction) (discounts : CurrencyDiscounts) (held owed : List Ends)
+        → rule (foreign direction (length held)) discounts (held ++ owed)
+        ≡ foreign_ends direction (amount_of (sum_ends held)) (sum_ends owed) }
+    ensures fits_one { (own : Own) (figures others : List Ends) → is_of_sum own ≡ true → Fits own (figures ++ others)
+        → Fits own (sum_ends figures ∷ sum_ends others ∷ []) }
+    ensures fits_two { (held owed : List Ends) → FitsForeign (length held) (held ++ owed)
+        → IsAmount MAX_HELD (sum_ends held) × IsWithin (10 ^ 33) (sum_ends owed) }
 {}
 
 /// Threads may share nodes, and the discounts of all currencies.

@@ -38,16 +38,16 @@ pub struct Estimate {
 /// The estimate of the liability in a row. Its payments are sorted by maturity once for all figures. The row is that of its
 /// name.
 pub fn liability_estimate(book: &Book, rates: &Rates, liability: &Liability) -> Estimate
-    requires rows { AreDiscountsOf book.now.curves (rows_of rates.now.curves) }
-    requires rates { AreRatesOf book.now (rows_of rates.now.curves) rates.now }
-    requires row { liability_of liability.now.name book.now.liabilities ≡ Some liability.now }
-    ensures rate_up { (factors : FactorValues) → ends result.rate_up ≡ by_rule factors book.now (rows_of rates.now.curves)
+    requires rows { AreDiscountsOf book.now.sheet.curves (rows_of rates.now.curves) }
+    requires rates { AreRatesOf book.now.sheet (rows_of rates.now.curves) rates.now }
+    requires row { liability_of liability.now.name book.now.sheet.liabilities ≡ Some liability.now }
+    ensures rate_up { (factors : FactorValues) → ends result.rate_up ≡ by_rule factors book.now.sheet (rows_of rates.now.curves)
         (nodes.Liability liability.now.name (of_liabilities.Rate directions.Up)) [] }
-    ensures rate_down { (factors : FactorValues) → ends result.rate_down ≡ by_rule factors book.now (rows_of rates.now.curves)
+    ensures rate_down { (factors : FactorValues) → ends result.rate_down ≡ by_rule factors book.now.sheet (rows_of rates.now.curves)
         (nodes.Liability liability.now.name (of_liabilities.Rate directions.Down)) [] }
-    ensures present { (factors : FactorValues) → ends result.present ≡ by_rule factors book.now (rows_of rates.now.curves)
+    ensures present { (factors : FactorValues) → ends result.present ≡ by_rule factors book.now.sheet (rows_of rates.now.curves)
         (nodes.Liability liability.now.name of_liabilities.Present) [] }
-    ensures kept { IsEstimateOf book.now liability.now result }
+    ensures kept { IsEstimateOf book.now.sheet liability.now result }
 {
     let sheet = book.sheet();
     let Some(currency) = sheet.curves.place(&liability.currency) else {
@@ -86,11 +86,11 @@ pub fn liability_loss(
     estimate: &Estimate,
     projection: Projection,
 ) -> Span
-    requires rows { AreDiscountsOf book.now.curves (rows_of rates.now.curves) }
-    requires rates { AreRatesOf book.now (rows_of rates.now.curves) rates.now }
-    requires row { liability_of liability.now.name book.now.liabilities ≡ Some liability.now }
-    requires estimate { IsEstimateOf book.now liability.now estimate.now }
-    ensures { (factors : FactorValues) → ends result ≡ by_rule factors book.now (rows_of rates.now.curves)
+    requires rows { AreDiscountsOf book.now.sheet.curves (rows_of rates.now.curves) }
+    requires rates { AreRatesOf book.now.sheet (rows_of rates.now.curves) rates.now }
+    requires row { liability_of liability.now.name book.now.sheet.liabilities ≡ Some liability.now }
+    requires estimate { IsEstimateOf book.now.sheet liability.now estimate.now }
+    ensures { (factors : FactorValues) → ends result ≡ by_rule factors book.now.sheet (rows_of rates.now.curves)
         (nodes.Liability liability.now.name (of_liabilities.Loss projection)) [] }
 {
     book.sheet();

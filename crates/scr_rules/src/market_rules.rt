@@ -2,7 +2,7 @@
 ghost use Rattle.std.specs.Prelude.{◌≡◌, ◌*◌, ◌^◌, ◌<◌, ◌≤◌, pos, ◌≤ℤ◌, All, map, sum_by, unsigned_abs, IfSome};
 ghost use Rattle.scr_num.specs.Amounts.{IsAmount};
 ghost use Rattle.scr_num.specs.Rounding.{ends, exact_ends};
-ghost use Rattle.scr_num.specs.Sizes.{AreTogether};
+ghost use Rattle.scr_num.specs.Sizes.{AreTogether, IsWithin};
 ghost use Rattle.scr_num.specs.Sums.{sum_ends};
 ghost use Rattle.scr_curve.specs.DiscountEnds.{IsDiscount};
 ghost use Rattle.scr_flow.specs.LossEnds.{present_ends};
@@ -114,6 +114,16 @@ pub(crate) fn foreign(
     let securities = held_count(sheet, currency);
     let held = total(&spans[..securities]);
     let owed = total(&spans[securities..]);
+    foreign_by_sums(direction, held, owed)
+}
+
+/// What a change of a foreign currency costs, from what is held of all securities in it and what all liabilities in it are worth
+/// (Article 188).
+pub fn foreign_by_sums(direction: Direction, held: Span, owed: Span) -> Span
+    requires held { IsAmount MAX_HELD (ends held) }
+    requires owed { IsWithin (10 ^ 33) (ends owed) }
+    ensures { ends result ≡ foreign_ends direction (amount_of (ends held)) (ends owed) }
+{
     let [rise, fall] = scr_market::currency(amount(held), owed);
     match direction {
         Direction::Up => rise,

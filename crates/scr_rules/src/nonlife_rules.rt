@@ -1,17 +1,17 @@
 //! The rules of charges that are handed in, of segments, of catastrophes, and of the non-life and health modules.
-ghost use Rattle.std.specs.Prelude.{◌≡◌, length, map};
+ghost use Rattle.std.specs.Prelude.{◌≡◌, map};
 ghost use Rattle.scr_num.specs.Rounding.{ends};
 ghost use Rattle.scr_nonlife.specs.SegmentEnds.{segment_ends};
-ghost use Rattle.scr_profile.specs.Segments.{segments};
-ghost use Rattle.scr_factors.specs.Values.{sigma_of};
-ghost use Rattle.scr_nodes.specs.OwnOf.{volumes_in_regions, segment_correlations};
+ghost use Rattle.scr_nodes.specs.OwnOf.{volumes_in_regions, deviations_of, segment_correlations};
 ghost use Rattle.scr_rules.specs.RootFits.{FitsRoot};
 ghost use Rattle.scr_rules.specs.NonlifeFits.{FitsCharged, FitsSegment, FitsPremiumReserve, FitsNonlife, FitsNslt};
-ghost use Rattle.scr_rules.specs.NonlifeRules.{numbered_volumes, charged_ends, premium_reserve_from, natural_from, man_made_from, catastrophes_from, health_catastrophe_from, nonlife_from, nslt_from, health_from};
+ghost use Rattle.scr_rules.specs.NonlifeRules.{charged_ends, premium_reserve_from, natural_from, man_made_from, catastrophes_from, health_catastrophe_from, nonlife_from, nslt_from, health_from};
 
 use crate::spans::at;
 use scr_factors::{Factors, NSLT, Set};
+use scr_nodes::single_numbers::volumes_in_regions;
 use scr_num::{Span, exact};
+use scr_profile::Segment;
 use scr_sheet::Numbers;
 
 /// So many grains for each of so many cents.
@@ -22,33 +22,15 @@ pub(crate) fn charged(times: u64, cents: u64) -> Span
     exact(i128::from(times * cents))
 }
 
-/// A segment by its number from 1; nothing where the set has no such segment.
-pub(crate) fn segment(factors: &Factors, numbers: &Numbers, set: Set, number: u8) -> Span
-    requires { FitsSegment (volumes_in_regions set number numbers.now) (sigma_of factors.now set number).0
-        (sigma_of factors.now set number).1 }
-    ensures { ends result ≡ segment_ends (volumes_in_regions set number numbers.now)
-        (sigma_of factors.now set number).0 (sigma_of factors.now set number).1 }
+/// The standard deviation of a segment times its volume.
+pub(crate) fn segment_deviation(factors: &Factors, numbers: &Numbers, segment: Segment) -> Span
+    requires { FitsSegment (volumes_in_regions segment numbers.now) (deviations_of factors.now segment).0
+        (deviations_of factors.now segment).1 }
+    ensures { ends result ≡ segment_ends (volumes_in_regions segment numbers.now) (deviations_of factors.now segment).0
+        (deviations_of factors.now segment).1 }
 {
-    match set {
-        Set::Nl => numbered(factors, &numbers.nl, Set::Nl, number),
-        Set::Nslt => numbered(factors, &numbers.nslt, Set::Nslt, number),
-    }
-}
-
-/// The same among the segments of its set.
-fn numbered(factors: &Factors, all: &[[(u64, u64); 18]], set: Set, number: u8) -> Span
-    requires count { length all.now ≡ segments set }
-    requires fits { FitsSegment (numbered_volumes all.now number) (sigma_of factors.now set number).0
-        (sigma_of factors.now set number).1 }
-    ensures { ends result ≡ segment_ends (numbered_volumes all.now number) (sigma_of factors.now set number).0
-        (sigma_of factors.now set number).1 }
-{
-    let place = usize::from(number).saturating_sub(1);
-    let Some(volumes) = all.get(place) else {
-        return exact(0);
-    };
-    let (premium, reserve) = factors.sigma(set, place as u8 + 1);
-    scr_nonlife::segment(volumes, premium, reserve)
+    let (premium, reserve) = factors.sigma(segment.set(), segment.number());
+    scr_nonlife::segment(volumes_in_regions(numbers, segment), premium, reserve)
 }
 
 /// Three times the root over the segments of a set.

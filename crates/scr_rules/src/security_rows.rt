@@ -46,18 +46,18 @@ pub fn security_losses(
     position: &Position,
     total: Span,
 ) -> SecurityLosses
-    requires rows { AreDiscountsOf book.now.curves (rows_of rates.now.curves) }
-    requires rates { AreRatesOf book.now (rows_of rates.now.curves) rates.now }
-    requires row { position_of position.now.security.name book.now.securities ≡ Some position.now }
+    requires rows { AreDiscountsOf book.now.sheet.curves (rows_of rates.now.curves) }
+    requires rates { AreRatesOf book.now.sheet (rows_of rates.now.curves) rates.now }
+    requires row { position_of position.now.security.name book.now.sheet.securities ≡ Some position.now }
     requires total { IsAmount MAX_HELD (ends total) }
-    ensures unit_up { (factors : FactorValues) → ends result.unit_up ≡ by_rule factors book.now (rows_of rates.now.curves)
+    ensures unit_up { (factors : FactorValues) → ends result.unit_up ≡ by_rule factors book.now.sheet (rows_of rates.now.curves)
         (nodes.Security position.now.security.name (of_securities.UnitLoss directions.Up)) [] }
-    ensures unit_down { (factors : FactorValues) → ends result.unit_down ≡ by_rule factors book.now (rows_of rates.now.curves)
+    ensures unit_down { (factors : FactorValues) → ends result.unit_down ≡ by_rule factors book.now.sheet (rows_of rates.now.curves)
         (nodes.Security position.now.security.name (of_securities.UnitLoss directions.Down)) [] }
-    ensures rate_up { (factors : FactorValues) → ends result.rate_up ≡ by_rule factors book.now (rows_of rates.now.curves)
+    ensures rate_up { (factors : FactorValues) → ends result.rate_up ≡ by_rule factors book.now.sheet (rows_of rates.now.curves)
         (nodes.Security position.now.security.name (of_securities.Rate directions.Up))
         (ends total ∷ ends result.unit_up ∷ []) }
-    ensures rate_down { (factors : FactorValues) → ends result.rate_down ≡ by_rule factors book.now (rows_of rates.now.curves)
+    ensures rate_down { (factors : FactorValues) → ends result.rate_down ≡ by_rule factors book.now.sheet (rows_of rates.now.curves)
         (nodes.Security position.now.security.name (of_securities.Rate directions.Down))
         (ends total ∷ ends result.unit_down ∷ []) }
 {
@@ -97,10 +97,10 @@ pub(crate) fn unit_losses(sheet: &BalanceSheet, rates: &Rates, position: &Positi
 
 /// What the bond in a row loses, of which so much is held in all, in grains. The row is that of its name.
 pub fn bond_spread(factors: &Factors, book: &Book, position: &Position, total: Span) -> Span
-    requires row { position_of position.now.security.name book.now.securities ≡ Some position.now }
-    requires fits { Fits (own_of factors.now book.now
+    requires row { position_of position.now.security.name book.now.sheet.securities ≡ Some position.now }
+    requires fits { Fits (own_of factors.now book.now.sheet
         (nodes.Security position.now.security.name of_securities.Spread)) (ends total ∷ []) }
-    ensures { ends result ≡ by_rule factors.now book.now []
+    ensures { ends result ≡ by_rule factors.now book.now.sheet []
         (nodes.Security position.now.security.name of_securities.Spread) (ends total ∷ []) }
 {
     bond_loss(factors, book.sheet(), position, total)

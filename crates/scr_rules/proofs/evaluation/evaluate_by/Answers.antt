@@ -9,8 +9,8 @@ use Rattle.scr_rules.proofs.evaluation.evaluate_by.Goals as goal
 
 pub returns-clause-worked : goal.returns-clause-worked
 returns-clause-worked g c = λ kept sources.
-    let own = own_of c.args.factors.now c.args.book.now c.args.node in
+    let own = own_of c.args.factors.now c.args.book.now.sheet c.args.node in
     let figures = map ends c.args.spans.now in
     (rw c.sheet.ensures.sheet at c.figure.ensures)
-    ∙ ap (λ row. rule own row figures) (ap (λ rows. discounts_in c.args.book.now rows c.args.node) kept ∙ own-row c.args.factors.now c.args.book.now c.args.node figures c.requires.fits)
-    ∙ ap (rule own (own_discounts own)) sources ∙ sym (worked-equation c.args.factors.now c.args.book.now c.sheet.ensures.valid c.args.node)
+    ∙ ap (λ row. rule own row figures) (ap (λ rows. discounts_in c.args.book.now.sheet rows c.args.node) kept ∙ own-row c.args.factors.now c.args.book.now.sheet c.args.node figures c.requires.fits)
+    ∙ ap (rule own (own_discounts own)) sources ∙ sym (worked-equation c.args.factors.now c.args.book.now.sheet c.sheet.ensures.valid c.args.node)

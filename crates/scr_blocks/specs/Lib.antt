@@ -1,0 +1,4 @@
+pub mod Blocks
+pub mod Readers
+pub mod ChangedBlocks
+pub mod Sums

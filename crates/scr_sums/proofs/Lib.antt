@@ -1,0 +1,9 @@
+pub mod Listed
+pub mod Members
+pub mod Worth
+pub mod Lives
+pub mod Falls
+pub mod Apart
+pub mod Changed
+pub mod Once
+pub mod Regroup

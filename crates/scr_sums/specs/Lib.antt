@@ -1,0 +1,4 @@
+pub mod Sums
+pub mod Graph
+pub mod Levels
+pub mod Changed
