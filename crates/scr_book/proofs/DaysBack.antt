@@ -1,10 +1,8 @@
 -- How the counts of last days move back.
-use Rattle.std.proofs.Common.{◌≡◌, ℕ, ℤ, ◌+◌, ◌^◌, ◌<◌, ◌≤◌, List, refl, sym, ap, arith}
+use Rattle.std.proofs.Common.{◌≡◌, ℕ, ℤ, ◌+◌, ◌^◌, ◌<◌, ◌≤◌, List, refl, arith}
 use Rattle.std.specs.Option.{option_map_or}
 use Rattle.scr_dates.specs.Civil.{IsDay}
 use Rattle.scr_names.specs.Tables.{row_of}
-use Rattle.scr_names.specs.Pasts.{restored}
-use Rattle.scr_names.specs.declared.past.Past.{Past}
 use Rattle.scr_tally.specs.Days.{count_of}
 use Rattle.scr_sheet.specs.BalanceSheet.{position_name, liability_name}
 use Rattle.scr_sheet.specs.Earlier.{with_earlier, FitsIn}
@@ -56,7 +54,7 @@ module _ (what : Earlier) (sheet : BalanceSheet) (fits : FitsIn what sheet) (bef
 
   module _ (between : List (List ℕ)) (gone : (day : ℤ) → IsDay day → count_of day between + ends_now day what sheet ≡ count_of day before) where
     -- there is room for what comes back
-    pub then-fits : Valid (with_earlier what sheet) → (day : ℤ) → IsDay day → count_of day between + ends_then day what < 2 ^ 32
+    pub then-fits : Valid (with_earlier what sheet) → (day : ℤ) → IsDay day → count_of day between + ends_then day what < 2 ^ 16
     then-fits valid day in_day =
         let own = are.counted day in_day in
         let out = gone day in_day in

@@ -1,5 +1,5 @@
 -- How the graph of the funds moves back.
-use Rattle.std.proofs.Common.{◌≡◌, ℕ, zero, suc, ℤ, ◌||◌, Bool, true, false, cond, IsTrue, List, [], ◌∷◌, map, insert, Option, Some, None, refl, sym, ap, subst, ◌∙◌, arith}
+use Rattle.std.proofs.Common.{◌≡◌, ℕ, zero, suc, Bool, true, false, cond, IsTrue, List, [], ◌∷◌, map, insert, Option, Some, None, sym, ap, subst, ◌∙◌}
 use Rattle.std.specs.List.{AllByRecursion, IsDistinct}
 use Rattle.std.specs.Option.{option_map_or}
 use Rattle.scr_funds.specs.Chains.{LeadsTo}
@@ -13,14 +13,13 @@ use Rattle.scr_names.proofs.TableRows.{All-map, All-with_row, All-without, same_
 use Rattle.scr_sheet.specs.BalanceSheet.{position_name, stake_name, components_of}
 use Rattle.scr_sheet.specs.Earlier.{with_earlier, FitsIn}
 use Rattle.scr_sheet.specs.Validity.{Valid}
-use Rattle.scr_sheet.specs.declared.earlier.Earlier.{Earlier}
 use Rattle.scr_sheet.specs.declared.earlier.Earlier.TheVariants as earlier
 use Rattle.scr_sheet.specs.declared.rows.Position.{Position}
 use Rattle.scr_sheet.specs.declared.rows.Stake.{Stake}
 use Rattle.scr_sheet.specs.declared.sheet.BalanceSheet.{BalanceSheet}
 use Rattle.scr_sheet.proofs.Holds.{distinct-funds}
 use Rattle.scr_book.specs.Holders.{IsGraphOf}
-use Rattle.scr_book.specs.Pasts.{name_in, row_in, components_in}
+use Rattle.scr_book.specs.Pasts.{name_in, components_in}
 use Rattle.scr_book.proofs.Holders.{cleared_is}
 
 module _ {Row : Type 0} (name_of : Row → List ℕ) where

@@ -2,7 +2,6 @@
 use Rattle.std.proofs.Common.{◌≡◌, ℕ, ℤ, List, [], ◌∷◌, refl, sym, subst}
 use Rattle.scr_sheet.specs.BalanceSheet.{opening}
 use Rattle.scr_sheet.specs.Validity.{Valid}
-use Rattle.scr_sheet.specs.declared.sheet.BalanceSheet.{BalanceSheet}
 use Rattle.scr_sheet.proofs.Preserved.{Valid-opening}
 use Rattle.scr_book.specs.Sums.{AreSumsOf}
 use Rattle.scr_book.specs.Holders.{IsGraphOf}

@@ -1,5 +1,5 @@
 -- How the tallies of names move back.
-use Rattle.std.proofs.Common.{◌≡◌, ℕ, ◌+◌, List, Option, Some, None, sum_by, refl, sym, ap, arith}
+use Rattle.std.proofs.Common.{◌≡◌, ℕ, ◌+◌, List, Option, Some, None, sum_by, refl, ap, arith}
 use Rattle.std.specs.Option.{option_map_or}
 use Rattle.scr_names.specs.Tables.{row_of}
 use Rattle.scr_names.specs.Pasts.{restored, HasPlace}

@@ -10,3 +10,7 @@ pub mod UsersBack
 pub mod HoldersBack
 pub mod Holdings
 pub mod Undone
+pub mod Rolls
+pub mod RolledSheets
+pub mod KeptBook
+pub mod WorkedRolls

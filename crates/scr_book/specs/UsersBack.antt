@@ -1,5 +1,4 @@
 -- What users go and come where what stood in a sheet before is put back (this project's own).
-use Rattle.std.specs.Prelude.{ℕ, List}
 use Rattle.std.specs.Option.{option_map_or}
 use Rattle.scr_names.specs.declared.past.Past.{Past}
 use Rattle.scr_sheet.specs.BalanceSheet.{position_name, stake_name, liability_name, bank_name, rein_name}

@@ -1,62 +1,79 @@
 //! The book as it is kept.
-ghost use Rattle.std.specs.Prelude.{◌≡◌, ◌<◌, ◌↔◌, None, length, map, slice_get, Some, IsNone, IfOk, OnOk, OnErr, IfSome, IsTrue, false};
+ghost use Rattle.std.specs.Prelude.{◌≡◌, ◌<◌, ◌↔◌, ℕ, List, [], None, length, map, slice_get, Some, IsNone, IfOk, OnOk, OnErr, IfSome, IsTrue, false};
+ghost use Rattle.std.specs.List.{IsDistinct};
 ghost use Rattle.std.specs.Option.{option_map};
+ghost use Rattle.scr_names.specs.Names.{same_name};
+ghost use Rattle.scr_rolls.specs.Members.{has};
 ghost use Rattle.scr_sheet.specs.BalanceSheet.{opening, is_named, held_of};
 ghost use Rattle.scr_sheet.specs.Records.{applied};
 ghost use Rattle.scr_sheet.specs.Faults.{fault_of, Answers};
 ghost use Rattle.scr_sheet.specs.Forms.{Formed};
+ghost use Rattle.scr_sheet.specs.Members.{is_member};
 ghost use Rattle.scr_sheet.specs.Validity.{Valid};
 ghost use Rattle.scr_book.specs.Places.{names_in, shares_names};
+ghost use Rattle.scr_book.specs.RolledSheets.{AreRolled, AreStill};
+ghost use Rattle.scr_book.specs.Rolls.{roll_of, roll_back, standing_of, CanGoBack};
+ghost use Rattle.scr_sheet.specs.declared.roll.Roll.{Roll as TheRoll};
 
 use crate::checks::checked;
 use crate::ledger::Ledger;
 use crate::puts::hands_in_payments;
+use crate::rolls::Rolls;
 use crate::users::Users;
 use crate::{
-    BalanceSheet, Bank, Curve, Edit, Fault, Fund, Group, Liability, Name, Numbers, Rein, Security,
-    Table,
+    BalanceSheet, Bank, Curve, Edit, Fault, Fund, Group, Liability, Name, Numbers, Rein, Roll,
+    Security, Table,
 };
 use std::alloc::{AllocError as NoMemory, Global};
 use std::marker::Model;
 use std::mem::drop;
 
-/// An insurer's balance sheet. Contracts see it as the lists of its rows and its numbers, which are valid at all times.
+/// An insurer's balance sheet. Contracts see the lists of its rows and its numbers, which are valid at all times, and the member
+/// lists of the large sums.
 #[derive(Drop)]
 pub struct Book {
     pub(crate) ledger: Ledger,
     /// How often each name is used.
     pub(crate) users: Users,
+    /// The member lists.
+    pub(crate) rolls: Rolls,
 }
 
 impl Model for Book {
-    ghost use Rattle.scr_sheet.specs.declared.sheet.BalanceSheet.{BalanceSheet};
+    ghost use Rattle.scr_book.specs.RolledSheets.{RolledSheet};
 
-    ghost Value = { BalanceSheet };
+    ghost Value = { RolledSheet };
 
-    ghost use Rattle.scr_book.specs.Users.{AreUsersOf};
+    ghost use Rattle.scr_book.specs.KeptBook.{IsKeptBook};
 
-    ghost view = { λ book. book.ledger };
+    ghost view = { λ book. record { sheet = book.ledger; rolls = book.rolls } };
 
-    ghost invariant = { λ book. AreUsersOf book.ledger book.users };
+    ghost invariant = { IsKeptBook };
 }
 
 impl Book {
     /// The opening book: the euro's curve with the single rate 0, and nothing else.
     pub fn new(alloc: Global) -> Result<Book, NoMemory>
-        ensures { IfOk result (λ book. book ≡ opening) }
+        ensures sheet { IfOk result (λ book. book.sheet ≡ opening) }
+        ensures rolls { IfOk result (λ book. (roll : TheRoll) → roll_of roll book.rolls ≡ []) }
     {
+        let ledger = Ledger::new(alloc)?;
+        let rolls = Rolls::new(alloc)?;
         Ok(Book {
-            ledger: Ledger::new(alloc)?,
+            ledger,
             users: Users::uncounted(alloc),
+            rolls,
         })
     }
 
     /// Applies the record, or refuses it exactly as `check` does, and then the book is as before.
     pub fn apply(&mut self, alloc: Global, edit: &Edit) -> Result<(), Fault>
         requires { Formed edit.now }
-        ensures answer { Answers (fault_of edit.now self.old) result }
-        ensures ok { OnOk result (self.new ≡ applied edit.now self.old) }
-        ensures err { OnErr result (self.new ≡ self.old) }
+        ensures answer { Answers (fault_of edit.now self.old.sheet) result }
+        ensures ok { OnOk result (self.new.sheet ≡ applied edit.now self.old.sheet) }
+        ensures err { OnErr result (self.new.sheet ≡ self.old.sheet) }
+        ensures rolls { OnOk result (AreRolled edit.now self.old self.new) }
+        ensures still { OnErr result (AreStill self.old self.new) }
     {
         let numbers = match checked(alloc, self, edit) {
             Ok(numbers) => numbers,
@@ -72,9 +89,11 @@ impl Book {
     /// hands in are kept as they are, and not copied.
     pub fn take(&mut self, alloc: Global, edit: Edit) -> Result<(), Fault>
         requires { Formed edit }
-        ensures answer { Answers (fault_of edit self.old) result }
-        ensures ok { OnOk result (self.new ≡ applied edit self.old) }
-        ensures err { OnErr result (self.new ≡ self.old) }
+        ensures answer { Answers (fault_of edit self.old.sheet) result }
+        ensures ok { OnOk result (self.new.sheet ≡ applied edit self.old.sheet) }
+        ensures err { OnErr result (self.new.sheet ≡ self.old.sheet) }
+        ensures rolls { OnOk result (AreRolled edit self.old self.new) }
+        ensures still { OnErr result (AreStill self.old self.new) }
     {
         let numbers = match checked(alloc, self, &edit) {
             Ok(numbers) => numbers,
@@ -89,19 +108,24 @@ impl Book {
     // Applies a record that has no fault, and keeps its payments. Where memory is refused the book is as before.
     fn keep(&mut self, alloc: Global, edit: Edit, numbers: &[u32]) -> Result<(), NoMemory>
         requires formed { Formed edit }
-        requires no_fault { fault_of edit self.old ≡ None }
-        ensures ok { OnOk result (self.new ≡ applied edit self.old) }
-        ensures err { OnErr result (self.new ≡ self.old) }
+        requires no_fault { fault_of edit self.old.sheet ≡ None }
+        ensures ok { OnOk result (self.new.sheet ≡ applied edit self.old.sheet) }
+        ensures err { OnErr result (self.new.sheet ≡ self.old.sheet) }
+        ensures rolls { OnOk result (AreRolled edit self.old self.new) }
+        ensures still { OnErr result (AreStill self.old self.new) }
     {
         if !hands_in_payments(&edit) {
             return self.put(alloc, &edit, numbers);
         }
+        let aim = self.rolls.prepare(alloc, self.ledger.sheet(), &edit)?;
         self.users.exchange(alloc, self.ledger.sheet(), &edit);
         self.ledger.keep_payments(edit);
+        self.rolls.settle(self.ledger.sheet(), &aim);
         Ok(())
     }
 
-    // Applies a record that has no fault. Where memory is refused the book is as before.
+    // Applies a record that has no fault, after which its row can go back to where it stood. Where memory is refused the book is as
+    // before.
     pub(crate) fn put(
         &mut self,
         alloc: Global,
@@ -109,13 +133,24 @@ impl Book {
         numbers: &[u32],
     ) -> Result<(), NoMemory>
         requires formed { Formed edit.now }
-        requires no_fault { fault_of edit.now self.old ≡ None }
-        ensures ok { OnOk result (self.new ≡ applied edit.now self.old) }
-        ensures err { OnErr result (self.new ≡ self.old) }
+        requires no_fault { fault_of edit.now self.old.sheet ≡ None }
+        ensures ok { OnOk result (self.new.sheet ≡ applied edit.now self.old.sheet) }
+        ensures err { OnErr result (self.new.sheet ≡ self.old.sheet) }
+        ensures rolls { OnOk result (AreRolled edit.now self.old self.new) }
+        ensures still { OnErr result (AreStill self.old self.new) }
+        ensures goes_back { OnOk result (CanGoBack (standing_of edit.now self.old.sheet self.old.rolls)
+            self.old.sheet self.new.sheet self.new.rolls) }
+        ensures returns { OnOk result ((roll : TheRoll)
+            → roll_back (standing_of edit.now self.old.sheet self.old.rolls) roll self.new.rolls
+            ≡ roll_of roll self.old.rolls) }
     {
+        let aim = self.rolls.prepare(alloc, self.ledger.sheet(), edit)?;
         self.users.exchange(alloc, self.ledger.sheet(), edit);
         match self.ledger.put(alloc, edit, numbers) {
-            Ok(()) => Ok(()),
+            Ok(()) => {
+                self.rolls.settle(self.ledger.sheet(), &aim);
+                Ok(())
+            }
             Err(NoMemory) => {
                 self.users.exchange_back(self.ledger.sheet(), edit);
                 Err(NoMemory)
@@ -125,112 +160,112 @@ impl Book {
 
     /// The number of groups.
     pub fn groups(&self) -> u32
-        ensures count { result ≡ length self.now.groups }
-        ensures valid { Valid self.now }
+        ensures count { result ≡ length self.now.sheet.groups }
+        ensures valid { Valid self.now.sheet }
     {
         self.sheet().groups.len() as u32
     }
 
     /// The group at place `k`, in the order in which the names first came.
     pub fn group(&self, k: u32) -> &Group
-        requires { k < length self.now.groups }
-        ensures { slice_get self.now.groups k ≡ Some result.now }
+        requires { k < length self.now.sheet.groups }
+        ensures { slice_get self.now.sheet.groups k ≡ Some result.now }
     {
         self.sheet().groups.at(k as usize)
     }
 
     /// The number of securities.
     pub fn securities(&self) -> u32
-        ensures count { result ≡ length self.now.securities }
-        ensures valid { Valid self.now }
+        ensures count { result ≡ length self.now.sheet.securities }
+        ensures valid { Valid self.now.sheet }
     {
         self.sheet().securities.len() as u32
     }
 
     /// The security at place `k`, in the order in which the names first came.
     pub fn security(&self, k: u32) -> &Security
-        requires { k < length self.now.securities }
-        ensures { option_map (λ p. p.security) (slice_get self.now.securities k) ≡ Some result.now }
+        requires { k < length self.now.sheet.securities }
+        ensures { option_map (λ p. p.security) (slice_get self.now.sheet.securities k) ≡ Some result.now }
     {
         &self.sheet().securities.at(k as usize).security
     }
 
     /// The number of funds.
     pub fn funds(&self) -> u32
-        ensures count { result ≡ length self.now.funds }
-        ensures valid { Valid self.now }
+        ensures count { result ≡ length self.now.sheet.funds }
+        ensures valid { Valid self.now.sheet }
     {
         self.sheet().funds.len() as u32
     }
 
     /// The fund at place `k`, in the order in which the names first came.
     pub fn fund(&self, k: u32) -> &Fund
-        requires { k < length self.now.funds }
-        ensures { option_map (λ s. s.fund) (slice_get self.now.funds k) ≡ Some result.now }
+        requires { k < length self.now.sheet.funds }
+        ensures { option_map (λ s. s.fund) (slice_get self.now.sheet.funds k) ≡ Some result.now }
     {
         &self.sheet().funds.at(k as usize).fund
     }
 
     /// The number of liabilities.
     pub fn lines(&self) -> u32
-        ensures count { result ≡ length self.now.liabilities }
-        ensures valid { Valid self.now }
+        ensures count { result ≡ length self.now.sheet.liabilities }
+        ensures valid { Valid self.now.sheet }
     {
         self.sheet().liabilities.len() as u32
     }
 
     /// The liability at place `k`, in the order in which the names first came.
     pub fn line(&self, k: u32) -> &Liability
-        requires { k < length self.now.liabilities }
-        ensures { slice_get self.now.liabilities k ≡ Some result.now }
+        requires { k < length self.now.sheet.liabilities }
+        ensures { slice_get self.now.sheet.liabilities k ≡ Some result.now }
     {
         self.sheet().liabilities.at(k as usize)
     }
 
     /// The number of banks.
     pub fn banks(&self) -> u32
-        ensures count { result ≡ length self.now.banks }
-        ensures valid { Valid self.now }
+        ensures count { result ≡ length self.now.sheet.banks }
+        ensures valid { Valid self.now.sheet }
     {
         self.sheet().banks.len() as u32
     }
 
     /// The bank at place `k`, in the order in which the names first came.
     pub fn bank(&self, k: u32) -> &Bank
-        requires { k < length self.now.banks }
-        ensures { slice_get self.now.banks k ≡ Some result.now }
+        requires { k < length self.now.sheet.banks }
+        ensures { slice_get self.now.sheet.banks k ≡ Some result.now }
     {
         self.sheet().banks.at(k as usize)
     }
 
     /// The number of reinsurance arrangements.
     pub fn reinsurers(&self) -> u32
-        ensures count { result ≡ length self.now.reinsurers }
-        ensures valid { Valid self.now }
+        ensures count { result ≡ length self.now.sheet.reinsurers }
+        ensures valid { Valid self.now.sheet }
     {
         self.sheet().reinsurers.len() as u32
     }
 
     /// The reinsurance arrangement at place `k`, in the order in which the names first came.
     pub fn reinsurer(&self, k: u32) -> &Rein
-        requires { k < length self.now.reinsurers }
-        ensures { slice_get self.now.reinsurers k ≡ Some result.now }
+        requires { k < length self.now.sheet.reinsurers }
+        ensures { slice_get self.now.sheet.reinsurers k ≡ Some result.now }
     {
         self.sheet().reinsurers.at(k as usize)
     }
 
     /// The number of currencies.
     pub fn curves(&self) -> u32
-        ensures count { result ≡ length self.now.curves }
-        ensures valid { Valid self.now }
+        ensures count { result ≡ length self.now.sheet.curves }
+        ensures valid { Valid self.now.sheet }
     {
         self.sheet().curves.len() as u32
     }
 
     /// The curve at place `k`, in the order in which the currencies first came.
     pub fn curve(&self, k: u32) -> &Curve
-        requires { k < length self.now.curves }
-        ensures { slice_get self.now.curves k ≡ Some result.now }
+        requires { k < length self.now.sheet.curves }
+        ensures { slice_get self.now.sheet.curves k ≡ Some result.now }
     {
         self.sheet().curves.at(k as usize)
     }
@@ -238,9 +273,9 @@ impl Book {
     /// The table and the place of the name, among the six tables that share one set of names; a currency is not
     /// looked for. None exactly where none of the six has the name.
     pub fn find(&self, name: &Name) -> Option<(Table, u32)>
-        ensures found { IfSome result (λ at. slice_get (names_in at.0 self.now) at.1 ≡ Some name.now) }
+        ensures found { IfSome result (λ at. slice_get (names_in at.0 self.now.sheet) at.1 ≡ Some name.now) }
         ensures shared { IfSome result (λ at. IsTrue (shares_names at.0)) }
-        ensures absent { IsNone result ↔ (is_named name.now self.now ≡ false) }
+        ensures absent { IsNone result ↔ (is_named name.now self.now.sheet ≡ false) }
     {
         let sheet = self.sheet();
         if let Some(k) = sheet.groups.place(name) {
@@ -264,23 +299,33 @@ impl Book {
 
     /// The cents held directly of the security or the fund of this name, 0 where nothing is held.
     pub fn held(&self, name: &Name) -> u64
-        ensures { result ≡ held_of self.now name.now }
+        ensures { result ≡ held_of self.now.sheet name.now }
     {
         self.ledger.held(name)
     }
 
     /// The amounts that stand in no row, the reference date and the reporting currency.
     pub fn numbers(&self) -> &Numbers
-        ensures numbers { result.now ≡ self.now.numbers }
-        ensures valid { Valid self.now }
+        ensures numbers { result.now ≡ self.now.sheet.numbers }
+        ensures valid { Valid self.now.sheet }
     {
         &self.sheet().numbers
     }
 
+    /// The members of a list over which a large sum runs, in the order of their places: one that comes goes last, the last takes
+    /// the place of one that leaves, and nothing else moves.
+    pub fn roll(&self, roll: Roll) -> &[Name]
+        ensures names { result.now ≡ roll_of roll self.now.rolls }
+        ensures apart { IsDistinct same_name (roll_of roll self.now.rolls) }
+        ensures members { (name : List ℕ) → has name (roll_of roll self.now.rolls) ≡ is_member roll name self.now.sheet }
+    {
+        self.rolls.roll(roll)
+    }
+
     /// The tables and the numbers, to look up and to walk.
     pub fn sheet(&self) -> &BalanceSheet
-        ensures sheet { result.now ≡ self.now }
-        ensures valid { Valid self.now }
+        ensures sheet { result.now ≡ self.now.sheet }
+        ensures valid { Valid self.now.sheet }
     {
         self.ledger.sheet()
     }

@@ -11,6 +11,7 @@ ghost use Rattle.scr_book.specs.Holdings.{is_component, are_components, is_apart
 
 use crate::due::graph_of;
 use crate::ranges::{check_ranges, is_within};
+use crate::recent::{recent_place, recent_row};
 use crate::{BalanceSheet, Book, Components, Edit, Fault, MAX_FLOWS, Name, Projection, Table};
 use scr_graph::{FundGraph, GraphFault};
 use scr_sheet::{check_kinds, check_lists, check_names, check_uses};
@@ -19,7 +20,7 @@ use std::alloc::{AllocError as NoMemory, Global};
 /// The first fault of the record in the book, or none.
 pub fn check(alloc: Global, book: &Book, edit: &Edit) -> Result<(), Fault>
     requires { Formed edit.now }
-    ensures { Answers (fault_of edit.now book.now) result }
+    ensures { Answers (fault_of edit.now book.now.sheet) result }
 {
     match checked(alloc, book, edit) {
         Ok(_) => Ok(()),
@@ -30,7 +31,7 @@ pub fn check(alloc: Global, book: &Book, edit: &Edit) -> Result<(), Fault>
 /// As `check`, and hands out the numbers that a fund's components have in the graph, which spare the put their look-ups.
 pub(crate) fn checked(alloc: Global, book: &Book, edit: &Edit) -> Result<Vec<u32>, Fault>
     requires { Formed edit.now }
-    ensures { Answers (fault_of edit.now book.now) result }
+    ensures { Answers (fault_of edit.now book.now.sheet) result }
 {
     if passes(book, edit) {
         return Ok(Vec::new(alloc));
@@ -41,7 +42,7 @@ pub(crate) fn checked(alloc: Global, book: &Book, edit: &Edit) -> Result<Vec<u32
 // The record has no fault. Of the records that come most often a few look-ups and numbers tell so; of others it is not told.
 fn passes(book: &Book, edit: &Edit) -> bool
     requires { Formed edit.now }
-    ensures { result ≡ true → fault_of edit.now book.now ≡ None }
+    ensures { result ≡ true → fault_of edit.now book.now.sheet ≡ None }
 {
     is_in_place(book.sheet(), edit) && is_within(&book.ledger, edit)
 }
@@ -76,7 +77,7 @@ fn is_short(edit: &Edit) -> bool
 #[inline(never)]
 fn first_fault(alloc: Global, book: &Book, edit: &Edit) -> Result<Vec<u32>, Fault>
     requires { Formed edit.now }
-    ensures { Answers (fault_of edit.now book.now) result }
+    ensures { Answers (fault_of edit.now book.now.sheet) result }
 {
     if let Err(fault) = check_lists(alloc, edit) {
         return Err(fault);
@@ -142,7 +143,7 @@ fn are_in_order(sheet: &BalanceSheet, edit: &Edit) -> bool
                 && is_group(sheet, group)
                 && sheet.curves.contains(currency)
         }
-        Edit::Flows { security, .. } => sheet.securities.contains(security),
+        Edit::Flows { security, .. } => recent_place(&sheet.securities, security).is_some(),
         Edit::Hold { name, .. } => sheet.securities.contains(name) || sheet.funds.contains(name),
         Edit::LiabilityFlows {
             liability,
@@ -195,7 +196,7 @@ fn is_group(sheet: &BalanceSheet, group: &Option<Name>) -> bool
 fn has_projection(sheet: &BalanceSheet, liability: &Name, projection: Projection) -> bool
     ensures { result ≡ is_projected projection liability.now sheet.now }
 {
-    match sheet.liabilities.get(liability) {
+    match recent_row(&sheet.liabilities, liability) {
         Some(row) => row.kind.has(projection),
         None => false,
     }
@@ -219,7 +220,7 @@ fn is_component(sheet: &BalanceSheet, fund: &Name, name: &Name) -> bool
 
 // Only where something may use it are the rows looked at, for the first user.
 fn check_users(book: &Book, edit: &Edit) -> Result<(), Fault>
-    ensures { Answers (in_use edit.now book.now) result }
+    ensures { Answers (in_use edit.now book.now.sheet) result }
 {
     match edit {
         Edit::Remove { table, name } if is_idle(book, *table, name) => Ok(()),
@@ -237,7 +238,7 @@ fn first_use(sheet: &BalanceSheet, edit: &Edit) -> Result<(), Fault>
 
 // By what the book counts, nothing uses the row.
 fn is_idle(book: &Book, table: Table, name: &Name) -> bool
-    ensures { result ≡ true → user_of table name.now book.now ≡ None }
+    ensures { result ≡ true → user_of table name.now book.now.sheet ≡ None }
 {
     match table {
         Table::Group => book.users.names.is_unused(name),
@@ -249,8 +250,8 @@ fn is_idle(book: &Book, table: Table, name: &Name) -> bool
 
 // The currency is not the reporting one, and has no absorption.
 fn is_curve_idle(book: &Book, currency: &Name) -> bool
-    ensures reporting { result ≡ true → same_name currency.now book.now.numbers.currency ≡ false }
-    ensures absorbing { result ≡ true → absorption_of currency.now book.now ≡ None }
+    ensures reporting { result ≡ true → same_name currency.now book.now.sheet.numbers.currency ≡ false }
+    ensures absorbing { result ≡ true → absorption_of currency.now book.now.sheet ≡ None }
 {
     let (up, down) = book.ledger.absorptions(currency);
     *currency != book.numbers().currency && up == 0 && down == 0
@@ -259,9 +260,9 @@ fn is_curve_idle(book: &Book, currency: &Name) -> bool
 // ---- no fund holds itself
 
 fn check_cycle(alloc: Global, book: &Book, edit: &Edit) -> Result<Vec<u32>, Fault>
-    requires known { unknown_name edit.now book.now ≡ None }
-    requires kind { wrong_kind edit.now book.now ≡ None }
-    ensures { Answers (cycle edit.now book.now) result }
+    requires known { unknown_name edit.now book.now.sheet ≡ None }
+    requires kind { wrong_kind edit.now book.now.sheet ≡ None }
+    ensures { Answers (cycle edit.now book.now.sheet) result }
 {
     match edit {
         Edit::Fund { name, components } => no_cycle(alloc, book, name, components),
@@ -276,9 +277,9 @@ fn no_cycle(
     name: &Name,
     components: &Components,
 ) -> Result<Vec<u32>, Fault>
-    requires known { unknown_name (Edit.Fund name.now components.now) book.now ≡ None }
-    requires kind { wrong_kind (Edit.Fund name.now components.now) book.now ≡ None }
-    ensures { Answers (cycle (Edit.Fund name.now components.now) book.now) result }
+    requires known { unknown_name (Edit.Fund name.now components.now) book.now.sheet ≡ None }
+    requires kind { wrong_kind (Edit.Fund name.now components.now) book.now.sheet ≡ None }
+    ensures { Answers (cycle (Edit.Fund name.now components.now) book.now.sheet) result }
 {
     if !book.ledger.is_graph_due {
         return no_cycle_in(alloc, &book.ledger.graph, book.sheet(), name, components);

@@ -11,6 +11,8 @@ mod parts;
 mod pasts;
 mod puts;
 mod ranges;
+mod recent;
+mod rolls;
 mod sums;
 mod undo;
 mod users;
@@ -23,6 +25,7 @@ pub use scr_sheet::{
     MAX_CURRENCIES, MAX_DURATION, MAX_EXPOSURES, MAX_FLOWS, MAX_FUND_COMPONENTS, MAX_FUNDS,
     MAX_GROUPS, MAX_HELD, MAX_LIABILITIES, MAX_LIABILITY_FLOWS, MAX_PROMISED, MAX_RATE, MAX_RATES,
     MAX_SECURITIES, MAX_SYM, MAX_TAX, MAX_WEIGHT, MAX_YEARS, MIN_RATE, MIN_WEIGHT, Name, Names,
-    Numbers, OpInput, Position, Projection, Quantity, Rates, Rein, Security, Stake, Table, User,
+    Numbers, OpInput, Position, Projection, Quantity, Rates, Rein, Roll, Security, Stake, Table,
+    User,
 };
 pub use undo::Undo;

@@ -9,6 +9,7 @@ ghost use Rattle.scr_book.specs.LastDays.{lists_ending};
 ghost use Rattle.scr_sheet.specs.BalanceSheet.{stake_name, liability_name, bank_name, rein_name, liability_flows_total, defaults_total, components_total};
 
 use crate::ledger::Ledger;
+use crate::recent::recent_row;
 use crate::{Name, Projection};
 use scr_dates::Day;
 
@@ -19,7 +20,7 @@ impl Ledger {
         ensures on_day { IsDayOrNone result }
         ensures part { (day : ℤ) → ends_on day result ≤ lists_ending day self.now }
     {
-        match self.sheet().securities.get(name) {
+        match recent_row(&self.sheet().securities, name) {
             Some(position) => position.security.flows.last_day(),
             None => None,
         }
@@ -33,7 +34,7 @@ impl Ledger {
         ensures on_day { IsDayOrNone result }
         ensures part { (day : ℤ) → ends_on day result ≤ lists_ending day self.now }
     {
-        match self.sheet().liabilities.get(name) {
+        match recent_row(&self.sheet().liabilities, name) {
             Some(liability) => liability.flows.under(projection).last_day(),
             None => None,
         }
@@ -58,7 +59,7 @@ impl Ledger {
             (row_of liability_name name.now self.now.liabilities) 0 }
         ensures part { result ≤ liability_flows_total projection self.now }
     {
-        match self.sheet().liabilities.get(name) {
+        match recent_row(&self.sheet().liabilities, name) {
             Some(liability) => liability.flows.under(projection).total() as u64,
             None => 0,
         }

@@ -36,8 +36,8 @@ pub fn cell(engine: &Engine, k: u32) -> Cell
 
 /// The stated width of a figure that has one, in cents.
 fn width_of(book: &Book, node: &Node) -> u64
-    requires { is_some (stated_width book.now node.now) ≡ true }
-    ensures { stated_width book.now node.now ≡ Some result }
+    requires { is_some (stated_width book.now.sheet node.now) ≡ true }
+    ensures { stated_width book.now.sheet node.now ≡ Some result }
 {
     match stated_width(book, node) {
         Some(width) => width,

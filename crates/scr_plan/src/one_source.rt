@@ -8,7 +8,7 @@ use scr_book::Book;
 /// The source of a node at place `k`, counted from 0, in the order in which its rule takes them; none exactly past the
 /// last.
 pub fn source(book: &Book, node: Node, k: u32) -> Option<Node>
-    ensures { result ≡ slice_get (sources_of book.now node) k }
+    ensures { result ≡ slice_get (sources_of book.now.sheet node) k }
 {
     scr_nodes::source(book.sheet(), &node, k)
 }

@@ -1,6 +1,7 @@
 -- What the code answers where a balance sheet or a fault is due (this project's own). Want of memory may come in place
 -- of either.
 use Rattle.std.specs.Prelude.{◌≡◌, ℕ, Result, Ok, Err}
+use Rattle.scr_book.specs.RolledSheets.{RolledSheet}
 use Rattle.scr_sheet.specs.declared.sheet.BalanceSheet.{BalanceSheet}
 use Rattle.scr_sheet.specs.declared.fault.Fault.{Fault}
 use Rattle.scr_sheet.specs.declared.fault.Fault.TheVariants as faults
@@ -29,8 +30,8 @@ Replied due old (Err (refusals.Fault fault)) new = (due ≡ Err fault) × (new �
 Replied due old (Err refusals.NoMemory) new = new ≡ old
 
 -- The book that is due, or the line and the fault.
-abbrev pub Read : Result BalanceSheet (ℕ × Fault) → Result BalanceSheet BookFault → Type 0
-Read due (Ok book) = due ≡ Ok book
+abbrev pub Read : Result BalanceSheet (ℕ × Fault) → Result RolledSheet BookFault → Type 0
+Read due (Ok book) = due ≡ Ok book.sheet
 Read due (Err (book_faults.Record line fault)) = due ≡ Err (line, fault)
 Read due (Err book_faults.NoMemory) = Unit {0}
 

@@ -2,6 +2,7 @@
 -- is too long, whatever its bytes.
 use Rattle.std.specs.Prelude.{◌≡◌, ℕ, List, Result, Ok, Err}
 use Rattle.scr_io.specs.declared.reading.TheConstants.{MAX_BYTES}
+use Rattle.scr_book.specs.RolledSheets.{RolledSheet}
 use Rattle.scr_sheet.specs.declared.sheet.BalanceSheet.{BalanceSheet}
 use Rattle.scr_sheet.specs.declared.fault.Fault.{Fault}
 use Rattle.scr_factors.specs.Reading.{values_in}
@@ -37,9 +38,9 @@ CallsFor due (GaveUp Reading) = ⊥
 CallsFor due (GaveUp Writing) = ⊥
 CallsFor due (GaveUp Memory) = Unit {0}
 
--- what bytes at hand stand for, or the status that they call for
-abbrev pub Bears : {V : Type 0} → Result V Status → Result V Status → Type 0
-Bears due (Ok value) = due ≡ Ok value
+-- a book with the balance sheet that bytes at hand stand for, or the status that they call for
+abbrev pub Bears : Result BalanceSheet Status → Result RolledSheet Status → Type 0
+Bears due (Ok book) = due ≡ Ok book.sheet
 Bears due (Err status) = CallsFor due (answer_of status)
 
 -- bytes at hand are within the limit of a file, or call for this status

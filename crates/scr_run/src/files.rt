@@ -95,7 +95,7 @@ fn factors_refused(fault: FactorFault) -> Status
 pub fn file_book<F: Shelf>(alloc: Global, shelf: &mut F, name: &str) -> Result<Book, Status>
     ensures passed { IfOk result (λ book. Passed name.now book_in
         (shelved (F.content shelf.old) (F.faults shelf.old) (F.strays shelf.old))
-        (shelved (F.content shelf.new) (F.faults shelf.new) (F.strays shelf.new)) book) }
+        (shelved (F.content shelf.new) (F.faults shelf.new) (F.strays shelf.new)) book.sheet) }
     ensures stopped { IfErr result (λ status. Stopped name.now book_in
         (shelved (F.content shelf.old) (F.faults shelf.old) (F.strays shelf.old))
         (shelved (F.content shelf.new) (F.faults shelf.new) (F.strays shelf.new))

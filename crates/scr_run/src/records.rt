@@ -52,7 +52,7 @@ pub fn read_book(alloc: Global, bytes: &[u8]) -> Result<Book, BookFault>
 /// Applies the records of the file to the book, one after another, up to the first that is refused.
 fn fill(alloc: Global, book: &mut Book, bytes: &[u8]) -> Result<(), BookFault>
     requires { length bytes.now ≤ 67108864 }
-    ensures answer { Filled (sheet_from (records bytes.now) book.old) result book.new }
+    ensures answer { Filled (sheet_from (records bytes.now) book.old.sheet) result book.new.sheet }
     ensures never_memory { (line : ℕ) → IsErrOf result (BookFault.Record line faults.NoMemory) → ⊥ }
 {
     for line in lines(bytes) {
@@ -69,7 +69,7 @@ fn fill(alloc: Global, book: &mut Book, bytes: &[u8]) -> Result<(), BookFault>
 #[tactic(auto, unfolding(crate::specs::BookFile::recorded))]
 pub fn record(alloc: Global, book: &mut Book, text: &[u8]) -> Result<(), Fault>
     requires { length text.now ≤ 67108864 }
-    ensures { Recorded (recorded text.now book.old) book.old result book.new }
+    ensures { Recorded (recorded text.now book.old.sheet) book.old.sheet result book.new.sheet }
 {
     match read_line(alloc, text) {
         Ok(edit) => book.take(alloc, edit),

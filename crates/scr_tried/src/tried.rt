@@ -1,5 +1,6 @@
 //! Records that are applied and taken back.
 ghost use Rattle.std.specs.Prelude.{◌≡◌, ◌≤◌, length, vec_len, IfOk};
+ghost use Rattle.scr_book.specs.RolledSheets.{AreStill};
 ghost use Rattle.scr_sheet.specs.Forms.{Formed};
 
 use scr_book::{Book, Edit, Fault};
@@ -82,7 +83,8 @@ fn fill(alloc: Global, book: &mut Book, bytes: &[u8]) -> Result<(), Ended>
 /// Applies the record of a line and takes it back: the book is as it was.
 fn tried(alloc: Global, book: &mut Book, text: &[u8]) -> Result<(), Fault>
     requires { length text.now ≤ 67108864 }
-    ensures { book.new ≡ book.old }
+    ensures sheet { book.new.sheet ≡ book.old.sheet }
+    ensures rolls { AreStill book.old book.new }
 {
     match read_line(alloc, text) {
         Ok(edit) => taken_back(alloc, book, &edit),
@@ -93,7 +95,8 @@ fn tried(alloc: Global, book: &mut Book, text: &[u8]) -> Result<(), Fault>
 
 fn taken_back(alloc: Global, book: &mut Book, edit: &Edit) -> Result<(), Fault>
     requires { Formed edit.now }
-    ensures { book.new ≡ book.old }
+    ensures sheet { book.new.sheet ≡ book.old.sheet }
+    ensures rolls { AreStill book.old book.new }
 {
     match book.apply_kept(alloc, edit) {
         Ok(undo) => {

@@ -1,4 +1,4 @@
-use Rattle.std.proofs.Common.{◌≡◌, sym, ◌∙◌}
+use Rattle.std.proofs.Common.{sym, ◌∙◌}
 use Rattle.scr_book.proofs.NamesInOrder.{in_order-known, in_order-placed}
 use Rattle.scr_book.proofs.checks.names_pass.Goals as goal
 

@@ -1,10 +1,7 @@
-use Rattle.std.proofs.Common.{◌≡◌, ℕ, ℤ, ◌+◌, List, sym, ap, subst, ◌∙◌, arith}
+use Rattle.std.proofs.Common.{sym, ap, subst, ◌∙◌, arith}
 use Rattle.std.specs.Prelude.{IfSome}
-use Rattle.std.specs.List.{AllByRecursion}
 use Rattle.std.specs.Option.{option_map_or}
-use Rattle.scr_dates.specs.Civil.{IsDay}
 use Rattle.scr_names.specs.Tables.{row_of}
-use Rattle.scr_tally.specs.Days.{count_of}
 use Rattle.scr_sheet.specs.BalanceSheet.{position_name, liability_name}
 use Rattle.scr_sheet.specs.Earlier.{with_earlier, FitsIn}
 use Rattle.scr_sheet.specs.Validity.{Valid, IsSecurity, IsLiability}
@@ -12,7 +9,7 @@ use Rattle.scr_sheet.specs.declared.earlier.Earlier.{Earlier}
 use Rattle.scr_sheet.specs.declared.earlier.Earlier.TheVariants as earlier
 use Rattle.scr_book.specs.LastDays.{security_ends, liability_ends, AreDaysOf}
 use Rattle.scr_book.proofs.Restored.{came_back, stands}
-use Rattle.scr_book.proofs.DaysBack.{ends_now, ends_then, now-counted, then-fits, days-back, days-still}
+use Rattle.scr_book.proofs.DaysBack.{now-counted, then-fits, days-back}
 use Rattle.scr_book.proofs.days.put_back.Goals as goal
 
 -- ---- securities

@@ -1,10 +1,8 @@
-use Rattle.std.proofs.Common.{◌≡◌, true, sym, ap, subst, ◌∙◌}
-use Rattle.scr_funds.specs.Chains.{LeadsTo}
+use Rattle.std.proofs.Common.{sym, ap, subst, ◌∙◌}
 use Rattle.scr_graph.specs.Graph.{entered_in}
 use Rattle.scr_sheet.specs.Earlier.{with_earlier, FitsIn}
 use Rattle.scr_sheet.specs.Validity.{Valid}
 use Rattle.scr_sheet.specs.declared.earlier.Earlier.{Earlier}
-use Rattle.scr_sheet.specs.declared.earlier.Earlier.TheVariants as earlier
 use Rattle.scr_book.specs.Holders.{IsGraphOf}
 use Rattle.scr_book.proofs.HoldersBack.{graph-security_back, graph-fund_back, apart-back}
 use Rattle.scr_book.proofs.due.move_back.Goals as goal

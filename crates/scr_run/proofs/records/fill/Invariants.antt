@@ -6,4 +6,4 @@ use Rattle.scr_run.proofs.records.fill.Given as goal
 
 -- the records that are left give, from the book so far, what all give from the book at first
 abbrev pub invariant-loop-line : goal.invariant-loop-line
-invariant-loop-line l = sheet_from (lines_left l.line-iterator) l.book ≡ sheet_from (records l.bytes) l.fn.book
+invariant-loop-line l = sheet_from (lines_left l.line-iterator) l.book.sheet ≡ sheet_from (records l.bytes) l.fn.book.sheet

@@ -8,21 +8,21 @@ use Rattle.scr_sheet.specs.declared.edit.Edit.{Edit}
 use Rattle.scr_sheet.specs.declared.sheet.BalanceSheet.{BalanceSheet}
 use Rattle.scr_book.specs.Kept.{IsKept}
 use Rattle.scr_book.specs.Sums.{AreSumsOf}
-use Rattle.scr_book.specs.Undone.{back, Fits}
+use Rattle.scr_book.specs.Undone.{FitsSheet, sheet_before}
 use Rattle.scr_book.specs.declared.ledger.Ledger.TheInside.{Inside}
-use Rattle.scr_book.specs.declared.undo.Undo.{Undo}
+use Rattle.scr_book.specs.declared.undo.Before.{Before}
 use Rattle.scr_book.proofs.Applied.{sums_now}
 use Rattle.scr_book.proofs.ledger.Ledger.before.Goals as goal
 
 -- what led back from the kept sheet leads back to what contracts see
 module _ (book : Inside) (now : BalanceSheet) (view : book.sheet ≡ now) (kept : IsKept book) (earlier : Earlier) (components : Option KeptComponents) (edit : Edit) (led : LeadsBack earlier edit book.sheet) where
-  abbrev undo : Undo
-  undo = record { earlier = earlier; sums = book.sums; components = components }
+  abbrev before : Before
+  before = record { earlier = earlier; sums = book.sums; components = components }
 
-  led_back : back undo (applied edit now) ≡ now
+  led_back : sheet_before before (applied edit now) ≡ now
   led_back = subst (λ (s : BalanceSheet). with_earlier earlier (applied edit s) ≡ s) view led.back
 
-  led_fits : Fits undo (applied edit now)
+  led_fits : FitsSheet before (applied edit now)
   led_fits = record {
     valid = subst Valid (sym led_back) (subst Valid view kept.valid);
     sums = subst (λ (s : BalanceSheet). AreSumsOf s book.sums) (sym led_back) (sums_now book now view kept);
