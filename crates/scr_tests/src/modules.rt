@@ -1,11 +1,10 @@
 //! Functions of the modules that the program calls piece by piece, as a whole.
 
-use scr_default::class_of_step;
 use scr_loss::operational;
 use scr_market::equity;
 use scr_nonlife::cat;
 use scr_num::{Span, exact};
-use scr_profile::OpInput;
+use scr_profile::{DefaultClass, OpInput};
 use scr_rate::interest;
 
 // 1,000 euros of type 1 and 500 euros of type 2 equities: 390 and 245 euros, and together 596.19 to
@@ -66,7 +65,7 @@ fn two_natural_catastrophes(rt: HostRuntime) {
 
 #[test]
 fn steps_5_and_6_and_none_share_a_class(rt: HostRuntime) {
-    assert_eq!(rt; class_of_step(Some(4)), 4);
-    assert_eq!(rt; class_of_step(Some(6)), 5);
-    assert_eq!(rt; class_of_step(None), 5);
+    assert!(rt; DefaultClass::of_step(Some(4)) == DefaultClass::Step4);
+    assert!(rt; DefaultClass::of_step(Some(6)) == DefaultClass::Steps5And6);
+    assert!(rt; DefaultClass::of_step(None) == DefaultClass::Steps5And6);
 }

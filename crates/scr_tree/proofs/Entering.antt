@@ -72,15 +72,15 @@ unfolding IsFirstDueOn
 first-of b figures due is = is
 
 module _ (b : Basis) (figures : List Figure) (due : Due) (is : IsFirstOf b figures due) (node : Node)
-    (at : StandsAt b.inputs.book.now b.places.now node due.number) where
+    (at : StandsAt b.inputs.book.now.sheet b.places.now node due.number) where
   pub first-one : node ≡ is.node
   first-one = is.basis.0.numbers.exact due.number node is.node at is.at
 
-  pub first-live : is_live b.inputs.book.now node ≡ true
-  first-live = subst (λ n. is_live b.inputs.book.now n ≡ true) (sym first-one) is.live
+  pub first-live : is_live b.inputs.book.now.sheet node ≡ true
+  first-live = subst (λ n. is_live b.inputs.book.now.sheet n ≡ true) (sym first-one) is.live
 
-  pub first-ends : ends_on b due.number ≡ worked b.inputs.factors.now b.inputs.book.now node
-  first-ends = ends-here b.inputs.factors.now b.inputs.book.now b.places.now b.links.now.edges is.basis.0 node due.number at first-live
+  pub first-ends : ends_on b due.number ≡ worked b.inputs.factors.now b.inputs.book.now.sheet node
+  first-ends = ends-here b.inputs.factors.now b.inputs.book.now.sheet b.places.now b.links.now.edges is.basis.0 node due.number at first-live
 
   -- the total is there
   pub total-known : is_total node ≡ true → IsKnownOn b figures due.number
@@ -91,15 +91,15 @@ module _ (b : Basis) (figures : List Figure) (due : Due) (is : IsFirstOf b figur
       node,
       at,
       first-live,
-      subst (HasFigure b.inputs.factors.now b.inputs.book.now figures due.number) (sym first-one)
+      subst (HasFigure b.inputs.factors.now b.inputs.book.now.sheet figures due.number) (sym first-one)
           (is.total (sym (ap is_total first-one) ∙ total)),
     ),
   )
 
   pub other-sources : is_total node ≡ false
-      → AreAt (StandsAt b.inputs.book.now b.places.now) due.sources.items (sources_of b.inputs.book.now node)
+      → AreAt (StandsAt b.inputs.book.now.sheet b.places.now) due.sources.items (sources_of b.inputs.book.now.sheet node)
   other-sources other =
-      subst (λ n. AreAt (StandsAt b.inputs.book.now b.places.now) due.sources.items (sources_of b.inputs.book.now n)) (sym first-one)
+      subst (λ n. AreAt (StandsAt b.inputs.book.now.sheet b.places.now) due.sources.items (sources_of b.inputs.book.now.sheet n)) (sym first-one)
       (is.other (sym (ap is_total first-one) ∙ other))
 
 -- ---- all can be reckoned by several workers
@@ -110,10 +110,10 @@ module _ (b : Basis) (is : IsBasis b) (figures : List Figure) (numbers : List �
   factors = b.inputs.factors.now
 
   abbrev sheet : BalanceSheet
-  sheet = b.inputs.book.now
+  sheet = b.inputs.book.now.sheet
 
   abbrev Stands : Node → ℕ → Type 0
-  Stands = StandsAt b.inputs.book.now b.places.now
+  Stands = StandsAt b.inputs.book.now.sheet b.places.now
 
   abbrev NoneLeft : Node → Type 0
   NoneLeft = IsNoneOf Stands numbers

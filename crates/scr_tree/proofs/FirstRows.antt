@@ -1,15 +1,12 @@
 -- The figures of a row in the first reckoning.
 use Rattle.std.proofs.Common.{◌≡◌, ℕ, zero, suc, ◌+◌, ◌<◌, Bool, true, false, List, [], ◌∷◌, map, length, Some, None, is_some, Result, Ok, Err, OnOk, slice_get, refl, sym, ap, subst, ◌∙◌, arith}
 use Rattle.std.specs.List.{AllByRecursion}
-use Rattle.std.specs.Option.{option_map, option_map_or}
-use Rattle.std.proofs.lemmas.Bool.{and_parts}
-use Rattle.scr_num.specs.Rounding.{ends}
+use Rattle.std.specs.Option.{option_map_or}
 use Rattle.scr_factors.specs.Values.{FactorValues}
 use Rattle.scr_names.specs.Tables.{row_of}
-use Rattle.scr_figures.specs.Families.{family_of, name_of, table_of}
+use Rattle.scr_figures.specs.Families.{name_of, table_of}
 use Rattle.scr_figures.specs.Numbers.{IsNumbered, StandsAt, names_in}
-use Rattle.scr_figures.proofs.Standing.{stands}
-use Rattle.scr_numbers.specs.Ranges.{Numbered, first, stride}
+use Rattle.scr_numbers.specs.Ranges.{Numbered}
 use Rattle.scr_numbers.specs.declared.table.Table.TheVariants as tables
 use Rattle.scr_sheet.specs.BalanceSheet.{group_name, liability_name, position_name, position_of}
 use Rattle.scr_sheet.specs.declared.{keys.Projection.Projection, rows.Group.Group, rows.Liability.Liability, rows.Position.Position, sheet.BalanceSheet.BalanceSheet}
@@ -17,22 +14,18 @@ use Rattle.scr_sheet.specs.declared.rows.Class.TheVariants as classes
 use Rattle.scr_sheet.specs.Validity.{Valid}
 use Rattle.scr_nodes.specs.Live.{is_live}
 use Rattle.scr_nodes.specs.Rows.{has_class, has_flows, is_paying, is_stress, liability_of}
-use Rattle.scr_nodes.specs.Sources.{group_total, liability_loss, security_spread, security_total, sources_of, unit_loss}
+use Rattle.scr_nodes.specs.Sources.{group_total, liability_loss, security_spread, security_total, unit_loss}
 use Rattle.scr_nodes.specs.declared.{node.Direction.Direction, node.Node.Node}
 use Rattle.scr_nodes.specs.declared.node.Direction.TheVariants.{Up, Down}
 use Rattle.scr_nodes.specs.declared.node.Node.TheVariants as nodes
 use Rattle.scr_nodes.specs.declared.node.OfSecurity.TheVariants as of_securities
 use Rattle.scr_nodes.proofs.LiveSources.{loss-live, passes-own}
 use Rattle.scr_nodes.proofs.OwnRows.{own-groups, own-liabilities, own-securities}
-use Rattle.scr_rules.specs.Worked.{worked}
-use Rattle.scr_reach.specs.Linked.{AreAt, AreNumbers}
-use Rattle.scr_tree.specs.Figures.{AreKnownOf, worth_at, worth_of}
-use Rattle.scr_tree.specs.First.{IsEntered, IsMade}
-use Rattle.scr_tree.specs.Turns.{IsBefore, Turn, next, turn, turn_of}
-use Rattle.scr_tree.specs.declared.figures.Figure.{Figure}
+use Rattle.scr_reach.specs.Linked.{AreNumbers}
+use Rattle.scr_tree.specs.First.{IsMade}
+use Rattle.scr_tree.specs.Turns.{Turn, next, turn, turn_of}
 use Rattle.scr_tree.specs.declared.making.Made.{Made}
-use Rattle.scr_tree.proofs.Made.{made-entered, made-good}
-use Rattle.scr_tree.proofs.Plain.{is_plain, plain-worth}
+use Rattle.scr_tree.proofs.Made.{made-good}
 use Rattle.scr_tree.proofs.Turns.{IsAsGood, IsTurnOf, dead-skipped, good-and, row-begun, row-ended, security-first, of-table}
 
 pub on-ok : {E : Type 0} (P Q : Type 0) (r : Result (Unit {0}) E) → (P → Q) → OnOk r P → OnOk r Q
@@ -58,30 +51,6 @@ got-row (x ∷ xs) (suc k) l = got-row xs k (omega (arith, l))
 
 module _ (factors : FactorValues) (sheet : BalanceSheet) (valid : Valid sheet) (places : Numbered) (numbered : IsNumbered sheet places)
     (numbers : AreNumbers sheet (StandsAt sheet places) places.size) where
-  -- a figure of the row at a place that rests on no choice
-  pub row-entered : (old now : Made) (node : Node) (k number : ℕ) (sources : List ℕ) (figure : Figure)
-      → IsMade factors sheet places old (turn_of node k) (turn_of node k) → is_live sheet node ≡ true
-      → slice_get (names_in sheet (table_of node)) k ≡ Some (name_of node) → family_of node < stride (table_of node)
-      → number ≡ first places (table_of node) k + family_of node → AreAt (StandsAt sheet places) sources (sources_of sheet node)
-      → is_plain node ≡ true → ends figure.span ≡ worked factors sheet node → figure.close ≡ false
-      → IsEntered number sources figure old now → IsMade factors sheet places now (next (turn_of node k)) (next (turn_of node k))
-  row-entered old now node k number sources figure is live named few own are plain right close entered =
-      made-entered factors sheet valid places numbered numbers old now (turn_of node k) node number sources figure is
-      (record { at = refl; row = named; family = refl }) live
-      (subst (StandsAt sheet places node) (sym own) (stands sheet places numbered node few k named)) are
-      (plain-worth factors sheet valid node figure plain right close) entered
-
-  -- the figure is that of the node, whose turn has come before
-  pub span-known : (made : Made) (t u : Turn) (node : Node) (number : ℕ) (figure : Figure) → IsMade factors sheet places made t u
-      → IsBefore sheet t node → is_live sheet node ≡ true → StandsAt sheet places node number
-      → slice_get made.figures.items number ≡ Some figure → ends figure.span ≡ worked factors sheet node
-  unfolding AreKnownOf
-  span-known made t u node number figure is before live at got =
-      let known = is.known node number at live before in
-      let both : Some (worth_of figure) ≡ Some (worth_at factors sheet node) = sym (ap (option_map worth_of) got) ∙ known in
-      let same : worth_of figure ≡ worth_at factors sheet node = cc in
-      ap (λ w. w.worked) same
-
   pub made-on : (made : Made) (t u : Turn) → IsAsGood sheet t u → IsMade factors sheet places made t t
       → IsMade factors sheet places made u u
   made-on made t u good is = made-good factors sheet valid places numbered numbers made t u t u good good is
@@ -119,24 +88,24 @@ module _ (sheet : BalanceSheet) (valid : Valid sheet) (places : Numbered) (numbe
       → IsAsGood sheet (turn_of node k) (next (turn_of node k))
   dead node table name none = dead-skipped sheet places numbered (turn_of node k) node (its node table name) none
 
-  pub pays-not : is_paying p ≡ false → IsAsGood sheet (turn 2 k 0) (turn 2 k 5)
+  pub pays-not : is_paying p ≡ false → IsAsGood sheet (turn 3 k 0) (turn 3 k 5)
   pays-not none =
-      good-and sheet (turn 2 k 0) (turn 2 k 1) (turn 2 k 5)
-      (row-begun sheet 2 k 1 (λ n live s. security-first n s))
-      (good-and sheet (turn 2 k 1) (turn 2 k 2) (turn 2 k 5) (dead (nodes.Security p.security.name (of_securities.UnitLoss Up)) refl refl (λ l. clash l))
-      (good-and sheet (turn 2 k 2) (turn 2 k 3) (turn 2 k 5) (dead (nodes.Security p.security.name (of_securities.UnitLoss Down)) refl refl (λ l. clash l))
-      (good-and sheet (turn 2 k 3) (turn 2 k 4) (turn 2 k 5) (dead (nodes.Security p.security.name (of_securities.Rate Up)) refl refl (λ l. clash l))
+      good-and sheet (turn 3 k 0) (turn 3 k 1) (turn 3 k 5)
+      (row-begun sheet 3 k 1 (λ n live s. security-first n s))
+      (good-and sheet (turn 3 k 1) (turn 3 k 2) (turn 3 k 5) (dead (nodes.Security p.security.name (of_securities.UnitLoss Up)) refl refl (λ l. clash l))
+      (good-and sheet (turn 3 k 2) (turn 3 k 3) (turn 3 k 5) (dead (nodes.Security p.security.name (of_securities.UnitLoss Down)) refl refl (λ l. clash l))
+      (good-and sheet (turn 3 k 3) (turn 3 k 4) (turn 3 k 5) (dead (nodes.Security p.security.name (of_securities.Rate Up)) refl refl (λ l. clash l))
       (dead (nodes.Security p.security.name (of_securities.Rate Down)) refl refl (λ l. clash l)))))
     where
       clash : option_map_or is_paying (position_of p.security.name sheet.securities) false ≡ true → ⊥
       clash l = not-true (is_paying p) none (sym (ap (λ o. option_map_or is_paying o false) security-own) ∙ l)
 
-  pub security-ended : IsAsGood sheet (turn 2 k 6) (turn 2 (k + 1) 0)
-  security-ended = row-ended sheet 2 k 6 (λ n live s. of-table sheet places numbered 2 n live s)
+  pub security-ended : IsAsGood sheet (turn 3 k 6) (turn 3 (k + 1) 0)
+  security-ended = row-ended sheet 3 k 6 (λ n live s. of-table sheet places numbered 3 n live s)
 
-  pub bond-not : has_class classes.Bond p ≡ false → IsAsGood sheet (turn 2 k 5) (turn 2 (k + 1) 0)
+  pub bond-not : has_class classes.Bond p ≡ false → IsAsGood sheet (turn 3 k 5) (turn 3 (k + 1) 0)
   bond-not none =
-      good-and sheet (turn 2 k 5) (turn 2 k 6) (turn 2 (k + 1) 0)
+      good-and sheet (turn 3 k 5) (turn 3 k 6) (turn 3 (k + 1) 0)
       (dead (nodes.Security p.security.name of_securities.Spread) refl refl
       (λ l. not-true (has_class classes.Bond p) none
       (sym (ap (λ o. option_map_or (has_class classes.Bond) o false) security-own) ∙ l)))
@@ -155,19 +124,6 @@ module _ (sheet : BalanceSheet) (valid : Valid sheet) (places : Numbered) (numbe
   pub stress-live : (projection : Projection) → is_stress projection ≡ true → has_flows projection l ≡ true
       → is_live sheet (liability_loss projection l) ≡ true
   stress-live projection stress flows = loss-live sheet valid projection l stress liability-own flows
-
-  pub stress-not : (projection : Projection) → has_flows projection l ≡ false
-      → IsAsGood sheet (turn_of (liability_loss projection l) k) (next (turn_of (liability_loss projection l) k))
-  stress-not projection none =
-      dead-skipped sheet places numbered (turn_of (liability_loss projection l) k) (liability_loss projection l)
-      (record { at = refl; row = liability-named; family = refl })
-      (λ live.
-      let flows = (and_parts (is_stress projection) (option_map_or (has_flows projection) (liability_of l.name sheet.liabilities) false) live).1 in
-      let clash : true ≡ false =
-      sym flows ∙ (ap (λ o. option_map_or (has_flows projection) o false) liability-own ∙ none) in absurd (cc))
-
-  pub liability-ended : IsAsGood sheet (turn 3 k 12) (turn 3 (k + 1) 0)
-  liability-ended = row-ended sheet 3 k 12 (λ n live s. of-table sheet places numbered 3 n live s)
 
 -- ---- groups
 

@@ -38,19 +38,18 @@ module _ (sheet : BalanceSheet) where
 
   whole-source : Valid sheet → (what : Whole) → is_live sheet (nodes.Whole what) ≡ true → (row : ℕ)
       → slice_get (names_in sheet tables.Whole) row ≡ Some [] → order.turn_of what ≡ 1 + whole_family what
-      → (m : Node) → IsMember m (sources_of sheet (nodes.Whole what)) → IsBefore sheet (turn 8 row (whole_family what)) m
+      → (m : Node) → IsMember m (sources_of sheet (nodes.Whole what)) → IsBefore sheet (turn 7 row (whole_family what)) m
   whole-source valid what live row named own (nodes.Fund name of) has = inl (omega arith)
   whole-source valid what live row named own (nodes.Security name of_securities.Total) has = inl (omega arith)
   whole-source valid what live row named own (nodes.Security name of) has = inl (omega arith)
   whole-source valid what live row named own (nodes.Liability name of) has = inl (omega arith)
   whole-source valid what live row named own (nodes.Currency name of) has = inl (omega arith)
-  whole-source valid what live row named own (nodes.Group name of_groups.ConcentrationSquare) has = inl (omega arith)
   whole-source valid what live row named own (nodes.Group name of) has = inl (omega arith)
   whole-source valid what live row named own (nodes.Whole wholes.Assets) has = inl (omega arith)
   whole-source valid what live row named own (nodes.Whole source) has =
       let earlier = turn-before sheet what source valid live
       (Contains-from_IsMember (sources_of sheet (nodes.Whole what)) (nodes.Whole source) has) in
-      of-row row (whole_family what) (nodes.Whole source) 8 refl named (omega (arith, own, earlier))
+      of-row row (whole_family what) (nodes.Whole source) 7 refl named (omega (arith, own, earlier))
 
   pub sources-before : Valid sheet → (node : Node) → is_live sheet node ≡ true → (row : ℕ)
       → slice_get (names_in sheet (table_of node)) row ≡ Some (name_of node) → 2 ≤ stage_of node
@@ -62,7 +61,7 @@ module _ (sheet : BalanceSheet) where
     inl (omega arith),
     (
       of-row row (family_of (nodes.Security name (of_securities.Rate direction)))
-          (nodes.Security name (of_securities.UnitLoss direction)) 2 refl named (omega arith),
+          (nodes.Security name (of_securities.UnitLoss direction)) 3 refl named (omega arith),
       tt,
     ),
   )
@@ -71,56 +70,59 @@ module _ (sheet : BalanceSheet) where
   sources-before valid (nodes.Liability name of_liabilities.Present) live row named high = tt
   sources-before valid (nodes.Liability name (of_liabilities.Loss projection)) live row named high = tt
   sources-before valid (nodes.Group name of_groups.Total) live row named high =
-      of-stages 4 row 0 (sources_of sheet (nodes.Group name of_groups.Total))
-      (below-chosen stage_of 4 (is_of_group name) security_total sheet.securities (λ p. omega arith))
-  sources-before valid (nodes.Group name of_groups.ConcentrationSquare) live row named high = (inl (omega arith), (inl (omega arith), tt))
+      of-stages 5 row 0 (sources_of sheet (nodes.Group name of_groups.Total))
+      (below-chosen stage_of 5 (is_of_group name) security_total sheet.securities (λ p. omega arith))
+  sources-before valid (nodes.Group name of_groups.ConcentrationSquare) live row named high = (
+    inl (omega arith),
+    (of-row row 1 (nodes.Group name of_groups.Total) 5 refl named (omega arith), tt),
+  )
   sources-before valid (nodes.Group name of_groups.Loss) live row named high = tt
   sources-before valid (nodes.Currency name (of_currencies.Loss direction)) live row named high =
-      of-stages 7 row (family_of (nodes.Currency name (of_currencies.Loss direction)))
+      of-stages 6 row (family_of (nodes.Currency name (of_currencies.Loss direction)))
       (sources_of sheet (nodes.Currency name (of_currencies.Loss direction)))
-      (All-append (λ n. stage_of n < 7) (map (security_rate direction) (filter (is_paying_in name) sheet.securities))
+      (All-append (λ n. stage_of n < 6) (map (security_rate direction) (filter (is_paying_in name) sheet.securities))
       (map (liability_rate direction) (filter (is_owed_in name) sheet.liabilities))
-      (below-chosen stage_of 7 (is_paying_in name) (security_rate direction) sheet.securities (λ p. omega arith))
-      (below-chosen stage_of 7 (is_owed_in name) (liability_rate direction) sheet.liabilities (λ l. omega arith)))
+      (below-chosen stage_of 6 (is_paying_in name) (security_rate direction) sheet.securities (λ p. omega arith))
+      (below-chosen stage_of 6 (is_owed_in name) (liability_rate direction) sheet.liabilities (λ l. omega arith)))
   sources-before valid (nodes.Currency name (of_currencies.Scenario direction Gross)) live row named high =
-      of-stages 7 row (family_of (nodes.Currency name (of_currencies.Scenario direction Gross)))
+      of-stages 6 row (family_of (nodes.Currency name (of_currencies.Scenario direction Gross)))
       (sources_of sheet (nodes.Currency name (of_currencies.Scenario direction Gross)))
-      (All-append (λ n. stage_of n < 7) (map security_total (filter (is_held_in name) sheet.securities))
+      (All-append (λ n. stage_of n < 6) (map security_total (filter (is_held_in name) sheet.securities))
       (map liability_present (filter (is_owed_in name) sheet.liabilities))
-      (below-chosen stage_of 7 (is_held_in name) security_total sheet.securities (λ p. omega arith))
-      (below-chosen stage_of 7 (is_owed_in name) liability_present sheet.liabilities (λ l. omega arith)))
+      (below-chosen stage_of 6 (is_held_in name) security_total sheet.securities (λ p. omega arith))
+      (below-chosen stage_of 6 (is_owed_in name) liability_present sheet.liabilities (λ l. omega arith)))
   sources-before valid (nodes.Currency name (of_currencies.Scenario direction Net)) live row named high = (
     of-row row (family_of (nodes.Currency name (of_currencies.Scenario direction Net)))
-        (nodes.Currency name (of_currencies.Scenario direction Gross)) 7 refl named (omega arith),
+        (nodes.Currency name (of_currencies.Scenario direction Gross)) 6 refl named (omega arith),
     tt,
   )
   sources-before valid (nodes.Currency name of_currencies.Choice) live row named high = (
-    of-row row 6 (nodes.Currency name (of_currencies.Scenario Up Gross)) 7 refl named (omega arith),
+    of-row row 6 (nodes.Currency name (of_currencies.Scenario Up Gross)) 6 refl named (omega arith),
     (
-      of-row row 6 (nodes.Currency name (of_currencies.Scenario Up Net)) 7 refl named (omega arith),
+      of-row row 6 (nodes.Currency name (of_currencies.Scenario Up Net)) 6 refl named (omega arith),
       (
-        of-row row 6 (nodes.Currency name (of_currencies.Scenario Down Gross)) 7 refl named (omega arith),
-        (of-row row 6 (nodes.Currency name (of_currencies.Scenario Down Net)) 7 refl named (omega arith), tt),
+        of-row row 6 (nodes.Currency name (of_currencies.Scenario Down Gross)) 6 refl named (omega arith),
+        (of-row row 6 (nodes.Currency name (of_currencies.Scenario Down Net)) 6 refl named (omega arith), tt),
       ),
     ),
   )
   sources-before valid (nodes.Currency name (of_currencies.Picked measure)) live row named high =
       let f = family_of (nodes.Currency name (of_currencies.Picked measure)) in (
-        of-row row f (nodes.Currency name (of_currencies.Scenario Up Gross)) 7 refl named (omega arith),
+        of-row row f (nodes.Currency name (of_currencies.Scenario Up Gross)) 6 refl named (omega arith),
         (
-          of-row row f (nodes.Currency name (of_currencies.Scenario Up Net)) 7 refl named (omega arith),
+          of-row row f (nodes.Currency name (of_currencies.Scenario Up Net)) 6 refl named (omega arith),
           (
-            of-row row f (nodes.Currency name (of_currencies.Scenario Down Gross)) 7 refl named (omega arith),
+            of-row row f (nodes.Currency name (of_currencies.Scenario Down Gross)) 6 refl named (omega arith),
             (
-              of-row row f (nodes.Currency name (of_currencies.Scenario Down Net)) 7 refl named (omega arith),
-              (of-row row f (nodes.Currency name of_currencies.Choice) 7 refl named (omega arith), tt),
+              of-row row f (nodes.Currency name (of_currencies.Scenario Down Net)) 6 refl named (omega arith),
+              (of-row row f (nodes.Currency name of_currencies.Choice) 6 refl named (omega arith), tt),
             ),
           ),
         ),
       )
   sources-before valid (nodes.Whole wholes.Assets) live row named high =
-      of-stages 5 row 153 (sources_of sheet (nodes.Whole wholes.Assets))
-      (below-chosen stage_of 5 has_group security_total sheet.securities (λ p. omega arith))
+      of-stages 2 row 153 (sources_of sheet (nodes.Whole wholes.Assets))
+      (below-chosen stage_of 2 has_group security_total sheet.securities (λ p. omega arith))
   sources-before valid (nodes.Whole what) live row named high =
-      each-from_members (IsBefore sheet (turn 8 row (whole_family what))) (sources_of sheet (nodes.Whole what))
+      each-from_members (IsBefore sheet (turn 7 row (whole_family what))) (sources_of sheet (nodes.Whole what))
       (whole-source valid what live row named (omega arith))

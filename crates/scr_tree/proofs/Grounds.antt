@@ -14,130 +14,97 @@ use Rattle.scr_sheet.specs.BalanceSheet.{position_name, stake_name, stake_of}
 use Rattle.scr_sheet.specs.Totals.{total_of}
 use Rattle.scr_sheet.specs.declared.{rows.Group.Group, rows.Position.Position, rows.Stake.Stake, sheet.BalanceSheet.BalanceSheet}
 use Rattle.scr_nodes.specs.Live.{is_live}
-use Rattle.scr_links.specs.Edges.{Linked}
 use Rattle.scr_nodes.specs.Sources.{fund_total, security_total, sources_of}
 use Rattle.scr_nodes.proofs.OwnRows.{own-funds}
 use Rattle.scr_nodes.specs.declared.{node.Node.Node, node.OfCurrency.OfCurrency, node.OfGroup.OfGroup, node.Whole.Whole}
 use Rattle.scr_nodes.specs.declared.node.Node.TheVariants as nodes
 use Rattle.scr_nodes.specs.declared.node.OfGroup.TheVariants as of_groups
 use Rattle.scr_nodes.specs.declared.node.Whole.TheVariants as wholes
-use Rattle.scr_reach.specs.Linked.{AreLinkedOf, edges_to, sources_in}
-use Rattle.scr_reach.specs.Relinking.{IsJoined}
-use Rattle.scr_tree.specs.Figures.{AreKnownOf, HaveFigures, total_worth, worth_at, worth_of}
-use Rattle.scr_tree.specs.First.{IsDone, IsGround, IsMadeTo, IsPut}
+use Rattle.scr_tree.specs.Figures.{HaveFigures, total_worth, worth_at, worth_of}
+use Rattle.scr_tree.specs.First.{AreReckonedTo, IsDone, IsGround, IsPut}
 use Rattle.scr_tree.specs.Turns.{IsBefore, Turn, next, stage_of, turn, turn_of}
 use Rattle.scr_figures.specs.SourceNumbers.{ArePushed}
 use Rattle.scr_tree.specs.declared.figures.Figure.{Figure}
 use Rattle.scr_tree.specs.declared.making.Ground.{Ground}
 use Rattle.scr_tree.specs.declared.making.Made.{Made}
-use Rattle.scr_tree.proofs.FirstRows.{each-get, got-map, got-row, group-live, group-named, made-on, security-named, total-live}
+use Rattle.scr_tree.proofs.FirstRows.{each-get, got-map, got-row, group-named, made-on, security-named, total-live}
 use Rattle.scr_tree.proofs.Plain.{fund-placed, security-placed}
-use Rattle.scr_tree.proofs.Made.{known-sources, linked-next, made-entered, made-good, reckoned-next}
-use Rattle.scr_tree.proofs.Turns.{IsAsGood, as-good, assets-first, dead-skipped, family-within, of-table, row-begun, row-ended, square-family, stage-of-whole, table-ended, table_at, total-last}
+use Rattle.scr_tree.proofs.Known.{known-weaker}
+use Rattle.scr_tree.proofs.Made.{known-sources, made-entered, reckoned-next}
+use Rattle.scr_tree.proofs.Turns.{IsAsGood, assets-first, dead-skipped, family-within, of-table, row-begun, row-ended, stage-of-whole, table-ended, table_at, total-last}
 
 module _ (ground : Ground) (g : IsGround ground) where
   -- a table has no more rows
-  pub table-made : (s count : ℕ) → count ≡ length (names_in ground.inputs.book.now (table_at s)) → (a : Made)
+  pub table-made : (s count : ℕ) → count ≡ length (names_in ground.inputs.book.now.sheet (table_at s)) → (a : Made)
       → IsDone ground a (turn s count 0) → IsDone ground a (turn (s + 1) 0 0)
   table-made s count long a is =
-      made-on ground.inputs.factors.now ground.inputs.book.now g.valid ground.places.now g.numbered g.numbers a
-      (turn s count 0) (turn (s + 1) 0 0) (table-ended ground.inputs.book.now ground.places.now g.numbered s count long) is
+      made-on ground.inputs.factors.now ground.inputs.book.now.sheet g.valid ground.places.now g.numbered g.numbers a
+      (turn s count 0) (turn (s + 1) 0 0) (table-ended ground.inputs.book.now.sheet ground.places.now g.numbered s count long) is
 
-  pub currency-made : (k : ℕ) (a : Made) → IsDone ground a (turn 7 k 9) → IsDone ground a (turn 7 (k + 1) 0)
+  pub currency-made : (k : ℕ) (a : Made) → IsDone ground a (turn 6 k 9) → IsDone ground a (turn 6 (k + 1) 0)
   currency-made k a is =
-      made-on ground.inputs.factors.now ground.inputs.book.now g.valid ground.places.now g.numbered g.numbers a
-      (turn 7 k 9) (turn 7 (k + 1) 0)
-      (row-ended ground.inputs.book.now 7 k 9
-      (λ n alive s. of-table ground.inputs.book.now ground.places.now g.numbered 7 n alive s)) is
+      made-on ground.inputs.factors.now ground.inputs.book.now.sheet g.valid ground.places.now g.numbered g.numbers a
+      (turn 6 k 9) (turn 6 (k + 1) 0)
+      (row-ended ground.inputs.book.now.sheet 6 k 9
+      (λ n alive s. of-table ground.inputs.book.now.sheet ground.places.now g.numbered 6 n alive s)) is
 
-  pub assets-begun : (a : Made) → IsDone ground a (turn 5 0 0) → IsDone ground a (turn 5 0 153)
+  pub assets-begun : (a : Made) → IsDone ground a (turn 2 0 0) → IsDone ground a (turn 2 0 153)
   assets-begun a is =
-      made-on ground.inputs.factors.now ground.inputs.book.now g.valid ground.places.now g.numbered g.numbers a
-      (turn 5 0 0) (turn 5 0 153) (row-begun ground.inputs.book.now 5 0 153 (λ n alive s. assets-first n s)) is
+      made-on ground.inputs.factors.now ground.inputs.book.now.sheet g.valid ground.places.now g.numbered g.numbers a
+      (turn 2 0 0) (turn 2 0 153) (row-begun ground.inputs.book.now.sheet 2 0 153 (λ n alive s. assets-first n s)) is
 
-  pub assets-made : (a : Made) → IsDone ground a (turn 5 0 154) → IsDone ground a (turn 6 0 0)
+  pub assets-made : (a : Made) → IsDone ground a (turn 2 0 154) → IsDone ground a (turn 3 0 0)
   assets-made a is =
-      table-made 5 1 refl a
-      (made-on ground.inputs.factors.now ground.inputs.book.now g.valid ground.places.now g.numbered g.numbers a
-      (turn 5 0 154) (turn 5 1 0)
-      (row-ended ground.inputs.book.now 5 0 154
-      (λ n alive s. of-table ground.inputs.book.now ground.places.now g.numbered 5 n alive s)) is)
+      table-made 2 1 refl a
+      (made-on ground.inputs.factors.now ground.inputs.book.now.sheet g.valid ground.places.now g.numbered g.numbers a
+      (turn 2 0 154) (turn 2 1 0)
+      (row-ended ground.inputs.book.now.sheet 2 0 154
+      (λ n alive s. of-table ground.inputs.book.now.sheet ground.places.now g.numbered 2 n alive s)) is)
 
   -- ---- squares
 
-  module _ (k : ℕ) (h : Group) (at : slice_get ground.inputs.book.now.groups k ≡ Some h) (start : ℕ)
+  module _ (k : ℕ) (h : Group) (at : slice_get ground.inputs.book.now.sheet.groups k ≡ Some h) (start : ℕ)
       (own : start ≡ first ground.places.now tables.Group k) where
-    group-stands : (what : OfGroup) → group_family what < 3
-        → StandsAt ground.inputs.book.now ground.places.now (nodes.Group h.name what) (start + group_family what)
+    pub group-stands : (what : OfGroup) → group_family what < 3
+        → StandsAt ground.inputs.book.now.sheet ground.places.now (nodes.Group h.name what) (start + group_family what)
     group-stands what few =
-        subst (StandsAt ground.inputs.book.now ground.places.now (nodes.Group h.name what))
+        subst (StandsAt ground.inputs.book.now.sheet ground.places.now (nodes.Group h.name what))
         (ap (λ n. n + group_family what) (sym own))
-        (stands ground.inputs.book.now ground.places.now g.numbered (nodes.Group h.name what) few k
-        (group-named ground.inputs.book.now g.valid k h at))
+        (stands ground.inputs.book.now.sheet ground.places.now g.numbered (nodes.Group h.name what) few k
+        (group-named ground.inputs.book.now.sheet g.valid k h at))
 
-    pub square-stands : StandsAt ground.inputs.book.now ground.places.now (nodes.Group h.name of_groups.ConcentrationSquare) (start + 1)
-    square-stands = group-stands of_groups.ConcentrationSquare (omega arith)
-
-    pub square-sources : AllZip (λ number source. StandsAt ground.inputs.book.now ground.places.now source number)
-        (153 ∷ start ∷ []) (sources_of ground.inputs.book.now (nodes.Group h.name of_groups.ConcentrationSquare))
+    pub square-sources : AllZip (λ number source. StandsAt ground.inputs.book.now.sheet ground.places.now source number)
+        (153 ∷ start ∷ []) (sources_of ground.inputs.book.now.sheet (nodes.Group h.name of_groups.ConcentrationSquare))
     square-sources =
         let e : start + 0 ≡ start = omega arith in (
-          subst (StandsAt ground.inputs.book.now ground.places.now (nodes.Whole wholes.Assets))
+          subst (StandsAt ground.inputs.book.now.sheet ground.places.now (nodes.Whole wholes.Assets))
               (ap (λ n. n + 153) g.numbered.whole ∙ (let z : 0 + 153 ≡ 153 = refl in z))
-              (stands ground.inputs.book.now ground.places.now g.numbered (nodes.Whole wholes.Assets) (omega arith) 0 refl),
+              (stands ground.inputs.book.now.sheet ground.places.now g.numbered (nodes.Whole wholes.Assets) (omega arith) 0 refl),
           (
-            subst (StandsAt ground.inputs.book.now ground.places.now (nodes.Group h.name of_groups.Total)) e
+            subst (StandsAt ground.inputs.book.now.sheet ground.places.now (nodes.Group h.name of_groups.Total)) e
                 (group-stands of_groups.Total (omega arith)),
             tt,
           ),
         )
 
-    pub square-begun : (a : Made) → IsDone ground a (turn 6 k 0) → IsDone ground a (turn 6 k 1)
-    square-begun a is =
-        made-on ground.inputs.factors.now ground.inputs.book.now g.valid ground.places.now g.numbered g.numbers a
-        (turn 6 k 0) (turn 6 k 1)
-        (row-begun ground.inputs.book.now 6 k 1 (λ n alive s. let f = square-family n s in omega (arith, f))) is
-
-    pub square-known : (a : Made) → IsDone ground a (turn 6 k 0)
-        → HaveFigures ground.inputs.factors.now ground.inputs.book.now a.figures.items (153 ∷ start ∷ [])
-        (sources_of ground.inputs.book.now (nodes.Group h.name of_groups.ConcentrationSquare))
-    square-known a is =
-        known-sources ground.inputs.factors.now ground.inputs.book.now g.valid ground.places.now g.numbered g.numbers a
-        (nodes.Group h.name of_groups.ConcentrationSquare) k (group-live ground.inputs.book.now g.valid k h at)
-        (group-named ground.inputs.book.now g.valid k h at) (omega arith) (square-begun a is) (153 ∷ start ∷ []) square-sources
-
-    pub square-made : (a b : Made) → IsDone ground a (turn 6 k 0)
-        → IsPut ground.inputs.factors.now ground.inputs.book.now (nodes.Group h.name of_groups.ConcentrationSquare) (start + 1)
-        (153 ∷ start ∷ []) a b → IsDone ground b (turn 6 (k + 1) 0)
-    square-made a b is put =
-        let sheet = ground.inputs.book.now in
-        let node = nodes.Group h.name of_groups.ConcentrationSquare in
-        let one : IsDone ground b (turn 6 k 2) =
-        made-entered ground.inputs.factors.now sheet g.valid ground.places.now g.numbered g.numbers a b (turn 6 k 1) node (start + 1)
-        (153 ∷ start ∷ []) put.figure (square-begun a is)
-        (record { at = refl; row = group-named sheet g.valid k h at; family = refl })
-        (group-live sheet g.valid k h at) square-stands square-sources put.right put.entered in
-        made-on ground.inputs.factors.now sheet g.valid ground.places.now g.numbered g.numbers b (turn 6 k 2) (turn 6 (k + 1) 0)
-        (row-ended sheet 6 k 2 (λ n alive s. let f = square-family n s in omega (arith, f))) one
-
   -- ---- a figure from all its sources
 
   module _ (node : Node) (row number : ℕ)
-      (named : slice_get (names_in ground.inputs.book.now (table_of node)) row ≡ Some (name_of node))
+      (named : slice_get (names_in ground.inputs.book.now.sheet (table_of node)) row ≡ Some (name_of node))
       (own : number ≡ first ground.places.now (table_of node) row + family_of node)
-      (live : is_live ground.inputs.book.now node ≡ true) where
-    pub its-number : StandsAt ground.inputs.book.now ground.places.now node number
+      (live : is_live ground.inputs.book.now.sheet node ≡ true) where
+    pub its-number : StandsAt ground.inputs.book.now.sheet ground.places.now node number
     its-number =
-        subst (StandsAt ground.inputs.book.now ground.places.now node) (sym own)
-        (stands ground.inputs.book.now ground.places.now g.numbered node
-        (family-within ground.inputs.book.now ground.places.now g.numbered node live) row named)
+        subst (StandsAt ground.inputs.book.now.sheet ground.places.now node) (sym own)
+        (stands ground.inputs.book.now.sheet ground.places.now g.numbered node
+        (family-within ground.inputs.book.now.sheet ground.places.now g.numbered node live) row named)
 
     pub family-few : family_of node < stride (table_of node)
-    family-few = family-within ground.inputs.book.now ground.places.now g.numbered node live
+    family-few = family-within ground.inputs.book.now.sheet ground.places.now g.numbered node live
 
     pub row-few : row < count ground.places.now (table_of node)
     row-few =
-        let room = slice_get_within (names_in ground.inputs.book.now (table_of node)) row (name_of node) named in
+        let room = slice_get_within (names_in ground.inputs.book.now.sheet (table_of node)) row (name_of node) named in
         let rows = g.numbered.rows (table_of node) in
         omega (arith, room, rows)
 
@@ -145,179 +112,135 @@ module _ (ground : Ground) (g : IsGround ground) where
     number-within = g.numbers.within node number its-number
 
     pub sources-known : (a : Made) → 2 ≤ stage_of node → IsDone ground a (turn_of node row) → (sources : List ℕ)
-        → AllZip (λ m source. StandsAt ground.inputs.book.now ground.places.now source m) sources (sources_of ground.inputs.book.now node)
-        → HaveFigures ground.inputs.factors.now ground.inputs.book.now a.figures.items sources (sources_of ground.inputs.book.now node)
+        → AllZip (λ m source. StandsAt ground.inputs.book.now.sheet ground.places.now source m) sources (sources_of ground.inputs.book.now.sheet node)
+        → HaveFigures ground.inputs.factors.now ground.inputs.book.now.sheet a.figures.items sources (sources_of ground.inputs.book.now.sheet node)
     sources-known a high is sources are =
-        known-sources ground.inputs.factors.now ground.inputs.book.now g.valid ground.places.now g.numbered g.numbers a
+        known-sources ground.inputs.factors.now ground.inputs.book.now.sheet g.valid ground.places.now g.numbered g.numbers a
         node row live named high is sources are
 
     pub gathered-made : (a b : Made) (sources : List ℕ) → IsDone ground a (turn_of node row)
-        → AllZip (λ m source. StandsAt ground.inputs.book.now ground.places.now source m) sources (sources_of ground.inputs.book.now node)
-        → IsPut ground.inputs.factors.now ground.inputs.book.now node number sources a b → IsDone ground b (next (turn_of node row))
+        → AllZip (λ m source. StandsAt ground.inputs.book.now.sheet ground.places.now source m) sources (sources_of ground.inputs.book.now.sheet node)
+        → IsPut ground.inputs.factors.now ground.inputs.book.now.sheet node number sources a b → IsDone ground b (next (turn_of node row))
     gathered-made a b sources is are put =
-        made-entered ground.inputs.factors.now ground.inputs.book.now g.valid ground.places.now g.numbered g.numbers a b
+        made-entered ground.inputs.factors.now ground.inputs.book.now.sheet g.valid ground.places.now g.numbered g.numbers a b
         (turn_of node row) node number sources put.figure is (record { at = refl; row = named; family = refl }) live its-number are
         put.right put.entered
 
   -- where the balance sheet does not have the figure
-  pub dead-made : (node : Node) (row : ℕ) → slice_get (names_in ground.inputs.book.now (table_of node)) row ≡ Some (name_of node)
-      → (is_live ground.inputs.book.now node ≡ true → ⊥) → (a : Made) → IsDone ground a (turn_of node row)
+  pub dead-made : (node : Node) (row : ℕ) → slice_get (names_in ground.inputs.book.now.sheet (table_of node)) row ≡ Some (name_of node)
+      → (is_live ground.inputs.book.now.sheet node ≡ true → ⊥) → (a : Made) → IsDone ground a (turn_of node row)
       → IsDone ground a (next (turn_of node row))
   dead-made node row named dead a is =
-      made-on ground.inputs.factors.now ground.inputs.book.now g.valid ground.places.now g.numbered g.numbers a
+      made-on ground.inputs.factors.now ground.inputs.book.now.sheet g.valid ground.places.now g.numbered g.numbers a
       (turn_of node row) (next (turn_of node row))
-      (dead-skipped ground.inputs.book.now ground.places.now g.numbered (turn_of node row) node
+      (dead-skipped ground.inputs.book.now.sheet ground.places.now g.numbered (turn_of node row) node
       (record { at = refl; row = named; family = refl }) dead) is
 
   -- ---- totals
 
-  -- a total is written
-  pub total-made : (node : Node) (row number cents : ℕ) (a b : Made) (t : Turn)
-      → slice_get (names_in ground.inputs.book.now (table_of node)) row ≡ Some (name_of node)
-      → number ≡ first ground.places.now (table_of node) row + family_of node → is_live ground.inputs.book.now node ≡ true
-      → total_worth cents ≡ worth_at ground.inputs.factors.now ground.inputs.book.now node
-      → IsMadeTo ground a (turn_of node row) t → b.links ≡ a.links
-      → length b.figures.items ≡ length a.figures.items
-      → option_map worth_of (slice_get b.figures.items number) ≡ Some (total_worth cents)
-      → ((other : ℕ) → (other ≡ number → ⊥) → slice_get b.figures.items other ≡ slice_get a.figures.items other)
-      → IsMadeTo ground b (next (turn_of node row)) t
-  total-made node row number cents a b t named own live worth is links count there others = record {
-    count = count ∙ is.count;
-    size = ap (λ (l : Linked). l.size) links ∙ is.size;
-    known = reckoned-next ground.inputs.factors.now ground.inputs.book.now g.valid ground.places.now g.numbered g.numbers
-        a.figures.items b.figures.items (turn_of node row) node number is.known
-        (record { at = refl; row = named; family = refl })
-        (record { at = its-number node row number named own live; there = there ∙ ap Some worth; others = others });
-    links = subst (λ (l : Linked). AreLinkedOf ground.inputs.book.now (StandsAt ground.inputs.book.now ground.places.now) l.edges
-        (IsBefore ground.inputs.book.now t)) (sym links) is.links;
+  pub reckoned-good : (figures : List Figure) (t u : Turn) → IsAsGood ground.inputs.book.now.sheet t u → AreReckonedTo ground figures t
+      → AreReckonedTo ground figures u
+  reckoned-good figures t u good is = record {
+    count = is.count;
+    known = known-weaker ground.inputs.factors.now ground.inputs.book.now.sheet (StandsAt ground.inputs.book.now.sheet ground.places.now) figures
+        (IsBefore ground.inputs.book.now.sheet t) (IsBefore ground.inputs.book.now.sheet u) (λ n live before. good.back n live before) is.known;
   }
 
-  -- its sources are linked
-  pub link-made : (node : Node) (row number : ℕ) (sources : List ℕ) (a b : Made) (between : Linked) (t : Turn)
-      → slice_get (names_in ground.inputs.book.now (table_of node)) row ≡ Some (name_of node)
-      → number ≡ first ground.places.now (table_of node) row + family_of node → is_live ground.inputs.book.now node ≡ true
-      → AllZip (λ m source. StandsAt ground.inputs.book.now ground.places.now source m) sources (sources_of ground.inputs.book.now node)
-      → IsMadeTo ground a t (turn_of node row) → b.figures ≡ a.figures
-      → between.edges ≡ a.links.edges → between.size ≡ a.links.size → IsJoined number sources between b.links
-      → IsMadeTo ground b t (next (turn_of node row))
-  link-made node row number sources a b between t named own live are is figures edges size joined = record {
-    count = ap (λ v. length v.items) figures ∙ is.count;
-    size = joined.size ∙ (size ∙ is.size);
-    known = subst (λ v. AreKnownOf ground.inputs.factors.now ground.inputs.book.now
-        (StandsAt ground.inputs.book.now ground.places.now) v.items (IsBefore ground.inputs.book.now t)) (sym figures) is.known;
-    links = linked-next ground.inputs.factors.now ground.inputs.book.now g.valid ground.places.now g.numbered g.numbers
-        a.links.edges b.links.edges (turn_of node row) node number sources is.links
-        (record { at = refl; row = named; family = refl }) live (its-number node row number named own live) are
-        (joined.made ∙ ap (λ es. sources_in es number ++ sources) edges)
-        (λ other apart. joined.others other apart ∙ ap (λ es. edges_to es other) edges);
+  -- a total is written
+  pub total-made : (node : Node) (row number cents : ℕ) (a b : List Figure)
+      → slice_get (names_in ground.inputs.book.now.sheet (table_of node)) row ≡ Some (name_of node)
+      → number ≡ first ground.places.now (table_of node) row + family_of node → is_live ground.inputs.book.now.sheet node ≡ true
+      → total_worth cents ≡ worth_at ground.inputs.factors.now ground.inputs.book.now.sheet node
+      → AreReckonedTo ground a (turn_of node row) → length b ≡ length a
+      → option_map worth_of (slice_get b number) ≡ Some (total_worth cents)
+      → ((other : ℕ) → (other ≡ number → ⊥) → slice_get b other ≡ slice_get a other)
+      → AreReckonedTo ground b (next (turn_of node row))
+  total-made node row number cents a b named own live worth is count there others = record {
+    count = count ∙ is.count;
+    known = reckoned-next ground.inputs.factors.now ground.inputs.book.now.sheet g.valid ground.places.now g.numbered g.numbers
+        a b (turn_of node row) node number is.known
+        (record { at = refl; row = named; family = refl })
+        (record { at = its-number node row number named own live; there = there ∙ ap Some worth; others = others });
   }
 
   -- one total a row
-  pub funds-on : (k : ℕ) (a : Made) (u : Turn) → IsMadeTo ground a (turn 0 k 1) u → IsMadeTo ground a (turn 0 (k + 1) 0) u
-  funds-on k a u is =
-      made-good ground.inputs.factors.now ground.inputs.book.now g.valid ground.places.now g.numbered g.numbers a
-      (turn 0 k 1) (turn 0 (k + 1) 0) u u (fund-ended k) (as-good ground.inputs.book.now u) is
-    where
-      fund-ended : (k : ℕ) → IsAsGood ground.inputs.book.now (turn 0 k 1) (turn 0 (k + 1) 0)
-      fund-ended k = row-ended ground.inputs.book.now 0 k 1
-          (λ n alive s. of-table ground.inputs.book.now ground.places.now g.numbered 0 n alive s)
+  pub funds-on : (k : ℕ) (a : List Figure) → AreReckonedTo ground a (turn 0 k 1) → AreReckonedTo ground a (turn 0 (k + 1) 0)
+  funds-on k a is =
+      reckoned-good a (turn 0 k 1) (turn 0 (k + 1) 0)
+      (row-ended ground.inputs.book.now.sheet 0 k 1 (λ n alive s. of-table ground.inputs.book.now.sheet ground.places.now g.numbered 0 n alive s)) is
 
-  pub securities-on : (k : ℕ) (a : Made) (u : Turn) → IsMadeTo ground a (turn 1 k 1) u → IsMadeTo ground a (turn 1 (k + 1) 0) u
-  securities-on k a u is =
-      made-good ground.inputs.factors.now ground.inputs.book.now g.valid ground.places.now g.numbered g.numbers a
-      (turn 1 k 1) (turn 1 (k + 1) 0) u u (row-ended ground.inputs.book.now 1 k 1 (λ n alive s. total-last n s))
-      (as-good ground.inputs.book.now u) is
-
-  pub funds-linked : (k : ℕ) (a : Made) (t : Turn) → IsMadeTo ground a t (turn 0 k 1) → IsMadeTo ground a t (turn 0 (k + 1) 0)
-  funds-linked k a t is =
-      made-good ground.inputs.factors.now ground.inputs.book.now g.valid ground.places.now g.numbered g.numbers a
-      t t (turn 0 k 1) (turn 0 (k + 1) 0) (as-good ground.inputs.book.now t)
-      (row-ended ground.inputs.book.now 0 k 1 (λ n alive s. of-table ground.inputs.book.now ground.places.now g.numbered 0 n alive s)) is
-
-  pub securities-linked : (k : ℕ) (a : Made) (t : Turn) → IsMadeTo ground a t (turn 1 k 1) → IsMadeTo ground a t (turn 1 (k + 1) 0)
-  securities-linked k a t is =
-      made-good ground.inputs.factors.now ground.inputs.book.now g.valid ground.places.now g.numbered g.numbers a
-      t t (turn 1 k 1) (turn 1 (k + 1) 0) (as-good ground.inputs.book.now t)
-      (row-ended ground.inputs.book.now 1 k 1 (λ n alive s. total-last n s)) is
+  pub securities-on : (k : ℕ) (a : List Figure) → AreReckonedTo ground a (turn 1 k 1) → AreReckonedTo ground a (turn 1 (k + 1) 0)
+  securities-on k a is =
+      reckoned-good a (turn 1 k 1) (turn 1 (k + 1) 0) (row-ended ground.inputs.book.now.sheet 1 k 1 (λ n alive s. total-last n s)) is
 
   -- a table has no more rows
-  pub reckoned-over : (s count : ℕ) → count ≡ length (names_in ground.inputs.book.now (table_at s)) → (a : Made) (u : Turn)
-      → IsMadeTo ground a (turn s count 0) u → IsMadeTo ground a (turn (s + 1) 0 0) u
-  reckoned-over s count long a u is =
-      made-good ground.inputs.factors.now ground.inputs.book.now g.valid ground.places.now g.numbered g.numbers a
-      (turn s count 0) (turn (s + 1) 0 0) u u (table-ended ground.inputs.book.now ground.places.now g.numbered s count long)
-      (as-good ground.inputs.book.now u) is
-
-  pub linked-over : (s count : ℕ) → count ≡ length (names_in ground.inputs.book.now (table_at s)) → (a : Made) (t : Turn)
-      → IsMadeTo ground a t (turn s count 0) → IsMadeTo ground a t (turn (s + 1) 0 0)
-  linked-over s count long a t is =
-      made-good ground.inputs.factors.now ground.inputs.book.now g.valid ground.places.now g.numbered g.numbers a
-      t t (turn s count 0) (turn (s + 1) 0 0) (as-good ground.inputs.book.now t)
-      (table-ended ground.inputs.book.now ground.places.now g.numbered s count long) is
+  pub reckoned-over : (s count : ℕ) → count ≡ length (names_in ground.inputs.book.now.sheet (table_at s)) → (a : List Figure)
+      → AreReckonedTo ground a (turn s count 0) → AreReckonedTo ground a (turn (s + 1) 0 0)
+  reckoned-over s count long a is =
+      reckoned-good a (turn s count 0) (turn (s + 1) 0 0)
+      (table-ended ground.inputs.book.now.sheet ground.places.now g.numbered s count long) is
 
   -- the rows of funds and of securities
-  pub fund-live : (k : ℕ) (s : Stake) → slice_get ground.inputs.book.now.funds k ≡ Some s
-      → is_live ground.inputs.book.now (fund_total s) ≡ true
+  pub fund-live : (k : ℕ) (s : Stake) → slice_get ground.inputs.book.now.sheet.funds k ≡ Some s
+      → is_live ground.inputs.book.now.sheet (fund_total s) ≡ true
   fund-live k s at =
-      ap is_some (each-get (λ r. stake_of (stake_name r) ground.inputs.book.now.funds ≡ Some r) ground.inputs.book.now.funds k s
-      (own-funds ground.inputs.book.now g.valid) at)
+      ap is_some (each-get (λ r. stake_of (stake_name r) ground.inputs.book.now.sheet.funds ≡ Some r) ground.inputs.book.now.sheet.funds k s
+      (own-funds ground.inputs.book.now.sheet g.valid) at)
 
-  pub fund-named : (k : ℕ) (s : Stake) → slice_get ground.inputs.book.now.funds k ≡ Some s
-      → slice_get (map stake_name ground.inputs.book.now.funds) k ≡ Some s.fund.name
-  fund-named k s at = got-map stake_name ground.inputs.book.now.funds k s at
+  pub fund-named : (k : ℕ) (s : Stake) → slice_get ground.inputs.book.now.sheet.funds k ≡ Some s
+      → slice_get (map stake_name ground.inputs.book.now.sheet.funds) k ≡ Some s.fund.name
+  fund-named k s at = got-map stake_name ground.inputs.book.now.sheet.funds k s at
 
   its-own : (n : ℕ) → n ≡ n + 0
   its-own n = omega arith
 
-  pub fund-within : (k number : ℕ) → k < length ground.inputs.book.now.funds → number ≡ first ground.places.now tables.Fund k
-      → (a : Made) (t u : Turn) → IsMadeTo ground a t u → number < length a.figures.items
-  fund-within k number l own a t u is =
-      let s = got-row ground.inputs.book.now.funds k l in
+  pub fund-within : (k number : ℕ) → k < length ground.inputs.book.now.sheet.funds → number ≡ first ground.places.now tables.Fund k
+      → (a : List Figure) (t : Turn) → AreReckonedTo ground a t → number < length a
+  fund-within k number l own a t is =
+      let s = got-row ground.inputs.book.now.sheet.funds k l in
       subst (λ n. number < n) (sym is.count)
       (number-within (fund_total s.0) k number (fund-named k s.0 s.1) (own ∙ its-own (first ground.places.now tables.Fund k))
       (fund-live k s.0 s.1))
 
-  pub fund-written : (k number : ℕ) → k < length ground.inputs.book.now.funds → number ≡ first ground.places.now tables.Fund k
-      → (totals : List ℕ) → totals ≡ map (λ s. total_of ground.inputs.book.now (stake_name s)) ground.inputs.book.now.funds
-      → (a b : Made) (u : Turn) → IsMadeTo ground a (turn 0 k 0) u → b.links ≡ a.links
-      → length b.figures.items ≡ length a.figures.items
-      → option_map worth_of (slice_get b.figures.items number) ≡ Some (total_worth (slice_index totals k))
-      → ((other : ℕ) → (other ≡ number → ⊥) → slice_get b.figures.items other ≡ slice_get a.figures.items other)
-      → IsMadeTo ground b (turn 0 (k + 1) 0) u
-  fund-written k number l own totals are a b u is links count there others =
-      let s = got-row ground.inputs.book.now.funds k l in
-      funds-on k b u
-      (total-made (fund_total s.0) k number (slice_index totals k) a b u (fund-named k s.0 s.1)
+  pub fund-written : (k number : ℕ) → k < length ground.inputs.book.now.sheet.funds → number ≡ first ground.places.now tables.Fund k
+      → (totals : List ℕ) → totals ≡ map (λ s. total_of ground.inputs.book.now.sheet (stake_name s)) ground.inputs.book.now.sheet.funds
+      → (a b : List Figure) → AreReckonedTo ground a (turn 0 k 0) → length b ≡ length a
+      → option_map worth_of (slice_get b number) ≡ Some (total_worth (slice_index totals k))
+      → ((other : ℕ) → (other ≡ number → ⊥) → slice_get b other ≡ slice_get a other)
+      → AreReckonedTo ground b (turn 0 (k + 1) 0)
+  fund-written k number l own totals are a b is count there others =
+      let s = got-row ground.inputs.book.now.sheet.funds k l in
+      funds-on k b
+      (total-made (fund_total s.0) k number (slice_index totals k) a b (fund-named k s.0 s.1)
       (own ∙ its-own (first ground.places.now tables.Fund k)) (fund-live k s.0 s.1)
-      (fund-placed ground.inputs.factors.now ground.inputs.book.now g.valid totals are k s.0 s.1) is links count there others)
+      (fund-placed ground.inputs.factors.now ground.inputs.book.now.sheet g.valid totals are k s.0 s.1) is count there others)
 
-  pub security-within : (k number : ℕ) → k < length ground.inputs.book.now.securities
-      → number ≡ first ground.places.now tables.Security k → (a : Made) (t u : Turn) → IsMadeTo ground a t u
-      → number < length a.figures.items
-  security-within k number l own a t u is =
-      let p = got-row ground.inputs.book.now.securities k l in
+  pub security-within : (k number : ℕ) → k < length ground.inputs.book.now.sheet.securities
+      → number ≡ first ground.places.now tables.Security k → (a : List Figure) (t : Turn) → AreReckonedTo ground a t
+      → number < length a
+  security-within k number l own a t is =
+      let p = got-row ground.inputs.book.now.sheet.securities k l in
       subst (λ n. number < n) (sym is.count)
       (number-within (security_total p.0) k number
-      (security-named ground.inputs.book.now g.valid ground.places.now g.numbered k p.0 p.1)
+      (security-named ground.inputs.book.now.sheet g.valid ground.places.now g.numbered k p.0 p.1)
       (own ∙ its-own (first ground.places.now tables.Security k))
-      (total-live ground.inputs.book.now g.valid ground.places.now g.numbered k p.0 p.1))
+      (total-live ground.inputs.book.now.sheet g.valid ground.places.now g.numbered k p.0 p.1))
 
-  pub security-written : (k number : ℕ) → k < length ground.inputs.book.now.securities
+  pub security-written : (k number : ℕ) → k < length ground.inputs.book.now.sheet.securities
       → number ≡ first ground.places.now tables.Security k → (totals : List ℕ)
-      → totals ≡ map (λ p. total_of ground.inputs.book.now (position_name p)) ground.inputs.book.now.securities
-      → (a b : Made) (u : Turn) → IsMadeTo ground a (turn 1 k 0) u → b.links ≡ a.links
-      → length b.figures.items ≡ length a.figures.items
-      → option_map worth_of (slice_get b.figures.items number) ≡ Some (total_worth (slice_index totals k))
-      → ((other : ℕ) → (other ≡ number → ⊥) → slice_get b.figures.items other ≡ slice_get a.figures.items other)
-      → IsMadeTo ground b (turn 1 (k + 1) 0) u
-  security-written k number l own totals are a b u is links count there others =
-      let p = got-row ground.inputs.book.now.securities k l in
-      securities-on k b u
-      (total-made (security_total p.0) k number (slice_index totals k) a b u
-      (security-named ground.inputs.book.now g.valid ground.places.now g.numbered k p.0 p.1)
+      → totals ≡ map (λ p. total_of ground.inputs.book.now.sheet (position_name p)) ground.inputs.book.now.sheet.securities
+      → (a b : List Figure) → AreReckonedTo ground a (turn 1 k 0) → length b ≡ length a
+      → option_map worth_of (slice_get b number) ≡ Some (total_worth (slice_index totals k))
+      → ((other : ℕ) → (other ≡ number → ⊥) → slice_get b other ≡ slice_get a other)
+      → AreReckonedTo ground b (turn 1 (k + 1) 0)
+  security-written k number l own totals are a b is count there others =
+      let p = got-row ground.inputs.book.now.sheet.securities k l in
+      securities-on k b
+      (total-made (security_total p.0) k number (slice_index totals k) a b
+      (security-named ground.inputs.book.now.sheet g.valid ground.places.now g.numbered k p.0 p.1)
       (own ∙ its-own (first ground.places.now tables.Security k))
-      (total-live ground.inputs.book.now g.valid ground.places.now g.numbered k p.0 p.1)
-      (security-placed ground.inputs.factors.now ground.inputs.book.now g.valid totals are k p.0 p.1) is links count there others)
+      (total-live ground.inputs.book.now.sheet g.valid ground.places.now g.numbered k p.0 p.1)
+      (security-placed ground.inputs.factors.now ground.inputs.book.now.sheet g.valid totals are k p.0 p.1) is count there others)
 
   -- as many rows as names
   pub as-long : {Row : Type 0} (name_in : Row → List ℕ) (rows : List Row) (k : ℕ) → k ≡ length rows → k ≡ length (map name_in rows)
@@ -347,17 +270,17 @@ have-within factors sheet figures (n ∷ numbers) (m ∷ list) have =
     some-within (Some f) got h = slice_get_within figures n f got
 
 module _ (ground : Ground) (g : IsGround ground) where
-  pub security-alive : (k : ℕ) (p : Position) → slice_get ground.inputs.book.now.securities k ≡ Some p
-      → is_live ground.inputs.book.now (security_total p) ≡ true
-  security-alive k p at = total-live ground.inputs.book.now g.valid ground.places.now g.numbered k p at
+  pub security-alive : (k : ℕ) (p : Position) → slice_get ground.inputs.book.now.sheet.securities k ≡ Some p
+      → is_live ground.inputs.book.now.sheet (security_total p) ≡ true
+  security-alive k p at = total-live ground.inputs.book.now.sheet g.valid ground.places.now g.numbered k p at
 
-  pub security-called : (k : ℕ) (p : Position) → slice_get ground.inputs.book.now.securities k ≡ Some p
-      → slice_get (map position_name ground.inputs.book.now.securities) k ≡ Some p.security.name
-  security-called k p at = security-named ground.inputs.book.now g.valid ground.places.now g.numbered k p at
+  pub security-called : (k : ℕ) (p : Position) → slice_get ground.inputs.book.now.sheet.securities k ≡ Some p
+      → slice_get (map position_name ground.inputs.book.now.sheet.securities) k ≡ Some p.security.name
+  security-called k p at = security-named ground.inputs.book.now.sheet g.valid ground.places.now g.numbered k p at
 
   -- numbers of figures are below the size
   pub at-within : (numbers : List ℕ) (list : List Node)
-      → AllZip (λ n node. StandsAt ground.inputs.book.now ground.places.now node n) numbers list
+      → AllZip (λ n node. StandsAt ground.inputs.book.now.sheet ground.places.now node n) numbers list
       → AllByRecursion (λ n. n < ground.places.now.size) numbers
   at-within [] [] at = tt
   at-within [] (m ∷ list) at = absurd at
@@ -365,13 +288,13 @@ module _ (ground : Ground) (g : IsGround ground) where
   at-within (n ∷ numbers) (m ∷ list) at = (g.numbers.within m n at.0, at-within numbers list at.1)
 
   -- the turn of a figure of the whole sheet, and of a currency
-  pub whole-turn : (what : Whole) (n : ℕ) → whole_family what ≡ n → n < 153 → turn_of (nodes.Whole what) 0 ≡ turn 8 0 n
+  pub whole-turn : (what : Whole) (n : ℕ) → whole_family what ≡ n → n < 153 → turn_of (nodes.Whole what) 0 ≡ turn 7 0 n
   whole-turn what n same few =
       ap₂ (λ (s : ℕ) (f : ℕ). turn s 0 f) (stage-of-whole what (subst (λ m. m < 153) (sym same) few)) same
 
   pub currency-turn : (name : List ℕ) (what : OfCurrency) (k f : ℕ) → currency_family what ≡ f
-      → turn_of (nodes.Currency name what) k ≡ turn 7 k f
-  currency-turn name what k f same = ap (turn 7 k) same
+      → turn_of (nodes.Currency name what) k ≡ turn 6 k f
+  currency-turn name what k f same = ap (turn 6 k) same
 
   pub turned : (a : Made) (t u : Turn) → t ≡ u → IsDone ground a t → IsDone ground a u
   turned a t u same is = subst (IsDone ground a) same is

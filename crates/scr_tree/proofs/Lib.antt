@@ -24,5 +24,9 @@ pub mod ByRow
 pub mod RowsMade
 pub mod Edited
 pub mod Spanned
+pub mod Linking
+pub mod Writing
 pub mod Begun
 pub mod Entering
+pub mod RowParts
+pub mod GroupSums

@@ -190,36 +190,47 @@ module _ (factors : FactorValues) (sheet : BalanceSheet) (valid : Valid sheet) (
 
   -- ---- the beginning and the end
 
+  pub none-reckoned : (figures : List Figure) → AreKnownOf factors sheet (StandsAt sheet places) figures (IsBefore sheet (turn 0 0 0))
+  unfolding AreKnownOf
+  none-reckoned figures = λ n m stands live before. absurd (none-done sheet n before)
+
+  pub links-none : (edges : List Edge) → edges ≡ [] → AreLinkedOf sheet (StandsAt sheet places) edges (IsBefore sheet (turn 0 0 0))
+  links-none edges none = record {
+    done = λ n m stands live before. absurd (none-done sheet n before);
+    only = λ e has. absurd (IsMember-from_Contains [] e (subst (λ es. Contains es e) none has));
+  }
+
   pub made-none : (made : Made) → length made.figures.items ≡ places.size → made.links.size ≡ places.size → made.links.edges ≡ []
       → IsMade factors sheet places made (turn 0 0 0) (turn 0 0 0)
-  unfolding AreKnownOf
   made-none made count size none = record {
     count = count;
     size = size;
-    known = λ n m stands live before. absurd (none-done sheet n before);
-    links = record {
-      done = λ n m stands live before. absurd (none-done sheet n before);
-      only = λ e has. absurd (IsMember-from_Contains [] e (subst (λ es. Contains es e) none has));
-    };
+    known = none-reckoned made.figures.items;
+    links = links-none made.links.edges none;
   }
 
-  pub made-all : (made : Made) → IsMade factors sheet places made (turn 8 0 153) (turn 8 0 153)
-      → AreSettled factors sheet (StandsAt sheet places) made.figures.items × AreLinked sheet (StandsAt sheet places) made.links.edges
-  made-all made is = (
-    known-weaker factors sheet (StandsAt sheet places) made.figures.items (IsBefore sheet (turn 8 0 153)) (λ n. Unit {0})
-        (λ n live all. all-done sheet places numbered n live) is.known,
-    record {
-      linked = λ n m stands. linked n m stands (is_live sheet n) refl;
-      placed = λ e has. let l = is.links.only e has in (l.0, l.1);
-    },
-  )
+  -- all are linked
+  pub links-all : (edges : List Edge) → AreLinkedOf sheet (StandsAt sheet places) edges (IsBefore sheet (turn 7 0 153))
+      → AreLinked sheet (StandsAt sheet places) edges
+  links-all edges is = record {
+    linked = λ n m stands. linked n m stands (is_live sheet n) refl;
+    placed = λ e has. let l = is.only e has in (l.0, l.1);
+  }
     where
       linked : (n : Node) (m : ℕ) → StandsAt sheet places n m → (b : Bool) → is_live sheet n ≡ b
-          → AreAt (StandsAt sheet places) (sources_in made.links.edges m) (if b then sources_of sheet n else [])
-      linked n m stands true live = is.links.done n m stands live (all-done sheet places numbered n live)
+          → AreAt (StandsAt sheet places) (sources_in edges m) (if b then sources_of sheet n else [])
+      linked n m stands true live = is.done n m stands live (all-done sheet places numbered n live)
       linked n m stands false dead =
-          subst (λ xs. AreAt (StandsAt sheet places) xs []) (sym (none-linked made.links.edges m (λ e has same.
-          let l = is.links.only e (Contains-from_IsMember made.links.edges e has) in
+          subst (λ xs. AreAt (StandsAt sheet places) xs []) (sym (none-linked edges m (λ e has same.
+          let l = is.only e (Contains-from_IsMember edges e has) in
           let one : l.0 ≡ n = numbers.exact m l.0 n (subst (StandsAt sheet places l.0) same l.1) stands in
           let clash : true ≡ false = sym (subst (λ k. is_live sheet k ≡ true) one l.2) ∙ dead in absurd (cc))))
           tt
+
+  pub made-all : (made : Made) → IsMade factors sheet places made (turn 7 0 153) (turn 7 0 153)
+      → AreSettled factors sheet (StandsAt sheet places) made.figures.items × AreLinked sheet (StandsAt sheet places) made.links.edges
+  made-all made is = (
+    known-weaker factors sheet (StandsAt sheet places) made.figures.items (IsBefore sheet (turn 7 0 153)) (λ n. Unit {0})
+        (λ n live all. all-done sheet places numbered n live) is.known,
+    links-all made.links.edges is.links,
+  )

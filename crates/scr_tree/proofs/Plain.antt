@@ -1,5 +1,6 @@
--- Figures that rest on no choice: those of funds, securities and liabilities, and the losses of groups.
-use Rattle.std.proofs.Common.{◌≡◌, ◌||◌, ℕ, zero, suc, Bool, true, false, List, [], ◌∷◌, map, slice_get, slice_index, Some, None, is_some, if◌then◌else◌, refl, sym, ap, ap₂, ◌∙◌}
+-- Figures that rest on no choice: those of funds, securities, liabilities and groups, and the assets of which concentrations are
+-- measured.
+use Rattle.std.proofs.Common.{◌≡◌, ◌||◌, ℕ, zero, suc, Bool, true, false, List, [], ◌∷◌, filter, map, slice_get, slice_index, Some, None, is_some, if◌then◌else◌, refl, sym, ap, ap₂, ◌∙◌}
 use Rattle.std.specs.List.{AllByRecursion, list_any}
 use Rattle.scr_num.specs.Rounding.{Ends, ends}
 use Rattle.scr_factors.specs.Values.{FactorValues}
@@ -17,7 +18,8 @@ use Rattle.scr_nodes.specs.declared.node.OfFund.TheVariants as of_funds
 use Rattle.scr_nodes.specs.declared.node.OfGroup.TheVariants as of_groups
 use Rattle.scr_nodes.specs.declared.node.OfLiability.TheVariants as of_liabilities
 use Rattle.scr_nodes.specs.declared.node.OfSecurity.TheVariants as of_securities
-use Rattle.scr_nodes.specs.Rows.{holders}
+use Rattle.scr_nodes.specs.declared.node.Whole.TheVariants as wholes
+use Rattle.scr_nodes.specs.Rows.{has_group, holders, is_of_group}
 use Rattle.scr_nodes.specs.Sources.{sources_of, fund_total, security_total}
 use Rattle.scr_nodes.proofs.Reckoning.{reckoned-only}
 use Rattle.scr_rules.specs.Close.{close_under, is_open_choice}
@@ -32,7 +34,8 @@ abbrev pub is_plain : Node → Bool
 is_plain (nodes.Fund name what) = true
 is_plain (nodes.Security name what) = true
 is_plain (nodes.Liability name what) = true
-is_plain (nodes.Group name of_groups.Loss) = true
+is_plain (nodes.Group name what) = true
+is_plain (nodes.Whole wholes.Assets) = true
 is_plain node = false
 
 abbrev IsPlain : Node → Type 0
@@ -41,6 +44,10 @@ IsPlain node = is_plain node ≡ true
 funds-are : (stakes : List Stake) → AllByRecursion IsPlain (map fund_total stakes)
 funds-are [] = tt
 funds-are (s ∷ stakes) = (refl, funds-are stakes)
+
+securities-are : (positions : List Position) → AllByRecursion IsPlain (map security_total positions)
+securities-are [] = tt
+securities-are (p ∷ positions) = (refl, securities-are positions)
 
 none-open : (ns : List Node) → list_any (λ b. b) (map (λ n. false) ns) ≡ false
 none-open [] = refl
@@ -56,7 +63,9 @@ sources-are sheet (nodes.Liability name (of_liabilities.Rate direction)) h = tt
 sources-are sheet (nodes.Liability name of_liabilities.Present) h = tt
 sources-are sheet (nodes.Liability name (of_liabilities.Loss projection)) h = tt
 sources-are sheet (nodes.Group name of_groups.Loss) h = tt
-sources-are sheet (nodes.Group name of_groups.Total) h = absurd (cc)
+sources-are sheet (nodes.Group name of_groups.Total) h = securities-are (filter (is_of_group name) sheet.securities)
+sources-are sheet (nodes.Group name of_groups.ConcentrationSquare) h = (refl, (refl, tt))
+sources-are sheet (nodes.Whole wholes.Assets) h = securities-are (filter has_group sheet.securities)
 sources-are sheet node h = absurd (cc)
 
 closed-step : (factors : FactorValues) (sheet : BalanceSheet) (node : Node) → IsPlain node
@@ -64,8 +73,8 @@ closed-step : (factors : FactorValues) (sheet : BalanceSheet) (node : Node) → 
 closed-step factors sheet (nodes.Fund name what) h = sym (none-open (sources_of sheet (nodes.Fund name what)))
 closed-step factors sheet (nodes.Security name what) h = sym (none-open (sources_of sheet (nodes.Security name what)))
 closed-step factors sheet (nodes.Liability name what) h = sym (none-open (sources_of sheet (nodes.Liability name what)))
-closed-step factors sheet (nodes.Group name of_groups.Loss) h = refl
-closed-step factors sheet (nodes.Group name of_groups.Total) h = absurd (cc)
+closed-step factors sheet (nodes.Group name what) h = sym (none-open (sources_of sheet (nodes.Group name what)))
+closed-step factors sheet (nodes.Whole wholes.Assets) h = sym (none-open (sources_of sheet (nodes.Whole wholes.Assets)))
 closed-step factors sheet node h = absurd (cc)
 
 never-close : (factors : FactorValues) (sheet : BalanceSheet) → Valid sheet → (node : Node) → IsPlain node

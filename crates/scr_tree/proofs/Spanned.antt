@@ -187,7 +187,7 @@ figure-there factors sheet figures number node has = by (slice_get figures numbe
 pub known-within : (b : Basis) (figures : List Figure) (number : ℕ) → IsKnownOn b figures number → number < length figures
 unfolding IsKnownOn
 known-within b figures number is =
-    let there = figure-there b.inputs.factors.now b.inputs.book.now figures number is.1.0 is.1.3 in
+    let there = figure-there b.inputs.factors.now b.inputs.book.now.sheet figures number is.1.0 is.1.3 in
     slice_get_within figures number there.0 there.1
 
 pub known-ends : (b : Basis) (figures : List Figure) (number : ℕ) (figure : Figure) → IsKnownOn b figures number
@@ -195,7 +195,7 @@ pub known-ends : (b : Basis) (figures : List Figure) (number : ℕ) (figure : Fi
 unfolding IsKnownOn
 known-ends b figures number figure is here =
     let factors = b.inputs.factors.now in
-    let sheet = b.inputs.book.now in
+    let sheet = b.inputs.book.now.sheet in
     let there = figure-there factors sheet figures number is.1.0 is.1.3 in
     let same : figure ≡ there.0 = (let both : Some figure ≡ Some there.0 = sym here ∙ there.1 in cc) in
     ap (λ (f : Figure). ends f.span) same ∙ ap (λ (w : Worth). w.worked) there.2
@@ -205,7 +205,7 @@ pub due-basis : (b : Basis) (due : Due) → IsDueOn b due → IsBasis b
 unfolding IsDueOn
 due-basis b due is = is.0
 
-pub due-is : (b : Basis) (due : Due) → IsDueOn b due → IsDue b.inputs.book.now (StandsAt b.inputs.book.now b.places.now) due
+pub due-is : (b : Basis) (due : Due) → IsDueOn b due → IsDue b.inputs.book.now.sheet (StandsAt b.inputs.book.now.sheet b.places.now) due
 unfolding IsDueOn
 due-is b due is = is.1
 
@@ -217,10 +217,10 @@ module _ (b : Basis) (is : IsBasis b) (figures : List Figure) (numbers : List �
   factors = b.inputs.factors.now
 
   abbrev sheet : BalanceSheet
-  sheet = b.inputs.book.now
+  sheet = b.inputs.book.now.sheet
 
   abbrev Stands : Node → ℕ → Type 0
-  Stands = StandsAt b.inputs.book.now b.places.now
+  Stands = StandsAt b.inputs.book.now.sheet b.places.now
 
   abbrev NoneLeft : Node → Type 0
   NoneLeft = IsNoneOf Stands numbers

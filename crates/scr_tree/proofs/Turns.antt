@@ -16,7 +16,6 @@ use Rattle.scr_sheet.specs.Validity.{Valid}
 use Rattle.scr_nodes.specs.Live.{is_live}
 use Rattle.scr_nodes.specs.declared.{node.Node.Node, node.Whole.Whole}
 use Rattle.scr_nodes.specs.declared.node.Node.TheVariants as nodes
-use Rattle.scr_nodes.specs.declared.node.OfGroup.TheVariants as of_groups
 use Rattle.scr_nodes.specs.declared.node.OfSecurity.TheVariants as of_securities
 use Rattle.scr_nodes.specs.declared.node.Whole.TheVariants as wholes
 use Rattle.scr_tree.specs.Turns.{IsBefore, IsEarlier, Turn, next, stage_of, turn}
@@ -26,12 +25,11 @@ use Rattle.scr_tree.specs.Turns.{IsBefore, IsEarlier, Turn, next, stage_of, turn
 abbrev pub table_at : ℕ → Table
 table_at zero = tables.Fund
 table_at (suc zero) = tables.Security
-table_at (suc (suc zero)) = tables.Security
-table_at (suc (suc (suc zero))) = tables.Liability
-table_at (suc (suc (suc (suc zero)))) = tables.Group
-table_at (suc (suc (suc (suc (suc zero))))) = tables.Whole
-table_at (suc (suc (suc (suc (suc (suc zero)))))) = tables.Group
-table_at (suc (suc (suc (suc (suc (suc (suc zero))))))) = tables.Currency
+table_at (suc (suc zero)) = tables.Whole
+table_at (suc (suc (suc zero))) = tables.Security
+table_at (suc (suc (suc (suc zero)))) = tables.Liability
+table_at (suc (suc (suc (suc (suc zero))))) = tables.Group
+table_at (suc (suc (suc (suc (suc (suc zero)))))) = tables.Currency
 table_at n = tables.Whole
 
 table-at : (node : Node) → table_at (stage_of node) ≡ table_of node
@@ -39,7 +37,6 @@ table-at (nodes.Fund name what) = refl
 table-at (nodes.Security name of_securities.Total) = refl
 table-at (nodes.Security name what) = refl
 table-at (nodes.Liability name what) = refl
-table-at (nodes.Group name of_groups.ConcentrationSquare) = refl
 table-at (nodes.Group name what) = refl
 table-at (nodes.Whole wholes.Assets) = refl
 table-at (nodes.Currency name what) = refl
@@ -258,86 +255,59 @@ total-last (nodes.Security name of_securities.Total) e = omega arith
 total-last (nodes.Security name what) e = absurd (omega (arith, e))
 total-last (nodes.Liability name what) e = absurd (omega (arith, e))
 total-last (nodes.Currency name what) e = absurd (omega (arith, e))
-total-last (nodes.Group name of_groups.ConcentrationSquare) e = absurd (omega (arith, e))
 total-last (nodes.Group name what) e = absurd (omega (arith, e))
 total-last (nodes.Whole wholes.Assets) e = absurd (omega (arith, e))
 total-last (nodes.Whole what) e = absurd (omega (arith, e))
 
-pub security-first : (n : Node) → stage_of n ≡ 2 → 1 ≤ family_of n
+pub security-first : (n : Node) → stage_of n ≡ 3 → 1 ≤ family_of n
 security-first (nodes.Fund name what) e = absurd (omega (arith, e))
 security-first (nodes.Security name of_securities.Total) e = absurd (omega (arith, e))
 security-first (nodes.Security name what) e = omega arith
 security-first (nodes.Liability name what) e = absurd (omega (arith, e))
 security-first (nodes.Currency name what) e = absurd (omega (arith, e))
-security-first (nodes.Group name of_groups.ConcentrationSquare) e = absurd (omega (arith, e))
 security-first (nodes.Group name what) e = absurd (omega (arith, e))
 security-first (nodes.Whole wholes.Assets) e = absurd (omega (arith, e))
 security-first (nodes.Whole what) e = absurd (omega (arith, e))
 
--- no square stands among the totals and losses of groups
-pub group-not-square : (n : Node) → stage_of n ≡ 4 → family_of n ≡ 1 → ⊥
-group-not-square (nodes.Fund name what) e f = absurd (omega (arith, e))
-group-not-square (nodes.Security name of_securities.Total) e f = absurd (omega (arith, e))
-group-not-square (nodes.Security name what) e f = absurd (omega (arith, e))
-group-not-square (nodes.Liability name what) e f = absurd (omega (arith, e))
-group-not-square (nodes.Currency name what) e f = absurd (omega (arith, e))
-group-not-square (nodes.Group name of_groups.ConcentrationSquare) e f = absurd (omega (arith, e))
-group-not-square (nodes.Group name what) e f = absurd (omega (arith, f))
-group-not-square (nodes.Whole wholes.Assets) e f = absurd (omega (arith, e))
-group-not-square (nodes.Whole what) e f = absurd (omega (arith, e))
-
-pub assets-first : (n : Node) → stage_of n ≡ 5 → 153 ≤ family_of n
+pub assets-first : (n : Node) → stage_of n ≡ 2 → 153 ≤ family_of n
 assets-first (nodes.Fund name what) e = absurd (omega (arith, e))
 assets-first (nodes.Security name of_securities.Total) e = absurd (omega (arith, e))
 assets-first (nodes.Security name what) e = absurd (omega (arith, e))
 assets-first (nodes.Liability name what) e = absurd (omega (arith, e))
 assets-first (nodes.Currency name what) e = absurd (omega (arith, e))
-assets-first (nodes.Group name of_groups.ConcentrationSquare) e = absurd (omega (arith, e))
 assets-first (nodes.Group name what) e = absurd (omega (arith, e))
 assets-first (nodes.Whole wholes.Assets) e = omega arith
 assets-first (nodes.Whole what) e = absurd (omega (arith, e))
 
-pub square-family : (n : Node) → stage_of n ≡ 6 → family_of n ≡ 1
-square-family (nodes.Fund name what) e = absurd (omega (arith, e))
-square-family (nodes.Security name of_securities.Total) e = absurd (omega (arith, e))
-square-family (nodes.Security name what) e = absurd (omega (arith, e))
-square-family (nodes.Liability name what) e = absurd (omega (arith, e))
-square-family (nodes.Currency name what) e = absurd (omega (arith, e))
-square-family (nodes.Group name of_groups.ConcentrationSquare) e = refl
-square-family (nodes.Group name what) e = absurd (omega (arith, e))
-square-family (nodes.Whole wholes.Assets) e = absurd (omega (arith, e))
-square-family (nodes.Whole what) e = absurd (omega (arith, e))
-
 -- ---- when all is done
 
-pub stage-of-whole : (what : Whole) → whole_family what < 153 → stage_of (nodes.Whole what) ≡ 8
+pub stage-of-whole : (what : Whole) → whole_family what < 153 → stage_of (nodes.Whole what) ≡ 7
 stage-of-whole wholes.Assets l = absurd (omega (arith, l))
 stage-of-whole what l = refl
 
 module _ (sheet : BalanceSheet) (places : Numbered) (numbered : IsNumbered sheet places) where
-  whole-last : (what : Whole) → is_live sheet (nodes.Whole what) ≡ true → stage_of (nodes.Whole what) ≡ 8
+  whole-last : (what : Whole) → is_live sheet (nodes.Whole what) ≡ true → stage_of (nodes.Whole what) ≡ 7
       → whole_family what < 153
   whole-last what live e =
       let few : whole_family what < 154 = family-within sheet places numbered (nodes.Whole what) live in
       let other : whole_family what ≡ 153 → ⊥ =
-      λ same. (let one : stage_of (nodes.Whole what) ≡ 5 =
+      λ same. (let one : stage_of (nodes.Whole what) ≡ 2 =
       ap stage_of (told (nodes.Whole what) (nodes.Whole wholes.Assets) refl same refl few) in omega (arith, e, one)) in
       lower (whole_family what) few other
     where
       lower : (n : ℕ) → n < 154 → (n ≡ 153 → ⊥) → n < 153
       lower n l other = omega (arith, l, other)
 
-  whole-done : (what : Whole) → is_live sheet (nodes.Whole what) ≡ true → stage_of (nodes.Whole what) ≡ 8
-      → IsBefore sheet (turn 8 0 153) (nodes.Whole what)
+  whole-done : (what : Whole) → is_live sheet (nodes.Whole what) ≡ true → stage_of (nodes.Whole what) ≡ 7
+      → IsBefore sheet (turn 7 0 153) (nodes.Whole what)
   whole-done what live e = inr (e, record { k = 0; named = refl; before = inr (refl, whole-last what live e) })
 
-  pub all-done : (n : Node) → is_live sheet n ≡ true → IsBefore sheet (turn 8 0 153) n
+  pub all-done : (n : Node) → is_live sheet n ≡ true → IsBefore sheet (turn 7 0 153) n
   all-done (nodes.Fund name what) live = inl (omega arith)
   all-done (nodes.Security name of_securities.Total) live = inl (omega arith)
   all-done (nodes.Security name what) live = inl (omega arith)
   all-done (nodes.Liability name what) live = inl (omega arith)
   all-done (nodes.Currency name what) live = inl (omega arith)
-  all-done (nodes.Group name of_groups.ConcentrationSquare) live = inl (omega arith)
   all-done (nodes.Group name what) live = inl (omega arith)
   all-done (nodes.Whole wholes.Assets) live = inl (omega arith)
   all-done (nodes.Whole what) live = whole-done what live refl

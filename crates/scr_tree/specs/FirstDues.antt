@@ -29,7 +29,7 @@ sources_but false sources = sources
 
 abbrev pub IsFirstDue : Basis → ℕ → List ℕ → Type 0
 IsFirstDue b number sources =
-    (node : Node) → StandsAt b.inputs.book.now b.places.now node number
+    (node : Node) → StandsAt b.inputs.book.now.sheet b.places.now node number
     → sources ≡ sources_but (is_total node) (sources_in b.links.now.edges number)
 
 -- what is due at each of the numbers, in their order
@@ -40,16 +40,16 @@ pub record AreFirstDues (b : Basis) (numbers : List ℕ) (dues : List Due) : Typ
 -- the totals are there
 abbrev pub AreTotalsOn : Basis → List Figure → Type 0
 AreTotalsOn b figures =
-    AreKnownOf b.inputs.factors.now b.inputs.book.now (StandsAt b.inputs.book.now b.places.now) figures (λ node. is_total node ≡ true)
+    AreKnownOf b.inputs.factors.now b.inputs.book.now.sheet (StandsAt b.inputs.book.now.sheet b.places.now) figures (λ node. is_total node ≡ true)
 
 -- a live figure is due: a total, which is there, or another with the numbers of its sources
 pub record IsFirstOf (b : Basis) (figures : List Figure) (due : Due) : Type 0 where
   pub basis : IsBasis b
   pub node : Node
-  pub at : StandsAt b.inputs.book.now b.places.now node due.number
-  pub live : is_live b.inputs.book.now node ≡ true
-  pub total : is_total node ≡ true → HasFigure b.inputs.factors.now b.inputs.book.now figures due.number node
-  pub other : is_total node ≡ false → AreAt (StandsAt b.inputs.book.now b.places.now) due.sources.items (sources_of b.inputs.book.now node)
+  pub at : StandsAt b.inputs.book.now.sheet b.places.now node due.number
+  pub live : is_live b.inputs.book.now.sheet node ≡ true
+  pub total : is_total node ≡ true → HasFigure b.inputs.factors.now b.inputs.book.now.sheet figures due.number node
+  pub other : is_total node ≡ false → AreAt (StandsAt b.inputs.book.now.sheet b.places.now) due.sources.items (sources_of b.inputs.book.now.sheet node)
 
 unfoldable pub IsFirstDueOn : Basis → List Figure → Due → Type 0
 IsFirstDueOn b figures due = IsFirstOf b figures due

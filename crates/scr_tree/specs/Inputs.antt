@@ -5,4 +5,4 @@ use Rattle.scr_tree.specs.declared.figures.Inputs.{Inputs}
 
 -- the rates are those of the book
 abbrev pub AreOfBook : Inputs → Type 0
-AreOfBook inputs = known_of inputs.rates.now ≡ all_rates inputs.book.now
+AreOfBook inputs = known_of inputs.rates.now ≡ all_rates inputs.book.now.sheet

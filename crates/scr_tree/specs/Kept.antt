@@ -6,10 +6,10 @@ use Rattle.scr_tree.specs.Changed.{IsStateOf}
 use Rattle.scr_tree.specs.Standing.{Standing}
 
 abbrev pub standing_of : Inside → Standing
-standing_of e = record { factors = e.factors; sheet = e.book }
+standing_of e = record { factors = e.factors; sheet = e.book.sheet }
 
 -- The book is valid, what is kept beside it is its own, and no number is marked.
 pub record IsKept (e : Inside) : Type 0 where
-  pub valid : Valid e.book
-  pub state : IsStateOf e.factors e.book e.state
+  pub valid : Valid e.book.sheet
+  pub state : IsStateOf e.factors e.book.sheet e.state
   pub marks : e.state.marks.list ≡ []

@@ -8,8 +8,10 @@ pub mod KeptRates
 pub mod Changed
 pub mod Turns
 pub mod First
+pub mod RowSpans
 pub mod Begun
 pub mod FirstDues
+pub mod Written
 pub mod Opened
 pub mod Standing
 pub mod Kept

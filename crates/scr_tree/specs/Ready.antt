@@ -53,28 +53,28 @@ pub record IsLinkedUp (sheet : BalanceSheet) (places : Numbered) (edges : List E
 -- ---- of what figures are reckoned from
 
 abbrev pub IsBasis : Basis → Type 0
-IsBasis b = IsLinkedUp b.inputs.book.now b.places.now b.links.now.edges × AreOfBook b.inputs
+IsBasis b = IsLinkedUp b.inputs.book.now.sheet b.places.now b.links.now.edges × AreOfBook b.inputs
 
 abbrev pub IsReadyOn : Basis → List Figure → ℕ → Type 0
 IsReadyOn b figures number =
-    IsReady b.inputs.factors.now b.inputs.book.now b.places.now b.links.now.edges figures number
+    IsReady b.inputs.factors.now b.inputs.book.now.sheet b.places.now b.links.now.edges figures number
 
 abbrev pub IsRightOn : Basis → ℕ → Figure → Type 0
-IsRightOn b number figure = IsRight b.inputs.factors.now b.inputs.book.now b.places.now number figure
+IsRightOn b number figure = IsRight b.inputs.factors.now b.inputs.book.now.sheet b.places.now number figure
 
 abbrev pub IsOrderOn : Basis → List ℕ → List ℕ → Type 0
 IsOrderOn b numbers ends =
-    (reached : List ℕ) × IsOrder b.inputs.book.now (StandsAt b.inputs.book.now b.places.now) reached numbers ends
+    (reached : List ℕ) × IsOrder b.inputs.book.now.sheet (StandsAt b.inputs.book.now.sheet b.places.now) reached numbers ends
 
 abbrev pub AreInTurnOn : Basis → List ℕ → Type 0
-AreInTurnOn b numbers = AreInTurn b.inputs.book.now b.places.now numbers
+AreInTurnOn b numbers = AreInTurn b.inputs.book.now.sheet b.places.now numbers
 
 -- the figures of all nodes are known but of those at these numbers
 abbrev pub AreKnownBut : Basis → List Figure → List ℕ → Type 0
 AreKnownBut b figures numbers =
-    AreKnownOf b.inputs.factors.now b.inputs.book.now (StandsAt b.inputs.book.now b.places.now) figures
-    (IsNoneOf (StandsAt b.inputs.book.now b.places.now) numbers)
+    AreKnownOf b.inputs.factors.now b.inputs.book.now.sheet (StandsAt b.inputs.book.now.sheet b.places.now) figures
+    (IsNoneOf (StandsAt b.inputs.book.now.sheet b.places.now) numbers)
 
 abbrev pub AreSettledOn : Basis → List Figure → Type 0
 AreSettledOn b figures =
-    AreSettled b.inputs.factors.now b.inputs.book.now (StandsAt b.inputs.book.now b.places.now) figures
+    AreSettled b.inputs.factors.now b.inputs.book.now.sheet (StandsAt b.inputs.book.now.sheet b.places.now) figures

@@ -45,7 +45,7 @@ ends_at factors sheet places number =
 -- ---- of what figures are reckoned from
 
 abbrev pub ends_on : Basis → ℕ → Ends
-ends_on b number = ends_at b.inputs.factors.now b.inputs.book.now b.places.now number
+ends_on b number = ends_at b.inputs.factors.now b.inputs.book.now.sheet b.places.now number
 
 -- the spans have these ends, one at each number
 abbrev pub AreSpansOn : Basis → List ℕ → List Span → Type 0
@@ -57,12 +57,12 @@ IsSpanOn b number span = ends span ≡ ends_on b number
 -- a live figure stands at the number, and is there
 unfoldable pub IsKnownOn : Basis → List Figure → ℕ → Type 0
 IsKnownOn b figures number =
-    IsBasis b × ((node : Node) × StandsAt b.inputs.book.now b.places.now node number × (is_live b.inputs.book.now node ≡ true)
-    × HasFigure b.inputs.factors.now b.inputs.book.now figures number node)
+    IsBasis b × ((node : Node) × StandsAt b.inputs.book.now.sheet b.places.now node number × (is_live b.inputs.book.now.sheet node ≡ true)
+    × HasFigure b.inputs.factors.now b.inputs.book.now.sheet figures number node)
 
 -- a live figure is due, with the numbers of its sources
 unfoldable pub IsDueOn : Basis → Due → Type 0
-IsDueOn b due = IsBasis b × IsDue b.inputs.book.now (StandsAt b.inputs.book.now b.places.now) due
+IsDueOn b due = IsBasis b × IsDue b.inputs.book.now.sheet (StandsAt b.inputs.book.now.sheet b.places.now) due
 
 -- ---- open choices
 

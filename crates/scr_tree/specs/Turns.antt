@@ -6,23 +6,20 @@ use Rattle.scr_figures.specs.Numbers.{names_in}
 use Rattle.scr_sheet.specs.declared.sheet.BalanceSheet.{BalanceSheet}
 use Rattle.scr_nodes.specs.declared.node.Node.{Node}
 use Rattle.scr_nodes.specs.declared.node.Node.TheVariants as nodes
-use Rattle.scr_nodes.specs.declared.node.OfGroup.TheVariants as of_groups
 use Rattle.scr_nodes.specs.declared.node.OfSecurity.TheVariants as of_securities
 use Rattle.scr_nodes.specs.declared.node.Whole.TheVariants as wholes
 
--- The stages one after another: totals of funds, then of securities, the other figures of securities, those of liabilities, totals
--- and losses of groups, the assets of which concentrations are measured, the squares of concentrations, the figures of
--- currencies, and those of the whole sheet.
+-- The stages one after another: totals of funds, then of securities, the assets of which concentrations are measured, the other
+-- figures of securities, those of liabilities, of groups, of currencies, and those of the whole sheet.
 abbrev pub stage_of : Node → ℕ
 stage_of (nodes.Fund name what) = 0
 stage_of (nodes.Security name of_securities.Total) = 1
-stage_of (nodes.Security name what) = 2
-stage_of (nodes.Liability name what) = 3
-stage_of (nodes.Group name of_groups.ConcentrationSquare) = 6
-stage_of (nodes.Group name what) = 4
-stage_of (nodes.Whole wholes.Assets) = 5
-stage_of (nodes.Currency name what) = 7
-stage_of (nodes.Whole what) = 8
+stage_of (nodes.Whole wholes.Assets) = 2
+stage_of (nodes.Security name what) = 3
+stage_of (nodes.Liability name what) = 4
+stage_of (nodes.Group name what) = 5
+stage_of (nodes.Currency name what) = 6
+stage_of (nodes.Whole what) = 7
 
 -- how far the reckoning has come: the stage, the row and the figure of the row that are next
 pub record Turn : Type 0 where

@@ -90,13 +90,13 @@ pub(crate) fn take_up<R: Threads + Sync, G: Gate + Sync, L: Ledger>(
     gone: Option<Vec<u32>>,
     steps: &mut Steps<L>,
 ) -> Result<(), NoMemory>
-    requires { IsRecorded footing.factors.now footing.book.now taken gone state.old }
-    ensures ok { OnOk result (IsStateOf footing.entry.factors.now footing.entry.book.now state.new) }
+    requires { IsRecorded footing.factors.now footing.book.now.sheet taken gone state.old }
+    ensures ok { OnOk result (IsStateOf footing.entry.factors.now footing.entry.book.now.sheet state.new) }
     ensures steps { OnOk result (crew.now.workers ≡ 1
-        → StepsReach footing.entry.book.now taken.entry.touched.now steps.old steps.new) }
+        → StepsReach footing.entry.book.now.sheet taken.entry.touched.now steps.old steps.new) }
     ensures marks { OnOk result (state.new.marks.list ≡ []) }
     ensures err { OnErr result ((before : BalanceSheet)
-        → KeepsState footing.entry.factors.now before footing.entry.book.now taken.entry state.old state.new) }
+        → KeepsState footing.entry.factors.now before footing.entry.book.now.sheet taken.entry state.old state.new) }
 {
     follow(&mut state.places, taken.step)?;
     match change(crew, footing, state, taken, gone, steps) {
@@ -117,10 +117,10 @@ fn change<R: Threads + Sync, G: Gate + Sync, L: Ledger>(
     gone: Option<Vec<u32>>,
     steps: &mut Steps<L>,
 ) -> Result<(), NoMemory>
-    requires { IsFollowed footing.factors.now footing.book.now taken gone state.old }
-    ensures ok { OnOk result (IsStateOf footing.entry.factors.now footing.entry.book.now state.new) }
+    requires { IsFollowed footing.factors.now footing.book.now.sheet taken gone state.old }
+    ensures ok { OnOk result (IsStateOf footing.entry.factors.now footing.entry.book.now.sheet state.new) }
     ensures steps { OnOk result (crew.now.workers ≡ 1
-        → StepsReach footing.entry.book.now taken.entry.touched.now steps.old steps.new) }
+        → StepsReach footing.entry.book.now.sheet taken.entry.touched.now steps.old steps.new) }
     ensures err { OnErr result (IsUndone state.old state.new) }
     ensures marks { state.new.marks.list ≡ [] }
 {
@@ -147,10 +147,10 @@ fn change_from<R: Threads + Sync, G: Gate + Sync, L: Ledger>(
     rates: Option<Rates>,
     steps: &mut Steps<L>,
 ) -> Result<(), NoMemory>
-    requires { IsStarted footing.factors.now footing.book.now starts.now rates state.old }
-    ensures ok { OnOk result (IsStateOf footing.entry.factors.now footing.entry.book.now state.new) }
+    requires { IsStarted footing.factors.now footing.book.now.sheet starts.now rates state.old }
+    ensures ok { OnOk result (IsStateOf footing.entry.factors.now footing.entry.book.now.sheet state.new) }
     ensures steps { OnOk result (crew.now.workers ≡ 1
-        → StepsTaken footing.entry.factors.now footing.entry.book.now starts.now rates state.old steps.old steps.new) }
+        → StepsTaken footing.entry.factors.now footing.entry.book.now.sheet starts.now rates state.old steps.old steps.new) }
     ensures err { OnErr result (IsUndone state.old state.new) }
 {
     mark_reached(&mut state.marks, &state.links, &starts.numbers)?;
@@ -181,11 +181,11 @@ fn reckon_marked<R: Threads + Sync, G: Gate + Sync, L: Ledger>(
     rates: &Option<Rates>,
     steps: &mut Steps<L>,
 ) -> Result<(), NoMemory>
-    requires { IsRelinkedFor footing.factors.now footing.book.now live.now rates.now state.old }
-    ensures settled { OnOk result (AreSettled footing.entry.factors.now footing.entry.book.now
-        (StandsAt footing.entry.book.now state.old.places) state.new.figures.items) }
+    requires { IsRelinkedFor footing.factors.now footing.book.now.sheet live.now rates.now state.old }
+    ensures settled { OnOk result (AreSettled footing.entry.factors.now footing.entry.book.now.sheet
+        (StandsAt footing.entry.book.now.sheet state.old.places) state.new.figures.items) }
     ensures steps { OnOk result (crew.now.workers ≡ 1
-        → StepsOver footing.entry.book.now state.old.places state.old.marks.list steps.old steps.new) }
+        → StepsOver footing.entry.book.now.sheet state.old.places state.old.marks.list steps.old steps.new) }
     ensures figures { OnErr result (state.new.figures.items ≡ state.old.figures.items) }
     ensures count { length state.new.figures.items ≡ length state.old.figures.items }
     ensures rates { state.new.rates ≡ state.old.rates }
@@ -262,8 +262,8 @@ fn new_rates(
     kept: &Rates,
     edit: &Edit,
 ) -> Result<Option<Rates>, NoMemory>
-    requires { AreKeptFor edit.now footing.book.now kept.now }
-    ensures { IfOk result (AreRowsFor edit.now footing.entry.book.now) }
+    requires { AreKeptFor edit.now footing.book.now.sheet kept.now }
+    ensures { IfOk result (AreRowsFor edit.now footing.entry.book.now.sheet) }
 {
     if let Edit::Curve { currency, .. } = edit {
         return Ok(Some(rates_after(alloc, footing.book, kept, currency)?));

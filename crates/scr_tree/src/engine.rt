@@ -61,7 +61,7 @@ impl Engine {
         gate: &G,
     ) -> Result<Engine, NoMemory>
         requires { (1 ≤ workers) × (workers ≤ 64) }
-        ensures { IfOk result (λ engine. engine ≡ record { factors = factors; sheet = book }) }
+        ensures { IfOk result (λ engine. engine ≡ record { factors = factors; sheet = book.sheet }) }
     {
         let crew = Crew {
             rt,
@@ -168,7 +168,7 @@ impl Engine {
 
     /// Today's book.
     pub fn book(&self) -> &Book
-        ensures value { result.now ≡ self.now.sheet }
+        ensures value { result.now.sheet ≡ self.now.sheet }
         ensures valid { Valid self.now.sheet }
     {
         &self.book
@@ -190,7 +190,7 @@ impl Engine {
 /// Takes a record back for want of memory, which is the refusal.
 fn taken_back(book: &mut Book, undo: Undo) -> Refusal
     requires { Fits undo book.old }
-    ensures before { book.new ≡ back undo book.old }
+    ensures before { book.new.sheet ≡ back undo book.old.sheet }
     ensures refusal { result ≡ Refusal.NoMemory }
 {
     book.put_back(undo);

@@ -1,5 +1,5 @@
 //! The figures that are known, each at its number, and one figure reckoned from those of its sources.
-ghost use Rattle.std.specs.Prelude.{◌≡◌, ◌+◌, ◌<◌, ◌||◌, true, All, length, OnOk};
+ghost use Rattle.std.specs.Prelude.{◌≡◌, ◌+◌, ◌<◌, ◌||◌, true, All, length, IfOk, OnOk};
 ghost use Rattle.scr_num.specs.Rounding.{ends};
 ghost use Rattle.scr_nodes.specs.Live.{is_live};
 ghost use Rattle.scr_nodes.specs.Sources.{sources_of};
@@ -13,7 +13,7 @@ use scr_io::{Gate, Steps};
 use scr_nodes::{Node, OfCurrency, Whole};
 use scr_num::Span;
 use scr_rules::{Rates, evaluate_by};
-use std::alloc::AllocError as NoMemory;
+use std::alloc::{AllocError as NoMemory, Global};
 use std::sync::ledger::Ledger;
 
 /// A figure: its span, and whether it rests on a choice that is open.
@@ -28,6 +28,14 @@ pub(crate) const NO_FIGURE: Figure = Figure {
     span: Span { low: 0, high: 0 },
     close: false,
 };
+
+/// No figure, with room for so many.
+pub(crate) fn no_figures(alloc: Global, size: u32) -> Result<Vec<Figure>, NoMemory>
+    ensures { IfOk result (λ figures. length figures.items ≡ size) }
+{
+    let figures = vec![in alloc; NO_FIGURE; size as usize]?;
+    Ok(figures)
+}
 
 /// What figures are reckoned from beside those of their sources.
 #[derive(Clone, Copy)]
@@ -89,9 +97,9 @@ pub(crate) fn reckoned<G: Gate, L: Ledger>(
     steps: &mut Steps<L>,
 ) -> Figure
     requires inputs { AreOfBook inputs }
-    requires live { is_live inputs.book.now node.now ≡ true }
-    requires below { AreSpansOf inputs.factors.now inputs.book.now (sources_of inputs.book.now node.now) below.now }
-    ensures figure { worth_of result ≡ worth_at inputs.entry.factors.now inputs.entry.book.now node.now }
+    requires live { is_live inputs.book.now.sheet node.now ≡ true }
+    requires below { AreSpansOf inputs.factors.now inputs.book.now.sheet (sources_of inputs.book.now.sheet node.now) below.now }
+    ensures figure { worth_of result ≡ worth_at inputs.entry.factors.now inputs.entry.book.now.sheet node.now }
     ensures step { steps.new ≡ steps.old + 1 }
 {
     inputs.factors.known();

@@ -1,27 +1,34 @@
-//! The figures of a book, all reckoned for the first time: by several workers at once, or by one row by row, and then those of the
-//! whole sheet in their order.
-ghost use Rattle.std.specs.Prelude.{◌≡◌, ◌<◌, [], length, IfOk, OnOk};
+//! The figures of a book, all reckoned for the first time: by several workers at once, or by one row by row, and then those of
+//! currencies and of the whole sheet in their order.
+ghost use Rattle.std.specs.Prelude.{◌≡◌, ◌+◌, ◌<◌, length, IfOk, OnOk};
+ghost use Rattle.scr_pieces.specs.Rows.{rows_from};
 ghost use Rattle.scr_tree.specs.Begun.{IsAllMade};
-ghost use Rattle.scr_tree.specs.First.{IsDone, IsGround};
+ghost use Rattle.scr_tree.specs.First.{IsDone, IsGround, totals_of};
 ghost use Rattle.scr_tree.specs.Opened.{IsOpened};
+ghost use Rattle.scr_tree.specs.RowSpans.{IsRowGround, row_count};
 ghost use Rattle.scr_tree.specs.Turns.{turn};
+ghost use Rattle.scr_tree.specs.Written.{IsWrittenOf};
 
 use crate::basis::Crew;
-use crate::figures::{Below, Figure, Inputs, NO_FIGURE};
-use crate::first_rows::{put_currency, put_group, put_liability, put_security, put_square};
+use crate::figures::{Below, Figure, Inputs, no_figures};
+use crate::first_links::{OF_CURRENCY, WHOLES, link_rows, no_links};
+use crate::first_parts::write_row;
 use crate::first_together::reckon_round;
-use crate::first_totals::put_totals;
+use crate::first_totals::{assets_of, put_totals};
 use crate::making::{Ground, Made, Making, put_live};
+use crate::row_spans::RowGround;
 use scr_book::Book;
 use scr_factors::Factors;
 use scr_figures::gathered::members_of;
-use scr_figures::{places_of, whole_at};
+use scr_figures::{currency_at, places_of, whole_at};
 use scr_io::{Gate, Steps};
 use scr_links::Links;
 use scr_nodes::{Node, Whole};
+use scr_num::Span;
 use scr_numbers::Places;
+use scr_pieces::{RowPlan, Sort};
 use scr_rules::{Rates, group_losses, rates};
-use scr_sheet::BalanceSheet;
+use scr_totals::totals;
 use std::alloc::{AllocError as NoMemory, Global};
 use std::marker::Brand;
 use std::sync::ledger::{Blank, Ledger};
@@ -37,16 +44,13 @@ pub(crate) struct Opened {
     pub(crate) below: Below,
 }
 
-/// How many figures of the whole sheet are reckoned after all rows: all but the assets of which concentrations are measured.
-const WHOLES: u32 = 153;
-
 /// All figures of a book with their links. The gate is passed before each evaluation. Only want of memory is refused.
 pub(crate) fn reckon_all<R: Threads + Sync, G: Gate + Sync>(
     crew: &Crew<'_, R, G>,
     factors: &Factors,
     book: &Book,
 ) -> Result<Opened, NoMemory>
-    ensures { IfOk result (IsOpened factors.now book.now) }
+    ensures { IfOk result (IsOpened factors.now book.now.sheet) }
 {
     let alloc = crew.alloc;
     factors.known();
@@ -54,7 +58,7 @@ pub(crate) fn reckon_all<R: Threads + Sync, G: Gate + Sync>(
     let losses = group_losses(alloc, book)?;
     let members = members_of(alloc, book.sheet())?;
     let places = places_of(alloc, book.sheet())?;
-    let mut making = nothing_made(alloc, book.sheet(), places.len())?;
+    places.len();
     let ground = Ground {
         alloc,
         inputs: Inputs {
@@ -66,7 +70,7 @@ pub(crate) fn reckon_all<R: Threads + Sync, G: Gate + Sync>(
         members: &members,
         losses: &losses,
     };
-    reckon_by(crew, ground, &mut making)?;
+    let making = reckon_by(crew, ground)?;
     Ok(Opened {
         rates,
         places,
@@ -80,59 +84,47 @@ pub(crate) fn reckon_all<R: Threads + Sync, G: Gate + Sync>(
 fn reckon_by<R: Threads + Sync, G: Gate + Sync>(
     crew: &Crew<'_, R, G>,
     ground: Ground<'_>,
-    making: &mut Making,
-) -> Result<(), NoMemory>
-    requires ground { IsGround ground }
-    requires nothing { IsDone ground making.old.made (turn 0 0 0) }
-    ensures { OnOk result (IsAllMade ground.entry making.new.made) }
+) -> Result<Making, NoMemory>
+    requires { IsGround ground }
+    ensures { IfOk result (λ making. IsAllMade ground.entry making.made) }
 {
     if crew.workers == 1 {
-        return reckon_tables::<G, Brand>(ground, making, crew.gate, Blank::new(1));
+        return reckon_alone(ground, crew.gate);
     }
-    reckon_round(crew, ground, &mut making.made)
+    let made = reckon_round(crew, ground)?;
+    Ok(making_of(ground.alloc, made))
 }
 
-/// No figure and no link, with room for those of so many numbers.
-fn nothing_made(alloc: Global, sheet: &BalanceSheet, size: u32) -> Result<Making, NoMemory>
-    ensures count { IfOk result (λ making. length making.made.figures.items ≡ size) }
-    ensures links { IfOk result (λ making. making.made.links.edges ≡ []) }
-    ensures size { IfOk result (λ making. making.made.links.size ≡ size) }
+fn reckon_alone<G: Gate>(ground: Ground<'_>, gate: &G) -> Result<Making, NoMemory>
+    requires { IsGround ground }
+    ensures { IfOk result (λ making. IsAllMade ground.entry making.made) }
 {
-    let mut links = Links::new(alloc)?;
-    links.reserve(alloc, expected_links(sheet), size)?;
-    Ok(Making {
-        made: Made {
-            figures: vec![in alloc; NO_FIGURE; size as usize]?,
-            links,
-        },
+    let totals = totals(ground.alloc, ground.inputs.book.sheet())?;
+    let figures = no_figures(ground.alloc, ground.places.len())?;
+    let links = no_links(ground)?;
+    let mut making = making_of(ground.alloc, Made { figures, links });
+    reckon_tables::<G, Brand>(ground, totals.as_slice(), &mut making, gate, Blank::new(1))?;
+    Ok(making)
+}
+
+/// What is made, with no room yet for what one figure is reckoned from.
+fn making_of(alloc: Global, made: Made) -> Making
+    ensures { result.made ≡ made }
+{
+    Making {
+        made,
         sources: Vec::new(alloc),
         below: Below {
             spans: Vec::new(alloc),
             close: false,
         },
-    })
-}
-
-/// How many links figures have at most to their sources, or nearly so: of a security at most fifteen, of a liability at most
-/// fourteen, of a group five, and of a currency twenty.
-fn expected_links(sheet: &BalanceSheet) -> u32 {
-    let count = sheet
-        .securities
-        .len()
-        .saturating_mul(15)
-        .saturating_add(sheet.liabilities.len().saturating_mul(14))
-        .saturating_add(sheet.groups.len().saturating_mul(5))
-        .saturating_add(sheet.curves.len().saturating_mul(20))
-        .saturating_add(512);
-    match u32::try_from(count) {
-        Ok(count) => count,
-        Err(_) => u32::MAX,
     }
 }
 
 /// All figures, each after those that it is reckoned from.
 fn reckon_tables<G: Gate, L: Ledger>(
     ground: Ground<'_>,
+    totals: &[u64],
     making: &mut Making,
     gate: &G,
     blank: Blank,
@@ -141,57 +133,16 @@ fn reckon_tables<G: Gate, L: Ledger>(
     requires parts { blank.parts ≡ L.parts }
     requires some { 0 < blank.parts }
     requires ground { IsGround ground }
+    requires totals { totals.now ≡ totals_of ground.inputs.book.now.sheet }
     requires nothing { IsDone ground making.old.made (turn 0 0 0) }
     ensures { OnOk result (IsAllMade ground.entry making.new.made) }
 {
     let mut steps = Steps::<L>::new(blank);
-    put_totals(ground, making, gate)?;
-    put_securities(ground, &mut making.made, gate)?;
-    put_liabilities(ground, &mut making.made, gate)?;
-    put_groups(ground, making, gate, &mut steps)?;
+    put_totals(ground, totals, making, gate)?;
     put_assets(ground, making, gate, &mut steps)?;
-    put_squares(ground, making, gate, &mut steps)?;
+    put_rows(ground, totals, making, gate)?;
     put_currencies(ground, making, gate, &mut steps)?;
     put_wholes(ground, making, gate, &mut steps)
-}
-
-fn put_securities<G: Gate>(ground: Ground<'_>, made: &mut Made, gate: &G) -> Result<(), NoMemory>
-    requires ground { IsGround ground }
-    requires done { IsDone ground made.old (turn 2 0 0) }
-    ensures { OnOk result (IsDone ground.entry made.new (turn 3 0 0)) }
-{
-    for k in 0..ground.inputs.book.sheet().securities.len() {
-        put_security(ground, made, k, gate)?;
-    }
-    Ok(())
-}
-
-fn put_liabilities<G: Gate>(ground: Ground<'_>, made: &mut Made, gate: &G) -> Result<(), NoMemory>
-    requires ground { IsGround ground }
-    requires done { IsDone ground made.old (turn 3 0 0) }
-    ensures { OnOk result (IsDone ground.entry made.new (turn 4 0 0)) }
-{
-    for k in 0..ground.inputs.book.sheet().liabilities.len() {
-        put_liability(ground, made, k, gate)?;
-    }
-    Ok(())
-}
-
-/// The totals and the losses of all groups.
-fn put_groups<G: Gate, L: Ledger>(
-    ground: Ground<'_>,
-    making: &mut Making,
-    gate: &G,
-    steps: &mut Steps<L>,
-) -> Result<(), NoMemory>
-    requires ground { IsGround ground }
-    requires done { IsDone ground making.old.made (turn 4 0 0) }
-    ensures { OnOk result (IsDone ground.entry making.new.made (turn 5 0 0)) }
-{
-    for k in 0..ground.inputs.book.sheet().groups.len() {
-        put_group(ground, making, k, gate, steps)?;
-    }
-    Ok(())
 }
 
 /// The assets of which concentrations are measured.
@@ -202,25 +153,55 @@ fn put_assets<G: Gate, L: Ledger>(
     steps: &mut Steps<L>,
 ) -> Result<(), NoMemory>
     requires ground { IsGround ground }
-    requires done { IsDone ground making.old.made (turn 5 0 0) }
-    ensures { OnOk result (IsDone ground.entry making.new.made (turn 6 0 0)) }
+    requires done { IsDone ground making.old.made (turn 2 0 0) }
+    ensures { OnOk result (IsDone ground.entry making.new.made (turn 3 0 0)) }
 {
     put_live(ground, making, &Node::Whole(Whole::Assets), 0, gate, steps)
 }
 
-/// The squares of the concentrations of all groups.
-fn put_squares<G: Gate, L: Ledger>(
+/// The figures of all rows, but for the totals of funds and securities.
+fn put_rows<G: Gate>(
     ground: Ground<'_>,
+    totals: &[u64],
     making: &mut Making,
     gate: &G,
-    steps: &mut Steps<L>,
 ) -> Result<(), NoMemory>
     requires ground { IsGround ground }
-    requires done { IsDone ground making.old.made (turn 6 0 0) }
-    ensures { OnOk result (IsDone ground.entry making.new.made (turn 7 0 0)) }
+    requires totals { totals.now ≡ totals_of ground.inputs.book.now.sheet }
+    requires done { IsDone ground making.old.made (turn 3 0 0) }
+    ensures { OnOk result (IsDone ground.entry making.new.made (turn 6 0 0)) }
 {
-    for k in 0..ground.inputs.book.sheet().groups.len() {
-        put_square(ground, making, k, gate, steps)?;
+    link_rows(ground, &mut making.made.links, &mut making.sources)?;
+    let rows = RowGround {
+        ground,
+        totals: &totals[ground.inputs.book.sheet().funds.len()..],
+        assets: assets_of(ground, making.made.figures.as_slice())?,
+    };
+    let figures = making.made.figures.as_mut_slice();
+    let room = &mut making.below.spans;
+    put_sort(&rows, Sort::Liability, figures, room, gate)?;
+    put_sort(&rows, Sort::Security, figures, room, gate)?;
+    put_sort(&rows, Sort::Group, figures, room, gate)
+}
+
+/// The figures of all rows of a sort.
+fn put_sort<G: Gate>(
+    rows: &RowGround<'_>,
+    sort: Sort,
+    figures: &mut [Figure],
+    room: &mut Vec<Span>,
+    gate: &G,
+) -> Result<(), NoMemory>
+    requires rows { IsRowGround rows.now }
+    requires count { length figures.old ≡ rows.now.ground.places.now.size }
+    ensures count { length figures.new ≡ length figures.old }
+    ensures written { OnOk result (IsWrittenOf rows.now.ground (rows_from sort 0 (row_count rows.now.ground.inputs.book.now.sheet sort))
+        figures.old figures.new) }
+{
+    for k in 0..rows.rows(sort) {
+        room.clear();
+        rows.reckon(sort, k, room, gate)?;
+        write_row(rows.ground, figures, sort, k, room.as_slice());
     }
     Ok(())
 }
@@ -232,11 +213,33 @@ fn put_currencies<G: Gate, L: Ledger>(
     steps: &mut Steps<L>,
 ) -> Result<(), NoMemory>
     requires ground { IsGround ground }
-    requires done { IsDone ground making.old.made (turn 7 0 0) }
-    ensures { OnOk result (IsDone ground.entry making.new.made (turn 8 0 0)) }
+    requires done { IsDone ground making.old.made (turn 6 0 0) }
+    ensures { OnOk result (IsDone ground.entry making.new.made (turn 7 0 0)) }
 {
     for k in 0..ground.inputs.book.sheet().curves.len() {
         put_currency(ground, making, k, gate, steps)?;
+    }
+    Ok(())
+}
+
+/// The figures of a currency.
+fn put_currency<G: Gate, L: Ledger>(
+    ground: Ground<'_>,
+    making: &mut Making,
+    k: usize,
+    gate: &G,
+    steps: &mut Steps<L>,
+) -> Result<(), NoMemory>
+    requires ground { IsGround ground }
+    requires row { k < length ground.inputs.book.now.sheet.curves }
+    requires done { IsDone ground making.old.made (turn 6 k 0) }
+    ensures { OnOk result (IsDone ground.entry making.new.made (turn 6 (k + 1) 0)) }
+{
+    let name = ground.inputs.book.sheet().curves.at(k).currency;
+    for family in 0..OF_CURRENCY {
+        let what = currency_at(family);
+        let node = Node::Currency(name, what);
+        put_live(ground, making, &node, k, gate, steps)?;
     }
     Ok(())
 }
@@ -249,8 +252,8 @@ fn put_wholes<G: Gate, L: Ledger>(
     steps: &mut Steps<L>,
 ) -> Result<(), NoMemory>
     requires ground { IsGround ground }
-    requires done { IsDone ground making.old.made (turn 8 0 0) }
-    ensures { OnOk result (IsDone ground.entry making.new.made (turn 8 0 153)) }
+    requires done { IsDone ground making.old.made (turn 7 0 0) }
+    ensures { OnOk result (IsDone ground.entry making.new.made (turn 7 0 153)) }
 {
     for number in 0..WHOLES {
         put_live(

@@ -1,70 +1,322 @@
-//! The links between the numbers of all figures of a book, made before any figure is reckoned.
-ghost use Rattle.std.specs.Prelude.{◌≡◌, ◌+◌, ◌<◌, [], Some, slice_get, IfOk, OnOk};
+//! The links between the numbers of all figures of a book, table by table.
+ghost use Rattle.std.specs.Prelude.{◌≡◌, ◌+◌, ◌<◌, [], true, All, Some, length, slice_get, IfOk, OnOk};
 ghost use Rattle.scr_figures.specs.Families.{name_of, table_of};
-ghost use Rattle.scr_figures.specs.Numbers.{StandsAt, names_in};
-ghost use Rattle.scr_tree.specs.Begun.{AreAllLinked, AreLinkedBelow};
-ghost use Rattle.scr_tree.specs.First.{IsGround};
+ghost use Rattle.scr_figures.specs.Numbers.{names_in};
+ghost use Rattle.scr_nodes.specs.Live.{is_live};
+ghost use Rattle.scr_tree.specs.Begun.{AreAllLinked};
+ghost use Rattle.scr_tree.specs.First.{AreLinkedTo, IsGround, IsLinkedNext};
+ghost use Rattle.scr_tree.specs.Turns.{next, turn, turn_of};
 
-use crate::making::{Ground, gather, make_room};
-use crate::starts::live_at;
-use scr_figures::View;
+use crate::making::{Ground, gather, make_room, number_at};
+use scr_figures::{currency_at, whole_at};
 use scr_links::Links;
-use scr_nodes::Node;
+use scr_nodes::rows::{has_class, is_paying};
+use scr_nodes::{Node, OfFund, OfGroup, OfSecurity, Whole, is_live};
+use scr_numbers::Table;
 use scr_reach::link;
+use scr_sheet::{BalanceSheet, Class};
 use std::alloc::AllocError as NoMemory;
 
-/// Links to the number of each live figure those of its sources, where nothing is linked yet, and lists these numbers.
-pub(crate) fn link_all(ground: Ground<'_>, links: &mut Links) -> Result<Vec<u32>, NoMemory>
-    requires ground { IsGround ground }
-    requires size { links.old.size ≡ ground.places.now.size }
-    requires none { links.old.edges ≡ [] }
-    ensures { IfOk result (λ numbers. AreAllLinked ground.entry.inputs.book.now ground.entry.places.now links.new numbers.items) }
+/// The number of the assets of which concentrations are measured.
+pub(crate) const ASSETS: u32 = 153;
+
+/// How many figures a currency has.
+pub(crate) const OF_CURRENCY: u32 = 9;
+
+/// How many figures of the whole sheet come after all rows: all but the assets of which concentrations are measured.
+pub(crate) const WHOLES: u32 = 153;
+
+/// Links all figures to their sources, before any is reckoned. Only want of memory is refused.
+pub(crate) fn link_tables(ground: Ground<'_>) -> Result<Links, NoMemory>
+    requires { IsGround ground }
+    ensures { IfOk result (AreAllLinked ground.entry) }
 {
-    let size = ground.places.len();
-    let mut numbers = Vec::with_capacity(ground.alloc, size as usize)?;
-    let mut sources = Vec::new(ground.alloc);
-    for number in 0..size {
-        link_next(ground, links, &mut numbers, &mut sources, number)?;
-    }
-    Ok(numbers)
+    let mut links = no_links(ground)?;
+    link_stages(ground, &mut links)?;
+    Ok(links)
 }
 
-/// Links to a number those of the sources of the figure that lives there, and lists it, if one does.
-fn link_next(
+/// No link, with room for those of all figures.
+pub(crate) fn no_links(ground: Ground<'_>) -> Result<Links, NoMemory>
+    ensures links { IfOk result (λ links. links.edges ≡ []) }
+    ensures size { IfOk result (λ links. links.size ≡ ground.entry.places.now.size) }
+{
+    let count = expected_links(ground.inputs.book.sheet());
+    let mut links = Links::new(ground.alloc)?;
+    links.reserve(ground.alloc, count, ground.places.len())?;
+    Ok(links)
+}
+
+/// How many links figures have at most to their sources, or nearly so: of a security at most fifteen, of a liability at most
+/// fourteen, of a group five, and of a currency twenty.
+fn expected_links(sheet: &BalanceSheet) -> u32 {
+    let count = sheet
+        .securities
+        .len()
+        .saturating_mul(15)
+        .saturating_add(sheet.liabilities.len().saturating_mul(14))
+        .saturating_add(sheet.groups.len().saturating_mul(5))
+        .saturating_add(sheet.curves.len().saturating_mul(20))
+        .saturating_add(512);
+    match u32::try_from(count) {
+        Ok(count) => count,
+        Err(_) => u32::MAX,
+    }
+}
+
+/// The figures of a table after those of another, in the order in which they are reckoned.
+fn link_stages(ground: Ground<'_>, links: &mut Links) -> Result<(), NoMemory>
+    requires ground { IsGround ground }
+    requires nothing { AreLinkedTo ground links.old (turn 0 0 0) }
+    ensures { OnOk result (AreLinkedTo ground.entry links.new (turn 7 0 153)) }
+{
+    let mut sources = Vec::new(ground.alloc);
+    link_funds(ground, links, &mut sources)?;
+    link_securities(ground, links, &mut sources)?;
+    link_live(ground, links, &mut sources, &Node::Whole(Whole::Assets), 0)?;
+    link_rows(ground, links, &mut sources)?;
+    link_currencies(ground, links, &mut sources)?;
+    link_wholes(ground, links, &mut sources)
+}
+
+/// Links to the total of each fund those of the funds that hold it.
+pub(crate) fn link_funds(
     ground: Ground<'_>,
     links: &mut Links,
-    numbers: &mut Vec<u32>,
     sources: &mut Vec<u32>,
-    number: u32,
 ) -> Result<(), NoMemory>
     requires ground { IsGround ground }
-    requires number { number < ground.places.now.size }
-    requires below { AreLinkedBelow ground.inputs.book.now ground.places.now number links.old numbers.old.items }
-    ensures { OnOk result (AreLinkedBelow ground.entry.inputs.book.now ground.entry.places.now (number + 1) links.new numbers.new.items) }
+    requires linked { AreLinkedTo ground links.old (turn 0 0 0) }
+    ensures { OnOk result (AreLinkedTo ground.entry links.new (turn 1 0 0)) }
 {
-    let view = View {
-        sheet: ground.inputs.book.sheet(),
-        places: ground.places,
-    };
-    let Some(node) = live_at(view, number) else {
-        return Ok(());
-    };
-    let row = row_of(ground, &node, number);
-    gather(ground, sources, &node, row)?;
-    make_room(ground.alloc, links, sources.len())?;
-    link(links, number, sources.as_slice());
-    numbers.push(number)?;
+    let sheet = ground.inputs.book.sheet();
+    for k in 0..sheet.funds.len() {
+        let node = Node::Fund(sheet.funds.at(k).fund.name, OfFund::Total);
+        link_gathered(ground, links, sources, &node, k)?;
+    }
     Ok(())
 }
 
-/// The place of the row that has the figure at a number.
-fn row_of(ground: Ground<'_>, node: &Node, number: u32) -> usize
-    requires { StandsAt ground.inputs.book.now ground.places.now node.now number }
-    ensures { slice_get (names_in ground.entry.inputs.book.now (table_of node.now)) result ≡ Some (name_of node.now) }
+/// Links to the total of each security those of the funds that hold it.
+pub(crate) fn link_securities(
+    ground: Ground<'_>,
+    links: &mut Links,
+    sources: &mut Vec<u32>,
+) -> Result<(), NoMemory>
+    requires ground { IsGround ground }
+    requires linked { AreLinkedTo ground links.old (turn 1 0 0) }
+    ensures { OnOk result (AreLinkedTo ground.entry links.new (turn 2 0 0)) }
 {
-    ground.places.len();
-    match ground.places.at(number) {
-        Some(place) => place.row,
-        None => unreachable!(),
+    let sheet = ground.inputs.book.sheet();
+    for k in 0..sheet.securities.len() {
+        let node = Node::Security(sheet.securities.at(k).security.name, OfSecurity::Total);
+        link_gathered(ground, links, sources, &node, k)?;
     }
+    Ok(())
+}
+
+/// Links to the figures of all rows, but for the totals of funds and securities, those that they are reckoned from.
+pub(crate) fn link_rows(
+    ground: Ground<'_>,
+    links: &mut Links,
+    sources: &mut Vec<u32>,
+) -> Result<(), NoMemory>
+    requires ground { IsGround ground }
+    requires linked { AreLinkedTo ground links.old (turn 3 0 0) }
+    ensures { OnOk result (AreLinkedTo ground.entry links.new (turn 6 0 0)) }
+{
+    link_losses(ground, links)?;
+    link_groups(ground, links, sources)
+}
+
+/// Links to what each security loses what it is reckoned from.
+fn link_losses(ground: Ground<'_>, links: &mut Links) -> Result<(), NoMemory>
+    requires ground { IsGround ground }
+    requires linked { AreLinkedTo ground links.old (turn 3 0 0) }
+    ensures { OnOk result (AreLinkedTo ground.entry links.new (turn 4 0 0)) }
+{
+    for k in 0..ground.inputs.book.sheet().securities.len() {
+        link_rates(ground, links, k)?;
+        link_spread(ground, links, k)?;
+    }
+    Ok(())
+}
+
+/// Where a security has payments, links to what it loses where rates rise, and where they fall, its total and the loss of a unit.
+fn link_rates(ground: Ground<'_>, links: &mut Links, k: usize) -> Result<(), NoMemory>
+    requires ground { IsGround ground }
+    requires row { k < length ground.inputs.book.now.sheet.securities }
+    requires linked { AreLinkedTo ground links.old (turn 3 k 0) }
+    ensures { OnOk result (AreLinkedTo ground.entry links.new (turn 3 k 5)) }
+{
+    let position = ground.inputs.book.sheet().securities.at(k);
+    if !is_paying(position) {
+        return Ok(());
+    }
+    let first = ground.places.first(Table::Security, k);
+    link_next(ground, links, first + 3, &[first, first + 1])?;
+    link_next(ground, links, first + 4, &[first, first + 2])
+}
+
+/// Links to what a bond loses where spreads widen its total.
+fn link_spread(ground: Ground<'_>, links: &mut Links, k: usize) -> Result<(), NoMemory>
+    requires ground { IsGround ground }
+    requires row { k < length ground.inputs.book.now.sheet.securities }
+    requires linked { AreLinkedTo ground links.old (turn 3 k 5) }
+    ensures { OnOk result (AreLinkedTo ground.entry links.new (turn 3 (k + 1) 0)) }
+{
+    let position = ground.inputs.book.sheet().securities.at(k);
+    if !has_class(Class::Bond, position) {
+        return Ok(());
+    }
+    let first = ground.places.first(Table::Security, k);
+    link_next(ground, links, first + 5, &[first])
+}
+
+/// The figures of all groups of counterparties. Those of liabilities, which come before, have no sources.
+fn link_groups(
+    ground: Ground<'_>,
+    links: &mut Links,
+    sources: &mut Vec<u32>,
+) -> Result<(), NoMemory>
+    requires ground { IsGround ground }
+    requires linked { AreLinkedTo ground links.old (turn 4 0 0) }
+    ensures { OnOk result (AreLinkedTo ground.entry links.new (turn 6 0 0)) }
+{
+    for k in 0..ground.inputs.book.sheet().groups.len() {
+        link_group(ground, links, sources, k)?;
+    }
+    Ok(())
+}
+
+/// Links to the total of a group those of its securities, and to the square of its concentration the assets and its total. What is
+/// lost where it defaults has no sources.
+fn link_group(
+    ground: Ground<'_>,
+    links: &mut Links,
+    sources: &mut Vec<u32>,
+    k: usize,
+) -> Result<(), NoMemory>
+    requires ground { IsGround ground }
+    requires row { k < length ground.inputs.book.now.sheet.groups }
+    requires linked { AreLinkedTo ground links.old (turn 5 k 0) }
+    ensures { OnOk result (AreLinkedTo ground.entry links.new (turn 5 (k + 1) 0)) }
+{
+    let name = ground.inputs.book.sheet().groups.at(k).name;
+    link_gathered(
+        ground,
+        links,
+        sources,
+        &Node::Group(name, OfGroup::Total),
+        k,
+    )?;
+    let first = ground.places.first(Table::Group, k);
+    link_next(ground, links, first + 1, &[ASSETS, first])
+}
+
+/// Links to the figures of all currencies their sources.
+fn link_currencies(
+    ground: Ground<'_>,
+    links: &mut Links,
+    sources: &mut Vec<u32>,
+) -> Result<(), NoMemory>
+    requires ground { IsGround ground }
+    requires linked { AreLinkedTo ground links.old (turn 6 0 0) }
+    ensures { OnOk result (AreLinkedTo ground.entry links.new (turn 7 0 0)) }
+{
+    for k in 0..ground.inputs.book.sheet().curves.len() {
+        link_currency(ground, links, sources, k)?;
+    }
+    Ok(())
+}
+
+fn link_currency(
+    ground: Ground<'_>,
+    links: &mut Links,
+    sources: &mut Vec<u32>,
+    k: usize,
+) -> Result<(), NoMemory>
+    requires ground { IsGround ground }
+    requires row { k < length ground.inputs.book.now.sheet.curves }
+    requires linked { AreLinkedTo ground links.old (turn 6 k 0) }
+    ensures { OnOk result (AreLinkedTo ground.entry links.new (turn 6 (k + 1) 0)) }
+{
+    let name = ground.inputs.book.sheet().curves.at(k).currency;
+    for family in 0..OF_CURRENCY {
+        let what = currency_at(family);
+        let node = Node::Currency(name, what);
+        link_live(ground, links, sources, &node, k)?;
+    }
+    Ok(())
+}
+
+/// Links to the figures of the whole sheet their sources.
+fn link_wholes(
+    ground: Ground<'_>,
+    links: &mut Links,
+    sources: &mut Vec<u32>,
+) -> Result<(), NoMemory>
+    requires ground { IsGround ground }
+    requires linked { AreLinkedTo ground links.old (turn 7 0 0) }
+    ensures { OnOk result (AreLinkedTo ground.entry links.new (turn 7 0 153)) }
+{
+    for number in 0..WHOLES {
+        link_live(ground, links, sources, &Node::Whole(whole_at(number)), 0)?;
+    }
+    Ok(())
+}
+
+/// Links to a figure of the row at a place all of its sources; nothing where the balance sheet does not have the figure.
+fn link_live(
+    ground: Ground<'_>,
+    links: &mut Links,
+    sources: &mut Vec<u32>,
+    node: &Node,
+    row: usize,
+) -> Result<(), NoMemory>
+    requires ground { IsGround ground }
+    requires row { slice_get (names_in ground.inputs.book.now.sheet (table_of node.now)) row ≡ Some (name_of node.now) }
+    requires linked { AreLinkedTo ground links.old (turn_of node.now row) }
+    ensures { OnOk result (AreLinkedTo ground.entry links.new (next (turn_of node.now row))) }
+{
+    if !is_live(ground.inputs.book.sheet(), node) {
+        return Ok(());
+    }
+    link_gathered(ground, links, sources, node, row)
+}
+
+/// Links to a figure that the balance sheet has, of the row at a place, all of its sources.
+fn link_gathered(
+    ground: Ground<'_>,
+    links: &mut Links,
+    sources: &mut Vec<u32>,
+    node: &Node,
+    row: usize,
+) -> Result<(), NoMemory>
+    requires ground { IsGround ground }
+    requires live { is_live ground.inputs.book.now.sheet node.now ≡ true }
+    requires row { slice_get (names_in ground.inputs.book.now.sheet (table_of node.now)) row ≡ Some (name_of node.now) }
+    requires linked { AreLinkedTo ground links.old (turn_of node.now row) }
+    ensures { OnOk result (AreLinkedTo ground.entry links.new (next (turn_of node.now row))) }
+{
+    gather(ground, sources, node, row)?;
+    let number = number_at(ground.places, node, row);
+    link_next(ground, links, number, sources.as_slice())
+}
+
+/// Links these sources to a number.
+fn link_next(
+    ground: Ground<'_>,
+    links: &mut Links,
+    number: u32,
+    sources: &[u32],
+) -> Result<(), NoMemory>
+    requires number { number < ground.places.now.size }
+    requires sources { All (λ source. source < ground.places.now.size) sources.now }
+    requires size { links.old.size ≡ ground.places.now.size }
+    ensures { OnOk result (IsLinkedNext number sources.now links.old links.new) }
+{
+    make_room(ground.alloc, links, sources.len())?;
+    link(links, number, sources);
+    Ok(())
 }

@@ -1,97 +1,113 @@
-//! The totals of all funds and securities, reckoned at once, and the links between them.
-ghost use Rattle.std.specs.Prelude.{◌≡◌, ◌<◌, ℕ, true, pos, map, Some, length, slice_get, OnOk};
+//! The totals of all funds and securities, found at once.
+ghost use Rattle.std.specs.Prelude.{◌≡◌, ◌<◌, ℕ, true, pos, map, Some, length, slice_get, IfOk, OnOk};
 ghost use Rattle.std.specs.Option.{option_map};
 ghost use Rattle.scr_num.specs.Rounding.{ends, exact_ends};
-ghost use Rattle.scr_figures.specs.Families.{name_of, table_of};
-ghost use Rattle.scr_figures.specs.Numbers.{names_in};
-ghost use Rattle.scr_nodes.specs.Live.{is_live};
 ghost use Rattle.scr_sheet.specs.BalanceSheet.{position_name, stake_name};
 ghost use Rattle.scr_sheet.specs.Totals.{total_of};
+ghost use Rattle.scr_nodes.specs.Live.{is_live};
+ghost use Rattle.scr_nodes.specs.Sources.{sources_of};
+ghost use Rattle.scr_nodes.specs.declared.node.Node.TheVariants as nodes;
+ghost use Rattle.scr_nodes.specs.declared.node.Whole.TheVariants as wholes;
+ghost use Rattle.scr_rules.specs.Worked.{worked};
 ghost use Rattle.scr_tree.specs.Figures.{total_worth, worth_of};
-ghost use Rattle.scr_tree.specs.First.{IsDone, IsGround, IsMadeTo};
-ghost use Rattle.scr_tree.specs.Turns.{next, turn, turn_of};
+ghost use Rattle.scr_tree.specs.First.{AreReckonedTo, IsDone, IsGround, totals_of};
+ghost use Rattle.scr_tree.specs.Inputs.{AreOfBook};
+ghost use Rattle.scr_tree.specs.Turns.{turn};
 
-use crate::figures::Figure;
-use crate::making::{Ground, Made, Making, gather, make_room, number_at};
-use scr_io::Gate;
-use scr_nodes::{Node, OfFund, OfSecurity};
+use crate::figures::{Below, Figure, Inputs, read};
+use crate::first_links::{link_funds, link_securities};
+use crate::making::{Ground, Making, gather};
+use crate::row_spans::stands_alone;
+use crate::together::span_from;
+use scr_io::{Gate, Steps};
+use scr_nodes::{Node, Whole};
 use scr_num::{Span, exact};
 use scr_numbers::Table;
-use scr_reach::link;
-use scr_totals::totals;
 use std::alloc::AllocError as NoMemory;
+use std::marker::Brand;
+use std::sync::ledger::{Blank, Ledger};
 
-/// The totals, and the links between them. The gate is passed before each is written.
+/// The totals, and the links between them. The gate is passed before each but those of securities that have other figures: these pass
+/// it in their rows.
 pub(crate) fn put_totals<G: Gate>(
     ground: Ground<'_>,
+    totals: &[u64],
     making: &mut Making,
     gate: &G,
 ) -> Result<(), NoMemory>
     requires ground { IsGround ground }
+    requires totals { totals.now ≡ totals_of ground.inputs.book.now.sheet }
     requires nothing { IsDone ground making.old.made (turn 0 0 0) }
     ensures { OnOk result (IsDone ground.entry making.new.made (turn 2 0 0)) }
 {
-    enter_totals(ground, &mut making.made, gate)?;
-    link_funds(ground, making)?;
-    link_securities(ground, making)
+    enter_totals(ground, totals, &mut making.made.figures, gate);
+    link_funds(ground, &mut making.made.links, &mut making.sources)?;
+    link_securities(ground, &mut making.made.links, &mut making.sources)
 }
 
-/// The totals alone. The gate is passed before each is written.
+/// The totals alone. The gate is passed as for `put_totals`.
 pub(crate) fn enter_totals<G: Gate>(
     ground: Ground<'_>,
-    made: &mut Made,
+    totals: &[u64],
+    figures: &mut Vec<Figure>,
     gate: &G,
-) -> Result<(), NoMemory>
+)
     requires ground { IsGround ground }
-    requires nothing { IsDone ground made.old (turn 0 0 0) }
-    ensures { OnOk result (IsMadeTo ground.entry made.new (turn 2 0 0) (turn 0 0 0)) }
+    requires totals { totals.now ≡ totals_of ground.inputs.book.now.sheet }
+    requires nothing { AreReckonedTo ground figures.old.items (turn 0 0 0) }
+    ensures { AreReckonedTo ground.entry figures.new.items (turn 2 0 0) }
 {
-    let sheet = ground.inputs.book.sheet();
-    let totals = totals(ground.alloc, sheet)?;
-    let funds = sheet.funds.len();
-    put_funds(ground, made, &totals[..funds], gate);
-    put_securities(ground, made, &totals[funds..], gate);
-    Ok(())
+    let funds = ground.inputs.book.sheet().funds.len();
+    put_funds(ground, figures, &totals[..funds], gate);
+    put_securities(ground, figures, &totals[funds..], gate);
 }
 
-fn put_funds<G: Gate>(ground: Ground<'_>, made: &mut Made, totals: &[u64], gate: &G)
+fn put_funds<G: Gate>(ground: Ground<'_>, figures: &mut Vec<Figure>, totals: &[u64], gate: &G)
     requires ground { IsGround ground }
-    requires totals { totals.now ≡ map (λ s. total_of ground.inputs.book.now (stake_name s)) ground.inputs.book.now.funds }
-    requires nothing { IsDone ground made.old (turn 0 0 0) }
-    ensures { IsMadeTo ground.entry made.new (turn 1 0 0) (turn 0 0 0) }
+    requires totals { totals.now ≡ map (λ s. total_of ground.inputs.book.now.sheet (stake_name s)) ground.inputs.book.now.sheet.funds }
+    requires nothing { AreReckonedTo ground figures.old.items (turn 0 0 0) }
+    ensures { AreReckonedTo ground.entry figures.new.items (turn 1 0 0) }
 {
     for k in 0..ground.inputs.book.sheet().funds.len() {
         let number = ground.places.first(Table::Fund, k);
         gate.pass(number);
-        write_total(made, number, totals[k]);
+        write_total(figures, number, totals[k]);
     }
 }
 
 /// Puts those of the securities, where those of the funds are there.
-fn put_securities<G: Gate>(ground: Ground<'_>, made: &mut Made, totals: &[u64], gate: &G)
+fn put_securities<G: Gate>(ground: Ground<'_>, figures: &mut Vec<Figure>, totals: &[u64], gate: &G)
     requires ground { IsGround ground }
     requires totals { totals.now
-        ≡ map (λ p. total_of ground.inputs.book.now (position_name p)) ground.inputs.book.now.securities }
-    requires funds { IsMadeTo ground made.old (turn 1 0 0) (turn 0 0 0) }
-    ensures { IsMadeTo ground.entry made.new (turn 2 0 0) (turn 0 0 0) }
+        ≡ map (λ p. total_of ground.inputs.book.now.sheet (position_name p)) ground.inputs.book.now.sheet.securities }
+    requires funds { AreReckonedTo ground figures.old.items (turn 1 0 0) }
+    ensures { AreReckonedTo ground.entry figures.new.items (turn 2 0 0) }
 {
     for k in 0..ground.inputs.book.sheet().securities.len() {
         let number = ground.places.first(Table::Security, k);
+        pass_alone(ground, k, number, gate);
+        write_total(figures, number, totals[k]);
+    }
+}
+
+/// Passes the gate before the total of a security that has no other figure. All others pass in their rows.
+fn pass_alone<G: Gate>(ground: Ground<'_>, k: usize, number: u32, gate: &G)
+    requires { k < length ground.inputs.book.now.sheet.securities }
+{
+    if stands_alone(ground.inputs.book.sheet().securities.at(k)) {
         gate.pass(number);
-        write_total(made, number, totals[k]);
     }
 }
 
 /// Writes a total of so many cents, which rests on no choice.
-fn write_total(made: &mut Made, number: u32, cents: u64)
-    requires { number < length made.old.figures.items }
-    ensures links { made.new.links ≡ made.old.links }
-    ensures count { length made.new.figures.items ≡ length made.old.figures.items }
-    ensures there { option_map worth_of (slice_get made.new.figures.items number) ≡ Some (total_worth cents) }
+fn write_total(figures: &mut Vec<Figure>, number: u32, cents: u64)
+    requires { number < length figures.old.items }
+    ensures count { length figures.new.items ≡ length figures.old.items }
+    ensures there { option_map worth_of (slice_get figures.new.items number) ≡ Some (total_worth cents) }
     ensures others { (other : ℕ) → (other ≡ number → ⊥)
-        → slice_get made.new.figures.items other ≡ slice_get made.old.figures.items other }
+        → slice_get figures.new.items other ≡ slice_get figures.old.items other }
 {
-    made.figures[number as usize] = Figure {
+    figures[number as usize] = Figure {
         span: amount(cents),
         close: false,
     };
@@ -103,50 +119,36 @@ fn amount(cents: u64) -> Span
     exact(i128::from(cents))
 }
 
-/// Links to the total of each fund those of the funds that hold it.
-fn link_funds(ground: Ground<'_>, making: &mut Making) -> Result<(), NoMemory>
+/// The assets of which concentrations are measured, where the totals are there.
+pub(crate) fn assets_of(ground: Ground<'_>, figures: &[Figure]) -> Result<Span, NoMemory>
     requires ground { IsGround ground }
-    requires made { IsMadeTo ground making.old.made (turn 2 0 0) (turn 0 0 0) }
-    ensures { OnOk result (IsMadeTo ground.entry making.new.made (turn 2 0 0) (turn 1 0 0)) }
+    requires totals { AreReckonedTo ground figures.now (turn 2 0 0) }
+    ensures { IfOk result (λ span. ends span
+        ≡ worked ground.entry.inputs.factors.now ground.entry.inputs.book.now.sheet (nodes.Whole wholes.Assets)) }
 {
-    let sheet = ground.inputs.book.sheet();
-    for k in 0..sheet.funds.len() {
-        let node = Node::Fund(sheet.funds.at(k).fund.name, OfFund::Total);
-        link_total(ground, making, &node, k)?;
-    }
-    Ok(())
+    let node = Node::Whole(Whole::Assets);
+    let mut sources = Vec::new(ground.alloc);
+    gather(ground, &mut sources, &node, 0)?;
+    let mut below = Below {
+        spans: Vec::new(ground.alloc),
+        close: false,
+    };
+    read(figures, sources.as_slice(), &mut below)?;
+    let span = uncounted::<Brand>(ground.inputs, &node, below.spans.as_slice(), Blank::new(1));
+    Ok(span)
 }
 
-/// Links to the total of each security those of the funds that hold it.
-fn link_securities(ground: Ground<'_>, making: &mut Making) -> Result<(), NoMemory>
-    requires ground { IsGround ground }
-    requires made { IsMadeTo ground making.old.made (turn 2 0 0) (turn 1 0 0) }
-    ensures { OnOk result (IsDone ground.entry making.new.made (turn 2 0 0)) }
+/// The span of a figure from those of its sources, with a counter of its own.
+fn uncounted<L: Ledger>(inputs: Inputs<'_>, node: &Node, below: &[Span], blank: Blank) -> Span
+    requires name { blank.name ≡ L.name }
+    requires parts { blank.parts ≡ L.parts }
+    requires some { 0 < blank.parts }
+    requires inputs { AreOfBook inputs }
+    requires live { is_live inputs.book.now.sheet node.now ≡ true }
+    requires below { map ends below.now
+        ≡ map (worked inputs.factors.now inputs.book.now.sheet) (sources_of inputs.book.now.sheet node.now) }
+    ensures { ends result ≡ worked inputs.entry.factors.now inputs.entry.book.now.sheet node.now }
 {
-    let sheet = ground.inputs.book.sheet();
-    for k in 0..sheet.securities.len() {
-        let node = Node::Security(sheet.securities.at(k).security.name, OfSecurity::Total);
-        link_total(ground, making, &node, k)?;
-    }
-    Ok(())
-}
-
-/// Links to a total of the row at a place all of its sources.
-fn link_total(
-    ground: Ground<'_>,
-    making: &mut Making,
-    node: &Node,
-    row: usize,
-) -> Result<(), NoMemory>
-    requires ground { IsGround ground }
-    requires live { is_live ground.inputs.book.now node.now ≡ true }
-    requires row { slice_get (names_in ground.inputs.book.now (table_of node.now)) row ≡ Some (name_of node.now) }
-    requires made { IsMadeTo ground making.old.made (turn 2 0 0) (turn_of node.now row) }
-    ensures { OnOk result (IsMadeTo ground.entry making.new.made (turn 2 0 0) (next (turn_of node.now row))) }
-{
-    gather(ground, &mut making.sources, node, row)?;
-    let number = number_at(ground.places, node, row);
-    make_room(ground.alloc, &mut making.made.links, making.sources.len())?;
-    link(&mut making.made.links, number, making.sources.as_slice());
-    Ok(())
+    let mut steps = Steps::<L>::new(blank);
+    span_from(inputs, node, below, &mut steps)
 }

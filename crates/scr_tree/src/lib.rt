@@ -7,7 +7,7 @@ mod engine;
 mod figures;
 mod first;
 mod first_links;
-mod first_rows;
+mod first_parts;
 mod first_spans;
 mod first_together;
 mod first_totals;
@@ -18,6 +18,7 @@ mod opening;
 mod order;
 mod reckoning;
 mod refusal;
+mod row_spans;
 mod starts;
 mod together;
 

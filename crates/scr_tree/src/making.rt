@@ -104,10 +104,10 @@ pub(crate) fn gather(
     row: usize,
 ) -> Result<(), NoMemory>
     requires ground { IsGround ground }
-    requires live { is_live ground.inputs.book.now node.now ≡ true }
-    requires row { slice_get (names_in ground.inputs.book.now (table_of node.now)) row ≡ Some (name_of node.now) }
-    ensures { OnOk result (AreAt (StandsAt ground.entry.inputs.book.now ground.entry.places.now) sources.new.items
-        (sources_of ground.entry.inputs.book.now node.now)) }
+    requires live { is_live ground.inputs.book.now.sheet node.now ≡ true }
+    requires row { slice_get (names_in ground.inputs.book.now.sheet (table_of node.now)) row ≡ Some (name_of node.now) }
+    ensures { OnOk result (AreAt (StandsAt ground.entry.inputs.book.now.sheet ground.entry.places.now) sources.new.items
+        (sources_of ground.entry.inputs.book.now.sheet node.now)) }
 {
     let view = View {
         sheet: ground.inputs.book.sheet(),
@@ -138,12 +138,12 @@ pub(crate) fn put<G: Gate, L: Ledger>(
     steps: &mut Steps<L>,
 ) -> Result<(), NoMemory>
     requires ground { IsGround ground }
-    requires live { is_live ground.inputs.book.now node.now ≡ true }
+    requires live { is_live ground.inputs.book.now.sheet node.now ≡ true }
     requires number { number < length making.old.made.figures.items }
     requires size { making.old.made.links.size ≡ length making.old.made.figures.items }
-    requires sources { HaveFigures ground.inputs.factors.now ground.inputs.book.now making.old.made.figures.items
-        making.old.sources.items (sources_of ground.inputs.book.now node.now) }
-    ensures { OnOk result (IsPut ground.entry.inputs.factors.now ground.entry.inputs.book.now node.now number
+    requires sources { HaveFigures ground.inputs.factors.now ground.inputs.book.now.sheet making.old.made.figures.items
+        making.old.sources.items (sources_of ground.inputs.book.now.sheet node.now) }
+    ensures { OnOk result (IsPut ground.entry.inputs.factors.now ground.entry.inputs.book.now.sheet node.now number
         making.old.sources.items making.old.made making.new.made) }
 {
     read(
@@ -171,7 +171,7 @@ pub(crate) fn put_live<G: Gate, L: Ledger>(
     steps: &mut Steps<L>,
 ) -> Result<(), NoMemory>
     requires ground { IsGround ground }
-    requires row { slice_get (names_in ground.inputs.book.now (table_of node.now)) row ≡ Some (name_of node.now) }
+    requires row { slice_get (names_in ground.inputs.book.now.sheet (table_of node.now)) row ≡ Some (name_of node.now) }
     requires later { 2 ≤ stage_of node.now }
     requires done { IsDone ground making.old.made (turn_of node.now row) }
     ensures { OnOk result (IsDone ground.entry making.new.made (next (turn_of node.now row))) }
@@ -192,8 +192,8 @@ fn put_gathered<G: Gate, L: Ledger>(
     steps: &mut Steps<L>,
 ) -> Result<(), NoMemory>
     requires ground { IsGround ground }
-    requires live { is_live ground.inputs.book.now node.now ≡ true }
-    requires row { slice_get (names_in ground.inputs.book.now (table_of node.now)) row ≡ Some (name_of node.now) }
+    requires live { is_live ground.inputs.book.now.sheet node.now ≡ true }
+    requires row { slice_get (names_in ground.inputs.book.now.sheet (table_of node.now)) row ≡ Some (name_of node.now) }
     requires later { 2 ≤ stage_of node.now }
     requires done { IsDone ground making.old.made (turn_of node.now row) }
     ensures { OnOk result (IsDone ground.entry making.new.made (next (turn_of node.now row))) }

@@ -20,8 +20,8 @@ pub(crate) fn opened<R: Threads + Sync, G: Gate + Sync>(
     factors: &Factors,
     book: &Book,
 ) -> Result<State, NoMemory>
-    ensures valid { IfOk result (λ state. Valid book.now) }
-    ensures state { IfOk result (IsStateOf factors.now book.now) }
+    ensures valid { IfOk result (λ state. Valid book.now.sheet) }
+    ensures state { IfOk result (IsStateOf factors.now book.now.sheet) }
     ensures marks { IfOk result (λ state. state.marks.list ≡ []) }
 {
     let Opened {

@@ -109,10 +109,10 @@ pub(crate) fn span_from<L: Ledger>(
     steps: &mut Steps<L>,
 ) -> Span
     requires inputs { AreOfBook inputs }
-    requires live { is_live inputs.book.now node.now ≡ true }
+    requires live { is_live inputs.book.now.sheet node.now ≡ true }
     requires below { map ends below.now
-        ≡ map (worked inputs.factors.now inputs.book.now) (sources_of inputs.book.now node.now) }
-    ensures span { ends result ≡ worked inputs.entry.factors.now inputs.entry.book.now node.now }
+        ≡ map (worked inputs.factors.now inputs.book.now.sheet) (sources_of inputs.book.now.sheet node.now) }
+    ensures span { ends result ≡ worked inputs.entry.factors.now inputs.entry.book.now.sheet node.now }
     ensures step { steps.new ≡ steps.old + 1 }
 {
     inputs.factors.known();

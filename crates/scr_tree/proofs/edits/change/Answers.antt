@@ -18,14 +18,14 @@ all_numbers-requires-clause-valid g c = subst Valid (sym c.sheet.ensures.sheet) 
 pub all_numbers-requires-clause-numbered : goal.all_numbers-requires-clause-numbered
 all_numbers-requires-clause-numbered g c =
     subst (λ sheet. IsNumbered sheet c.args.state.now.places) (sym c.sheet.ensures.sheet)
-    (after-numbered c.args.footing.factors.now c.args.footing.book.now c.args.taken c.args.gone c.args.state.now c.requires
+    (after-numbered c.args.footing.factors.now c.args.footing.book.now.sheet c.args.taken c.args.gone c.args.state.now c.requires
     c.sheet.ensures.valid c.len-size.ensures.apart c.len-size.ensures.within)
 
 pub all_numbers-requires-clause-numbers : goal.all_numbers-requires-clause-numbers
 all_numbers-requires-clause-numbers g c =
     subst (λ sheet. AreNumbers sheet (StandsAt sheet c.args.state.now.places) c.args.state.now.places.size)
     (sym c.sheet.ensures.sheet)
-    (own-after c.args.footing.factors.now c.args.footing.book.now c.args.taken c.args.gone c.args.state.now c.requires
+    (own-after c.args.footing.factors.now c.args.footing.book.now.sheet c.args.taken c.args.gone c.args.state.now c.requires
     c.sheet.ensures.valid c.len-size.ensures.apart c.len-size.ensures.within)
 
 pub starts_of-requires-clause-valid : goal.starts_of-requires-clause-valid
@@ -34,24 +34,24 @@ starts_of-requires-clause-valid g c = subst Valid (sym c.sheet.ensures.sheet) c.
 pub starts_of-requires-clause-numbered : goal.starts_of-requires-clause-numbered
 starts_of-requires-clause-numbered g c =
     subst (λ sheet. IsNumbered sheet c.args.state.now.places) (sym c.sheet.ensures.sheet)
-    (after-numbered c.args.footing.factors.now c.args.footing.book.now c.args.taken c.args.gone c.args.state.now c.requires
+    (after-numbered c.args.footing.factors.now c.args.footing.book.now.sheet c.args.taken c.args.gone c.args.state.now c.requires
     c.sheet.ensures.valid c.len-size.ensures.apart c.len-size.ensures.within)
 
 pub starts_of-requires-clause-numbers : goal.starts_of-requires-clause-numbers
 starts_of-requires-clause-numbers g c =
     subst (λ sheet. AreNumbers sheet (StandsAt sheet c.args.state.now.places) c.args.state.now.places.size)
     (sym c.sheet.ensures.sheet)
-    (own-after c.args.footing.factors.now c.args.footing.book.now c.args.taken c.args.gone c.args.state.now c.requires
+    (own-after c.args.footing.factors.now c.args.footing.book.now.sheet c.args.taken c.args.gone c.args.state.now c.requires
     c.sheet.ensures.valid c.len-size.ensures.apart c.len-size.ensures.within)
 
 pub new_rates-requires : goal.new_rates-requires
 new_rates-requires g c =
-    kept-for c.args.taken.edit.now c.requires.before c.args.footing.book.now c.args.state.now.rates c.requires.by.is
+    kept-for c.args.taken.edit.now c.requires.before c.args.footing.book.now.sheet c.args.state.now.rates c.requires.by.is
     c.requires.rates
 
 pub change_from-changed-requires-after_bounds : goal.change_from-changed-requires-after_bounds
 change_from-changed-requires-after_bounds g c κs within =
-    started c.args.footing.factors.now c.args.footing.book.now c.args.taken c.args.gone c.args.state.now
+    started c.args.footing.factors.now c.args.footing.book.now.sheet c.args.taken c.args.gone c.args.state.now
     c.requires c.sheet.ensures.valid c.len-size.ensures.apart c.len-size.ensures.within c.make_room.new.figures
     c.make_room.new.marks c.make_room.ensures.kept
     (subst (λ n. n ≤ length c.make_room.new.figures.items) c.len-size.ensures.size c.in_ok-make_room.ensures.figures)
@@ -85,18 +85,18 @@ returns-in_err-rates-clause-err g c =
 
 pub returns-clause-ok : goal.returns-clause-ok
 returns-clause-ok g c =
-    on-ok c.change_from-changed.result (IsStateOf c.args.footing.factors.now c.args.footing.book.now c.change_from-changed.new.state)
-    (IsStateOf c.args.footing.factors.now c.args.footing.book.now (record c.change_from-changed.new.state { marks = c.clear.new.self }))
-    (state-marked c.args.footing.factors.now c.args.footing.book.now c.change_from-changed.new.state c.clear.new.self) c.change_from-changed.ensures.ok
+    on-ok c.change_from-changed.result (IsStateOf c.args.footing.factors.now c.args.footing.book.now.sheet c.change_from-changed.new.state)
+    (IsStateOf c.args.footing.factors.now c.args.footing.book.now.sheet (record c.change_from-changed.new.state { marks = c.clear.new.self }))
+    (state-marked c.args.footing.factors.now c.args.footing.book.now.sheet c.change_from-changed.new.state c.clear.new.self) c.change_from-changed.ensures.ok
 
 pub returns-clause-steps : goal.returns-clause-steps
 returns-clause-steps g c =
     on-ok c.change_from-changed.result
     (c.args.crew.now.workers ≡ 1
-    → StepsTaken c.args.footing.factors.now c.args.footing.book.now c.in_ok-starts.starts c.in_ok-rates.rates
+    → StepsTaken c.args.footing.factors.now c.args.footing.book.now.sheet c.in_ok-starts.starts c.in_ok-rates.rates
     (record c.args.state.now { figures = c.make_room.new.figures; marks = c.make_room.new.marks }) c.args.steps.now c.change_from-changed.new.steps)
-    (c.args.crew.now.workers ≡ 1 → StepsReach c.args.footing.book.now c.args.taken.touched.now c.args.steps.now c.change_from-changed.new.steps)
-    (λ steps one. steps-reach c.args.footing.factors.now c.args.footing.book.now c.args.taken c.args.gone c.args.state.now
+    (c.args.crew.now.workers ≡ 1 → StepsReach c.args.footing.book.now.sheet c.args.taken.touched.now c.args.steps.now c.change_from-changed.new.steps)
+    (λ steps one. steps-reach c.args.footing.factors.now c.args.footing.book.now.sheet c.args.taken c.args.gone c.args.state.now
     c.requires c.sheet.ensures.valid c.len-size.ensures.apart c.len-size.ensures.within c.make_room.new.figures
     c.make_room.new.marks c.make_room.ensures.kept
     (subst (λ n. n ≤ length c.make_room.new.figures.items) c.len-size.ensures.size c.in_ok-make_room.ensures.figures)

@@ -32,7 +32,7 @@ mark_reached-requires-clause-links g c =
 pub mark_reached-requires-clause-starts : goal.mark_reached-requires-clause-starts
 mark_reached-requires-clause-starts g c =
     subst (All (λ start. start < c.args.state.now.marks.size)) (sym c.deref.ensures.value)
-    (starts-within c.args.footing.factors.now c.args.footing.book.now c.args.starts.now c.args.rates c.args.state.now c.requires
+    (starts-within c.args.footing.factors.now c.args.footing.book.now.sheet c.args.starts.now c.args.rates c.args.state.now c.requires
     c.args.state.now.marks.size c.requires.marked)
 
 pub mark_reached-requires-clause-apart : goal.mark_reached-requires-clause-apart
@@ -41,7 +41,7 @@ mark_reached-requires-clause-apart g c = subst (IsDistinct nat_eq) (sym c.deref.
 pub relink-requires : goal.relink-requires
 relink-requires g c =
     subst (AreLinkable c.reserve.new.links) (sym c.deref-5.ensures.value)
-    (due-linkable c.args.footing.factors.now c.args.footing.book.now c.args.starts.now c.args.rates c.args.state.now c.requires c.reserve.new.links
+    (due-linkable c.args.footing.factors.now c.args.footing.book.now.sheet c.args.starts.now c.args.rates c.args.state.now c.requires c.reserve.new.links
     (roomy c.reserve.new.links.size c.args.state.now.links.size c.len-size.result c.args.state.now.places.size
     c.in_ok-reserve.ensures.size c.len-size.ensures.size)
     (first-spare (sources_count c.args.starts.now.dues.items) (sources_count c.in_ok-former.former.items) c.reserve.new.links.spare
@@ -51,9 +51,9 @@ relink-requires g c =
 
 pub reckon_marked-requires-after_bounds : goal.reckon_marked-requires-after_bounds
 reckon_marked-requires-after_bounds g c κs within =
-    subst (λ live. IsRelinkedFor c.args.footing.factors.now c.args.footing.book.now live c.args.rates
+    subst (λ live. IsRelinkedFor c.args.footing.factors.now c.args.footing.book.now.sheet live c.args.rates
     (record c.args.state.now { marks = c.mark_reached.new.marked; links = c.relink.new.links })) (sym c.deref-6.ensures.value)
-    (relinked-for c.args.footing.factors.now c.args.footing.book.now c.args.starts.now c.args.rates c.args.state.now c.requires c.mark_reached.new.marked.list
+    (relinked-for c.args.footing.factors.now c.args.footing.book.now.sheet c.args.starts.now c.args.rates c.args.state.now c.requires c.mark_reached.new.marked.list
     (subst (λ starts. AreReached c.args.state.now.links.edges starts c.mark_reached.new.marked.list) c.deref.ensures.value
     c.in_ok-mark_reached.ensures.reached)
     (subst (λ starts. take (length starts) c.mark_reached.new.marked.list ≡ starts) c.deref.ensures.value
@@ -67,7 +67,7 @@ pub relink-requires-in-Err : goal.relink-requires-in-Err
 relink-requires-in-Err g c =
     subst (AreLinkable c.reckon_marked.new.state.links) (sym c.deref-in-Err.ensures.value)
     (subst (λ links. AreLinkable links c.in_ok-former.former.items) (sym c.reckon_marked.ensures.links)
-    (former-linkable c.args.footing.factors.now c.args.footing.book.now c.args.starts.now c.args.rates c.args.state.now c.requires c.in_ok-former.former.items (subst (λ starts. AreFormer starts c.args.state.now.links.edges c.in_ok-former.former.items) c.deref-2.ensures.value c.in_ok-former.ensures) c.relink.new.links
+    (former-linkable c.args.footing.factors.now c.args.footing.book.now.sheet c.args.starts.now c.args.rates c.args.state.now c.requires c.in_ok-former.former.items (subst (λ starts. AreFormer starts c.args.state.now.links.edges c.in_ok-former.former.items) c.deref-2.ensures.value c.in_ok-former.ensures) c.relink.new.links
     (subst (λ size. c.args.state.now.places.size ≤ size) (sym c.relink.ensures.size)
     (roomy c.reserve.new.links.size c.args.state.now.links.size c.len-size.result c.args.state.now.places.size
     c.in_ok-reserve.ensures.size c.len-size.ensures.size))
@@ -93,14 +93,14 @@ pub returns-after-rates-4-clause-ok : goal.returns-after-rates-4-clause-ok
 returns-after-rates-4-clause-ok g c =
     elim c.match-rates-4.branch [
       | in-Some w ↦
-          subst (IsStateOf c.args.footing.factors.now c.args.footing.book.now) (sym w.state-is)
-          (state-anew c.args.footing.factors.now c.args.footing.book.now c.args.state.now.places w.in-Some.rates c.reckon_marked.new.state
-          (subst (λ links. IsLinkedUp c.args.footing.book.now c.args.state.now.places links.edges) (sym c.reckon_marked.ensures.links)
-          (up-anew c.args.footing.factors.now c.args.footing.book.now c.args.starts.now c.args.rates c.args.state.now c.requires c.relink.new.links.edges
+          subst (IsStateOf c.args.footing.factors.now c.args.footing.book.now.sheet) (sym w.state-is)
+          (state-anew c.args.footing.factors.now c.args.footing.book.now.sheet c.args.state.now.places w.in-Some.rates c.reckon_marked.new.state
+          (subst (λ links. IsLinkedUp c.args.footing.book.now.sheet c.args.state.now.places links.edges) (sym c.reckon_marked.ensures.links)
+          (up-anew c.args.footing.factors.now c.args.footing.book.now.sheet c.args.starts.now c.args.rates c.args.state.now c.requires c.relink.new.links.edges
           (subst (λ dues. AreRelinked dues c.args.state.now.links.edges c.relink.new.links.edges) c.deref-5.ensures.value
           (subst (λ edges. AreRelinked c.deref-5.result.now edges c.relink.new.links.edges) c.reserve.ensures.edges
           c.relink.ensures.links))))
-          (subst (λ found. option_map_or known_of found (known_of c.args.state.now.rates) ≡ all_rates c.args.footing.book.now) w.in-Some.is c.requires.rates_after)
+          (subst (λ found. option_map_or known_of found (known_of c.args.state.now.rates) ≡ all_rates c.args.footing.book.now.sheet) w.in-Some.is c.requires.rates_after)
           c.in-Ok.ensures.settled
           (subst (λ links. links.size ≤ c.args.state.now.places.size) (sym c.reckon_marked.ensures.links)
           (subst (λ size. size ≤ c.args.state.now.places.size) (sym c.relink.ensures.size)
@@ -108,14 +108,14 @@ returns-after-rates-4-clause-ok g c =
           c.len-size.ensures.size c.requires.size)))
           c.reckon_marked.ensures.places)
       | in_default w ↦
-          subst (IsStateOf c.args.footing.factors.now c.args.footing.book.now) (sym w.state-is)
-          (state-anew c.args.footing.factors.now c.args.footing.book.now c.args.state.now.places c.reckon_marked.new.state.rates c.reckon_marked.new.state
-          (subst (λ links. IsLinkedUp c.args.footing.book.now c.args.state.now.places links.edges) (sym c.reckon_marked.ensures.links)
-          (up-anew c.args.footing.factors.now c.args.footing.book.now c.args.starts.now c.args.rates c.args.state.now c.requires c.relink.new.links.edges
+          subst (IsStateOf c.args.footing.factors.now c.args.footing.book.now.sheet) (sym w.state-is)
+          (state-anew c.args.footing.factors.now c.args.footing.book.now.sheet c.args.state.now.places c.reckon_marked.new.state.rates c.reckon_marked.new.state
+          (subst (λ links. IsLinkedUp c.args.footing.book.now.sheet c.args.state.now.places links.edges) (sym c.reckon_marked.ensures.links)
+          (up-anew c.args.footing.factors.now c.args.footing.book.now.sheet c.args.starts.now c.args.rates c.args.state.now c.requires c.relink.new.links.edges
           (subst (λ dues. AreRelinked dues c.args.state.now.links.edges c.relink.new.links.edges) c.deref-5.ensures.value
           (subst (λ edges. AreRelinked c.deref-5.result.now edges c.relink.new.links.edges) c.reserve.ensures.edges
           c.relink.ensures.links))))
-          (ap known_of c.reckon_marked.ensures.rates ∙ subst (λ found. option_map_or known_of found (known_of c.args.state.now.rates) ≡ all_rates c.args.footing.book.now) w.in_default.is c.requires.rates_after)
+          (ap known_of c.reckon_marked.ensures.rates ∙ subst (λ found. option_map_or known_of found (known_of c.args.state.now.rates) ≡ all_rates c.args.footing.book.now.sheet) w.in_default.is c.requires.rates_after)
           c.in-Ok.ensures.settled
           (subst (λ links. links.size ≤ c.args.state.now.places.size) (sym c.reckon_marked.ensures.links)
           (subst (λ size. size ≤ c.args.state.now.places.size) (sym c.relink.ensures.size)
@@ -126,7 +126,7 @@ returns-after-rates-4-clause-ok g c =
 
 pub returns-after-rates-4-clause-steps : goal.returns-after-rates-4-clause-steps
 returns-after-rates-4-clause-steps g c = λ one.
-    steps-taken c.args.footing.factors.now c.args.footing.book.now c.args.starts.now c.args.rates c.args.state.now c.mark_reached.new.marked.list
+    steps-taken c.args.footing.factors.now c.args.footing.book.now.sheet c.args.starts.now c.args.rates c.args.state.now c.mark_reached.new.marked.list
     (subst (λ starts. AreReached c.args.state.now.links.edges starts c.mark_reached.new.marked.list) c.deref.ensures.value
     c.in_ok-mark_reached.ensures.reached)
     (subst (λ starts. take (length starts) c.mark_reached.new.marked.list ≡ starts) c.deref.ensures.value
@@ -137,7 +137,7 @@ pub returns-in-Err-clause-err : goal.returns-in-Err-clause-err
 returns-in-Err-clause-err g c =
     undone-back c.args.state.now c.reckon_marked.new.state c.relink-in-Err.new.links c.reckon_marked.ensures.rates c.reckon_marked.ensures.places
     c.in-Err.ensures.figures
-    (back-again c.args.footing.factors.now c.args.footing.book.now c.args.starts.now c.args.rates c.args.state.now c.requires c.in_ok-former.former.items (subst (λ starts. AreFormer starts c.args.state.now.links.edges c.in_ok-former.former.items) c.deref-2.ensures.value c.in_ok-former.ensures) c.relink.new.links.edges c.relink-in-Err.new.links.edges
+    (back-again c.args.footing.factors.now c.args.footing.book.now.sheet c.args.starts.now c.args.rates c.args.state.now c.requires c.in_ok-former.former.items (subst (λ starts. AreFormer starts c.args.state.now.links.edges c.in_ok-former.former.items) c.deref-2.ensures.value c.in_ok-former.ensures) c.relink.new.links.edges c.relink-in-Err.new.links.edges
     (subst (λ dues. AreRelinked dues c.args.state.now.links.edges c.relink.new.links.edges) c.deref-5.ensures.value
     (subst (λ edges. AreRelinked c.deref-5.result.now edges c.relink.new.links.edges) c.reserve.ensures.edges
     c.relink.ensures.links))

@@ -28,7 +28,7 @@ pub ordered-requires-clause-live : goal.ordered-requires-clause-live
 ordered-requires-clause-live g c =
     subst (λ sheet. AreFlagged sheet (StandsAt sheet c.args.state.now.places) c.as_slice.result.now c.args.live.now)
     (sym c.sheet.ensures.sheet)
-    (subst (λ list. AreFlagged c.args.footing.book.now (StandsAt c.args.footing.book.now c.args.state.now.places) list
+    (subst (λ list. AreFlagged c.args.footing.book.now.sheet (StandsAt c.args.footing.book.now.sheet c.args.state.now.places) list
     c.args.live.now) (sym c.as_slice.ensures.list) c.requires.flags)
 
 pub reckon_in_place-requires-clause-basis : goal.reckon_in_place-requires-clause-basis
@@ -43,7 +43,7 @@ reckon_in_place-requires-clause-order g c κs within = (
 
 pub reckon_in_place-requires-clause-known : goal.reckon_in_place-requires-clause-known
 reckon_in_place-requires-clause-known g c κs within =
-    let sheet = c.args.footing.book.now in
+    let sheet = c.args.footing.book.now.sheet in
     let order = subst (λ s. IsOrder s (StandsAt s c.args.state.now.places) c.as_slice.result.now
     c.in_ok-order.order.numbers.items c.in_ok-order.order.ends.items) c.sheet.ensures.sheet c.in_ok-order.ensures in
     c.requires.others c.in_ok-order.order.numbers.items
@@ -54,7 +54,7 @@ reckon_in_place-requires-clause-known g c κs within =
 
 pub returns-clause-steps : goal.returns-clause-steps
 returns-clause-steps g c =
-    let sheet = c.args.footing.book.now in
+    let sheet = c.args.footing.book.now.sheet in
     let order = subst (λ s. IsOrder s (StandsAt s c.args.state.now.places) c.as_slice.result.now
     c.in_ok-order.order.numbers.items c.in_ok-order.order.ends.items) c.sheet.ensures.sheet c.in_ok-order.ensures in
     let live = order-live sheet (StandsAt sheet c.args.state.now.places) c.args.state.now.marks.list

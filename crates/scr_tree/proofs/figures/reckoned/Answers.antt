@@ -15,16 +15,16 @@ use Rattle.scr_tree.proofs.figures.reckoned.Goals as goal
 
 pub evaluate_by-span-requires-clause-rows : goal.evaluate_by-span-requires-clause-rows
 evaluate_by-span-requires-clause-rows g c =
-    subst (AreDiscountsOf c.args.inputs.book.now.curves) (sym (ap (λ (k : KnownRates). k.rows) c.requires.inputs))
-    (all-are c.args.inputs.book.now c.sheet.ensures.valid)
+    subst (AreDiscountsOf c.args.inputs.book.now.sheet.curves) (sym (ap (λ (k : KnownRates). k.rows) c.requires.inputs))
+    (all-are c.args.inputs.book.now.sheet c.sheet.ensures.valid)
 
 pub evaluate_by-span-requires-clause-rates : goal.evaluate_by-span-requires-clause-rates
-evaluate_by-span-requires-clause-rates g c = worked-rates c.args.inputs.book.now c.args.inputs.rates.now c.requires.inputs
+evaluate_by-span-requires-clause-rates g c = worked-rates c.args.inputs.book.now.sheet c.args.inputs.rates.now c.requires.inputs
 
 pub evaluate_by-span-requires-clause-fits : goal.evaluate_by-span-requires-clause-fits
 evaluate_by-span-requires-clause-fits g c =
     let factors = c.args.inputs.factors.now in
-    let sheet = c.args.inputs.book.now in
+    let sheet = c.args.inputs.book.now.sheet in
     let node = c.args.node.now in
     subst (Fits (own_of factors sheet node)) (sym (ap (map ends) c.as_slice.ensures.value ∙ c.requires.below.spans))
     (node-fits factors c.known.ensures sheet c.sheet.ensures.valid node c.requires.live)
@@ -32,7 +32,7 @@ evaluate_by-span-requires-clause-fits g c =
 pub returns-clause-figure : goal.returns-clause-figure
 returns-clause-figure g c =
     let factors = c.args.inputs.factors.now in
-    let sheet = c.args.inputs.book.now in
+    let sheet = c.args.inputs.book.now.sheet in
     let node = c.args.node.now in
     let is : ends c.evaluate_by-span.result ≡ worked factors sheet node =
     c.evaluate_by-span.ensures.worked (ap (λ (k : KnownRates). k.rows) c.requires.inputs)

@@ -12,5 +12,5 @@ put_live-requires-clause-done g c = assets-begun c.args.ground c.requires.ground
 pub returns : goal.returns
 returns g c =
     on-ok (IsDone c.args.ground c.put_live.new.making.made (next (turn_of (nodes.Whole wholes.Assets) 0)))
-    (IsDone c.args.ground c.put_live.new.making.made (turn 6 0 0)) c.put_live.result
+    (IsDone c.args.ground c.put_live.new.making.made (turn 3 0 0)) c.put_live.result
     (assets-made c.args.ground c.requires.ground c.put_live.new.making.made) c.put_live.ensures

@@ -4,4 +4,4 @@ use Rattle.scr_tree.proofs.first.put_currencies.Given as goal
 
 -- those of the rows so far
 abbrev pub invariant-loop-k : goal.invariant-loop-k
-invariant-loop-k g l = IsDone l.ground l.making.made (turn 7 l.k 0)
+invariant-loop-k g l = IsDone l.ground l.making.made (turn 6 l.k 0)

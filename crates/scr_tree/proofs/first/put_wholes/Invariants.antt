@@ -4,4 +4,4 @@ use Rattle.scr_tree.proofs.first.put_wholes.Given as goal
 
 -- those so far
 abbrev pub invariant-loop-number : goal.invariant-loop-number
-invariant-loop-number g l = IsDone l.ground l.making.made (turn 8 0 l.number)
+invariant-loop-number g l = IsDone l.ground l.making.made (turn 7 0 l.number)

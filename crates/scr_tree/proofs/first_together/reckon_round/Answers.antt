@@ -1,87 +1,66 @@
-use Rattle.std.proofs.Common.{nat_eq, [], sym, subst, ◌∙◌, arith}
-use Rattle.std.specs.List.{IsDistinct}
-use Rattle.scr_sheet.specs.Validity.{Valid}
-use Rattle.scr_figures.specs.Numbers.{IsNumbered, StandsAt}
-use Rattle.scr_reach.specs.Dues.{AreFlagged}
-use Rattle.scr_reach.specs.Linked.{AreLinked}
-use Rattle.scr_tree.specs.Begun.{IsAllMade}
-use Rattle.scr_tree.specs.Figures.{AreSettled}
-use Rattle.scr_tree.specs.Order.{IsOrder}
+use Rattle.std.proofs.Common.{length, sym, ap, subst, ◌∙◌}
+use Rattle.std.proofs.lemmas.List.{with_items_is}
+use Rattle.scr_pieces.specs.Rows.{AreAllRows}
+use Rattle.scr_sheet.specs.declared.sheet.BalanceSheet.{BalanceSheet}
+use Rattle.scr_totals.proofs.SeenThrough.{rest-totals}
+use Rattle.scr_tree.specs.First.{AreReckonedTo, totals_of}
+use Rattle.scr_tree.specs.RowSpans.{IsRowOf, row_count}
 use Rattle.scr_tree.specs.Turns.{turn}
-use Rattle.scr_tree.proofs.Begun.{begun-flags, begun-free, begun-known, begun-up}
-use Rattle.scr_tree.proofs.Entering.{totals-there}
-use Rattle.scr_tree.proofs.FirstRows.{on-ok}
+use Rattle.scr_tree.specs.Written.{AreRowsThere, rows_among}
+use Rattle.scr_tree.proofs.Begun.{figures-none}
+use Rattle.scr_tree.proofs.Writing.{all-among, rows-there}
 use Rattle.scr_tree.proofs.first_together.reckon_round.Goals as goal
 
-pub link_all-requires-clause-none : goal.link_all-requires-clause-none
-link_all-requires-clause-none g c = begun-free c.args.ground c.enter_totals.new.made (turn 2 0 0) c.in_ok-enter_totals.ensures
+pub enter_totals-requires-clause-totals : goal.enter_totals-requires-clause-totals
+enter_totals-requires-clause-totals g c = c.as_slice.ensures.value ∙ (c.in_ok-totals.ensures ∙ ap totals_of c.sheet-sheet.ensures.sheet)
 
-pub link_all-requires-clause-size : goal.link_all-requires-clause-size
-link_all-requires-clause-size g c = c.in_ok-enter_totals.ensures.size
+pub enter_totals-requires-clause-nothing : goal.enter_totals-requires-clause-nothing
+enter_totals-requires-clause-nothing g c =
+    figures-none c.args.ground c.requires c.in_ok-figures.figures.items (c.in_ok-figures.ensures ∙ c.len.ensures.size)
 
-pub ordered-requires-clause-valid : goal.ordered-requires-clause-valid
-ordered-requires-clause-valid g c = subst Valid (sym c.sheet.ensures.sheet) c.requires.ground.valid
-
-pub ordered-requires-clause-numbered : goal.ordered-requires-clause-numbered
-ordered-requires-clause-numbered g c =
-    subst (λ sheet. IsNumbered sheet c.args.ground.places.now) (sym c.sheet.ensures.sheet) c.requires.ground.numbered
-
-pub ordered-requires-clause-linked : goal.ordered-requires-clause-linked
-ordered-requires-clause-linked g c =
-    subst (λ sheet. AreLinked sheet (StandsAt sheet c.args.ground.places.now) c.link_all.new.links.edges)
-    (sym c.sheet.ensures.sheet) c.in_ok-numbers.ensures.linked
-
-pub ordered-requires-clause-once : goal.ordered-requires-clause-once
-ordered-requires-clause-once g c = subst (IsDistinct nat_eq) (sym c.as_slice.ensures.value) c.in_ok-numbers.ensures.once
-
-pub ordered-requires-clause-live : goal.ordered-requires-clause-live
-ordered-requires-clause-live g c =
-    subst (λ sheet. AreFlagged sheet (StandsAt sheet c.args.ground.places.now) c.as_slice.result.now [])
-    (sym c.sheet.ensures.sheet)
-    (subst (λ list. AreFlagged c.args.ground.inputs.book.now (StandsAt c.args.ground.inputs.book.now c.args.ground.places.now) list [])
-    (sym c.as_slice.ensures.value)
-    (begun-flags c.args.ground c.requires.ground c.link_all.new.links c.in_ok-numbers.numbers.items c.in_ok-numbers.ensures))
-
-pub reckon_entered-requires-clause-basis : goal.reckon_entered-requires-clause-basis
-reckon_entered-requires-clause-basis g c κs within = (
-  begun-up c.args.ground c.requires.ground c.link_all.new.links c.in_ok-numbers.numbers.items c.in_ok-numbers.ensures,
-  c.requires.ground.rates,
+pub linked_beside-requires : goal.linked_beside-requires
+linked_beside-requires g c = (
+  c.type_bounds.sync-R,
+  (
+    c.type_bounds.sync-G,
+    record {
+      ground = c.requires;
+      totals = rest-totals c.args.ground.inputs.book.now.sheet c.deref.result.now c.len-2.result
+          (c.deref.ensures.value ∙ (c.in_ok-totals.ensures ∙ ap totals_of c.sheet-sheet.ensures.sheet))
+          (c.len-2.ensures.count ∙ ap (λ (s : BalanceSheet). length s.funds) c.sheet-sheet.ensures.sheet);
+      assets = c.in_ok-assets_of.ensures;
+    },
+  ),
 )
 
-pub reckon_entered-requires-clause-order : goal.reckon_entered-requires-clause-order
-reckon_entered-requires-clause-order g c κs within = (
-  c.as_slice.result.now,
-  subst (λ sheet. IsOrder sheet (StandsAt sheet c.args.ground.places.now) c.as_slice.result.now c.in_ok-order.order.numbers.items
-      c.in_ok-order.order.ends.items) c.sheet.ensures.sheet c.in_ok-order.ensures,
-)
+pub write_parts-requires-clause-count : goal.write_parts-requires-clause-count
+write_parts-requires-clause-count g c = ap length c.as_mut_slice.ensures.value ∙ c.enter_totals.ensures.count
 
-pub reckon_entered-requires-clause-known : goal.reckon_entered-requires-clause-known
-reckon_entered-requires-clause-known g c κs within =
-    let sheet = c.args.ground.inputs.book.now in
-    let numbers = c.in_ok-order.order.numbers.items in
-    let ends = c.in_ok-order.order.ends.items in
-    begun-known c.args.ground c.requires.ground c.link_all.new.links c.in_ok-numbers.numbers.items c.in_ok-numbers.ensures
-    c.enter_totals.new.made.figures.items numbers ends
-    (subst (λ list. IsOrder sheet (StandsAt sheet c.args.ground.places.now) list numbers ends) c.as_slice.ensures.value
-    (subst (λ s. IsOrder s (StandsAt s c.args.ground.places.now) c.as_slice.result.now numbers ends) c.sheet.ensures.sheet
-    c.in_ok-order.ensures))
+pub write_parts-requires-clause-rows : goal.write_parts-requires-clause-rows
+write_parts-requires-clause-rows g c =
+    subst (AreAllRows (row_count c.args.ground.inputs.book.now.sheet)
+    (IsRowOf c.args.ground.inputs.factors.now c.args.ground.inputs.book.now.sheet)) (sym c.as_slice-3.ensures.value) c.in_ok-links.ensures.parts
 
-pub reckon_entered-requires-clause-totals : goal.reckon_entered-requires-clause-totals
-reckon_entered-requires-clause-totals g c κs within =
-    totals-there c.args.ground.inputs.factors.now c.args.ground.inputs.book.now c.args.ground.places.now
-    c.enter_totals.new.made.figures.items c.in_ok-enter_totals.ensures.known
-
-pub reckon_entered-requires-clause-room : goal.reckon_entered-requires-clause-room
-reckon_entered-requires-clause-room g c κs within = let count = c.in_ok-enter_totals.ensures.count in omega (arith, count)
+pub reckon_rest-requires-clause-rows : goal.reckon_rest-requires-clause-rows
+reckon_rest-requires-clause-rows g c κs within =
+    let ground = c.args.ground in
+    let sheet = ground.inputs.book.now.sheet in
+    let is_row = IsRowOf ground.inputs.factors.now sheet in
+    let parts = c.as_slice-3.result.now in
+    let all = subst (AreAllRows (row_count sheet) is_row) (sym c.as_slice-3.ensures.value) c.in_ok-links.ensures.parts in
+    subst (AreRowsThere ground)
+    (sym (with_items_is c.enter_totals.new.figures c.write_parts.new.figures (c.write_parts.ensures.count ∙ c.as_mut_slice.ensures.len)))
+    (rows-there ground c.requires (rows_among parts) (all-among (row_count sheet) is_row parts all) c.as_mut_slice.result.now
+    c.write_parts.new.figures
+    (subst (λ fs. AreReckonedTo ground fs (turn 2 0 0)) (sym c.as_mut_slice.ensures.value) c.enter_totals.ensures) c.write_parts.ensures)
 
 pub returns : goal.returns
-returns g c =
-    let sheet = c.args.ground.inputs.book.now in
-    on-ok (AreSettled c.args.ground.inputs.factors.now sheet (StandsAt sheet c.args.ground.places.now) c.reckon_entered.new.figures.items)
-    (IsAllMade c.args.ground (record { figures = c.reckon_entered.new.figures; links = c.link_all.new.links })) c.reckon_entered.result
-    (λ settled. record {
-      count = c.reckon_entered.ensures.count ∙ c.in_ok-enter_totals.ensures.count;
-      size = c.in_ok-numbers.ensures.size;
-      figures = settled;
-      links = c.in_ok-numbers.ensures.linked;
-    }) c.reckon_entered.ensures.settled
+returns g c = record {
+  count = c.in_ok-reckon_rest.ensures.count
+      ∙ (ap length (with_items_is c.enter_totals.new.figures c.write_parts.new.figures
+      (c.write_parts.ensures.count ∙ c.as_mut_slice.ensures.len))
+      ∙ (c.write_parts.ensures.count ∙ (ap length c.as_mut_slice.ensures.value ∙ c.enter_totals.ensures.count)));
+  size = c.in_ok-links.ensures.links.size;
+  figures = c.in_ok-reckon_rest.ensures.settled;
+  links = c.in_ok-links.ensures.links.linked;
+}

@@ -10,20 +10,20 @@ write_total-requires g c =
     let rows = ap (λ (s : BalanceSheet). length s.funds) c.sheet.ensures.sheet in
     fund-within c.args.ground c.requires.ground c.loop-k.k c.first-number.result
     (omega (arith, rows, c.loop-k-test.true, c.loop-k.auto.k-end, c.len-k-end.ensures.count)) c.first-number.ensures.first
-    c.loop-k.made (turn 0 c.loop-k.k 0) (turn 0 0 0) c.loop-k.invariant
+    c.loop-k.figures.items (turn 0 c.loop-k.k 0) c.loop-k.invariant
 
 pub loop-k-preserved : goal.loop-k-preserved
 loop-k-preserved g c =
     let rows = ap (λ (s : BalanceSheet). length s.funds) c.sheet.ensures.sheet in
     fund-written c.args.ground c.requires.ground c.loop-k.k c.first-number.result
     (omega (arith, rows, c.loop-k-test.true, c.loop-k.auto.k-end, c.len-k-end.ensures.count)) c.first-number.ensures.first
-    c.args.totals.now c.requires.totals c.loop-k.made c.write_total.new.made (turn 0 0 0) c.loop-k.invariant
-    c.write_total.ensures.links c.write_total.ensures.count c.write_total.ensures.there c.write_total.ensures.others
+    c.args.totals.now c.requires.totals c.loop-k.figures.items c.write_total.new.figures.items
+    c.loop-k.invariant c.write_total.ensures.count c.write_total.ensures.there c.write_total.ensures.others
 
 pub returns : goal.returns
 returns g c =
     let rows = ap (λ (s : BalanceSheet). length s.funds) c.sheet.ensures.sheet in
     reckoned-over c.args.ground c.requires.ground 0 c.loop-k.k
-    (as-long c.args.ground c.requires.ground stake_name c.args.ground.inputs.book.now.funds c.loop-k.k
+    (as-long c.args.ground c.requires.ground stake_name c.args.ground.inputs.book.now.sheet.funds c.loop-k.k
     (omega (arith, rows, c.loop-k-test.false, c.loop-k.auto.k-end, c.len-k-end.ensures.count)))
-    c.loop-k.made (turn 0 0 0) c.loop-k.invariant
+    c.loop-k.figures.items c.loop-k.invariant

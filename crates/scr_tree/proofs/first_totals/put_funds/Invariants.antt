@@ -1,7 +1,7 @@
-use Rattle.scr_tree.specs.First.{IsMadeTo}
+use Rattle.scr_tree.specs.First.{AreReckonedTo}
 use Rattle.scr_tree.specs.Turns.{turn}
 use Rattle.scr_tree.proofs.first_totals.put_funds.Given as goal
 
 -- the totals of the funds so far
 abbrev pub invariant-loop-k : goal.invariant-loop-k
-invariant-loop-k g l = IsMadeTo l.ground l.made (turn 0 l.k 0) (turn 0 0 0)
+invariant-loop-k g l = AreReckonedTo l.ground l.figures.items (turn 0 l.k 0)

@@ -5,25 +5,30 @@ use Rattle.scr_tree.specs.Turns.{turn}
 use Rattle.scr_tree.proofs.Grounds.{as-long, security-within, security-written, reckoned-over}
 use Rattle.scr_tree.proofs.first_totals.put_securities.Goals as goal
 
+pub pass_alone-requires : goal.pass_alone-requires
+pass_alone-requires g c =
+    let rows = ap (λ (s : BalanceSheet). length s.securities) c.sheet.ensures.sheet in
+    omega (arith, rows, c.loop-k-test.true, c.loop-k.auto.k-end, c.len-k-end.ensures.count)
+
 pub write_total-requires : goal.write_total-requires
 write_total-requires g c =
     let rows = ap (λ (s : BalanceSheet). length s.securities) c.sheet.ensures.sheet in
     security-within c.args.ground c.requires.ground c.loop-k.k c.first-number.result
     (omega (arith, rows, c.loop-k-test.true, c.loop-k.auto.k-end, c.len-k-end.ensures.count)) c.first-number.ensures.first
-    c.loop-k.made (turn 1 c.loop-k.k 0) (turn 0 0 0) c.loop-k.invariant
+    c.loop-k.figures.items (turn 1 c.loop-k.k 0) c.loop-k.invariant
 
 pub loop-k-preserved : goal.loop-k-preserved
 loop-k-preserved g c =
     let rows = ap (λ (s : BalanceSheet). length s.securities) c.sheet.ensures.sheet in
     security-written c.args.ground c.requires.ground c.loop-k.k c.first-number.result
     (omega (arith, rows, c.loop-k-test.true, c.loop-k.auto.k-end, c.len-k-end.ensures.count)) c.first-number.ensures.first
-    c.args.totals.now c.requires.totals c.loop-k.made c.write_total.new.made (turn 0 0 0) c.loop-k.invariant
-    c.write_total.ensures.links c.write_total.ensures.count c.write_total.ensures.there c.write_total.ensures.others
+    c.args.totals.now c.requires.totals c.loop-k.figures.items c.write_total.new.figures.items
+    c.loop-k.invariant c.write_total.ensures.count c.write_total.ensures.there c.write_total.ensures.others
 
 pub returns : goal.returns
 returns g c =
     let rows = ap (λ (s : BalanceSheet). length s.securities) c.sheet.ensures.sheet in
     reckoned-over c.args.ground c.requires.ground 1 c.loop-k.k
-    (as-long c.args.ground c.requires.ground position_name c.args.ground.inputs.book.now.securities c.loop-k.k
+    (as-long c.args.ground c.requires.ground position_name c.args.ground.inputs.book.now.sheet.securities c.loop-k.k
     (omega (arith, rows, c.loop-k-test.false, c.loop-k.auto.k-end, c.len-k-end.ensures.count)))
-    c.loop-k.made (turn 0 0 0) c.loop-k.invariant
+    c.loop-k.figures.items c.loop-k.invariant

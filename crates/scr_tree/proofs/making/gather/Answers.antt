@@ -9,7 +9,7 @@ use Rattle.scr_tree.proofs.making.gather.Goals as goal
 pub returns : goal.returns
 returns c =
     on-ok (ArePushed c.sheet.result.now c.args.ground.places.now c.args.node.now c.clear.new.self.items c.push_gathered.new.list.items)
-    (AreAt (StandsAt c.args.ground.inputs.book.now c.args.ground.places.now) c.push_gathered.new.list.items
-    (sources_of c.args.ground.inputs.book.now c.args.node.now)) c.push_gathered.result
-    (pushed-at c.sheet.result.now c.args.ground.inputs.book.now c.args.ground.places.now c.args.node.now c.clear.new.self.items
+    (AreAt (StandsAt c.args.ground.inputs.book.now.sheet c.args.ground.places.now) c.push_gathered.new.list.items
+    (sources_of c.args.ground.inputs.book.now.sheet c.args.node.now)) c.push_gathered.result
+    (pushed-at c.sheet.result.now c.args.ground.inputs.book.now.sheet c.args.ground.places.now c.args.node.now c.clear.new.self.items
     c.push_gathered.new.list.items c.sheet.ensures.sheet c.clear.ensures.items) c.push_gathered.ensures

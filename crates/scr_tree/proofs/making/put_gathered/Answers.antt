@@ -32,7 +32,7 @@ put-requires-clause-sources g c =
 pub returns : goal.returns
 returns g c =
     on-ok
-    (IsPut c.args.ground.inputs.factors.now c.args.ground.inputs.book.now c.args.node.now c.number_at-number.result
+    (IsPut c.args.ground.inputs.factors.now c.args.ground.inputs.book.now.sheet c.args.node.now c.number_at-number.result
     c.gather.new.sources.items c.args.making.now.made c.put.new.making.made)
     (IsDone c.args.ground c.put.new.making.made (next (turn_of c.args.node.now c.args.row))) c.put.result
     (λ put. gathered-made c.args.ground c.requires.ground c.args.node.now c.args.row c.number_at-number.result c.requires.row

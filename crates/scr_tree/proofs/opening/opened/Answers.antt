@@ -7,7 +7,7 @@ returns-clause-state g c =
     record {
       rates = opened.rates;
       numbered = opened.numbered;
-      numbers = are-numbers c.args.book.now c.in_ok-rates.field-0.places opened.valid opened.numbered c.len.ensures.within
+      numbers = are-numbers c.args.book.now.sheet c.in_ok-rates.field-0.places opened.valid opened.numbered c.len.ensures.within
           c.len.ensures.apart;
       figures = opened.figures;
       links = opened.links;

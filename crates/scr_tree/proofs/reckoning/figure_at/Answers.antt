@@ -10,7 +10,7 @@ use Rattle.scr_tree.proofs.reckoning.figure_at.Goals as goal
 
 pub read_linked-requires : goal.read_linked-requires
 read_linked-requires g c =
-    ready-within c.args.basis.inputs.factors.now c.args.basis.inputs.book.now c.args.basis.places.now
+    ready-within c.args.basis.inputs.factors.now c.args.basis.inputs.book.now.sheet c.args.basis.places.now
     c.args.basis.links.now.edges (c.requires.basis).0 c.args.figures.now c.args.number c.requires.ready
 
 pub node_at-requires : goal.node_at-requires
@@ -25,7 +25,7 @@ unreachable-requires g c =
 
 pub reckoned-requires-clause-live : goal.reckoned-requires-clause-live
 reckoned-requires-clause-live g c =
-    let sheet = c.args.basis.inputs.book.now in
+    let sheet = c.args.basis.inputs.book.now.sheet in
     let there = subst (λ s. StandsAt s c.args.basis.places.now c.in-Some.node c.args.number) c.sheet.ensures.sheet
     c.in-Some.ensures.there in
     let one = ((c.requires.basis).0).numbers.exact c.args.number c.in-Some.node c.requires.ready.node there c.requires.ready.at in
@@ -34,7 +34,7 @@ reckoned-requires-clause-live g c =
 pub reckoned-requires-clause-below : goal.reckoned-requires-clause-below
 reckoned-requires-clause-below g c =
     let factors = c.args.basis.inputs.factors.now in
-    let sheet = c.args.basis.inputs.book.now in
+    let sheet = c.args.basis.inputs.book.now.sheet in
     let there = subst (λ s. StandsAt s c.args.basis.places.now c.in-Some.node c.args.number) c.sheet.ensures.sheet
     c.in-Some.ensures.there in
     let one = ((c.requires.basis).0).numbers.exact c.args.number c.in-Some.node c.requires.ready.node there c.requires.ready.at in
@@ -47,5 +47,5 @@ returns-clause-figure g c = λ node at.
     let there = subst (λ s. StandsAt s c.args.basis.places.now c.in-Some.node c.args.number) c.sheet.ensures.sheet
     c.in-Some.ensures.there in
     c.reckoned.ensures.figure
-    ∙ ap (worth_at c.args.basis.inputs.factors.now c.args.basis.inputs.book.now)
+    ∙ ap (worth_at c.args.basis.inputs.factors.now c.args.basis.inputs.book.now.sheet)
     (((c.requires.basis).0).numbers.exact c.args.number c.in-Some.node node there at)

@@ -8,18 +8,18 @@ write_in_turn-requires-clause-turn g c =
     let basis = c.args.basis in
     let order = c.requires.order in
     subst (AreInTurnOn basis) (sym c.in_ok-journal.ensures.numbers)
-    (in-turn basis.inputs.book.now basis.places.now order.0 c.args.order.numbers.items c.args.order.ends.items order.1)
+    (in-turn basis.inputs.book.now.sheet basis.places.now order.0 c.args.order.numbers.items c.args.order.ends.items order.1)
 
 pub undo-requires-clause-within : goal.undo-requires-clause-within
 undo-requires-clause-within g c =
     let basis = c.args.basis in
     let numbers = c.args.order.numbers.items in
     let order = c.requires.order in
-    let turn = in-turn basis.inputs.book.now basis.places.now order.0 numbers c.args.order.ends.items order.1 in
+    let turn = in-turn basis.inputs.book.now.sheet basis.places.now order.0 numbers c.args.order.ends.items order.1 in
     let lent = ap length c.as_mut_slice.ensures.value in
     let long = c.write_in_turn.ensures.journaled.long in
     let room = c.requires.room in
     subst (All (λ n. n < length c.as_mut_slice.result.now))
     (sym (c.write_in_turn.ensures.numbers ∙ c.in_ok-journal.ensures.numbers))
-    (turn-within basis.inputs.factors.now basis.inputs.book.now basis.places.now basis.links.now.edges (c.requires.basis).0 numbers
+    (turn-within basis.inputs.factors.now basis.inputs.book.now.sheet basis.places.now basis.links.now.edges (c.requires.basis).0 numbers
     (length c.as_mut_slice.result.now) (omega (arith, lent, long, room)) turn)

@@ -19,7 +19,7 @@ figure_at-requires-clause-ready g c =
     let numbers = c.args.journal.now.numbers.items in
     let number = c.index-number.result.now in
     subst (λ figures. IsReadyOn basis figures number) (sym c.as_slice.ensures.value)
-    (ready-next basis.inputs.factors.now basis.inputs.book.now basis.places.now basis.links.now.edges (c.requires.basis).0
+    (ready-next basis.inputs.factors.now basis.inputs.book.now.sheet basis.places.now basis.links.now.edges (c.requires.basis).0
     c.loop-k.figures.items numbers c.loop-k.k number c.requires.turn
     (number-at c.loop-k.journal.numbers.items numbers c.loop-k.k c.len-k-end.result number c.loop-k.invariant.numbers
     (c.len-k-end.ensures ∙ c.args.journal.now.numbers.ok.0) c.loop-k-test.true c.index-number.ensures)
@@ -33,14 +33,14 @@ write-requires-clause-within g c =
     let long = c.loop-k.invariant.journaled.long in
     let room = c.requires.room in
     subst (All (λ n. n < length c.as_mut_slice.result.now)) (sym c.loop-k.invariant.numbers)
-    (turn-within basis.inputs.factors.now basis.inputs.book.now basis.places.now basis.links.now.edges (c.requires.basis).0 numbers
+    (turn-within basis.inputs.factors.now basis.inputs.book.now.sheet basis.places.now basis.links.now.edges (c.requires.basis).0 numbers
     (length c.as_mut_slice.result.now) (omega (arith, lent, long, room)) c.requires.turn)
 
 pub loop-k-preserved : goal.loop-k-preserved
 loop-k-preserved g c =
     let basis = c.args.basis in
     let factors = basis.inputs.factors.now in
-    let sheet = basis.inputs.book.now in
+    let sheet = basis.inputs.book.now.sheet in
     let places = basis.places.now in
     let edges = basis.links.now.edges in
     let up = (c.requires.basis).0 in
@@ -82,6 +82,6 @@ pub returns-clause-settled : goal.returns-clause-settled
 returns-clause-settled g c =
     let basis = c.args.basis in
     let end = c.len-k-end.ensures ∙ c.args.journal.now.numbers.ok.0 in
-    settled-all basis.inputs.factors.now basis.inputs.book.now basis.places.now basis.links.now.edges (c.requires.basis).0
+    settled-all basis.inputs.factors.now basis.inputs.book.now.sheet basis.places.now basis.links.now.edges (c.requires.basis).0
     c.loop-k.figures.items c.args.journal.now.numbers.items c.loop-k.k (omega (arith, end, c.loop-k-test.false))
     c.loop-k.invariant.known

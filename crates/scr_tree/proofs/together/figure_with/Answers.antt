@@ -11,7 +11,7 @@ use Rattle.scr_tree.proofs.together.figure_with.Goals as goal
 pub rests_on_choice-close-requires : goal.rests_on_choice-close-requires
 rests_on_choice-close-requires c =
     let b = c.args.basis in
-    ready-within b.inputs.factors.now b.inputs.book.now b.places.now b.links.now.edges c.requires.basis.0 c.args.figures.now
+    ready-within b.inputs.factors.now b.inputs.book.now.sheet b.places.now b.links.now.edges c.requires.basis.0 c.args.figures.now
     c.args.number c.requires.ready
 
 pub node_at-requires : goal.node_at-requires
@@ -30,7 +30,7 @@ returns-then-is_open_choice c = λ node at.
     let any = any_close c.args.figures.now (sources_in b.links.now.edges c.args.number) in
     let there = subst (λ s. StandsAt s b.places.now c.in-Some.node c.args.number) c.sheet.ensures.sheet c.in-Some.ensures.there in
     let same : c.in-Some.node ≡ node = c.requires.basis.0.numbers.exact c.args.number c.in-Some.node node there at in
-    right-span b.inputs.factors.now b.inputs.book.now b.places.now b.links.now.edges c.requires.basis.0 c.args.figures.now c.args.number
+    right-span b.inputs.factors.now b.inputs.book.now.sheet b.places.now b.links.now.edges c.requires.basis.0 c.args.figures.now c.args.number
     c.requires.ready c.args.span c.requires.span node at c.is_open_choice.result
     (c.if-is_open_choice.true
     ∙ sym (ap (λ t. t || any) (ap (λ n. opens n (ends c.args.span)) (sym same) ∙ sym c.is_open_choice.ensures ∙ c.if-is_open_choice.true)))
@@ -41,7 +41,7 @@ returns-else-is_open_choice c = λ node at.
     let any = any_close c.args.figures.now (sources_in b.links.now.edges c.args.number) in
     let there = subst (λ s. StandsAt s b.places.now c.in-Some.node c.args.number) c.sheet.ensures.sheet c.in-Some.ensures.there in
     let same : c.in-Some.node ≡ node = c.requires.basis.0.numbers.exact c.args.number c.in-Some.node node there at in
-    right-span b.inputs.factors.now b.inputs.book.now b.places.now b.links.now.edges c.requires.basis.0 c.args.figures.now c.args.number
+    right-span b.inputs.factors.now b.inputs.book.now.sheet b.places.now b.links.now.edges c.requires.basis.0 c.args.figures.now c.args.number
     c.requires.ready c.args.span c.requires.span node at c.rests_on_choice-close.result
     (c.rests_on_choice-close.ensures
     ∙ sym (ap (λ t. t || any) (ap (λ n. opens n (ends c.args.span)) (sym same) ∙ sym c.is_open_choice.ensures ∙ c.if-is_open_choice.false)))

@@ -7,10 +7,10 @@ pub spans_of-requires-clause-turn : goal.spans_of-requires-clause-turn
 spans_of-requires-clause-turn g c κs within =
     let b = c.args.basis in
     subst (AreInTurnOn b) (sym c.as_slice-numbers.ensures.value)
-    (in-turn b.inputs.book.now b.places.now c.requires.order.0 c.args.order.numbers.items c.args.order.ends.items c.requires.order.1)
+    (in-turn b.inputs.book.now.sheet b.places.now c.requires.order.0 c.args.order.numbers.items c.args.order.ends.items c.requires.order.1)
 
 pub write_all-requires-clause-turn : goal.write_all-requires-clause-turn
 write_all-requires-clause-turn g c =
     let b = c.args.basis in
     subst (AreInTurnOn b) (sym c.as_slice-numbers.ensures.value)
-    (in-turn b.inputs.book.now b.places.now c.requires.order.0 c.args.order.numbers.items c.args.order.ends.items c.requires.order.1)
+    (in-turn b.inputs.book.now.sheet b.places.now c.requires.order.0 c.args.order.numbers.items c.args.order.ends.items c.requires.order.1)

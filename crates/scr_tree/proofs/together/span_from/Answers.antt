@@ -10,16 +10,16 @@ use Rattle.scr_tree.proofs.together.span_from.Goals as goal
 
 pub evaluate_by-requires-clause-rows : goal.evaluate_by-requires-clause-rows
 evaluate_by-requires-clause-rows g c =
-    subst (AreDiscountsOf c.args.inputs.book.now.curves) (sym (ap (λ (k : KnownRates). k.rows) c.requires.inputs))
-    (all-are c.args.inputs.book.now c.sheet.ensures.valid)
+    subst (AreDiscountsOf c.args.inputs.book.now.sheet.curves) (sym (ap (λ (k : KnownRates). k.rows) c.requires.inputs))
+    (all-are c.args.inputs.book.now.sheet c.sheet.ensures.valid)
 
 pub evaluate_by-requires-clause-rates : goal.evaluate_by-requires-clause-rates
-evaluate_by-requires-clause-rates g c = worked-rates c.args.inputs.book.now c.args.inputs.rates.now c.requires.inputs
+evaluate_by-requires-clause-rates g c = worked-rates c.args.inputs.book.now.sheet c.args.inputs.rates.now c.requires.inputs
 
 pub evaluate_by-requires-clause-fits : goal.evaluate_by-requires-clause-fits
 evaluate_by-requires-clause-fits g c =
     let factors = c.args.inputs.factors.now in
-    let sheet = c.args.inputs.book.now in
+    let sheet = c.args.inputs.book.now.sheet in
     let node = c.args.node.now in
     subst (Fits (own_of factors sheet node)) (sym c.requires.below)
     (node-fits factors c.known.ensures sheet c.sheet.ensures.valid node c.requires.live)

@@ -14,7 +14,7 @@ figure_with-requires-clause-ready c =
     let k = c.loop-k.k in
     let many = as-many b numbers c.args.spans.now c.requires.spans in
     let low = c.loop-k-test.true in
-    ready-next b.inputs.factors.now b.inputs.book.now b.places.now b.links.now.edges c.requires.basis.0 c.loop-k.figures numbers k
+    ready-next b.inputs.factors.now b.inputs.book.now.sheet b.places.now b.links.now.edges c.requires.basis.0 c.loop-k.figures numbers k
     (get_or numbers k 0) c.requires.turn (slice_get-get_or numbers k 0 (omega (arith, many, low))) c.loop-k.invariant.known
 
 pub figure_with-requires-clause-span : goal.figure_with-requires-clause-span
@@ -59,7 +59,7 @@ loop-k-preserved c =
     let room = c.requires.room in
     let long = c.loop-k.invariant.long in
     record {
-      known = known-next b.inputs.factors.now b.inputs.book.now b.places.now b.links.now.edges c.requires.basis.0 numbers k number figure
+      known = known-next b.inputs.factors.now b.inputs.book.now.sheet b.places.now b.links.now.edges c.requires.basis.0 numbers k number figure
           figures (set figures number figure) c.requires.turn here c.figure_with.ensures
           (set-here figures number figure (omega (arith, within, room, long))) (λ other apart. set-other figures number other figure apart)
           c.loop-k.invariant.known;
@@ -72,5 +72,5 @@ returns-clause-settled c =
     let numbers = c.args.numbers.now in
     let many = as-many b numbers c.args.spans.now c.requires.spans in
     let end = c.loop-k-test.false in
-    settled-all b.inputs.factors.now b.inputs.book.now b.places.now b.links.now.edges c.requires.basis.0 c.loop-k.figures numbers
+    settled-all b.inputs.factors.now b.inputs.book.now.sheet b.places.now b.links.now.edges c.requires.basis.0 c.loop-k.figures numbers
     c.loop-k.k (omega (arith, many, end)) c.loop-k.invariant.known

@@ -45,10 +45,10 @@ numbers_gone-requires-clause-numbers g c =
 
 pub take_up-requires-after_bounds : goal.take_up-requires-after_bounds
 take_up-requires-after_bounds g c κs within =
-    recorded c.self.inside.factors c.self.inside.book c.apply_kept.new.self _ _ c.self.inside.state c.self.invariant.valid
+    recorded c.self.inside.factors c.self.inside.book.sheet c.apply_kept.new.self.sheet _ _ c.self.inside.state c.self.invariant.valid
     c.in-Ok-apply_kept.ensures.ok c.in-Ok-apply_kept.ensures.answer
     (c.step_of-step.ensures ∙ ap (step_of c.args.edit.now) c.sheet-sheet.ensures.sheet)
-    (subst (AreTouched c.self.inside.book c.args.edit.now) (sym c.as_slice.ensures.value) c.in-Ok.ensures.touched)
+    (subst (AreTouched c.self.inside.book.sheet c.args.edit.now) (sym c.as_slice.ensures.value) c.in-Ok.ensures.touched)
     (subst HasNoRepeats (sym c.as_slice.ensures.value) c.in-Ok.ensures.once)
     (subst (λ sheet. AreGone c.step_of-step.result sheet c.self.inside.state.places c.as_slice.result.now
     c.in-Ok-numbers_gone.gone) c.sheet-sheet.ensures.sheet
@@ -59,7 +59,7 @@ take_up-requires-after_bounds g c κs within =
 pub invariant_of-self-in-Ok-take_up : goal.invariant_of-self-in-Ok-take_up
 invariant_of-self-in-Ok-take_up g c = record {
   valid = subst Valid (sym c.in-Ok-apply_kept.ensures.ok)
-      (Valid-applied c.args.edit.now c.self.inside.book c.requires.formed c.self.invariant.valid
+      (Valid-applied c.args.edit.now c.self.inside.book.sheet c.requires.formed c.self.invariant.valid
       c.in-Ok-apply_kept.ensures.answer);
   state = c.in-Ok-take_up.ensures.ok;
   marks = c.in-Ok-take_up.ensures.marks;
@@ -70,20 +70,20 @@ returns-in-Ok-take_up-clause-steps g c =
     let taken : Taken = record { edit = c.args.edit; step = c.step_of-step.result; touched = c.as_slice.result } in
     subst (λ (s : Standing). TakesSteps s.factors s.sheet c.args.edit.now c.args.workers c.args.steps.now
     c.take_up.new.steps (Ok tt)) c.self.view_is
-    (taken-steps c.self.inside.factors c.self.inside.book c.apply_kept.new.self taken
-    (taken-by c.self.inside.factors c.self.inside.book c.apply_kept.new.self taken c.self.invariant.valid
+    (taken-steps c.self.inside.factors c.self.inside.book.sheet c.apply_kept.new.self.sheet taken
+    (taken-by c.self.inside.factors c.self.inside.book.sheet c.apply_kept.new.self.sheet taken c.self.invariant.valid
     c.in-Ok-apply_kept.ensures.ok c.in-Ok-apply_kept.ensures.answer
     (c.step_of-step.ensures ∙ ap (step_of c.args.edit.now) c.sheet-sheet.ensures.sheet)
-    (subst (AreTouched c.self.inside.book c.args.edit.now) (sym c.as_slice.ensures.value) c.in-Ok.ensures.touched)
+    (subst (AreTouched c.self.inside.book.sheet c.args.edit.now) (sym c.as_slice.ensures.value) c.in-Ok.ensures.touched)
     (subst HasNoRepeats (sym c.as_slice.ensures.value) c.in-Ok.ensures.once)) c.args.workers c.args.steps.now
     c.take_up.new.steps c.in-Ok-take_up.ensures.steps)
 
 pub invariant_of-self-in-Err-take_up : goal.invariant_of-self-in-Err-take_up
 invariant_of-self-in-Err-take_up g c =
-    let before = c.self.inside.book in
-    let back : c.taken_back.new.book ≡ before = c.taken_back.ensures.before ∙ c.in-Ok-apply_kept.ensures.back in
+    let before = c.self.inside.book.sheet in
+    let back : c.taken_back.new.book.sheet ≡ before = c.taken_back.ensures.before ∙ c.in-Ok-apply_kept.ensures.back in
     let kept = c.in-Err-take_up.ensures.err before
-    (taken-by c.self.inside.factors before c.apply_kept.new.self _ c.self.invariant.valid
+    (taken-by c.self.inside.factors before c.apply_kept.new.self.sheet _ c.self.invariant.valid
     c.in-Ok-apply_kept.ensures.ok c.in-Ok-apply_kept.ensures.answer
     (c.step_of-step.ensures ∙ ap (step_of c.args.edit.now) c.sheet-sheet.ensures.sheet)
     (subst (AreTouched before c.args.edit.now) (sym c.as_slice.ensures.value) c.in-Ok.ensures.touched)
@@ -91,7 +91,7 @@ invariant_of-self-in-Err-take_up g c =
     c.self.invariant.state c.self.invariant.marks in
     record {
       valid = subst Valid (sym back) c.self.invariant.valid;
-      state = subst (λ book. IsStateOf c.self.inside.factors book c.take_up.new.state) (sym back) kept.0;
+      state = subst (λ sheet. IsStateOf c.self.inside.factors sheet c.take_up.new.state) (sym back) kept.0;
       marks = kept.1;
     }
 
@@ -119,17 +119,17 @@ returns-in-Err-numbers_gone-clause-steps g c = record { accepted = tt; refused =
 
 pub invariant_of-self : goal.invariant_of-self
 invariant_of-self g c =
-    let same : c.apply_kept.new.self ≡ c.self.inside.book = c.in-Err-apply_kept.ensures.err in
+    let same : c.apply_kept.new.self.sheet ≡ c.self.inside.book.sheet = c.in-Err-apply_kept.ensures.err in
     record {
       valid = subst Valid (sym same) c.self.invariant.valid;
-      state = subst (λ book. IsStateOf c.self.inside.factors book c.self.inside.state) (sym same) c.self.invariant.state;
+      state = subst (λ sheet. IsStateOf c.self.inside.factors sheet c.self.inside.state) (sym same) c.self.invariant.state;
       marks = c.self.invariant.marks;
     }
 
 pub returns-in-Err-apply_kept-clause-answer : goal.returns-in-Err-apply_kept-clause-answer
 returns-in-Err-apply_kept-clause-answer g c =
     subst (λ (s : Standing). Refuses (fault_of c.args.edit.now s.sheet) (Err c.refused_for.result)) c.self.view_is
-    (refuses (fault_of c.args.edit.now c.self.inside.book) c.in-Err-apply_kept.fault c.refused_for.result c.refused_for.ensures
+    (refuses (fault_of c.args.edit.now c.self.inside.book.sheet) c.in-Err-apply_kept.fault c.refused_for.result c.refused_for.ensures
     c.in-Err-apply_kept.ensures.answer)
 
 pub returns-in-Err-apply_kept-clause-ok : goal.returns-in-Err-apply_kept-clause-ok

@@ -37,7 +37,7 @@ find-requires c =
 pub unreachable-requires : goal.unreachable-requires
 unreachable-requires c =
     let live = subst (λ (s : Standing). is_live s.sheet c.args.node.now ≡ true) (sym c.self.view_is) c.requires in
-    let own = live-stands c.self.inside.book c.self.inside.state.places c.self.invariant.state.numbered c.args.node.now live in
+    let own = live-stands c.self.inside.book.sheet c.self.inside.state.places c.self.invariant.state.numbered c.args.node.now live in
     c.in-None.ensures.absent refl own.0
     (subst (λ sheet. StandsAt sheet c.self.inside.state.places c.args.node.now own.0) (sym c.sheet.ensures.sheet) own.1)
 

@@ -39,10 +39,10 @@ span_from-requires-clause-below g c =
     let up = is.basis.0 in
     let there = subst (λ s. StandsAt s b.places.now c.in-Some.node c.args.due.now.number) c.sheet.ensures.sheet c.in-Some.ensures.there in
     c.requires.below
-    ∙ ends-each b.inputs.factors.now b.inputs.book.now b.places.now b.links.now.edges up c.args.due.now.sources.items
-    (sources_of b.inputs.book.now c.in-Some.node)
+    ∙ ends-each b.inputs.factors.now b.inputs.book.now.sheet b.places.now b.links.now.edges up c.args.due.now.sources.items
+    (sources_of b.inputs.book.now.sheet c.in-Some.node)
     (other-sources b figures c.args.due.now is c.in-Some.node there (sym c.is_total.ensures ∙ c.if-is_total.false))
-    (sources-live b.inputs.book.now up.valid c.in-Some.node (first-live b figures c.args.due.now is c.in-Some.node there))
+    (sources-live b.inputs.book.now.sheet up.valid c.in-Some.node (first-live b figures c.args.due.now is c.in-Some.node there))
 
 pub unreachable-requires : goal.unreachable-requires
 unreachable-requires g c =

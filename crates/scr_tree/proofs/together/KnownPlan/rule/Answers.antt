@@ -22,7 +22,7 @@ span_from-requires-clause-live g c =
     let is = due-is b c.args.due.now c.requires.due in
     let there = subst (λ s. StandsAt s b.places.now c.in-Some.node c.args.due.now.number) c.sheet.ensures.sheet c.in-Some.ensures.there in
     let one = up.numbers.exact c.args.due.now.number c.in-Some.node is.node there is.at in
-    subst (λ n. is_live b.inputs.book.now n ≡ true) (sym one) is.live
+    subst (λ n. is_live b.inputs.book.now.sheet n ≡ true) (sym one) is.live
 
 pub span_from-requires-clause-below : goal.span_from-requires-clause-below
 span_from-requires-clause-below g c =
@@ -30,7 +30,7 @@ span_from-requires-clause-below g c =
     let up = (due-basis b c.args.due.now c.requires.due).0 in
     let is = due-is b c.args.due.now c.requires.due in
     let factors = b.inputs.factors.now in
-    let sheet = b.inputs.book.now in
+    let sheet = b.inputs.book.now.sheet in
     let there = subst (λ s. StandsAt s b.places.now c.in-Some.node c.args.due.now.number) c.sheet.ensures.sheet c.in-Some.ensures.there in
     let one = up.numbers.exact c.args.due.now.number c.in-Some.node is.node there is.at in
     c.requires.below
@@ -53,5 +53,5 @@ returns-clause-worked g c =
     let there = subst (λ s. StandsAt s b.places.now c.in-Some.node c.args.due.now.number) c.sheet.ensures.sheet c.in-Some.ensures.there in
     let one = up.numbers.exact c.args.due.now.number c.in-Some.node is.node there is.at in
     c.span_from.ensures.span
-    ∙ sym (ends-here b.inputs.factors.now b.inputs.book.now b.places.now b.links.now.edges up c.in-Some.node c.args.due.now.number there
-    (subst (λ n. is_live b.inputs.book.now n ≡ true) (sym one) is.live))
+    ∙ sym (ends-here b.inputs.factors.now b.inputs.book.now.sheet b.places.now b.links.now.edges up c.in-Some.node c.args.due.now.number there
+    (subst (λ n. is_live b.inputs.book.now.sheet n ≡ true) (sym one) is.live))

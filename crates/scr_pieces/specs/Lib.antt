@@ -1,0 +1,5 @@
+pub mod Rows
+pub mod Pieces
+pub mod Apart
+pub mod Forming
+pub mod Hands

@@ -1,7 +1,0 @@
-use Rattle.scr_tree.specs.First.{IsDone}
-use Rattle.scr_tree.specs.Turns.{turn}
-use Rattle.scr_tree.proofs.first.put_securities.Given as goal
-
--- those of the rows so far
-abbrev pub invariant-loop-k : goal.invariant-loop-k
-invariant-loop-k g l = IsDone l.ground l.made (turn 2 l.k 0)

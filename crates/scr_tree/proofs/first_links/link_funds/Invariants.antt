@@ -1,0 +1,7 @@
+use Rattle.scr_tree.specs.First.{AreLinkedTo}
+use Rattle.scr_tree.specs.Turns.{turn}
+use Rattle.scr_tree.proofs.first_links.link_funds.Given as goal
+
+-- those of the funds so far are linked
+abbrev pub invariant-loop-k : goal.invariant-loop-k
+invariant-loop-k l = AreLinkedTo l.ground l.links (turn 0 l.k 0)

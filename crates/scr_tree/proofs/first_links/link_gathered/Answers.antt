@@ -1,0 +1,47 @@
+use Rattle.std.proofs.Common.{◌<◌, ◌+◌, All, refl, sym, subst}
+use Rattle.std.proofs.lemmas.List.Elements.{All-from_recursion}
+use Rattle.scr_figures.specs.Families.{family_of, table_of}
+use Rattle.scr_nodes.specs.Sources.{sources_of}
+use Rattle.scr_numbers.specs.Ranges.{first}
+use Rattle.scr_tree.specs.First.{AreLinkedTo, IsLinkedNext}
+use Rattle.scr_tree.specs.Turns.{next, turn_of}
+use Rattle.scr_tree.proofs.FirstRows.{on-ok}
+use Rattle.scr_tree.proofs.Grounds.{at-within, family-few, number-within, row-few}
+use Rattle.scr_tree.proofs.Linking.{linked-gathered}
+use Rattle.scr_tree.proofs.first_links.link_gathered.Goals as goal
+
+pub number_at-number-requires-clause-row : goal.number_at-number-requires-clause-row
+number_at-number-requires-clause-row c =
+    row-few c.args.ground c.requires.ground c.args.node.now c.args.row
+    (first c.args.ground.places.now (table_of c.args.node.now) c.args.row + family_of c.args.node.now) c.requires.row refl c.requires.live
+
+pub number_at-number-requires-clause-family : goal.number_at-number-requires-clause-family
+number_at-number-requires-clause-family c =
+    family-few c.args.ground c.requires.ground c.args.node.now c.args.row
+    (first c.args.ground.places.now (table_of c.args.node.now) c.args.row + family_of c.args.node.now) c.requires.row refl c.requires.live
+
+pub link_next-requires-clause-number : goal.link_next-requires-clause-number
+link_next-requires-clause-number c =
+    number-within c.args.ground c.requires.ground c.args.node.now c.args.row c.number_at-number.result c.requires.row
+    c.number_at-number.ensures c.requires.live
+
+pub link_next-requires-clause-sources : goal.link_next-requires-clause-sources
+link_next-requires-clause-sources c =
+    let sources = c.gather.new.sources.items in
+    let size = c.args.ground.places.now.size in
+    subst (λ ns. All (λ n. n < size) ns) (sym c.as_slice.ensures.value)
+    (All-from_recursion (λ n. n < size) sources
+    (at-within c.args.ground c.requires.ground sources (sources_of c.args.ground.inputs.book.now.sheet c.args.node.now) c.in_ok-gather.ensures))
+
+pub link_next-requires-clause-size : goal.link_next-requires-clause-size
+link_next-requires-clause-size c = c.requires.linked.size
+
+pub returns : goal.returns
+returns c =
+    on-ok (IsLinkedNext c.number_at-number.result c.as_slice.result.now c.args.links.now c.link_next.new.links)
+    (AreLinkedTo c.args.ground c.link_next.new.links (next (turn_of c.args.node.now c.args.row))) c.link_next.result
+    (λ joined. linked-gathered c.args.ground c.requires.ground c.args.links.now c.link_next.new.links c.args.node.now c.args.row
+    c.number_at-number.result c.gather.new.sources.items c.requires.row c.number_at-number.ensures c.requires.live
+    c.in_ok-gather.ensures c.requires.linked
+    (subst (λ ns. IsLinkedNext c.number_at-number.result ns c.args.links.now c.link_next.new.links) c.as_slice.ensures.value joined))
+    c.link_next.ensures

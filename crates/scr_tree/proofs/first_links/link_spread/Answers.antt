@@ -1,0 +1,42 @@
+use Rattle.std.proofs.Common.{◌≡◌, ◌+◌, ◌<◌, [], ◌∷◌, Some, slice_get, refl, sym, subst, ◌∙◌}
+use Rattle.std.proofs.lemmas.List.Elements.{All-from_recursion}
+use Rattle.scr_numbers.specs.Ranges.{first}
+use Rattle.scr_numbers.specs.declared.table.Table.TheVariants as tables
+use Rattle.scr_sheet.specs.declared.sheet.BalanceSheet.{BalanceSheet}
+use Rattle.scr_tree.specs.First.{AreLinkedTo, IsLinkedNext}
+use Rattle.scr_tree.specs.Turns.{turn}
+use Rattle.scr_tree.proofs.FirstRows.{on-ok}
+use Rattle.scr_tree.proofs.Linking.{spread-free, spread-linked}
+use Rattle.scr_tree.proofs.RowsMade.{five-in, total-in}
+use Rattle.scr_tree.proofs.first_links.link_spread.Goals as goal
+
+pub returns-then-not-has_class : goal.returns-then-not-has_class
+returns-then-not-has_class c =
+    let at = subst (λ (s : BalanceSheet). slice_get s.securities c.args.k ≡ Some c.at-position.result.now) c.sheet.ensures.sheet c.at-position.ensures in
+    spread-free c.args.ground c.requires.ground c.args.k c.at-position.result.now at
+    (first c.args.ground.places.now tables.Security c.args.k) refl (sym c.has_class.ensures ∙ c.if-not-has_class.true)
+    c.args.links.now c.requires.linked
+
+pub link_next-requires-clause-number : goal.link_next-requires-clause-number
+link_next-requires-clause-number c =
+    let at = subst (λ (s : BalanceSheet). slice_get s.securities c.args.k ≡ Some c.at-position.result.now) c.sheet.ensures.sheet c.at-position.ensures in
+    five-in c.args.ground c.requires.ground c.requires.ground.form c.args.k c.at-position.result.now at c.first-first.result c.first-first.ensures.first
+
+pub link_next-requires-clause-sources : goal.link_next-requires-clause-sources
+link_next-requires-clause-sources c =
+    let at = subst (λ (s : BalanceSheet). slice_get s.securities c.args.k ≡ Some c.at-position.result.now) c.sheet.ensures.sheet c.at-position.ensures in
+    All-from_recursion (λ source. source < c.args.ground.places.now.size) (c.first-first.result ∷ [])
+    (total-in c.args.ground c.requires.ground c.requires.ground.form c.args.k c.at-position.result.now at c.first-first.result c.first-first.ensures.first, tt)
+
+pub link_next-requires-clause-size : goal.link_next-requires-clause-size
+link_next-requires-clause-size c = c.requires.linked.size
+
+pub returns : goal.returns
+returns c =
+    let at = subst (λ (s : BalanceSheet). slice_get s.securities c.args.k ≡ Some c.at-position.result.now) c.sheet.ensures.sheet c.at-position.ensures in
+    let first = c.first-first.result in
+    on-ok (IsLinkedNext (first + 5) (first ∷ []) c.args.links.now c.link_next.new.links)
+    (AreLinkedTo c.args.ground c.link_next.new.links (turn 3 (c.args.k + 1) 0)) c.link_next.result
+    (spread-linked c.args.ground c.requires.ground c.args.k c.at-position.result.now at first c.first-first.ensures.first
+    (sym c.has_class.ensures ∙ c.if-not-has_class.false) c.args.links.now c.link_next.new.links c.requires.linked)
+    c.link_next.ensures

@@ -1,0 +1,100 @@
+-- The figures of rows, written row by row at their numbers (this project's own).
+use Rattle.std.specs.Prelude.{◌≡◌, ◌⊎◌, ℕ, ◌+◌, ◌<◌, ◌≤◌, ◌++◌, Bool, true, false, List, [], ◌∷◌, Contains, Some, length, nat_eq, nat_le, slice_get}
+use Rattle.std.specs.List.{IsDistinct}
+use Rattle.scr_num.specs.declared.span.Span.{Span}
+use Rattle.scr_pieces.specs.Rows.{Row, rows_of, times_row}
+use Rattle.scr_pieces.specs.declared.rows.Part.{Part}
+use Rattle.scr_sheet.specs.declared.sheet.BalanceSheet.{BalanceSheet}
+use Rattle.scr_nodes.specs.Live.{is_live}
+use Rattle.scr_nodes.specs.declared.node.Node.{Node}
+use Rattle.scr_nodes.specs.declared.node.Node.TheVariants as nodes
+use Rattle.scr_nodes.specs.declared.node.OfSecurity.TheVariants as of_securities
+use Rattle.scr_figures.specs.Numbers.{StandsAt}
+use Rattle.scr_numbers.specs.declared.table.Table.{Table}
+use Rattle.scr_numbers.specs.declared.table.Table.TheVariants as tables
+use Rattle.scr_tree.specs.Figures.{AreKnownOf, HasFigure}
+use Rattle.scr_tree.specs.FirstDues.{is_total}
+use Rattle.scr_tree.specs.RowSpans.{IsOfRow}
+use Rattle.scr_tree.specs.declared.figures.Figure.{Figure}
+use Rattle.scr_tree.specs.declared.making.Ground.{Ground}
+
+-- the figure is reckoned with the others of its row
+abbrev pub is_by_row : Node → Bool
+is_by_row (nodes.Security name of_securities.Total) = false
+is_by_row (nodes.Security name what) = true
+is_by_row (nodes.Liability name what) = true
+is_by_row (nodes.Group name what) = true
+is_by_row node = false
+
+-- the rows that lie in the pieces of these parts
+abbrev pub rows_among : List Part → List Row
+rows_among [] = []
+rows_among (part ∷ parts) = rows_of part.pieces.items ++ rows_among parts
+
+-- the figure is of one of these rows
+pub record IsOfRows (sheet : BalanceSheet) (rows : List Row) (node : Node) : Type 0 where
+  pub one : Row
+  pub among : 0 < times_row one rows
+  pub of_row : IsOfRow sheet one.sort one.place node
+
+abbrev pub plain_of : Span → Figure
+plain_of span = record { span = span; close = false }
+
+-- these spans stand at the numbers from one on, as figures that rest on no choice
+pub record IsWrittenAt (first : ℕ) (spans : List Span) (before now : List Figure) : Type 0 where
+  pub count : length now ≡ length before
+  pub there : (j : ℕ) (span : Span) → slice_get spans j ≡ Some span → slice_get now (first + j) ≡ Some (plain_of span)
+  pub others : (number : ℕ) → (number < first) ⊎ (first + length spans ≤ number) → slice_get now number ≡ slice_get before number
+
+-- the figures of these rows that live are there, and what was there is there still
+pub record IsWrittenOf (ground : Ground) (rows : List Row) (before now : List Figure) : Type 0 where
+  pub count : length now ≡ length before
+  pub each : (node : Node) (number : ℕ) → StandsAt ground.inputs.book.now.sheet ground.places.now node number
+      → IsOfRows ground.inputs.book.now.sheet rows node
+      → HasFigure ground.inputs.factors.now ground.inputs.book.now.sheet now number node
+  pub kept : (node : Node) (number : ℕ) → StandsAt ground.inputs.book.now.sheet ground.places.now node number
+      → is_live ground.inputs.book.now.sheet node ≡ true
+      → HasFigure ground.inputs.factors.now ground.inputs.book.now.sheet before number node
+      → HasFigure ground.inputs.factors.now ground.inputs.book.now.sheet now number node
+
+-- There is a place for each figure. Those that are reckoned with their rows are there, and the totals of funds and securities.
+pub record AreRowsThere (ground : Ground) (figures : List Figure) : Type 0 where
+  pub count : length figures ≡ ground.places.now.size
+  pub rows : AreKnownOf ground.inputs.factors.now ground.inputs.book.now.sheet (StandsAt ground.inputs.book.now.sheet ground.places.now) figures
+      (λ node. is_by_row node ≡ true)
+  pub totals : AreKnownOf ground.inputs.factors.now ground.inputs.book.now.sheet (StandsAt ground.inputs.book.now.sheet ground.places.now) figures
+      (λ node. is_total node ≡ true)
+
+-- ---- all other figures
+
+-- the same told by the figure's place
+abbrev pub in_row : Table → ℕ → Bool
+in_row tables.Security family = nat_le 1 family
+in_row tables.Liability family = true
+in_row tables.Group family = true
+in_row table family = false
+
+-- so of totals
+abbrev pub in_total : Table → ℕ → Bool
+in_total tables.Fund family = true
+in_total tables.Security family = nat_eq family 0
+in_total table family = false
+
+-- one lives at the number
+pub record IsRestAt (ground : Ground) (number : ℕ) : Type 0 where
+  pub node : Node
+  pub at : StandsAt ground.inputs.book.now.sheet ground.places.now node number
+  pub live : is_live ground.inputs.book.now.sheet node ≡ true
+  pub rest : is_by_row node ≡ false
+
+-- Just numbers below the end at which one lives are listed, each once, and all of them but for totals, which are there before.
+pub record AreRestBelow (ground : Ground) (end : ℕ) (numbers : List ℕ) : Type 0 where
+  pub once : IsDistinct nat_eq numbers
+  pub each : (number : ℕ) → Contains numbers number → (number < end) × IsRestAt ground number
+  pub all : (number : ℕ) → number < end → (rest : IsRestAt ground number) → is_total rest.node ≡ false → Contains numbers number
+
+-- so of all numbers
+pub record AreAllRest (ground : Ground) (numbers : List ℕ) : Type 0 where
+  pub once : IsDistinct nat_eq numbers
+  pub each : (number : ℕ) → Contains numbers number → IsRestAt ground number
+  pub all : (number : ℕ) → (rest : IsRestAt ground number) → is_total rest.node ≡ false → Contains numbers number
