@@ -54,7 +54,7 @@ module _ (what : Earlier) (sheet : BalanceSheet) (fits : FitsIn what sheet) (bef
 
   module _ (between : List (List ℕ)) (gone : (day : ℤ) → IsDay day → count_of day between + ends_now day what sheet ≡ count_of day before) where
     -- there is room for what comes back
-    pub then-fits : Valid (with_earlier what sheet) → (day : ℤ) → IsDay day → count_of day between + ends_then day what < 2 ^ 16
+    pub then-fits : Valid (with_earlier what sheet) → (day : ℤ) → IsDay day → count_of day between + ends_then day what < 2 ^ 32
     then-fits valid day in_day =
         let own = are.counted day in_day in
         let out = gone day in_day in

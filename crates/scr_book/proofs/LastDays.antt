@@ -66,7 +66,7 @@ lists-most day sheet valid =
 
 -- there is room for one more list where one was taken away
 pub has_room : (sheet : BalanceSheet) (before between : List (List ℕ)) (old new : Option Day) → Valid sheet → AreDaysOf sheet before → ((day : ℤ) → IsDay day → count_of day between + ends_on day old ≡ count_of day before)
-    → (day : ℤ) → IsDay day → count_of day between + ends_on day new < 2 ^ 16
+    → (day : ℤ) → IsDay day → count_of day between + ends_on day new < 2 ^ 32
 has_room sheet before between old new valid are moved day in_day =
     let out = moved day in_day in
     let own = are.counted day in_day in

@@ -52,7 +52,7 @@ fn take_security(days: &mut DayTally, position: Option<&Position>)
 fn add_security(days: &mut DayTally, position: Option<&Position>)
     requires formed { IfSome (option_copied position) IsSecurity }
     requires fits { (day : ℤ) → IsDay day
-        → count_of day days.old + option_map_or (security_ends day) (option_copied position) 0 < 2 ^ 16 }
+        → count_of day days.old + option_map_or (security_ends day) (option_copied position) 0 < 2 ^ 32 }
     ensures { (day : ℤ) → IsDay day
         → count_of day days.new ≡ count_of day days.old + option_map_or (security_ends day) (option_copied position.entry) 0 }
 {
@@ -78,7 +78,7 @@ fn take_liability(days: &mut DayTally, liability: Option<&Liability>)
 fn add_liability(days: &mut DayTally, liability: Option<&Liability>)
     requires formed { IfSome (option_copied liability) IsLiability }
     requires fits { (day : ℤ) → IsDay day
-        → count_of day days.old + option_map_or (liability_ends day) (option_copied liability) 0 < 2 ^ 16 }
+        → count_of day days.old + option_map_or (liability_ends day) (option_copied liability) 0 < 2 ^ 32 }
     ensures { (day : ℤ) → IsDay day
         → count_of day days.new ≡ count_of day days.old + option_map_or (liability_ends day) (option_copied liability.entry) 0 }
 {
@@ -108,7 +108,7 @@ pub(crate) fn take_projected(
 fn add_projected(days: &mut DayTally, flows: &LiabilityFlows, projections: &[Projection])
     requires on_days { (projection : Projection) → IsProjected (flows_under projection flows.now) }
     requires fits { (day : ℤ) → IsDay day
-        → count_of day days.old + projections_ending day flows.now projections.now < 2 ^ 16 }
+        → count_of day days.old + projections_ending day flows.now projections.now < 2 ^ 32 }
     ensures { (day : ℤ) → IsDay day
         → count_of day days.new ≡ count_of day days.old + projections_ending day flows.now projections.now }
 {

@@ -8,7 +8,7 @@ use std::marker::Model;
 /// Counts by place. Contracts see the list of the counts.
 #[derive(Drop)]
 pub(crate) struct Counts {
-    counts: Vec<u16>,
+    counts: Vec<u32>,
     /// The last place whose count is not 0.
     last: Option<usize>,
 }
@@ -36,7 +36,7 @@ impl Counts {
     /// One more at a place.
     pub(crate) fn add(&mut self, place: usize)
         requires place { place < length self.old }
-        requires fits { count_at self.old place + 1 < 2 ^ 16 }
+        requires fits { count_at self.old place + 1 < 2 ^ 32 }
         ensures { self.new ≡ slice_set self.old place (count_at self.old place + 1) }
     {
         self.counts[place] += 1;
@@ -69,7 +69,7 @@ impl Counts {
 }
 
 /// The last place whose count is not 0, where those from `end` on are 0.
-fn last_below(counts: &[u16], end: usize) -> Option<usize>
+fn last_below(counts: &[u32], end: usize) -> Option<usize>
     requires within { end ≤ length counts.now }
     requires none { (place : ℕ) → end ≤ place → count_at counts.now place ≡ 0 }
     ensures { IsLastPlace counts.now result }

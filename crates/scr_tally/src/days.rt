@@ -48,10 +48,10 @@ impl DayTally {
         Ok(DayTally { blocks })
     }
 
-    /// Counts a list with this last day; one without payments ends on no day. On each day fewer than 65,536 may end.
+    /// Counts a list with this last day; one without payments ends on no day.
     pub fn add(&mut self, last: Option<Day>)
         requires day { IsDayOrNone last }
-        requires fits { (day : ℤ) → IsDay day → count_of day self.old + ends_on day last < 2 ^ 16 }
+        requires fits { (day : ℤ) → IsDay day → count_of day self.old + ends_on day last < 2 ^ 32 }
         ensures { (day : ℤ) → IsDay day → count_of day self.new ≡ count_of day self.old + ends_on day last }
     {
         if let Some(day) = last {
