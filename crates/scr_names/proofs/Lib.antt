@@ -1,3 +1,4 @@
+pub mod Apart
 pub mod NameBytes
 pub mod Leading
 pub mod TableRows

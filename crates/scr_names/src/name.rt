@@ -3,7 +3,7 @@ ghost use Rattle.std.specs.Prelude.{◌≡◌, ℕ, ◌≤◌, List, [], ◌∷�
 ghost use Rattle.std.specs.Prelude.{if◌then◌else◌, nat_eq, refl};
 ghost use Rattle.std.specs.Ordering.{nat_cmp};
 ghost use Rattle.std.specs.Cmp.{on_equiv, on_total, on_po, on_per, partial_equiv_from_equiv};
-ghost use Rattle.std.specs.Cmp.Lexicographic.{slice_cmp, nat_list_eq_equiv, nat_list_cmp_total};
+ghost use Rattle.std.specs.Cmp.Lexicographic.{pointwise, slice_cmp, nat_list_eq_equiv, nat_list_cmp_total};
 ghost use Rattle.std.specs.Cmp.Lexicographic.{texts_po, texts_ties};
 ghost use Rattle.std.specs.Cmp.Rules.{hashing};
 ghost use Rattle.std.proofs.Common.{rules};
@@ -13,6 +13,7 @@ ghost use Rattle.scr_names.specs.Names.{is_name, is_name_byte, begins_name, lead
 use std::cmp::Ordering;
 use std::hash::{Hash, Hasher};
 use std::marker::Model;
+use std::simd::prelude::*;
 
 /// The most bytes that a name has.
 const MAX_LEN: usize = 32;
@@ -123,8 +124,17 @@ impl PartialEq for Name {
     #[inline(always)]
     fn eq(&self, other: &Self) -> bool {
         // The bytes behind the end are 0, so all 32 are compared at once.
-        self.len == other.len && self.cells == other.cells
+        self.len == other.len && are_same(&self.cells, &other.cells)
     }
+}
+
+// All places have the same bytes.
+#[inline(always)]
+fn are_same(cells: &[u8; 32], others: &[u8; 32]) -> bool
+    ensures { result ≡ pointwise nat_eq cells.now others.now }
+{
+    let apart = u8x32::from_array(*cells).simd_ne(u8x32::from_array(*others));
+    apart.to_bitmask() == 0
 }
 
 impl Eq for Name {

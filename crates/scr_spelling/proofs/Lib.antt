@@ -1,4 +1,5 @@
 pub mod Decimals
+pub mod DigitGroups
 pub mod FormLemmas
 pub mod PlainTexts
 pub mod Spelled

@@ -1,11 +1,13 @@
 //! How numbers are read and written.
-ghost use Rattle.std.specs.Prelude.{◌≡◌, ◌++◌, ◌^◌, ◌<◌, ◌≤◌, length, IfSome, OnOk, unsigned_abs, true};
+ghost use Rattle.std.specs.Prelude.{◌≡◌, ℕ, ◌++◌, ◌^◌, ◌<◌, ◌≤◌, length, map, slice_index, take, IfSome, OnOk, unsigned_abs, true};
 ghost use Rattle.std.specs.Char.{is_ascii_digit};
 ghost use Rattle.std.specs.List.{list_all, take_while};
+ghost use Rattle.std.specs.Simd.Lanes.{mask_l};
 ghost use Rattle.scr_spelling.specs.Numbers as spelled;
 ghost use Rattle.scr_spelling.specs.Texts.{number_text};
 
 use std::alloc::{AllocError as NoMemory, Global};
+use std::simd::prelude::*;
 
 /// The most digits of a number.
 const MAX_DIGITS: usize = 18;
@@ -82,13 +84,74 @@ fn leading_digits(text: &[u8]) -> (u64, usize)
     ensures small { result.0 < 10 ^ 18 }
     ensures count { result.1 ≡ length (take_while is_ascii_digit text.now) }
 {
-    let mut value = 0;
-    let mut count = 0;
+    let (mut value, mut count) = front_digits(text);
     'digits: while count < text.len() && text[count].is_ascii_digit() {
         value = value * 10 + u64::from(text[count] - b'0');
         count += 1;
     }
     (value, count)
+}
+
+/// What the first eight bytes stand for, or the first four, and how many they are, where all are digits: so many are tested
+/// and reckoned together. None are read else.
+#[tactic(auto, using(crate::proofs::DigitGroups::all_eight, crate::proofs::DigitGroups::all_four, crate::proofs::DigitGroups::digit_in_front))]
+#[inline(always)]
+fn front_digits(text: &[u8]) -> (u64, usize)
+    ensures within { result.1 ≤ length text.now }
+    ensures value { result.0 ≡ spelled.decimal_value (take result.1 text.now) }
+    ensures small { result.0 < 10 ^ result.1 }
+    ensures digits { (k : ℕ) → k < result.1 → is_ascii_digit (slice_index text.now k) ≡ true }
+{
+    if text.len() < 8 {
+        return (0, 0);
+    }
+    let mask = digits(u8x8::from_slice(text));
+    if mask == 255 {
+        (eight_value(text), 8)
+    } else if mask % 16 == 15 {
+        (four_value(text), 4)
+    } else {
+        (0, 0)
+    }
+}
+
+// A bit for each lane that has a digit.
+#[inline(always)]
+fn digits(lanes: u8x8) -> u64
+    ensures { result ≡ mask_l (map is_ascii_digit lanes) }
+{
+    (lanes - u8x8::splat(b'0'))
+        .simd_lt(u8x8::splat(10))
+        .to_bitmask()
+}
+
+// What the first eight bytes stand for, which are digits.
+#[tactic(auto, using(crate::proofs::DigitGroups::first_half, crate::proofs::DigitGroups::second_half, crate::proofs::DigitGroups::eight_is))]
+#[inline(always)]
+fn eight_value(text: &[u8]) -> u64
+    requires within { 8 ≤ length text.now }
+    requires digits { list_all is_ascii_digit (take 8 text.now) ≡ true }
+    ensures value { result ≡ spelled.decimal_value (take 8 text.now) }
+    ensures small { result < 10 ^ 8 }
+{
+    four_value(text) * 10_000 + four_value(&text[4..])
+}
+
+// What the first four bytes stand for, which are digits.
+#[tactic(auto, using(crate::proofs::DigitGroups::four_read))]
+#[inline(always)]
+fn four_value(text: &[u8]) -> u64
+    requires within { 4 ≤ length text.now }
+    requires digits { list_all is_ascii_digit (take 4 text.now) ≡ true }
+    ensures value { result ≡ spelled.decimal_value (take 4 text.now) }
+    ensures small { result < 10 ^ 4 }
+{
+    let codes = u64::from(text[0]) * 1000
+        + u64::from(text[1]) * 100
+        + u64::from(text[2]) * 10
+        + u64::from(text[3]);
+    // The code of `0`, in each place.
+    codes - 48 * 1111
 }
 
 /// Appends the number without leading zeros.
