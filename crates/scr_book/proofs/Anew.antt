@@ -1,36 +1,18 @@
 -- The graph of the funds made anew from the rows of a sheet.
-use Rattle.std.proofs.Common.{◌≡◌, ◌⊎◌, ℕ, ◌||◌, true, false, cond, IsTrue, List, [], ◌∷◌, map, Contains, Option, Some, None, is_some, refl, sym, ap, subst, ◌∙◌, inl, inr}
+use Rattle.std.proofs.Common.{◌≡◌, ◌⊎◌, ℕ, false, cond, List, [], ◌∷◌, map, Contains, Option, Some, None, is_some, refl, sym, ap, subst, ◌∙◌, inl, inr}
 use Rattle.std.specs.List.{AllByRecursion, IsDistinct}
 use Rattle.std.specs.Option.{option_map_or}
 use Rattle.scr_funds.proofs.Members.{IsMember-from_Contains}
 use Rattle.scr_funds.specs.Chains.{IsAcyclic, IsChain, LeadsTo}
-use Rattle.scr_graph.specs.Graph.{Graph, entered_in, components_under, components_after}
+use Rattle.scr_graph.specs.Graph.{Graph, components_under, components_after}
 use Rattle.scr_names.specs.Names.{same_name}
 use Rattle.scr_names.specs.Tables.{row_of, has_row}
-use Rattle.scr_names.proofs.TableRows.{IsFresh, All-map, All-both, same_or_other, same_name-is, same_name-itself, same_name-flip, row_of-here, row_of-later}
+use Rattle.scr_names.proofs.TableRows.{IsFresh, All-both, same_or_other, same_name-is, same_name-itself, same_name-flip, row_of-here, row_of-later}
 use Rattle.scr_sheet.proofs.Holds.{distinct-funds}
-use Rattle.scr_sheet.specs.BalanceSheet.{position_name, stake_name, components_of}
-use Rattle.scr_sheet.specs.Validity.{Valid, IsHeld}
+use Rattle.scr_sheet.specs.BalanceSheet.{stake_name, components_of}
+use Rattle.scr_sheet.specs.Validity.{Valid}
 use Rattle.scr_sheet.specs.declared.sheet.BalanceSheet.{BalanceSheet}
 use Rattle.scr_sheet.specs.declared.rows.Stake.{Stake}
-use Rattle.scr_book.proofs.Holders.{either_true, row_entered, others_entered, name_entered}
-
--- ---- names entered one after another
-
--- whatever holds on to the names of the rest then holds those of all rows; nothing else has changed
-pub record HaveEntered {Row : Type 0} (name_of : Row → List ℕ) (old now : Graph) (rest rows : List Row) : Type 0 where
-  pub all : (later : Graph) → ((x : List ℕ) → entered_in now x ≡ true → entered_in later x ≡ true) → AllByRecursion (λ row. IsTrue (entered_in later (name_of row))) rest
-      → AllByRecursion (λ row. IsTrue (entered_in later (name_of row))) rows
-  pub others : (x : List ℕ) → entered_in old x ≡ true → entered_in now x ≡ true
-  pub components : components_under now ≡ components_under old
-
-pub entered-next : {Row : Type 0} (name_of : Row → List ℕ) (old now after : Graph) (row : Row) (rest rows : List Row) → HaveEntered name_of old now (row ∷ rest) rows
-    → ((x : List ℕ) → entered_in after x ≡ (same_name x (name_of row) || entered_in now x)) → components_under after ≡ components_under now → HaveEntered name_of old after rest rows
-entered-next name_of old now after row rest rows so_far entered same = record {
-  all = λ later stays left. so_far.all later (λ x e. stays x (others_entered (name_of row) now after entered x e)) (stays (name_of row) (name_entered (name_of row) now after entered), left);
-  others = λ x e. others_entered (name_of row) now after entered x (so_far.others x e);
-  components = same ∙ so_far.components;
-}
 
 -- ---- components given to one fund after another
 
@@ -114,15 +96,3 @@ module _ (now : Graph) (stake : Stake) (rest funds : List Stake) (so_far : HaveP
 
 pub sheet_funds_apart : (sheet : BalanceSheet) → Valid sheet → IsDistinct same_name (map stake_name sheet.funds)
 sheet_funds_apart sheet valid = distinct-funds sheet valid.named_once
-
--- the components of a valid sheet are securities and funds, and so were entered
-pub sheet_components : (sheet : BalanceSheet) (graph : Graph) → Valid sheet → AllByRecursion (λ p. IsTrue (entered_in graph p.security.name)) sheet.securities → AllByRecursion (λ s. IsTrue (entered_in graph s.fund.name)) sheet.funds
-    → AllByRecursion (λ s. AllByRecursion (λ c. IsTrue (entered_in graph c.0)) s.fund.components) sheet.funds
-sheet_components sheet graph valid securities funds =
-    All-map (λ s. AllByRecursion (λ c. IsHeld sheet c.0) s.fund.components) (λ s. AllByRecursion (λ c. IsTrue (entered_in graph c.0)) s.fund.components) sheet.funds
-    (λ s held. All-map (λ c. IsHeld sheet c.0) (λ c. IsTrue (entered_in graph c.0)) s.fund.components (λ c known. entered c.0 (either_true (has_row position_name c.0 sheet.securities) (has_row stake_name c.0 sheet.funds) known)) held)
-    valid.known.components
-  where
-    entered : (name : List ℕ) → (has_row position_name name sheet.securities ≡ true) ⊎ (has_row stake_name name sheet.funds ≡ true) → IsTrue (entered_in graph name)
-    entered name (inl has) = row_entered position_name graph name sheet.securities has securities
-    entered name (inr has) = row_entered stake_name graph name sheet.funds has funds

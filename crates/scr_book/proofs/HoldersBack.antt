@@ -1,20 +1,19 @@
 -- How the graph of the funds moves back.
-use Rattle.std.proofs.Common.{◌≡◌, ℕ, zero, suc, Bool, true, false, cond, IsTrue, List, [], ◌∷◌, map, insert, Option, Some, None, sym, ap, subst, ◌∙◌}
-use Rattle.std.specs.List.{AllByRecursion, IsDistinct}
+use Rattle.std.proofs.Common.{◌≡◌, ℕ, zero, suc, Bool, true, false, cond, List, [], ◌∷◌, map, insert, Option, Some, None, sym, ap, subst, ◌∙◌}
+use Rattle.std.specs.List.{IsDistinct}
 use Rattle.std.specs.Option.{option_map_or}
 use Rattle.scr_funds.specs.Chains.{LeadsTo}
-use Rattle.scr_graph.specs.Graph.{Graph, entered_in, components_under, components_after}
+use Rattle.scr_graph.specs.Graph.{Graph, components_under, components_after}
 use Rattle.scr_names.specs.Names.{same_name}
 use Rattle.scr_names.specs.Pasts.{restored, HasPlace}
 use Rattle.scr_names.specs.Tables.{row_of, has_row, with_row}
 use Rattle.scr_names.specs.declared.past.Past.{Past}
 use Rattle.scr_names.specs.declared.past.Past.TheVariants as pasts
-use Rattle.scr_names.proofs.TableRows.{All-map, All-with_row, All-without, same_or_other, same_name-is, same_name-itself, row_of-here, row_of-later, row_of-with_row_own, row_of-with_row_other}
-use Rattle.scr_sheet.specs.BalanceSheet.{position_name, stake_name, components_of}
+use Rattle.scr_names.proofs.TableRows.{same_or_other, same_name-is, same_name-itself, row_of-here, row_of-later, row_of-with_row_own, row_of-with_row_other}
+use Rattle.scr_sheet.specs.BalanceSheet.{stake_name, components_of}
 use Rattle.scr_sheet.specs.Earlier.{with_earlier, FitsIn}
 use Rattle.scr_sheet.specs.Validity.{Valid}
 use Rattle.scr_sheet.specs.declared.earlier.Earlier.TheVariants as earlier
-use Rattle.scr_sheet.specs.declared.rows.Position.{Position}
 use Rattle.scr_sheet.specs.declared.rows.Stake.{Stake}
 use Rattle.scr_sheet.specs.declared.sheet.BalanceSheet.{BalanceSheet}
 use Rattle.scr_sheet.proofs.Holds.{distinct-funds}
@@ -46,18 +45,6 @@ module _ {Row : Type 0} (name_of : Row → List ℕ) where
       (λ e. row_of-here name_of name first (insert rows k row) e ∙ sym (row_of-here name_of name first rows e))
       (λ e. row_of-later name_of name first (insert rows k row) e ∙ found-other name row rows k other ∙ sym (row_of-later name_of name first rows e))
 
-  -- what holds of each row and of one that comes back holds of all then
-  all-inserted : (P : Row → Type 0) (row : Row) (rows : List Row) (k : ℕ) → P row → AllByRecursion P rows → AllByRecursion P (insert rows k row)
-  all-inserted P row [] zero own all = (own, tt)
-  all-inserted P row [] (suc k) own all = (own, tt)
-  all-inserted P row (first ∷ rows) zero own all = (own, all)
-  all-inserted P row (first ∷ rows) (suc k) own all = (all.0, all-inserted P row rows k own all.1)
-
-  all-restored : (P : Row → Type 0) (Q : List ℕ → Type 0) → ((row : Row) → Q (name_of row) → P row) → (past : Past Row) (rows : List Row) → Q (name_in name_of past) → AllByRecursion P rows → AllByRecursion P (restored name_of past rows)
-  all-restored P Q holds (pasts.New name) rows own all = All-without name_of P name rows all
-  all-restored P Q holds (pasts.Replaced row) rows own all = All-with_row name_of P row rows (holds row own) all
-  all-restored P Q holds (pasts.Dropped k row room) rows own all = all-inserted P row rows k (holds row own) all
-
 -- the names of a fund's components
 abbrev names_in : Stake → List (List ℕ)
 names_in stake = map (λ c. c.0) stake.fund.components
@@ -87,14 +74,6 @@ restored_is (pasts.Dropped k row room) funds under is apart place = λ i x. at x
         (λ e. ap (λ b. cond b (names_in row) (under x)) e ∙ (λ i. is i x) ∙ sym (ap found (found-other stake_name x row funds k e)))
 
 module _ (sheet : BalanceSheet) (graph : Graph) (is : IsGraphOf sheet graph) where
-  -- a security that comes back was entered
-  pub graph-security_back : (past : Past Position) → entered_in graph (name_in position_name past) ≡ true → IsGraphOf (with_earlier (earlier.Securities past) sheet) graph
-  graph-security_back past own = record {
-    components = is.components;
-    securities = all-restored position_name (λ p. IsTrue (entered_in graph p.security.name)) (λ n. IsTrue (entered_in graph n)) (λ p e. e) past sheet.securities own is.securities;
-    funds = is.funds;
-  }
-
   module _ (past : Past Stake) (fits : FitsIn (earlier.Funds past) sheet) (valid : Valid sheet) where
     after : components_after (name_in stake_name past) (components_in past) graph ≡ components_of (restored stake_name past sheet.funds)
     after = restored_is past sheet.funds (components_under graph) is.components (distinct-funds sheet valid.named_once) fits
@@ -103,12 +82,5 @@ module _ (sheet : BalanceSheet) (graph : Graph) (is : IsGraphOf sheet graph) whe
     pub apart-back : Valid (with_earlier (earlier.Funds past) sheet) → ¬ LeadsTo (components_after (name_in stake_name past) (components_in past) graph) (name_in stake_name past) (name_in stake_name past)
     apart-back back = subst (λ f. ¬ LeadsTo f (name_in stake_name past) (name_in stake_name past)) (sym after) (back.acyclic (name_in stake_name past))
 
-    pub graph-fund_back : (now : Graph) → components_under now ≡ components_after (name_in stake_name past) (components_in past) graph → entered_in graph (name_in stake_name past) ≡ true → entered_in now ≡ entered_in graph
-        → IsGraphOf (with_earlier (earlier.Funds past) sheet) now
-    graph-fund_back now under own same = record {
-      components = under ∙ after;
-      securities = All-map (λ p. IsTrue (entered_in graph p.security.name)) (λ p. IsTrue (entered_in now p.security.name)) sheet.securities (λ p e. (λ i. same i p.security.name) ∙ e) is.securities;
-      funds =
-          all-restored stake_name (λ s. IsTrue (entered_in now s.fund.name)) (λ n. IsTrue (entered_in now n)) (λ s e. e) past sheet.funds ((λ i. same i (name_in stake_name past)) ∙ own)
-          (All-map (λ s. IsTrue (entered_in graph s.fund.name)) (λ s. IsTrue (entered_in now s.fund.name)) sheet.funds (λ s e. (λ i. same i s.fund.name) ∙ e) is.funds);
-    }
+    pub graph-fund_back : (now : Graph) → components_under now ≡ components_after (name_in stake_name past) (components_in past) graph → IsGraphOf (with_earlier (earlier.Funds past) sheet) now
+    graph-fund_back now under = record { components = under ∙ after }

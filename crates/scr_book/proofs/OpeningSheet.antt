@@ -25,5 +25,5 @@ kept-opening book is none uncounted empty =
       valid = subst Valid (sym is) Valid-opening;
       sums = subst (λ sheet. AreSumsOf sheet book.sums) (sym is) (subst (AreSumsOf opening) (sym none) sums-opening);
       days = subst (λ sheet. AreDaysOf sheet book.days) (sym is) (days-opening opening book.days refl refl uncounted);
-      graph = λ fresh. subst (λ sheet. IsGraphOf sheet book.graph) (sym is) (record { components = λ i x. empty x i; securities = tt; funds = tt });
+      graph = λ fresh. subst (λ sheet. IsGraphOf sheet book.graph) (sym is) (record { components = λ i x. empty x i });
     }

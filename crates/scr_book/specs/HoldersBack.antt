@@ -1,9 +1,9 @@
 -- What the graph of the funds keeps of a row, and whether it can be moved back by it (this project's own).
 use Rattle.std.specs.Prelude.{Bool, true, false, Option, Some, None}
-use Rattle.scr_graph.specs.Graph.{Graph, entered_in}
+use Rattle.scr_graph.specs.Graph.{Graph}
 use Rattle.scr_graph.specs.KeptNumbers.{AreNumbersOf, stands_for}
 use Rattle.scr_graph.specs.declared.kept.KeptComponents.{KeptComponents}
-use Rattle.scr_sheet.specs.BalanceSheet.{position_name, stake_name}
+use Rattle.scr_sheet.specs.BalanceSheet.{stake_name}
 use Rattle.scr_sheet.specs.declared.earlier.Earlier.{Earlier}
 use Rattle.scr_sheet.specs.declared.earlier.Earlier.TheVariants as earlier
 use Rattle.scr_book.specs.Pasts.{name_in, components_in}
@@ -15,9 +15,8 @@ IsKeptOf (earlier.Funds past) None graph = ⊥
 IsKeptOf other None graph = Unit {0}
 IsKeptOf other (Some kept) graph = ⊥
 
--- a security that comes back is still entered, and what was kept of a fund are the numbers of its components
+-- what was kept of a fund are the numbers of its components; nothing else moves the graph
 abbrev pub moves_back : Earlier → Option KeptComponents → Graph → Bool
-moves_back (earlier.Securities past) kept graph = entered_in graph (name_in position_name past)
 moves_back (earlier.Funds past) (Some kept) graph = stands_for kept (name_in stake_name past) (components_in past) graph
 moves_back (earlier.Funds past) None graph = false
 moves_back other kept graph = true

@@ -1,9 +1,9 @@
 //! The graph of the funds: made anew from the rows, and moved back.
-ghost use Rattle.std.specs.Prelude.{◌≡◌, ◌||◌, ℕ, [], List, map, IsTrue, true, false, not, IfOk, OnOk, OnErr};
-ghost use Rattle.std.specs.List.{AllByRecursion, IsDistinct};
+ghost use Rattle.std.specs.Prelude.{◌≡◌, ◌||◌, ℕ, [], List, map, true, false, not, IfOk, OnOk, OnErr};
+ghost use Rattle.std.specs.List.{IsDistinct};
 ghost use Rattle.scr_funds.specs.Chains.{IsAcyclic, LeadsTo};
 ghost use Rattle.scr_names.specs.Names.{same_name};
-ghost use Rattle.scr_graph.specs.Graph.{entered_in, components_under, components_after};
+ghost use Rattle.scr_graph.specs.Graph.{components_under, components_after};
 ghost use Rattle.scr_graph.specs.KeptNumbers.{stands_for};
 ghost use Rattle.scr_sheet.specs.BalanceSheet.{stake_name, components_of};
 ghost use Rattle.scr_sheet.specs.Earlier.{with_earlier, FitsIn};
@@ -15,7 +15,7 @@ ghost use Rattle.scr_book.specs.Pasts.{name_in, components_in};
 use crate::pasts::{name_in, row_in};
 use crate::{BalanceSheet, Stake};
 use scr_graph::{FundGraph, KeptComponents};
-use scr_sheet::{Earlier, Past, Row, Rows};
+use scr_sheet::{Earlier, Past, Rows};
 use std::alloc::{AllocError as NoMemory, Global};
 
 /// The graph of the funds of a sheet.
@@ -24,8 +24,6 @@ pub(crate) fn graph_of(alloc: Global, sheet: &BalanceSheet) -> Result<FundGraph,
     ensures { IfOk result (IsGraphOf sheet.now) }
 {
     let mut graph = FundGraph::new(alloc)?;
-    enter(&mut graph, alloc, &sheet.securities)?;
-    enter(&mut graph, alloc, &sheet.funds)?;
     put(&mut graph, alloc, &sheet.funds)?;
     Ok(graph)
 }
@@ -84,8 +82,8 @@ pub(crate) fn put_back(
     !move_back(graph, sheet, earlier, kept)
 }
 
-// Moves the graph back and answers whether it is that of the sheet then. It is, as long as the names that come back are still
-// entered, and what was kept are their numbers.
+// Moves the graph back and answers whether it is that of the sheet then. It is, unless what was kept of a fund are not the
+// numbers of its components any more.
 fn move_back(
     graph: &mut FundGraph,
     sheet: &BalanceSheet,
@@ -100,7 +98,6 @@ fn move_back(
     ensures back { result ≡ true → IsGraphOf (with_earlier earlier.now sheet.now) graph.new }
 {
     match earlier {
-        Earlier::Securities(past) => graph.has(&name_in(past)),
         Earlier::Funds(past) => match kept {
             Some(kept) => put_fund_back(graph, past, kept),
             None => false,
@@ -116,8 +113,6 @@ fn put_fund_back(graph: &mut FundGraph, past: &Past<Stake>, kept: KeptComponents
     ensures told { result ≡ stands_for kept (name_in stake_name past.now) (components_in past.now) graph.old }
     ensures back { result ≡ true → components_under graph.new
         ≡ components_after (name_in stake_name past.now) (components_in past.now) graph.old }
-    ensures own { result ≡ true → entered_in graph.old (name_in stake_name past.now) ≡ true }
-    ensures entered { entered_in graph.new ≡ entered_in graph.old }
 {
     let components = match row_in(past) {
         Some(stake) => stake.fund.components.as_slice(),
@@ -126,30 +121,12 @@ fn put_fund_back(graph: &mut FundGraph, past: &Past<Stake>, kept: KeptComponents
     graph.put_back(&name_in(past), components, kept)
 }
 
-// Enters the name of each row.
-fn enter<R: Row>(graph: &mut FundGraph, alloc: Global, rows: &Rows<R>) -> Result<(), NoMemory>
-    ensures rows { OnOk result (
-        AllByRecursion (λ row. IsTrue (entered_in graph.new (R.name_of row))) rows.now) }
-    ensures others { OnOk result (
-        (x : List ℕ) → entered_in graph.old x ≡ true → entered_in graph.new x ≡ true) }
-    ensures components { OnOk result (components_under graph.new ≡ components_under graph.old) }
-{
-    for row in rows.iter() {
-        graph.enter(alloc, row.name())?;
-    }
-    Ok(())
-}
-
 // Gives each fund its components.
 fn put(graph: &mut FundGraph, alloc: Global, funds: &Rows<Stake>) -> Result<(), NoMemory>
     requires none { (x : List ℕ) → components_under graph.old x ≡ [] }
-    requires funds { AllByRecursion (λ s. IsTrue (entered_in graph.old s.fund.name)) funds.now }
-    requires components { AllByRecursion
-        (λ s. AllByRecursion (λ c. IsTrue (entered_in graph.old c.0)) s.fund.components) funds.now }
     requires acyclic { IsAcyclic (components_of funds.now) }
     requires apart { IsDistinct same_name (map stake_name funds.now) }
-    ensures components { OnOk result (components_under graph.new ≡ components_of funds.now) }
-    ensures entered { entered_in graph.new ≡ entered_in graph.old }
+    ensures { OnOk result (components_under graph.new ≡ components_of funds.now) }
 {
     for stake in funds.iter() {
         graph.put(

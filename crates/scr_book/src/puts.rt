@@ -206,7 +206,6 @@ impl Ledger {
             });
             return Ok(());
         }
-        self.graph.enter(alloc, *name)?;
         let security = Security {
             name: *name,
             class,
@@ -283,7 +282,6 @@ impl Ledger {
         let old = self.component_count(name);
         let held = self.sheet.fund_hold(name);
         refresh(&mut self.graph, self.is_graph_due, alloc, &self.sheet)?;
-        self.graph.enter(alloc, *name)?;
         self.graph.put(alloc, name, components.as_slice(), numbers)?;
         let fund = Fund {
             name: *name,

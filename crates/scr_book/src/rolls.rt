@@ -57,10 +57,10 @@ const FIRST: [usize; 1] = [0];
 /// The rolls of a book, by the table of their members, with the seats of its rows.
 #[derive(Drop)]
 pub(crate) struct Rolls {
-    securities: Seating,
-    funds: Seating,
-    liabilities: Seating,
-    groups: Seating,
+    securities: Seating<5>,
+    funds: Seating<1>,
+    liabilities: Seating<11>,
+    groups: Seating<1>,
     /// The numbers of the rolls of a group's securities.
     of_groups: Owners,
     /// The first numbers of the two rolls of a currency's securities: of all, and of those with payments.
@@ -462,8 +462,10 @@ impl Rolls {
 }
 
 // Rolls without members, each for a seat.
-fn seating(alloc: Global, seats: &[usize]) -> Result<Seating, NoMemory>
-    requires { (k : ℕ) → slice_index_or seats.now k 0 < 11 }
+fn seating<const N: usize>(alloc: Global, seats: &[usize]) -> Result<Seating<N>, NoMemory>
+    requires few { N ≤ 11 }
+    requires eleven { (k : ℕ) → slice_index_or seats.now k 0 < 11 }
+    requires width { (k : ℕ) → slice_index_or seats.now k 0 < N }
     ensures count { IfOk result (λ seating. length seating.rolls ≡ length seats.now) }
     ensures own { IfOk result (λ seating. (number : ℕ) → number < length seats.now
         → seat_of number seating.rolls ≡ slice_index_or seats.now number 0) }
@@ -476,7 +478,7 @@ fn seating(alloc: Global, seats: &[usize]) -> Result<Seating, NoMemory>
 }
 
 // The members of an owner's roll, or of the one after it; nobody where it has none.
-fn owned(seating: &Seating, number: Option<u32>, next: u32) -> &[Name]
+fn owned<const N: usize>(seating: &Seating<N>, number: Option<u32>, next: u32) -> &[Name]
     requires number { IfSome number (λ n. n + next < length seating.now.rolls) }
     requires few { length seating.now.rolls ≤ NOWHERE }
     ensures { result.now ≡ option_map_or (λ n. names_of (n + next) seating.now.rolls) number [] }
@@ -488,14 +490,15 @@ fn owned(seating: &Seating, number: Option<u32>, next: u32) -> &[Name]
 }
 
 // The first number of an owner's rolls, which are made where it has none.
-fn owned_number(
+fn owned_number<const N: usize>(
     alloc: Global,
-    seating: &mut Seating,
+    seating: &mut Seating<N>,
     owners: &mut Owners,
     owner: &Name,
     seats: &[usize],
 ) -> Result<u32, NoMemory>
-    requires { (k : ℕ) → slice_index_or seats.now k 0 < 11 }
+    requires eleven { (k : ℕ) → slice_index_or seats.now k 0 < 11 }
+    requires width { (k : ℕ) → slice_index_or seats.now k 0 < N }
     ensures gives { GivesNumber owner.now seats.now seating.old seating.new owners.old owners.new }
     ensures own { IfOk result (λ number. number_of owner.now owners.new ≡ Some number) }
 {
@@ -508,7 +511,7 @@ fn owned_number(
 }
 
 // The row of a name stands in this roll in its first seat.
-fn stand<R: Row>(seating: &mut Seating, rows: &Rows<R>, name: &Name, number: u32)
+fn stand<R: Row, const N: usize>(seating: &mut Seating<N>, rows: &Rows<R>, name: &Name, number: u32)
     requires seated { AwaitsSeats R.name_of name.now rows.now seating.old }
     requires there { has_row R.name_of name.now rows.now ≡ true }
     requires roll { IsFor seating.old.rolls 0 number }
@@ -529,7 +532,11 @@ fn stand<R: Row>(seating: &mut Seating, rows: &Rows<R>, name: &Name, number: u32
 }
 
 // The seats of the row of a name, if it is there.
-fn seats_at<R: Row>(seating: &Seating, rows: &Rows<R>, name: &Name) -> Option<Seats>
+fn seats_at<R: Row, const N: usize>(
+    seating: &Seating<N>,
+    rows: &Rows<R>,
+    name: &Name,
+) -> Option<Seats>
     requires { AreSeated (map R.name_of rows.now) seating.now }
     ensures { result ≡ (if has_row R.name_of name.now rows.now
         then Some (seats_of (map R.name_of rows.now) seating.now.seats name.now) else None) }

@@ -1,5 +1,5 @@
 -- The graph under its names and under its numbers.
-use Rattle.std.proofs.Common.{◌≡◌, ◌≢◌, ◌⊎◌, ℕ, ℤ, ◌<◌, ◌≤◌, true, false, cond, ◌||◌, IsTrue, List, [], ◌∷◌, ◌++◌, map, max, fold, length, get_or, Contains, Some, None, refl, sym, ap, subst, ◌∙◌, inl, inr, arith}
+use Rattle.std.proofs.Common.{◌≡◌, ◌≢◌, ◌⊎◌, ℕ, ℤ, ◌<◌, ◌≤◌, true, false, cond, ◌||◌, IsTrue, List, [], ◌∷◌, ◌++◌, map, max, fold, length, get_or, All, Contains, Some, None, refl, sym, ap, subst, ◌∙◌, inl, inr, arith}
 use Rattle.std.specs.List.{list_any, IsDistinct}
 use Rattle.std.proofs.lemmas.Bool.{cases_Bool, cases_eq, cases_lt, true≢false}
 use Rattle.std.proofs.lemmas.List.{get_or_append_left, get_or_past, get_or_default, get_or-set_other}
@@ -13,7 +13,7 @@ use Rattle.scr_funds.proofs.Naming.{leads_to_named, leads_to_of_named}
 use Rattle.scr_funds.proofs.NamedPaths.{no_cycle_named, cycle_named}
 use Rattle.scr_names.specs.Names.{same_name}
 use Rattle.scr_names.proofs.TableRows.{same_name-itself, same_name-is, same_or_other}
-use Rattle.scr_graph.specs.Graph.{Graph, number_in, entered_in, components_under, components_after, AreEntered, AreEnteredOr}
+use Rattle.scr_graph.specs.Graph.{Graph, number_in, entered_in, components_under, components_after, is_known}
 use Rattle.scr_graph.specs.GraphInside.{graph_of, IsNumbered}
 use Rattle.scr_graph.specs.declared.graph.FundGraph.TheInside.{Inside}
 use Rattle.scr_graph.proofs.Numbering.{at_all, map_same, map_undone, name-number, number-entered, number-new, number-name, number-kept, number-past}
@@ -29,17 +29,25 @@ sound-from_inside graph kept =
     let named = kept.named in
     record { distinct = kept.distinct; few = omega (arith, named); order = kept.order }
 
+-- each component was entered
+abbrev pub AreEntered : List (List ℕ × ℤ) → Graph → Type 0
+AreEntered components graph = All (λ c. IsTrue (entered_in graph c.0)) components
+
+-- each component was entered or is the fund itself
+abbrev pub AreEnteredOr : List ℕ → List (List ℕ × ℤ) → Graph → Type 0
+AreEnteredOr fund components graph = All (λ c. IsTrue (is_known fund graph c.0)) components
+
 -- the fund's components, where it has these in the place of its own, and those of each other
-after-own : (fund : List ℕ) (components : List (List ℕ × ℤ)) (graph : Graph) (name : List ℕ)
+pub after-own : (fund : List ℕ) (components : List (List ℕ × ℤ)) (graph : Graph) (name : List ℕ)
     → same_name name fund ≡ true → components_after fund components graph name ≡ map (λ c. c.0) components
 after-own fund components graph name e = ap (λ t. cond t (map (λ c. c.0) components) (components_under graph name)) e
 
-after-other : (fund : List ℕ) (components : List (List ℕ × ℤ)) (graph : Graph) (name : List ℕ)
+pub after-other : (fund : List ℕ) (components : List (List ℕ × ℤ)) (graph : Graph) (name : List ℕ)
     → same_name name fund ≡ false → components_after fund components graph name ≡ components_under graph name
 after-other fund components graph name e = ap (λ t. cond t (map (λ c. c.0) components) (components_under graph name)) e
 
 -- what is past the end has no components
-none_past : (all : Components) (size : ℕ) → size_of all ≤ size → (k : ℕ) → size ≤ k → components_of all k ≡ []
+pub none_past : (all : Components) (size : ℕ) → size_of all ≤ size → (k : ℕ) → size ≤ k → components_of all k ≡ []
 none_past all size few k l = let short : length all ≤ k = omega arith in get_or_past all k [] short
 
 -- an end of an edge is below the number of names

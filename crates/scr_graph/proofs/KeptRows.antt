@@ -12,9 +12,9 @@ use Rattle.scr_funds.proofs.Members.{IsMember, All-from_members}
 use Rattle.scr_funds.proofs.Rows.{with-other, components_of-with_components}
 use Rattle.scr_names.specs.Names.{same_name}
 use Rattle.scr_names.proofs.TableRows.{same_name-is}
-use Rattle.scr_graph.specs.Graph.{Graph, number_in, entered_in, components_under, components_after, AreEntered}
+use Rattle.scr_graph.specs.Graph.{Graph, number_in, entered_in, components_under, components_after}
 use Rattle.scr_graph.specs.KeptNumbers.{is_number, are_numbers}
-use Rattle.scr_graph.proofs.Graphs.{entered_or-from_entered, apart_numbered, under-put}
+use Rattle.scr_graph.proofs.Graphs.{AreEntered, entered_or-from_entered, apart_numbered, under-put}
 use Rattle.scr_graph.proofs.Numbering.{number-name, number-new}
 
 pub both_true : (a b : Bool) → (a && b) ≡ true → (a ≡ true) × (b ≡ true)

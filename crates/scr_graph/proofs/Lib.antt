@@ -2,3 +2,6 @@ pub mod Numbering
 pub mod Places
 pub mod Graphs
 pub mod KeptRows
+pub mod DeadEnds
+pub mod Known
+pub mod Entering

@@ -13,7 +13,7 @@ use Rattle.scr_graph.proofs.Graphs.{under-entered}
 use Rattle.scr_graph.proofs.Numbering.{any-again, any-last}
 
 -- the number of a name is that of the names before it
-number_before : (names : List (List ℕ)) (name : List ℕ)
+pub number_before : (names : List (List ℕ)) (name : List ℕ)
     → number_in names name ≡ position_or_len (same_name name) names
 number_before [] name = refl
 number_before (first ∷ names) name = let rest = number_before names name in grind (arith, rest)

@@ -1,7 +1,8 @@
--- Which funds hold which, by name (Article 84 of Delegated Regulation (EU) 2015/35). A name that is entered has a
--- number, its place among those that were entered, and keeps it for good.
-use Rattle.std.specs.Prelude.{ℕ, zero, suc, ℤ, ◌||◌, Bool, List, [], ◌∷◌, All, IsTrue, if◌then◌else◌, map, slice_index_or}
+-- Which funds hold which, by name (Article 84 of Delegated Regulation (EU) 2015/35). A name is entered with the first
+-- fund that holds it or that it is. It has a number then, its place among those that were entered, and keeps it for good.
+use Rattle.std.specs.Prelude.{◌≡◌, ℕ, zero, suc, ℤ, ◌||◌, Bool, List, [], ◌∷◌, ◌++◌, filter, if◌then◌else◌, map, slice_index_or}
 use Rattle.std.specs.List.{list_any}
+use Rattle.indexmap.specs.IndexSet.{insert_key}
 use Rattle.scr_funds.specs.Components.{Components, components_of}
 use Rattle.scr_names.specs.Names.{same_name}
 
@@ -29,10 +30,23 @@ abbrev pub components_after : List ℕ → List (List ℕ × ℤ) → Graph → 
 components_after fund components graph name =
     if same_name name fund then map (λ c. c.0) components else components_under graph name
 
--- each component was entered
-abbrev pub AreEntered : List (List ℕ × ℤ) → Graph → Type 0
-AreEntered components graph = All (λ c. IsTrue (entered_in graph c.0)) components
+-- the name was entered or is that of the fund
+abbrev pub is_known : List ℕ → Graph → List ℕ → Bool
+is_known fund graph name = same_name name fund || entered_in graph name
 
--- each component was entered or is the fund itself
-abbrev pub AreEnteredOr : List ℕ → List (List ℕ × ℤ) → Graph → Type 0
-AreEnteredOr fund components graph = All (λ c. IsTrue (same_name c.0 fund || entered_in graph c.0)) components
+-- those of the components that are known, in their order
+abbrev pub known_among : List ℕ → List (List ℕ × ℤ) → Graph → List (List ℕ × ℤ)
+known_among fund components graph = filter (λ c. is_known fund graph c.0) components
+
+-- the name is that of one of the components
+abbrev pub is_component : List ℕ → List (List ℕ × ℤ) → Bool
+is_component name components = list_any (λ c. same_name name c.0) components
+
+-- the names once these are entered in turn: one that is not there goes last
+abbrev pub with_names : List (List ℕ) → List (List ℕ) → List (List ℕ)
+with_names [] names = names
+with_names (new ∷ more) names = with_names more (insert_key same_name names new)
+
+-- the first names are those of before
+abbrev pub BeginsWith : List (List ℕ) → List (List ℕ) → Type 0
+BeginsWith before names = (more : List (List ℕ)) × (names ≡ before ++ more)

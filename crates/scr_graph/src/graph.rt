@@ -1,12 +1,13 @@
 //! Which funds hold which, by name.
-ghost use Rattle.std.specs.Prelude.{◌≡◌, ℕ, ◌+◌, ◌<◌, ◌≤◌, ◌^◌, ◌||◌, List, [], length, map};
-ghost use Rattle.std.specs.Prelude.{Contains, IsTrue, true, false, OnOk, OnErr, IfOk, slice_index_or};
+ghost use Rattle.std.specs.Prelude.{◌≡◌, ℕ, ◌≤◌, ◌<◌, ◌||◌, List, [], ◌∷◌, length, map, if◌then◌else◌};
+ghost use Rattle.std.specs.Prelude.{Contains, IsTrue, true, false, Some, None, OnOk, OnErr, IfOk, IfSome};
+ghost use Rattle.std.specs.Prelude.{slice_index_or};
 ghost use Rattle.scr_funds.specs.Chains.{IsAcyclic, LeadsTo};
 ghost use Rattle.scr_funds.specs.Paths.{path_within};
 ghost use Rattle.scr_names.specs.Names.{same_name};
 ghost use Rattle.scr_graph.specs.Answers.{Answers};
 ghost use Rattle.scr_graph.specs.Graph.{number_in, entered_in, components_under, components_after};
-ghost use Rattle.scr_graph.specs.Graph.{AreEntered, AreEnteredOr};
+ghost use Rattle.scr_graph.specs.Graph.{is_known, known_among, is_component, with_names, BeginsWith};
 ghost use Rattle.scr_graph.specs.KeptNumbers.{AreNumbersOf, is_number, are_numbers, stands_for};
 
 use crate::{GraphFault, KeptComponents};
@@ -53,61 +54,28 @@ impl FundGraph {
         })
     }
 
-    /// Enters a name, for good, and what holds what stays. Memory is taken for a new name alone.
-    /// Where 2^32 - 1 names were entered, a new one is refused as if for want of memory.
-    pub fn enter(&mut self, alloc: Global, name: Name) -> Result<(), NoMemory>
-        ensures entered { OnOk result
-            ((x : List ℕ) → entered_in self.new x ≡ (same_name x name || entered_in self.old x)) }
-        ensures components { components_under self.new ≡ components_under self.old }
-        ensures err { OnErr result (self.new ≡ self.old) }
-        ensures new_name { OnErr result (entered_in self.old name ≡ false) }
-    {
-        // The names grow by their own allocator.
-        let _ = alloc;
-        if self.names.len() >= MAX_NAMES {
-            return self.known(&name);
-        }
-        // One look-up enters a new name, and leaves one that is there.
-        let Ok(_) = self.names.insert(name) else {
-            return Err(NoMemory);
-        };
-        Ok(())
-    }
-
-    // Where no more names can be entered: whether this one was.
-    fn known(&self, name: &Name) -> Result<(), NoMemory>
-        ensures ok { OnOk result (entered_in self.now name.now ≡ true) }
-        ensures err { OnErr result (entered_in self.now name.now ≡ false) }
-    {
-        if self.has(name) {
-            Ok(())
-        } else {
-            Err(NoMemory)
-        }
-    }
-
     /// Whether a fund could have these components in the place of its own; nothing changes. `Cycle`
     /// comes exactly where it would then hold itself, and tells the first shortest chain by which
-    /// it would. The fund may be one that was not entered, and be a component of itself. `most` may
-    /// be any number that is at least that of the names that would have components. Hands out the
-    /// numbers of the components, which spare `put` a look-up of each.
+    /// it would. The fund and its components may be names that were not entered, and the fund be a
+    /// component of itself. `most` may be any number that is at least that of the names that would
+    /// have components. Hands out the numbers of those components that were entered, which spare
+    /// `put` a look-up of each.
     pub fn check(
         &self,
         alloc: Global,
         fund: &Name,
         components: &[(Name, i64)],
     ) -> Result<Vec<u32>, GraphFault>
-        requires { AreEnteredOr fund.now components.now self.now }
         ensures answer { let after = components_after fund.now components.now self.now in
             (most : ℕ) (holders : List (List ℕ))
             → ((x : List ℕ) → ¬ (after x ≡ []) → Contains holders x) → length holders ≤ most
             → Answers (path_within same_name after most fund.now fund.now) result }
         ensures apart { OnOk result
             (¬ LeadsTo (components_after fund.now components.now self.now) fund.now fund.now) }
-        ensures numbers { IfOk result
-            (λ numbers. numbers.items ≡ map (λ c. number_in self.now.names c.0) components.now) }
+        ensures numbers { IfOk result (λ numbers. numbers.items
+            ≡ map (λ c. number_in self.now.names c.0) (known_among fund.now components.now self.now)) }
     {
-        let numbers = match self.numbers(alloc, components) {
+        let numbers = match self.numbers(alloc, fund, components) {
             Ok(numbers) => numbers,
             Err(NoMemory) => return Err(GraphFault::NoMemory),
         };
@@ -122,8 +90,10 @@ impl FundGraph {
     }
 
     /// Gives a fund these components in the place of its own, by which it must not come to hold
-    /// itself. Where memory is refused, all is as before. The numbers that `found` has may be any; no
-    /// component is looked up where they are those of the components.
+    /// itself. It and its components are entered, for good, where they were not. Where memory is
+    /// refused, all is as before; where 2^32 - 1 names were entered, a new one is refused as if for
+    /// want of memory. The numbers that `found` has may be any; a component whose number is the next
+    /// of them is not looked up.
     pub fn put(
         &mut self,
         alloc: Global,
@@ -131,20 +101,117 @@ impl FundGraph {
         components: &[(Name, i64)],
         found: &[u32],
     ) -> Result<(), NoMemory>
-        requires fund { IsTrue (entered_in self.old fund.now) }
-        requires components { AreEntered components.now self.old }
-        requires apart { ¬ LeadsTo
+        requires { ¬ LeadsTo
             (components_after fund.now components.now self.old) fund.now fund.now }
         ensures ok { OnOk result
             (components_under self.new ≡ components_after fund.now components.now self.old) }
+        ensures entered { OnOk result ((x : List ℕ) → entered_in self.new x
+            ≡ (same_name x fund.now || is_component x components.now || entered_in self.old x)) }
         ensures err { OnErr result (self.new ≡ self.old) }
-        ensures entered { entered_in self.new ≡ entered_in self.old }
         ensures acyclic { OnOk result (IsAcyclic (components_under self.new)) }
     {
-        let numbers = self.numbers_by(alloc, components, found)?;
-        let number = self.number(fund);
+        let before = self.names.len();
+        match self.enter_and_put(alloc, fund, components, found) {
+            Ok(()) => Ok(()),
+            Err(NoMemory) => {
+                self.names.truncate(before);
+                Err(NoMemory)
+            }
+        }
+    }
+
+    // The same, but where memory is refused some names may have been entered.
+    fn enter_and_put(
+        &mut self,
+        alloc: Global,
+        fund: &Name,
+        components: &[(Name, i64)],
+        found: &[u32],
+    ) -> Result<(), NoMemory>
+        requires { ¬ LeadsTo
+            (components_after fund.now components.now self.old) fund.now fund.now }
+        ensures ok { OnOk result
+            (components_under self.new ≡ components_after fund.now components.now self.old) }
+        ensures entered { OnOk result (self.new.names
+            ≡ with_names (fund.now ∷ map (λ c. c.0) components.now) self.old.names) }
+        ensures err { OnErr result (self.new.components ≡ self.old.components) }
+        ensures names { BeginsWith self.old.names self.new.names }
+        ensures acyclic { OnOk result (IsAcyclic (components_under self.new)) }
+    {
+        let number = self.enter(fund)?;
+        let numbers = self.enter_components(alloc, components, found)?;
         self.order.replace(alloc, number, numbers)?;
         Ok(())
+    }
+
+    // Enters the components. Hands out their numbers.
+    fn enter_components(
+        &mut self,
+        alloc: Global,
+        components: &[(Name, i64)],
+        found: &[u32],
+    ) -> Result<Vec<u32>, NoMemory>
+        ensures numbers { IfOk result (λ numbers. numbers.items
+            ≡ map (λ c. number_in self.new.names c.0) components.now) }
+        ensures entered { OnOk result (self.new.names
+            ≡ with_names (map (λ c. c.0) components.now) self.old.names) }
+        ensures names { BeginsWith self.old.names self.new.names }
+        ensures components { self.new.components ≡ self.old.components }
+        ensures under { OnOk result (components_under self.new ≡ components_under self.old) }
+    {
+        let mut numbers = Vec::with_capacity(alloc, components.len())?;
+        let mut next = 0;
+        for (name, _) in components {
+            let number = match self.found_number(found, next, name) {
+                Some(number) => {
+                    next += 1;
+                    number
+                }
+                None => self.enter(name)?,
+            };
+            numbers.push(number)?;
+        }
+        Ok(numbers)
+    }
+
+    // The number at that place, where it is that of the name.
+    fn found_number(&self, found: &[u32], place: usize, name: &Name) -> Option<u32>
+        ensures { IfSome result (λ number. (number ≡ number_in self.now.names name.now)
+            × (entered_in self.now name.now ≡ true) × (place < length found.now)) }
+    {
+        match found.get(place) {
+            Some(number) if self.is_number(self.names.len(), *number, name) => Some(*number),
+            _ => None,
+        }
+    }
+
+    // Enters a name, where it was not entered. Hands out its number.
+    fn enter(&mut self, name: &Name) -> Result<u32, NoMemory>
+        ensures number { IfOk result (λ number. number ≡ number_in self.old.names name.now) }
+        ensures entered { OnOk result (self.new.names ≡ with_names (name.now ∷ []) self.old.names) }
+        ensures components { self.new.components ≡ self.old.components }
+        ensures under { OnOk result (components_under self.new ≡ components_under self.old) }
+        ensures err { OnErr result (self.new ≡ self.old) }
+    {
+        if self.names.len() >= MAX_NAMES {
+            return self.known(name);
+        }
+        // One look-up enters a new name, and leaves one that is there.
+        let Ok((place, _)) = self.names.insert_full(*name) else {
+            return Err(NoMemory);
+        };
+        Ok(place as u32)
+    }
+
+    // Where no more names can be entered: the number of one that was.
+    fn known(&self, name: &Name) -> Result<u32, NoMemory>
+        ensures number { IfOk result (λ number. number ≡ number_in self.now.names name.now) }
+        ensures entered { OnOk result (entered_in self.now name.now ≡ true) }
+    {
+        match self.names.get_index_of(name) {
+            Some(place) => Ok(place as u32),
+            None => Err(NoMemory),
+        }
     }
 
     /// Takes a fund's components off, without memory. The name stays entered.
@@ -155,13 +222,6 @@ impl FundGraph {
     {
         let number = self.number(fund);
         let _ = self.order.remove(number);
-    }
-
-    /// A name was entered.
-    pub fn has(&self, name: &Name) -> bool
-        ensures { result ≡ entered_in self.now name.now }
-    {
-        self.names.contains(name)
     }
 
     /// The components of a fund, kept so that they can be put back without memory.
@@ -243,32 +303,35 @@ impl FundGraph {
         }
     }
 
-    /// The numbers of the components: those that were found, where they are theirs.
-    fn numbers_by(
+    /// The numbers of those components that were entered or are the fund itself.
+    fn numbers(
         &self,
         alloc: Global,
+        fund: &Name,
         components: &[(Name, i64)],
-        found: &[u32],
     ) -> Result<Vec<u32>, NoMemory>
-        ensures { IfOk result
-            (λ numbers. numbers.items ≡ map (λ c. number_in self.now.names c.0) components.now) }
-    {
-        if self.are_numbers(self.names.len(), found, components) {
-            return Vec::from_slice(alloc, found);
-        }
-        self.numbers(alloc, components)
-    }
-
-    /// The numbers of the components.
-    fn numbers(&self, alloc: Global, components: &[(Name, i64)]) -> Result<Vec<u32>, NoMemory>
-        ensures { IfOk result
-            (λ numbers. numbers.items ≡ map (λ c. number_in self.now.names c.0) components.now) }
+        ensures { IfOk result (λ numbers. numbers.items
+            ≡ map (λ c. number_in self.now.names c.0) (known_among fund.now components.now self.now)) }
     {
         let mut numbers = Vec::with_capacity(alloc, components.len())?;
         for (name, _) in components {
-            numbers.push(self.number(name))?;
+            if let Some(number) = self.known_number(fund, name) {
+                numbers.push(number)?;
+            }
         }
         Ok(numbers)
+    }
+
+    /// The number of a name that was entered or is the fund's.
+    fn known_number(&self, fund: &Name, name: &Name) -> Option<u32>
+        ensures { result ≡ (if is_known fund.now self.now name.now
+            then Some (number_in self.now.names name.now) else None) }
+    {
+        match self.names.get_index_of(name) {
+            Some(place) => Some(place as u32),
+            None if *name == *fund => Some(self.names.len() as u32),
+            None => None,
+        }
     }
 
     /// The names that have these numbers: that of the fund at the next one.

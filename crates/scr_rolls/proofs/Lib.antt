@@ -11,3 +11,4 @@ mod SeatGrowth
 mod SeatLoops
 mod SeatComings
 mod Examples
+mod Benches

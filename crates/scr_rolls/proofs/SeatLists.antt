@@ -1,5 +1,5 @@
 -- The seats of a table's rows, by the names of the rows.
-use Rattle.std.proofs.Common.{◌≡◌, ◌≢◌, ◌⊎◌, inl, inr, ℕ, ◌<◌, Bool, true, false, List, [], length, map, get_or, set, cond, ltb, eqb, slice_get, Some, None, position, refl, sym, ap, ◌∙◌, arith}
+use Rattle.std.proofs.Common.{◌≡◌, ◌≢◌, ◌⊎◌, inl, inr, ℕ, ◌+◌, ◌-◌, ◌<◌, Bool, true, false, List, [], length, map, get_or, set, cond, ltb, eqb, slice_get, Some, None, position, refl, sym, ap, ◌∙◌, arith}
 use Rattle.std.specs.Prelude.{if◌then◌else◌}
 use Rattle.std.specs.List.{IsDistinct, position_or_len}
 use Rattle.std.specs.Option.{option_map}
@@ -11,7 +11,7 @@ use Rattle.std.proofs.lemmas.Map.Keys.{apart_from_distinct}
 use Rattle.std.proofs.lemmas.Option.{slice_get-map, slice_get_read, slice_get_within, get_or_from_slice_get}
 use Rattle.scr_names.specs.Names.{same_name}
 use Rattle.scr_names.proofs.TableRows.{same_name-is, same_name-itself, same_name-flip, same_or_other}
-use Rattle.scr_rolls.specs.Rosters.{drawn_out}
+use Rattle.scr_rolls.specs.Rosters.{drawn_in, drawn_out}
 use Rattle.scr_rolls.specs.Seatings.{free, seat_at, seats_of}
 use Rattle.scr_rolls.specs.declared.seats.Seats.{Seats}
 
@@ -59,6 +59,18 @@ drawn-out place roll d = by (ltb place (length roll)) refl
   where
     by : (t : Bool) → ltb place (length roll) ≡ t → (if t then Some (get_or roll place []) else None) ≡ Some d → (place < length roll) × (d ≡ get_or roll place [])
     by true e is = (grind (arith, nat_tests, e), let one : get_or roll place [] ≡ d = cc in sym one)
+    by false e is = absurd (cc)
+
+-- who takes the place of one that leaves
+pub drawn-in : (place : ℕ) (roll : List (List ℕ)) (d : List ℕ) → drawn_in place roll ≡ Some d
+    → (place + 1 < length roll) × (d ≡ get_or roll (length roll - 1) [])
+drawn-in place roll d = by (ltb (place + 1) (length roll)) refl
+  where
+    last : List ℕ
+    last = get_or roll (length roll - 1) []
+
+    by : (t : Bool) → ltb (place + 1) (length roll) ≡ t → (if t then Some last else None) ≡ Some d → (place + 1 < length roll) × (d ≡ last)
+    by true e is = (grind (arith, nat_tests, e), let one : last ≡ d = cc in sym one)
     by false e is = absurd (cc)
 
 -- ---- one seat of one row is written

@@ -80,6 +80,9 @@ module _ (names : List (List ℕ)) (old : Seated) (seated : AreSeated names old)
         subst (λ q. q < length (names_of n old.rolls)) stands (subst (λ m. place_in s (seat_at k old.seats) < length (names_of m old.rolls)) is there.within),
       )
 
+  pub row-own : (s n : ℕ) → roll_in s (seat_at k old.seats) ≡ n → roll_in s (seat_at k old.seats) ≢ NOWHERE → seat_of n old.rolls ≡ s
+  row-own s n is some = subst (λ m. seat_of m old.rolls ≡ s) is (row-stands s some).own
+
   -- the row's own seats where one of them is written
   pub own-after : (seats : List Seats) (new : Seats) (s value : ℕ) → length seats ≡ length old.seats
       → ((y : List ℕ) (t : ℕ) → roll_in t (seats_of names seats y) ≡ roll_in t (seats_of names old.seats y))

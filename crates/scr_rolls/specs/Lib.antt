@@ -2,3 +2,4 @@ pub mod Members
 pub mod Rosters
 pub mod Seatings
 pub mod Owned
+pub mod Benches

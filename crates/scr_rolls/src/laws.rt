@@ -69,7 +69,7 @@ pub fn returns()
 
 /// Threads may share rolls, and hand them on.
 pub fn sharing() {
-    shared::<Seating>();
+    shared::<Seating<1>>();
     shared::<Owners>();
 }
 

@@ -5,11 +5,11 @@ ghost use Rattle.std.specs.Option.{option_map};
 ghost use Rattle.scr_names.specs.Names.{same_name};
 ghost use Rattle.scr_names.specs.Tables.{has_row, without};
 ghost use Rattle.scr_rolls.specs.Members.{name_at, come, left, back_at, has, moved, returned};
-ghost use Rattle.scr_rolls.specs.Rosters.{drawn_out};
+ghost use Rattle.scr_rolls.specs.Rosters.{drawn_in, drawn_out};
 ghost use Rattle.scr_rolls.specs.Seatings.{NOWHERE, AreSeated, AwaitsSeats, CanReturn, Grows, IsFor, KeepsRoom, KeepsSeats, RegainsSeats, free, names_of, place_in, roll_in, roll_then, room_of, seat_at, seat_of, seats_now, seats_of, stood, target};
 
 use crate::roster::Roster;
-use crate::seats::{NOWHERE, SEATS, Seats};
+use crate::seats::{Bench, NOWHERE, SEATS, Seats};
 use scr_names::{Name, Row, Rows};
 use std::alloc::{AllocError as NoMemory, Global};
 use std::marker::Model;
@@ -22,15 +22,16 @@ pub(crate) struct Numbered {
 }
 
 /// The rolls of a table's rows, each under a number, and the seats of the rows, place by place. Contracts see the rolls in the order
-/// of their numbers, and the seats in the order of the table.
+/// of their numbers, and the seats in the order of the table. Of a row's eleven seats the first `N` are kept: no roll has its members
+/// beyond them.
 #[derive(Drop)]
-pub struct Seating {
+pub struct Seating<const N: usize> {
     rolls: Vec<Numbered>,
-    seats: Vec<Seats>,
+    seats: Vec<Bench<N>>,
 }
 
-impl Model for Seating {
-    ghost use Rattle.std.specs.Prelude.{◌-◌, length};
+impl<const N: usize> Model for Seating<N> {
+    ghost use Rattle.std.specs.Prelude.{◌-◌, ◌≤◌, length};
     ghost use Rattle.std.specs.Vec.{vec_capacity};
     ghost use Rattle.scr_rolls.specs.Seatings.{Seated};
 
@@ -41,11 +42,16 @@ impl Model for Seating {
       seats = seating.seats.items;
       room = vec_capacity seating.seats - length seating.seats.items;
     } };
+
+    ghost use Rattle.scr_rolls.specs.Benches.{AreForWidth};
+
+    ghost invariant = { λ seating. (N ≤ 11) × AreForWidth N seating.rolls.items };
 }
 
-impl Seating {
+impl<const N: usize> Seating<N> {
     /// No roll and no row.
-    pub fn new(alloc: Global) -> Seating
+    pub fn new(alloc: Global) -> Seating<N>
+        requires { N ≤ 11 }
         ensures rolls { result.rolls ≡ [] }
         ensures seats { result.seats ≡ [] }
         ensures seated { AreSeated [] result }
@@ -59,7 +65,8 @@ impl Seating {
     /// So many rolls more as there are seats in a list, each for the seat at its place. The number of the first is told; they follow
     /// one another.
     pub fn add_all(&mut self, alloc: Global, seats: &[usize]) -> Result<u32, NoMemory>
-        requires { (k : ℕ) → slice_index_or seats.now k 0 < 11 }
+        requires eleven { (k : ℕ) → slice_index_or seats.now k 0 < 11 }
+        requires width { (k : ℕ) → slice_index_or seats.now k 0 < N }
         ensures number { IfOk result (λ number. number ≡ length self.old.rolls) }
         ensures count { OnOk result (length self.new.rolls ≡ length self.old.rolls + length seats.now) }
         ensures few { OnOk result (length self.new.rolls ≤ NOWHERE) }
@@ -79,6 +86,7 @@ impl Seating {
 
     // A roll more, without members, who are to have it in this seat. Its number is told.
     fn add(&mut self, alloc: Global, seat: usize) -> Result<u32, NoMemory>
+        requires { seat < N }
         ensures number { IfOk result (λ number. number ≡ length self.old.rolls) }
         ensures count { OnOk result (length self.new.rolls ≡ length self.old.rolls + 1) }
         ensures few { OnOk result (length self.new.rolls ≤ NOWHERE) }
@@ -122,7 +130,7 @@ impl Seating {
         requires { place < length self.now.seats }
         ensures { result ≡ seat_at place self.now.seats }
     {
-        self.seats[place]
+        self.seats[place].seats()
     }
 
     /// Makes room for the seats of a row more, and for a member more in each roll of a list that is one; what is nowhere in the list
@@ -186,7 +194,7 @@ impl Seating {
         ensures seats { self.new.seats ≡ self.old.seats ++ free ∷ [] }
         ensures room { self.old.room ≤ self.new.room + 1 }
     {
-        self.seats.push_reserved(Seats::free());
+        self.seats.push_reserved(Bench::free());
     }
 
     /// The place of the row of a name. Where the table has one row more than there are seats for, it is that row, which came last: its
@@ -392,8 +400,10 @@ impl Seating {
         ensures room { KeepsRoom self.old.rolls self.new.rolls }
         ensures rows { self.new.room ≡ self.old.room }
     {
-        let own = self.seats[place];
-        self.leave(rows, seat, own.roll(seat), own.place(seat));
+        let own = &self.seats[place];
+        let roll = own.roll(seat);
+        let at = own.place(seat);
+        self.leave(rows, seat, roll, at);
         self.seats[place].set_free(seat);
     }
 
@@ -440,7 +450,7 @@ impl Seating {
         ensures seats { self.new.seats ≡ insert self.old.seats place free }
         ensures room { self.old.room ≤ self.new.room + 1 }
     {
-        self.seats.insert(place, Seats::free()).unwrap();
+        self.seats.insert(place, Bench::free()).unwrap();
     }
 
     /// In a seat the row at a place stands again at a place of this roll, or nowhere, without memory: it leaves another where it
@@ -518,6 +528,7 @@ impl Seating {
         requires apart { IsDistinct same_name (map R.name_of rows.now) }
         requires seat { seat < 11 }
         requires number { number < length self.old.rolls }
+        requires kind { seat_of number self.old.rolls ≡ seat }
         requires place { place ≤ length (names_of number self.old.rolls) }
         requires room { 0 < room_of number self.old.rolls }
         requires there { place < length (names_of number self.old.rolls)
@@ -542,10 +553,11 @@ impl Seating {
         }
     }
 
-    // How many members a roll has.
+    // How many members a roll has. The rows of the table have its seat.
     fn count(&self, number: u32) -> u32
         requires { number < length self.now.rolls }
-        ensures { result ≡ length (names_of number self.now.rolls) }
+        ensures count { result ≡ length (names_of number self.now.rolls) }
+        ensures width { seat_of number self.now.rolls < N }
     {
         self.rolls[number as usize].roster.len()
     }
@@ -572,6 +584,7 @@ impl Seating {
         requires apart { IsDistinct same_name (map R.name_of rows.now) }
         requires seat { seat < 11 }
         requires number { number < length self.old.rolls }
+        requires kind { seat_of number self.old.rolls ≡ seat }
         requires place { place < length (names_of number self.old.rolls) }
         requires there { place + 1 < length (names_of number self.old.rolls)
             → has_row R.name_of (name_at (length (names_of number self.old.rolls) - 1) (names_of number self.old.rolls)) rows.now ≡ true }
@@ -589,9 +602,26 @@ impl Seating {
             → ((name ≢ name_at (length (names_of number self.old.rolls) - 1) (names_of number self.old.rolls)) ⊎ (s ≢ seat))
             → place_in s (seats_of (map R.name_of rows.now) self.new.seats name) ≡ place_in s (seats_of (map R.name_of rows.now) self.old.seats name) }
     {
-        if let Some(drawn) = self.rolls[number as usize].roster.leave(place) {
+        if let Some(drawn) = self.draw(number, place) {
             self.move_to(rows, &drawn, seat, place);
         }
+    }
+
+    // The member at a place of a roll leaves. The last, which takes its place if it is another one, is told. The rows of the table have
+    // the roll's seat.
+    fn draw(&mut self, number: u32, place: u32) -> Option<Name>
+        requires number { number < length self.old.rolls }
+        requires place { place < length (names_of number self.old.rolls) }
+        ensures drawn { result ≡ drawn_in place (names_of number self.old.rolls) }
+        ensures seats { KeepsSeats self.old.rolls self.new.rolls }
+        ensures names { names_of number self.new.rolls ≡ left place (names_of number self.old.rolls) }
+        ensures rolls { (other : ℕ) → other ≢ number → names_of other self.new.rolls ≡ names_of other self.old.rolls }
+        ensures room { KeepsRoom self.old.rolls self.new.rolls }
+        ensures own { self.new.seats ≡ self.old.seats }
+        ensures rows { self.new.room ≡ self.old.room }
+        ensures width { seat_of number self.old.rolls < N }
+    {
+        self.rolls[number as usize].roster.leave(place)
     }
 
     // A name comes to a roll. Its place there is told.
@@ -614,6 +644,7 @@ impl Seating {
         requires beside { length self.old.seats ≡ length rows.now }
         requires apart { IsDistinct same_name (map R.name_of rows.now) }
         requires seat { seat < 11 }
+        requires width { seat < N }
         requires there { has_row R.name_of name.now rows.now ≡ true }
         ensures rolls { self.new.rolls ≡ self.old.rolls }
         ensures beside { length self.new.seats ≡ length self.old.seats }

@@ -1,8 +1,8 @@
-use Rattle.std.proofs.Common.{◌≡◌, ℕ, ℤ, ◌≤◌, Vec, Global, Result, Err, List, [], length, map, Contains, sym, ap, subst}
+use Rattle.std.proofs.Common.{◌≡◌, ℕ, ℤ, ◌≤◌, Vec, Global, Result, Err, List, [], length, map, Contains, ap, subst}
 use Rattle.std.specs.Option.{option_map}
 use Rattle.scr_funds.specs.Paths.{path_within}
 use Rattle.scr_graph.specs.Answers.{Answers as Told}
-use Rattle.scr_graph.specs.Graph.{Graph, components_under, components_after, AreEnteredOr}
+use Rattle.scr_graph.specs.Graph.{Graph, components_under, components_after}
 use Rattle.scr_graph.specs.declared.fault.GraphFault.{GraphFault}
 use Rattle.scr_names.specs.Names.{same_name}
 use Rattle.scr_sheet.specs.BalanceSheet.{stake_name, components_of}
@@ -11,15 +11,8 @@ use Rattle.scr_sheet.specs.declared.fault.Fault.TheVariants as faults
 use Rattle.scr_sheet.specs.declared.sheet.BalanceSheet.{BalanceSheet}
 use Rattle.scr_book.specs.Holders.{IsGraphOf}
 use Rattle.scr_sheet.specs.declared.rows.Stake.{Stake}
-use Rattle.scr_book.proofs.Holders.{after_is, components_entered, holders_after, holders_count}
+use Rattle.scr_book.proofs.Holders.{after_is, holders_after, holders_count}
 use Rattle.scr_book.proofs.checks.no_cycle_in.Goals as goal
-
-pub check-requires : goal.check-requires
-check-requires c =
-    let sheet = c.args.sheet.now in
-    let graph = c.args.graph.now in
-    subst (λ (xs : List (List ℕ × ℤ)). AreEnteredOr c.args.name.now xs graph) (sym c.as_slice.ensures)
-    (components_entered sheet graph c.requires.graph c.args.name.now c.args.components.now c.requires.known c.requires.kind)
 
 -- what the graph answers, of components read as a slice, is what the funds of the sheet say
 told : {A : Type 0} (sheet : BalanceSheet) (graph : Graph) (is : IsGraphOf sheet graph) (name : List ℕ) (components read : List (List ℕ × ℤ)) (result : Result A GraphFault) → read ≡ components

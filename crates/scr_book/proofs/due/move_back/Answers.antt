@@ -1,16 +1,10 @@
-use Rattle.std.proofs.Common.{sym, ap, subst, ◌∙◌}
-use Rattle.scr_graph.specs.Graph.{entered_in}
+use Rattle.std.proofs.Common.{sym, subst}
 use Rattle.scr_sheet.specs.Earlier.{with_earlier, FitsIn}
 use Rattle.scr_sheet.specs.Validity.{Valid}
 use Rattle.scr_sheet.specs.declared.earlier.Earlier.{Earlier}
 use Rattle.scr_book.specs.Holders.{IsGraphOf}
-use Rattle.scr_book.proofs.HoldersBack.{graph-security_back, graph-fund_back, apart-back}
+use Rattle.scr_book.proofs.HoldersBack.{graph-fund_back, apart-back}
 use Rattle.scr_book.proofs.due.move_back.Goals as goal
-
-pub returns-in-Securities-clause-back : goal.returns-in-Securities-clause-back
-returns-in-Securities-clause-back c is =
-    subst (λ (e : Earlier). IsGraphOf (with_earlier e c.args.sheet.now) c.args.graph.now) (sym c.in-Securities.is)
-    (graph-security_back c.args.sheet.now c.args.graph.now c.requires.graph c.in-Securities.past (ap (entered_in c.args.graph.now) (sym c.name_in.ensures) ∙ sym c.has.ensures ∙ is))
 
 pub put_fund_back-requires : goal.put_fund_back-requires
 put_fund_back-requires c =
@@ -22,4 +16,4 @@ pub returns-in-Some-clause-back : goal.returns-in-Some-clause-back
 returns-in-Some-clause-back c is =
     let fits = subst (λ (e : Earlier). FitsIn e c.args.sheet.now) c.in-Funds.is c.requires.place in
     subst (λ (e : Earlier). IsGraphOf (with_earlier e c.args.sheet.now) c.put_fund_back.new.graph) (sym c.in-Funds.is)
-    (graph-fund_back c.args.sheet.now c.args.graph.now c.requires.graph c.in-Funds.past fits c.requires.valid c.put_fund_back.new.graph (c.put_fund_back.ensures.back is) (c.put_fund_back.ensures.own is) c.put_fund_back.ensures.entered)
+    (graph-fund_back c.args.sheet.now c.args.graph.now c.requires.graph c.in-Funds.past fits c.requires.valid c.put_fund_back.new.graph (c.put_fund_back.ensures.back is))

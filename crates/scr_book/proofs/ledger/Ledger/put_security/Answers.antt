@@ -3,19 +3,17 @@ use Rattle.std.proofs.lemmas.Int.{to_z-of_z}
 use Rattle.std.specs.Option.{option_map_or}
 use Rattle.scr_dates.specs.declared.day.Day.{Day}
 use Rattle.scr_sheet.specs.BalanceSheet.{position_name}
-use Rattle.scr_sheet.specs.declared.sheet.BalanceSheet.{BalanceSheet}
 use Rattle.scr_sheet.specs.Records.{applied, natural, kept_flows, kept_hold}
-use Rattle.scr_names.specs.Tables.{has_row, with_row, changed}
+use Rattle.scr_names.specs.Tables.{with_row, changed}
 use Rattle.scr_sheet.specs.declared.rows.Position.{Position}
 use Rattle.scr_sheet.specs.declared.rows.Security.{Security}
 use Rattle.scr_sheet.specs.declared.edit.Edit.{Edit}
 use Rattle.scr_sheet.specs.declared.edit.Edit.TheVariants as edits
-use Rattle.scr_book.specs.Holders.{IsGraphOf}
 use Rattle.scr_book.specs.Kept.{IsKept}
 use Rattle.scr_book.specs.declared.ledger.Ledger.TheInside.{Inside}
 use Rattle.scr_book.proofs.Moved.{none_there}
-use Rattle.scr_book.proofs.Applied.{changed-from, replaced, days_kept, graph_now, kept-graph, sums_kept, kept-whole}
-use Rattle.scr_book.proofs.Holders.{graph-entered, graph-security, row_entered, name_entered, others_entered}
+use Rattle.scr_book.proofs.Applied.{changed-from, replaced, days_kept, graph_now, sums_kept, kept-whole}
+use Rattle.scr_book.proofs.Holders.{graph-same}
 use Rattle.scr_book.proofs.ledger.Ledger.put_security.Goals as goal
 
 kept-replaced : (c : goal.After-change) → let new : Inside = record c.self.inside { sheet = record c.self.inside.sheet { securities = c.change.new.self } } in
@@ -36,19 +34,16 @@ kept-replaced c =
     ∙ ap (λ d. position c.args.name.now d p.security.flows p.held) amount
     ∙ ap (λ flows. position c.args.name.now (natural c.args.duration) flows p.held) (sym (ap (λ o. option_map_or (λ q. q.security.flows) o []) is))
     ∙ ap (λ held. position c.args.name.now (natural c.args.duration) (kept_flows c.args.name.now rows) held) (sym (ap (λ o. option_map_or (λ q. q.held) o 0) is))) in
-    let has : has_row position_name c.args.name.now c.args.self.now.securities ≡ true =
-    ap (λ (s : BalanceSheet). has_row position_name c.args.name.now s.securities) (sym c.self.view_is) ∙ sym c.contains.ensures ∙ c.if-contains.true in
     kept-whole c.self.inside new c.args.self.now c.self.view_is c.self.invariant edit c.requires.formed c.requires.no_fault
     (ap (λ rows. record c.self.inside.sheet { securities = rows }) (written ∙ same))
     (sums_kept c.self.inside new c.args.self.now c.self.view_is c.self.invariant edit c.requires.formed c.requires.no_fault refl refl)
     (days_kept c.self.inside new c.args.self.now c.self.view_is c.self.invariant edit c.requires.formed c.requires.no_fault refl)
-    (λ fresh. let graph = graph_now c.self.inside c.args.self.now c.self.view_is c.self.invariant fresh in
-    graph-security c.args.self.now c.self.inside.graph c.self.inside.graph graph (λ x e. e) _ (row_entered position_name c.self.inside.graph c.args.name.now c.args.self.now.securities has graph.securities) refl)
+    (λ fresh. graph-same edit c.args.self.now c.self.inside.graph (graph_now c.self.inside c.args.self.now c.self.view_is c.self.invariant fresh) refl)
 
-kept-made : (c : goal.In_ok-put) → let new : Inside = record c.self.inside { sheet = record c.self.inside.sheet { securities = c.put.new.self }; graph = c.enter.new.self } in
+kept-made : (c : goal.In_ok-put) → let new : Inside = record c.self.inside { sheet = record c.self.inside.sheet { securities = c.put.new.self } } in
     IsKept new × (new.sheet ≡ applied (edits.Security c.args.name.now c.args.class c.args.group c.args.currency.now c.args.duration) c.args.self.now)
 kept-made c =
-    let new : Inside = record c.self.inside { sheet = record c.self.inside.sheet { securities = c.put.new.self }; graph = c.enter.new.self } in
+    let new : Inside = record c.self.inside { sheet = record c.self.inside.sheet { securities = c.put.new.self } } in
     let edit : Edit = edits.Security c.args.name.now c.args.class c.args.group c.args.currency.now c.args.duration in
     let rows : List Position = c.self.inside.sheet.securities in
     let amount : c.natural.result ≡ natural c.args.duration = c.natural.ensures ∙ ap natural (to_z-of_z w64 c.args.duration c.ranges.duration) in
@@ -57,15 +52,13 @@ kept-made c =
     let none = none_there position_name c.args.name.now rows (sym c.contains.ensures ∙ c.if-contains.false) in
     let promised : c.new-2.result ≡ kept_flows c.args.name.now rows = c.new-2.ensures ∙ c.new.ensures.items ∙ sym (ap (λ o. option_map_or (λ q. q.security.flows) o []) none) in
     let held : 0 ≡ kept_hold c.args.name.now rows = sym (ap (λ o. option_map_or (λ q. q.held) o 0) none) in
-    let entered = c.in_ok-enter.ensures.entered in
     kept-whole c.self.inside new c.args.self.now c.self.view_is c.self.invariant edit c.requires.formed c.requires.no_fault
     (ap (λ rows. record c.self.inside.sheet { securities = rows })
     (c.in_ok-put.ensures.ok ∙ ap (λ d. with_row position_name (position d c.new-2.result 0) rows) amount ∙ ap (λ flows. with_row position_name (position (natural c.args.duration) flows 0) rows) promised
     ∙ ap (λ n. with_row position_name (position (natural c.args.duration) (kept_flows c.args.name.now rows) n) rows) held))
     (sums_kept c.self.inside new c.args.self.now c.self.view_is c.self.invariant edit c.requires.formed c.requires.no_fault refl refl)
     (days_kept c.self.inside new c.args.self.now c.self.view_is c.self.invariant edit c.requires.formed c.requires.no_fault refl)
-    (λ fresh. graph-security c.args.self.now c.self.inside.graph c.enter.new.self (graph_now c.self.inside c.args.self.now c.self.view_is c.self.invariant fresh) (others_entered c.args.name.now c.self.inside.graph c.enter.new.self entered) _
-    (name_entered c.args.name.now c.self.inside.graph c.enter.new.self entered) c.enter.ensures.components)
+    (λ fresh. graph-same edit c.args.self.now c.self.inside.graph (graph_now c.self.inside c.args.self.now c.self.view_is c.self.invariant fresh) refl)
 
 pub invariant_of-self : goal.invariant_of-self
 invariant_of-self c = (kept-replaced c).0
@@ -81,7 +74,4 @@ returns-clause-ok c = (kept-made c).1
 
 pub invariant_of-self-in_err-put : goal.invariant_of-self-in_err-put
 invariant_of-self-in_err-put c =
-    let sheet = c.args.self.now in
-    let entered : c.self.inside.is_graph_due ≡ false → IsGraphOf sheet c.enter.new.self = λ fresh. graph-entered sheet c.self.inside.graph c.enter.new.self (graph_now c.self.inside sheet c.self.view_is c.self.invariant fresh) c.args.name.now c.in_ok-enter.ensures.entered c.in_ok-enter.ensures.components in
-    subst (λ (rows : List Position). IsKept (record c.self.inside { sheet = record c.self.inside.sheet { securities = rows }; graph = c.enter.new.self })) (sym c.in_err-put.ensures.err)
-    (kept-graph c.self.inside sheet c.self.view_is c.self.invariant c.enter.new.self entered)
+    subst (λ (rows : List Position). IsKept (record c.self.inside { sheet = record c.self.inside.sheet { securities = rows } })) (sym c.in_err-put.ensures.err) c.self.invariant

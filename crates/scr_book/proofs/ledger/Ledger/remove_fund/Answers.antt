@@ -1,4 +1,4 @@
-use Rattle.std.proofs.Common.{refl, ◌≡◌, ℕ, ◌-◌, ap, arith, ◌∙◌, subst}
+use Rattle.std.proofs.Common.{refl, ◌≡◌, ℕ, ◌-◌, ap, arith, subst}
 use Rattle.scr_sheet.specs.Records.{applied}
 use Rattle.scr_sheet.proofs.Sums.{components-part}
 use Rattle.scr_sheet.specs.declared.keys.Table.TheVariants as tables
@@ -22,7 +22,7 @@ kept c =
     (ap (λ n. c.self.inside.sums.components - n) c.component_count-old.ensures.value))
     (days_kept c.self.inside new c.args.self.now c.self.view_is c.self.invariant (edits.Remove tables.Fund c.args.name.now) c.requires.formed c.requires.no_fault refl)
     (λ fresh. graph-drop_fund c.args.self.now c.self.inside.graph c.clear.new.self (graph_now c.self.inside c.args.self.now c.self.view_is c.self.invariant fresh)
-    (λ x e. (λ i. c.clear.ensures.entered i x) ∙ e) c.args.name.now (subst Valid c.self.view_is c.self.invariant.valid) c.clear.ensures.components)
+    c.args.name.now (subst Valid c.self.view_is c.self.invariant.valid) c.clear.ensures.components)
 
 pub overflow_sub-self : goal.overflow_sub-self
 overflow_sub-self c =

@@ -1,8 +1,9 @@
+use Rattle.std.proofs.Common.{rules}
 use Rattle.scr_book.proofs.RollsOpening.{liabilities-few, opening-none, opening-rolls}
 use Rattle.scr_book.proofs.rolls.Rolls.new.Goals as goal
 
 pub seating-requires-3 : goal.seating-requires-3
-seating-requires-3 c = liabilities-few
+seating-requires-3 c = let eleven = liabilities-few in search (rules, eleven)
 
 pub returns-clause-rolls : goal.returns-clause-rolls
 returns-clause-rolls c =

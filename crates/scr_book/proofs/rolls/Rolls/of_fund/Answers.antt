@@ -1,6 +1,6 @@
-use Rattle.std.proofs.Common.{◌≡◌, zero, suc, ◌<◌, length, eqb, refl, sym, ap, subst, ◌∙◌}
+use Rattle.std.proofs.Common.{◌≡◌, ◌≢◌, ℕ, zero, suc, ◌<◌, [], ◌∷◌, length, eqb, refl, sym, ap, subst, ◌∙◌, arith}
 use Rattle.std.specs.Prelude.{if◌then◌else◌}
-use Rattle.scr_rolls.specs.Seatings.{NOWHERE}
+use Rattle.scr_rolls.specs.Seatings.{NOWHERE, target}
 use Rattle.scr_sheet.specs.Members.{is_closed}
 use Rattle.scr_sheet.specs.declared.roll.Roll.TheVariants as rolls
 use Rattle.scr_book.proofs.RollAims.{aimed-fund, stake}
@@ -10,12 +10,15 @@ use Rattle.scr_book.proofs.rolls.Rolls.of_fund.Goals.{else-is_closed, then-is_cl
 use Rattle.scr_book.proofs.rolls.Rolls.of_fund.Goals as goal
 
 pub make_room-requires : goal.make_room-requires
-make_room-requires c zero some =
-    elim c.if-is_closed.branch [
-      | then-is_closed w ↦ subst (λ n. n < length c.args.self.now.funds.rolls) (sym w.number-is) (c.requires.1.numbered.own rolls.Closed 0 refl).0
-      | else-is_closed w ↦ absurd (some w.number-is)
-    ]
-make_room-requires c (suc seat) some = absurd (some refl)
+make_room-requires c = (omega arith, within)
+  where
+    within : (seat : ℕ) → target seat (c.if-is_closed.number ∷ []) ≢ NOWHERE → target seat (c.if-is_closed.number ∷ []) < length c.args.self.now.funds.rolls
+    within zero some =
+        elim c.if-is_closed.branch [
+          | then-is_closed w ↦ subst (λ n. n < length c.args.self.now.funds.rolls) (sym w.number-is) (c.requires.1.numbered.own rolls.Closed 0 refl).0
+          | else-is_closed w ↦ absurd (some w.number-is)
+        ]
+    within (suc seat) some = absurd (some refl)
 
 pub returns-in_err-make_room-clause-kept : goal.returns-in_err-make_room-clause-kept
 returns-in_err-make_room-clause-kept c = λ sheet h. roomy-funds sheet c.args.self.now h c.make_room.new.self c.make_room.ensures.grows

@@ -1,4 +1,4 @@
-use Rattle.std.proofs.Common.{◌≢◌, ℕ, ◌<◌, List, length, sym, ap, subst, ◌∙◌}
+use Rattle.std.proofs.Common.{◌≢◌, ℕ, ◌<◌, List, length, sym, ap, subst, ◌∙◌, arith}
 use Rattle.scr_rolls.specs.Seatings.{NOWHERE, room_of, target}
 use Rattle.scr_book.proofs.RollGrowth.{kept-then, numbered-lines, roomy-liabilities}
 use Rattle.scr_book.proofs.RollPrepared.{liability-within, prepared-liability}
@@ -8,10 +8,13 @@ pub returns-in_err-lines-clause-kept : goal.returns-in_err-lines-clause-kept
 returns-in_err-lines-clause-kept c = λ sheet h. numbered-lines sheet c.args.self.now h c.args.currency.now c.owned_number.new.seating c.owned_number.new.owners c.owned_number.ensures.gives
 
 pub make_room-requires : goal.make_room-requires
-make_room-requires c = λ seat some.
-    let kept = numbered-lines c.requires.0 c.args.self.now c.requires.1 c.args.currency.now c.owned_number.new.seating c.owned_number.new.owners c.owned_number.ensures.gives in
-    let within = liability-within c.requires.0 _ kept.kept c.args.kind c.args.currency.now c.first_loss-losses.result c.in_ok-lines.lines c.first_loss-losses.ensures.number c.in_ok-lines.ensures.own seat in
-    subst (λ (l : List ℕ). target seat l < length c.owned_number.new.seating.rolls) (sym c.all_losses.ensures) (within (λ e. some (ap (target seat) c.all_losses.ensures ∙ e)))
+make_room-requires c = (
+  omega arith,
+  λ seat some.
+      let kept = numbered-lines c.requires.0 c.args.self.now c.requires.1 c.args.currency.now c.owned_number.new.seating c.owned_number.new.owners c.owned_number.ensures.gives in
+      let within = liability-within c.requires.0 _ kept.kept c.args.kind c.args.currency.now c.first_loss-losses.result c.in_ok-lines.lines c.first_loss-losses.ensures.number c.in_ok-lines.ensures.own seat in
+      subst (λ (l : List ℕ). target seat l < length c.owned_number.new.seating.rolls) (sym c.all_losses.ensures) (within (λ e. some (ap (target seat) c.all_losses.ensures ∙ e))),
+)
 
 pub returns-in_err-make_room-clause-kept : goal.returns-in_err-make_room-clause-kept
 returns-in_err-make_room-clause-kept c = λ sheet h.

@@ -16,7 +16,8 @@ returns-then-is_empty-clause-prepared c =
     (λ some. absurd (some refl))
 
 pub seats-requires : goal.seats-requires
-seats-requires c = payer-inside c.args.sheet.now c.requires.valid c.args.self.now c.requires.rolls c.in-Some.place c.args.name.now c.in-Some.ensures.place c.args.flows.now
+seats-requires c =
+    (omega arith, payer-inside c.args.sheet.now c.requires.valid c.args.self.now c.requires.rolls c.in-Some.place c.args.name.now c.in-Some.ensures.place c.args.flows.now)
 
 pub overflow_add-number : goal.overflow_add-number
 overflow_add-number c =
@@ -25,10 +26,13 @@ overflow_add-number c =
     omega (arith, small, number)
 
 pub reserve-requires : goal.reserve-requires
-reserve-requires c = λ some.
-    let within = payer-within c.args.sheet.now c.requires.valid c.args.self.now c.requires.rolls c.in-Some.place c.args.name.now c.in-Some.ensures.place c.args.flows.now in
-    let number : c.roll-number.result ≡ roll_in 3 (seat_at c.in-Some.place c.args.self.now.securities.seats) = c.roll-number.ensures ∙ ap (roll_in 3) c.seats.ensures in
-    omega (arith, within, number)
+reserve-requires c = (
+  omega arith,
+  λ some.
+      let within = payer-within c.args.sheet.now c.requires.valid c.args.self.now c.requires.rolls c.in-Some.place c.args.name.now c.in-Some.ensures.place c.args.flows.now in
+      let number : c.roll-number.result ≡ roll_in 3 (seat_at c.in-Some.place c.args.self.now.securities.seats) = c.roll-number.ensures ∙ ap (roll_in 3) c.seats.ensures in
+      omega (arith, within, number),
+)
 
 pub returns-in_err-reserve-clause-kept : goal.returns-in_err-reserve-clause-kept
 returns-in_err-reserve-clause-kept c = roomy-securities c.args.sheet.now c.args.self.now c.requires.rolls c.reserve.new.self c.reserve.ensures.grows

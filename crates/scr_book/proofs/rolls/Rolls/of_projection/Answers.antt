@@ -30,11 +30,14 @@ at-requires c =
     f.2
 
 pub reserve-requires : goal.reserve-requires
-reserve-requires c = λ some.
-    let inside = (c.requires.rolls.numbered.own (rolls.Losses c.at.result.now.kind c.args.projection) (kind_number c.at.result.now.kind + place_of c.args.projection) refl).0 in
-    let losses = c.first_loss.ensures.number in
-    let seat = c.place_of-seat.ensures.place in
-    omega (arith, inside, losses, seat)
+reserve-requires c = (
+  omega arith,
+  λ some.
+      let inside = (c.requires.rolls.numbered.own (rolls.Losses c.at.result.now.kind c.args.projection) (kind_number c.at.result.now.kind + place_of c.args.projection) refl).0 in
+      let losses = c.first_loss.ensures.number in
+      let seat = c.place_of-seat.ensures.place in
+      omega (arith, inside, losses, seat),
+)
 
 pub returns-in_err-reserve-clause-kept : goal.returns-in_err-reserve-clause-kept
 returns-in_err-reserve-clause-kept c = roomy-liabilities c.args.sheet.now c.args.self.now c.requires.rolls c.reserve.new.self c.reserve.ensures.grows

@@ -30,15 +30,18 @@ overflow_add-numbers c =
     omega (arith, small)
 
 pub make_room-requires : goal.make_room-requires
-make_room-requires c = λ seat some.
-    let one = numbered-assets c.requires.0 c.args.self.now c.requires.1 c.args.currency.now c.owned_number.new.seating c.owned_number.new.owners c.owned_number.ensures.gives in
-    let two = c.group_numbers.ensures.kept c.requires.0 one.kept in
-    let is : number_of c.args.currency.now c.group_numbers.new.self.of_assets ≡ Some c.in_ok-assets.assets =
-    ap (number_of c.args.currency.now) c.group_numbers.ensures.assets ∙ c.in_ok-assets.ensures.own in
-    security-within c.requires.0 _ two.kept c.args.name.now c.args.class c.args.group c.args.currency.now (pos 0) c.in_ok-grouped.group c.in_ok-assets.assets c.in_ok-grouped.ensures.group is
-    (c.class_number.result ∷ c.in_ok-grouped.grouped ∷ c.in_ok-grouped.group ∷ c.in_ok-assets.assets ∷ (c.in_ok-assets.assets + 1) ∷ [])
-    (ap (λ k. k ∷ c.in_ok-grouped.grouped ∷ c.in_ok-grouped.group ∷ c.in_ok-assets.assets ∷ (c.in_ok-assets.assets + 1) ∷ []) c.class_number.ensures
-    ∙ ap (λ k. class_number c.args.class ∷ k ∷ c.in_ok-grouped.group ∷ c.in_ok-assets.assets ∷ (c.in_ok-assets.assets + 1) ∷ []) c.in_ok-grouped.ensures.grouped) seat some
+make_room-requires c = (
+  omega arith,
+  λ seat some.
+      let one = numbered-assets c.requires.0 c.args.self.now c.requires.1 c.args.currency.now c.owned_number.new.seating c.owned_number.new.owners c.owned_number.ensures.gives in
+      let two = c.group_numbers.ensures.kept c.requires.0 one.kept in
+      let is : number_of c.args.currency.now c.group_numbers.new.self.of_assets ≡ Some c.in_ok-assets.assets =
+      ap (number_of c.args.currency.now) c.group_numbers.ensures.assets ∙ c.in_ok-assets.ensures.own in
+      security-within c.requires.0 _ two.kept c.args.name.now c.args.class c.args.group c.args.currency.now (pos 0) c.in_ok-grouped.group c.in_ok-assets.assets c.in_ok-grouped.ensures.group is
+      (c.class_number.result ∷ c.in_ok-grouped.grouped ∷ c.in_ok-grouped.group ∷ c.in_ok-assets.assets ∷ (c.in_ok-assets.assets + 1) ∷ [])
+      (ap (λ k. k ∷ c.in_ok-grouped.grouped ∷ c.in_ok-grouped.group ∷ c.in_ok-assets.assets ∷ (c.in_ok-assets.assets + 1) ∷ []) c.class_number.ensures
+      ∙ ap (λ k. class_number c.args.class ∷ k ∷ c.in_ok-grouped.group ∷ c.in_ok-assets.assets ∷ (c.in_ok-assets.assets + 1) ∷ []) c.in_ok-grouped.ensures.grouped) seat some,
+)
 
 pub returns-in_err-make_room-clause-kept : goal.returns-in_err-make_room-clause-kept
 returns-in_err-make_room-clause-kept c = λ sheet h.

@@ -1,4 +1,4 @@
-use Rattle.std.proofs.Common.{◌≡◌, ◌⊎◌, inl, inr, false, refl, sym, ap, subst}
+use Rattle.std.proofs.Common.{◌≡◌, ◌⊎◌, inl, inr, false, refl, sym, ap, subst, arith}
 use Rattle.scr_sheet.specs.declared.edit.Edit.TheVariants as edits
 use Rattle.scr_sheet.specs.declared.keys.Table.{Table}
 use Rattle.scr_sheet.specs.declared.keys.Table.TheVariants as tables
@@ -68,16 +68,20 @@ returns-in-Group c =
     elsewhere tables.Curve apart = refl
 
 pub release-requires : goal.release-requires
-release-requires c = c.requires.rolls.seated tables.Security
+release-requires c =
+    (omega arith, c.requires.rolls.seated tables.Security)
 
 pub release-requires-in-Fund : goal.release-requires-in-Fund
-release-requires-in-Fund c = c.requires.rolls.seated tables.Fund
+release-requires-in-Fund c =
+    (omega arith, c.requires.rolls.seated tables.Fund)
 
 pub release-requires-in-Liability : goal.release-requires-in-Liability
-release-requires-in-Liability c = c.requires.rolls.seated tables.Liability
+release-requires-in-Liability c =
+    (omega arith, c.requires.rolls.seated tables.Liability)
 
 pub release-requires-in-Group : goal.release-requires-in-Group
-release-requires-in-Group c = c.requires.rolls.seated tables.Group
+release-requires-in-Group c =
+    (omega arith, c.requires.rolls.seated tables.Group)
 
 -- banks, reinsurers and curves
 bare : (table : Table) → (table ≡ tables.Bank) ⊎ ((table ≡ tables.Rein) ⊎ (table ≡ tables.Curve)) → same_table table table ≡ false

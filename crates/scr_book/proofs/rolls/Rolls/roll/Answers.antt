@@ -1,4 +1,4 @@
-use Rattle.std.proofs.Common.{ℕ, ◌+◌, ◌<◌, [], Option, IfSome, length, refl, sym, ap, subst, ◌∙◌}
+use Rattle.std.proofs.Common.{ℕ, ◌+◌, ◌<◌, [], Option, IfSome, length, refl, sym, ap, subst, ◌∙◌, arith}
 use Rattle.std.specs.Option.{option_map_or}
 use Rattle.scr_rolls.specs.Seatings.{names_of}
 use Rattle.scr_sheet.specs.declared.keys.Table.TheVariants as tables
@@ -12,58 +12,71 @@ use Rattle.scr_book.proofs.rolls.Rolls.roll.Goals as goal
 
 pub roll-requires : goal.roll-requires
 roll-requires c =
-    subst (λ n. n < length c.args.self.now.securities.rolls) (sym c.class_number.ensures) (c.requires.1.numbered.own (rolls.Class c.in-Class.class) (class_number c.in-Class.class) refl).0
+    (omega arith, subst (λ n. n < length c.args.self.now.securities.rolls) (sym c.class_number.ensures) (c.requires.1.numbered.own (rolls.Class c.in-Class.class) (class_number c.in-Class.class) refl).0)
 
 pub roll-requires-in-Bonds : goal.roll-requires-in-Bonds
 roll-requires-in-Bonds c =
-    subst (λ n. n < length c.args.self.now.securities.rolls) (sym c.class_number-in-Bonds.ensures) (c.requires.1.numbered.own rolls.Bonds (class_number classes.Bond) refl).0
+    (omega arith, subst (λ n. n < length c.args.self.now.securities.rolls) (sym c.class_number-in-Bonds.ensures) (c.requires.1.numbered.own rolls.Bonds (class_number classes.Bond) refl).0)
 
 pub roll-requires-in-Grouped : goal.roll-requires-in-Grouped
-roll-requires-in-Grouped c = (c.requires.1.numbered.own rolls.Grouped 10 refl).0
+roll-requires-in-Grouped c =
+    (omega arith, (c.requires.1.numbered.own rolls.Grouped 10 refl).0)
 
 pub roll-requires-in-Closed : goal.roll-requires-in-Closed
-roll-requires-in-Closed c = (c.requires.1.numbered.own rolls.Closed 0 refl).0
+roll-requires-in-Closed c =
+    (omega arith, (c.requires.1.numbered.own rolls.Closed 0 refl).0)
 
 pub roll-requires-in-Groups : goal.roll-requires-in-Groups
-roll-requires-in-Groups c = (c.requires.1.numbered.own rolls.Groups 0 refl).0
+roll-requires-in-Groups c =
+    (omega arith, (c.requires.1.numbered.own rolls.Groups 0 refl).0)
 
 pub roll-requires-in-Losses : goal.roll-requires-in-Losses
-roll-requires-in-Losses c =
-    subst (λ n. n < length c.args.self.now.liabilities.rolls)
-    (sym (ap (λ n. n + c.place_of.result) c.first_loss.ensures.number ∙ ap (λ s. kind_number c.in-Losses.kind + s) c.place_of.ensures.place))
-    (c.requires.1.numbered.own (rolls.Losses c.in-Losses.kind c.in-Losses.projection) (kind_number c.in-Losses.kind + place_of c.in-Losses.projection) refl).0
+roll-requires-in-Losses c = (
+  omega arith,
+  subst (λ n. n < length c.args.self.now.liabilities.rolls)
+      (sym (ap (λ n. n + c.place_of.result) c.first_loss.ensures.number ∙ ap (λ s. kind_number c.in-Losses.kind + s) c.place_of.ensures.place))
+      (c.requires.1.numbered.own (rolls.Losses c.in-Losses.kind c.in-Losses.projection) (kind_number c.in-Losses.kind + place_of c.in-Losses.projection) refl).0,
+)
 
-pub owned-requires-clause-number : goal.owned-requires-clause-number
-owned-requires-clause-number c =
+pub owned-requires : goal.owned-requires
+owned-requires c = (
+  omega arith,
+  (
     subst (λ (found : Option ℕ). IfSome found (λ n. n + 0 < length c.args.self.now.securities.rolls)) (sym c.number.ensures)
-    (first-inside _ c.args.self.now.securities.rolls (λ n e. (c.requires.1.numbered.own (rolls.Group c.in-Group.group) n e).0))
+        (first-inside _ c.args.self.now.securities.rolls (λ n e. (c.requires.1.numbered.own (rolls.Group c.in-Group.group) n e).0)),
+    (c.requires.1.seated tables.Security).few,
+  ),
+)
 
-pub owned-requires-in-Assets-clause-number : goal.owned-requires-in-Assets-clause-number
-owned-requires-in-Assets-clause-number c =
+pub owned-requires-in-Assets : goal.owned-requires-in-Assets
+owned-requires-in-Assets c = (
+  omega arith,
+  (
     subst (λ (found : Option ℕ). IfSome found (λ n. n + 0 < length c.args.self.now.securities.rolls)) (sym c.number-in-Assets.ensures)
-    (first-inside _ c.args.self.now.securities.rolls (λ n e. (c.requires.1.numbered.own (rolls.Assets c.in-Assets.currency) n e).0))
+        (first-inside _ c.args.self.now.securities.rolls (λ n e. (c.requires.1.numbered.own (rolls.Assets c.in-Assets.currency) n e).0)),
+    (c.requires.1.seated tables.Security).few,
+  ),
+)
 
-pub owned-requires-in-Flows-clause-number : goal.owned-requires-in-Flows-clause-number
-owned-requires-in-Flows-clause-number c =
+pub owned-requires-in-Flows : goal.owned-requires-in-Flows
+owned-requires-in-Flows c = (
+  omega arith,
+  (
     subst (λ (found : Option ℕ). IfSome found (λ n. n + 1 < length c.args.self.now.securities.rolls)) (sym c.number-in-Flows.ensures)
-    (next-inside _ c.args.self.now.securities.rolls (λ n e. (c.requires.1.numbered.own (rolls.Flows c.in-Flows.currency) n e).0))
+        (next-inside _ c.args.self.now.securities.rolls (λ n e. (c.requires.1.numbered.own (rolls.Flows c.in-Flows.currency) n e).0)),
+    (c.requires.1.seated tables.Security).few,
+  ),
+)
 
-pub owned-requires-in-Lines-clause-number : goal.owned-requires-in-Lines-clause-number
-owned-requires-in-Lines-clause-number c =
+pub owned-requires-in-Lines : goal.owned-requires-in-Lines
+owned-requires-in-Lines c = (
+  omega arith,
+  (
     subst (λ (found : Option ℕ). IfSome found (λ n. n + 0 < length c.args.self.now.liabilities.rolls)) (sym c.number-in-Lines.ensures)
-    (first-inside _ c.args.self.now.liabilities.rolls (λ n e. (c.requires.1.numbered.own (rolls.Lines c.in-Lines.currency) n e).0))
-
-pub owned-requires-clause-few : goal.owned-requires-clause-few
-owned-requires-clause-few c = (c.requires.1.seated tables.Security).few
-
-pub owned-requires-in-Assets-clause-few : goal.owned-requires-in-Assets-clause-few
-owned-requires-in-Assets-clause-few c = (c.requires.1.seated tables.Security).few
-
-pub owned-requires-in-Flows-clause-few : goal.owned-requires-in-Flows-clause-few
-owned-requires-in-Flows-clause-few c = (c.requires.1.seated tables.Security).few
-
-pub owned-requires-in-Lines-clause-few : goal.owned-requires-in-Lines-clause-few
-owned-requires-in-Lines-clause-few c = (c.requires.1.seated tables.Liability).few
+        (first-inside _ c.args.self.now.liabilities.rolls (λ n e. (c.requires.1.numbered.own (rolls.Lines c.in-Lines.currency) n e).0)),
+    (c.requires.1.seated tables.Liability).few,
+  ),
+)
 
 pub returns-in-Class : goal.returns-in-Class
 returns-in-Class c =

@@ -1,5 +1,6 @@
-use Rattle.std.proofs.Common.{◌≡◌, false, [], ◌∷◌, map, eqb, refl, sym, subst}
+use Rattle.std.proofs.Common.{◌≡◌, ◌<◌, false, [], ◌∷◌, length, map, eqb, refl, sym, subst, arith}
 use Rattle.std.specs.Prelude.{if◌then◌else◌}
+use Rattle.std.proofs.lemmas.List.{length-map}
 use Rattle.scr_names.specs.Tables.{row_of}
 use Rattle.scr_rolls.specs.Members.{name_at}
 use Rattle.scr_rolls.specs.Seatings.{roll_in, seat_at, target}
@@ -14,26 +15,49 @@ use Rattle.scr_book.proofs.RollSteps.{fund-seat, group-seat, placed-for, placed-
 use Rattle.scr_book.proofs.RollsDone.{taken, taken-still}
 use Rattle.scr_book.proofs.rolls.Rolls.settle.Goals as goal
 
-pub seat-requires-clause-roll : goal.seat-requires-clause-roll
-seat-requires-clause-roll c =
-    placed-for tables.Security c.in-Payments.place 4 c.in-Payments.number c.args.sheet.now c.args.self.now (subst (λ (a : Aim). Await a c.args.sheet.now c.args.self.now) c.in-Payments.is c.requires)
-
-pub seat-requires-clause-room : goal.seat-requires-clause-room
-seat-requires-clause-room c =
+pub seat-requires : goal.seat-requires
+seat-requires c =
     let placed : IsPlaced tables.Security c.in-Payments.place 4 c.in-Payments.number c.args.sheet.now c.args.self.now =
     subst (λ (a : Aim). Await a c.args.sheet.now c.args.self.now) c.in-Payments.is c.requires in
-    placed-room tables.Security c.in-Payments.place 4 c.in-Payments.number c.args.sheet.now c.args.self.now placed placed.seated c.len-count.ensures.apart
+    let within : c.in-Payments.place < length (map position_name c.args.sheet.now.securities) = placed.within in
+    let long = length-map c.args.sheet.now.securities position_name in (
+      omega arith,
+      (
+        placed.seated,
+        (
+          omega (arith, within, long),
+          (
+            omega arith,
+            (
+              placed-for tables.Security c.in-Payments.place 4 c.in-Payments.number c.args.sheet.now c.args.self.now placed,
+              placed-room tables.Security c.in-Payments.place 4 c.in-Payments.number c.args.sheet.now c.args.self.now placed placed.seated c.len-count.ensures.apart,
+            ),
+          ),
+        ),
+      ),
+    )
 
-pub seat-requires-in-Projected-clause-roll : goal.seat-requires-in-Projected-clause-roll
-seat-requires-in-Projected-clause-roll c =
-    placed-for tables.Liability c.in-Projected.place c.in-Projected.seat c.in-Projected.number c.args.sheet.now c.args.self.now
-    (subst (λ (a : Aim). Await a c.args.sheet.now c.args.self.now) c.in-Projected.is c.requires)
-
-pub seat-requires-in-Projected-clause-room : goal.seat-requires-in-Projected-clause-room
-seat-requires-in-Projected-clause-room c =
+pub seat-requires-in-Projected : goal.seat-requires-in-Projected
+seat-requires-in-Projected c =
     let placed : IsPlaced tables.Liability c.in-Projected.place c.in-Projected.seat c.in-Projected.number c.args.sheet.now c.args.self.now =
     subst (λ (a : Aim). Await a c.args.sheet.now c.args.self.now) c.in-Projected.is c.requires in
-    placed-room tables.Liability c.in-Projected.place c.in-Projected.seat c.in-Projected.number c.args.sheet.now c.args.self.now placed placed.seated c.len-count-in-Projected.ensures.apart
+    let within : c.in-Projected.place < length (map liability_name c.args.sheet.now.liabilities) = placed.within in
+    let long = length-map c.args.sheet.now.liabilities liability_name in (
+      omega arith,
+      (
+        placed.seated,
+        (
+          omega (arith, within, long),
+          (
+            placed.few,
+            (
+              placed-for tables.Liability c.in-Projected.place c.in-Projected.seat c.in-Projected.number c.args.sheet.now c.args.self.now placed,
+              placed-room tables.Liability c.in-Projected.place c.in-Projected.seat c.in-Projected.number c.args.sheet.now c.args.self.now placed placed.seated c.len-count-in-Projected.ensures.apart,
+            ),
+          ),
+        ),
+      ),
+    )
 
 pub returns-in-Security : goal.returns-in-Security
 returns-in-Security c =

@@ -10,24 +10,31 @@ use Rattle.scr_book.proofs.RollLaws.{own-before}
 use Rattle.scr_book.proofs.RollSteps.{for-seats, liability-seat, room-for, row-at, settles}
 use Rattle.scr_book.proofs.rolls.Rolls.settle_liability.Goals as goal
 
-pub arrange-requires-clause-rolls : goal.arrange-requires-clause-rolls
-arrange-requires-clause-rolls c =
+pub arrange-requires : goal.arrange-requires
+arrange-requires c =
     let found = row-at liability_name c.args.sheet.now.liabilities c.placed-place.result c.at.result.now c.args.name.now c.len-count.ensures.apart c.at.ensures c.placed-place.ensures.name in
     let told : c.losses_of-rolls.result ≡ liability_rolls c.args.lines c.args.losses (row_of liability_name c.args.name.now c.args.sheet.now.liabilities) =
     c.losses_of-rolls.ensures ∙ ap (liability_rolls c.args.lines c.args.losses) (sym found) in
-    let long : length c.losses_of-rolls.result ≡ 11 = ap length c.losses_of-rolls.ensures in
-    for-seats c.args.self.now.liabilities.rolls c.placed-place.new.self.rolls c.losses_of-rolls.result (seat_at c.placed-place.result c.placed-place.new.self.seats)
-    (λ seat. target seat (liability_rolls c.args.lines c.args.losses (row_of liability_name c.args.name.now c.args.sheet.now.liabilities))) c.placed-place.ensures.rolls
-    (λ seat. ap (target seat) (sym told)) (omega (arith, long)) c.requires.0.fits
-
-pub arrange-requires-clause-room : goal.arrange-requires-clause-room
-arrange-requires-clause-room c =
-    let found = row-at liability_name c.args.sheet.now.liabilities c.placed-place.result c.at.result.now c.args.name.now c.len-count.ensures.apart c.at.ensures c.placed-place.ensures.name in
-    let told : c.losses_of-rolls.result ≡ liability_rolls c.args.lines c.args.losses (row_of liability_name c.args.name.now c.args.sheet.now.liabilities) =
-    c.losses_of-rolls.ensures ∙ ap (liability_rolls c.args.lines c.args.losses) (sym found) in
-    room-for c.args.self.now.liabilities.rolls c.placed-place.new.self.rolls c.losses_of-rolls.result (seat_at c.placed-place.result c.placed-place.new.self.seats)
-    (λ seat. target seat (liability_rolls c.args.lines c.args.losses (row_of liability_name c.args.name.now c.args.sheet.now.liabilities))) c.placed-place.ensures.rolls
-    (λ seat. ap (target seat) (sym told)) _ c.placed-place.ensures.seats c.requires.0.room
+    let long : length c.losses_of-rolls.result ≡ 11 = ap length c.losses_of-rolls.ensures in (
+      omega arith,
+      (
+        c.placed-place.ensures.seated,
+        (
+          c.placed-place.ensures.place,
+          (
+            omega (arith, long),
+            (
+              for-seats c.args.self.now.liabilities.rolls c.placed-place.new.self.rolls c.losses_of-rolls.result (seat_at c.placed-place.result c.placed-place.new.self.seats)
+                  (λ seat. target seat (liability_rolls c.args.lines c.args.losses (row_of liability_name c.args.name.now c.args.sheet.now.liabilities))) c.placed-place.ensures.rolls
+                  (λ seat. ap (target seat) (sym told)) (omega (arith, long)) c.requires.0.fits,
+              room-for c.args.self.now.liabilities.rolls c.placed-place.new.self.rolls c.losses_of-rolls.result (seat_at c.placed-place.result c.placed-place.new.self.seats)
+                  (λ seat. target seat (liability_rolls c.args.lines c.args.losses (row_of liability_name c.args.name.now c.args.sheet.now.liabilities))) c.placed-place.ensures.rolls
+                  (λ seat. ap (target seat) (sym told)) _ c.placed-place.ensures.seats c.requires.0.room,
+            ),
+          ),
+        ),
+      ),
+    )
 
 pub returns : goal.returns
 returns c =

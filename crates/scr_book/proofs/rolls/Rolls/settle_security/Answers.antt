@@ -13,8 +13,8 @@ use Rattle.scr_book.proofs.RollSteps.{five, for-seats, room-for, row-at, securit
 use Rattle.scr_book.proofs.rolls.Rolls.settle_security.Goals.{else-not-is_paying, then-not-is_paying}
 use Rattle.scr_book.proofs.rolls.Rolls.settle_security.Goals as goal
 
-pub arrange-requires-clause-rolls : goal.arrange-requires-clause-rolls
-arrange-requires-clause-rolls c =
+pub arrange-requires : goal.arrange-requires
+arrange-requires c =
     let found : position_of c.args.name.now c.args.sheet.now.securities ≡ Some c.at.result.now =
     row-at position_name c.args.sheet.now.securities c.placed-place.result c.at.result.now c.args.name.now c.len-count.ensures.apart c.at.ensures c.placed-place.ensures.name in
     let pays = ap (λ o. option_map_or is_paying o false) found ∙ sym c.is_paying.ensures in
@@ -23,24 +23,26 @@ arrange-requires-clause-rolls c =
       | then-not-is_paying w ↦ w.numbers-is ∙ sym (ap (λ b. if b then c.args.numbers else set c.args.numbers 4 NOWHERE) (pays ∙ w.if-not-is_paying.true))
       | else-not-is_paying w ↦ w.numbers-is ∙ sym (ap (λ b. if b then c.args.numbers else set c.args.numbers 4 NOWHERE) (pays ∙ w.if-not-is_paying.false))
     ] in
-    let long : length c.if-not-is_paying.numbers ≡ 5 = ap length told ∙ five c.args.numbers c.requires.1 (option_map_or is_paying (position_of c.args.name.now c.args.sheet.now.securities) false) in
-    for-seats c.args.self.now.securities.rolls c.placed-place.new.self.rolls c.if-not-is_paying.numbers (seat_at c.placed-place.result c.placed-place.new.self.seats)
-    (λ seat. target seat (security_rolls c.args.numbers (position_of c.args.name.now c.args.sheet.now.securities))) c.placed-place.ensures.rolls
-    (λ seat. ap (target seat) (sym told)) (omega (arith, long)) c.requires.0.fits
-
-pub arrange-requires-clause-room : goal.arrange-requires-clause-room
-arrange-requires-clause-room c =
-    let found : position_of c.args.name.now c.args.sheet.now.securities ≡ Some c.at.result.now =
-    row-at position_name c.args.sheet.now.securities c.placed-place.result c.at.result.now c.args.name.now c.len-count.ensures.apart c.at.ensures c.placed-place.ensures.name in
-    let pays = ap (λ o. option_map_or is_paying o false) found ∙ sym c.is_paying.ensures in
-    let told : c.if-not-is_paying.numbers ≡ security_rolls c.args.numbers (position_of c.args.name.now c.args.sheet.now.securities) =
-    elim c.if-not-is_paying.branch [
-      | then-not-is_paying w ↦ w.numbers-is ∙ sym (ap (λ b. if b then c.args.numbers else set c.args.numbers 4 NOWHERE) (pays ∙ w.if-not-is_paying.true))
-      | else-not-is_paying w ↦ w.numbers-is ∙ sym (ap (λ b. if b then c.args.numbers else set c.args.numbers 4 NOWHERE) (pays ∙ w.if-not-is_paying.false))
-    ] in
-    room-for c.args.self.now.securities.rolls c.placed-place.new.self.rolls c.if-not-is_paying.numbers (seat_at c.placed-place.result c.placed-place.new.self.seats)
-    (λ seat. target seat (security_rolls c.args.numbers (position_of c.args.name.now c.args.sheet.now.securities))) c.placed-place.ensures.rolls
-    (λ seat. ap (target seat) (sym told)) _ c.placed-place.ensures.seats c.requires.0.room
+    let long : length c.if-not-is_paying.numbers ≡ 5 = ap length told ∙ five c.args.numbers c.requires.1 (option_map_or is_paying (position_of c.args.name.now c.args.sheet.now.securities) false) in (
+      omega arith,
+      (
+        c.placed-place.ensures.seated,
+        (
+          c.placed-place.ensures.place,
+          (
+            omega (arith, long),
+            (
+              for-seats c.args.self.now.securities.rolls c.placed-place.new.self.rolls c.if-not-is_paying.numbers (seat_at c.placed-place.result c.placed-place.new.self.seats)
+                  (λ seat. target seat (security_rolls c.args.numbers (position_of c.args.name.now c.args.sheet.now.securities))) c.placed-place.ensures.rolls
+                  (λ seat. ap (target seat) (sym told)) (omega (arith, long)) c.requires.0.fits,
+              room-for c.args.self.now.securities.rolls c.placed-place.new.self.rolls c.if-not-is_paying.numbers (seat_at c.placed-place.result c.placed-place.new.self.seats)
+                  (λ seat. target seat (security_rolls c.args.numbers (position_of c.args.name.now c.args.sheet.now.securities))) c.placed-place.ensures.rolls
+                  (λ seat. ap (target seat) (sym told)) _ c.placed-place.ensures.seats c.requires.0.room,
+            ),
+          ),
+        ),
+      ),
+    )
 
 pub returns : goal.returns
 returns c =

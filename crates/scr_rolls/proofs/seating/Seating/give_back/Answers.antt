@@ -1,9 +1,14 @@
-use Rattle.std.proofs.Common.{◌≡◌, ◌≢◌, ◌⊎◌, inl, inr, ℕ, ◌<◌, List, length, map, sym, ap, ◌∙◌}
+use Rattle.std.proofs.Common.{◌≡◌, ◌≢◌, ◌⊎◌, inl, inr, ℕ, ◌<◌, true, List, length, map, sym, ap, subst, ◌∙◌, arith}
+use Rattle.scr_names.specs.Tables.{has_row}
 use Rattle.scr_rolls.specs.Members.{name_at}
 use Rattle.scr_rolls.specs.Seatings.{names_of, place_in, seats_of}
 use Rattle.scr_rolls.specs.declared.seats.Seats.{Seats}
 use Rattle.scr_rolls.proofs.SeatLists.{drawn-out}
 use Rattle.scr_rolls.proofs.seating.Seating.give_back.Goals as goal
+
+pub move_to-requires : goal.move_to-requires
+move_to-requires g c =
+    let found = drawn-out c.args.place (names_of c.args.number c.args.self.now.rolls) c.in-Some.drawn (sym c.put_at.ensures.drawn ∙ c.in-Some.is) in (omega arith, (ap length c.put_at.ensures.own ∙ c.requires.beside, (c.requires.apart, (c.requires.seat, (subst (λ s. s < g.row.N) c.requires.kind c.count-last.ensures.width, subst (λ (x : List ℕ). has_row g.R.Row.name_of x c.args.rows.now ≡ true) (sym found.1) (c.requires.there found.0))))))
 
 pub returns-in-Some-clause-still : goal.returns-in-Some-clause-still
 returns-in-Some-clause-still g c =

@@ -3,4 +3,4 @@ use Rattle.scr_rolls.proofs.SeatGrowth.{Roomy}
 use Rattle.scr_rolls.proofs.seating.Seating.make_room.Given as goal
 
 abbrev pub invariant-loop-roll : goal.invariant-loop-roll
-invariant-loop-roll l = Roomy l.rolls l.roll-index l.fn.self l.self
+invariant-loop-roll g l = Roomy l.rolls l.roll-index l.fn.self l.self

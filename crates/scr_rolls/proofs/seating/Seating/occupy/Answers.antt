@@ -1,10 +1,11 @@
-use Rattle.std.proofs.Common.{◌≡◌, ℕ, ◌-◌, ◌<◌, Some, List, length, map, get_or, set, eqb, [], sym, ap, subst, ◌∙◌, arith}
+use Rattle.std.proofs.Common.{◌≡◌, ℕ, ◌-◌, ◌<◌, Some, List, length, map, get_or, set, eqb, [], sym, ap, subst, ◌∙◌, arith, rules}
 use Rattle.std.specs.Prelude.{if◌then◌else◌}
 use Rattle.std.specs.Option.{option_map}
 use Rattle.std.proofs.lemmas.List.{length-map}
 use Rattle.scr_rolls.specs.Members.{come}
-use Rattle.scr_rolls.specs.Seatings.{Seated, AreSeated, names_of, place_in, roll_in, seat_at, seats_of}
+use Rattle.scr_rolls.specs.Seatings.{Seated, AreSeated, KeepsSeats, names_of, place_in, roll_in, seat_at, seats_of}
 use Rattle.scr_rolls.specs.declared.seats.Seats.{Seats}
+use Rattle.scr_rolls.proofs.Benches.{for-kind}
 use Rattle.scr_rolls.proofs.SeatLists.{at-any, named-at}
 use Rattle.scr_rolls.proofs.SeatMoves.{come-back, seated-back}
 use Rattle.scr_rolls.proofs.seating.Seating.occupy.Goals as goal
@@ -31,6 +32,15 @@ module _ (g : Rattle.scr_rolls.proofs.seating.Seating.occupy.Given.Over) (c : go
 
   row_name : get_or table c.args.place [] ≡ c.name-name.result
   row_name = (named-at g.R.Row.name_of c.args.rows.now c.args.place c.name-name.result (ap (option_map g.R.Row.name_of) c.at.ensures ∙ ap Some (sym c.name-name.ensures))).1
+
+pub put-requires : goal.put-requires
+put-requires g c =
+    let few = c.self.invariant.0 in
+    let width : c.args.seat < g.row.N =
+    for-kind g.row.N c.self.inside.rolls.items c.args.self.now.rolls c.self.invariant.1
+    (subst (λ rolls. KeepsSeats c.args.self.now.rolls rolls) (sym (ap (λ (s : Seated). s.rolls) c.self.view_is)) c.come-at.ensures.seats)
+    c.args.roll c.args.seat c.requires.number c.requires.kind in
+    search (rules, width, few)
 
 pub returns-clause-seated : goal.returns-clause-seated
 returns-clause-seated g c =
