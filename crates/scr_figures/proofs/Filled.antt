@@ -1,5 +1,5 @@
 -- Table by table, all rows come.
-use Rattle.std.proofs.Common.{◌≡◌, ℕ, ◌+◌, length, refl, ◌∙◌, arith}
+use Rattle.std.proofs.Common.{◌≡◌, ℕ, ◌+◌, true, length, refl, ◌∙◌, arith}
 use Rattle.std.proofs.lemmas.List.{length-map}
 use Rattle.scr_numbers.specs.Moves.{IsNew, IsSameBut}
 use Rattle.scr_numbers.specs.Ranges.{Numbered, count}
@@ -7,7 +7,7 @@ use Rattle.scr_numbers.specs.declared.table.Table.{Table}
 use Rattle.scr_numbers.specs.declared.table.Table.TheVariants as tables
 use Rattle.scr_sheet.specs.BalanceSheet.{curve_name, group_name, liability_name, position_name, stake_name}
 use Rattle.scr_sheet.specs.declared.sheet.BalanceSheet.{BalanceSheet}
-use Rattle.scr_figures.specs.Numbers.{IsNumbered, names_in}
+use Rattle.scr_figures.specs.Numbers.{IsNumbered, is_of_sheet, names_in}
 
 -- so many rows of one table came
 pub record Filled (table : Table) (rows : ℕ) (before now : Numbered) : Type 0 where
@@ -20,37 +20,38 @@ module _ (sheet : BalanceSheet) (none funds securities liabilities groups all : 
     (l : Filled tables.Liability (length sheet.liabilities) securities liabilities)
     (g : Filled tables.Group (length sheet.groups) liabilities groups)
     (c : Filled tables.Currency (length sheet.curves) groups all) where
-  counted : (table : Table) → count all table ≡ length (names_in sheet table)
-  counted tables.Whole =
+  counted : (table : Table) → is_of_sheet table ≡ true → count all table ≡ length (names_in sheet table)
+  counted tables.Whole of =
       c.others.counts tables.Whole refl ∙ g.others.counts tables.Whole refl ∙ l.others.counts tables.Whole refl
       ∙ s.others.counts tables.Whole refl ∙ f.others.counts tables.Whole refl ∙ new.whole_count
-  counted tables.Fund =
+  counted tables.Fund of =
       let kept = c.others.counts tables.Fund refl ∙ g.others.counts tables.Fund refl ∙ l.others.counts tables.Fund refl
       ∙ s.others.counts tables.Fund refl in
       let none_yet = new.counts tables.Fund refl in
       let long = length-map sheet.funds stake_name in
       omega (arith, kept, f.more, none_yet, long)
-  counted tables.Security =
+  counted tables.Security of =
       let kept = c.others.counts tables.Security refl ∙ g.others.counts tables.Security refl ∙ l.others.counts tables.Security refl in
       let none_yet = f.others.counts tables.Security refl ∙ new.counts tables.Security refl in
       let long = length-map sheet.securities position_name in
       omega (arith, kept, s.more, none_yet, long)
-  counted tables.Liability =
+  counted tables.Liability of =
       let kept = c.others.counts tables.Liability refl ∙ g.others.counts tables.Liability refl in
       let none_yet = s.others.counts tables.Liability refl ∙ f.others.counts tables.Liability refl ∙ new.counts tables.Liability refl in
       let long = length-map sheet.liabilities liability_name in
       omega (arith, kept, l.more, none_yet, long)
-  counted tables.Group =
+  counted tables.Group of =
       let kept = c.others.counts tables.Group refl in
       let none_yet = l.others.counts tables.Group refl ∙ s.others.counts tables.Group refl ∙ f.others.counts tables.Group refl
       ∙ new.counts tables.Group refl in
       let long = length-map sheet.groups group_name in
       omega (arith, kept, g.more, none_yet, long)
-  counted tables.Currency =
+  counted tables.Currency of =
       let none_yet = g.others.counts tables.Currency refl ∙ l.others.counts tables.Currency refl ∙ s.others.counts tables.Currency refl
       ∙ f.others.counts tables.Currency refl ∙ new.counts tables.Currency refl in
       let long = length-map sheet.curves curve_name in
       omega (arith, c.more, none_yet, long)
+  counted tables.Part of = absurd (cc)
 
   pub filled : IsNumbered sheet all
   filled = record {

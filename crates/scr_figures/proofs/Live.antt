@@ -32,6 +32,10 @@ single : IsDistinct same_name ([] ∷ [])
 unfolding IsDistinct
 single = (tt, tt)
 
+nobody : IsDistinct same_name []
+unfolding IsDistinct
+nobody = tt
+
 pub named-once : (sheet : BalanceSheet) → Valid sheet → AreNamedOnce sheet
 named-once sheet valid tables.Whole = single
 named-once sheet valid tables.Fund = distinct-funds sheet valid.named_once
@@ -41,6 +45,7 @@ named-once sheet valid tables.Liability =
     (distinct-right (map position_name sheet.securities) _ (distinct-right (map group_name sheet.groups) _ valid.named_once))
 named-once sheet valid tables.Group = distinct-left (map group_name sheet.groups) _ valid.named_once
 named-once sheet valid tables.Currency = valid.currencies_once
+named-once sheet valid tables.Part = nobody
 
 -- ---- no family is beyond the stride
 

@@ -1,5 +1,5 @@
 -- Figures keep their numbers while rows come and go.
-use Rattle.std.proofs.Common.{◌≡◌, ℕ, ◌+◌, ◌<◌, ◌≤◌, ◌⊎◌, ⊎_elim, inl, inr, false, List, [], ◌∷◌, Some, length, refl, sym, ap, subst, ◌∙◌, arith}
+use Rattle.std.proofs.Common.{◌≡◌, ℕ, ◌+◌, ◌<◌, ◌≤◌, ◌⊎◌, ⊎_elim, inl, inr, true, false, List, [], ◌∷◌, Some, length, refl, sym, ap, subst, ◌∙◌, arith}
 use Rattle.std.specs.List.{remove, slice_get}
 use Rattle.std.proofs.lemmas.Bool.{cases_Bool, cases_lt}
 use Rattle.std.proofs.lemmas.List.{length_push}
@@ -14,12 +14,12 @@ use Rattle.scr_numbers.proofs.Views.{of_all}
 use Rattle.scr_sheet.specs.declared.sheet.BalanceSheet.{BalanceSheet}
 use Rattle.scr_nodes.specs.declared.node.Node.{Node}
 use Rattle.scr_figures.specs.Families.{family_of, name_of, table_of}
-use Rattle.scr_figures.specs.Numbers.{AreNamedOnce, IsNumbered, StandsAt, names_in}
+use Rattle.scr_figures.specs.Numbers.{AreNamedOnce, IsNumbered, StandsAt, is_of_sheet, names_in}
 use Rattle.scr_figures.specs.Steps.{CanTake, CanTakeBack, IsRowLess, IsRowMore, LeadsTo, Takes, TakesBack}
 use Rattle.scr_figures.specs.declared.steps.Step.{Step}
 use Rattle.scr_figures.specs.declared.steps.Step.TheVariants as steps
 use Rattle.scr_figures.proofs.RowNames.{got-above, got-below, got-front}
-use Rattle.scr_figures.proofs.Standing.{only}
+use Rattle.scr_figures.proofs.Standing.{only, row-of_sheet}
 
 -- a family of a row has a number
 record Stands (sheet : BalanceSheet) (places : Numbered) (table : Table) (name : List ℕ) (j number : ℕ) : Type 0 where
@@ -79,11 +79,11 @@ module _ (table : Table) (s t : BalanceSheet) (a b : Numbered) (more : IsRowMore
 
   pub came-numbered : IsNumbered s a → IsNumbered t b
   came-numbered numbered = record {
-    rows = of_all (λ any. count b any ≡ length (names_in t any)) table
-        (let before = numbered.rows table in
+    rows = of_all (λ any. is_of_sheet any ≡ true → count b any ≡ length (names_in t any)) table
+        (λ of. let before = numbered.rows table of in
         let long = ap length more.rows ∙ length_push (names_in s table) more.name in
         omega (arith, before, long, came.one_more))
-        (λ other f. came.others.counts other f ∙ numbered.rows other ∙ ap length (sym (more.others other f)));
+        (λ other f of. came.others.counts other f ∙ numbered.rows other of ∙ ap length (sym (more.others other f)));
     whole = came.others.firsts tables.Whole (more-not_whole table s t more) 0 ∙ numbered.whole;
   }
 
@@ -134,12 +134,12 @@ module _ (table : Table) (k : ℕ) (s t : BalanceSheet) (a b : Numbered) (less :
 
   pub went-numbered : IsNumbered s a → IsNumbered t b
   went-numbered numbered = record {
-    rows = of_all (λ any. count b any ≡ length (names_in t any)) table
-        (let before = numbered.rows table in
+    rows = of_all (λ any. is_of_sheet any ≡ true → count b any ≡ length (names_in t any)) table
+        (λ of. let before = numbered.rows table of in
         let long = ap length less.rows in
         let short = length-remove (names_in s table) k less.place in
         omega (arith, before, long, short, went.one_less))
-        (λ other f. went.others.counts other f ∙ numbered.rows other ∙ ap length (sym (less.others other f)));
+        (λ other f of. went.others.counts other f ∙ numbered.rows other of ∙ ap length (sym (less.others other f)));
     whole = went.others.firsts tables.Whole (less-not_whole table k s t less) 0 ∙ numbered.whole;
   }
 
@@ -148,12 +148,13 @@ module _ (table : Table) (k : ℕ) (s t : BalanceSheet) (a b : Numbered) (less :
 pub step-can : (step : Step) (s t : BalanceSheet) (a : Numbered) → LeadsTo step s t → IsNumbered s a → CanTake step a
 step-can steps.Stays s t a leads numbered = tt
 step-can (steps.Comes table) s t a leads numbered = tt
-step-can (steps.Goes table k) s t a leads numbered = let rows = numbered.rows table in omega (arith, rows, leads.place)
+step-can (steps.Goes table k) s t a leads numbered =
+    let rows = numbered.rows table (row-of_sheet s table k leads.place) in omega (arith, rows, leads.place)
 
 pub step-numbered : (step : Step) (s t : BalanceSheet) (a b : Numbered) → LeadsTo step s t → Takes step a b → IsNumbered s a → IsNumbered t b
 step-numbered steps.Stays s t a b leads takes numbered =
     subst (IsNumbered t) (sym takes) (record {
-      rows = λ table. numbered.rows table ∙ ap length (sym (leads table));
+      rows = λ table of. numbered.rows table of ∙ ap length (sym (leads table));
       whole = numbered.whole;
     })
 step-numbered (steps.Comes table) s t a b leads takes numbered = came-numbered table s t a b leads takes numbered
@@ -175,7 +176,7 @@ pub step-can_back : (step : Step) (s t : BalanceSheet) (a b : Numbered) → Lead
 step-can_back steps.Stays s t a b leads numbered takes = tt
 step-can_back (steps.Comes table) s t a b leads numbered takes = omega (arith, takes.one_more)
 step-can_back (steps.Goes table k) s t a b leads numbered takes =
-    let rows = numbered.rows table in
+    let rows = numbered.rows table (row-of_sheet s table k leads.place) in
     (omega (arith, rows, leads.place, takes.one_less), omega (arith, takes.within, takes.one_less, takes.ranges))
 
 step-back : (step : Step) (a b d : Numbered) → CanTake step a → Takes step a b → TakesBack step b d → IsAsBefore a d
@@ -195,8 +196,8 @@ pub step-takes_back : (step : Step) (s t : BalanceSheet) (a b d : Numbered) → 
     → TakesBack step b d → IsNumbered s d × ((node : Node) (number : ℕ) → StandsAt s a node number → StandsAt s d node number)
 step-takes_back step s t a b d leads numbered takes back = (
   record {
-    rows = λ table. same.counts table ∙ numbered.rows table;
-    whole = same.firsts tables.Whole 0 (let rows = numbered.rows tables.Whole in omega (arith, rows)) ∙ numbered.whole;
+    rows = λ table of. same.counts table ∙ numbered.rows table of;
+    whole = same.firsts tables.Whole 0 (let rows = numbered.rows tables.Whole refl in omega (arith, rows)) ∙ numbered.whole;
   },
   as-before s a d same,
 )

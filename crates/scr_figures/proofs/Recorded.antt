@@ -73,6 +73,7 @@ same-tables s t funds securities liabilities groups curves tables.Security = sec
 same-tables s t funds securities liabilities groups curves tables.Liability = liabilities
 same-tables s t funds securities liabilities groups curves tables.Group = groups
 same-tables s t funds securities liabilities groups curves tables.Currency = curves
+same-tables s t funds securities liabilities groups curves tables.Part = refl
 
 others-funds : (s : BalanceSheet) (rows : List Stake) → AreOthersKept tables.Fund s (record s { funds = rows })
 others-funds s rows tables.Fund f = absurd (cc)
@@ -81,6 +82,7 @@ others-funds s rows tables.Security f = refl
 others-funds s rows tables.Liability f = refl
 others-funds s rows tables.Group f = refl
 others-funds s rows tables.Currency f = refl
+others-funds s rows tables.Part f = refl
 
 others-securities : (s : BalanceSheet) (rows : List Position) → AreOthersKept tables.Security s (record s { securities = rows })
 others-securities s rows tables.Security f = absurd (cc)
@@ -89,6 +91,7 @@ others-securities s rows tables.Fund f = refl
 others-securities s rows tables.Liability f = refl
 others-securities s rows tables.Group f = refl
 others-securities s rows tables.Currency f = refl
+others-securities s rows tables.Part f = refl
 
 others-liabilities : (s : BalanceSheet) (rows : List Liability) → AreOthersKept tables.Liability s (record s { liabilities = rows })
 others-liabilities s rows tables.Liability f = absurd (cc)
@@ -97,6 +100,7 @@ others-liabilities s rows tables.Fund f = refl
 others-liabilities s rows tables.Security f = refl
 others-liabilities s rows tables.Group f = refl
 others-liabilities s rows tables.Currency f = refl
+others-liabilities s rows tables.Part f = refl
 
 others-groups : (s : BalanceSheet) (rows : List Group) → AreOthersKept tables.Group s (record s { groups = rows })
 others-groups s rows tables.Group f = absurd (cc)
@@ -105,6 +109,7 @@ others-groups s rows tables.Fund f = refl
 others-groups s rows tables.Security f = refl
 others-groups s rows tables.Liability f = refl
 others-groups s rows tables.Currency f = refl
+others-groups s rows tables.Part f = refl
 
 others-curves : (s : BalanceSheet) (rows : List Curve) → AreOthersKept tables.Currency s (record s { curves = rows })
 others-curves s rows tables.Currency f = absurd (cc)
@@ -113,6 +118,7 @@ others-curves s rows tables.Fund f = refl
 others-curves s rows tables.Security f = refl
 others-curves s rows tables.Liability f = refl
 others-curves s rows tables.Group f = refl
+others-curves s rows tables.Part f = refl
 
 drop-leads : (table : SheetTable) (name : List ℕ) (s : BalanceSheet) → LeadsTo (drop_step table name s) s (dropped table name s)
 drop-leads sheet_tables.Group name s =

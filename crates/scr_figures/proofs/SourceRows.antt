@@ -187,19 +187,19 @@ module _ {Row : Type 0} (test : Row → Bool) (number : ℕ → ℕ) where
 
 module _ (sheet : BalanceSheet) (places : Numbered) (numbered : IsNumbered sheet places) where
   pub counted-funds : count places tables.Fund ≡ length sheet.funds
-  counted-funds = numbered.rows tables.Fund ∙ length-map sheet.funds stake_name
+  counted-funds = numbered.rows tables.Fund refl ∙ length-map sheet.funds stake_name
 
   pub counted-securities : count places tables.Security ≡ length sheet.securities
-  counted-securities = numbered.rows tables.Security ∙ length-map sheet.securities position_name
+  counted-securities = numbered.rows tables.Security refl ∙ length-map sheet.securities position_name
 
   pub counted-liabilities : count places tables.Liability ≡ length sheet.liabilities
-  counted-liabilities = numbered.rows tables.Liability ∙ length-map sheet.liabilities liability_name
+  counted-liabilities = numbered.rows tables.Liability refl ∙ length-map sheet.liabilities liability_name
 
   pub counted-curves : count places tables.Currency ≡ length sheet.curves
-  counted-curves = numbered.rows tables.Currency ∙ length-map sheet.curves curve_name
+  counted-curves = numbered.rows tables.Currency refl ∙ length-map sheet.curves curve_name
 
   pub counted-groups : count places tables.Group ≡ length sheet.groups
-  counted-groups = numbered.rows tables.Group ∙ length-map sheet.groups group_name
+  counted-groups = numbered.rows tables.Group refl ∙ length-map sheet.groups group_name
 
 -- those that are read
 module _ (sheet : BalanceSheet) (places : Numbered) (numbered : IsNumbered sheet places) where

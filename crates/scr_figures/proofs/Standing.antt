@@ -1,15 +1,19 @@
 -- A number has one figure, and a figure one number.
-use Rattle.std.proofs.Common.{◌≡◌, ℕ, suc, ◌+◌, ◌<◌, true, List, [], ◌∷◌, Some, map, refl, sym, ap, subst, ◌∙◌, arith}
+use Rattle.std.proofs.Common.{◌≡◌, ℕ, suc, ◌+◌, ◌<◌, true, false, List, [], ◌∷◌, Some, length, map, refl, sym, ap, subst, ◌∙◌, arith}
 use Rattle.std.specs.List.{slice_get}
 use Rattle.std.specs.Option.{is_some}
 use Rattle.std.proofs.lemmas.Option.{slice_get_within}
 use Rattle.scr_names.specs.Tables.{has_row}
 use Rattle.scr_names.proofs.TableRows.{same_name-is, same_or_other, row_of-later}
-use Rattle.scr_numbers.specs.Ranges.{IsApart, IsOne, Numbered, first, stride}
+use Rattle.scr_numbers.specs.Moves.{IsSameBut}
+use Rattle.scr_numbers.specs.Ranges.{IsApart, IsAt, IsOne, Numbered, first, same_table, stride}
+use Rattle.scr_numbers.specs.declared.table.Table.{Table}
+use Rattle.scr_numbers.specs.declared.table.Table.TheVariants as tables
 use Rattle.scr_sheet.specs.declared.sheet.BalanceSheet.{BalanceSheet}
 use Rattle.scr_nodes.specs.declared.node.Node.{Node}
+use Rattle.scr_nodes.specs.declared.node.Node.TheVariants as nodes
 use Rattle.scr_figures.specs.Families.{family_of, name_of, table_of}
-use Rattle.scr_figures.specs.Numbers.{AreNamedOnce, IsNumbered, StandsAt, names_in}
+use Rattle.scr_figures.specs.Numbers.{AreNamedOnce, IsNumbered, StandsAt, is_of_sheet, names_in}
 use Rattle.scr_figures.proofs.RowNames.{placed-at}
 use Rattle.scr_figures.proofs.Told.{told}
 
@@ -39,6 +43,25 @@ only sheet places once n m node x y =
     let start : first places (table_of node) x.k ≡ first places (table_of node) y.k = ap (first places (table_of node)) row in
     omega (arith, x.at.is, y.at.is, start)
 
+-- the table of a figure is one of the sheet's
+pub of-sheet : (node : Node) → is_of_sheet (table_of node) ≡ true
+of-sheet (nodes.Fund name what) = refl
+of-sheet (nodes.Security name what) = refl
+of-sheet (nodes.Liability name what) = refl
+of-sheet (nodes.Currency name what) = refl
+of-sheet (nodes.Group name what) = refl
+of-sheet (nodes.Whole what) = refl
+
+-- so is the table of a name
+pub row-of_sheet : (sheet : BalanceSheet) (table : Table) (k : ℕ) → k < length (names_in sheet table) → is_of_sheet table ≡ true
+row-of_sheet sheet tables.Part k l = absurd (omega (arith, l))
+row-of_sheet sheet tables.Whole k l = refl
+row-of_sheet sheet tables.Fund k l = refl
+row-of_sheet sheet tables.Security k l = refl
+row-of_sheet sheet tables.Liability k l = refl
+row-of_sheet sheet tables.Group k l = refl
+row-of_sheet sheet tables.Currency k l = refl
+
 -- a figure of a row has a number
 pub stands : (sheet : BalanceSheet) (places : Numbered) → IsNumbered sheet places → (node : Node) → family_of node < stride (table_of node)
     → (k : ℕ) → slice_get (names_in sheet (table_of node)) k ≡ Some (name_of node)
@@ -48,11 +71,57 @@ stands sheet places numbered node family k row = record {
   row = row;
   at = record {
     row = let room = slice_get_within (names_in sheet (table_of node)) k (name_of node) row in
-        omega (arith, room, numbered.rows (table_of node));
+        omega (arith, room, numbered.rows (table_of node) (of-sheet node));
     family = family;
     is = refl;
   };
 }
+
+-- ---- parts of member lists
+
+pub not-part : (node : Node) → same_table tables.Part (table_of node) ≡ false
+not-part (nodes.Fund name what) = refl
+not-part (nodes.Security name what) = refl
+not-part (nodes.Liability name what) = refl
+not-part (nodes.Currency name what) = refl
+not-part (nodes.Group name what) = refl
+not-part (nodes.Whole what) = refl
+
+pub figure-or-part : (sheet : BalanceSheet) (places : Numbered) → IsApart places → (node : Node) (number : ℕ) → StandsAt sheet places node number
+    → (k j : ℕ) → IsAt places tables.Part k j number → ⊥
+figure-or-part sheet places apart node number x k j at =
+    let one : IsOne (table_of node) x.k (family_of node) tables.Part k j =
+    apart number (table_of node) x.k (family_of node) tables.Part k j x.at at in
+    let other = not-part node in
+    let same : same_table tables.Part (table_of node) ≡ true = ap (same_table tables.Part) one.tables in
+    absurd (cc)
+
+module _ (sheet : BalanceSheet) (before now : Numbered) (same : IsSameBut tables.Part before now) where
+  other-table : (table : Table) → is_of_sheet table ≡ true → same_table tables.Part table ≡ false
+  other-table tables.Whole of = refl
+  other-table tables.Fund of = refl
+  other-table tables.Security of = refl
+  other-table tables.Liability of = refl
+  other-table tables.Group of = refl
+  other-table tables.Currency of = refl
+  other-table tables.Part of = absurd (cc)
+
+  pub parts-numbered : IsNumbered sheet before → IsNumbered sheet now
+  parts-numbered numbered = record {
+    rows = λ table of. same.counts table (other-table table of) ∙ numbered.rows table of;
+    whole = same.firsts tables.Whole refl 0 ∙ numbered.whole;
+  }
+
+  pub parts-keep : (node : Node) (number : ℕ) → StandsAt sheet before node number → StandsAt sheet now node number
+  parts-keep node number x = record {
+    k = x.k;
+    row = x.row;
+    at = record {
+      row = let rows = same.counts (table_of node) (not-part node) in omega (arith, x.at.row, rows);
+      family = x.at.family;
+      is = let start = same.firsts (table_of node) (not-part node) x.k in omega (arith, start, x.at.is);
+    };
+  }
 
 -- a row of a name stands somewhere
 pub found : {Row : Type 0} (name_in : Row → List ℕ) (name : List ℕ) (rows : List Row) → has_row name_in name rows ≡ true

@@ -154,6 +154,7 @@ node_of tables.Liability family name = nodes.Liability name (get_or liabilities_
 node_of tables.Group family name = nodes.Group name (get_or groups_in family of_groups.Total)
 node_of tables.Currency family name = nodes.Currency name (get_or currencies_in family of_currencies.Choice)
 node_of tables.Whole family name = nodes.Whole (back family)
+node_of tables.Part family name = nodes.Whole (back family)
 
 led-back : (node : Node) → family_of node < stride (table_of node) → node_of (table_of node) (family_of node) (name_of node) ≡ node
 led-back (nodes.Fund name of_funds.Total) h = refl

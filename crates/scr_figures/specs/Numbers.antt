@@ -1,5 +1,5 @@
 -- The numbers of a balance sheet's figures (this project's own): that of a figure is the first number of its row and its family.
-use Rattle.std.specs.Prelude.{◌≡◌, ℕ, List, [], ◌∷◌, Some, length, map, slice_get}
+use Rattle.std.specs.Prelude.{◌≡◌, ℕ, Bool, true, false, List, [], ◌∷◌, Some, length, map, slice_get}
 use Rattle.std.specs.List.{IsDistinct}
 use Rattle.scr_names.specs.Names.{same_name}
 use Rattle.scr_numbers.specs.Ranges.{IsAt, Numbered, count, first}
@@ -10,7 +10,12 @@ use Rattle.scr_sheet.specs.declared.sheet.BalanceSheet.{BalanceSheet}
 use Rattle.scr_nodes.specs.declared.node.Node.{Node}
 use Rattle.scr_figures.specs.Families.{family_of, name_of, table_of}
 
--- the names of a table's rows in order; the whole sheet is one row without a name
+-- the table is one of rows of the sheet; the parts of member lists are none
+abbrev pub is_of_sheet : Table → Bool
+is_of_sheet tables.Part = false
+is_of_sheet table = true
+
+-- the names of a table's rows in order; the whole sheet is one row without a name, and a part has no name
 abbrev pub names_in : BalanceSheet → Table → List (List ℕ)
 names_in sheet tables.Whole = [] ∷ []
 names_in sheet tables.Fund = map stake_name sheet.funds
@@ -18,10 +23,11 @@ names_in sheet tables.Security = map position_name sheet.securities
 names_in sheet tables.Liability = map liability_name sheet.liabilities
 names_in sheet tables.Group = map group_name sheet.groups
 names_in sheet tables.Currency = map curve_name sheet.curves
+names_in sheet tables.Part = []
 
--- each row of the sheet has numbers, and the whole sheet has the first ones
+-- each row of the sheet has numbers, and the whole sheet has the first ones; how many parts of member lists have some is not told
 pub record IsNumbered (sheet : BalanceSheet) (places : Numbered) : Type 0 where
-  pub rows : (table : Table) → count places table ≡ length (names_in sheet table)
+  pub rows : (table : Table) → is_of_sheet table ≡ true → count places table ≡ length (names_in sheet table)
   pub whole : first places tables.Whole 0 ≡ 0
 
 -- the figure has this number

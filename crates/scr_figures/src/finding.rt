@@ -1,7 +1,7 @@
 //! A figure's number, and the figure of a number.
 ghost use Rattle.std.specs.Prelude.{◌≡◌, ℕ, ◌<◌, IfSome, IsNone, Some, length, slice_get};
 ghost use Rattle.scr_figures.specs.Families.{family_of, name_of, table_of};
-ghost use Rattle.scr_figures.specs.Numbers.{IsNumbered, StandsAt, names_in};
+ghost use Rattle.scr_figures.specs.Numbers.{IsNumbered, StandsAt, is_of_sheet, names_in};
 ghost use Rattle.scr_figures.specs.Records.{place_in};
 ghost use Rattle.scr_numbers.specs.Ranges.{stride};
 ghost use Rattle.scr_nodes.specs.declared.node.Node.{Node};
@@ -35,6 +35,11 @@ pub fn node_at(places: &Places, sheet: &BalanceSheet, number: u32) -> Option<Nod
     ensures absent { IsNone result → (node : Node) → StandsAt sheet.now places.now node number → ⊥ }
 {
     let place = places.at(number)?;
+    // The size is what says that no number is that of two.
+    let _size = places.len();
+    if !is_of_sheet(place.table) {
+        return None;
+    }
     Some(node_of(sheet, &place))
 }
 
@@ -50,6 +55,13 @@ fn row_place(sheet: &BalanceSheet, node: &Node) -> Option<usize>
         Node::Group(name, _) => place_of(&sheet.groups, name),
         Node::Whole(_) => Some(0),
     }
+}
+
+/// Whether the rows of the table are rows of the sheet.
+fn is_of_sheet(table: Table) -> bool
+    ensures { result ≡ is_of_sheet table }
+{
+    !matches!(table, Table::Part)
 }
 
 /// The figure with this family of the row at this place.
@@ -72,5 +84,6 @@ fn node_of(sheet: &BalanceSheet, place: &Place) -> Node
         }
         Table::Group => Node::Group(sheet.groups.at(row).name(), group_at(place.family)),
         Table::Currency => Node::Currency(sheet.curves.at(row).name(), currency_at(place.family)),
+        Table::Part => unreachable!(),
     }
 }

@@ -1,6 +1,7 @@
 //! Laws of the numbers of figures, whatever a program does. Each is a function that does nothing, whose contract is the law.
 ghost use Rattle.std.specs.Prelude.{◌≡◌, ◌<◌, ℕ, true, Contains};
-ghost use Rattle.scr_numbers.specs.Ranges.{IsApart, Numbered};
+ghost use Rattle.scr_numbers.specs.Moves.{IsSameBut};
+ghost use Rattle.scr_numbers.specs.Ranges.{IsApart, IsAt, Numbered};
 ghost use Rattle.scr_sheet.specs.Records.{applied};
 ghost use Rattle.scr_sheet.specs.Validity.{Valid};
 ghost use Rattle.scr_sheet.specs.declared.edit.Edit.{Edit};
@@ -50,6 +51,16 @@ pub fn taken_back()
     ensures kept { (edit : Edit) (sheet : BalanceSheet) (before between now : Numbered) → IsNumbered sheet before
         → Takes (step_of edit sheet) before between → TakesBack (step_of edit sheet) between now → (node : Node) (number : ℕ)
         → StandsAt sheet before node number → StandsAt sheet now node number }
+{}
+
+/// While parts of member lists come, each figure keeps its number; and no number is that of a figure and of a part.
+pub fn parts()
+    ensures numbered { (sheet : BalanceSheet) (before now : Numbered) → IsSameBut tables.Part before now
+        → IsNumbered sheet before → IsNumbered sheet now }
+    ensures kept { (sheet : BalanceSheet) (before now : Numbered) → IsSameBut tables.Part before now → (node : Node) (number : ℕ)
+        → StandsAt sheet before node number → StandsAt sheet now node number }
+    ensures apart { (sheet : BalanceSheet) (places : Numbered) → IsApart places → (node : Node) (number : ℕ)
+        → StandsAt sheet places node number → (k j : ℕ) → IsAt places tables.Part k j number → ⊥ }
 {}
 
 /// Whatever a figure at the lowest level is reckoned from is the total of a fund.

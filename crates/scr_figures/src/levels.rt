@@ -23,7 +23,7 @@ pub fn level(table: Table, family: u32) -> u32
     ensures few { result < 14 }
 {
     match table {
-        Table::Fund | Table::Liability => 0,
+        Table::Fund | Table::Liability | Table::Part => 0,
         Table::Security => security_level(security_at(family)),
         Table::Group => group_level(group_at(family)),
         Table::Currency => currency_level(currency_at(family)),

@@ -10,3 +10,4 @@ pub mod LiveNodes
 pub mod Numbers
 pub mod Levels
 pub mod Reckoned
+pub mod Changed

@@ -1,11 +1,13 @@
 //! Laws of the graph of figures, whatever a program does. Each is a function that does nothing,
 //! whose contract is the law.
 ghost use Rattle.std.specs.Prelude.{◌≡◌, ◌↔◌, ◌<◌, ◌⊎◌, ℕ, true, Contains, List, Some, map, slice_get, take};
+ghost use Rattle.scr_factors.specs.Values.{FactorValues};
 ghost use Rattle.scr_sheet.specs.declared.sheet.BalanceSheet.{BalanceSheet};
 ghost use Rattle.scr_sheet.specs.Validity.{Valid};
 ghost use Rattle.scr_nodes.specs.declared.node.Node.{Node};
 ghost use Rattle.scr_nodes.specs.declared.node.Node.TheVariants as nodes;
 ghost use Rattle.scr_nodes.specs.declared.node.Whole.{Whole};
+ghost use Rattle.scr_nodes.specs.Changed.{IsChanged};
 ghost use Rattle.scr_nodes.specs.Levels.{level};
 ghost use Rattle.scr_nodes.specs.Live.{is_live};
 ghost use Rattle.scr_nodes.specs.LiveNodes.{HasNoRepeats, live_nodes, rest_nodes, total_nodes};
@@ -71,6 +73,14 @@ pub fn recursion<F>()
         → (found : Node → F) → ((node : Node)
         → found node ≡ rule node (map found (sources_of sheet node)))
         → (node : Node) → found node ≡ reckoned none rule sheet node }
+{}
+
+/// From a balance sheet to itself no figure changes; and what changes from one to another changes from that one back, whatever the
+/// factors.
+pub fn changes()
+    ensures none { (factors : FactorValues) (sheet : BalanceSheet) (node : Node) → ¬ IsChanged factors sheet sheet node }
+    ensures back { (factors : FactorValues) (before after : BalanceSheet) (node : Node)
+        → IsChanged factors before after node → IsChanged factors after before node }
 {}
 
 fn shared<T: Send + Sync>(_: &T) {}

@@ -259,7 +259,7 @@ module _ (places : Numbered) (empty : (table : Table) → roll_at places.rolls t
     whole_first = revives.firsts 0 ∙ ap (first between tables.Whole) (sym (made-none tables.Whole)) ∙ makes.start ∙ none;
   }
 
-pub empty-kept : (now : Inside) → length now.rolls.items ≡ 6 → ((table : Table) → roll_at now.rolls.items table ≡ no_ranges)
+pub empty-kept : (now : Inside) → length now.rolls.items ≡ 7 → ((table : Table) → roll_at now.rolls.items table ≡ no_ranges)
     → now.ranges.items ≡ [] → now.owner.items ≡ [] → IsKept now
 empty-kept now six empty ranges owner = record {
   tables = six;

@@ -14,7 +14,8 @@ table_of (suc zero) = tables.Fund
 table_of (suc (suc zero)) = tables.Security
 table_of (suc (suc (suc zero))) = tables.Liability
 table_of (suc (suc (suc (suc zero)))) = tables.Group
-table_of n = tables.Currency
+table_of (suc (suc (suc (suc (suc zero))))) = tables.Currency
+table_of n = tables.Part
 
 back : (table : Table) → table_of (number_of table) ≡ table
 back tables.Whole = refl
@@ -23,6 +24,7 @@ back tables.Security = refl
 back tables.Liability = refl
 back tables.Group = refl
 back tables.Currency = refl
+back tables.Part = refl
 
 -- tables of one number are one
 pub same_table-is : (table other : Table) → same_table table other ≡ true → table ≡ other
@@ -35,6 +37,7 @@ same_table-self tables.Security = refl
 same_table-self tables.Liability = refl
 same_table-self tables.Group = refl
 same_table-self tables.Currency = refl
+same_table-self tables.Part = refl
 
 pub stride-some : (table : Table) → 0 < stride table
 stride-some tables.Whole = omega arith
@@ -43,6 +46,7 @@ stride-some tables.Security = omega arith
 stride-some tables.Liability = omega arith
 stride-some tables.Group = omega arith
 stride-some tables.Currency = omega arith
+stride-some tables.Part = omega arith
 
 -- the same ranges, told of another view
 module _ (made_in made_now : Table → ℕ) (first_of first_now : Table → ℕ → ℕ) (ranges : List Range) (owner : List ℕ)

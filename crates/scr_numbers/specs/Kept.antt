@@ -44,7 +44,7 @@ abbrev pub numbered_of : Inside → Numbered
 numbered_of places = record { size = length places.owner.items; rolls = places.rolls.items }
 
 pub record IsKept (places : Inside) : Type 0 where
-  pub tables : length places.rolls.items ≡ 6
+  pub tables : length places.rolls.items ≡ 7
   pub live : (table : Table) → count (numbered_of places) table ≤ made (numbered_of places) table
   pub few : (table : Table) → made (numbered_of places) table ≤ length places.ranges.items
   pub numbers : length places.ranges.items ≤ length places.owner.items

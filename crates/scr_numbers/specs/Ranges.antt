@@ -22,6 +22,7 @@ stride tables.Security = 6
 stride tables.Liability = 12
 stride tables.Group = 3
 stride tables.Currency = 9
+stride tables.Part = 3
 
 -- the place of a table's ranges among those of all tables
 abbrev pub number_of : Table → ℕ
@@ -31,6 +32,7 @@ number_of tables.Security = 2
 number_of tables.Liability = 3
 number_of tables.Group = 4
 number_of tables.Currency = 5
+number_of tables.Part = 6
 
 -- two tables are one
 abbrev pub same_table : Table → Table → Bool

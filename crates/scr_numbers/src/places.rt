@@ -13,7 +13,7 @@ use std::alloc::{AllocError as NoMemory, Global};
 use std::marker::Model;
 
 /// How many tables there are.
-const TABLES: usize = 6;
+const TABLES: usize = 7;
 
 /// What a range of numbers is of, where that stands in its table, and its first number.
 #[derive(Clone, Copy)]
@@ -219,7 +219,7 @@ impl Places {
 
 /// The rolls of all tables, without a range.
 fn no_rolls(alloc: Global) -> Result<Vec<Roll>, NoMemory>
-    ensures tables { IfOk result (λ rolls. length rolls.items ≡ 6) }
+    ensures tables { IfOk result (λ rolls. length rolls.items ≡ 7) }
     ensures empty { IfOk result (λ rolls. (table : Table) → roll_at rolls.items table ≡ no_ranges) }
 {
     let mut rolls = Vec::with_capacity(alloc, TABLES)?;
@@ -231,7 +231,7 @@ fn no_rolls(alloc: Global) -> Result<Vec<Roll>, NoMemory>
 
 /// The roll of a table.
 fn roll_of(rolls: &[Roll], table: Table) -> &Roll
-    requires { length rolls.now ≡ 6 }
+    requires { length rolls.now ≡ 7 }
     ensures { result.now ≡ roll_at rolls.now table }
 {
     &rolls[table.number()]
@@ -239,7 +239,7 @@ fn roll_of(rolls: &[Roll], table: Table) -> &Roll
 
 /// Says how many ranges of a table are of rows.
 fn set_live(rolls: &mut Vec<Roll>, table: Table, live: usize)
-    requires { length rolls.old.items ≡ 6 }
+    requires { length rolls.old.items ≡ 7 }
     ensures others { IsRollsBut table rolls.old.items rolls.new.items }
     ensures firsts { (roll_at rolls.new.items table).firsts ≡ (roll_at rolls.old.items table).firsts }
     ensures live { (roll_at rolls.new.items table).live ≡ live }
@@ -249,7 +249,7 @@ fn set_live(rolls: &mut Vec<Roll>, table: Table, live: usize)
 
 /// One more free range of a table.
 fn push_first(rolls: &mut Vec<Roll>, table: Table, first: u32) -> Result<(), NoMemory>
-    requires { length rolls.old.items ≡ 6 }
+    requires { length rolls.old.items ≡ 7 }
     ensures others { IsRollsBut table rolls.old.items rolls.new.items }
     ensures ok { OnOk result ((roll_at rolls.new.items table).firsts ≡ (roll_at rolls.old.items table).firsts ++ first ∷ []) }
     ensures live { (roll_at rolls.new.items table).live ≡ (roll_at rolls.old.items table).live }
@@ -260,7 +260,7 @@ fn push_first(rolls: &mut Vec<Roll>, table: Table, first: u32) -> Result<(), NoM
 
 /// The ranges of two neighbours of a table change places.
 fn exchange_rolls(rolls: &mut Vec<Roll>, table: Table, k: usize)
-    requires tables { length rolls.old.items ≡ 6 }
+    requires tables { length rolls.old.items ≡ 7 }
     requires place { k + 1 < length (roll_at rolls.old.items table).firsts }
     ensures others { IsRollsBut table rolls.old.items rolls.new.items }
     ensures firsts { Sunk k (k + 1) (first_in (roll_at rolls.old.items table).firsts)

@@ -2,7 +2,8 @@
 ghost use Rattle.std.specs.Prelude.{◌≡◌, ◌<◌};
 ghost use Rattle.scr_numbers.specs.Ranges.{number_of, stride};
 
-/// A table whose rows have numbers, or the whole sheet, which is numbered as a table of one row.
+/// A table whose rows have numbers; or the whole sheet, which is numbered as a table of one row; or the parts of the member lists of
+/// sums, of which each has one number for each sum that runs over its list.
 #[derive(Clone, Copy, PartialEq, Eq)]
 pub enum Table {
     Whole,
@@ -11,6 +12,7 @@ pub enum Table {
     Liability,
     Group,
     Currency,
+    Part,
 }
 
 impl Table {
@@ -25,13 +27,14 @@ impl Table {
             Table::Liability => 12,
             Table::Group => 3,
             Table::Currency => 9,
+            Table::Part => 3,
         }
     }
 
     /// The place of the table's roll among the rolls.
     pub(crate) fn number(self) -> usize
         ensures number { result ≡ number_of self }
-        ensures few { number_of self < 6 }
+        ensures few { number_of self < 7 }
     {
         match self {
             Table::Whole => 0,
@@ -40,6 +43,7 @@ impl Table {
             Table::Liability => 3,
             Table::Group => 4,
             Table::Currency => 5,
+            Table::Part => 6,
         }
     }
 }

@@ -32,7 +32,7 @@ abbrev kind_in : Point → ℕ
 kind_in (points.Block block) = level_number block.level
 kind_in (points.Figure node) = 0
 
-members-apart : (sum : Sum) (a b : List ℕ) → member_point sum a ≡ member_point sum b → a ≡ b
+pub members-apart : (sum : Sum) (a b : List ℕ) → member_point sum a ≡ member_point sum b → a ≡ b
 members-apart (sums.Class class) a b e = ap name_in e
 members-apart sums.Closed a b e = ap name_in e
 members-apart sums.Spreads a b e = ap name_in e

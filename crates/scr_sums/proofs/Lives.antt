@@ -37,7 +37,7 @@ use Rattle.scr_sums.proofs.Members.{listed-members}
 
 -- ---- names in lists
 
-named : (name : List ℕ) (names : List (List ℕ)) → list_any (same_name name) names ≡ true → IsMember name names
+pub named : (name : List ℕ) (names : List (List ℕ)) → list_any (same_name name) names ≡ true → IsMember name names
 named name [] there = absurd (cc)
 named name (other ∷ names) there = by (same_name name other) refl (named name names)
   where
@@ -49,7 +49,7 @@ or-last : (a b : Bool) → b ≡ true → (a || b) ≡ true
 or-last true b e = refl
 or-last false b e = e
 
-is-named : (name : List ℕ) (names : List (List ℕ)) → IsMember name names → list_any (same_name name) names ≡ true
+pub is-named : (name : List ℕ) (names : List (List ℕ)) → IsMember name names → list_any (same_name name) names ≡ true
 is-named name [] h = absurd h
 is-named name (other ∷ names) (inl e) =
     ap (λ t. t || list_any (same_name name) names) (ap (same_name name) (sym e) ∙ nat_list_eq_equiv.refl name)
@@ -58,7 +58,7 @@ is-named name (other ∷ names) (inr h) = or-last (same_name name other) (list_a
 -- ---- what the sheet has
 
 -- a sum has a figure that is reckoned from it
-summed-reader : (sum : Sum) → is_some (first_sum (reader_of sum)) ≡ true
+pub summed-reader : (sum : Sum) → is_some (first_sum (reader_of sum)) ≡ true
 summed-reader (sums.Class class) = refl
 summed-reader sums.Closed = refl
 summed-reader sums.Spreads = refl
@@ -71,7 +71,7 @@ summed-reader (sums.Presents currency) = refl
 summed-reader (sums.Losses biometric projection) = refl
 summed-reader sums.Squares = refl
 
-own-sum : (sum : Sum) → (first_sum (reader_of sum) ≡ Some sum) ⊎ (second_sum (reader_of sum) ≡ Some sum)
+pub own-sum : (sum : Sum) → (first_sum (reader_of sum) ≡ Some sum) ⊎ (second_sum (reader_of sum) ≡ Some sum)
 own-sum (sums.Class class) = inl refl
 own-sum sums.Closed = inr refl
 own-sum sums.Spreads = inl refl

@@ -38,21 +38,21 @@ same-kind biometrics.Health kinds.Life = refl
 same-kind biometrics.Health kinds.Health = refl
 same-kind biometrics.Health kinds.Other = refl
 
-same-test : (biometric : Biometric) (projection : Projection) → is_stressed biometric projection ≡ is_losing (kind_of biometric) projection
+pub same-test : (biometric : Biometric) (projection : Projection) → is_stressed biometric projection ≡ is_losing (kind_of biometric) projection
 same-test biometric projection =
     λ i liability. (same-kind biometric liability.kind) i && has_flows projection liability
 
 module _ (sheet : BalanceSheet) (valid : Valid sheet) where
-  once-groups : IsDistinct same_name (map group_name sheet.groups)
+  pub once-groups : IsDistinct same_name (map group_name sheet.groups)
   once-groups = distinct-left (map group_name sheet.groups) _ valid.named_once
 
-  once-securities : IsDistinct same_name (map position_name sheet.securities)
+  pub once-securities : IsDistinct same_name (map position_name sheet.securities)
   once-securities = distinct-securities sheet valid.named_once
 
-  once-funds : IsDistinct same_name (map stake_name sheet.funds)
+  pub once-funds : IsDistinct same_name (map stake_name sheet.funds)
   once-funds = distinct-funds sheet valid.named_once
 
-  once-liabilities : IsDistinct same_name (map liability_name sheet.liabilities)
+  pub once-liabilities : IsDistinct same_name (map liability_name sheet.liabilities)
   once-liabilities =
       distinct-left (map liability_name sheet.liabilities) _
       (distinct-right (map position_name sheet.securities) _ (distinct-right (map group_name sheet.groups) _ valid.named_once))

@@ -1,5 +1,5 @@
 -- No point is a source of another twice.
-use Rattle.std.proofs.Common.{◌≡◌, ◌⊎◌, inl, inr, ℕ, ◌+◌, ◌-◌, ◌<◌, ◌≤◌, Bool, true, false, cond, Contains, List, [], ◌++◌, Option, Some, None, length, get_or, slice_get, map, refl, sym, ap, ◌∙◌, arith}
+use Rattle.std.proofs.Common.{◌≡◌, ◌⊎◌, inl, inr, ℕ, ◌+◌, ◌-◌, ◌<◌, ◌≤◌, Bool, true, false, cond, Contains, List, ◌++◌, Option, Some, None, length, get_or, slice_get, map, refl, sym, ap, ◌∙◌, arith}
 use Rattle.std.specs.Prelude.{is_some}
 use Rattle.std.specs.Option.{option_map_or}
 use Rattle.std.proofs.lemmas.Bool.{cases_lt}
@@ -31,7 +31,7 @@ use Rattle.scr_sums.proofs.Apart.{points-apart}
 
 module _ {X : Type 0} where
   -- what stands at a place of a list
-  at-place : (xs : List X) (k : ℕ) → k < length xs → (x : X) × (slice_get xs k ≡ Some x) × (get_or xs k x ≡ x)
+  pub at-place : (xs : List X) (k : ℕ) → k < length xs → (x : X) × (slice_get xs k ≡ Some x) × (get_or xs k x ≡ x)
   at-place xs k inside = by (slice_get_cases xs k).1
     where
       by : ((x : X) × (k < length xs) × (slice_get xs k ≡ Some x) × (get_or xs k x ≡ x)) ⊎ ((length xs ≤ k) × (slice_get xs k ≡ None))
@@ -40,20 +40,20 @@ module _ {X : Type 0} where
       by (inr past) = absurd (omega (arith, past.0, inside))
 
   module _ (xs ys : List X) where
-    in-front : (k : ℕ) → k < length xs → slice_get (xs ++ ys) k ≡ slice_get xs k
+    pub in-front : (k : ℕ) → k < length xs → slice_get (xs ++ ys) k ≡ slice_get xs k
     in-front k h =
         let x = at-place xs k h in
         slice_get-get_or (xs ++ ys) k x.0 (omega (arith, h, length-append xs ys))
         ∙ ap Some (get_or_append_left xs ys x.0 k h ∙ x.2) ∙ sym x.1
 
-    behind : (k : ℕ) → k < length ys → slice_get (xs ++ ys) (length xs + k) ≡ slice_get ys k
+    pub behind : (k : ℕ) → k < length ys → slice_get (xs ++ ys) (length xs + k) ≡ slice_get ys k
     behind k h =
         let y = at-place ys k h in
         slice_get-get_or (xs ++ ys) (length xs + k) y.0 (omega (arith, h, length-append xs ys))
         ∙ ap Some (get_or-append-add xs ys k y.0 ∙ y.2) ∙ sym y.1
 
     -- no element of one is one of the other
-    once-append : HasEachOnce xs → HasEachOnce ys → ((z : X) → Contains xs z → Contains ys z → ⊥) → HasEachOnce (xs ++ ys)
+    pub once-append : HasEachOnce xs → HasEachOnce ys → ((z : X) → Contains xs z → Contains ys z → ⊥) → HasEachOnce (xs ++ ys)
     once-append one two apart j k before inside same = by (cases_lt k (length xs))
       where
         by : (k < length xs) ⊎ (length xs ≤ k) → ⊥
@@ -113,7 +113,7 @@ module _ (book : Rolled) (sum : Sum) where
       by (inl m) = ap point_number (sym m.2) ∙ members m.0
       by (inr b) = ap point_number (sym b.3)
 
-member-number : (sum : Sum) (name : List ℕ) → point_number (member_point sum name) ≡ sum_number sum
+pub member-number : (sum : Sum) (name : List ℕ) → point_number (member_point sum name) ≡ sum_number sum
 member-number (sums.Class class) name = refl
 member-number sums.Closed name = refl
 member-number sums.Spreads name = refl
@@ -139,7 +139,7 @@ numbers-differ (nodes.Whole wholes.Concentration) = omega arith
 numbers-differ (nodes.Whole (wholes.BioScenario biometric projection measures.Gross)) = omega arith
 numbers-differ node = omega arith
 
-abbrev node_in : Node → Point → Node
+abbrev pub node_in : Node → Point → Node
 node_in other (points.Figure node) = node
 node_in other (points.Block block) = other
 

@@ -31,14 +31,14 @@ module _ {X : Type 0} (test : X → Bool) where
   filter-none (y ∷ ys) fail =
       ap (λ t. cond t (y ∷ filter test ys) (filter test ys)) (fail y (inl refl)) ∙ filter-none ys (λ z h. fail z (inr h))
 
-  filter-front : (xs ys : List X) → ((z : X) → IsMember z xs → test z ≡ true) → ((z : X) → IsMember z ys → test z ≡ false)
+  pub filter-front : (xs ys : List X) → ((z : X) → IsMember z xs → test z ≡ true) → ((z : X) → IsMember z ys → test z ≡ false)
       → filter test (xs ++ ys) ≡ xs
   filter-front [] ys pass fail = filter-none ys fail
   filter-front (x ∷ xs) ys pass fail =
       ap (λ t. cond t (x ∷ filter test (xs ++ ys)) (filter test (xs ++ ys))) (pass x (inl refl))
       ∙ ap (λ zs. x ∷ zs) (filter-front xs ys (λ z h. pass z (inr h)) fail)
 
-  filter-back : (xs ys : List X) → ((z : X) → IsMember z xs → test z ≡ false) → ((z : X) → IsMember z ys → test z ≡ true)
+  pub filter-back : (xs ys : List X) → ((z : X) → IsMember z xs → test z ≡ false) → ((z : X) → IsMember z ys → test z ≡ true)
       → filter test (xs ++ ys) ≡ ys
   filter-back [] ys fail pass = all ys pass
     where

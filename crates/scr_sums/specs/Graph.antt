@@ -23,7 +23,12 @@ pub record Rolled : Type 0 where
   pub sheet : BalanceSheet
   pub rolls : Roll → List (List ℕ)
 
--- the lists have just the members that the balance sheet has, each once
+-- the list has just the members that the balance sheet has, each once
+pub record IsRoll (book : Rolled) (roll : Roll) : Type 0 where
+  pub members : (name : List ℕ) → list_any (same_name name) (book.rolls roll) ≡ is_member roll name book.sheet
+  pub once : IsDistinct same_name (book.rolls roll)
+
+-- so have all
 pub record AreRolls (book : Rolled) : Type 0 where
   pub members : (roll : Roll) (name : List ℕ) → list_any (same_name name) (book.rolls roll) ≡ is_member roll name book.sheet
   pub once : (roll : Roll) → IsDistinct same_name (book.rolls roll)

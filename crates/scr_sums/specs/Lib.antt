@@ -2,3 +2,8 @@ pub mod Sums
 pub mod Graph
 pub mod Levels
 pub mod Changed
+pub mod Books
+pub mod Turns
+pub mod Touched
+pub mod Told
+pub mod BlockNumbers

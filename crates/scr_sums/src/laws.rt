@@ -1,6 +1,6 @@
 //! Laws of the large sums with the Blocks under them, whatever a program does. Each is a function that does nothing, whose contract is
 //! the law.
-ghost use Rattle.std.specs.Prelude.{◌≡◌, ◌↔◌, ◌<◌, ◌++◌, false, true, Bool, Contains, List, Option, is_some, length, map};
+ghost use Rattle.std.specs.Prelude.{◌≡◌, ◌↔◌, ◌<◌, ◌≤◌, ◌*◌, ◌++◌, false, true, Bool, Contains, List, Option, is_some, length, map};
 ghost use Rattle.std.specs.List.{list_any};
 ghost use Rattle.scr_num.specs.Rounding.{Ends};
 ghost use Rattle.scr_num.specs.Sums.{sum_ends};
@@ -11,11 +11,14 @@ ghost use Rattle.scr_blocks.specs.Readers.{AreApart};
 ghost use Rattle.scr_nodes.specs.Live.{is_live};
 ghost use Rattle.scr_nodes.specs.Sources.{sources_of};
 ghost use Rattle.scr_nodes.specs.declared.node.Node.{Node};
+ghost use Rattle.scr_sheet.specs.Records.{applied};
 ghost use Rattle.scr_sheet.specs.Validity.{Valid};
+ghost use Rattle.scr_sheet.specs.declared.edit.Edit.{Edit};
 ghost use Rattle.scr_sheet.specs.declared.sheet.BalanceSheet.{BalanceSheet};
 ghost use Rattle.scr_sums.specs.Graph.{AreRolls, Rolled, block_point, is_live_in, listed, member_point, reads, roll_in, sources_in, tops_of, worth_in};
 ghost use Rattle.scr_sums.specs.Changed.{IsChangedIn, IsSameIn};
 ghost use Rattle.scr_sums.specs.Levels.{level_in};
+ghost use Rattle.scr_sums.specs.Touched.{IsGainedOrLost, IsTouchedIn, applied_in};
 ghost use Rattle.scr_sums.specs.Sums.{first_sum, second_sum};
 ghost use Rattle.scr_sums.specs.declared.point.Block.{Block};
 ghost use Rattle.scr_sums.specs.declared.point.Point.{Point};
@@ -101,4 +104,16 @@ pub fn changes()
         → is_live before.sheet node ≡ is_live after.sheet node
         → IsSameIn factors before after (points.Figure node)
         ↔ ((tops_of before (first_sum node) ≡ tops_of after (first_sum node)) × (tops_of before (second_sum node) ≡ tops_of after (second_sum node))) }
+{}
+
+/// A record touches at most four Blocks for each pair of a figure and a source that it makes or ends: no list of Blocks that it touches, each
+/// once, is longer than four times a list in which all these pairs stand.
+pub fn few()
+    ensures { (factors : FactorValues) (edit : Edit) (book : Rolled) → Valid book.sheet → Valid (applied edit book.sheet)
+        → AreRolls book → AreRolls (applied_in edit book)
+        → (blocks : List Block) → HasEachOnce blocks
+        → ((block : Block) → Contains blocks block → IsTouchedIn factors book edit (points.Block block))
+        → (pairs : List (Node × Node))
+        → ((node source : Node) → IsGainedOrLost book.sheet (applied edit book.sheet) node source → Contains pairs (node, source))
+        → length blocks ≤ 4 * length pairs }
 {}

@@ -3,10 +3,19 @@
 //! sheet are as they were: a Block is no figure of it.
 #![tactic(auto)]
 
+mod graph;
+mod later;
 pub mod laws;
+mod levels;
+pub mod numbers;
 mod point;
 mod sum;
+mod touched;
+mod turns;
 
+pub use graph::{is_live_in, source, sums_of};
+pub use levels::block_level;
 pub use point::{Block, Point};
 pub use scr_blocks::Level;
 pub use sum::{Sum, first_sum, second_sum};
+pub use touched::touched_in;

@@ -72,6 +72,31 @@ impl Sum {
             }
         }
     }
+
+    /// A figure that is reckoned from it. Those of a currency's rise and of its fall are reckoned from the same two sums, and the
+    /// rise is told.
+    pub fn reader(&self) -> Node
+        ensures { result ≡ spec.reader_of self.now }
+    {
+        match self {
+            Sum::Class(class) => Node::Whole(Whole::ClassSum(*class)),
+            Sum::Closed => Node::Whole(Whole::ClassSum(Class::Type2Equity)),
+            Sum::Spreads => Node::Whole(Whole::Spread),
+            Sum::Grouped => Node::Whole(Whole::Assets),
+            Sum::Group(name) => Node::Group(*name, OfGroup::Total),
+            Sum::Assets(currency) | Sum::Presents(currency) => {
+                let rise = OfCurrency::Scenario(Direction::Up, Measure::Gross);
+                Node::Currency(*currency, rise)
+            }
+            Sum::Rates(currency, direction) | Sum::Costs(currency, direction) => {
+                Node::Currency(*currency, OfCurrency::Loss(*direction))
+            }
+            Sum::Losses(biometric, projection) => {
+                Node::Whole(Whole::BioScenario(*biometric, *projection, Measure::Gross))
+            }
+            Sum::Squares => Node::Whole(Whole::Concentration),
+        }
+    }
 }
 
 /// The liabilities on which the stresses of the kind fall (Articles 136 and 151).

@@ -5,7 +5,7 @@ use Rattle.scr_numbers.specs.declared.table.Table.{Table}
 use Rattle.scr_figures.specs.Families.{name_of, table_of}
 use Rattle.scr_figures.specs.Numbers.{StandsAt, names_in}
 use Rattle.scr_figures.proofs.RowNames.{placed-nowhere, placed-some}
-use Rattle.scr_figures.proofs.Standing.{stands}
+use Rattle.scr_figures.proofs.Standing.{of-sheet, stands}
 use Rattle.scr_figures.proofs.finding.find.Goals as goal
 
 pub returns-in_err-row-clause-absent : goal.returns-in_err-row-clause-absent
@@ -17,7 +17,7 @@ first-requires c =
     let node = c.args.node.now in
     let names = names_in c.args.sheet.now (table_of node) in
     let room = slice_get_within names c.in_ok-row.row (name_of node) (placed-some (name_of node) names c.in_ok-row.row (sym c.in_ok-row.ensures)) in
-    let rows = c.requires.rows (table_of node) in
+    let rows = c.requires.rows (table_of node) (of-sheet node) in
     let same = ap (count c.args.places.now) c.table-table.ensures in
     omega (arith, room, rows, same)
 

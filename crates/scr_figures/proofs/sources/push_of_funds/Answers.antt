@@ -1,4 +1,4 @@
-use Rattle.std.proofs.Common.{◌≡◌, ◌+◌, sym, ◌∙◌, arith}
+use Rattle.std.proofs.Common.{◌≡◌, ◌+◌, refl, sym, ◌∙◌, arith}
 use Rattle.std.proofs.lemmas.List.{length-map}
 use Rattle.scr_numbers.specs.Ranges.{first}
 use Rattle.scr_numbers.specs.declared.table.Table.TheVariants as tables
@@ -10,7 +10,7 @@ use Rattle.scr_figures.proofs.sources.push_of_funds.Goals.{then-is_holder+in_ok-
 
 pub first-requires : goal.first-requires
 first-requires c =
-    let rows = c.requires.numbered.rows tables.Fund in
+    let rows = c.requires.numbered.rows tables.Fund refl in
     let same = length-map c.args.view.sheet.now.funds stake_name in
     omega (arith, rows, same, c.loop-k-test.true, c.len-k-end.ensures.count)
 

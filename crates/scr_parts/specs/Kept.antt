@@ -1,0 +1,30 @@
+-- How slots are kept (this project's own): each stands at one place of one list, and knows it.
+use Rattle.std.specs.Prelude.{◌≡◌, ℕ, ◌+◌, ◌<◌, ◌≤◌, ◌^◌, List, length}
+use Rattle.scr_parts.specs.Parts.{FREE, MOST, Parted, owner_at, room_in, size_of, slot_at, slots_in}
+use Rattle.scr_parts.specs.declared.parts.Owner.{Owner}
+use Rattle.scr_parts.specs.declared.parts.Parts.TheInside.{Inside}
+
+-- the slot knows that it stands at this place of this list
+pub record IsHeld (owner : List Owner) (key place slot : ℕ) : Type 0 where
+  pub within : slot < length owner
+  pub is : owner_at slot owner ≡ record { list = key; index = place }
+
+-- it does stand there
+pub record IsListed (parts : Parted) (slot : ℕ) (owner : Owner) : Type 0 where
+  pub within : owner.index < length (slots_in owner.list parts)
+  pub is : slot_at owner.list owner.index parts ≡ slot
+
+pub record AreKept (parts : Parted) : Type 0 where
+  pub held : (key place : ℕ) → place < length (slots_in key parts) → IsHeld parts.owner key place (slot_at key place parts)
+  pub listed : (slot : ℕ) → slot < size_of parts → IsListed parts slot (owner_at slot parts.owner)
+
+abbrev pub parted_of : Inside → Parted
+parted_of parts = record { lists = parts.lists.items; owner = parts.owner.items }
+
+-- there is room for all slots among the free ones
+pub record IsKept (parts : Inside) : Type 0 where
+  pub free : 0 < length parts.lists.items
+  pub lists : length parts.lists.items ≤ 2 ^ 32
+  pub size : size_of (parted_of parts) ≤ MOST
+  pub room : size_of (parted_of parts) ≤ length (slots_in FREE (parted_of parts)) + room_in FREE (parted_of parts)
+  pub slots : AreKept (parted_of parts)

@@ -1,0 +1,76 @@
+//! The first numbers of members, beside the lists.
+ghost use Rattle.std.specs.Prelude.{◌≡◌, ℕ, ◌<◌, ◌≤◌, [], length, OnOk};
+ghost use Rattle.scr_parts.specs.Firsts.{Becomes, back_at, firsts_in, joined, left, room_beside};
+
+use crate::numbers::{Numbers, leave, make_room, put_back, put_last};
+use std::alloc::{AllocError as NoMemory, Global};
+use std::marker::Model;
+
+/// Beside each list, place by place, the first number of the member's row. So the number of a member's figure costs one addition. The
+/// lists are those of the members, and move as these do.
+#[derive(Drop)]
+pub struct Firsts {
+    lists: Vec<Numbers>,
+}
+
+impl Model for Firsts {
+    ghost use Rattle.scr_parts.specs.Firsts.{FirstLists};
+
+    ghost Value = { FirstLists };
+
+    ghost view = { λ firsts. record { lists = firsts.lists.items } };
+}
+
+impl Firsts {
+    /// No list has a member.
+    pub fn new(alloc: Global) -> Firsts
+        ensures { (list : ℕ) → firsts_in list result ≡ [] }
+    {
+        Firsts {
+            lists: Vec::new(alloc),
+        }
+    }
+
+    /// The first numbers of a list's members, in the order of their places.
+    pub fn list(&self, list: u32) -> &[u32]
+        ensures { result.now ≡ firsts_in list self.now }
+    {
+        match self.lists.as_slice().get(list as usize) {
+            Some(numbers) => numbers.as_slice(),
+            None => &[],
+        }
+    }
+
+    /// Makes room for a member more. The members stay, whether there is memory or not.
+    pub fn reserve(&mut self, alloc: Global, list: u32) -> Result<(), NoMemory>
+        ensures ok { OnOk result (0 < room_beside list self.new) }
+        ensures still { Becomes list (firsts_in list self.old) self.old self.new }
+    {
+        make_room(&mut self.lists, alloc, list as usize)
+    }
+
+    /// A member comes, last of its list, without memory.
+    pub fn come(&mut self, list: u32, first: u32)
+        requires { 0 < room_beside list self.old }
+        ensures { Becomes list (joined first (firsts_in list self.old)) self.old self.new }
+    {
+        put_last(&mut self.lists, list as usize, first);
+    }
+
+    /// The member at a place leaves, and the last one takes its place. There is room for one more.
+    pub fn leave(&mut self, list: u32, place: u32)
+        requires { place < length (firsts_in list self.old) }
+        ensures { Becomes list (left place (firsts_in list self.old)) self.old self.new }
+    {
+        leave(&mut self.lists, list as usize, place);
+    }
+
+    /// A member that left a place stands there again, and the one that took it goes last, without memory.
+    pub fn put_back(&mut self, list: u32, place: u32, first: u32)
+        requires place { place ≤ length (firsts_in list self.old) }
+        requires room { 0 < room_beside list self.old }
+        ensures { Becomes list (back_at place first (firsts_in list self.old)) self.old self.new }
+    {
+        put_back(&mut self.lists, list as usize, place, first);
+    }
+}

@@ -1,0 +1,42 @@
+//! What holds of slots, whatever a program does. Each law is a function that does nothing, whose contract is the law.
+ghost use Rattle.std.specs.Prelude.{◌≡◌, ◌≢◌, ℕ, ◌<◌, ◌≤◌, List, Option, Some, length, map};
+ghost use Rattle.scr_rolls.specs.Members as members;
+ghost use Rattle.scr_parts.specs.Firsts.{back_at, joined, left};
+ghost use Rattle.scr_parts.specs.Parts.{AreOwn, FREE, Parted, part_at, slot_of, slots_in};
+ghost use Rattle.scr_parts.specs.Moves.{Moved};
+ghost use Rattle.scr_parts.specs.declared.parts.Part.{Part};
+
+use crate::{Firsts, Part, Parts};
+
+/// No two parts have a slot in common, and none of them is free.
+pub fn apart()
+    ensures own { (parts : Parted) → AreOwn parts → (one two : Part) (slot : ℕ) → slot_of one parts ≡ Some slot → slot_of two parts ≡ Some slot → one ≡ two }
+    ensures free { (parts : Parted) → AreOwn parts → (part : Part) (slot : ℕ) → slot_of part parts ≡ Some slot → part_at slot parts ≢ Option.None }
+{}
+
+/// A slot that left a list and goes back leaves each list as it was.
+pub fn moves_back()
+    ensures { (from to : ℕ) (before between after : Parted) → Moved from to before between → Moved to from between after
+        → (key : ℕ) → slots_in key after ≡ slots_in key before }
+{}
+
+/// The first numbers beside a list are those of its members before a member comes, leaves or goes back, whatever number a row has: so
+/// they are afterwards.
+pub fn firsts()
+    ensures came { (first : List ℕ → ℕ) (name : List ℕ) (roll : List (List ℕ))
+        → map first (members.come name roll) ≡ joined (first name) (map first roll) }
+    ensures left { (first : List ℕ → ℕ) (place : ℕ) (roll : List (List ℕ)) → place < length roll
+        → map first (members.left place roll) ≡ left place (map first roll) }
+    ensures back { (first : List ℕ → ℕ) (place : ℕ) (name : List ℕ) (roll : List (List ℕ)) → place ≤ length roll
+        → map first (members.back_at place name roll) ≡ back_at place (first name) (map first roll) }
+{}
+
+/// Slots may be handed to other threads, and be read by several at once.
+pub fn sharing() {
+    shared::<Firsts>();
+    shared::<Parts>();
+    shared::<Part>();
+}
+
+// Compiles only where threads may share a `T` and hand it on.
+fn shared<T: Send + Sync>() {}

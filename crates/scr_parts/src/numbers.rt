@@ -1,0 +1,182 @@
+//! One list of numbers.
+ghost use Rattle.std.specs.Prelude.{◌≡◌, ◌+◌, ◌<◌, ◌≤◌, ◌++◌, ◌∷◌, [], length, OnOk};
+ghost use Rattle.scr_parts.specs.Parts.{list_at};
+ghost use Rattle.scr_parts.specs.Firsts.{back_at, left};
+ghost use Rattle.scr_parts.specs.Moves.{AreOthers, Roomier};
+
+use std::alloc::{AllocError as NoMemory, Global};
+use std::marker::Model;
+
+/// The most numbers that a list has.
+const MOST: usize = u32::MAX as usize;
+
+/// Numbers in order. Contracts see the list, and for how many more there is room.
+#[derive(Drop)]
+pub(crate) struct Numbers {
+    numbers: Vec<u32>,
+}
+
+impl Model for Numbers {
+    ghost use Rattle.std.specs.Prelude.{◌≤◌, ◌-◌, length, min};
+    ghost use Rattle.std.specs.Vec.{vec_capacity};
+    ghost use Rattle.scr_parts.specs.Parts.{MOST, NumberList};
+
+    ghost Value = { NumberList };
+
+    ghost view = { λ list. record {
+      items = list.numbers.items;
+      room = min (vec_capacity list.numbers) MOST - length list.numbers.items;
+    } };
+
+    ghost invariant = { λ list. length list.numbers.items ≤ MOST };
+}
+
+impl Numbers {
+    /// No number.
+    pub(crate) fn new(alloc: Global) -> Numbers
+        ensures { result.items ≡ [] }
+    {
+        Numbers {
+            numbers: Vec::new(alloc),
+        }
+    }
+
+    /// The numbers in their order.
+    pub(crate) fn as_slice(&self) -> &[u32]
+        ensures { result.now ≡ self.now.items }
+    {
+        self.numbers.as_slice()
+    }
+
+    /// Makes room for so many more. The numbers stay, whether there is memory or not.
+    pub(crate) fn reserve(&mut self, more: usize) -> Result<(), NoMemory>
+        ensures ok { OnOk result (more ≤ self.new.room) }
+        ensures items { self.new.items ≡ self.old.items }
+        ensures room { self.old.room ≤ self.new.room }
+    {
+        if more > MOST - self.numbers.len() {
+            return Err(NoMemory);
+        }
+        self.numbers.try_reserve(more)
+    }
+
+    /// One comes, and goes last. It takes a place of the room, and no memory. Its place is told.
+    pub(crate) fn put(&mut self, number: u32) -> u32
+        requires { 0 < self.old.room }
+        ensures place { result ≡ length self.old.items }
+        ensures items { self.new.items ≡ self.old.items ++ number ∷ [] }
+        ensures room { self.old.room ≤ self.new.room + 1 }
+    {
+        let place = self.numbers.len() as u32;
+        self.numbers.push_reserved(number);
+        place
+    }
+
+    /// The last one leaves, and there is room for one more.
+    pub(crate) fn take(&mut self) -> u32
+        requires { 0 < length self.old.items }
+        ensures items { self.old.items ≡ self.new.items ++ result ∷ [] }
+        ensures room { self.old.room + 1 ≤ self.new.room }
+    {
+        match self.numbers.pop() {
+            Some(number) => number,
+            None => unreachable!(),
+        }
+    }
+
+    /// The one at a place leaves, and the last takes its place. There is room for one more.
+    fn leave(&mut self, place: u32)
+        requires { place < length self.old.items }
+        ensures items { self.new.items ≡ left place self.old.items }
+        ensures room { self.old.room + 1 ≤ self.new.room }
+    {
+        self.numbers.swap_remove(place as usize);
+    }
+
+    /// One that left a place stands there again, and the one that took it goes last. It takes a place of the room, and no memory.
+    fn put_back(&mut self, place: u32, number: u32)
+        requires place { place ≤ length self.old.items }
+        requires room { 0 < self.old.room }
+        ensures items { self.new.items ≡ back_at place number self.old.items }
+        ensures room { self.old.room ≤ self.new.room + 1 }
+    {
+        let last = self.numbers.len();
+        self.numbers.push_reserved(number);
+        self.numbers.swap(place as usize, last);
+    }
+}
+
+/// There is such a list, with room for a number more.
+pub(crate) fn make_room(lists: &mut Vec<Numbers>, alloc: Global, key: usize) -> Result<(), NoMemory>
+    ensures ok { OnOk result (0 < (list_at key lists.new.items).room) }
+    ensures roomier { Roomier lists.old.items lists.new.items }
+{
+    reach(lists, alloc, key)?;
+    room_for(lists, key, 1)
+}
+
+/// There is such a list.
+fn reach(lists: &mut Vec<Numbers>, alloc: Global, key: usize) -> Result<(), NoMemory>
+    ensures ok { OnOk result (key < length lists.new.items) }
+    ensures roomier { Roomier lists.old.items lists.new.items }
+{
+    if key > u32::MAX as usize {
+        return Err(NoMemory);
+    }
+    let more = (key + 1).saturating_sub(lists.len());
+    for _ in 0..more {
+        lists.push(Numbers::new(alloc))?;
+    }
+    Ok(())
+}
+
+/// There is room for so many numbers more in a list.
+pub(crate) fn room_for(lists: &mut Vec<Numbers>, key: usize, more: usize) -> Result<(), NoMemory>
+    requires { key < length lists.old.items }
+    ensures ok { OnOk result (more ≤ (list_at key lists.new.items).room) }
+    ensures roomier { Roomier lists.old.items lists.new.items }
+{
+    lists[key].reserve(more)
+}
+
+/// The last number leaves a list.
+pub(crate) fn take_last(lists: &mut Vec<Numbers>, key: usize) -> u32
+    requires { 0 < length (list_at key lists.old.items).items }
+    ensures slots { (list_at key lists.old.items).items ≡ (list_at key lists.new.items).items ++ result ∷ [] }
+    ensures room { (list_at key lists.old.items).room + 1 ≤ (list_at key lists.new.items).room }
+    ensures others { AreOthers key lists.old.items lists.new.items }
+{
+    lists[key].take()
+}
+
+/// A number goes last in a list, which has room for it. Its place is told.
+pub(crate) fn put_last(lists: &mut Vec<Numbers>, key: usize, number: u32) -> u32
+    requires { 0 < (list_at key lists.old.items).room }
+    ensures place { result ≡ length (list_at key lists.old.items).items }
+    ensures slots { (list_at key lists.new.items).items ≡ (list_at key lists.old.items).items ++ number ∷ [] }
+    ensures room { (list_at key lists.old.items).room ≤ (list_at key lists.new.items).room + 1 }
+    ensures others { AreOthers key lists.old.items lists.new.items }
+{
+    lists[key].put(number)
+}
+
+/// The number at a place leaves a list, and the last takes its place.
+pub(crate) fn leave(lists: &mut Vec<Numbers>, key: usize, place: u32)
+    requires { place < length (list_at key lists.old.items).items }
+    ensures items { (list_at key lists.new.items).items ≡ left place (list_at key lists.old.items).items }
+    ensures room { (list_at key lists.old.items).room + 1 ≤ (list_at key lists.new.items).room }
+    ensures others { AreOthers key lists.old.items lists.new.items }
+{
+    lists[key].leave(place);
+}
+
+/// A number that left a place of a list stands there again, and the one that took it goes last.
+pub(crate) fn put_back(lists: &mut Vec<Numbers>, key: usize, place: u32, number: u32)
+    requires place { place ≤ length (list_at key lists.old.items).items }
+    requires room { 0 < (list_at key lists.old.items).room }
+    ensures items { (list_at key lists.new.items).items ≡ back_at place number (list_at key lists.old.items).items }
+    ensures room { (list_at key lists.old.items).room ≤ (list_at key lists.new.items).room + 1 }
+    ensures others { AreOthers key lists.old.items lists.new.items }
+{
+    lists[key].put_back(place, number);
+}

@@ -1,0 +1,92 @@
+-- The numbers of Blocks (this project's own): each part of a member list has a row of numbers, one for each sum that runs over the list. So
+-- the Blocks of two sums over one list, which span the same members, stand in one row.
+use Rattle.std.specs.Prelude.{◌≡◌, ℕ, ◌+◌, ◌*◌, ◌<◌, ◌≤◌, Option, Some, length}
+use Rattle.scr_blocks.specs.Blocks.{blocks_at}
+use Rattle.scr_blocks.specs.declared.blocks.Level.{Level}
+use Rattle.scr_numbers.specs.Ranges.{IsAt, Numbered, count, first}
+use Rattle.scr_numbers.specs.declared.table.Table.TheVariants as numbered_tables
+use Rattle.scr_parts.specs.Parts.{Parted, count_of, size_of, slot_of}
+use Rattle.scr_parts.specs.Moves.{KeepsParts}
+use Rattle.scr_parts.specs.declared.parts.Part.{Part}
+use Rattle.scr_sheet.specs.Members.{table_of}
+use Rattle.scr_sheet.specs.declared.keys.Table.{Table}
+use Rattle.scr_sheet.specs.declared.keys.Table.TheVariants as tables
+use Rattle.scr_sheet.specs.declared.roll.Roll.{Roll}
+use Rattle.scr_sheet.specs.declared.roll.Roll.TheVariants as rolls
+use Rattle.scr_sheet.specs.declared.rows.Class.TheVariants as classes
+use Rattle.scr_nodes.specs.declared.node.Direction.TheVariants as directions
+use Rattle.scr_nodes.specs.declared.node.Node.{Node}
+use Rattle.scr_sums.specs.Graph.{Rolled}
+use Rattle.scr_sums.specs.Sums.{roll_of}
+use Rattle.scr_sums.specs.declared.point.Block.{Block}
+use Rattle.scr_sums.specs.declared.point.Point.{Point}
+use Rattle.scr_sums.specs.declared.point.Point.TheVariants as points
+use Rattle.scr_sums.specs.declared.sum.Sum.{Sum}
+use Rattle.scr_sums.specs.declared.sum.Sum.TheVariants as sums
+
+-- the place of a sum among those that run over its list, of which there are three at most
+abbrev pub place_of : Sum → ℕ
+place_of (sums.Rates currency directions.Down) = 1
+place_of (sums.Costs currency directions.Down) = 1
+place_of (sums.Presents currency) = 2
+place_of sums.Spreads = 1
+place_of sum = 0
+
+-- ---- member lists by number
+
+-- The bonds are those of a class, and have one list with it.
+abbrev pub sole : Roll → Roll
+sole rolls.Bonds = rolls.Class classes.Bond
+sole roll = roll
+
+-- The lists of each table are numbered, as far as they have had a member. Two lists of a table have two numbers.
+pub record AreListsApart (numbers : Roll → Option ℕ) : Type 0 where
+  pub apart : (one other : Roll) (number : ℕ) → numbers one ≡ Some number → numbers other ≡ Some number
+      → table_of one ≡ table_of other → sole one ≡ sole other
+
+-- the number of a list among those of all tables, from its number among those of its own
+abbrev pub table_place : Table → ℕ
+table_place tables.Security = 0
+table_place tables.Liability = 1
+table_place tables.Fund = 2
+table_place table = 3
+
+abbrev pub list_number : Roll → ℕ → ℕ
+list_number roll number = 4 * number + table_place (table_of roll)
+
+-- ---- Blocks by number
+
+-- the part of the list that a Block spans
+abbrev pub part_of : ℕ → Block → Part
+part_of number block = record { list = list_number (roll_of block.sum) number; level = block.level; index = block.index }
+
+-- the Block has this number
+pub record BlockAt (numbers : Roll → Option ℕ) (parts : Parted) (places : Numbered) (block : Block) (number : ℕ) : Type 0 where
+  pub roll : ℕ
+  pub numbered : numbers (roll_of block.sum) ≡ Some roll
+  pub slot : ℕ
+  pub part : slot_of (part_of roll block) parts ≡ Some slot
+  pub at : IsAt places numbered_tables.Part slot (place_of block.sum) number
+
+-- the figure or the Block has this number, where figures have those that `At` says
+abbrev pub PointAt : (Node → ℕ → Type 0) → (Roll → Option ℕ) → Parted → Numbered → Point → ℕ → Type 0
+PointAt At numbers parts places (points.Figure node) number = At node number
+PointAt At numbers parts places (points.Block block) number = BlockAt numbers parts places block number
+
+-- figures stand elsewhere than Blocks
+abbrev pub AreOffParts : (Node → ℕ → Type 0) → Numbered → Type 0
+AreOffParts At places = (node : Node) (number : ℕ) → At node number → (k j : ℕ) → IsAt places numbered_tables.Part k j number → ⊥
+
+-- each list that falls into Blocks has a number, and as many parts as Blocks; and each slot has a row of numbers
+pub record HaveParts (book : Rolled) (numbers : Roll → Option ℕ) (parts : Parted) (places : Numbered) : Type 0 where
+  pub numbered : (roll : Roll) → 32 < length (book.rolls roll) → (number : ℕ) × (numbers roll ≡ Some number)
+  pub counts : (roll : Roll) (number : ℕ) → numbers roll ≡ Some number → (level : Level)
+      → count_of (list_number roll number) level parts ≡ blocks_at (length (book.rolls roll)) level
+  pub rows : size_of parts ≤ count places numbered_tables.Part
+
+-- rows that parts have stay, with their numbers, and so do parts and lists
+pub record KeepsBlocks (numbers_before numbers_now : Roll → Option ℕ) (before now : Parted) (old new : Numbered) : Type 0 where
+  pub numbers : (roll : Roll) (number : ℕ) → numbers_before roll ≡ Some number → numbers_now roll ≡ Some number
+  pub parts : KeepsParts before now
+  pub rows : count old numbered_tables.Part ≤ count new numbered_tables.Part
+  pub firsts : (k : ℕ) → k < count old numbered_tables.Part → first new numbered_tables.Part k ≡ first old numbered_tables.Part k
