@@ -7,7 +7,7 @@ use Rattle.scr_factors.specs.Values.{FactorValues}
 use Rattle.std.specs.Option.{option_map}
 use Rattle.scr_figures.specs.Families.{currency_family, family_of, group_family, name_of, table_of, whole_family}
 use Rattle.scr_figures.specs.Numbers.{StandsAt, names_in}
-use Rattle.scr_figures.proofs.Standing.{stands}
+use Rattle.scr_figures.proofs.Standing.{of-sheet, stands}
 use Rattle.scr_numbers.specs.Ranges.{Numbered, count, first, stride}
 use Rattle.scr_numbers.specs.declared.table.Table.TheVariants as tables
 use Rattle.scr_sheet.specs.BalanceSheet.{position_name, stake_name, stake_of}
@@ -21,11 +21,12 @@ use Rattle.scr_nodes.specs.declared.node.Node.TheVariants as nodes
 use Rattle.scr_nodes.specs.declared.node.OfGroup.TheVariants as of_groups
 use Rattle.scr_nodes.specs.declared.node.Whole.TheVariants as wholes
 use Rattle.scr_tree.specs.Figures.{HaveFigures, total_worth, worth_at, worth_of}
-use Rattle.scr_tree.specs.First.{AreReckonedTo, IsDone, IsGround, IsPut}
+use Rattle.scr_tree.specs.First.{AreReckonedTo, IsDone, IsGround, IsLinkGround, IsPut, link_ground}
 use Rattle.scr_tree.specs.Turns.{IsBefore, Turn, next, stage_of, turn, turn_of}
 use Rattle.scr_figures.specs.SourceNumbers.{ArePushed}
 use Rattle.scr_tree.specs.declared.figures.Figure.{Figure}
 use Rattle.scr_tree.specs.declared.making.Ground.{Ground}
+use Rattle.scr_tree.specs.declared.making.LinkGround.{LinkGround}
 use Rattle.scr_tree.specs.declared.making.Made.{Made}
 use Rattle.scr_tree.proofs.FirstRows.{each-get, got-map, got-row, group-named, made-on, security-named, total-live}
 use Rattle.scr_tree.proofs.Plain.{fund-placed, security-placed}
@@ -33,7 +34,102 @@ use Rattle.scr_tree.proofs.Known.{known-weaker}
 use Rattle.scr_tree.proofs.Made.{known-sources, made-entered, reckoned-next}
 use Rattle.scr_tree.proofs.Turns.{IsAsGood, assets-first, dead-skipped, family-within, of-table, row-begun, row-ended, stage-of-whole, table-ended, table_at, total-last}
 
+-- as many rows as names
+pub as-long : {Row : Type 0} (name_in : Row → List ℕ) (rows : List Row) (k : ℕ) → k ≡ length rows → k ≡ length (map name_in rows)
+as-long name_in rows k same = same ∙ sym (length-map rows name_in)
+
+-- the turn of a figure of the whole sheet, and of a currency
+pub whole-turn : (what : Whole) (n : ℕ) → whole_family what ≡ n → n < 153 → turn_of (nodes.Whole what) 0 ≡ turn 7 0 n
+whole-turn what n same few =
+    ap₂ (λ (s : ℕ) (f : ℕ). turn s 0 f) (stage-of-whole what (subst (λ m. m < 153) (sym same) few)) same
+
+pub currency-turn : (name : List ℕ) (what : OfCurrency) (k f : ℕ) → currency_family what ≡ f
+    → turn_of (nodes.Currency name what) k ≡ turn 6 k f
+currency-turn name what k f same = ap (turn 6 k) same
+
+module _ (ground : LinkGround) (g : IsLinkGround ground) where
+  -- ---- squares
+
+  module _ (k : ℕ) (h : Group) (at : slice_get ground.book.now.sheet.groups k ≡ Some h) (start : ℕ)
+      (own : start ≡ first ground.places.now tables.Group k) where
+    pub group-stands : (what : OfGroup) → group_family what < 3
+        → StandsAt ground.book.now.sheet ground.places.now (nodes.Group h.name what) (start + group_family what)
+    group-stands what few =
+        subst (StandsAt ground.book.now.sheet ground.places.now (nodes.Group h.name what))
+        (ap (λ n. n + group_family what) (sym own))
+        (stands ground.book.now.sheet ground.places.now g.numbered (nodes.Group h.name what) few k
+        (group-named ground.book.now.sheet g.valid k h at))
+
+    pub square-sources : AllZip (λ number source. StandsAt ground.book.now.sheet ground.places.now source number)
+        (153 ∷ start ∷ []) (sources_of ground.book.now.sheet (nodes.Group h.name of_groups.ConcentrationSquare))
+    square-sources =
+        let e : start + 0 ≡ start = omega arith in (
+          subst (StandsAt ground.book.now.sheet ground.places.now (nodes.Whole wholes.Assets))
+              (ap (λ n. n + 153) g.numbered.whole ∙ (let z : 0 + 153 ≡ 153 = refl in z))
+              (stands ground.book.now.sheet ground.places.now g.numbered (nodes.Whole wholes.Assets) (omega arith) 0 refl),
+          (
+            subst (StandsAt ground.book.now.sheet ground.places.now (nodes.Group h.name of_groups.Total)) e
+                (group-stands of_groups.Total (omega arith)),
+            tt,
+          ),
+        )
+
+  -- ---- a figure of a row
+
+  module _ (node : Node) (row number : ℕ)
+      (named : slice_get (names_in ground.book.now.sheet (table_of node)) row ≡ Some (name_of node))
+      (own : number ≡ first ground.places.now (table_of node) row + family_of node)
+      (live : is_live ground.book.now.sheet node ≡ true) where
+    pub its-number : StandsAt ground.book.now.sheet ground.places.now node number
+    its-number =
+        subst (StandsAt ground.book.now.sheet ground.places.now node) (sym own)
+        (stands ground.book.now.sheet ground.places.now g.numbered node
+        (family-within ground.book.now.sheet ground.places.now g.numbered node live) row named)
+
+    pub family-few : family_of node < stride (table_of node)
+    family-few = family-within ground.book.now.sheet ground.places.now g.numbered node live
+
+    pub row-few : row < count ground.places.now (table_of node)
+    row-few =
+        let room = slice_get_within (names_in ground.book.now.sheet (table_of node)) row (name_of node) named in
+        let rows = g.numbered.rows (table_of node) (of-sheet node) in
+        omega (arith, room, rows)
+
+    pub number-within : number < ground.places.now.size
+    number-within = g.numbers.within node number its-number
+
+  -- the rows of funds and of securities
+  pub fund-live : (k : ℕ) (s : Stake) → slice_get ground.book.now.sheet.funds k ≡ Some s
+      → is_live ground.book.now.sheet (fund_total s) ≡ true
+  fund-live k s at =
+      ap is_some (each-get (λ r. stake_of (stake_name r) ground.book.now.sheet.funds ≡ Some r) ground.book.now.sheet.funds k s
+      (own-funds ground.book.now.sheet g.valid) at)
+
+  pub fund-named : (k : ℕ) (s : Stake) → slice_get ground.book.now.sheet.funds k ≡ Some s
+      → slice_get (map stake_name ground.book.now.sheet.funds) k ≡ Some s.fund.name
+  fund-named k s at = got-map stake_name ground.book.now.sheet.funds k s at
+
+  pub security-alive : (k : ℕ) (p : Position) → slice_get ground.book.now.sheet.securities k ≡ Some p
+      → is_live ground.book.now.sheet (security_total p) ≡ true
+  security-alive k p at = total-live ground.book.now.sheet g.valid ground.places.now g.numbered k p at
+
+  pub security-called : (k : ℕ) (p : Position) → slice_get ground.book.now.sheet.securities k ≡ Some p
+      → slice_get (map position_name ground.book.now.sheet.securities) k ≡ Some p.security.name
+  security-called k p at = security-named ground.book.now.sheet g.valid ground.places.now g.numbered k p at
+
+  -- numbers of figures are below the size
+  pub at-within : (numbers : List ℕ) (list : List Node)
+      → AllZip (λ n node. StandsAt ground.book.now.sheet ground.places.now node n) numbers list
+      → AllByRecursion (λ n. n < ground.places.now.size) numbers
+  at-within [] [] at = tt
+  at-within [] (m ∷ list) at = absurd at
+  at-within (n ∷ numbers) [] at = absurd at
+  at-within (n ∷ numbers) (m ∷ list) at = (g.numbers.within m n at.0, at-within numbers list at.1)
+
 module _ (ground : Ground) (g : IsGround ground) where
+  pub for-links : IsLinkGround (link_ground ground)
+  for-links = record { valid = g.valid; numbered = g.numbered; numbers = g.numbers; members = g.members }
+
   -- a table has no more rows
   pub table-made : (s count : ℕ) → count ≡ length (names_in ground.inputs.book.now.sheet (table_at s)) → (a : Made)
       → IsDone ground a (turn s count 0) → IsDone ground a (turn (s + 1) 0 0)
@@ -61,56 +157,12 @@ module _ (ground : Ground) (g : IsGround ground) where
       (row-ended ground.inputs.book.now.sheet 2 0 154
       (λ n alive s. of-table ground.inputs.book.now.sheet ground.places.now g.numbered 2 n alive s)) is)
 
-  -- ---- squares
-
-  module _ (k : ℕ) (h : Group) (at : slice_get ground.inputs.book.now.sheet.groups k ≡ Some h) (start : ℕ)
-      (own : start ≡ first ground.places.now tables.Group k) where
-    pub group-stands : (what : OfGroup) → group_family what < 3
-        → StandsAt ground.inputs.book.now.sheet ground.places.now (nodes.Group h.name what) (start + group_family what)
-    group-stands what few =
-        subst (StandsAt ground.inputs.book.now.sheet ground.places.now (nodes.Group h.name what))
-        (ap (λ n. n + group_family what) (sym own))
-        (stands ground.inputs.book.now.sheet ground.places.now g.numbered (nodes.Group h.name what) few k
-        (group-named ground.inputs.book.now.sheet g.valid k h at))
-
-    pub square-sources : AllZip (λ number source. StandsAt ground.inputs.book.now.sheet ground.places.now source number)
-        (153 ∷ start ∷ []) (sources_of ground.inputs.book.now.sheet (nodes.Group h.name of_groups.ConcentrationSquare))
-    square-sources =
-        let e : start + 0 ≡ start = omega arith in (
-          subst (StandsAt ground.inputs.book.now.sheet ground.places.now (nodes.Whole wholes.Assets))
-              (ap (λ n. n + 153) g.numbered.whole ∙ (let z : 0 + 153 ≡ 153 = refl in z))
-              (stands ground.inputs.book.now.sheet ground.places.now g.numbered (nodes.Whole wholes.Assets) (omega arith) 0 refl),
-          (
-            subst (StandsAt ground.inputs.book.now.sheet ground.places.now (nodes.Group h.name of_groups.Total)) e
-                (group-stands of_groups.Total (omega arith)),
-            tt,
-          ),
-        )
-
   -- ---- a figure from all its sources
 
   module _ (node : Node) (row number : ℕ)
       (named : slice_get (names_in ground.inputs.book.now.sheet (table_of node)) row ≡ Some (name_of node))
       (own : number ≡ first ground.places.now (table_of node) row + family_of node)
       (live : is_live ground.inputs.book.now.sheet node ≡ true) where
-    pub its-number : StandsAt ground.inputs.book.now.sheet ground.places.now node number
-    its-number =
-        subst (StandsAt ground.inputs.book.now.sheet ground.places.now node) (sym own)
-        (stands ground.inputs.book.now.sheet ground.places.now g.numbered node
-        (family-within ground.inputs.book.now.sheet ground.places.now g.numbered node live) row named)
-
-    pub family-few : family_of node < stride (table_of node)
-    family-few = family-within ground.inputs.book.now.sheet ground.places.now g.numbered node live
-
-    pub row-few : row < count ground.places.now (table_of node)
-    row-few =
-        let room = slice_get_within (names_in ground.inputs.book.now.sheet (table_of node)) row (name_of node) named in
-        let rows = g.numbered.rows (table_of node) in
-        omega (arith, room, rows)
-
-    pub number-within : number < ground.places.now.size
-    number-within = g.numbers.within node number its-number
-
     pub sources-known : (a : Made) → 2 ≤ stage_of node → IsDone ground a (turn_of node row) → (sources : List ℕ)
         → AllZip (λ m source. StandsAt ground.inputs.book.now.sheet ground.places.now source m) sources (sources_of ground.inputs.book.now.sheet node)
         → HaveFigures ground.inputs.factors.now ground.inputs.book.now.sheet a.figures.items sources (sources_of ground.inputs.book.now.sheet node)
@@ -123,8 +175,8 @@ module _ (ground : Ground) (g : IsGround ground) where
         → IsPut ground.inputs.factors.now ground.inputs.book.now.sheet node number sources a b → IsDone ground b (next (turn_of node row))
     gathered-made a b sources is are put =
         made-entered ground.inputs.factors.now ground.inputs.book.now.sheet g.valid ground.places.now g.numbered g.numbers a b
-        (turn_of node row) node number sources put.figure is (record { at = refl; row = named; family = refl }) live its-number are
-        put.right put.entered
+        (turn_of node row) node number sources put.figure is (record { at = refl; row = named; family = refl }) live
+        (its-number (link_ground ground) for-links node row number named own live) are put.right put.entered
 
   -- where the balance sheet does not have the figure
   pub dead-made : (node : Node) (row : ℕ) → slice_get (names_in ground.inputs.book.now.sheet (table_of node)) row ≡ Some (name_of node)
@@ -160,7 +212,7 @@ module _ (ground : Ground) (g : IsGround ground) where
     known = reckoned-next ground.inputs.factors.now ground.inputs.book.now.sheet g.valid ground.places.now g.numbered g.numbers
         a b (turn_of node row) node number is.known
         (record { at = refl; row = named; family = refl })
-        (record { at = its-number node row number named own live; there = there ∙ ap Some worth; others = others });
+        (record { at = its-number (link_ground ground) for-links node row number named own live; there = there ∙ ap Some worth; others = others });
   }
 
   -- one total a row
@@ -180,17 +232,6 @@ module _ (ground : Ground) (g : IsGround ground) where
       reckoned-good a (turn s count 0) (turn (s + 1) 0 0)
       (table-ended ground.inputs.book.now.sheet ground.places.now g.numbered s count long) is
 
-  -- the rows of funds and of securities
-  pub fund-live : (k : ℕ) (s : Stake) → slice_get ground.inputs.book.now.sheet.funds k ≡ Some s
-      → is_live ground.inputs.book.now.sheet (fund_total s) ≡ true
-  fund-live k s at =
-      ap is_some (each-get (λ r. stake_of (stake_name r) ground.inputs.book.now.sheet.funds ≡ Some r) ground.inputs.book.now.sheet.funds k s
-      (own-funds ground.inputs.book.now.sheet g.valid) at)
-
-  pub fund-named : (k : ℕ) (s : Stake) → slice_get ground.inputs.book.now.sheet.funds k ≡ Some s
-      → slice_get (map stake_name ground.inputs.book.now.sheet.funds) k ≡ Some s.fund.name
-  fund-named k s at = got-map stake_name ground.inputs.book.now.sheet.funds k s at
-
   its-own : (n : ℕ) → n ≡ n + 0
   its-own n = omega arith
 
@@ -199,8 +240,9 @@ module _ (ground : Ground) (g : IsGround ground) where
   fund-within k number l own a t is =
       let s = got-row ground.inputs.book.now.sheet.funds k l in
       subst (λ n. number < n) (sym is.count)
-      (number-within (fund_total s.0) k number (fund-named k s.0 s.1) (own ∙ its-own (first ground.places.now tables.Fund k))
-      (fund-live k s.0 s.1))
+      (number-within (link_ground ground) for-links (fund_total s.0) k number (fund-named (link_ground ground) for-links k s.0 s.1)
+      (own ∙ its-own (first ground.places.now tables.Fund k))
+      (fund-live (link_ground ground) for-links k s.0 s.1))
 
   pub fund-written : (k number : ℕ) → k < length ground.inputs.book.now.sheet.funds → number ≡ first ground.places.now tables.Fund k
       → (totals : List ℕ) → totals ≡ map (λ s. total_of ground.inputs.book.now.sheet (stake_name s)) ground.inputs.book.now.sheet.funds
@@ -211,8 +253,8 @@ module _ (ground : Ground) (g : IsGround ground) where
   fund-written k number l own totals are a b is count there others =
       let s = got-row ground.inputs.book.now.sheet.funds k l in
       funds-on k b
-      (total-made (fund_total s.0) k number (slice_index totals k) a b (fund-named k s.0 s.1)
-      (own ∙ its-own (first ground.places.now tables.Fund k)) (fund-live k s.0 s.1)
+      (total-made (fund_total s.0) k number (slice_index totals k) a b (fund-named (link_ground ground) for-links k s.0 s.1)
+      (own ∙ its-own (first ground.places.now tables.Fund k)) (fund-live (link_ground ground) for-links k s.0 s.1)
       (fund-placed ground.inputs.factors.now ground.inputs.book.now.sheet g.valid totals are k s.0 s.1) is count there others)
 
   pub security-within : (k number : ℕ) → k < length ground.inputs.book.now.sheet.securities
@@ -221,7 +263,7 @@ module _ (ground : Ground) (g : IsGround ground) where
   security-within k number l own a t is =
       let p = got-row ground.inputs.book.now.sheet.securities k l in
       subst (λ n. number < n) (sym is.count)
-      (number-within (security_total p.0) k number
+      (number-within (link_ground ground) for-links (security_total p.0) k number
       (security-named ground.inputs.book.now.sheet g.valid ground.places.now g.numbered k p.0 p.1)
       (own ∙ its-own (first ground.places.now tables.Security k))
       (total-live ground.inputs.book.now.sheet g.valid ground.places.now g.numbered k p.0 p.1))
@@ -242,9 +284,8 @@ module _ (ground : Ground) (g : IsGround ground) where
       (total-live ground.inputs.book.now.sheet g.valid ground.places.now g.numbered k p.0 p.1)
       (security-placed ground.inputs.factors.now ground.inputs.book.now.sheet g.valid totals are k p.0 p.1) is count there others)
 
-  -- as many rows as names
-  pub as-long : {Row : Type 0} (name_in : Row → List ℕ) (rows : List Row) (k : ℕ) → k ≡ length rows → k ≡ length (map name_in rows)
-  as-long name_in rows k same = same ∙ sym (length-map rows name_in)
+  pub turned : (a : Made) (t u : Turn) → t ≡ u → IsDone ground a t → IsDone ground a u
+  turned a t u same is = subst (IsDone ground a) same is
 
 -- what was pushed is all that the list has
 pub pushed-at : (sheet book : BalanceSheet) (places : Numbered) (node : Node) (old now : List ℕ) → sheet ≡ book → old ≡ []
@@ -268,33 +309,3 @@ have-within factors sheet figures (n ∷ numbers) (m ∷ list) have =
         → option_map worth_of found ≡ Some (worth_at factors sheet m) → n < length figures
     some-within None got h = absurd (cc)
     some-within (Some f) got h = slice_get_within figures n f got
-
-module _ (ground : Ground) (g : IsGround ground) where
-  pub security-alive : (k : ℕ) (p : Position) → slice_get ground.inputs.book.now.sheet.securities k ≡ Some p
-      → is_live ground.inputs.book.now.sheet (security_total p) ≡ true
-  security-alive k p at = total-live ground.inputs.book.now.sheet g.valid ground.places.now g.numbered k p at
-
-  pub security-called : (k : ℕ) (p : Position) → slice_get ground.inputs.book.now.sheet.securities k ≡ Some p
-      → slice_get (map position_name ground.inputs.book.now.sheet.securities) k ≡ Some p.security.name
-  security-called k p at = security-named ground.inputs.book.now.sheet g.valid ground.places.now g.numbered k p at
-
-  -- numbers of figures are below the size
-  pub at-within : (numbers : List ℕ) (list : List Node)
-      → AllZip (λ n node. StandsAt ground.inputs.book.now.sheet ground.places.now node n) numbers list
-      → AllByRecursion (λ n. n < ground.places.now.size) numbers
-  at-within [] [] at = tt
-  at-within [] (m ∷ list) at = absurd at
-  at-within (n ∷ numbers) [] at = absurd at
-  at-within (n ∷ numbers) (m ∷ list) at = (g.numbers.within m n at.0, at-within numbers list at.1)
-
-  -- the turn of a figure of the whole sheet, and of a currency
-  pub whole-turn : (what : Whole) (n : ℕ) → whole_family what ≡ n → n < 153 → turn_of (nodes.Whole what) 0 ≡ turn 7 0 n
-  whole-turn what n same few =
-      ap₂ (λ (s : ℕ) (f : ℕ). turn s 0 f) (stage-of-whole what (subst (λ m. m < 153) (sym same) few)) same
-
-  pub currency-turn : (name : List ℕ) (what : OfCurrency) (k f : ℕ) → currency_family what ≡ f
-      → turn_of (nodes.Currency name what) k ≡ turn 6 k f
-  currency-turn name what k f same = ap (turn 6 k) same
-
-  pub turned : (a : Made) (t u : Turn) → t ≡ u → IsDone ground a t → IsDone ground a u
-  turned a t u same is = subst (IsDone ground a) same is

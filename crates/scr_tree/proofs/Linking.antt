@@ -22,33 +22,33 @@ use Rattle.scr_nodes.specs.declared.node.OfSecurity.TheVariants as of_securities
 use Rattle.scr_nodes.specs.declared.node.Whole.TheVariants as wholes
 use Rattle.scr_reach.specs.Linked.{AreAt, sources_in}
 use Rattle.scr_tree.specs.Begun.{AreAllLinked}
-use Rattle.scr_tree.specs.First.{AreLinkedTo, IsGround, IsLinkedNext}
+use Rattle.scr_tree.specs.First.{AreLinkedTo, IsLinkGround, IsLinkedNext}
 use Rattle.scr_tree.specs.Turns.{IsBefore, Turn, next, stage_of, turn, turn_of}
-use Rattle.scr_tree.specs.declared.making.Ground.{Ground}
+use Rattle.scr_tree.specs.declared.making.LinkGround.{LinkGround}
 use Rattle.scr_tree.proofs.FirstRows.{bond-live, bond-not, group-live, group-named, pays-live, pays-not, security-ended, security-named}
 use Rattle.scr_tree.proofs.Grounds.{group-stands, its-number, square-sources}
 use Rattle.scr_tree.proofs.Made.{linked-next, links-all, links-none, none-linked}
 use Rattle.scr_tree.proofs.RowsMade.{stands-at, total-at}
 use Rattle.scr_tree.proofs.Turns.{IsAsGood, IsTurnOf, assets-first, dead-skipped, of-table, row-begun, row-ended, security-first, table-ended, table_at, total-last}
 
-module _ (ground : Ground) (g : IsGround ground) where
+module _ (ground : LinkGround) (g : IsLinkGround ground) where
   abbrev At : Node → ℕ → Type 0
-  At = StandsAt ground.inputs.book.now.sheet ground.places.now
+  At = StandsAt ground.book.now.sheet ground.places.now
 
   pub linked-none : (links : Linked) → links.edges ≡ [] → links.size ≡ ground.places.now.size → AreLinkedTo ground links (turn 0 0 0)
   linked-none links none size = record {
     size = size;
-    linked = links-none ground.inputs.factors.now ground.inputs.book.now.sheet g.valid ground.places.now g.numbered g.numbers links.edges none;
+    linked = links-none ground.book.now.sheet g.valid ground.places.now g.numbered g.numbers links.edges none;
   }
 
   pub linked-all : (links : Linked) → AreLinkedTo ground links (turn 7 0 153) → AreAllLinked ground links
   linked-all links is = record {
     size = is.size;
-    linked = links-all ground.inputs.factors.now ground.inputs.book.now.sheet g.valid ground.places.now g.numbered g.numbers links.edges
+    linked = links-all ground.book.now.sheet g.valid ground.places.now g.numbered g.numbers links.edges
         is.linked;
   }
 
-  pub linked-good : (links : Linked) (t u : Turn) → IsAsGood ground.inputs.book.now.sheet t u → AreLinkedTo ground links t
+  pub linked-good : (links : Linked) (t u : Turn) → IsAsGood ground.book.now.sheet t u → AreLinkedTo ground links t
       → AreLinkedTo ground links u
   linked-good links t u good is = record {
     size = is.size;
@@ -60,28 +60,28 @@ module _ (ground : Ground) (g : IsGround ground) where
 
   -- one figure more
   pub linked-one : (old now : Linked) (t : Turn) (node : Node) (number : ℕ) (sources : List ℕ) → AreLinkedTo ground old t
-      → IsTurnOf ground.inputs.book.now.sheet t node → is_live ground.inputs.book.now.sheet node ≡ true → At node number
-      → AreAt At sources (sources_of ground.inputs.book.now.sheet node) → IsLinkedNext number sources old now
+      → IsTurnOf ground.book.now.sheet t node → is_live ground.book.now.sheet node ≡ true → At node number
+      → AreAt At sources (sources_of ground.book.now.sheet node) → IsLinkedNext number sources old now
       → AreLinkedTo ground now (next t)
   linked-one old now t node number sources is turn_is live at are joined = record {
     size = joined.size ∙ is.size;
-    linked = linked-next ground.inputs.factors.now ground.inputs.book.now.sheet g.valid ground.places.now g.numbered g.numbers
+    linked = linked-next ground.book.now.sheet g.valid ground.places.now g.numbered g.numbers
         old.edges now.edges t node number sources is.linked turn_is live at are joined.made joined.kept;
   }
 
   -- one that has no sources
   pub linked-free : (links : Linked) (t : Turn) (node : Node) (number : ℕ) → AreLinkedTo ground links t
-      → IsTurnOf ground.inputs.book.now.sheet t node → is_live ground.inputs.book.now.sheet node ≡ true → At node number
-      → sources_of ground.inputs.book.now.sheet node ≡ [] → AreLinkedTo ground links (next t)
+      → IsTurnOf ground.book.now.sheet t node → is_live ground.book.now.sheet node ≡ true → At node number
+      → sources_of ground.book.now.sheet node ≡ [] → AreLinkedTo ground links (next t)
   linked-free links t node number is turn_is live at none =
       linked-one links links t node number [] is turn_is live at (subst (AreAt At []) (sym none) tt)
       (record { size = refl; made = sym (append-nil (sources_in links.edges number)); kept = λ other apart. refl })
 
   -- of a row, from all its sources
   pub linked-gathered : (old now : Linked) (node : Node) (row number : ℕ) (sources : List ℕ)
-      → slice_get (names_in ground.inputs.book.now.sheet (table_of node)) row ≡ Some (name_of node)
-      → number ≡ first ground.places.now (table_of node) row + family_of node → is_live ground.inputs.book.now.sheet node ≡ true
-      → AreAt At sources (sources_of ground.inputs.book.now.sheet node) → AreLinkedTo ground old (turn_of node row)
+      → slice_get (names_in ground.book.now.sheet (table_of node)) row ≡ Some (name_of node)
+      → number ≡ first ground.places.now (table_of node) row + family_of node → is_live ground.book.now.sheet node ≡ true
+      → AreAt At sources (sources_of ground.book.now.sheet node) → AreLinkedTo ground old (turn_of node row)
       → IsLinkedNext number sources old now → AreLinkedTo ground now (next (turn_of node row))
   linked-gathered old now node row number sources named own live are is joined =
       linked-one old now (turn_of node row) node number sources is (record { at = refl; row = named; family = refl }) live
@@ -89,55 +89,55 @@ module _ (ground : Ground) (g : IsGround ground) where
 
   -- where the balance sheet does not have the figure
   pub linked-dead : (links : Linked) (node : Node) (row : ℕ)
-      → slice_get (names_in ground.inputs.book.now.sheet (table_of node)) row ≡ Some (name_of node)
-      → (is_live ground.inputs.book.now.sheet node ≡ true → ⊥) → AreLinkedTo ground links (turn_of node row)
+      → slice_get (names_in ground.book.now.sheet (table_of node)) row ≡ Some (name_of node)
+      → (is_live ground.book.now.sheet node ≡ true → ⊥) → AreLinkedTo ground links (turn_of node row)
       → AreLinkedTo ground links (next (turn_of node row))
   linked-dead links node row named dead is =
       linked-good links (turn_of node row) (next (turn_of node row))
-      (dead-skipped ground.inputs.book.now.sheet ground.places.now g.numbered (turn_of node row) node
+      (dead-skipped ground.book.now.sheet ground.places.now g.numbered (turn_of node row) node
       (record { at = refl; row = named; family = refl }) dead) is
 
   pub linked-turned : (links : Linked) (t u : Turn) → t ≡ u → AreLinkedTo ground links t → AreLinkedTo ground links u
   linked-turned links t u same is = subst (AreLinkedTo ground links) same is
 
   -- a table has no more rows
-  pub linked-over : (s count : ℕ) → count ≡ length (names_in ground.inputs.book.now.sheet (table_at s)) → (links : Linked)
+  pub linked-over : (s count : ℕ) → count ≡ length (names_in ground.book.now.sheet (table_at s)) → (links : Linked)
       → AreLinkedTo ground links (turn s count 0) → AreLinkedTo ground links (turn (s + 1) 0 0)
   linked-over s count long links is =
       linked-good links (turn s count 0) (turn (s + 1) 0 0)
-      (table-ended ground.inputs.book.now.sheet ground.places.now g.numbered s count long) is
+      (table-ended ground.book.now.sheet ground.places.now g.numbered s count long) is
 
   -- ---- totals
 
   pub funds-linked : (k : ℕ) (links : Linked) → AreLinkedTo ground links (turn 0 k 1) → AreLinkedTo ground links (turn 0 (k + 1) 0)
   funds-linked k links is =
       linked-good links (turn 0 k 1) (turn 0 (k + 1) 0)
-      (row-ended ground.inputs.book.now.sheet 0 k 1 (λ n alive s. of-table ground.inputs.book.now.sheet ground.places.now g.numbered 0 n alive s)) is
+      (row-ended ground.book.now.sheet 0 k 1 (λ n alive s. of-table ground.book.now.sheet ground.places.now g.numbered 0 n alive s)) is
 
   pub securities-linked : (k : ℕ) (links : Linked) → AreLinkedTo ground links (turn 1 k 1) → AreLinkedTo ground links (turn 1 (k + 1) 0)
   securities-linked k links is =
-      linked-good links (turn 1 k 1) (turn 1 (k + 1) 0) (row-ended ground.inputs.book.now.sheet 1 k 1 (λ n alive s. total-last n s)) is
+      linked-good links (turn 1 k 1) (turn 1 (k + 1) 0) (row-ended ground.book.now.sheet 1 k 1 (λ n alive s. total-last n s)) is
 
   -- ---- what securities lose
 
-  module _ (k : ℕ) (p : Position) (at : slice_get ground.inputs.book.now.sheet.securities k ≡ Some p) (start : ℕ)
+  module _ (k : ℕ) (p : Position) (at : slice_get ground.book.now.sheet.securities k ≡ Some p) (start : ℕ)
       (own : start ≡ first ground.places.now tables.Security k) where
-    named : slice_get (names_in ground.inputs.book.now.sheet tables.Security) k ≡ Some p.security.name
-    named = security-named ground.inputs.book.now.sheet g.valid ground.places.now g.numbered k p at
+    named : slice_get (names_in ground.book.now.sheet tables.Security) k ≡ Some p.security.name
+    named = security-named ground.book.now.sheet g.valid ground.places.now g.numbered k p at
 
     up-at : At (unit_loss Up p) (start + 1)
-    up-at = stands-at ground g g.form k p at start own (unit_loss Up p) refl refl (omega arith)
+    up-at = stands-at ground g k p at start own (unit_loss Up p) refl refl (omega arith)
 
     down-at : At (unit_loss Down p) (start + 2)
-    down-at = stands-at ground g g.form k p at start own (unit_loss Down p) refl refl (omega arith)
+    down-at = stands-at ground g k p at start own (unit_loss Down p) refl refl (omega arith)
 
     pub rates-linked : is_paying p ≡ true → (a b c : Linked) → AreLinkedTo ground a (turn 3 k 0)
         → IsLinkedNext (start + 3) (start ∷ (start + 1) ∷ []) a b → IsLinkedNext (start + 4) (start ∷ (start + 2) ∷ []) b c
         → AreLinkedTo ground c (turn 3 k 5)
     rates-linked pays a b c is rise fall =
-        let sheet = ground.inputs.book.now.sheet in
+        let sheet = ground.book.now.sheet in
         let live = pays-live sheet g.valid ground.places.now g.numbered k p at pays in
-        let total = total-at ground g g.form k p at start own in
+        let total = total-at ground g k p at start own in
         let one : AreLinkedTo ground a (turn 3 k 1) =
         linked-good a (turn 3 k 0) (turn 3 k 1) (row-begun sheet 3 k 1 (λ n alive s. security-first n s)) is in
         let two : AreLinkedTo ground a (turn 3 k 2) =
@@ -148,15 +148,15 @@ module _ (ground : Ground) (g : IsGround ground) where
         let four : AreLinkedTo ground b (turn 3 k 4) =
         linked-one a b (turn 3 k 3) (security_rate Up p) (start + 3) (start ∷ (start + 1) ∷ []) three
         (record { at = refl; row = named; family = refl }) (live Up)
-        (stands-at ground g g.form k p at start own (security_rate Up p) refl refl (omega arith)) (total, (up-at, tt)) rise in
+        (stands-at ground g k p at start own (security_rate Up p) refl refl (omega arith)) (total, (up-at, tt)) rise in
         linked-one b c (turn 3 k 4) (security_rate Down p) (start + 4) (start ∷ (start + 2) ∷ []) four
         (record { at = refl; row = named; family = refl }) (live Down)
-        (stands-at ground g g.form k p at start own (security_rate Down p) refl refl (omega arith)) (total, (down-at, tt)) fall
+        (stands-at ground g k p at start own (security_rate Down p) refl refl (omega arith)) (total, (down-at, tt)) fall
 
     pub rates-none : is_paying p ≡ false → (links : Linked) → AreLinkedTo ground links (turn 3 k 0) → AreLinkedTo ground links (turn 3 k 5)
     rates-none none links is =
         linked-good links (turn 3 k 0) (turn 3 k 5)
-        (pays-not ground.inputs.book.now.sheet g.valid ground.places.now g.numbered k p at none) is
+        (pays-not ground.book.now.sheet g.valid ground.places.now g.numbered k p at none) is
 
     pub spread-linked : has_class classes.Bond p ≡ true → (a b : Linked) → AreLinkedTo ground a (turn 3 k 5)
         → IsLinkedNext (start + 5) (start ∷ []) a b → AreLinkedTo ground b (turn 3 (k + 1) 0)
@@ -164,22 +164,22 @@ module _ (ground : Ground) (g : IsGround ground) where
         let one : AreLinkedTo ground b (turn 3 k 6) =
         linked-one a b (turn 3 k 5) (security_spread p) (start + 5) (start ∷ []) is
         (record { at = refl; row = named; family = refl })
-        (bond-live ground.inputs.book.now.sheet g.valid ground.places.now g.numbered k p at bond)
-        (stands-at ground g g.form k p at start own (security_spread p) refl refl (omega arith))
-        (total-at ground g g.form k p at start own, tt) joined in
+        (bond-live ground.book.now.sheet g.valid ground.places.now g.numbered k p at bond)
+        (stands-at ground g k p at start own (security_spread p) refl refl (omega arith))
+        (total-at ground g k p at start own, tt) joined in
         linked-good b (turn 3 k 6) (turn 3 (k + 1) 0)
-        (security-ended ground.inputs.book.now.sheet g.valid ground.places.now g.numbered k p at) one
+        (security-ended ground.book.now.sheet g.valid ground.places.now g.numbered k p at) one
 
     pub spread-free : has_class classes.Bond p ≡ false → (links : Linked) → AreLinkedTo ground links (turn 3 k 5)
         → AreLinkedTo ground links (turn 3 (k + 1) 0)
     spread-free none links is =
         linked-good links (turn 3 k 5) (turn 3 (k + 1) 0)
-        (bond-not ground.inputs.book.now.sheet g.valid ground.places.now g.numbered k p at none) is
+        (bond-not ground.book.now.sheet g.valid ground.places.now g.numbered k p at none) is
 
   -- ---- liabilities
 
   -- figures of a stage that have no sources
-  stage-free : (s : ℕ) → ((n : Node) → stage_of n ≡ s → sources_of ground.inputs.book.now.sheet n ≡ []) → (links : Linked)
+  stage-free : (s : ℕ) → ((n : Node) → stage_of n ≡ s → sources_of ground.book.now.sheet n ≡ []) → (links : Linked)
       → AreLinkedTo ground links (turn s 0 0) → AreLinkedTo ground links (turn (s + 1) 0 0)
   stage-free s none links is = record {
     size = is.size;
@@ -189,7 +189,7 @@ module _ (ground : Ground) (g : IsGround ground) where
     };
   }
     where
-      on : (n : Node) → IsBefore ground.inputs.book.now.sheet (turn s 0 0) n → IsBefore ground.inputs.book.now.sheet (turn (s + 1) 0 0) n
+      on : (n : Node) → IsBefore ground.book.now.sheet (turn s 0 0) n → IsBefore ground.book.now.sheet (turn (s + 1) 0 0) n
       on n (inl less) = inl (omega (arith, less))
       on n (inr h) = let e = h.0 in inl (omega (arith, e))
 
@@ -197,7 +197,7 @@ module _ (ground : Ground) (g : IsGround ground) where
       not-first n k (inl less) = omega (arith, less)
       not-first n k (inr same) = let l = same.1 in omega (arith, l)
 
-      stage-or : (n : Node) → IsBefore ground.inputs.book.now.sheet (turn (s + 1) 0 0) n → (stage_of n < s) ⊎ (stage_of n ≡ s)
+      stage-or : (n : Node) → IsBefore ground.book.now.sheet (turn (s + 1) 0 0) n → (stage_of n < s) ⊎ (stage_of n ≡ s)
       stage-or n (inl less) = passes_or_fails (nat_eq (stage_of n) s)
           (λ e. inr (eqb-true (stage_of n) s e))
           (λ e.
@@ -205,22 +205,22 @@ module _ (ground : Ground) (g : IsGround ground) where
           inl (omega (arith, less, other)))
       stage-or n (inr h) = absurd (not-first n h.1.k h.1.before)
 
-      early : (n : Node) → stage_of n ≡ s → IsBefore ground.inputs.book.now.sheet (turn s 0 0) n → ⊥
+      early : (n : Node) → stage_of n ≡ s → IsBefore ground.book.now.sheet (turn s 0 0) n → ⊥
       early n same (inl less) = omega (arith, same, less)
       early n same (inr h) = not-first n h.1.k h.1.before
 
-      done : (n : Node) (m : ℕ) → At n m → is_live ground.inputs.book.now.sheet n ≡ true → (stage_of n < s) ⊎ (stage_of n ≡ s)
-          → AreAt At (sources_in links.edges m) (sources_of ground.inputs.book.now.sheet n)
+      done : (n : Node) (m : ℕ) → At n m → is_live ground.book.now.sheet n ≡ true → (stage_of n < s) ⊎ (stage_of n ≡ s)
+          → AreAt At (sources_in links.edges m) (sources_of ground.book.now.sheet n)
       done n m stands live (inl less) = is.linked.done n m stands live (inl less)
       done n m stands live (inr same) =
           let empty : sources_in links.edges m ≡ [] =
           none-linked links.edges m (λ e has there.
           let l = is.linked.only e (Contains-from_IsMember links.edges e has) in
           let one : l.0 ≡ n = g.numbers.exact m l.0 n (subst (At l.0) there l.1) stands in
-          early n same (subst (IsBefore ground.inputs.book.now.sheet (turn s 0 0)) one l.3)) in
+          early n same (subst (IsBefore ground.book.now.sheet (turn s 0 0)) one l.3)) in
           subst (AreAt At (sources_in links.edges m)) (sym (none n same)) (subst (λ xs. AreAt At xs []) (sym empty) tt)
 
-  debt-free : (n : Node) → stage_of n ≡ 4 → sources_of ground.inputs.book.now.sheet n ≡ []
+  debt-free : (n : Node) → stage_of n ≡ 4 → sources_of ground.book.now.sheet n ≡ []
   debt-free (nodes.Fund name what) e = absurd (omega (arith, e))
   debt-free (nodes.Security name of_securities.Total) e = absurd (omega (arith, e))
   debt-free (nodes.Security name what) e = absurd (omega (arith, e))
@@ -236,11 +236,11 @@ module _ (ground : Ground) (g : IsGround ground) where
   -- ---- groups
 
   -- the total is linked already
-  pub group-linked : (k : ℕ) (h : Group) → slice_get ground.inputs.book.now.sheet.groups k ≡ Some h → (start : ℕ)
+  pub group-linked : (k : ℕ) (h : Group) → slice_get ground.book.now.sheet.groups k ≡ Some h → (start : ℕ)
       → start ≡ first ground.places.now tables.Group k → (a b : Linked) → AreLinkedTo ground a (turn 5 k 1)
       → IsLinkedNext (start + 1) (153 ∷ start ∷ []) a b → AreLinkedTo ground b (turn 5 (k + 1) 0)
   group-linked k h at start own a b is joined =
-      let sheet = ground.inputs.book.now.sheet in
+      let sheet = ground.book.now.sheet in
       let one : AreLinkedTo ground b (turn 5 k 2) =
       linked-one a b (turn 5 k 1) (nodes.Group h.name of_groups.ConcentrationSquare) (start + 1) (153 ∷ start ∷ []) is
       (record { at = refl; row = group-named sheet g.valid k h at; family = refl }) (group-live sheet g.valid k h at)
@@ -258,17 +258,17 @@ module _ (ground : Ground) (g : IsGround ground) where
   pub assets-due : (links : Linked) → AreLinkedTo ground links (turn 2 0 0) → AreLinkedTo ground links (turn 2 0 153)
   assets-due links is =
       linked-good links (turn 2 0 0) (turn 2 0 153)
-      (row-begun ground.inputs.book.now.sheet 2 0 153 (λ n alive s. assets-first n s)) is
+      (row-begun ground.book.now.sheet 2 0 153 (λ n alive s. assets-first n s)) is
 
   pub assets-linked : (links : Linked) → AreLinkedTo ground links (turn 2 0 154) → AreLinkedTo ground links (turn 3 0 0)
   assets-linked links is =
       linked-over 2 1 refl links
       (linked-good links (turn 2 0 154) (turn 2 1 0)
-      (row-ended ground.inputs.book.now.sheet 2 0 154
-      (λ n alive s. of-table ground.inputs.book.now.sheet ground.places.now g.numbered 2 n alive s)) is)
+      (row-ended ground.book.now.sheet 2 0 154
+      (λ n alive s. of-table ground.book.now.sheet ground.places.now g.numbered 2 n alive s)) is)
 
   pub currency-linked : (k : ℕ) (links : Linked) → AreLinkedTo ground links (turn 6 k 9) → AreLinkedTo ground links (turn 6 (k + 1) 0)
   currency-linked k links is =
       linked-good links (turn 6 k 9) (turn 6 (k + 1) 0)
-      (row-ended ground.inputs.book.now.sheet 6 k 9
-      (λ n alive s. of-table ground.inputs.book.now.sheet ground.places.now g.numbered 6 n alive s)) is
+      (row-ended ground.book.now.sheet 6 k 9
+      (λ n alive s. of-table ground.book.now.sheet ground.places.now g.numbered 6 n alive s)) is

@@ -77,23 +77,10 @@ was-there old now number kept e has other =
 
 -- ---- one figure more
 
-module _ (factors : FactorValues) (sheet : BalanceSheet) (valid : Valid sheet) (places : Numbered) (numbered : IsNumbered sheet places)
+module _ (sheet : BalanceSheet) (valid : Valid sheet) (places : Numbered) (numbered : IsNumbered sheet places)
     (numbers : AreNumbers sheet (StandsAt sheet places) places.size) where
   same-turn : (t : Turn) (n node : Node) → is_live sheet n ≡ true → IsTurnOf sheet t n → IsTurnOf sheet t node → n ≡ node
   same-turn t n node live x y = one-turn sheet t n node x y (family-within sheet places numbered n live)
-
-  -- it is reckoned
-  pub reckoned-next : (old now : List Figure) (t : Turn) (node : Node) (number : ℕ) → AreKnownOf factors sheet (StandsAt sheet places) old (IsBefore sheet t)
-      → IsTurnOf sheet t node → IsPutRight factors sheet (StandsAt sheet places) old now node number
-      → AreKnownOf factors sheet (StandsAt sheet places) now (IsBefore sheet (next t))
-  reckoned-next old now t node number known turn put =
-      known-weaker factors sheet (StandsAt sheet places) now (λ n. IsBefore sheet t n ⊎ (n ≡ node)) (IsBefore sheet (next t))
-      (λ n live before. by n live (step-back sheet t n before))
-      (known-put factors sheet (StandsAt sheet places) places.size numbers old now (IsBefore sheet t) node number known put)
-    where
-      by : (n : Node) → is_live sheet n ≡ true → IsBefore sheet t n ⊎ IsTurnOf sheet t n → IsBefore sheet t n ⊎ (n ≡ node)
-      by n live (inl before) = inl before
-      by n live (inr own) = inr (same-turn t n node live own turn)
 
   -- it is linked
   pub linked-next : (old now : List Edge) (t : Turn) (node : Node) (number : ℕ) (sources : List ℕ)
@@ -141,6 +128,47 @@ module _ (factors : FactorValues) (sheet : BalanceSheet) (valid : Valid sheet) (
           let l = linked.only e (Contains-from_IsMember old e (was-there old now number kept e has other)) in
           (l.0, l.1, l.2, later sheet t l.0 l.3))
 
+  -- ---- the beginning and the end of all links
+
+  pub links-none : (edges : List Edge) → edges ≡ [] → AreLinkedOf sheet (StandsAt sheet places) edges (IsBefore sheet (turn 0 0 0))
+  links-none edges none = record {
+    done = λ n m stands live before. absurd (none-done sheet n before);
+    only = λ e has. absurd (IsMember-from_Contains [] e (subst (λ es. Contains es e) none has));
+  }
+
+  -- all are linked
+  pub links-all : (edges : List Edge) → AreLinkedOf sheet (StandsAt sheet places) edges (IsBefore sheet (turn 7 0 153))
+      → AreLinked sheet (StandsAt sheet places) edges
+  links-all edges is = record {
+    linked = λ n m stands. linked n m stands (is_live sheet n) refl;
+    placed = λ e has. let l = is.only e has in (l.0, l.1);
+  }
+    where
+      linked : (n : Node) (m : ℕ) → StandsAt sheet places n m → (b : Bool) → is_live sheet n ≡ b
+          → AreAt (StandsAt sheet places) (sources_in edges m) (if b then sources_of sheet n else [])
+      linked n m stands true live = is.done n m stands live (all-done sheet places numbered n live)
+      linked n m stands false dead =
+          subst (λ xs. AreAt (StandsAt sheet places) xs []) (sym (none-linked edges m (λ e has same.
+          let l = is.only e (Contains-from_IsMember edges e has) in
+          let one : l.0 ≡ n = numbers.exact m l.0 n (subst (StandsAt sheet places l.0) same l.1) stands in
+          let clash : true ≡ false = sym (subst (λ k. is_live sheet k ≡ true) one l.2) ∙ dead in absurd (cc))))
+          tt
+
+module _ (factors : FactorValues) (sheet : BalanceSheet) (valid : Valid sheet) (places : Numbered) (numbered : IsNumbered sheet places)
+    (numbers : AreNumbers sheet (StandsAt sheet places) places.size) where
+  -- it is reckoned
+  pub reckoned-next : (old now : List Figure) (t : Turn) (node : Node) (number : ℕ) → AreKnownOf factors sheet (StandsAt sheet places) old (IsBefore sheet t)
+      → IsTurnOf sheet t node → IsPutRight factors sheet (StandsAt sheet places) old now node number
+      → AreKnownOf factors sheet (StandsAt sheet places) now (IsBefore sheet (next t))
+  reckoned-next old now t node number known turn put =
+      known-weaker factors sheet (StandsAt sheet places) now (λ n. IsBefore sheet t n ⊎ (n ≡ node)) (IsBefore sheet (next t))
+      (λ n live before. by n live (step-back sheet t n before))
+      (known-put factors sheet (StandsAt sheet places) places.size numbers old now (IsBefore sheet t) node number known put)
+    where
+      by : (n : Node) → is_live sheet n ≡ true → IsBefore sheet t n ⊎ IsTurnOf sheet t n → IsBefore sheet t n ⊎ (n ≡ node)
+      by n live (inl before) = inl before
+      by n live (inr own) = inr (same-turn sheet valid places numbered numbers t n node live own turn)
+
   -- ---- what is made
 
   pub made-good : (made : Made) (t u v w : Turn) → IsAsGood sheet t u → IsAsGood sheet v w → IsMade factors sheet places made t v
@@ -169,7 +197,7 @@ module _ (factors : FactorValues) (sheet : BalanceSheet) (valid : Valid sheet) (
       there = ap (option_map worth_of) entered.there ∙ ap Some right;
       others = entered.others;
     });
-    links = linked-next old.links.edges now.links.edges t node number sources is.links turn live at are entered.made entered.kept;
+    links = linked-next sheet valid places numbered numbers old.links.edges now.links.edges t node number sources is.links turn live at are entered.made entered.kept;
   }
 
   -- the sources of a figure whose turn it is are known
@@ -194,43 +222,19 @@ module _ (factors : FactorValues) (sheet : BalanceSheet) (valid : Valid sheet) (
   unfolding AreKnownOf
   none-reckoned figures = λ n m stands live before. absurd (none-done sheet n before)
 
-  pub links-none : (edges : List Edge) → edges ≡ [] → AreLinkedOf sheet (StandsAt sheet places) edges (IsBefore sheet (turn 0 0 0))
-  links-none edges none = record {
-    done = λ n m stands live before. absurd (none-done sheet n before);
-    only = λ e has. absurd (IsMember-from_Contains [] e (subst (λ es. Contains es e) none has));
-  }
-
   pub made-none : (made : Made) → length made.figures.items ≡ places.size → made.links.size ≡ places.size → made.links.edges ≡ []
       → IsMade factors sheet places made (turn 0 0 0) (turn 0 0 0)
   made-none made count size none = record {
     count = count;
     size = size;
     known = none-reckoned made.figures.items;
-    links = links-none made.links.edges none;
+    links = links-none sheet valid places numbered numbers made.links.edges none;
   }
-
-  -- all are linked
-  pub links-all : (edges : List Edge) → AreLinkedOf sheet (StandsAt sheet places) edges (IsBefore sheet (turn 7 0 153))
-      → AreLinked sheet (StandsAt sheet places) edges
-  links-all edges is = record {
-    linked = λ n m stands. linked n m stands (is_live sheet n) refl;
-    placed = λ e has. let l = is.only e has in (l.0, l.1);
-  }
-    where
-      linked : (n : Node) (m : ℕ) → StandsAt sheet places n m → (b : Bool) → is_live sheet n ≡ b
-          → AreAt (StandsAt sheet places) (sources_in edges m) (if b then sources_of sheet n else [])
-      linked n m stands true live = is.done n m stands live (all-done sheet places numbered n live)
-      linked n m stands false dead =
-          subst (λ xs. AreAt (StandsAt sheet places) xs []) (sym (none-linked edges m (λ e has same.
-          let l = is.only e (Contains-from_IsMember edges e has) in
-          let one : l.0 ≡ n = numbers.exact m l.0 n (subst (StandsAt sheet places l.0) same l.1) stands in
-          let clash : true ≡ false = sym (subst (λ k. is_live sheet k ≡ true) one l.2) ∙ dead in absurd (cc))))
-          tt
 
   pub made-all : (made : Made) → IsMade factors sheet places made (turn 7 0 153) (turn 7 0 153)
       → AreSettled factors sheet (StandsAt sheet places) made.figures.items × AreLinked sheet (StandsAt sheet places) made.links.edges
   made-all made is = (
     known-weaker factors sheet (StandsAt sheet places) made.figures.items (IsBefore sheet (turn 7 0 153)) (λ n. Unit {0})
         (λ n live all. all-done sheet places numbered n live) is.known,
-    links-all made.links.edges is.links,
+    links-all sheet valid places numbered numbers made.links.edges is.links,
   )

@@ -7,8 +7,9 @@ use Rattle.std.proofs.lemmas.List.{append-nil, append_assoc, drop_more, flat_map
 use Rattle.std.proofs.lemmas.Option.{get_or_from_slice_get, slice_get_within}
 use Rattle.scr_num.specs.Rounding.{ends}
 use Rattle.scr_num.specs.declared.span.Span.{Span}
+use Rattle.scr_factors.specs.Values.{FactorValues}
 use Rattle.scr_figures.specs.Families.{family_of, name_of, table_of}
-use Rattle.scr_figures.specs.Numbers.{StandsAt, names_in}
+use Rattle.scr_figures.specs.Numbers.{IsNumbered, StandsAt, names_in}
 use Rattle.scr_figures.proofs.Live.{live-stands}
 use Rattle.scr_figures.proofs.Standing.{stands}
 use Rattle.scr_numbers.specs.Ranges.{IsApart, IsAt, IsOne, IsWithin, Numbered, count, first, stride}
@@ -362,7 +363,8 @@ module _ (ground : Ground) (g : IsGround ground) where
   -- ---- by several
 
   pub rows-there : (rows : List Row) → ((sort : Sort) (k : ℕ) → k < row_count ground.inputs.book.now.sheet sort → 0 < times_row (row sort k) rows)
-      → (a b : List Figure) → AreReckonedTo ground a (turn 2 0 0) → IsWrittenOf ground rows a b → AreRowsThere ground b
+      → (a b : List Figure) → AreReckonedTo ground a (turn 2 0 0) → IsWrittenOf ground rows a b
+      → AreRowsThere ground.inputs.factors.now ground.inputs.book.now.sheet ground.places.now b
   unfolding AreKnownOf
   rows-there rows all a b is written = record {
     count = written.count ∙ is.count;
@@ -372,25 +374,26 @@ module _ (ground : Ground) (g : IsGround ground) where
         (totals-there ground.inputs.factors.now ground.inputs.book.now.sheet ground.places.now a is.known node number stood live total);
   }
 
-  -- all that is not listed is reckoned with its row, or is a total
-  pub rest-known : (figures : List Figure) (list numbers ends : List ℕ) → AreAllRest ground list → AreRowsThere ground figures
-      → IsOrder ground.inputs.book.now.sheet At list numbers ends
-      → AreKnownOf ground.inputs.factors.now ground.inputs.book.now.sheet At figures (IsNoneOf At numbers)
-  unfolding AreKnownOf
-  rest-known figures list numbers ends rest there order = λ node number stood live none.
-      by node number stood live none (is_by_row node) refl
-    where
-      of-rest : (node : Node) (number : ℕ) → At node number → is_live ground.inputs.book.now.sheet node ≡ true → IsNoneOf At numbers node
-          → is_by_row node ≡ false → (t : Bool) → is_total node ≡ t → Has figures number node
-      of-rest node number stood live none own true total = there.totals node number stood live total
-      of-rest node number stood live none own false total =
-          absurd (none number stood (order.all number
-          (rest.all number (record { node = node; at = stood; live = live; rest = own }) total) (node, stood, live)))
+-- all that is not listed is reckoned with its row, or is a total
+pub rest-known : (factors : FactorValues) (sheet : BalanceSheet) (places : Numbered) (figures : List Figure) (list numbers ends : List ℕ)
+    → AreAllRest sheet places list → AreRowsThere factors sheet places figures → IsOrder sheet (StandsAt sheet places) list numbers ends
+    → AreKnownOf factors sheet (StandsAt sheet places) figures (IsNoneOf (StandsAt sheet places) numbers)
+unfolding AreKnownOf
+rest-known factors sheet places figures list numbers ends rest there order = λ node number stood live none.
+    by node number stood live none (is_by_row node) refl
+  where
+    of-rest : (node : Node) (number : ℕ) → StandsAt sheet places node number → is_live sheet node ≡ true
+        → IsNoneOf (StandsAt sheet places) numbers node → is_by_row node ≡ false → (t : Bool) → is_total node ≡ t
+        → HasFigure factors sheet figures number node
+    of-rest node number stood live none own true total = there.totals node number stood live total
+    of-rest node number stood live none own false total =
+        absurd (none number stood (order.all number
+        (rest.all number (record { node = node; at = stood; live = live; rest = own }) total) (node, stood, live)))
 
-      by : (node : Node) (number : ℕ) → At node number → is_live ground.inputs.book.now.sheet node ≡ true → IsNoneOf At numbers node
-          → (b : Bool) → is_by_row node ≡ b → Has figures number node
-      by node number stood live none true own = there.rows node number stood live own
-      by node number stood live none false own = of-rest node number stood live none own (is_total node) refl
+    by : (node : Node) (number : ℕ) → StandsAt sheet places node number → is_live sheet node ≡ true
+        → IsNoneOf (StandsAt sheet places) numbers node → (b : Bool) → is_by_row node ≡ b → HasFigure factors sheet figures number node
+    by node number stood live none true own = there.rows node number stood live own
+    by node number stood live none false own = of-rest node number stood live none own (is_total node) refl
 
 -- ---- spans of rows
 
@@ -524,20 +527,24 @@ assets-known ground g figures is numbers at =
 
 -- ---- the room of a row
 
+module _ (sheet : BalanceSheet) (places : Numbered) (numbered : IsNumbered sheet places) where
+  pub few-rows : (sort : Sort) (k : ℕ) → k < row_count sheet sort → k < count places (sort_table sort)
+  few-rows sorts.Liability k low =
+      let rows = numbered.rows tables.Liability refl in
+      let long = length-map sheet.liabilities liability_name in
+      omega (arith, low, rows, long)
+  few-rows sorts.Security k low =
+      let rows = numbered.rows tables.Security refl in
+      let long = length-map sheet.securities position_name in
+      omega (arith, low, rows, long)
+  few-rows sorts.Group k low =
+      let rows = numbered.rows tables.Group refl in
+      let long = length-map sheet.groups group_name in
+      omega (arith, low, rows, long)
+
 module _ (ground : Ground) (g : IsGround ground) where
   pub row-few : (sort : Sort) (k : ℕ) → k < row_count ground.inputs.book.now.sheet sort → k < count ground.places.now (sort_table sort)
-  row-few sorts.Liability k low =
-      let rows = g.numbered.rows tables.Liability in
-      let long = length-map ground.inputs.book.now.sheet.liabilities liability_name in
-      omega (arith, low, rows, long)
-  row-few sorts.Security k low =
-      let rows = g.numbered.rows tables.Security in
-      let long = length-map ground.inputs.book.now.sheet.securities position_name in
-      omega (arith, low, rows, long)
-  row-few sorts.Group k low =
-      let rows = g.numbered.rows tables.Group in
-      let long = length-map ground.inputs.book.now.sheet.groups group_name in
-      omega (arith, low, rows, long)
+  row-few = few-rows ground.inputs.book.now.sheet ground.places.now g.numbered
 
   -- all numbers of a row are below the size
   pub row-room : IsWithin ground.places.now → (sort : Sort) (k : ℕ) → k < row_count ground.inputs.book.now.sheet sort

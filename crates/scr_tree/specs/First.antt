@@ -20,6 +20,7 @@ use Rattle.scr_tree.specs.Inputs.{AreOfBook}
 use Rattle.scr_tree.specs.Turns.{IsBefore, Turn}
 use Rattle.scr_tree.specs.declared.figures.Figure.{Figure}
 use Rattle.scr_tree.specs.declared.making.Ground.{Ground}
+use Rattle.scr_tree.specs.declared.making.LinkGround.{LinkGround}
 use Rattle.scr_tree.specs.declared.making.Made.{Made}
 
 -- ---- what is made
@@ -61,6 +62,22 @@ pub record IsGround (ground : Ground) : Type 0 where
   pub members : AreMembersOf ground.inputs.book.now.sheet ground.members.now
   pub losses : AreLossesOf ground.inputs.book.now.sheet ground.losses.now
 
+-- what the links of all figures are made from
+abbrev pub link_ground : Ground → LinkGround
+link_ground ground = record {
+  alloc = ground.alloc;
+  book = ground.inputs.book;
+  places = ground.places;
+  members = ground.members;
+}
+
+-- the rows are those of a valid balance sheet, and so are the numbers and the gathered rows
+pub record IsLinkGround (ground : LinkGround) : Type 0 where
+  pub valid : Valid ground.book.now.sheet
+  pub numbered : IsNumbered ground.book.now.sheet ground.places.now
+  pub numbers : AreNumbers ground.book.now.sheet (StandsAt ground.book.now.sheet ground.places.now) ground.places.now.size
+  pub members : AreMembersOf ground.book.now.sheet ground.members.now
+
 -- what is held of each fund and then of each security, in cents
 abbrev pub totals_of : BalanceSheet → List ℕ
 totals_of sheet = map (total_of sheet) (names_by_number sheet)
@@ -72,10 +89,10 @@ pub record AreReckonedTo (ground : Ground) (figures : List Figure) (t : Turn) : 
       (IsBefore ground.inputs.book.now.sheet t)
 
 -- There is a place for the links of each number, and all figures before a turn are linked to their sources.
-pub record AreLinkedTo (ground : Ground) (links : Linked) (t : Turn) : Type 0 where
+pub record AreLinkedTo (ground : LinkGround) (links : Linked) (t : Turn) : Type 0 where
   pub size : links.size ≡ ground.places.now.size
-  pub linked : AreLinkedOf ground.inputs.book.now.sheet (StandsAt ground.inputs.book.now.sheet ground.places.now) links.edges
-      (IsBefore ground.inputs.book.now.sheet t)
+  pub linked : AreLinkedOf ground.book.now.sheet (StandsAt ground.book.now.sheet ground.places.now) links.edges
+      (IsBefore ground.book.now.sheet t)
 
 -- these sources are linked to the number, and to all others the same as before
 pub record IsLinkedNext (number : ℕ) (sources : List ℕ) (before now : Linked) : Type 0 where

@@ -2,6 +2,7 @@
 use Rattle.std.specs.Prelude.{◌≡◌, ◌⊎◌, ℕ, ◌+◌, ◌<◌, ◌≤◌, ◌++◌, Bool, true, false, List, [], ◌∷◌, Contains, Some, length, nat_eq, nat_le, slice_get}
 use Rattle.std.specs.List.{IsDistinct}
 use Rattle.scr_num.specs.declared.span.Span.{Span}
+use Rattle.scr_factors.specs.Values.{FactorValues}
 use Rattle.scr_pieces.specs.Rows.{Row, rows_of, times_row}
 use Rattle.scr_pieces.specs.declared.rows.Part.{Part}
 use Rattle.scr_sheet.specs.declared.sheet.BalanceSheet.{BalanceSheet}
@@ -10,6 +11,7 @@ use Rattle.scr_nodes.specs.declared.node.Node.{Node}
 use Rattle.scr_nodes.specs.declared.node.Node.TheVariants as nodes
 use Rattle.scr_nodes.specs.declared.node.OfSecurity.TheVariants as of_securities
 use Rattle.scr_figures.specs.Numbers.{StandsAt}
+use Rattle.scr_numbers.specs.Ranges.{Numbered}
 use Rattle.scr_numbers.specs.declared.table.Table.{Table}
 use Rattle.scr_numbers.specs.declared.table.Table.TheVariants as tables
 use Rattle.scr_tree.specs.Figures.{AreKnownOf, HasFigure}
@@ -58,11 +60,11 @@ pub record IsWrittenOf (ground : Ground) (rows : List Row) (before now : List Fi
       → HasFigure ground.inputs.factors.now ground.inputs.book.now.sheet now number node
 
 -- There is a place for each figure. Those that are reckoned with their rows are there, and the totals of funds and securities.
-pub record AreRowsThere (ground : Ground) (figures : List Figure) : Type 0 where
-  pub count : length figures ≡ ground.places.now.size
-  pub rows : AreKnownOf ground.inputs.factors.now ground.inputs.book.now.sheet (StandsAt ground.inputs.book.now.sheet ground.places.now) figures
+pub record AreRowsThere (factors : FactorValues) (sheet : BalanceSheet) (places : Numbered) (figures : List Figure) : Type 0 where
+  pub count : length figures ≡ places.size
+  pub rows : AreKnownOf factors sheet (StandsAt sheet places) figures
       (λ node. is_by_row node ≡ true)
-  pub totals : AreKnownOf ground.inputs.factors.now ground.inputs.book.now.sheet (StandsAt ground.inputs.book.now.sheet ground.places.now) figures
+  pub totals : AreKnownOf factors sheet (StandsAt sheet places) figures
       (λ node. is_total node ≡ true)
 
 -- ---- all other figures
@@ -81,20 +83,20 @@ in_total tables.Security family = nat_eq family 0
 in_total table family = false
 
 -- one lives at the number
-pub record IsRestAt (ground : Ground) (number : ℕ) : Type 0 where
+pub record IsRestAt (sheet : BalanceSheet) (places : Numbered) (number : ℕ) : Type 0 where
   pub node : Node
-  pub at : StandsAt ground.inputs.book.now.sheet ground.places.now node number
-  pub live : is_live ground.inputs.book.now.sheet node ≡ true
+  pub at : StandsAt sheet places node number
+  pub live : is_live sheet node ≡ true
   pub rest : is_by_row node ≡ false
 
 -- Just numbers below the end at which one lives are listed, each once, and all of them but for totals, which are there before.
-pub record AreRestBelow (ground : Ground) (end : ℕ) (numbers : List ℕ) : Type 0 where
+pub record AreRestBelow (sheet : BalanceSheet) (places : Numbered) (end : ℕ) (numbers : List ℕ) : Type 0 where
   pub once : IsDistinct nat_eq numbers
-  pub each : (number : ℕ) → Contains numbers number → (number < end) × IsRestAt ground number
-  pub all : (number : ℕ) → number < end → (rest : IsRestAt ground number) → is_total rest.node ≡ false → Contains numbers number
+  pub each : (number : ℕ) → Contains numbers number → (number < end) × IsRestAt sheet places number
+  pub all : (number : ℕ) → number < end → (rest : IsRestAt sheet places number) → is_total rest.node ≡ false → Contains numbers number
 
 -- so of all numbers
-pub record AreAllRest (ground : Ground) (numbers : List ℕ) : Type 0 where
+pub record AreAllRest (sheet : BalanceSheet) (places : Numbered) (numbers : List ℕ) : Type 0 where
   pub once : IsDistinct nat_eq numbers
-  pub each : (number : ℕ) → Contains numbers number → IsRestAt ground number
-  pub all : (number : ℕ) → (rest : IsRestAt ground number) → is_total rest.node ≡ false → Contains numbers number
+  pub each : (number : ℕ) → Contains numbers number → IsRestAt sheet places number
+  pub all : (number : ℕ) → (rest : IsRestAt sheet places number) → is_total rest.node ≡ false → Contains numbers number

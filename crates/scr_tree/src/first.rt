@@ -1,9 +1,11 @@
 //! The figures of a book, all reckoned for the first time: by several workers at once, or by one row by row, and then those of
 //! currencies and of the whole sheet in their order.
 ghost use Rattle.std.specs.Prelude.{◌≡◌, ◌+◌, ◌<◌, length, IfOk, OnOk};
+ghost use Rattle.scr_discounts.specs.KeptRates.{all_rates, known_of};
+ghost use Rattle.scr_factors.specs.Values.{IsInForm};
 ghost use Rattle.scr_pieces.specs.Rows.{rows_from};
 ghost use Rattle.scr_tree.specs.Begun.{IsAllMade};
-ghost use Rattle.scr_tree.specs.First.{IsDone, IsGround, totals_of};
+ghost use Rattle.scr_tree.specs.First.{IsDone, IsGround, IsLinkGround, link_ground, totals_of};
 ghost use Rattle.scr_tree.specs.Opened.{IsOpened};
 ghost use Rattle.scr_tree.specs.RowSpans.{IsRowGround, row_count};
 ghost use Rattle.scr_tree.specs.Turns.{turn};
@@ -15,7 +17,7 @@ use crate::first_links::{OF_CURRENCY, WHOLES, link_rows, no_links};
 use crate::first_parts::write_row;
 use crate::first_together::reckon_round;
 use crate::first_totals::{assets_of, put_totals};
-use crate::making::{Ground, Made, Making, put_live};
+use crate::making::{Ground, LinkGround, Made, Making, put_live};
 use crate::row_spans::RowGround;
 use scr_book::Book;
 use scr_factors::Factors;
@@ -54,23 +56,16 @@ pub(crate) fn reckon_all<R: Threads + Sync, G: Gate + Sync>(
 {
     let alloc = crew.alloc;
     factors.known();
-    let rates = rates(alloc, factors, book)?;
-    let losses = group_losses(alloc, book)?;
     let members = members_of(alloc, book.sheet())?;
     let places = places_of(alloc, book.sheet())?;
     places.len();
-    let ground = Ground {
+    let ground = LinkGround {
         alloc,
-        inputs: Inputs {
-            factors,
-            book,
-            rates: &rates,
-        },
+        book,
         places: &places,
         members: &members,
-        losses: &losses,
     };
-    let making = reckon_by(crew, ground)?;
+    let (rates, making) = reckon_by(crew, factors, ground)?;
     Ok(Opened {
         rates,
         places,
@@ -80,28 +75,64 @@ pub(crate) fn reckon_all<R: Threads + Sync, G: Gate + Sync>(
     })
 }
 
-/// By one worker one after another, by several at once.
+/// The rates of the book, and all figures with their links: by one worker one after another, by several at once.
 fn reckon_by<R: Threads + Sync, G: Gate + Sync>(
     crew: &Crew<'_, R, G>,
-    ground: Ground<'_>,
-) -> Result<Making, NoMemory>
-    requires { IsGround ground }
-    ensures { IfOk result (λ making. IsAllMade ground.entry making.made) }
+    factors: &Factors,
+    ground: LinkGround<'_>,
+) -> Result<(Rates, Making), NoMemory>
+    requires form { IsInForm factors.now }
+    requires ground { IsLinkGround ground }
+    ensures rates { IfOk result (λ all. known_of all.0 ≡ all_rates ground.entry.book.now.sheet) }
+    ensures made { IfOk result (λ all. IsAllMade factors.now ground.entry all.1.made) }
 {
     if crew.workers == 1 {
-        return reckon_alone(ground, crew.gate);
+        return reckon_alone(factors, ground, crew.gate);
     }
-    let made = reckon_round(crew, ground)?;
-    Ok(making_of(ground.alloc, made))
+    let (rates, made) = reckon_round(crew, factors, ground)?;
+    Ok((rates, making_of(ground.alloc, made)))
 }
 
-fn reckon_alone<G: Gate>(ground: Ground<'_>, gate: &G) -> Result<Making, NoMemory>
+fn reckon_alone<G: Gate>(
+    factors: &Factors,
+    linked: LinkGround<'_>,
+    gate: &G,
+) -> Result<(Rates, Making), NoMemory>
+    requires form { IsInForm factors.now }
+    requires ground { IsLinkGround linked }
+    ensures rates { IfOk result (λ all. known_of all.0 ≡ all_rates linked.entry.book.now.sheet) }
+    ensures made { IfOk result (λ all. IsAllMade factors.now linked.entry all.1.made) }
+{
+    let LinkGround {
+        alloc,
+        book,
+        places,
+        members,
+    } = linked;
+    let rates = rates(alloc, factors, book)?;
+    let losses = group_losses(alloc, book)?;
+    let ground = Ground {
+        alloc,
+        inputs: Inputs {
+            factors,
+            book,
+            rates: &rates,
+        },
+        places,
+        members,
+        losses: &losses,
+    };
+    let making = make_alone(ground, gate)?;
+    Ok((rates, making))
+}
+
+fn make_alone<G: Gate>(ground: Ground<'_>, gate: &G) -> Result<Making, NoMemory>
     requires { IsGround ground }
-    ensures { IfOk result (λ making. IsAllMade ground.entry making.made) }
+    ensures { IfOk result (λ making. IsAllMade ground.entry.inputs.factors.now (link_ground ground.entry) making.made) }
 {
     let totals = totals(ground.alloc, ground.inputs.book.sheet())?;
     let figures = no_figures(ground.alloc, ground.places.len())?;
-    let links = no_links(ground)?;
+    let links = no_links(ground.for_links())?;
     let mut making = making_of(ground.alloc, Made { figures, links });
     reckon_tables::<G, Brand>(ground, totals.as_slice(), &mut making, gate, Blank::new(1))?;
     Ok(making)
@@ -135,7 +166,7 @@ fn reckon_tables<G: Gate, L: Ledger>(
     requires ground { IsGround ground }
     requires totals { totals.now ≡ totals_of ground.inputs.book.now.sheet }
     requires nothing { IsDone ground making.old.made (turn 0 0 0) }
-    ensures { OnOk result (IsAllMade ground.entry making.new.made) }
+    ensures { OnOk result (IsAllMade ground.entry.inputs.factors.now (link_ground ground.entry) making.new.made) }
 {
     let mut steps = Steps::<L>::new(blank);
     put_totals(ground, totals, making, gate)?;
@@ -171,7 +202,11 @@ fn put_rows<G: Gate>(
     requires done { IsDone ground making.old.made (turn 3 0 0) }
     ensures { OnOk result (IsDone ground.entry making.new.made (turn 6 0 0)) }
 {
-    link_rows(ground, &mut making.made.links, &mut making.sources)?;
+    link_rows(
+        ground.for_links(),
+        &mut making.made.links,
+        &mut making.sources,
+    )?;
     let rows = RowGround {
         ground,
         totals: &totals[ground.inputs.book.sheet().funds.len()..],

@@ -4,10 +4,10 @@ ghost use Rattle.scr_figures.specs.Families.{name_of, table_of};
 ghost use Rattle.scr_figures.specs.Numbers.{names_in};
 ghost use Rattle.scr_nodes.specs.Live.{is_live};
 ghost use Rattle.scr_tree.specs.Begun.{AreAllLinked};
-ghost use Rattle.scr_tree.specs.First.{AreLinkedTo, IsGround, IsLinkedNext};
+ghost use Rattle.scr_tree.specs.First.{AreLinkedTo, IsLinkGround, IsLinkedNext};
 ghost use Rattle.scr_tree.specs.Turns.{next, turn, turn_of};
 
-use crate::making::{Ground, gather, make_room, number_at};
+use crate::making::{LinkGround, gather_linked, make_room, number_at};
 use scr_figures::{currency_at, whole_at};
 use scr_links::Links;
 use scr_nodes::rows::{has_class, is_paying};
@@ -27,8 +27,8 @@ pub(crate) const OF_CURRENCY: u32 = 9;
 pub(crate) const WHOLES: u32 = 153;
 
 /// Links all figures to their sources, before any is reckoned. Only want of memory is refused.
-pub(crate) fn link_tables(ground: Ground<'_>) -> Result<Links, NoMemory>
-    requires { IsGround ground }
+pub(crate) fn link_tables(ground: LinkGround<'_>) -> Result<Links, NoMemory>
+    requires { IsLinkGround ground }
     ensures { IfOk result (AreAllLinked ground.entry) }
 {
     let mut links = no_links(ground)?;
@@ -37,23 +37,23 @@ pub(crate) fn link_tables(ground: Ground<'_>) -> Result<Links, NoMemory>
 }
 
 /// No link, with room for those of all figures.
-pub(crate) fn no_links(ground: Ground<'_>) -> Result<Links, NoMemory>
+pub(crate) fn no_links(ground: LinkGround<'_>) -> Result<Links, NoMemory>
     ensures links { IfOk result (λ links. links.edges ≡ []) }
     ensures size { IfOk result (λ links. links.size ≡ ground.entry.places.now.size) }
 {
-    let count = expected_links(ground.inputs.book.sheet());
+    let count = expected_links(ground.book.sheet());
     let mut links = Links::new(ground.alloc)?;
     links.reserve(ground.alloc, count, ground.places.len())?;
     Ok(links)
 }
 
-/// How many links figures have at most to their sources, or nearly so: of a security at most fifteen, of a liability at most
-/// fourteen, of a group five, and of a currency twenty.
+/// How many links figures have at most to their sources, or nearly so: of a security at most twelve but for the funds that hold it,
+/// of a liability at most fourteen, of a group five, and of a currency twenty.
 fn expected_links(sheet: &BalanceSheet) -> u32 {
     let count = sheet
         .securities
         .len()
-        .saturating_mul(15)
+        .saturating_mul(12)
         .saturating_add(sheet.liabilities.len().saturating_mul(14))
         .saturating_add(sheet.groups.len().saturating_mul(5))
         .saturating_add(sheet.curves.len().saturating_mul(20))
@@ -65,8 +65,8 @@ fn expected_links(sheet: &BalanceSheet) -> u32 {
 }
 
 /// The figures of a table after those of another, in the order in which they are reckoned.
-fn link_stages(ground: Ground<'_>, links: &mut Links) -> Result<(), NoMemory>
-    requires ground { IsGround ground }
+fn link_stages(ground: LinkGround<'_>, links: &mut Links) -> Result<(), NoMemory>
+    requires ground { IsLinkGround ground }
     requires nothing { AreLinkedTo ground links.old (turn 0 0 0) }
     ensures { OnOk result (AreLinkedTo ground.entry links.new (turn 7 0 153)) }
 {
@@ -81,15 +81,15 @@ fn link_stages(ground: Ground<'_>, links: &mut Links) -> Result<(), NoMemory>
 
 /// Links to the total of each fund those of the funds that hold it.
 pub(crate) fn link_funds(
-    ground: Ground<'_>,
+    ground: LinkGround<'_>,
     links: &mut Links,
     sources: &mut Vec<u32>,
 ) -> Result<(), NoMemory>
-    requires ground { IsGround ground }
+    requires ground { IsLinkGround ground }
     requires linked { AreLinkedTo ground links.old (turn 0 0 0) }
     ensures { OnOk result (AreLinkedTo ground.entry links.new (turn 1 0 0)) }
 {
-    let sheet = ground.inputs.book.sheet();
+    let sheet = ground.book.sheet();
     for k in 0..sheet.funds.len() {
         let node = Node::Fund(sheet.funds.at(k).fund.name, OfFund::Total);
         link_gathered(ground, links, sources, &node, k)?;
@@ -99,15 +99,15 @@ pub(crate) fn link_funds(
 
 /// Links to the total of each security those of the funds that hold it.
 pub(crate) fn link_securities(
-    ground: Ground<'_>,
+    ground: LinkGround<'_>,
     links: &mut Links,
     sources: &mut Vec<u32>,
 ) -> Result<(), NoMemory>
-    requires ground { IsGround ground }
+    requires ground { IsLinkGround ground }
     requires linked { AreLinkedTo ground links.old (turn 1 0 0) }
     ensures { OnOk result (AreLinkedTo ground.entry links.new (turn 2 0 0)) }
 {
-    let sheet = ground.inputs.book.sheet();
+    let sheet = ground.book.sheet();
     for k in 0..sheet.securities.len() {
         let node = Node::Security(sheet.securities.at(k).security.name, OfSecurity::Total);
         link_gathered(ground, links, sources, &node, k)?;
@@ -117,11 +117,11 @@ pub(crate) fn link_securities(
 
 /// Links to the figures of all rows, but for the totals of funds and securities, those that they are reckoned from.
 pub(crate) fn link_rows(
-    ground: Ground<'_>,
+    ground: LinkGround<'_>,
     links: &mut Links,
     sources: &mut Vec<u32>,
 ) -> Result<(), NoMemory>
-    requires ground { IsGround ground }
+    requires ground { IsLinkGround ground }
     requires linked { AreLinkedTo ground links.old (turn 3 0 0) }
     ensures { OnOk result (AreLinkedTo ground.entry links.new (turn 6 0 0)) }
 {
@@ -130,12 +130,12 @@ pub(crate) fn link_rows(
 }
 
 /// Links to what each security loses what it is reckoned from.
-fn link_losses(ground: Ground<'_>, links: &mut Links) -> Result<(), NoMemory>
-    requires ground { IsGround ground }
+fn link_losses(ground: LinkGround<'_>, links: &mut Links) -> Result<(), NoMemory>
+    requires ground { IsLinkGround ground }
     requires linked { AreLinkedTo ground links.old (turn 3 0 0) }
     ensures { OnOk result (AreLinkedTo ground.entry links.new (turn 4 0 0)) }
 {
-    for k in 0..ground.inputs.book.sheet().securities.len() {
+    for k in 0..ground.book.sheet().securities.len() {
         link_rates(ground, links, k)?;
         link_spread(ground, links, k)?;
     }
@@ -143,13 +143,13 @@ fn link_losses(ground: Ground<'_>, links: &mut Links) -> Result<(), NoMemory>
 }
 
 /// Where a security has payments, links to what it loses where rates rise, and where they fall, its total and the loss of a unit.
-fn link_rates(ground: Ground<'_>, links: &mut Links, k: usize) -> Result<(), NoMemory>
-    requires ground { IsGround ground }
-    requires row { k < length ground.inputs.book.now.sheet.securities }
+fn link_rates(ground: LinkGround<'_>, links: &mut Links, k: usize) -> Result<(), NoMemory>
+    requires ground { IsLinkGround ground }
+    requires row { k < length ground.book.now.sheet.securities }
     requires linked { AreLinkedTo ground links.old (turn 3 k 0) }
     ensures { OnOk result (AreLinkedTo ground.entry links.new (turn 3 k 5)) }
 {
-    let position = ground.inputs.book.sheet().securities.at(k);
+    let position = ground.book.sheet().securities.at(k);
     if !is_paying(position) {
         return Ok(());
     }
@@ -159,13 +159,13 @@ fn link_rates(ground: Ground<'_>, links: &mut Links, k: usize) -> Result<(), NoM
 }
 
 /// Links to what a bond loses where spreads widen its total.
-fn link_spread(ground: Ground<'_>, links: &mut Links, k: usize) -> Result<(), NoMemory>
-    requires ground { IsGround ground }
-    requires row { k < length ground.inputs.book.now.sheet.securities }
+fn link_spread(ground: LinkGround<'_>, links: &mut Links, k: usize) -> Result<(), NoMemory>
+    requires ground { IsLinkGround ground }
+    requires row { k < length ground.book.now.sheet.securities }
     requires linked { AreLinkedTo ground links.old (turn 3 k 5) }
     ensures { OnOk result (AreLinkedTo ground.entry links.new (turn 3 (k + 1) 0)) }
 {
-    let position = ground.inputs.book.sheet().securities.at(k);
+    let position = ground.book.sheet().securities.at(k);
     if !has_class(Class::Bond, position) {
         return Ok(());
     }
@@ -175,15 +175,15 @@ fn link_spread(ground: Ground<'_>, links: &mut Links, k: usize) -> Result<(), No
 
 /// The figures of all groups of counterparties. Those of liabilities, which come before, have no sources.
 fn link_groups(
-    ground: Ground<'_>,
+    ground: LinkGround<'_>,
     links: &mut Links,
     sources: &mut Vec<u32>,
 ) -> Result<(), NoMemory>
-    requires ground { IsGround ground }
+    requires ground { IsLinkGround ground }
     requires linked { AreLinkedTo ground links.old (turn 4 0 0) }
     ensures { OnOk result (AreLinkedTo ground.entry links.new (turn 6 0 0)) }
 {
-    for k in 0..ground.inputs.book.sheet().groups.len() {
+    for k in 0..ground.book.sheet().groups.len() {
         link_group(ground, links, sources, k)?;
     }
     Ok(())
@@ -192,17 +192,17 @@ fn link_groups(
 /// Links to the total of a group those of its securities, and to the square of its concentration the assets and its total. What is
 /// lost where it defaults has no sources.
 fn link_group(
-    ground: Ground<'_>,
+    ground: LinkGround<'_>,
     links: &mut Links,
     sources: &mut Vec<u32>,
     k: usize,
 ) -> Result<(), NoMemory>
-    requires ground { IsGround ground }
-    requires row { k < length ground.inputs.book.now.sheet.groups }
+    requires ground { IsLinkGround ground }
+    requires row { k < length ground.book.now.sheet.groups }
     requires linked { AreLinkedTo ground links.old (turn 5 k 0) }
     ensures { OnOk result (AreLinkedTo ground.entry links.new (turn 5 (k + 1) 0)) }
 {
-    let name = ground.inputs.book.sheet().groups.at(k).name;
+    let name = ground.book.sheet().groups.at(k).name;
     link_gathered(
         ground,
         links,
@@ -216,32 +216,32 @@ fn link_group(
 
 /// Links to the figures of all currencies their sources.
 fn link_currencies(
-    ground: Ground<'_>,
+    ground: LinkGround<'_>,
     links: &mut Links,
     sources: &mut Vec<u32>,
 ) -> Result<(), NoMemory>
-    requires ground { IsGround ground }
+    requires ground { IsLinkGround ground }
     requires linked { AreLinkedTo ground links.old (turn 6 0 0) }
     ensures { OnOk result (AreLinkedTo ground.entry links.new (turn 7 0 0)) }
 {
-    for k in 0..ground.inputs.book.sheet().curves.len() {
+    for k in 0..ground.book.sheet().curves.len() {
         link_currency(ground, links, sources, k)?;
     }
     Ok(())
 }
 
 fn link_currency(
-    ground: Ground<'_>,
+    ground: LinkGround<'_>,
     links: &mut Links,
     sources: &mut Vec<u32>,
     k: usize,
 ) -> Result<(), NoMemory>
-    requires ground { IsGround ground }
-    requires row { k < length ground.inputs.book.now.sheet.curves }
+    requires ground { IsLinkGround ground }
+    requires row { k < length ground.book.now.sheet.curves }
     requires linked { AreLinkedTo ground links.old (turn 6 k 0) }
     ensures { OnOk result (AreLinkedTo ground.entry links.new (turn 6 (k + 1) 0)) }
 {
-    let name = ground.inputs.book.sheet().curves.at(k).currency;
+    let name = ground.book.sheet().curves.at(k).currency;
     for family in 0..OF_CURRENCY {
         let what = currency_at(family);
         let node = Node::Currency(name, what);
@@ -252,11 +252,11 @@ fn link_currency(
 
 /// Links to the figures of the whole sheet their sources.
 fn link_wholes(
-    ground: Ground<'_>,
+    ground: LinkGround<'_>,
     links: &mut Links,
     sources: &mut Vec<u32>,
 ) -> Result<(), NoMemory>
-    requires ground { IsGround ground }
+    requires ground { IsLinkGround ground }
     requires linked { AreLinkedTo ground links.old (turn 7 0 0) }
     ensures { OnOk result (AreLinkedTo ground.entry links.new (turn 7 0 153)) }
 {
@@ -268,18 +268,18 @@ fn link_wholes(
 
 /// Links to a figure of the row at a place all of its sources; nothing where the balance sheet does not have the figure.
 fn link_live(
-    ground: Ground<'_>,
+    ground: LinkGround<'_>,
     links: &mut Links,
     sources: &mut Vec<u32>,
     node: &Node,
     row: usize,
 ) -> Result<(), NoMemory>
-    requires ground { IsGround ground }
-    requires row { slice_get (names_in ground.inputs.book.now.sheet (table_of node.now)) row ≡ Some (name_of node.now) }
+    requires ground { IsLinkGround ground }
+    requires row { slice_get (names_in ground.book.now.sheet (table_of node.now)) row ≡ Some (name_of node.now) }
     requires linked { AreLinkedTo ground links.old (turn_of node.now row) }
     ensures { OnOk result (AreLinkedTo ground.entry links.new (next (turn_of node.now row))) }
 {
-    if !is_live(ground.inputs.book.sheet(), node) {
+    if !is_live(ground.book.sheet(), node) {
         return Ok(());
     }
     link_gathered(ground, links, sources, node, row)
@@ -287,26 +287,26 @@ fn link_live(
 
 /// Links to a figure that the balance sheet has, of the row at a place, all of its sources.
 fn link_gathered(
-    ground: Ground<'_>,
+    ground: LinkGround<'_>,
     links: &mut Links,
     sources: &mut Vec<u32>,
     node: &Node,
     row: usize,
 ) -> Result<(), NoMemory>
-    requires ground { IsGround ground }
-    requires live { is_live ground.inputs.book.now.sheet node.now ≡ true }
-    requires row { slice_get (names_in ground.inputs.book.now.sheet (table_of node.now)) row ≡ Some (name_of node.now) }
+    requires ground { IsLinkGround ground }
+    requires live { is_live ground.book.now.sheet node.now ≡ true }
+    requires row { slice_get (names_in ground.book.now.sheet (table_of node.now)) row ≡ Some (name_of node.now) }
     requires linked { AreLinkedTo ground links.old (turn_of node.now row) }
     ensures { OnOk result (AreLinkedTo ground.entry links.new (next (turn_of node.now row))) }
 {
-    gather(ground, sources, node, row)?;
+    gather_linked(ground, sources, node, row)?;
     let number = number_at(ground.places, node, row);
     link_next(ground, links, number, sources.as_slice())
 }
 
 /// Links these sources to a number.
 fn link_next(
-    ground: Ground<'_>,
+    ground: LinkGround<'_>,
     links: &mut Links,
     number: u32,
     sources: &[u32],

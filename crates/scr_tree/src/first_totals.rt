@@ -41,8 +41,9 @@ pub(crate) fn put_totals<G: Gate>(
     ensures { OnOk result (IsDone ground.entry making.new.made (turn 2 0 0)) }
 {
     enter_totals(ground, totals, &mut making.made.figures, gate);
-    link_funds(ground, &mut making.made.links, &mut making.sources)?;
-    link_securities(ground, &mut making.made.links, &mut making.sources)
+    let linked = ground.for_links();
+    link_funds(linked, &mut making.made.links, &mut making.sources)?;
+    link_securities(linked, &mut making.made.links, &mut making.sources)
 }
 
 /// The totals alone. The gate is passed as for `put_totals`.

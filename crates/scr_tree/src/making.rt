@@ -7,10 +7,11 @@ ghost use Rattle.scr_nodes.specs.Live.{is_live};
 ghost use Rattle.scr_nodes.specs.Sources.{sources_of};
 ghost use Rattle.scr_reach.specs.Linked.{AreAt};
 ghost use Rattle.scr_tree.specs.Figures.{HaveFigures};
-ghost use Rattle.scr_tree.specs.First.{IsDone, IsEntered, IsGround, IsPut};
+ghost use Rattle.scr_tree.specs.First.{IsDone, IsEntered, IsGround, IsLinkGround, IsPut};
 ghost use Rattle.scr_tree.specs.Turns.{next, stage_of, turn_of};
 
 use crate::figures::{Below, Figure, Inputs, read, reckoned};
+use scr_book::Book;
 use scr_figures::gathered::Members;
 use scr_figures::{View, family, push_gathered, table};
 use scr_io::{Gate, Steps};
@@ -31,6 +32,32 @@ pub(crate) struct Ground<'a> {
     pub(crate) places: &'a Places,
     pub(crate) members: &'a Members,
     pub(crate) losses: &'a GroupLosses,
+}
+
+/// What figures are linked by: the book, the numbers of all its figures, and the rows that the large sums are of.
+#[derive(Clone, Copy)]
+pub(crate) struct LinkGround<'a> {
+    pub(crate) alloc: Global,
+    pub(crate) book: &'a Book,
+    pub(crate) places: &'a Places,
+    pub(crate) members: &'a Members,
+}
+
+impl<'a> Ground<'a> {
+    ghost use Rattle.std.specs.Prelude.{◌≡◌};
+    ghost use Rattle.scr_tree.specs.First.{link_ground};
+
+    /// What figures are linked by.
+    pub(crate) fn for_links(&self) -> LinkGround<'a>
+        ensures { result ≡ link_ground self.now }
+    {
+        LinkGround {
+            alloc: self.alloc,
+            book: self.inputs.book,
+            places: self.places,
+            members: self.members,
+        }
+    }
 }
 
 /// The figures by number, and the links from the numbers of their sources.
@@ -109,8 +136,24 @@ pub(crate) fn gather(
     ensures { OnOk result (AreAt (StandsAt ground.entry.inputs.book.now.sheet ground.entry.places.now) sources.new.items
         (sources_of ground.entry.inputs.book.now.sheet node.now)) }
 {
+    gather_linked(ground.for_links(), sources, node, row)
+}
+
+/// The same, of what links are made from.
+pub(crate) fn gather_linked(
+    ground: LinkGround<'_>,
+    sources: &mut Vec<u32>,
+    node: &Node,
+    row: usize,
+) -> Result<(), NoMemory>
+    requires ground { IsLinkGround ground }
+    requires live { is_live ground.book.now.sheet node.now ≡ true }
+    requires row { slice_get (names_in ground.book.now.sheet (table_of node.now)) row ≡ Some (name_of node.now) }
+    ensures { OnOk result (AreAt (StandsAt ground.entry.book.now.sheet ground.entry.places.now) sources.new.items
+        (sources_of ground.entry.book.now.sheet node.now)) }
+{
     let view = View {
-        sheet: ground.inputs.book.sheet(),
+        sheet: ground.book.sheet(),
         places: ground.places,
     };
     sources.clear();

@@ -8,6 +8,6 @@ pub returns : goal.returns
 returns g c =
     let rows = ap (λ (s : BalanceSheet). length s.curves) c.sheet.ensures.sheet in
     table-made c.args.ground c.requires.ground 6 c.loop-k.k
-    (as-long c.args.ground c.requires.ground curve_name c.args.ground.inputs.book.now.sheet.curves c.loop-k.k
+    (as-long curve_name c.args.ground.inputs.book.now.sheet.curves c.loop-k.k
     (omega (arith, rows, c.loop-k-test.false, c.loop-k.auto.k-end, c.len-k-end.ensures.count)))
     c.loop-k.making.made c.loop-k.invariant

@@ -16,7 +16,7 @@ pub put_live-requires-clause-done : goal.put_live-requires-clause-done
 put_live-requires-clause-done g c =
     turned c.args.ground c.requires.ground c.loop-family.making.made (turn 6 c.args.k c.loop-family.family)
     (turn_of (nodes.Currency c.at.result.now.currency c.currency_at-what.result) c.args.k)
-    (sym (currency-turn c.args.ground c.requires.ground c.at.result.now.currency c.currency_at-what.result c.args.k
+    (sym (currency-turn c.at.result.now.currency c.currency_at-what.result c.args.k
     c.loop-family.family c.currency_at-what.ensures)) c.loop-family.invariant
 
 pub loop-family-preserved : goal.loop-family-preserved
@@ -24,7 +24,7 @@ loop-family-preserved g c =
     turned c.args.ground c.requires.ground c.put_live.new.making.made
     (next (turn_of (nodes.Currency c.at.result.now.currency c.currency_at-what.result) c.args.k))
     (turn 6 c.args.k (c.loop-family.family + 1))
-    (ap next (currency-turn c.args.ground c.requires.ground c.at.result.now.currency c.currency_at-what.result c.args.k
+    (ap next (currency-turn c.at.result.now.currency c.currency_at-what.result c.args.k
     c.loop-family.family c.currency_at-what.ensures)) c.in_ok-put_live.ensures
 
 pub returns : goal.returns

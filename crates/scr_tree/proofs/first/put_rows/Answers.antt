@@ -5,16 +5,22 @@ use Rattle.scr_pieces.specs.Rows.{all_rows, rows_from}
 use Rattle.scr_pieces.specs.declared.rows.Sort.TheVariants as sorts
 use Rattle.scr_sheet.specs.declared.sheet.BalanceSheet.{BalanceSheet}
 use Rattle.scr_totals.proofs.SeenThrough.{rest-totals}
-use Rattle.scr_tree.specs.First.{AreReckonedTo, IsDone}
+use Rattle.scr_tree.specs.First.{AreLinkedTo, AreReckonedTo, IsDone, IsLinkGround, link_ground}
 use Rattle.scr_tree.specs.RowSpans.{row_count}
 use Rattle.scr_tree.specs.Turns.{turn}
 use Rattle.scr_tree.specs.Written.{IsWrittenOf}
 use Rattle.scr_tree.proofs.FirstRows.{on-ok}
+use Rattle.scr_tree.proofs.Grounds.{for-links}
 use Rattle.scr_tree.proofs.Writing.{all-sorts, early-totals, rows-reckoned, written-and}
 use Rattle.scr_tree.proofs.first.put_rows.Goals as goal
 
+pub link_rows-requires-clause-ground : goal.link_rows-requires-clause-ground
+link_rows-requires-clause-ground g c = subst IsLinkGround (sym c.for_links.ensures) (for-links c.args.ground c.requires.ground)
+
 pub link_rows-requires-clause-linked : goal.link_rows-requires-clause-linked
-link_rows-requires-clause-linked g c = record { size = c.requires.done.size; linked = c.requires.done.links }
+link_rows-requires-clause-linked g c =
+    subst (λ l. AreLinkedTo l c.args.making.now.made.links (turn 3 0 0)) (sym c.for_links.ensures)
+    (record { size = c.requires.done.size; linked = c.requires.done.links })
 
 pub assets_of-requires-clause-totals : goal.assets_of-requires-clause-totals
 assets_of-requires-clause-totals g c =
@@ -69,10 +75,12 @@ returns g c =
     (record { count = c.requires.done.count; known = c.requires.done.known })
     (subst (λ fs. IsWrittenOf ground (all_rows count) fs three) c.as_mut_slice-figures.ensures.value all) in
     let same = with_items_is made.figures three (all.count ∙ c.as_mut_slice-figures.ensures.len) in
+    let all_linked : AreLinkedTo (link_ground ground) c.link_rows.new.links (turn 6 0 0) =
+    subst (λ l. AreLinkedTo l c.link_rows.new.links (turn 6 0 0)) c.for_links.ensures c.in_ok-link_rows.ensures in
     let there = subst (λ fs. AreReckonedTo ground fs (turn 6 0 0)) (sym same) reckoned in
     record {
       count = there.count;
-      size = c.in_ok-link_rows.ensures.size;
+      size = all_linked.size;
       known = there.known;
-      links = c.in_ok-link_rows.ensures.linked;
+      links = all_linked.linked;
     }) c.put_sort-3.ensures.written

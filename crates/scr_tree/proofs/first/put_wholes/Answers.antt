@@ -16,14 +16,14 @@ pub put_live-requires-clause-done : goal.put_live-requires-clause-done
 put_live-requires-clause-done g c =
     turned c.args.ground c.requires.ground c.loop-number.making.made (turn 7 0 c.loop-number.number)
     (turn_of (nodes.Whole c.whole_at.result) 0)
-    (sym (whole-turn c.args.ground c.requires.ground c.whole_at.result c.loop-number.number c.whole_at.ensures
+    (sym (whole-turn c.whole_at.result c.loop-number.number c.whole_at.ensures
     (omega (arith, c.loop-number-test.true)))) c.loop-number.invariant
 
 pub loop-number-preserved : goal.loop-number-preserved
 loop-number-preserved g c =
     turned c.args.ground c.requires.ground c.put_live.new.making.made (next (turn_of (nodes.Whole c.whole_at.result) 0))
     (turn 7 0 (c.loop-number.number + 1))
-    (ap next (whole-turn c.args.ground c.requires.ground c.whole_at.result c.loop-number.number c.whole_at.ensures
+    (ap next (whole-turn c.whole_at.result c.loop-number.number c.whole_at.ensures
     (omega (arith, c.loop-number-test.true)))) c.in_ok-put_live.ensures
 
 pub returns : goal.returns

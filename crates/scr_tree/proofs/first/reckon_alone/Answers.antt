@@ -1,17 +1,17 @@
-use Rattle.std.proofs.Common.{sym, ap, subst, ◌∙◌}
-use Rattle.scr_tree.specs.First.{IsDone, totals_of}
-use Rattle.scr_tree.specs.Turns.{turn}
-use Rattle.scr_tree.proofs.Made.{made-none}
 use Rattle.scr_tree.proofs.first.reckon_alone.Goals as goal
 
-pub reckon_tables-requires-clause-totals : goal.reckon_tables-requires-clause-totals
-reckon_tables-requires-clause-totals g c =
-    c.as_slice.ensures.value ∙ (c.in_ok-totals.ensures ∙ ap totals_of c.sheet.ensures.sheet)
+pub make_alone-requires : goal.make_alone-requires
+make_alone-requires g c = record {
+  form = c.requires.form;
+  valid = c.requires.ground.valid;
+  rates = c.in_ok-rates.ensures;
+  numbered = c.requires.ground.numbered;
+  numbers = c.requires.ground.numbers;
+  members = c.requires.ground.members;
+  losses = c.in_ok-losses.ensures;
+}
 
-pub reckon_tables-requires-clause-nothing : goal.reckon_tables-requires-clause-nothing
-reckon_tables-requires-clause-nothing g c =
-    let ground = c.args.ground in
-    subst (λ made. IsDone ground made (turn 0 0 0)) (sym c.making_of-making.ensures)
-    (made-none ground.inputs.factors.now ground.inputs.book.now.sheet c.requires.valid ground.places.now c.requires.numbered c.requires.numbers
-    (record { figures = c.in_ok-figures.figures; links = c.in_ok-links.links }) (c.in_ok-figures.ensures ∙ c.len.ensures.size)
-    c.in_ok-links.ensures.size c.in_ok-links.ensures.links)
+pub returns-clause-made : goal.returns-clause-made
+returns-clause-made g c =
+    let all = c.in_ok-making.ensures in
+    record { count = all.count; size = all.size; figures = all.figures; links = all.links }

@@ -10,14 +10,14 @@ use Rattle.scr_tree.proofs.first_links.link_currency.Goals as goal
 
 pub link_live-requires-clause-row : goal.link_live-requires-clause-row
 link_live-requires-clause-row c =
-    got-map curve_name c.args.ground.inputs.book.now.sheet.curves c.args.k c.at.result.now
+    got-map curve_name c.args.ground.book.now.sheet.curves c.args.k c.at.result.now
     (subst (λ (s : BalanceSheet). slice_get s.curves c.args.k ≡ Some c.at.result.now) c.sheet.ensures.sheet c.at.ensures)
 
 pub link_live-requires-clause-linked : goal.link_live-requires-clause-linked
 link_live-requires-clause-linked c =
     linked-turned c.args.ground c.requires.ground c.loop-family.links (turn 6 c.args.k c.loop-family.family)
     (turn_of (nodes.Currency c.at.result.now.currency c.currency_at-what.result) c.args.k)
-    (sym (currency-turn c.args.ground c.requires.ground c.at.result.now.currency c.currency_at-what.result c.args.k
+    (sym (currency-turn c.at.result.now.currency c.currency_at-what.result c.args.k
     c.loop-family.family c.currency_at-what.ensures)) c.loop-family.invariant
 
 pub loop-family-preserved : goal.loop-family-preserved
@@ -25,7 +25,7 @@ loop-family-preserved c =
     linked-turned c.args.ground c.requires.ground c.link_live.new.links
     (next (turn_of (nodes.Currency c.at.result.now.currency c.currency_at-what.result) c.args.k))
     (turn 6 c.args.k (c.loop-family.family + 1))
-    (ap next (currency-turn c.args.ground c.requires.ground c.at.result.now.currency c.currency_at-what.result c.args.k
+    (ap next (currency-turn c.at.result.now.currency c.currency_at-what.result c.args.k
     c.loop-family.family c.currency_at-what.ensures)) c.in_ok-link_live.ensures
 
 pub returns : goal.returns

@@ -22,6 +22,6 @@ pub returns : goal.returns
 returns c =
     let rows = ap (λ (s : BalanceSheet). length s.funds) c.sheet-sheet.ensures.sheet in
     linked-over c.args.ground c.requires.ground 0 c.loop-k.k
-    (as-long c.args.ground c.requires.ground stake_name c.args.ground.inputs.book.now.sheet.funds c.loop-k.k
+    (as-long stake_name c.args.ground.book.now.sheet.funds c.loop-k.k
     (omega (arith, rows, c.loop-k-test.false, c.loop-k.auto.k-end, c.len-k-end.ensures.count)))
     c.loop-k.links c.loop-k.invariant

@@ -27,11 +27,11 @@ link_next-requires-clause-number c =
 
 pub link_next-requires-clause-sources : goal.link_next-requires-clause-sources
 link_next-requires-clause-sources c =
-    let sources = c.gather.new.sources.items in
+    let sources = c.gather_linked.new.sources.items in
     let size = c.args.ground.places.now.size in
     subst (λ ns. All (λ n. n < size) ns) (sym c.as_slice.ensures.value)
     (All-from_recursion (λ n. n < size) sources
-    (at-within c.args.ground c.requires.ground sources (sources_of c.args.ground.inputs.book.now.sheet c.args.node.now) c.in_ok-gather.ensures))
+    (at-within c.args.ground c.requires.ground sources (sources_of c.args.ground.book.now.sheet c.args.node.now) c.in_ok-gather_linked.ensures))
 
 pub link_next-requires-clause-size : goal.link_next-requires-clause-size
 link_next-requires-clause-size c = c.requires.linked.size
@@ -41,7 +41,7 @@ returns c =
     on-ok (IsLinkedNext c.number_at-number.result c.as_slice.result.now c.args.links.now c.link_next.new.links)
     (AreLinkedTo c.args.ground c.link_next.new.links (next (turn_of c.args.node.now c.args.row))) c.link_next.result
     (λ joined. linked-gathered c.args.ground c.requires.ground c.args.links.now c.link_next.new.links c.args.node.now c.args.row
-    c.number_at-number.result c.gather.new.sources.items c.requires.row c.number_at-number.ensures c.requires.live
-    c.in_ok-gather.ensures c.requires.linked
+    c.number_at-number.result c.gather_linked.new.sources.items c.requires.row c.number_at-number.ensures c.requires.live
+    c.in_ok-gather_linked.ensures c.requires.linked
     (subst (λ ns. IsLinkedNext c.number_at-number.result ns c.args.links.now c.link_next.new.links) c.as_slice.ensures.value joined))
     c.link_next.ensures

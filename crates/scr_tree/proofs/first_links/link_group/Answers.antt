@@ -9,16 +9,22 @@ use Rattle.scr_tree.specs.Turns.{turn}
 use Rattle.scr_tree.proofs.FirstRows.{group-live, group-named, on-ok}
 use Rattle.scr_tree.proofs.Grounds.{at-within, group-stands, square-sources}
 use Rattle.scr_tree.proofs.Linking.{group-linked}
+use Rattle.scr_pieces.specs.declared.rows.Sort.TheVariants as sorts
+use Rattle.scr_tree.proofs.Writing.{few-rows}
 use Rattle.scr_tree.proofs.first_links.link_group.Goals as goal
+
+pub first-first-requires : goal.first-first-requires
+first-first-requires c =
+    few-rows c.args.ground.book.now.sheet c.args.ground.places.now c.requires.ground.numbered sorts.Group c.args.k c.requires.row
 
 pub link_gathered-requires-clause-live : goal.link_gathered-requires-clause-live
 link_gathered-requires-clause-live c =
-    group-live c.args.ground.inputs.book.now.sheet c.requires.ground.valid c.args.k c.at.result.now
+    group-live c.args.ground.book.now.sheet c.requires.ground.valid c.args.k c.at.result.now
     (subst (λ (s : BalanceSheet). slice_get s.groups c.args.k ≡ Some c.at.result.now) c.sheet.ensures.sheet c.at.ensures)
 
 pub link_gathered-requires-clause-row : goal.link_gathered-requires-clause-row
 link_gathered-requires-clause-row c =
-    group-named c.args.ground.inputs.book.now.sheet c.requires.ground.valid c.args.k c.at.result.now
+    group-named c.args.ground.book.now.sheet c.requires.ground.valid c.args.k c.at.result.now
     (subst (λ (s : BalanceSheet). slice_get s.groups c.args.k ≡ Some c.at.result.now) c.sheet.ensures.sheet c.at.ensures)
 
 pub link_next-requires-clause-number : goal.link_next-requires-clause-number
@@ -33,7 +39,7 @@ link_next-requires-clause-sources c =
     let at = subst (λ (s : BalanceSheet). slice_get s.groups c.args.k ≡ Some c.at.result.now) c.sheet.ensures.sheet c.at.ensures in
     All-from_recursion (λ n. n < c.args.ground.places.now.size) (153 ∷ c.first-first.result ∷ [])
     (at-within c.args.ground c.requires.ground (153 ∷ c.first-first.result ∷ [])
-    (sources_of c.args.ground.inputs.book.now.sheet (nodes.Group c.at.result.now.name of_groups.ConcentrationSquare))
+    (sources_of c.args.ground.book.now.sheet (nodes.Group c.at.result.now.name of_groups.ConcentrationSquare))
     (square-sources c.args.ground c.requires.ground c.args.k c.at.result.now at c.first-first.result c.first-first.ensures.first))
 
 pub link_next-requires-clause-size : goal.link_next-requires-clause-size

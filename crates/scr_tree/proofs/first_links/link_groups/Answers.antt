@@ -12,6 +12,6 @@ pub returns : goal.returns
 returns c =
     let rows = ap (λ (s : BalanceSheet). length s.groups) c.sheet.ensures.sheet in
     linked-over c.args.ground c.requires.ground 5 c.loop-k.k
-    (as-long c.args.ground c.requires.ground group_name c.args.ground.inputs.book.now.sheet.groups c.loop-k.k
+    (as-long group_name c.args.ground.book.now.sheet.groups c.loop-k.k
     (omega (arith, rows, c.loop-k-test.false, c.loop-k.auto.k-end, c.len-k-end.ensures.count)))
     c.loop-k.links c.loop-k.invariant

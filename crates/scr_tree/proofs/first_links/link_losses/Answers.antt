@@ -9,6 +9,6 @@ pub returns : goal.returns
 returns c =
     let rows = ap (λ (s : BalanceSheet). length s.securities) c.sheet.ensures.sheet in
     linked-over c.args.ground c.requires.ground 3 c.loop-k.k
-    (as-long c.args.ground c.requires.ground position_name c.args.ground.inputs.book.now.sheet.securities c.loop-k.k
+    (as-long position_name c.args.ground.book.now.sheet.securities c.loop-k.k
     (omega (arith, rows, c.loop-k-test.false, c.loop-k.auto.k-end, c.len-k-end.ensures.count)))
     c.loop-k.links c.loop-k.invariant

@@ -8,7 +8,13 @@ use Rattle.scr_tree.specs.Turns.{turn}
 use Rattle.scr_tree.proofs.FirstRows.{on-ok}
 use Rattle.scr_tree.proofs.Linking.{rates-linked, rates-none}
 use Rattle.scr_tree.proofs.RowsMade.{four-in, one-in, three-in, total-in, two-in}
+use Rattle.scr_pieces.specs.declared.rows.Sort.TheVariants as sorts
+use Rattle.scr_tree.proofs.Writing.{few-rows}
 use Rattle.scr_tree.proofs.first_links.link_rates.Goals as goal
+
+pub first-first-requires : goal.first-first-requires
+first-first-requires c =
+    few-rows c.args.ground.book.now.sheet c.args.ground.places.now c.requires.ground.numbered sorts.Security c.args.k c.requires.row
 
 pub returns-then-not-is_paying : goal.returns-then-not-is_paying
 returns-then-not-is_paying c =
@@ -20,14 +26,14 @@ returns-then-not-is_paying c =
 pub link_next-requires-clause-number : goal.link_next-requires-clause-number
 link_next-requires-clause-number c =
     let at = subst (λ (s : BalanceSheet). slice_get s.securities c.args.k ≡ Some c.at-position.result.now) c.sheet.ensures.sheet c.at-position.ensures in
-    three-in c.args.ground c.requires.ground c.requires.ground.form c.args.k c.at-position.result.now at c.first-first.result c.first-first.ensures.first
+    three-in c.args.ground c.requires.ground c.args.k c.at-position.result.now at c.first-first.result c.first-first.ensures.first
 
 pub link_next-requires-clause-sources : goal.link_next-requires-clause-sources
 link_next-requires-clause-sources c =
     let at = subst (λ (s : BalanceSheet). slice_get s.securities c.args.k ≡ Some c.at-position.result.now) c.sheet.ensures.sheet c.at-position.ensures in
     All-from_recursion (λ source. source < c.args.ground.places.now.size) (c.first-first.result ∷ (c.first-first.result + 1) ∷ []) (
-      total-in c.args.ground c.requires.ground c.requires.ground.form c.args.k c.at-position.result.now at c.first-first.result c.first-first.ensures.first,
-      (one-in c.args.ground c.requires.ground c.requires.ground.form c.args.k c.at-position.result.now at c.first-first.result c.first-first.ensures.first, tt),
+      total-in c.args.ground c.requires.ground c.args.k c.at-position.result.now at c.first-first.result c.first-first.ensures.first,
+      (one-in c.args.ground c.requires.ground c.args.k c.at-position.result.now at c.first-first.result c.first-first.ensures.first, tt),
     )
 
 pub link_next-requires-clause-size : goal.link_next-requires-clause-size
@@ -36,14 +42,14 @@ link_next-requires-clause-size c = c.requires.linked.size
 pub link_next-requires-2-clause-number : goal.link_next-requires-2-clause-number
 link_next-requires-2-clause-number c =
     let at = subst (λ (s : BalanceSheet). slice_get s.securities c.args.k ≡ Some c.at-position.result.now) c.sheet.ensures.sheet c.at-position.ensures in
-    four-in c.args.ground c.requires.ground c.requires.ground.form c.args.k c.at-position.result.now at c.first-first.result c.first-first.ensures.first
+    four-in c.args.ground c.requires.ground c.args.k c.at-position.result.now at c.first-first.result c.first-first.ensures.first
 
 pub link_next-requires-2-clause-sources : goal.link_next-requires-2-clause-sources
 link_next-requires-2-clause-sources c =
     let at = subst (λ (s : BalanceSheet). slice_get s.securities c.args.k ≡ Some c.at-position.result.now) c.sheet.ensures.sheet c.at-position.ensures in
     All-from_recursion (λ source. source < c.args.ground.places.now.size) (c.first-first.result ∷ (c.first-first.result + 2) ∷ []) (
-      total-in c.args.ground c.requires.ground c.requires.ground.form c.args.k c.at-position.result.now at c.first-first.result c.first-first.ensures.first,
-      (two-in c.args.ground c.requires.ground c.requires.ground.form c.args.k c.at-position.result.now at c.first-first.result c.first-first.ensures.first, tt),
+      total-in c.args.ground c.requires.ground c.args.k c.at-position.result.now at c.first-first.result c.first-first.ensures.first,
+      (two-in c.args.ground c.requires.ground c.args.k c.at-position.result.now at c.first-first.result c.first-first.ensures.first, tt),
     )
 
 pub link_next-requires-2-clause-size : goal.link_next-requires-2-clause-size

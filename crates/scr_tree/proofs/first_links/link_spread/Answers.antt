@@ -8,7 +8,13 @@ use Rattle.scr_tree.specs.Turns.{turn}
 use Rattle.scr_tree.proofs.FirstRows.{on-ok}
 use Rattle.scr_tree.proofs.Linking.{spread-free, spread-linked}
 use Rattle.scr_tree.proofs.RowsMade.{five-in, total-in}
+use Rattle.scr_pieces.specs.declared.rows.Sort.TheVariants as sorts
+use Rattle.scr_tree.proofs.Writing.{few-rows}
 use Rattle.scr_tree.proofs.first_links.link_spread.Goals as goal
+
+pub first-first-requires : goal.first-first-requires
+first-first-requires c =
+    few-rows c.args.ground.book.now.sheet c.args.ground.places.now c.requires.ground.numbered sorts.Security c.args.k c.requires.row
 
 pub returns-then-not-has_class : goal.returns-then-not-has_class
 returns-then-not-has_class c =
@@ -20,13 +26,13 @@ returns-then-not-has_class c =
 pub link_next-requires-clause-number : goal.link_next-requires-clause-number
 link_next-requires-clause-number c =
     let at = subst (λ (s : BalanceSheet). slice_get s.securities c.args.k ≡ Some c.at-position.result.now) c.sheet.ensures.sheet c.at-position.ensures in
-    five-in c.args.ground c.requires.ground c.requires.ground.form c.args.k c.at-position.result.now at c.first-first.result c.first-first.ensures.first
+    five-in c.args.ground c.requires.ground c.args.k c.at-position.result.now at c.first-first.result c.first-first.ensures.first
 
 pub link_next-requires-clause-sources : goal.link_next-requires-clause-sources
 link_next-requires-clause-sources c =
     let at = subst (λ (s : BalanceSheet). slice_get s.securities c.args.k ≡ Some c.at-position.result.now) c.sheet.ensures.sheet c.at-position.ensures in
     All-from_recursion (λ source. source < c.args.ground.places.now.size) (c.first-first.result ∷ [])
-    (total-in c.args.ground c.requires.ground c.requires.ground.form c.args.k c.at-position.result.now at c.first-first.result c.first-first.ensures.first, tt)
+    (total-in c.args.ground c.requires.ground c.args.k c.at-position.result.now at c.first-first.result c.first-first.ensures.first, tt)
 
 pub link_next-requires-clause-size : goal.link_next-requires-clause-size
 link_next-requires-clause-size c = c.requires.linked.size

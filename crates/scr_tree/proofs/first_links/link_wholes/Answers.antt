@@ -9,14 +9,14 @@ pub link_live-requires-clause-linked : goal.link_live-requires-clause-linked
 link_live-requires-clause-linked c =
     linked-turned c.args.ground c.requires.ground c.loop-number.links (turn 7 0 c.loop-number.number)
     (turn_of (nodes.Whole c.whole_at.result) 0)
-    (sym (whole-turn c.args.ground c.requires.ground c.whole_at.result c.loop-number.number c.whole_at.ensures
+    (sym (whole-turn c.whole_at.result c.loop-number.number c.whole_at.ensures
     (omega (arith, c.loop-number-test.true)))) c.loop-number.invariant
 
 pub loop-number-preserved : goal.loop-number-preserved
 loop-number-preserved c =
     linked-turned c.args.ground c.requires.ground c.link_live.new.links (next (turn_of (nodes.Whole c.whole_at.result) 0))
     (turn 7 0 (c.loop-number.number + 1))
-    (ap next (whole-turn c.args.ground c.requires.ground c.whole_at.result c.loop-number.number c.whole_at.ensures
+    (ap next (whole-turn c.whole_at.result c.loop-number.number c.whole_at.ensures
     (omega (arith, c.loop-number-test.true)))) c.in_ok-link_live.ensures
 
 pub returns : goal.returns

@@ -6,7 +6,7 @@ use Rattle.scr_tree.proofs.first_together.is_of_row.Goals as goal
 pub returns-in-Some : goal.returns-in-Some
 returns-in-Some c = λ node at.
     c.is_in_row.ensures
-    ∙ row-at c.args.ground.inputs.book.now.sheet c.args.ground.places.now c.len.ensures.apart c.args.number c.in-Some.place.table c.in-Some.place.row
+    ∙ row-at c.args.view.sheet.now c.args.view.places.now c.len.ensures.apart c.args.number c.in-Some.place.table c.in-Some.place.row
     c.in-Some.place.family c.in-Some.ensures.there node at
 
 pub returns-in-None : goal.returns-in-None

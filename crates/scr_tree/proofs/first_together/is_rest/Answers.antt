@@ -1,6 +1,5 @@
-use Rattle.std.proofs.Common.{◌≡◌, true, false, sym, subst, ◌∙◌}
+use Rattle.std.proofs.Common.{◌≡◌, true, false, sym, ◌∙◌}
 use Rattle.scr_figures.specs.Numbers.{StandsAt}
-use Rattle.scr_sheet.specs.declared.sheet.BalanceSheet.{BalanceSheet}
 use Rattle.scr_reach.specs.Dues.{IsLiveAt}
 use Rattle.scr_tree.proofs.Begun.{found-live, found-none}
 use Rattle.scr_tree.proofs.first_together.is_rest.Goals as goal
@@ -14,11 +13,8 @@ returns-then-is_passed-clause-no c = λ no is. c.is_passed.ensures c.if-is_passe
 
 pub returns-clause-yes : goal.returns-clause-yes
 returns-clause-yes c = λ yes.
-    let places = c.args.ground.places.now in
-    let lives = λ (s : BalanceSheet). IsLiveAt s (StandsAt s places) c.args.number in
-    let live = subst lives c.sheet.ensures.sheet
-    (found-live c.sheet.result.now places c.args.number c.live_at.result c.live_at.ensures.there c.live_at.ensures.live
-    (sym c.is_some.ensures ∙ yes)) in
+    let live = found-live c.args.view.sheet.now c.args.view.places.now c.args.number c.live_at.result c.live_at.ensures.there
+    c.live_at.ensures.live (sym c.is_some.ensures ∙ yes) in
     record {
       node = live.0;
       at = live.1;
@@ -28,7 +24,6 @@ returns-clause-yes c = λ yes.
 
 pub returns-clause-no : goal.returns-clause-no
 returns-clause-no c = λ no is.
-    let places = c.args.ground.places.now in
-    let lives = λ (s : BalanceSheet). IsLiveAt s (StandsAt s places) c.args.number in
-    absurd (found-none c.live_at.result (lives c.sheet.result.now) c.live_at.ensures.absent (sym c.is_some.ensures ∙ no)
-    (subst lives (sym c.sheet.ensures.sheet) (is.node, is.at, is.live)))
+    let sheet = c.args.view.sheet.now in
+    absurd (found-none c.live_at.result (IsLiveAt sheet (StandsAt sheet c.args.view.places.now) c.args.number) c.live_at.ensures.absent
+    (sym c.is_some.ensures ∙ no) (is.node, is.at, is.live))

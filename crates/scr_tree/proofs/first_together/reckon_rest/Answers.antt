@@ -1,60 +1,50 @@
-use Rattle.std.proofs.Common.{nat_eq, [], sym, subst, arith}
-use Rattle.std.specs.List.{IsDistinct}
+use Rattle.std.proofs.Common.{[], sym, subst, arith}
 use Rattle.scr_sheet.specs.Validity.{Valid}
 use Rattle.scr_figures.specs.Numbers.{IsNumbered, StandsAt}
 use Rattle.scr_reach.specs.Dues.{AreFlagged}
 use Rattle.scr_reach.specs.Linked.{AreLinked}
 use Rattle.scr_tree.specs.Order.{IsOrder}
-use Rattle.scr_tree.proofs.Begun.{begun-flags, begun-up}
+use Rattle.scr_tree.proofs.Begun.{begun-flags}
 use Rattle.scr_tree.proofs.Writing.{rest-known}
 use Rattle.scr_tree.proofs.first_together.reckon_rest.Goals as goal
 
 pub ordered-requires-clause-valid : goal.ordered-requires-clause-valid
-ordered-requires-clause-valid g c = subst Valid (sym c.sheet.ensures.sheet) c.requires.ground.valid
+ordered-requires-clause-valid g c = subst Valid (sym c.sheet.ensures.sheet) c.requires.basis.0.valid
 
 pub ordered-requires-clause-numbered : goal.ordered-requires-clause-numbered
 ordered-requires-clause-numbered g c =
-    subst (λ sheet. IsNumbered sheet c.args.ground.places.now) (sym c.sheet.ensures.sheet) c.requires.ground.numbered
+    subst (λ sheet. IsNumbered sheet c.args.basis.places.now) (sym c.sheet.ensures.sheet) c.requires.basis.0.numbered
 
 pub ordered-requires-clause-linked : goal.ordered-requires-clause-linked
 ordered-requires-clause-linked g c =
-    subst (λ sheet. AreLinked sheet (StandsAt sheet c.args.ground.places.now) c.args.links.now.edges)
-    (sym c.sheet.ensures.sheet) c.requires.links.linked
+    subst (λ sheet. AreLinked sheet (StandsAt sheet c.args.basis.places.now) c.args.basis.links.now.edges)
+    (sym c.sheet.ensures.sheet) c.requires.basis.0.linked
 
 pub ordered-requires-clause-once : goal.ordered-requires-clause-once
-ordered-requires-clause-once g c = subst (IsDistinct nat_eq) (sym c.as_slice.ensures.value) c.in_ok-numbers.ensures.once
+ordered-requires-clause-once g c = c.requires.rest.once
 
 pub ordered-requires-clause-live : goal.ordered-requires-clause-live
 ordered-requires-clause-live g c =
-    subst (λ sheet. AreFlagged sheet (StandsAt sheet c.args.ground.places.now) c.as_slice.result.now [])
+    subst (λ sheet. AreFlagged sheet (StandsAt sheet c.args.basis.places.now) c.args.rest.now [])
     (sym c.sheet.ensures.sheet)
-    (subst (λ list. AreFlagged c.args.ground.inputs.book.now.sheet (StandsAt c.args.ground.inputs.book.now.sheet c.args.ground.places.now) list [])
-    (sym c.as_slice.ensures.value)
-    (begun-flags c.args.ground c.requires.ground c.in_ok-numbers.numbers.items c.in_ok-numbers.ensures))
-
-pub reckon_entered-requires-clause-basis : goal.reckon_entered-requires-clause-basis
-reckon_entered-requires-clause-basis g c κs within = (
-  begun-up c.args.ground c.requires.ground c.args.links.now c.requires.links,
-  c.requires.ground.rates,
-)
+    (begun-flags c.args.basis.inputs.book.now.sheet c.args.basis.places.now c.args.rest.now c.requires.rest)
 
 pub reckon_entered-requires-clause-order : goal.reckon_entered-requires-clause-order
 reckon_entered-requires-clause-order g c κs within = (
-  c.as_slice.result.now,
-  subst (λ sheet. IsOrder sheet (StandsAt sheet c.args.ground.places.now) c.as_slice.result.now c.in_ok-order.order.numbers.items
+  c.args.rest.now,
+  subst (λ sheet. IsOrder sheet (StandsAt sheet c.args.basis.places.now) c.args.rest.now c.in_ok-order.order.numbers.items
       c.in_ok-order.order.ends.items) c.sheet.ensures.sheet c.in_ok-order.ensures,
 )
 
 pub reckon_entered-requires-clause-known : goal.reckon_entered-requires-clause-known
 reckon_entered-requires-clause-known g c κs within =
-    let sheet = c.args.ground.inputs.book.now.sheet in
+    let sheet = c.args.basis.inputs.book.now.sheet in
+    let places = c.args.basis.places.now in
     let numbers = c.in_ok-order.order.numbers.items in
     let ends = c.in_ok-order.order.ends.items in
-    rest-known c.args.ground c.requires.ground c.args.figures.now.items c.in_ok-numbers.numbers.items numbers ends
-    c.in_ok-numbers.ensures c.requires.rows
-    (subst (λ list. IsOrder sheet (StandsAt sheet c.args.ground.places.now) list numbers ends) c.as_slice.ensures.value
-    (subst (λ s. IsOrder s (StandsAt s c.args.ground.places.now) c.as_slice.result.now numbers ends) c.sheet.ensures.sheet
-    c.in_ok-order.ensures))
+    rest-known c.args.basis.inputs.factors.now sheet places c.args.figures.now.items c.args.rest.now numbers ends
+    c.requires.rest c.requires.rows
+    (subst (λ s. IsOrder s (StandsAt s places) c.args.rest.now numbers ends) c.sheet.ensures.sheet c.in_ok-order.ensures)
 
 pub reckon_entered-requires-clause-totals : goal.reckon_entered-requires-clause-totals
 reckon_entered-requires-clause-totals g c κs within = c.requires.rows.totals

@@ -1,66 +1,29 @@
-use Rattle.std.proofs.Common.{length, sym, ap, subst, ◌∙◌}
-use Rattle.std.proofs.lemmas.List.{with_items_is}
-use Rattle.scr_pieces.specs.Rows.{AreAllRows}
-use Rattle.scr_sheet.specs.declared.sheet.BalanceSheet.{BalanceSheet}
-use Rattle.scr_totals.proofs.SeenThrough.{rest-totals}
-use Rattle.scr_tree.specs.First.{AreReckonedTo, totals_of}
-use Rattle.scr_tree.specs.RowSpans.{IsRowOf, row_count}
-use Rattle.scr_tree.specs.Turns.{turn}
-use Rattle.scr_tree.specs.Written.{AreRowsThere, rows_among}
-use Rattle.scr_tree.proofs.Begun.{figures-none}
-use Rattle.scr_tree.proofs.Writing.{all-among, rows-there}
+use Rattle.std.proofs.Common.{sym, subst, ◌∙◌}
+use Rattle.scr_tree.specs.Written.{AreAllRest}
+use Rattle.scr_tree.proofs.Begun.{begun-up}
 use Rattle.scr_tree.proofs.first_together.reckon_round.Goals as goal
 
-pub enter_totals-requires-clause-totals : goal.enter_totals-requires-clause-totals
-enter_totals-requires-clause-totals g c = c.as_slice.ensures.value ∙ (c.in_ok-totals.ensures ∙ ap totals_of c.sheet-sheet.ensures.sheet)
-
-pub enter_totals-requires-clause-nothing : goal.enter_totals-requires-clause-nothing
-enter_totals-requires-clause-nothing g c =
-    figures-none c.args.ground c.requires c.in_ok-figures.figures.items (c.in_ok-figures.ensures ∙ c.len.ensures.size)
-
-pub linked_beside-requires : goal.linked_beside-requires
-linked_beside-requires g c = (
-  c.type_bounds.sync-R,
-  (
-    c.type_bounds.sync-G,
-    record {
-      ground = c.requires;
-      totals = rest-totals c.args.ground.inputs.book.now.sheet c.deref.result.now c.len-2.result
-          (c.deref.ensures.value ∙ (c.in_ok-totals.ensures ∙ ap totals_of c.sheet-sheet.ensures.sheet))
-          (c.len-2.ensures.count ∙ ap (λ (s : BalanceSheet). length s.funds) c.sheet-sheet.ensures.sheet);
-      assets = c.in_ok-assets_of.ensures;
-    },
-  ),
+pub reckon_rest-requires-clause-basis : goal.reckon_rest-requires-clause-basis
+reckon_rest-requires-clause-basis g c κs within = (
+  begun-up c.args.ground c.requires.ground c.in_ok-listed.listed.links c.in_ok-listed.ensures.listed.links,
+  c.in_ok-listed.ensures.beside.rates,
 )
 
-pub write_parts-requires-clause-count : goal.write_parts-requires-clause-count
-write_parts-requires-clause-count g c = ap length c.as_mut_slice.ensures.value ∙ c.enter_totals.ensures.count
-
-pub write_parts-requires-clause-rows : goal.write_parts-requires-clause-rows
-write_parts-requires-clause-rows g c =
-    subst (AreAllRows (row_count c.args.ground.inputs.book.now.sheet)
-    (IsRowOf c.args.ground.inputs.factors.now c.args.ground.inputs.book.now.sheet)) (sym c.as_slice-3.ensures.value) c.in_ok-links.ensures.parts
+pub reckon_rest-requires-clause-rest : goal.reckon_rest-requires-clause-rest
+reckon_rest-requires-clause-rest g c κs within =
+    subst (AreAllRest c.args.ground.book.now.sheet c.args.ground.places.now) (sym c.as_slice.ensures.value)
+    c.in_ok-listed.ensures.listed.rest
 
 pub reckon_rest-requires-clause-rows : goal.reckon_rest-requires-clause-rows
-reckon_rest-requires-clause-rows g c κs within =
-    let ground = c.args.ground in
-    let sheet = ground.inputs.book.now.sheet in
-    let is_row = IsRowOf ground.inputs.factors.now sheet in
-    let parts = c.as_slice-3.result.now in
-    let all = subst (AreAllRows (row_count sheet) is_row) (sym c.as_slice-3.ensures.value) c.in_ok-links.ensures.parts in
-    subst (AreRowsThere ground)
-    (sym (with_items_is c.enter_totals.new.figures c.write_parts.new.figures (c.write_parts.ensures.count ∙ c.as_mut_slice.ensures.len)))
-    (rows-there ground c.requires (rows_among parts) (all-among (row_count sheet) is_row parts all) c.as_mut_slice.result.now
-    c.write_parts.new.figures
-    (subst (λ fs. AreReckonedTo ground fs (turn 2 0 0)) (sym c.as_mut_slice.ensures.value) c.enter_totals.ensures) c.write_parts.ensures)
+reckon_rest-requires-clause-rows g c κs within = c.in_ok-listed.ensures.beside.rows
 
-pub returns : goal.returns
-returns g c = record {
-  count = c.in_ok-reckon_rest.ensures.count
-      ∙ (ap length (with_items_is c.enter_totals.new.figures c.write_parts.new.figures
-      (c.write_parts.ensures.count ∙ c.as_mut_slice.ensures.len))
-      ∙ (c.write_parts.ensures.count ∙ (ap length c.as_mut_slice.ensures.value ∙ c.enter_totals.ensures.count)));
-  size = c.in_ok-links.ensures.links.size;
+pub returns-clause-rates : goal.returns-clause-rates
+returns-clause-rates g c = c.in_ok-listed.ensures.beside.rates
+
+pub returns-clause-made : goal.returns-clause-made
+returns-clause-made g c = record {
+  count = c.in_ok-reckon_rest.ensures.count ∙ c.in_ok-listed.ensures.beside.rows.count;
+  size = c.in_ok-listed.ensures.listed.links.size;
   figures = c.in_ok-reckon_rest.ensures.settled;
-  links = c.in_ok-links.ensures.links.linked;
+  links = c.in_ok-listed.ensures.listed.links.linked;
 }

@@ -1,9 +1,18 @@
-use Rattle.std.proofs.Common.{length, ap, arith}
+use Rattle.std.proofs.Common.{length, ap, refl, arith}
 use Rattle.scr_sheet.specs.BalanceSheet.{stake_name}
 use Rattle.scr_sheet.specs.declared.sheet.BalanceSheet.{BalanceSheet}
 use Rattle.scr_tree.specs.Turns.{turn}
 use Rattle.scr_tree.proofs.Grounds.{as-long, fund-within, fund-written, reckoned-over}
+use Rattle.std.proofs.lemmas.List.{length-map}
+use Rattle.scr_numbers.specs.declared.table.Table.TheVariants as tables
 use Rattle.scr_tree.proofs.first_totals.put_funds.Goals as goal
+
+pub first-number-requires : goal.first-number-requires
+first-number-requires g c =
+    let rows = ap (λ (s : BalanceSheet). length s.funds) c.sheet.ensures.sheet in
+    let numbered = c.requires.ground.numbered.rows tables.Fund refl in
+    let long = length-map c.args.ground.inputs.book.now.sheet.funds stake_name in
+    omega (arith, rows, numbered, long, c.loop-k-test.true, c.loop-k.auto.k-end, c.len-k-end.ensures.count)
 
 pub write_total-requires : goal.write_total-requires
 write_total-requires g c =
@@ -24,6 +33,6 @@ pub returns : goal.returns
 returns g c =
     let rows = ap (λ (s : BalanceSheet). length s.funds) c.sheet.ensures.sheet in
     reckoned-over c.args.ground c.requires.ground 0 c.loop-k.k
-    (as-long c.args.ground c.requires.ground stake_name c.args.ground.inputs.book.now.sheet.funds c.loop-k.k
+    (as-long stake_name c.args.ground.inputs.book.now.sheet.funds c.loop-k.k
     (omega (arith, rows, c.loop-k-test.false, c.loop-k.auto.k-end, c.len-k-end.ensures.count)))
     c.loop-k.figures.items c.loop-k.invariant

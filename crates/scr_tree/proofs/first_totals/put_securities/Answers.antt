@@ -3,7 +3,15 @@ use Rattle.scr_sheet.specs.BalanceSheet.{position_name}
 use Rattle.scr_sheet.specs.declared.sheet.BalanceSheet.{BalanceSheet}
 use Rattle.scr_tree.specs.Turns.{turn}
 use Rattle.scr_tree.proofs.Grounds.{as-long, security-within, security-written, reckoned-over}
+use Rattle.scr_pieces.specs.declared.rows.Sort.TheVariants as sorts
+use Rattle.scr_tree.proofs.Writing.{row-few}
 use Rattle.scr_tree.proofs.first_totals.put_securities.Goals as goal
+
+pub first-number-requires : goal.first-number-requires
+first-number-requires g c =
+    let rows = ap (λ (s : BalanceSheet). length s.securities) c.sheet.ensures.sheet in
+    row-few c.args.ground c.requires.ground sorts.Security c.loop-k.k
+    (omega (arith, rows, c.loop-k-test.true, c.loop-k.auto.k-end, c.len-k-end.ensures.count))
 
 pub pass_alone-requires : goal.pass_alone-requires
 pass_alone-requires g c =
@@ -29,6 +37,6 @@ pub returns : goal.returns
 returns g c =
     let rows = ap (λ (s : BalanceSheet). length s.securities) c.sheet.ensures.sheet in
     reckoned-over c.args.ground c.requires.ground 1 c.loop-k.k
-    (as-long c.args.ground c.requires.ground position_name c.args.ground.inputs.book.now.sheet.securities c.loop-k.k
+    (as-long position_name c.args.ground.inputs.book.now.sheet.securities c.loop-k.k
     (omega (arith, rows, c.loop-k-test.false, c.loop-k.auto.k-end, c.len-k-end.ensures.count)))
     c.loop-k.figures.items c.loop-k.invariant

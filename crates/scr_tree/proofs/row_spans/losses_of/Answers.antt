@@ -11,7 +11,7 @@ returns-then-not-is_paying g c = λ pays.
     absurd (cc)
 
 pub security_losses-requires-clause-rows : goal.security_losses-requires-clause-rows
-security_losses-requires-clause-rows g c = discounts-are c.args.ground c.requires.ground c.requires.ground.form
+security_losses-requires-clause-rows g c = discounts-are c.args.ground c.requires.ground
 
 pub security_losses-requires-clause-total : goal.security_losses-requires-clause-total
 security_losses-requires-clause-total g c =
@@ -24,6 +24,6 @@ returns g c = λ pays.
     let ground = c.args.ground in
     let factors = ground.inputs.factors.now in
     losses-right factors c.requires.ground.form ground.inputs.book.now.sheet c.requires.ground.valid c.args.position.now c.requires.row pays
-    (rows_of ground.inputs.rates.now.curves) (rows-are ground c.requires.ground c.requires.ground.form) c.args.total c.security_losses.result
+    (rows_of ground.inputs.rates.now.curves) (rows-are ground c.requires.ground) c.args.total c.security_losses.result
     c.requires.total (c.security_losses.ensures.unit_up factors) (c.security_losses.ensures.unit_down factors)
     (c.security_losses.ensures.rate_up factors) (c.security_losses.ensures.rate_down factors)

@@ -20,7 +20,7 @@ returns-then-not-has_flows g c = λ l there has.
     absurd (cc)
 
 pub liability_loss-requires-clause-rows : goal.liability_loss-requires-clause-rows
-liability_loss-requires-clause-rows g c = discounts-are c.args.ground c.requires.ground c.requires.ground.form
+liability_loss-requires-clause-rows g c = discounts-are c.args.ground c.requires.ground
 
 pub liability_loss-requires-clause-row : goal.liability_loss-requires-clause-row
 liability_loss-requires-clause-row g c =
@@ -42,5 +42,5 @@ returns g c = λ l there has.
     subst (λ m. ends c.liability_loss.result ≡ worked factors ground.inputs.book.now.sheet (liability_loss c.args.projection m)) same
     (stress-right factors c.requires.ground.form ground.inputs.book.now.sheet c.requires.ground.valid ground.places.now c.requires.ground.numbered
     c.args.k c.at-liability.result.now at c.args.projection c.requires.stress (sym c.has_flows.ensures ∙ c.if-not-has_flows.false)
-    (rows_of ground.inputs.rates.now.curves) (rows-are ground c.requires.ground c.requires.ground.form) c.liability_loss.result
+    (rows_of ground.inputs.rates.now.curves) (rows-are ground c.requires.ground) c.liability_loss.result
     (c.liability_loss.ensures factors))

@@ -12,7 +12,7 @@ use Rattle.scr_tree.proofs.RowsMade.{discounts-are, rows-are}
 use Rattle.scr_tree.proofs.row_spans.RowGround.square.Goals as goal
 
 pub evaluate_by-requires-clause-rows : goal.evaluate_by-requires-clause-rows
-evaluate_by-requires-clause-rows g c = discounts-are c.args.self.now.ground c.requires.ground.ground c.requires.ground.ground.form
+evaluate_by-requires-clause-rows g c = discounts-are c.args.self.now.ground c.requires.ground.ground
 
 pub evaluate_by-requires-clause-fits : goal.evaluate_by-requires-clause-fits
 evaluate_by-requires-clause-fits g c =
@@ -33,5 +33,5 @@ returns g c = λ group there.
     let at = subst (λ (s : BalanceSheet). slice_get s.groups c.args.k ≡ Some c.at.result.now) c.sheet.ensures.sheet c.at.ensures in
     let same = one-row sheet.groups c.args.k c.at.result.now group at there in
     subst (λ h. ends c.evaluate_by.result ≡ worked factors sheet (concentration_square h)) same
-    (c.evaluate_by.ensures.worked (rows-are ground c.requires.ground.ground c.requires.ground.ground.form)
+    (c.evaluate_by.ensures.worked (rows-are ground c.requires.ground.ground)
     (ap₂ (λ (x : Ends) (y : Ends). x ∷ y ∷ []) c.requires.ground.assets (c.requires.total c.at.result.now at)))

@@ -1,4 +1,4 @@
-use Rattle.scr_tree.proofs.first.reckon_alone.Given as goal
+use Rattle.scr_tree.proofs.first.make_alone.Given as goal
 
 -- the counter that the call makes
 abbrev pub ghosts-reckon_tables : goal.ghosts-reckon_tables
