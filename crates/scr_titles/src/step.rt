@@ -45,7 +45,8 @@ impl Step {
             Step::Product => "what is held of it, times the loss of a unit",
             Step::Factor => "what is held of it, times the factor of its step and duration",
             Step::LossSum => "the sum of its sources, a gain counting as nil",
-            Step::Exposure => "a quarter of what is held less what is owed, a gain counting as nil",
+            Step::Exposure =>
+                "a quarter of the difference between what is held and what is owed, a gain counting as nil",
             Step::Sum => "the sum of its sources",
             Step::Share => "a fixed share of its sources",
             Step::Excess => "the excess over the threshold times its charge, squared",
