@@ -20,7 +20,7 @@ use Rattle.scr_agg.specs.Unbeaten.{Alternative, alternatives, alternative_at, ar
 use Rattle.scr_agg.specs.Unbeaten.{unbeaten, EncloseOutcome, EncloseOutcomes, chosen_gross, chosen_net}
 use Rattle.scr_agg.proofs.Alternatives.{is_beaten-none, length-alternatives}
 use Rattle.scr_agg.proofs.Chosen.{chosen-is}
-use Rattle.scr_agg.proofs.Hulls.{hull_holds, some_unbeaten, greatest_above, greatest_below}
+use Rattle.scr_agg.proofs.Hulls.{hull_covers, some_unbeaten, greatest_above, greatest_below}
 use Rattle.scr_agg.proofs.Nets.{nets}
 
 -- ---- exact numbers within ends
@@ -134,7 +134,7 @@ gross_encloses unit list outcomes place h chosen =
     let within : place < length list = omega arith in
     let a = (alternative_at list place).gross in
     let wide = chosen_gross list in
-    let holds = hull_holds list (length list) place within (chosen_unbeaten unit list outcomes place h chosen) in
+    let holds = hull_covers list (length list) place within (chosen_unbeaten unit list outcomes place h chosen) in
     let inside = enclosed_at unit list outcomes h place within in
     Encloses-wider unit a.low wide.low a.high wide.high (Frac (outcome_at outcomes place).gross) holds.low holds.high
     inside.gross

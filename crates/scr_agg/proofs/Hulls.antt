@@ -12,32 +12,32 @@ use Rattle.scr_num.specs.declared.span.Span.{Span}
 use Rattle.scr_num.specs.Fraction.{Fraction, ◌≼◌, over}
 use Rattle.scr_num.specs.Rounding.{Ends, ends, exact_ends, hull_ends, max_ends}
 use Rattle.scr_num.proofs.Enclosing.{either_max}
-use Rattle.scr_agg.specs.Unbeaten.{Holds, chosen_gross, chosen_net, Alternative, alternative_at, hull_of, is_beaten}
+use Rattle.scr_agg.specs.Unbeaten.{Covers, chosen_gross, chosen_net, Alternative, alternative_at, hull_of, is_beaten}
 use Rattle.scr_agg.specs.Unbeaten.{unbeaten_below, unbeaten, greatest_of}
 use Rattle.scr_agg.proofs.Alternatives.{by_place, unbeaten-skip, unbeaten-next, unbeaten_below-zero, count-skip}
 use Rattle.scr_agg.proofs.Alternatives.{count-next}
 
 -- ---- the hull
-holds_same : (e : Ends) → Holds e e
-holds_same e = record { low = ≤ℤ_refl e.low; high = ≤ℤ_refl e.high }
+pub covers_same : (e : Ends) → Covers e e
+covers_same e = record { low = ≤ℤ_refl e.low; high = ≤ℤ_refl e.high }
 
-hull_left : (a b e : Ends) → Holds a e → Holds (hull_ends a b) e
+pub hull_left : (a b e : Ends) → Covers a e → Covers (hull_ends a b) e
 hull_left a b e h = record { low = omega (arith, ints, clamps, h.low); high = omega (arith, ints, clamps, h.high) }
 
-hull_right : (a b : Ends) → Holds (hull_ends a b) b
+pub hull_right : (a b : Ends) → Covers (hull_ends a b) b
 hull_right a b = record { low = omega (arith, ints, clamps); high = omega (arith, ints, clamps) }
 
 -- the hull of one more
 pub hull_of-append : (es : List Ends) (e x : Ends) → hull_of ((e ∷ es) ++ x ∷ []) ≡ hull_ends (hull_of (e ∷ es)) x
 hull_of-append es e x = fold-append hull_ends e es (x ∷ [])
 
-holds_last : (es : List Ends) (x : Ends) → Holds (hull_of (es ++ x ∷ [])) x
-holds_last [] x = holds_same x
-holds_last (e ∷ es) x = rw (hull_of-append es e x) (hull_right (hull_of (e ∷ es)) x)
+covers_last : (es : List Ends) (x : Ends) → Covers (hull_of (es ++ x ∷ [])) x
+covers_last [] x = covers_same x
+covers_last (e ∷ es) x = rw (hull_of-append es e x) (hull_right (hull_of (e ∷ es)) x)
 
-holds_more : (es : List Ends) (x y : Ends) → 0 < length es → Holds (hull_of es) y → Holds (hull_of (es ++ x ∷ [])) y
-holds_more [] x y some h = absurd (omega arith)
-holds_more (e ∷ es) x y some h = rw (hull_of-append es e x) (hull_left (hull_of (e ∷ es)) x y h)
+covers_more : (es : List Ends) (x y : Ends) → 0 < length es → Covers (hull_of es) y → Covers (hull_of (es ++ x ∷ [])) y
+covers_more [] x y some h = absurd (omega arith)
+covers_more (e ∷ es) x y some h = rw (hull_of-append es e x) (hull_left (hull_of (e ∷ es)) x y h)
 
 -- ---- the hull of the gross requirements that nothing beats
 abbrev pub gross_at : List Alternative → ℕ → Ends
@@ -55,12 +55,12 @@ hull-next list n e = ap (λ ks. hull_of (map (gross_at list) ks)) (unbeaten-next
     ∙ ap hull_of (map-append (gross_at list) (unbeaten_below list n) (n ∷ []))
 
 -- each of them below n is held, and then there is one
-record HoldsBelow (list : List Alternative) (n : ℕ) : Type 0 where
-  each : (i : ℕ) → i < n → is_beaten list i ≡ false → Holds (hull_below list n) (gross_at list i)
+record CoversBelow (list : List Alternative) (n : ℕ) : Type 0 where
+  each : (i : ℕ) → i < n → is_beaten list i ≡ false → Covers (hull_below list n) (gross_at list i)
   some : (i : ℕ) → i < n → is_beaten list i ≡ false → 0 < length (unbeaten_below list n)
 
-holds-skip : (list : List Alternative) (n : ℕ) → is_beaten list n ≡ true → HoldsBelow list n → HoldsBelow list (n + 1)
-holds-skip list n e h =
+covers-skip : (list : List Alternative) (n : ℕ) → is_beaten list n ≡ true → CoversBelow list n → CoversBelow list (n + 1)
+covers-skip list n e h =
     let before : (i : ℕ) → i < n + 1 → is_beaten list i ≡ false → i < n = λ i lt unbeaten.
     elim (cases_lt i n) [
       | inl less ↦ less
@@ -72,31 +72,31 @@ holds-skip list n e h =
       some = λ i lt unbeaten. rw (count-skip list n e) (h.some i (before i lt unbeaten) unbeaten);
     }
 
-holds-next : (list : List Alternative) (n : ℕ) → is_beaten list n ≡ false → HoldsBelow list n → HoldsBelow list (n + 1)
-holds-next list n e h =
+covers-next : (list : List Alternative) (n : ℕ) → is_beaten list n ≡ false → CoversBelow list n → CoversBelow list (n + 1)
+covers-next list n e h =
     let es = map (gross_at list) (unbeaten_below list n) in
     record {
       each = λ i lt unbeaten. rw (hull-next list n e) (elim (cases_lt i n) [
-        | inl less ↦ holds_more es (gross_at list n) (gross_at list i) (rw length-map (h.some i less unbeaten))
+        | inl less ↦ covers_more es (gross_at list n) (gross_at list i) (rw length-map (h.some i less unbeaten))
             (h.each i less unbeaten)
-        | inr more ↦ let at : i ≡ n = omega arith in rw at (holds_last es (gross_at list n))
+        | inr more ↦ let at : i ≡ n = omega arith in rw at (covers_last es (gross_at list n))
       ]);
       some = λ i lt unbeaten. rw (count-next list n e) (omega arith);
     }
 
-holds_below : (list : List Alternative) (n : ℕ) → HoldsBelow list n
-holds_below list =
-    by_place list (HoldsBelow list)
+covers_below : (list : List Alternative) (n : ℕ) → CoversBelow list n
+covers_below list =
+    by_place list (CoversBelow list)
     (record { each = λ i lt. absurd (omega arith); some = λ i lt. absurd (omega arith) })
-    (holds-skip list) (holds-next list)
+    (covers-skip list) (covers-next list)
 
-pub hull_holds : (list : List Alternative) (n i : ℕ) → i < n → is_beaten list i ≡ false
-    → Holds (hull_below list n) (gross_at list i)
-hull_holds list n = (holds_below list n).each
+pub hull_covers : (list : List Alternative) (n i : ℕ) → i < n → is_beaten list i ≡ false
+    → Covers (hull_below list n) (gross_at list i)
+hull_covers list n = (covers_below list n).each
 
 pub some_unbeaten : (list : List Alternative) (n i : ℕ) → i < n → is_beaten list i ≡ false
     → 0 < length (unbeaten_below list n)
-some_unbeaten list n = (holds_below list n).some
+some_unbeaten list n = (covers_below list n).some
 
 -- ---- as the code goes
 abbrev pub HullSoFar : List Alternative → ℕ → Option Span → Type 0
@@ -165,10 +165,10 @@ greatest_below unit positive q e (x ∷ xs) here there =
     either (inl same) a b = rw same a
     either (inr same) a b = rw same b
 
--- ---- what holds each holds the one chosen
+-- ---- what covers each covers the one chosen
 -- an operator on ends whose answer lies between all ends that its arguments lie between
 KeepsWithin : (Ends → Ends → Ends) → Type 0
-KeepsWithin op = (wide a b : Ends) → Holds wide a → Holds wide b → Holds wide (op a b)
+KeepsWithin op = (wide a b : Ends) → Covers wide a → Covers wide b → Covers wide (op a b)
 
 hull_keeps : KeepsWithin hull_ends
 unfolding KeepsWithin
@@ -180,23 +180,23 @@ unfolding KeepsWithin
 max_keeps wide a b h k =
     record { low = omega (arith, ints, clamps, h.low, k.low); high = omega (arith, ints, clamps, h.high, k.high) }
 
-fold_within : (op : Ends → Ends → Ends) → KeepsWithin op → (wide e : Ends) (es : List Ends) → Holds wide e
-    → ((k : ℕ) (d : Ends) → k < length es → Holds wide (get_or es k d))
-    → Holds wide (fold op e es)
+fold_within : (op : Ends → Ends → Ends) → KeepsWithin op → (wide e : Ends) (es : List Ends) → Covers wide e
+    → ((k : ℕ) (d : Ends) → k < length es → Covers wide (get_or es k d))
+    → Covers wide (fold op e es)
 unfolding KeepsWithin
 fold_within op keeps wide e [] here there = here
 fold_within op keeps wide e (x ∷ xs) here there =
     fold_within op keeps wide (op e x) xs (keeps wide e x here (there 0 x (omega arith)))
     (λ k d lt. there (suc k) d (omega arith))
 
-hull_of-within : (wide : Ends) (es : List Ends) → Holds wide (exact_ends (pos 0))
-    → ((k : ℕ) (d : Ends) → k < length es → Holds wide (get_or es k d)) → Holds wide (hull_of es)
+hull_of-within : (wide : Ends) (es : List Ends) → Covers wide (exact_ends (pos 0))
+    → ((k : ℕ) (d : Ends) → k < length es → Covers wide (get_or es k d)) → Covers wide (hull_of es)
 hull_of-within wide [] none each = none
 hull_of-within wide (e ∷ es) none each =
     fold_within hull_ends hull_keeps wide e es (each 0 e (omega arith)) (λ k d lt. each (suc k) d (omega arith))
 
-greatest_of-within : (wide : Ends) (es : List Ends) → Holds wide (exact_ends (pos 0))
-    → ((k : ℕ) (d : Ends) → k < length es → Holds wide (get_or es k d)) → Holds wide (greatest_of es)
+greatest_of-within : (wide : Ends) (es : List Ends) → Covers wide (exact_ends (pos 0))
+    → ((k : ℕ) (d : Ends) → k < length es → Covers wide (get_or es k d)) → Covers wide (greatest_of es)
 greatest_of-within wide [] none each = none
 greatest_of-within wide (e ∷ es) none each =
     fold_within max_ends max_keeps wide e es (each 0 e (omega arith)) (λ k d lt. each (suc k) d (omega arith))
@@ -226,18 +226,18 @@ places list =
     (λ n e h. rw (unbeaten-skip list n e) (record { each = λ k lt. let below = h.each k lt in omega arith }))
     (λ n e h. rw (unbeaten-next list n e) (one_more (unbeaten_below list n) n h))
 
-pub chosen_gross-within : (wide : Ends) (list : List Alternative) → Holds wide (exact_ends (pos 0))
-    → ((k : ℕ) → k < length list → Holds wide (alternative_at list k).gross)
-    → Holds wide (chosen_gross list)
+pub chosen_gross-within : (wide : Ends) (list : List Alternative) → Covers wide (exact_ends (pos 0))
+    → ((k : ℕ) → k < length list → Covers wide (alternative_at list k).gross)
+    → Covers wide (chosen_gross list)
 chosen_gross-within wide list none each =
     hull_of-within wide (map (gross_at list) (unbeaten list)) none
     (λ k d lt. let within : k < length (unbeaten list) = rw length-map at lt in
     rw (get_or-map (gross_at list) (unbeaten list) k 0 d within)
     (each (get_or (unbeaten list) k 0) ((places list (length list)).each k within)))
 
-pub chosen_net-within : (wide : Ends) (list : List Alternative) → Holds wide (exact_ends (pos 0))
-    → ((k : ℕ) → k < length list → Holds wide (alternative_at list k).net)
-    → Holds wide (chosen_net list)
+pub chosen_net-within : (wide : Ends) (list : List Alternative) → Covers wide (exact_ends (pos 0))
+    → ((k : ℕ) → k < length list → Covers wide (alternative_at list k).net)
+    → Covers wide (chosen_net list)
 chosen_net-within wide list none each =
     greatest_of-within wide (map (λ (a : Alternative). a.net) list) none
     (λ k d lt. let within : k < length list = rw length-map at lt in

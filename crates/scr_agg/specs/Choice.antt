@@ -23,7 +23,7 @@ pub record IsChosen (list : List Outcome) (place : ℕ) : Type 0 where
   pub first : (j : ℕ) → j < length list → (outcome_at list place).net ≼ (outcome_at list j).net
       → (outcome_at list place).gross ≼ (outcome_at list j).gross → place ≤ j
 
--- ---- the same, worked out place by place
+-- ---- the same, worked out place by place: the law `choice_of_outcomes` says that it is the one chosen
 -- the first is to be taken in place of the second, which is listed before it
 abbrev pub surpasses : Outcome → Outcome → Bool
 surpasses a b = is_less b.net a.net || (not (is_less a.net b.net) && is_less b.gross a.gross)

@@ -1,5 +1,7 @@
--- Matrices of correlation coefficients as tables, and what a root over one asks of its parts (this project's own).
-use Rattle.std.specs.Prelude.{◌≡◌, ℕ, ◌+◌, ◌*◌, ◌<◌, pos, neg_ℤ, ◌≤ℤ◌, List, [], ◌∷◌, map, length, sum_by}
+-- Matrices of correlation coefficients as tables, the table of parts that are not correlated, and what a root over a table asks
+-- of its parts (this project's own).
+use Rattle.std.specs.Prelude.{◌≡◌, ℕ, ◌+◌, ◌*◌, ◌==◌, ◌<◌, pos, neg_ℤ, ◌≤ℤ◌, List, [], ◌∷◌, map, length, sum_by, if◌then◌else◌}
+use Rattle.std.specs.List.{range_with_len}
 use Rattle.scr_num.specs.declared.span.Span.{Span}
 use Rattle.scr_num.specs.Rounding.{Ends, ends, or_zero, quad_ends}
 use Rattle.scr_num.specs.Amounts.{AreAmounts}
@@ -11,6 +13,13 @@ use Rattle.scr_profile.specs.Matrix.{entry, coefficients}
 -- its coefficients over its denominator
 abbrev pub table_of : Matrix → Table
 table_of m = record { den = or_zero m.den; rows = coefficients m }
+
+-- so many parts of which no two are correlated: 1 where a row meets its own column, and 0 elsewhere
+abbrev pub uncorrelated : ℕ → Table
+uncorrelated n = record {
+  den = 1;
+  rows = map (λ row. map (λ column. if row == column then pos 1 else pos 0) (range_with_len 0 n)) (range_with_len 0 n);
+}
 
 -- each coefficient of the first n rows and columns is from -1 to 1
 abbrev pub CellsWithin : Matrix → Type 0

@@ -77,8 +77,8 @@ chosen_gross list = hull_of (map (λ k. (alternative_at list k).gross) (unbeaten
 abbrev pub chosen_net : List Alternative → Ends
 chosen_net list = greatest_of (map (λ a. a.net) list)
 
--- the second ends lie between the first ones
-pub record Holds (wide e : Ends) : Type 0 where
+-- the first ends reach as far as the second ones, or further
+pub record Covers (wide e : Ends) : Type 0 where
   pub low : wide.low ≤ℤ e.low
   pub high : e.high ≤ℤ wide.high
 

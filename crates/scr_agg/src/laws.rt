@@ -21,7 +21,7 @@ ghost use Rattle.scr_profile.specs.Matrix.{entry, IsCorrelation};
 ghost use Rattle.scr_agg.specs.Correlated.{table_of, CellsWithin, SpreadsBy};
 ghost use Rattle.scr_agg.specs.Absorbed.{net_figure, net_ends, net_exact};
 ghost use Rattle.scr_agg.specs.Choice.{Outcome, IsChosen, chosen, outcome_at};
-ghost use Rattle.scr_agg.specs.Unbeaten.{Alternative, EncloseOutcomes, HasSeveral, Holds, unbeaten};
+ghost use Rattle.scr_agg.specs.Unbeaten.{Alternative, Covers, EncloseOutcomes, HasSeveral, unbeaten};
 ghost use Rattle.scr_agg.specs.Unbeaten.{alternative_at, is_beaten, mask_of, chosen_gross};
 ghost use Rattle.scr_agg.specs.Unbeaten.{chosen_net};
 ghost use Rattle.scr_agg.specs.Nearness.{HasOpen};
@@ -126,12 +126,12 @@ pub fn choice_within_ends()
 /// Where the ends of every gross or net requirement lie between two numbers that 0 lies between, so
 /// do those chosen.
 pub fn choice_stays_within()
-    ensures gross { (wide : Ends) (list : List Alternative) → Holds wide (exact_ends (pos 0))
-        → ((k : ℕ) → k < length list → Holds wide (alternative_at list k).gross)
-        → Holds wide (chosen_gross list) }
-    ensures net { (wide : Ends) (list : List Alternative) → Holds wide (exact_ends (pos 0))
-        → ((k : ℕ) → k < length list → Holds wide (alternative_at list k).net)
-        → Holds wide (chosen_net list) }
+    ensures gross { (wide : Ends) (list : List Alternative) → Covers wide (exact_ends (pos 0))
+        → ((k : ℕ) → k < length list → Covers wide (alternative_at list k).gross)
+        → Covers wide (chosen_gross list) }
+    ensures net { (wide : Ends) (list : List Alternative) → Covers wide (exact_ends (pos 0))
+        → ((k : ℕ) → k < length list → Covers wide (alternative_at list k).net)
+        → Covers wide (chosen_net list) }
     ensures gross_size { (most : ℕ) (list : List Alternative)
         → AllByRecursion (λ a. IsAmount most a.gross) list
         → IsAmount most (chosen_gross list) }

@@ -14,11 +14,11 @@ use Rattle.scr_num.proofs.CentAmounts.{Encloses-cents, cents-not_negative}
 use Rattle.scr_profile.specs.declared.matrix.Matrix.{Matrix}
 use Rattle.scr_profile.specs.declared.correlations.TheConstants.{LIFE, SLT, HEALTH}
 use Rattle.scr_profile.proofs.CorrelationRules.{is_correlation, is_correlation-holds}
-use Rattle.scr_agg.specs.Correlated.{table_of}
+use Rattle.scr_agg.specs.Correlated.{table_of, uncorrelated}
 use Rattle.scr_agg.proofs.Roots.{table_of-square}
 use Rattle.scr_agg.proofs.RootSizes.{root-within}
 use Rattle.scr_bio.specs.declared.uncorrelated.TheConstants.{TWO, THREE}
-use Rattle.scr_bio.specs.Biometric.{life_correlations, slt_correlations, two_risks, three_risks, health_correlations, life_figure, slt_figure, nslt_figure, health_cat_figure, health_figure}
+use Rattle.scr_bio.specs.Biometric.{life_correlations, slt_correlations, health_correlations, life_figure, slt_figure, nslt_figure, health_cat_figure, health_figure}
 use Rattle.scr_bio.specs.BiometricEnds.{units_of_a_grain, loss_ends, life_ends, slt_ends, nslt_ends, health_cat_ends, health_ends}
 
 -- a root over a matrix whose places pass the test is at most the sum of its parts
@@ -64,7 +64,7 @@ slt-size mosts parts count h = within SLT mosts parts refl count h
 pub nslt-encloses : (pr : Ends) (f : Figure) (lapse : ℕ) → pos 0 ≤ℤ pr.low → Encloses 1000 pr.low pr.high f
     → Encloses 1000 (nslt_ends pr lapse).low (nslt_ends pr lapse).high (nslt_figure f lapse)
 nslt-encloses pr f lapse p h =
-    Encloses-quad 1000 (lit< tt) (pr ∷ cents_ends lapse ∷ []) (more f (more (cents_figure lapse) none)) two_risks (lit< tt) (table_of-square TWO)
+    Encloses-quad 1000 (lit< tt) (pr ∷ cents_ends lapse ∷ []) (more f (more (cents_figure lapse) none)) (uncorrelated 2) (lit< tt) (table_of-square TWO)
     (p, h, (cents-not_negative lapse, Encloses-cents lapse, tt))
 
 pub nslt-size : (most : ℕ) (pr : Ends) (lapse : ℕ) → IsAmount most pr → IsAmount (most + 1000 * lapse) (nslt_ends pr lapse)
@@ -75,7 +75,7 @@ nslt-size most pr lapse h =
 -- ---- health catastrophes
 pub health_cat-encloses : (parts : List Ends) (figures : Figures) → length parts ≡ 3 → EncloseAll 1000 parts figures
     → Encloses 1000 (health_cat_ends parts).low (health_cat_ends parts).high (health_cat_figure figures)
-health_cat-encloses parts figures count h = Encloses-quad 1000 (lit< tt) parts figures three_risks (lit< tt) (square_of THREE parts count) h
+health_cat-encloses parts figures count h = Encloses-quad 1000 (lit< tt) parts figures (uncorrelated 3) (lit< tt) (square_of THREE parts count) h
 
 pub health_cat-size : (mosts : List ℕ) (parts : List Ends) → length parts ≡ 3 → AreAmounts mosts parts → IsAmount (sum_by (λ most. most) mosts) (health_cat_ends parts)
 health_cat-size mosts parts count h = within THREE mosts parts refl count h

@@ -7,6 +7,7 @@ use Rattle.scr_num.specs.Figure.Figure.{Root}
 use Rattle.scr_num.specs.Figure.Figures.{more, none}
 use Rattle.scr_num.specs.Table.{Table}
 use Rattle.scr_num.specs.Cents.{cents_figure}
+use Rattle.scr_agg.specs.Correlated.{uncorrelated}
 
 -- ---- life
 -- mortality, longevity, disability-morbidity, life expense, revision, lapse and life catastrophe risk (Article 136);
@@ -50,30 +51,15 @@ abbrev pub slt_figure : Figures → Figure
 slt_figure parts = Root parts slt_correlations
 
 -- ---- health not similar to life
--- two risks that are not correlated
-abbrev pub two_risks : Table
-two_risks = record { den = 1; rows = (pos 1 ∷ pos 0 ∷ []) ∷ (pos 0 ∷ pos 1 ∷ []) ∷ [] }
-
 -- the root of the squares of NSLT health premium and reserve risk and of NSLT health lapse risk, of which lapse risk
 -- is a charge in cents (Article 145)
 abbrev pub nslt_figure : (premium_reserve : Figure) → (lapse : ℕ) → Figure
-nslt_figure premium_reserve lapse = Root (more premium_reserve (more (cents_figure lapse) none)) two_risks
+nslt_figure premium_reserve lapse = Root (more premium_reserve (more (cents_figure lapse) none)) (uncorrelated 2)
 
 -- ---- health catastrophes
--- three risks that are not correlated
-abbrev pub three_risks : Table
-three_risks = record {
-  den = 1;
-  rows =
-      (pos 1 ∷ pos 0 ∷ pos 0 ∷ [])
-      ∷ (pos 0 ∷ pos 1 ∷ pos 0 ∷ [])
-      ∷ (pos 0 ∷ pos 0 ∷ pos 1 ∷ [])
-      ∷ [];
-}
-
 -- the root of the squares of the charges for mass accidents, accident concentration and pandemics (Article 160)
 abbrev pub health_cat_figure : Figures → Figure
-health_cat_figure parts = Root parts three_risks
+health_cat_figure parts = Root parts (uncorrelated 3)
 
 -- ---- health
 -- SLT health, NSLT health and health catastrophe risk (Article 144); the cells are quarters

@@ -3,7 +3,8 @@
 use Rattle.std.specs.Prelude.{ℕ, List, [], ◌∷◌}
 use Rattle.scr_num.specs.Rounding.{Ends, scale_ends, quad_ends}
 use Rattle.scr_num.specs.Cents.{cents_ends}
-use Rattle.scr_bio.specs.Biometric.{life_correlations, slt_correlations, two_risks, three_risks, health_correlations}
+use Rattle.scr_agg.specs.Correlated.{uncorrelated}
+use Rattle.scr_bio.specs.Biometric.{life_correlations, slt_correlations, health_correlations}
 
 -- how many units of 10^-18 cents make one grain
 abbrev pub units_of_a_grain : ℕ
@@ -20,11 +21,11 @@ abbrev pub slt_ends : List Ends → Ends
 slt_ends parts = quad_ends parts slt_correlations
 
 abbrev pub nslt_ends : (premium_reserve : Ends) → (lapse : ℕ) → Ends
-nslt_ends premium_reserve lapse = quad_ends (premium_reserve ∷ cents_ends lapse ∷ []) two_risks
+nslt_ends premium_reserve lapse = quad_ends (premium_reserve ∷ cents_ends lapse ∷ []) (uncorrelated 2)
 
 -- mass accidents, accident concentration and pandemics, in grains
 abbrev pub health_cat_ends : List Ends → Ends
-health_cat_ends parts = quad_ends parts three_risks
+health_cat_ends parts = quad_ends parts (uncorrelated 3)
 
 abbrev pub health_ends : (slt nslt cat : Ends) → Ends
 health_ends slt nslt cat = quad_ends (slt ∷ nslt ∷ cat ∷ []) health_correlations

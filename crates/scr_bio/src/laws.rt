@@ -6,10 +6,10 @@ ghost use Rattle.scr_num.specs.Figure.{Figure, Figures};
 ghost use Rattle.scr_num.specs.Amounts.{IsAmount, AreAmounts};
 ghost use Rattle.scr_num.specs.Enclosure.{Encloses, EncloseAll};
 ghost use Rattle.scr_num.specs.Rounding.{Ends};
-ghost use Rattle.scr_agg.specs.Correlated.{table_of};
+ghost use Rattle.scr_agg.specs.Correlated.{table_of, uncorrelated};
 ghost use Rattle.scr_profile.specs.declared.correlations.TheConstants.{LIFE, SLT, HEALTH};
 ghost use Rattle.scr_bio.specs.declared.uncorrelated.TheConstants.{TWO, THREE};
-ghost use Rattle.scr_bio.specs.Biometric.{life_correlations, slt_correlations, two_risks, three_risks, health_correlations, life_figure, slt_figure, nslt_figure, health_cat_figure, health_figure};
+ghost use Rattle.scr_bio.specs.Biometric.{life_correlations, slt_correlations, health_correlations, life_figure, slt_figure, nslt_figure, health_cat_figure, health_figure};
 ghost use Rattle.scr_bio.specs.BiometricEnds.{units_of_a_grain, loss_ends, life_ends, slt_ends, nslt_ends, health_cat_ends, health_ends};
 
 /// The tables that the roots are taken over are those of the Regulation.
@@ -17,8 +17,8 @@ pub fn tables()
     ensures life { table_of LIFE ≡ life_correlations }
     ensures slt { table_of SLT ≡ slt_correlations }
     ensures health { table_of HEALTH ≡ health_correlations }
-    ensures two { table_of TWO ≡ two_risks }
-    ensures three { table_of THREE ≡ three_risks }
+    ensures two { table_of TWO ≡ uncorrelated 2 }
+    ensures three { table_of THREE ≡ uncorrelated 3 }
 {}
 
 /// Ends in 10^-18 cents that enclose losses enclose them in grains, rounded outward.

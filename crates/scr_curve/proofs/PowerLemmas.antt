@@ -4,12 +4,12 @@ use Rattle.std.proofs.lemmas.Bool.{cases_lt}
 use Rattle.std.proofs.lemmas.Int.{ints}
 use Rattle.std.proofs.lemmas.Nat.{mul-le}
 use borrow.Author.Differences.{up, down}
-use Rattle.scr_num.specs.Fraction.{Fraction, ◌≼◌, over, whole, product}
+use Rattle.scr_num.specs.Fraction.{Fraction, ◌≼◌, over, whole, product, reciprocal_of}
 use Rattle.scr_num.specs.Figure.{Frac, AtMost}
 use Rattle.scr_num.specs.Rounding.{floor_div, ceil_div, or_zero}
 use Rattle.scr_num.specs.Enclosure.{Encloses, Measures}
 use Rattle.scr_num.proofs.Quotients.{floor_div-times, ceil_div-times, ceil_div-next, times_cancel, times_le}
-use Rattle.scr_curve.specs.Discount.{growth, power, reciprocal_of, discount_exact}
+use Rattle.scr_curve.specs.Discount.{growth, power, discount_exact}
 use Rattle.scr_curve.specs.declared.table.TheConstants.{MAX_DISCOUNT}
 use Rattle.scr_curve.specs.Parts.{parts, IsRateInParts}
 use Rattle.scr_curve.specs.DiscountEnds.{one, discount_ends, IsDiscount, IsAboutPower}

@@ -3,10 +3,10 @@ use Rattle.std.proofs.Common.{◌≡◌, ℕ, zero, suc, ◌+◌, ◌*◌, ◌<�
 use Rattle.std.proofs.lemmas.Int.{ints}
 use Rattle.std.specs.Int.Signed.{≤ℤ_refl}
 use borrow.Author.Differences.{up, down}
-use Rattle.scr_num.specs.Fraction.{Fraction, ◌≼◌, product}
+use Rattle.scr_num.specs.Fraction.{Fraction, ◌≼◌, product, reciprocal_of}
 use Rattle.scr_num.specs.Enclosure.{Measures}
 use Rattle.scr_num.proofs.Fractions.{times_split}
-use Rattle.scr_curve.specs.Discount.{growth, power, reciprocal_of, discount_exact}
+use Rattle.scr_curve.specs.Discount.{growth, power, discount_exact}
 use Rattle.scr_curve.specs.Parts.{parts}
 
 -- two fractions of one value

@@ -1,8 +1,7 @@
 -- The discount of a payment, and the present value of payments: what they are worth now at risk-free rates (Directive
 -- 2009/138/EC, Article 77(2)). Nothing is rounded.
-use Rattle.std.specs.Prelude.{ℕ, zero, suc, ℤ, pos, negsuc, List}
-use Rattle.std.proofs.Math.Nat.{zero-lt-suc}
-use Rattle.scr_num.specs.Fraction.{Fraction, over, whole, zero_fraction, plus, product}
+use Rattle.std.specs.Prelude.{ℕ, zero, suc, ℤ, pos, List}
+use Rattle.scr_num.specs.Fraction.{Fraction, whole, plus, product, reciprocal}
 use Rattle.scr_num.specs.Sums.{weighted_sum}
 
 -- what one grows to in a year
@@ -13,15 +12,6 @@ growth rate = plus (whole (pos 1)) rate
 unfoldable pub power : Fraction → ℕ → Fraction
 power p zero = whole (pos 1)
 power p (suc times) = product p (power p times)
-
--- den / num of a numerator above 0, and 0 of any other, which no growth has
-abbrev pub reciprocal_of : ℤ → ℕ → Fraction
-reciprocal_of (pos zero) den = zero_fraction
-reciprocal_of (pos (suc n)) den = over (pos den) (suc n) (zero-lt-suc n)
-reciprocal_of (negsuc n) den = zero_fraction
-
-abbrev pub reciprocal : Fraction → Fraction
-reciprocal p = reciprocal_of p.num p.den
 
 -- what one that is paid after so many years is worth now: 1 / (1 + rate) ^ years
 unfoldable pub discount_exact : Fraction → ℕ → Fraction

@@ -14,9 +14,10 @@ use Rattle.scr_num.proofs.AmountBounds.{is_amount, amount-high, amount-exact, am
 use Rattle.scr_num.proofs.Fractions.{≼_trans}
 use Rattle.scr_num.proofs.Roots.{floor_root-square, ceil_root-square, ceil_root-least, floor_root-le-ceil_root, root_below}
 use Rattle.scr_num.proofs.Enclosing.{Encloses-exact, Encloses-root_of, Encloses-scale, Encloses-wider}
-use Rattle.scr_agg.specs.Unbeaten.{Holds, HasSeveral, hull_of}
+use Rattle.scr_agg.specs.Unbeaten.{Covers, HasSeveral, hull_of}
 use Rattle.scr_agg.proofs.Chosen.{not_less}
 use Rattle.scr_agg.proofs.Enclosed.{low_below, high_above}
+use Rattle.scr_agg.proofs.Hulls.{covers_same, hull_left, hull_right}
 use Rattle.scr_default.specs.Losses.{grains}
 use Rattle.scr_default.specs.Type1.{is_above, band_of, multiple, deviation_figure, charge_figure, type1_figure}
 use Rattle.scr_default.specs.Type1Ends.{is_possible, charge_ends, possible_bands, type1_mask, type1_ends, hull_of_bands, bit_of}
@@ -99,16 +100,7 @@ charge-encloses total variance v (suc (suc _)) h =
     Encloses-exact 1000 (pos total) (grains total) (record { positive = lit< tt; equal = refl })
 
 -- ---- the hull of the possible bands
-holds_same : (e : Ends) → Holds e e
-holds_same e = record { low = ≤ℤ_refl e.low; high = ≤ℤ_refl e.high }
-
-hull_left : (a b e : Ends) → Holds a e → Holds (hull_ends a b) e
-hull_left a b e h = record { low = omega (arith, ints, clamps, h.low); high = omega (arith, ints, clamps, h.high) }
-
-hull_right : (a b : Ends) → Holds (hull_ends a b) b
-hull_right a b = record { low = omega (arith, ints, clamps); high = omega (arith, ints, clamps) }
-
-keeps : (so_far : Ends) (es : List Ends) (e : Ends) → Holds so_far e → Holds (fold hull_ends so_far es) e
+keeps : (so_far : Ends) (es : List Ends) (e : Ends) → Covers so_far e → Covers (fold hull_ends so_far es) e
 keeps so_far [] e h = h
 keeps so_far (x ∷ es) e h = keeps (hull_ends so_far x) es e (hull_left so_far x e h)
 
@@ -121,27 +113,27 @@ select x y z = filter (λ band. three x y z band) (0 ∷ 1 ∷ 2 ∷ [])
     three x y z (suc zero) = y
     three x y z (suc (suc _)) = z
 
-first_held : (e : ℕ → Ends) (y z : Bool) → Holds (hull_of (map e (select true y z))) (e 0)
-first_held e true true = keeps (e 0) (e 1 ∷ e 2 ∷ []) (e 0) (holds_same (e 0))
-first_held e true false = keeps (e 0) (e 1 ∷ []) (e 0) (holds_same (e 0))
-first_held e false true = keeps (e 0) (e 2 ∷ []) (e 0) (holds_same (e 0))
-first_held e false false = holds_same (e 0)
+first_held : (e : ℕ → Ends) (y z : Bool) → Covers (hull_of (map e (select true y z))) (e 0)
+first_held e true true = keeps (e 0) (e 1 ∷ e 2 ∷ []) (e 0) (covers_same (e 0))
+first_held e true false = keeps (e 0) (e 1 ∷ []) (e 0) (covers_same (e 0))
+first_held e false true = keeps (e 0) (e 2 ∷ []) (e 0) (covers_same (e 0))
+first_held e false false = covers_same (e 0)
 
-second_held : (e : ℕ → Ends) (x z : Bool) → Holds (hull_of (map e (select x true z))) (e 1)
+second_held : (e : ℕ → Ends) (x z : Bool) → Covers (hull_of (map e (select x true z))) (e 1)
 second_held e true true = keeps (hull_ends (e 0) (e 1)) (e 2 ∷ []) (e 1) (hull_right (e 0) (e 1))
 second_held e true false = hull_right (e 0) (e 1)
-second_held e false true = keeps (e 1) (e 2 ∷ []) (e 1) (holds_same (e 1))
-second_held e false false = holds_same (e 1)
+second_held e false true = keeps (e 1) (e 2 ∷ []) (e 1) (covers_same (e 1))
+second_held e false false = covers_same (e 1)
 
-third_held : (e : ℕ → Ends) (x y : Bool) → Holds (hull_of (map e (select x y true))) (e 2)
+third_held : (e : ℕ → Ends) (x y : Bool) → Covers (hull_of (map e (select x y true))) (e 2)
 third_held e true true = hull_right (hull_ends (e 0) (e 1)) (e 2)
 third_held e true false = hull_right (e 0) (e 2)
 third_held e false true = hull_right (e 1) (e 2)
-third_held e false false = holds_same (e 2)
+third_held e false false = covers_same (e 2)
 
 -- the charge of a possible band lies within
 held : (e : ℕ → Ends) (p : ℕ → Bool) (band : ℕ) → band < 3 → p band ≡ true
-    → Holds (hull_of (map e (filter p (0 ∷ 1 ∷ 2 ∷ [])))) (e band)
+    → Covers (hull_of (map e (filter p (0 ∷ 1 ∷ 2 ∷ [])))) (e band)
 held e p zero lt h = rw h (first_held e (p 1) (p 2))
 held e p (suc zero) lt h = rw h (second_held e (p 0) (p 2))
 held e p (suc (suc zero)) lt h = rw h (third_held e (p 0) (p 1))

@@ -1,9 +1,9 @@
 -- The variance of the loss distribution of the type 1 exposures, in square cents: Article 201 of Delegated Regulation
 -- (EU) 2015/35. Nothing is rounded. The totals are the losses given default of the counterparties of each class of
 -- probability, and the squares are the sums of their squared losses.
-use Rattle.std.specs.Prelude.{ℕ, suc, ℤ, pos}
-use Rattle.std.proofs.Common.{lit<, zero-lt-suc}
-use Rattle.scr_num.specs.Fraction.{Fraction, over, whole, plus, minus, product, zero_fraction}
+use Rattle.std.specs.Prelude.{ℕ, pos}
+use Rattle.std.proofs.Common.{lit<}
+use Rattle.scr_num.specs.Fraction.{Fraction, over, whole, plus, minus, product, reciprocal, zero_fraction}
 use Rattle.scr_default.specs.Probabilities.{probability_of_class}
 use Rattle.scr_default.specs.Sums.{sum_below}
 
@@ -14,14 +14,6 @@ tenths n = over (pos n) 10 (lit< tt)
 abbrev pub hundredths : ℕ → Fraction
 hundredths n = over (pos n) 100 (lit< tt)
 
--- one divided by p, where p is above 0
-abbrev pub inverse_of : ℤ → ℕ → Fraction
-inverse_of (pos (suc n)) den = over (pos den) (suc n) (zero-lt-suc n)
-inverse_of _ den = zero_fraction
-
-abbrev pub inverse : Fraction → Fraction
-inverse p = inverse_of p.num p.den
-
 -- PD (1 - PD)
 abbrev pub dispersion : Fraction → Fraction
 dispersion p = product p (minus (whole (pos 1)) p)
@@ -30,11 +22,11 @@ dispersion p = product p (minus (whole (pos 1)) p)
 unfoldable pub between_coefficient : (p q : Fraction) → Fraction
 between_coefficient p q =
     product (product (dispersion q) (dispersion p))
-    (inverse (minus (product (hundredths 125) (plus q p)) (product q p)))
+    (reciprocal (minus (product (hundredths 125) (plus q p)) (product q p)))
 
 -- 1.5 PD_j (1 - PD_j) / (2.5 - PD_j): Article 201(3)
 unfoldable pub within_coefficient : Fraction → Fraction
-within_coefficient p = product (product (tenths 15) (dispersion p)) (inverse (minus (tenths 25) p))
+within_coefficient p = product (product (tenths 15) (dispersion p)) (reciprocal (minus (tenths 25) p))
 
 -- over the six classes
 abbrev pub sum_of_classes : (ℕ → Fraction) → Fraction

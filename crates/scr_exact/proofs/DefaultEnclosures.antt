@@ -42,7 +42,7 @@ use Rattle.scr_nodes.specs.Rows.{is_bank_of, is_reinsurer_of, is_of_default_clas
 use Rattle.scr_rules.specs.DefaultGrains.{total_where, bank_grains, reinsurer_grains, group_grains, class_grains, class_square_grains, in_classes, total_grains, overdue_cents, other_due_cents}
 use Rattle.scr_exact.specs.DefaultExact.{bank_loss, reinsurer_loss, group_loss, class_loss, class_square, loss_at, square_at, total_loss, default_variance, default_band, type1_exact, due_exact, default_exact}
 use Rattle.scr_exact.specs.Exact.{exact, unit_of}
-use Rattle.scr_exact.specs.LifeExact.{sum_where}
+use Rattle.scr_exact.specs.InterestExact.{sum_where}
 use Rattle.scr_rules.specs.Rules.{amount_of}
 use Rattle.scr_exact.specs.Covering.{AreCovering, AreNotNegative, is_part_of_modules}
 use Rattle.scr_exact.proofs.Covered.{covered, due, leaf-encloses, number-encloses, number-is}

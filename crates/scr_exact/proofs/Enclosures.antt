@@ -56,23 +56,24 @@ use Rattle.scr_nodes.specs.declared.node.Whole.TheVariants as wholes
 use Rattle.scr_nodes.specs.declared.node.Risk.TheVariants as risks
 use Rattle.scr_nodes.specs.Live.{is_live}
 use Rattle.scr_nodes.specs.OwnOf.{nothing_paid, paid_by_security, paid_by_liability, interest_key, risk_key}
-use Rattle.scr_nodes.specs.Rows.{is_paying, is_paying_in, is_owed_in, liability_of}
+use Rattle.scr_nodes.specs.Rows.{is_held_in, is_paying, is_paying_in, is_owed_in, liability_of}
 use Rattle.scr_nodes.specs.Sources.{security_rate, liability_rate, currency_loss, rates_in, risk_part}
 use Rattle.scr_nodes.proofs.OwnRows.{own-securities, own-liabilities}
 use Rattle.scr_rules.specs.Alternatives.{EncloseAlternatives, alternative_of, interest_alternatives}
 use Rattle.scr_exact.specs.DefaultExact.{default_exact}
-use Rattle.scr_exact.specs.Exact.{measured, absorbed_part, equities_exact, equity_exact, exact, exact_outcomes, market_exact, other_modules, unit_of}
+use Rattle.scr_exact.specs.Exact.{exact, exact_outcomes, unit_of}
 use Rattle.scr_exact.specs.LifeExact.{life_exact, slt_exact}
-use Rattle.scr_exact.specs.MarketExact.{liability_worth, bond_exact, group_square_exact}
+use Rattle.scr_exact.specs.MarketExact.{equities_exact, equity_exact, liability_worth, bond_exact, group_square_exact, market_exact}
+use Rattle.scr_exact.specs.Measured.{measured, absorbed_part}
 use Rattle.scr_rules.specs.Holdings.{security_cents, class_total}
 use Rattle.scr_exact.specs.InterestExact as interest
-use Rattle.scr_exact.specs.InterestExact.{security_unit_loss, security_loss, liability_loss, losses, scenario_of, decisive_outcome, up_absorption, down_absorption}
+use Rattle.scr_exact.specs.InterestExact.{security_unit_loss, security_loss, liability_cost, losses, scenario_of, decisive_outcome, up_absorption, down_absorption}
 use Rattle.scr_rules.specs.Rules.{amount_of, paid_ends}
 use Rattle.scr_rules.specs.Worked.{worked}
 use Rattle.scr_exact.specs.Covering.{AreCovering, AreNotNegative, is_part_of_market, is_part_of_modules, is_whole_number}
 use Rattle.scr_exact.proofs.Covered.{covered, due, leaf-encloses, number-encloses, number-is}
 use Rattle.scr_rules.proofs.PaymentsEnclosed.{paid-encloses}
-use Rattle.scr_exact.proofs.RowsEnclosed.{sum-encloses, rows-enclose}
+use Rattle.scr_exact.proofs.RowsEnclosed.{sum-encloses, rows-enclose, where-encloses}
 use Rattle.scr_exact.proofs.MarketEnclosures.{both-enclose as changes-enclose, present-encloses, change-encloses, change-picked-encloses, currency-encloses, property-enclosed, bond-enclosed, spread-enclosed, square-enclosed, concentration-enclosed, net-enclosed, market-enclosed}
 use Rattle.scr_rules.proofs.MarketRanges.{bond-there}
 use Rattle.scr_rules.proofs.MarketSizes.{AreOrdered, IsMaskOfTwo, assets-worked, group-worked, mask-of-two}
@@ -213,14 +214,14 @@ module _ (factors : FactorValues) (sheet : BalanceSheet) (valid : Valid sheet) (
       (unit-encloses direction name p is))))
 
   cost-encloses : (direction : Direction) (name : List ℕ) (l : Liability) → liability_of name sheet.liabilities ≡ Some l
-      → Enclosed (figure (nodes.Liability name (of_liabilities.Rate direction))) (liability_loss sheet direction l)
-  unfolding liability_loss
+      → Enclosed (figure (nodes.Liability name (of_liabilities.Rate direction))) (liability_cost sheet direction l)
+  unfolding liability_cost
   cost-encloses direction name l is =
       let fits = liability-fits sheet valid direction l (liability-known sheet valid name l is) in
       let row = covering.discounts (nodes.Liability name (of_liabilities.Rate direction)) in
       let all = paid-encloses (paid_by_liability sheet direction l) row (covering.costing direction name l is) fits.near fits.rates in
-      reaches one (nodes.Liability name (of_liabilities.Rate direction)) (Frac (liability_loss sheet direction l))
-      (subst (λ (found : Option Liability). Enclosed (sub_ends (exact_ends (pos 0)) (paid_ends (option_map_or (paid_by_liability sheet direction) found (nothing_paid sheet direction)) row)) (liability_loss sheet direction l))
+      reaches one (nodes.Liability name (of_liabilities.Rate direction)) (Frac (liability_cost sheet direction l))
+      (subst (λ (found : Option Liability). Enclosed (sub_ends (exact_ends (pos 0)) (paid_ends (option_map_or (paid_by_liability sheet direction) found (nothing_paid sheet direction)) row)) (liability_cost sheet direction l))
       (sym is) (Encloses-minus one _ _ zero_fraction _ (Encloses-sub one (pos 0) (pos 0) _ _ (Frac zero_fraction) (Frac _) (Encloses-zero one (lit< tt)) all)))
 
   -- a security without payments loses nothing
@@ -236,18 +237,14 @@ module _ (factors : FactorValues) (sheet : BalanceSheet) (valid : Valid sheet) (
   rates-enclose : (direction : Direction) (currency : List ℕ) → Enclosed (sum_ends (map figure (rates_in currency direction sheet))) (interest.currency_loss sheet direction currency)
   unfolding interest.currency_loss
   rates-enclose direction currency =
-      let securities = rows-enclose one (lit< tt) figure (security_rate direction) (is_paying_in currency) (λ (p : Position). p.security.currency) (security_loss sheet direction) currency sheet.securities
+      let securities = rows-enclose one (lit< tt) figure (security_rate direction) (is_paying_in currency) (is_held_in currency) (security_loss sheet direction) sheet.securities
       (All-map (λ p. position_of (position_name p) sheet.securities ≡ Some p) _ sheet.securities
       (λ p own. record {
         passes = λ e. either (same_name currency p.security.currency) _ _ (in-both (same_name currency p.security.currency) (is_paying p) e) (rate-encloses direction (position_name p) p own);
         fails = λ e. neither (same_name currency p.security.currency) _ (λ same. nothing (security_loss sheet direction p) (no-payments direction p (not-second (same_name currency p.security.currency) (is_paying p) e same)));
       }) (own-securities sheet valid)) in
-      let liabilities = rows-enclose one (lit< tt) figure (liability_rate direction) (is_owed_in currency) (λ (l : Liability). l.currency) (liability_loss sheet direction) currency sheet.liabilities
-      (All-map (λ l. liability_of (liability_name l) sheet.liabilities ≡ Some l) _ sheet.liabilities
-      (λ l own. record {
-        passes = λ e. either (same_name currency l.currency) _ _ e (cost-encloses direction (liability_name l) l own);
-        fails = λ e. neither (same_name currency l.currency) _ (λ same. absurd (true≢false (sym same ∙ e)));
-      }) (own-liabilities sheet valid)) in
+      let liabilities = where-encloses figure (liability_rate direction) (is_owed_in currency) one (lit< tt) (liability_cost sheet direction) sheet.liabilities
+      (All-map (λ l. liability_of (liability_name l) sheet.liabilities ≡ Some l) _ sheet.liabilities (λ l own e. cost-encloses direction (liability_name l) l own) (own-liabilities sheet valid)) in
       let xs = map (security_rate direction) (filter (is_paying_in currency) sheet.securities) in
       let ys = map (liability_rate direction) (filter (is_owed_in currency) sheet.liabilities) in
       let split : sum_ends (map figure (xs ++ ys)) ≡ add_ends (sum_ends (map figure xs)) (sum_ends (map figure ys)) = ap sum_ends (map-append figure xs ys) ∙ sum_ends-append (map figure xs) (map figure ys) in
@@ -413,7 +410,7 @@ module _ (factors : FactorValues) (known : IsInForm factors) (sheet : BalanceShe
   default-encloses measures.Gross = defaults.default-node-encloses factors sheet valid figure covering least (default_exact sheet) refl
   default-encloses measures.Net = defaults.net-node-encloses factors sheet valid figure covering least (net_figure (default_exact sheet) (absorbed (risk_key risks.Default) sheet.numbers)) refl
 
-  others-enclosed : loss.AreOthersEnclosed figure (other_modules factors sheet)
+  others-enclosed : loss.AreOthersEnclosed factors sheet figure
   others-enclosed = record {
     market_holds = market-encloses factors sheet valid figure covering least_of_market;
     default_holds = default-encloses;
@@ -435,7 +432,7 @@ module _ (factors : FactorValues) (known : IsInForm factors) (sheet : BalanceShe
       told one _ _ f (ap (λ found. Some (Frac (option_map_or (security_loss sheet direction) found zero_fraction))) (sym p.1) ∙ is) (rate-encloses factors sheet valid figure covering direction name p.0 p.1)
   node-encloses (nodes.Liability name (of_liabilities.Rate direction)) live f is =
       let l = row-there liability_name name sheet.liabilities live in
-      told one _ _ f (ap (λ found. Some (Frac (option_map_or (liability_loss sheet direction) found zero_fraction))) (sym l.1) ∙ is) (cost-encloses factors sheet valid figure covering direction name l.0 l.1)
+      told one _ _ f (ap (λ found. Some (Frac (option_map_or (liability_cost sheet direction) found zero_fraction))) (sym l.1) ∙ is) (cost-encloses factors sheet valid figure covering direction name l.0 l.1)
   node-encloses (nodes.Currency currency (of_currencies.Loss direction)) live f is = told one _ _ f is (lost-encloses factors sheet valid figure covering direction currency)
   node-encloses (nodes.Whole (wholes.InterestScenario direction measures.Gross)) live f is = market-node-encloses factors sheet valid figure covering least_of_market (nodes.Whole (wholes.InterestScenario direction measures.Gross)) refl f is
   node-encloses (nodes.Whole (wholes.Choice which)) live f is = absurd (let clash : None ≡ Some f = is in cc)
@@ -480,17 +477,17 @@ module _ (factors : FactorValues) (known : IsInForm factors) (sheet : BalanceShe
   node-encloses (nodes.Whole wholes.HealthCatastrophe) live f is = told 1000 _ _ f is (nonlife.health_catastrophe-holds factors known sheet valid figure covering least measures.Gross)
   node-encloses (nodes.Whole (wholes.Nslt measure)) live f is = told 1000 _ _ f is (nonlife.nslt-holds factors known sheet valid figure covering least measure)
   node-encloses (nodes.Whole (wholes.Health measure)) live f is =
-      told 1000 _ _ f is (loss.module-health-holds factors known sheet valid figure covering least (other_modules factors sheet) others-enclosed measure)
+      told 1000 _ _ f is (loss.module-health-holds factors known sheet valid figure covering least others-enclosed measure)
   node-encloses (nodes.Whole (wholes.Nonlife measure)) live f is = told 1000 _ _ f is (nonlife.nonlife-holds factors known sheet valid figure covering least measure)
   node-encloses (nodes.Whole wholes.Intangible) live f is = told 1000 _ _ f is (loss.intangible-holds factors known sheet valid figure covering least)
   node-encloses (nodes.Whole (wholes.Bscr measure)) live f is =
-      told 1000 _ _ f is (loss.bscr-holds factors known sheet valid figure covering least (other_modules factors sheet) others-enclosed measure)
+      told 1000 _ _ f is (loss.bscr-holds factors known sheet valid figure covering least others-enclosed measure)
   node-encloses (nodes.Whole (wholes.OpPart part)) live f is =
-      told 1000 _ _ f is (loss.operational-holds factors known sheet valid figure covering least (other_modules factors sheet) others-enclosed part)
+      told 1000 _ _ f is (loss.operational-holds factors known sheet valid figure covering least others-enclosed part)
   node-encloses (nodes.Whole (wholes.Adjust adjustment)) live f is =
-      told 1000 _ _ f is (loss.adjustment-holds factors known sheet valid figure covering least (other_modules factors sheet) others-enclosed adjustment)
+      told 1000 _ _ f is (loss.adjustment-holds factors known sheet valid figure covering least others-enclosed adjustment)
   node-encloses (nodes.Whole wholes.Scr) live f is =
-      told 1000 _ _ f is (loss.scr-holds factors known sheet valid figure covering least (other_modules factors sheet) others-enclosed)
+      told 1000 _ _ f is (loss.scr-holds factors known sheet valid figure covering least others-enclosed)
   node-encloses (nodes.Whole wholes.Diversification) live f is =
-      told 1000 _ _ f is (loss.diversification-holds factors known sheet valid figure covering least (other_modules factors sheet) others-enclosed)
+      told 1000 _ _ f is (loss.diversification-holds factors known sheet valid figure covering least others-enclosed)
   node-encloses node live f is = market-node-encloses factors sheet valid figure covering least_of_market node refl f is

@@ -4,6 +4,7 @@ use Rattle.std.proofs.Common.{ℕ, ◌*◌, List, map, ℤ, pos, ◌-ℤ◌, ◌
 use Rattle.std.specs.Prelude.{slice_index_or}
 use Rattle.std.proofs.lemmas.Int.{ints}
 use Rattle.scr_num.specs.Rounding.{Ends}
+use Rattle.scr_agg.specs.Unbeaten.{Covers}
 use Rattle.scr_num.specs.Figure.{Figure}
 use Rattle.scr_num.specs.Sums.{EncloseEach, sum_ends}
 use Rattle.scr_num.proofs.Enclosing.{Encloses-wider}
@@ -25,9 +26,13 @@ use Rattle.scr_nodes.specs.declared.node.Operational.TheVariants as operations
 use Rattle.scr_nodes.specs.declared.node.Risk.TheVariants as risks
 use Rattle.scr_nodes.specs.OwnOf.{premiums_of, provisions_of}
 use Rattle.scr_nodes.specs.Sources.{risk_part, modules}
+use Rattle.scr_exact.specs.DefaultExact.{default_exact}
+use Rattle.scr_exact.specs.LifeExact.{life_exact, slt_exact}
+use Rattle.scr_exact.specs.MarketExact.{market_exact}
+use Rattle.scr_exact.specs.Measured.{absorbed_part}
 use Rattle.scr_exact.specs.NonlifeExact.{health_exact}
-use Rattle.scr_exact.specs.LossExact.{OtherModules, modules_exact, bscr_exact, diversification_exact, operations_of, operational_exact, provisions_exact, adjustment_exact, scr_exact}
-use Rattle.scr_exact.specs.Covering.{AreCovering, AreNotNegative, Covers, is_part_of_modules}
+use Rattle.scr_exact.specs.LossExact.{modules_exact, bscr_exact, diversification_exact, operations_of, operational_exact, provisions_exact, adjustment_exact, scr_exact}
+use Rattle.scr_exact.specs.Covering.{AreCovering, AreNotNegative, is_part_of_modules}
 use Rattle.scr_exact.proofs.Covered.{covered, due}
 use Rattle.scr_exact.proofs.NonlifeEnclosures.{Holds, nonlife-holds, health-holds}
 
@@ -41,12 +46,12 @@ known-wider list wide narrow intangible f reach h =
     less : (s a b i : ℤ) → a ≤ℤ b → (s -ℤ (b -ℤ i)) ≤ℤ (s -ℤ (a -ℤ i))
     less s a b i le = omega (arith, ints, le)
 
--- the figures of the other modules enclose theirs
-pub record AreOthersEnclosed (figure : Node → Ends) (others : OtherModules) : Type 0 where
-  pub market_holds : (measure : Measure) → Holds (figure (nodes.Whole (wholes.Market measure))) (others.market measure)
-  pub default_holds : (measure : Measure) → Holds (figure (risk_part risks.Default measure)) (others.default_risk measure)
-  pub life_holds : (measure : Measure) → Holds (figure (nodes.Whole (wholes.Life measure))) (others.life measure)
-  pub slt_holds : (measure : Measure) → Holds (figure (nodes.Whole (wholes.Slt measure))) (others.slt measure)
+-- the figures of market, default and life risk, and of health that is similar to life, enclose the exact ones
+pub record AreOthersEnclosed (factors : FactorValues) (sheet : BalanceSheet) (figure : Node → Ends) : Type 0 where
+  pub market_holds : (measure : Measure) → Holds (figure (nodes.Whole (wholes.Market measure))) (market_exact factors sheet measure)
+  pub default_holds : (measure : Measure) → Holds (figure (risk_part risks.Default measure)) (absorbed_part sheet measure risks.Default (default_exact sheet))
+  pub life_holds : (measure : Measure) → Holds (figure (nodes.Whole (wholes.Life measure))) (life_exact sheet measure)
+  pub slt_holds : (measure : Measure) → Holds (figure (nodes.Whole (wholes.Slt measure))) (slt_exact sheet measure)
 
 module _ (factors : FactorValues) (known : IsInForm factors) (sheet : BalanceSheet) (valid : Valid sheet) (figure : Node → Ends) (covering : AreCovering factors sheet figure)
     (least : AreNotNegative is_part_of_modules figure) where
@@ -56,7 +61,7 @@ module _ (factors : FactorValues) (known : IsInForm factors) (sheet : BalanceShe
   pub intangible-holds : Holds (figure (nodes.Whole wholes.Intangible)) (intangible_figure sheet.numbers.intangible)
   intangible-holds = reaches (nodes.Whole wholes.Intangible) _ (intangible-encloses sheet.numbers.intangible)
 
-  module _ (others : OtherModules) (enclosed : AreOthersEnclosed figure others) where
+  module _ (enclosed : AreOthersEnclosed factors sheet figure) where
     default-low : (measure : Measure) → pos 0 ≤ℤ (figure (risk_part risks.Default measure)).low
     default-low measures.Gross = least (nodes.Whole wholes.Default) refl
     default-low measures.Net = least (nodes.Whole (wholes.NetPart risks.Default)) refl
@@ -65,11 +70,11 @@ module _ (factors : FactorValues) (known : IsInForm factors) (sheet : BalanceShe
     lows measure =
         (least (nodes.Whole (wholes.Market measure)) refl, (default-low measure, (least (nodes.Whole (wholes.Life measure)) refl, (least (nodes.Whole (wholes.Health measure)) refl, (least (nodes.Whole (wholes.Nonlife measure)) refl, tt)))))
 
-    pub module-health-holds : (measure : Measure) → Holds (figure (nodes.Whole (wholes.Health measure))) (health_exact (others.slt measure) factors sheet measure)
+    pub module-health-holds : (measure : Measure) → Holds (figure (nodes.Whole (wholes.Health measure))) (health_exact factors sheet measure)
     module-health-holds measure =
-        health-holds factors known sheet valid figure covering least (others.slt measure) measure (enclosed.slt_holds measure)
+        health-holds factors known sheet valid figure covering least measure (enclosed.slt_holds measure)
 
-    modules-hold : (measure : Measure) → EncloseEach 1000 (map figure (modules measure)) (modules_exact others factors sheet measure)
+    modules-hold : (measure : Measure) → EncloseEach 1000 (map figure (modules measure)) (modules_exact factors sheet measure)
     modules-hold measure = (
       enclosed.market_holds measure,
       (
@@ -78,19 +83,19 @@ module _ (factors : FactorValues) (known : IsInForm factors) (sheet : BalanceShe
       ),
     )
 
-    pub bscr-holds : (measure : Measure) → Holds (figure (nodes.Whole (wholes.Bscr measure))) (bscr_exact others factors sheet measure)
+    pub bscr-holds : (measure : Measure) → Holds (figure (nodes.Whole (wholes.Bscr measure))) (bscr_exact factors sheet measure)
     unfolding bscr_exact
     bscr-holds measure =
         reaches (nodes.Whole (wholes.Bscr measure)) _
-        (bscr-encloses (map figure (modules measure)) (modules_exact others factors sheet measure) sheet.numbers.intangible refl (lows measure) (modules-hold measure))
+        (bscr-encloses (map figure (modules measure)) (modules_exact factors sheet measure) sheet.numbers.intangible refl (lows measure) (modules-hold measure))
 
-    pub diversification-holds : Holds (figure (nodes.Whole wholes.Diversification)) (diversification_exact others factors sheet)
+    pub diversification-holds : Holds (figure (nodes.Whole wholes.Diversification)) (diversification_exact factors sheet)
     unfolding diversification_exact
     diversification-holds =
         reaches (nodes.Whole wholes.Diversification) _
         (known-wider (map figure (modules measures.Gross)) (figure (nodes.Whole (wholes.Bscr measures.Gross))) (bscr_ends (map figure (modules measures.Gross)) sheet.numbers.intangible) sheet.numbers.intangible _
         (covering.covers (nodes.Whole (wholes.Bscr measures.Gross)))
-        (known-encloses (map figure (modules measures.Gross)) (modules_exact others factors sheet measures.Gross) sheet.numbers.intangible refl (lows measures.Gross) (modules-hold measures.Gross)))
+        (known-encloses (map figure (modules measures.Gross)) (modules_exact factors sheet measures.Gross) sheet.numbers.intangible refl (lows measures.Gross) (modules-hold measures.Gross)))
 
     -- ---- operational risk
     premiums-hold : Holds (figure (nodes.Whole (wholes.OpPart operations.Premiums))) (prem_figure (operations_of sheet.numbers))
@@ -99,10 +104,10 @@ module _ (factors : FactorValues) (known : IsInForm factors) (sheet : BalanceShe
     provisions-hold : Holds (figure (nodes.Whole (wholes.OpPart operations.Provisions))) (prov_figure (operations_of sheet.numbers))
     provisions-hold = reaches (nodes.Whole (wholes.OpPart operations.Provisions)) _ (prov-encloses (provisions_of sheet.numbers))
 
-    cap-holds : Holds (figure (nodes.Whole (wholes.OpPart operations.Cap))) (cap_figure (bscr_exact others factors sheet measures.Gross))
+    cap-holds : Holds (figure (nodes.Whole (wholes.OpPart operations.Cap))) (cap_figure (bscr_exact factors sheet measures.Gross))
     cap-holds = reaches (nodes.Whole (wholes.OpPart operations.Cap)) _ (cap-encloses (figure (nodes.Whole (wholes.Bscr measures.Gross))) _ (bscr-holds measures.Gross))
 
-    pub operational-holds : (part : Operational) → Holds (figure (nodes.Whole (wholes.OpPart part))) (operational_exact others factors sheet part)
+    pub operational-holds : (part : Operational) → Holds (figure (nodes.Whole (wholes.OpPart part))) (operational_exact factors sheet part)
     unfolding operational_exact
     operational-holds operations.Premiums = premiums-hold
     operational-holds operations.Provisions = provisions-hold
@@ -113,13 +118,13 @@ module _ (factors : FactorValues) (known : IsInForm factors) (sheet : BalanceShe
         (slice_index_or sheet.numbers.earned 6 0) cap-holds premiums-hold provisions-hold)
 
     -- ---- adjustments, and all
-    absorbing-holds : Holds (figure (nodes.Whole (wholes.Adjust adjustments.TechnicalProvisions))) (provisions_exact others factors sheet)
+    absorbing-holds : Holds (figure (nodes.Whole (wholes.Adjust adjustments.TechnicalProvisions))) (provisions_exact factors sheet)
     unfolding provisions_exact
     absorbing-holds =
         reaches (nodes.Whole (wholes.Adjust adjustments.TechnicalProvisions)) _
         (adj_tp-encloses (figure (nodes.Whole (wholes.Bscr measures.Gross))) (figure (nodes.Whole (wholes.Bscr measures.Net))) _ _ sheet.numbers.fdb (bscr-holds measures.Gross) (bscr-holds measures.Net))
 
-    pub adjustment-holds : (adjustment : Adjustment) → Holds (figure (nodes.Whole (wholes.Adjust adjustment))) (adjustment_exact others factors sheet adjustment)
+    pub adjustment-holds : (adjustment : Adjustment) → Holds (figure (nodes.Whole (wholes.Adjust adjustment))) (adjustment_exact factors sheet adjustment)
     unfolding adjustment_exact
     adjustment-holds adjustments.TechnicalProvisions = absorbing-holds
     adjustment-holds adjustments.DeferredTaxes =
@@ -127,7 +132,7 @@ module _ (factors : FactorValues) (known : IsInForm factors) (sheet : BalanceShe
         (adj_dt-encloses (figure (nodes.Whole (wholes.Bscr measures.Gross))) (figure (nodes.Whole (wholes.Adjust adjustments.TechnicalProvisions))) (figure (nodes.Whole (wholes.OpPart operations.Charge))) _ _ _
         sheet.numbers.tax sheet.numbers.cap (bscr-holds measures.Gross) absorbing-holds (operational-holds operations.Charge))
 
-    pub scr-holds : Holds (figure (nodes.Whole wholes.Scr)) (scr_exact others factors sheet)
+    pub scr-holds : Holds (figure (nodes.Whole wholes.Scr)) (scr_exact factors sheet)
     unfolding scr_exact
     scr-holds =
         reaches (nodes.Whole wholes.Scr) _

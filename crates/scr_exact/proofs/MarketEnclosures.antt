@@ -51,7 +51,7 @@ use Rattle.scr_nodes.specs.OwnOf.{currency_absorbed, risk_key, valued}
 use Rattle.scr_nodes.specs.Rows.{has_class, is_foreign, is_held_in, is_owed_in, group_of, liability_of, step_of}
 use Rattle.scr_nodes.specs.Sources.{currency_picked, gross_of, liability_present, risk_part, security_spread, security_total}
 use Rattle.scr_nodes.proofs.OwnRows.{own-securities, own-liabilities}
-use Rattle.scr_exact.specs.Exact.{measured, absorbed_part}
+use Rattle.scr_exact.specs.Measured.{measured, absorbed_part}
 use Rattle.scr_rules.specs.Holdings.{class_total, assets_in, group_cents, assets_cents}
 use Rattle.scr_exact.specs.MarketExact.{liability_worth, liabilities_in, change_cost, change_outcome, change_outcomes, decisive_change, currency_exact, property_exact, bond_exact, spread_exact, group_square_exact, concentration_exact}
 use Rattle.scr_rules.specs.Alternatives.{alternative_of, currency_alternatives}
@@ -63,7 +63,7 @@ use Rattle.scr_exact.proofs.Covered.{covered, due, is_leaf, leaf-encloses, numbe
 use Rattle.scr_rules.proofs.PaymentsEnclosed.{worth-encloses}
 use Rattle.scr_rules.proofs.MarketSizes.{IsMaskOfTwo, held-sum, property-worked, bond-worked, square_cents, square-worked, exposures, concentration-worked}
 use Rattle.scr_rules.proofs.WorthsIn.{first-are, held_ends, others-are, owed_ends}
-use Rattle.scr_exact.proofs.RowsEnclosed.{rows-sum_enclosed}
+use Rattle.scr_exact.proofs.RowsEnclosed.{where-encloses}
 use Rattle.scr_rules.proofs.Payments.{liability-known, liability-fits}
 
 abbrev Holds : ℕ → Ends → Figure → Type 0
@@ -97,7 +97,7 @@ module _ (factors : FactorValues) (sheet : BalanceSheet) (valid : Valid sheet) (
   owed-encloses : (currency : List ℕ) → Holds one (sum_ends (owed_ends sheet figure currency)) (Frac (liabilities_in currency sheet))
   unfolding liabilities_in
   owed-encloses currency =
-      rows-sum_enclosed figure liability_present one (lit< tt) (is_owed_in currency) (liability_worth sheet) sheet.liabilities
+      where-encloses figure liability_present (is_owed_in currency) one (lit< tt) (liability_worth sheet) sheet.liabilities
       (All-map (λ l. liability_of (liability_name l) sheet.liabilities ≡ Some l) _ sheet.liabilities (λ l own e. present-encloses (liability_name l) l own) (own-liabilities sheet valid))
 
   -- ---- a foreign currency
@@ -159,22 +159,17 @@ module _ (factors : FactorValues) (sheet : BalanceSheet) (valid : Valid sheet) (
       (chosen_unbeaten 1000 list outcomes (chosen outcomes) (both-enclose currency) (chosen-is outcomes (lit< tt))))
 
   -- ---- all foreign currencies
-  each-gross : (curves : List Curve) → AllByRecursion (λ c. is_foreign sheet c ≡ true → Holds 1000 (figure (currency_picked measures.Gross c)) (Frac (decisive_change sheet c.currency).gross)) curves
-  each-gross [] = tt
-  each-gross (c ∷ curves) = (λ e. change-picked-encloses measures.Gross c.currency, each-gross curves)
-
-  each-net : (curves : List Curve) → AllByRecursion (λ c. is_foreign sheet c ≡ true → Holds 1000 (figure (currency_picked measures.Net c)) (Frac (decisive_change sheet c.currency).net)) curves
-  each-net [] = tt
-  each-net (c ∷ curves) = (λ e. change-picked-encloses measures.Net c.currency, each-net curves)
+  each-picked : (measure : Measure) (curves : List Curve)
+      → AllByRecursion (λ c. is_foreign sheet c ≡ true → Holds 1000 (figure (currency_picked measure c)) (Frac (measured measure (decisive_change sheet c.currency)))) curves
+  each-picked measure [] = tt
+  each-picked measure (c ∷ curves) = (λ e. change-picked-encloses measure c.currency, each-picked measure curves)
 
   pub currency-encloses : (measure : Measure) → Holds 1000 (figure (nodes.Whole (wholes.Currency measure))) (Frac (currency_exact measure sheet))
   unfolding currency_exact
-  currency-encloses measures.Gross =
-      reaches 1000 (nodes.Whole (wholes.Currency measures.Gross)) (Frac (currency_exact measures.Gross sheet))
-      (rows-sum_enclosed figure (currency_picked measures.Gross) 1000 (lit< tt) (is_foreign sheet) (λ (c : Curve). (decisive_change sheet c.currency).gross) sheet.curves (each-gross sheet.curves))
-  currency-encloses measures.Net =
-      reaches 1000 (nodes.Whole (wholes.Currency measures.Net)) (Frac (currency_exact measures.Net sheet))
-      (rows-sum_enclosed figure (currency_picked measures.Net) 1000 (lit< tt) (is_foreign sheet) (λ (c : Curve). (decisive_change sheet c.currency).net) sheet.curves (each-net sheet.curves))
+  currency-encloses measure =
+      reaches 1000 (nodes.Whole (wholes.Currency measure)) (Frac (currency_exact measure sheet))
+      (where-encloses figure (currency_picked measure) (is_foreign sheet) 1000 (lit< tt) (λ (c : Curve). measured measure (decisive_change sheet c.currency)) sheet.curves
+      (each-picked measure sheet.curves))
 
   -- ---- property and spread risk
   pub property-enclosed : Holds 1000 (figure (nodes.Whole wholes.Property)) (property_exact sheet)
@@ -198,7 +193,7 @@ module _ (factors : FactorValues) (sheet : BalanceSheet) (valid : Valid sheet) (
   spread-enclosed =
       reaches 1000 (nodes.Whole wholes.Spread) (spread_exact factors sheet)
       (spread-encloses (sum_ends (map figure (map security_spread (filter (has_class classes.Bond) sheet.securities)))) (spread_exact factors sheet)
-      (rows-sum_enclosed figure security_spread 1_000_000_000 (lit< tt) (has_class classes.Bond) (bond_exact factors sheet) sheet.securities
+      (where-encloses figure security_spread (has_class classes.Bond) 1_000_000_000 (lit< tt) (bond_exact factors sheet) sheet.securities
       (All-map (λ p. position_of (position_name p) sheet.securities ≡ Some p) _ sheet.securities (λ p own e. bond-enclosed (position_name p) p own) (own-securities sheet valid))))
 
   -- ---- market risk concentrations

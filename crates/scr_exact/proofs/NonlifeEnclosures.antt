@@ -31,6 +31,7 @@ use Rattle.scr_nodes.specs.OwnOf.{risk_key, catastrophe_cents, lapse_cents, devi
 use Rattle.scr_nodes.specs.Sources.{risk_part, segments_of, natural_perils, man_made_perils, health_perils}
 use Rattle.scr_nonlife.specs.Nonlife.{premium_reserve_figure}
 use Rattle.scr_nonlife.specs.NonlifeEnds.{premium_reserve_ends}
+use Rattle.scr_exact.specs.LifeExact.{slt_exact}
 use Rattle.scr_exact.specs.NonlifeExact.{catastrophe_charge, lapse_charge, segment_exact, segments_exact, segment_table, premium_reserve_exact, natural_exact, man_made_exact, catastrophe_exact, health_charges, health_catastrophe_exact, nonlife_exact, nslt_exact, health_exact}
 use Rattle.scr_exact.specs.Covering.{AreCovering, AreNotNegative, is_part_of_modules}
 use Rattle.scr_exact.proofs.Covered.{covered, due}
@@ -162,11 +163,11 @@ module _ (factors : FactorValues) (known : IsInForm factors) (sheet : BalanceShe
   health_part-low measures.Net = least (nodes.Whole (wholes.NetPart risks.HealthCatastrophe)) refl
 
   -- where what is similar to life encloses its own figure
-  pub health-holds : (slt : Figure) (measure : Measure) → Holds (figure (nodes.Whole (wholes.Slt measure))) slt
-      → Holds (figure (nodes.Whole (wholes.Health measure))) (health_exact slt factors sheet measure)
+  pub health-holds : (measure : Measure) → Holds (figure (nodes.Whole (wholes.Slt measure))) (slt_exact sheet measure)
+      → Holds (figure (nodes.Whole (wholes.Health measure))) (health_exact factors sheet measure)
   unfolding health_exact
-  health-holds slt measure h =
+  health-holds measure h =
       reaches (nodes.Whole (wholes.Health measure)) _
-      (health-encloses (figure (nodes.Whole (wholes.Slt measure))) (figure (nodes.Whole (wholes.Nslt measure))) (figure (risk_part risks.HealthCatastrophe measure)) slt (nslt_exact factors sheet)
+      (health-encloses (figure (nodes.Whole (wholes.Slt measure))) (figure (nodes.Whole (wholes.Nslt measure))) (figure (risk_part risks.HealthCatastrophe measure)) (slt_exact sheet measure) (nslt_exact factors sheet)
       (health_catastrophe_exact sheet measure) (least (nodes.Whole (wholes.Slt measure)) refl) (least (nodes.Whole (wholes.Nslt measure)) refl)
       (health_part-low measure) h (nslt-holds measure) (health_catastrophe-holds measure))

@@ -1,45 +1,43 @@
--- What the sums of the figures of rows that pass a test enclose.
+-- What the sums of the figures of rows that pass a test enclose: a sum over the rows that pass another, where what is left out is
+-- nothing, and over the same.
 use Rattle.std.proofs.Common.{◌≡◌, ℕ, ◌<◌, Bool, true, false, List, [], ◌∷◌, map, filter, if◌then◌else◌, pos, refl, subst}
 use Rattle.std.specs.List.{AllByRecursion}
 use Rattle.scr_num.specs.Fraction.{Fraction, zero_fraction, plus}
-use Rattle.scr_num.specs.Enclosure.{Encloses}
 use Rattle.scr_num.specs.Figure.{Frac}
 use Rattle.scr_num.specs.Rounding.{Ends, exact_ends, add_ends}
-use Rattle.scr_num.specs.Sums.{sum_ends, sum_fraction, EncloseEach}
+use Rattle.scr_num.specs.Sums.{sum_ends}
 use Rattle.scr_num.proofs.AddedEnds.{zero-add_ends}
 use Rattle.scr_num.proofs.Enclosing.{Encloses-add, Encloses-plus}
-use Rattle.scr_num.proofs.SumLemmas.{Encloses-zero, Encloses-sum_fraction}
-use Rattle.scr_names.specs.Names.{same_name}
+use Rattle.scr_num.proofs.SumLemmas.{Encloses-zero}
 use Rattle.scr_nodes.specs.declared.node.Node.{Node}
 use Rattle.scr_rules.proofs.RowAmounts.{Enclosed}
-use Rattle.scr_exact.specs.InterestExact.{sum_in}
-use Rattle.scr_exact.specs.LifeExact.{sum_where}
+use Rattle.scr_exact.specs.InterestExact.{sum_where}
 
 module _ (unit : ℕ) (positive : 0 < unit) where
   pub sum-encloses : (a b : Ends) (p q : Fraction) → Enclosed unit a p → Enclosed unit b q → Enclosed unit (add_ends a b) (plus p q)
   sum-encloses a b p q h k = Encloses-plus unit _ _ p q (Encloses-add unit a.low a.high b.low b.high (Frac p) (Frac q) h k)
 
-  module _ {Row : Type 0} (figure : Node → Ends) (node_of : Row → Node) (test : Row → Bool) (currency_of : Row → List ℕ) (part : Row → Fraction) (currency : List ℕ) where
+  module _ {Row : Type 0} (figure : Node → Ends) (node_of : Row → Node) (test counts : Row → Bool) (part : Row → Fraction) where
     -- what a row adds to the sum
     abbrev pub added : Row → Fraction
-    added row = if same_name currency (currency_of row) then part row else zero_fraction
+    added row = if counts row then part row else zero_fraction
 
     -- the figure of a row that passes the test encloses it, and of another there is nothing
     pub record IsRowEnclosed (row : Row) : Type 0 where
       pub passes : test row ≡ true → Enclosed unit (figure (node_of row)) (added row)
       pub fails : test row ≡ false → Enclosed unit (exact_ends (pos 0)) (added row)
 
-    pub rows-enclose : (rows : List Row) → AllByRecursion IsRowEnclosed rows → Enclosed unit (sum_ends (map figure (map node_of (filter test rows)))) (sum_in currency_of part currency rows)
+    pub rows-enclose : (rows : List Row) → AllByRecursion IsRowEnclosed rows → Enclosed unit (sum_ends (map figure (map node_of (filter test rows)))) (sum_where counts part rows)
     rows-enclose [] each = Encloses-zero unit positive
     rows-enclose (row ∷ rows) each = by (test row) each.0.passes each.0.fails (rows-enclose rows each.1)
       where
         by : (b : Bool) → (b ≡ true → Enclosed unit (figure (node_of row)) (added row)) → (b ≡ false → Enclosed unit (exact_ends (pos 0)) (added row))
-            → Enclosed unit (sum_ends (map figure (map node_of (filter test rows)))) (sum_in currency_of part currency rows)
-            → Enclosed unit (sum_ends (map figure (map node_of (if b then row ∷ filter test rows else filter test rows)))) (plus (added row) (sum_in currency_of part currency rows))
-        by true h k rest = sum-encloses (figure (node_of row)) (sum_ends (map figure (map node_of (filter test rows)))) (added row) (sum_in currency_of part currency rows) (h refl) rest
+            → Enclosed unit (sum_ends (map figure (map node_of (filter test rows)))) (sum_where counts part rows)
+            → Enclosed unit (sum_ends (map figure (map node_of (if b then row ∷ filter test rows else filter test rows)))) (plus (added row) (sum_where counts part rows))
+        by true h k rest = sum-encloses (figure (node_of row)) (sum_ends (map figure (map node_of (filter test rows)))) (added row) (sum_where counts part rows) (h refl) rest
         by false h k rest =
-            subst (λ (e : Ends). Enclosed unit e (plus (added row) (sum_in currency_of part currency rows))) (zero-add_ends (sum_ends (map figure (map node_of (filter test rows)))))
-            (sum-encloses (exact_ends (pos 0)) (sum_ends (map figure (map node_of (filter test rows)))) (added row) (sum_in currency_of part currency rows) (k refl) rest)
+            subst (λ (e : Ends). Enclosed unit e (plus (added row) (sum_where counts part rows))) (zero-add_ends (sum_ends (map figure (map node_of (filter test rows)))))
+            (sum-encloses (exact_ends (pos 0)) (sum_ends (map figure (map node_of (filter test rows)))) (added row) (sum_where counts part rows) (k refl) rest)
 
 -- of the rows that pass, one part each
 module _ {Row : Type 0} (figure : Node → Ends) (node_of : Row → Node) (test : Row → Bool) where
@@ -54,23 +52,3 @@ module _ {Row : Type 0} (figure : Node → Ends) (node_of : Row → Node) (test 
       by false h later =
           subst (λ (e : Ends). Enclosed unit e (plus zero_fraction (sum_where test part rows))) (zero-add_ends (sum_ends (map figure (map node_of (filter test rows)))))
           (sum-encloses unit positive (exact_ends (pos 0)) (sum_ends (map figure (map node_of (filter test rows)))) zero_fraction (sum_where test part rows) (Encloses-zero unit positive) later)
-
--- the figures of all that pass, and their sum
-module _ {Row : Type 0} (figure : Node → Ends) (node_of : Row → Node) where
-  pub rows-each : (unit : ℕ) (test : Row → Bool) (part : Row → Fraction) (rows : List Row)
-      → AllByRecursion (λ row. test row ≡ true → Encloses unit (figure (node_of row)).low (figure (node_of row)).high (Frac (part row))) rows
-      → EncloseEach unit (map figure (map node_of (filter test rows))) (map Frac (map part (filter test rows)))
-  rows-each unit test part [] each = tt
-  rows-each unit test part (row ∷ rows) each = by (test row) each.0 (rows-each unit test part rows each.1)
-    where
-      by : (b : Bool) → (b ≡ true → Encloses unit (figure (node_of row)).low (figure (node_of row)).high (Frac (part row)))
-          → EncloseEach unit (map figure (map node_of (filter test rows))) (map Frac (map part (filter test rows)))
-          → EncloseEach unit (map figure (map node_of (if b then row ∷ filter test rows else filter test rows))) (map Frac (map part (if b then row ∷ filter test rows else filter test rows)))
-      by true h later = (h refl, later)
-      by false h later = later
-
-  pub rows-sum_enclosed : (unit : ℕ) → 0 < unit → (test : Row → Bool) (part : Row → Fraction) (rows : List Row)
-      → AllByRecursion (λ row. test row ≡ true → Encloses unit (figure (node_of row)).low (figure (node_of row)).high (Frac (part row))) rows
-      → let e = sum_ends (map figure (map node_of (filter test rows))) in Encloses unit e.low e.high (Frac (sum_fraction (map part (filter test rows))))
-  rows-sum_enclosed unit positive test part rows each =
-      Encloses-sum_fraction unit positive (map figure (map node_of (filter test rows))) (map part (filter test rows)) (rows-each unit test part rows each)

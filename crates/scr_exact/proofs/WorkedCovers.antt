@@ -4,6 +4,7 @@ use Rattle.std.specs.Option.{option_map_or}
 use Rattle.std.proofs.lemmas.Bool.{true≢false}
 use Rattle.std.proofs.lemmas.Int.{ints}
 use Rattle.scr_num.specs.Rounding.{Ends}
+use Rattle.scr_agg.specs.Unbeaten.{Covers}
 use Rattle.scr_factors.specs.Values.{FactorValues, IsInForm}
 use Rattle.scr_sheet.specs.BalanceSheet.{position_of}
 use Rattle.scr_sheet.specs.Validity.{Valid}
@@ -34,7 +35,7 @@ use Rattle.scr_rules.proofs.ModulesTogether.{others-within}
 use Rattle.scr_rules.proofs.NonlifeSizes as nonlife
 use Rattle.scr_rules.proofs.Payments.{liability-fits, liability-known, security-fits, security-known}
 use Rattle.scr_rules.proofs.Sizes as sizes
-use Rattle.scr_exact.specs.Covering.{AreCovering, AreNotNegative, Covers, is_part_of_market, is_part_of_modules}
+use Rattle.scr_exact.specs.Covering.{AreCovering, AreNotNegative, is_part_of_market, is_part_of_modules}
 
 -- what a rule gives covers it
 covers-own : (e due : Ends) → e ≡ due → Covers e due

@@ -3,6 +3,7 @@
 -- and whatever they are. The worked figures are such.
 use Rattle.std.specs.Prelude.{◌≡◌, ℕ, pos, ◌≤ℤ◌, Bool, true, false, List, Some, map}
 use Rattle.scr_num.specs.Rounding.{Ends}
+use Rattle.scr_agg.specs.Unbeaten.{Covers}
 use Rattle.scr_factors.specs.Values.{FactorValues}
 use Rattle.scr_sheet.specs.BalanceSheet.{position_of}
 use Rattle.scr_sheet.specs.declared.keys.Projection.{Projection}
@@ -47,10 +48,6 @@ is_choice (nodes.Whole wholes.DefaultBand) = true
 is_choice node = false
 
 -- ---- covering
-
-pub record Covers (e due : Ends) : Type 0 where
-  pub low : e.low ≤ℤ due.low
-  pub high : due.high ≤ℤ e.high
 
 pub record AreCovering (factors : FactorValues) (sheet : BalanceSheet) (figure : Node → Ends) : Type 0 where
   -- at which each figure's own payments are worth what they are

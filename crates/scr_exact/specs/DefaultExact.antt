@@ -14,7 +14,7 @@ use Rattle.scr_sheet.specs.declared.rows.Rein.{Rein}
 use Rattle.scr_sheet.specs.declared.sheet.BalanceSheet.{BalanceSheet}
 use Rattle.scr_nodes.specs.Rows.{is_bank_of, is_reinsurer_of, is_of_default_class}
 use Rattle.scr_rules.specs.DefaultGrains.{overdue_cents, other_due_cents}
-use Rattle.scr_exact.specs.LifeExact.{sum_where}
+use Rattle.scr_exact.specs.InterestExact.{sum_where}
 
 -- ---- losses given default (Article 192)
 

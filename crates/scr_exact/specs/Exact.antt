@@ -1,30 +1,21 @@
 -- The exact figure of each node, in the words of the Regulation (Delegated Regulation (EU) 2015/35, Articles 84, 87, 114 to
 -- 207, and Article 103 of Directive 2009/138/EC). Nothing is rounded, and no step of the reckoning is named. In the files
 -- named `Exact` each definition is the exact figure of a balance sheet: a fraction, or a formula where there are roots.
-pub use Rattle.scr_exact.specs.Measured.{measured}
-use Rattle.std.specs.Prelude.{ℕ, pos, Option, Some, None, List, [], ◌∷◌}
+use Rattle.std.specs.Prelude.{ℕ, pos, Option, Some, None, [], ◌∷◌}
 use Rattle.std.specs.Option.{option_map_or}
 use Rattle.scr_num.specs.Fraction.{whole, zero_fraction}
 use Rattle.scr_num.specs.Figure.{Figure}
-use Rattle.scr_num.specs.Figure.Figure.{Frac, Sum}
-use Rattle.scr_num.specs.Sums.{parts_of}
+use Rattle.scr_num.specs.Figure.Figure.{Frac}
 use Rattle.scr_agg.specs.Absorbed.{net_figure}
-use Rattle.scr_agg.specs.Choice.{chosen}
 use Rattle.scr_rate.specs.Interest.{counted}
-use Rattle.scr_market.specs.Equity.{type1_figure, type2_figure, infra_figure, infracorp_figure, equity_root_figure}
-use Rattle.scr_market.specs.Market.{market_figure}
 use Rattle.scr_factors.specs.Values.{FactorValues}
 use Rattle.scr_sheet.specs.declared.sheet.BalanceSheet.{BalanceSheet}
 use Rattle.scr_sheet.specs.Absorptions.{absorbed}
 use Rattle.scr_sheet.specs.BalanceSheet.{position_of}
 use Rattle.scr_sheet.specs.Totals.{total_of}
-use Rattle.scr_sheet.specs.declared.rows.Class.TheVariants as classes
 use Rattle.scr_nodes.specs.declared.node.Alternatives.TheVariants as alternatives
 use Rattle.scr_nodes.specs.declared.node.Biometric.TheVariants as biometrics
 use Rattle.scr_nodes.specs.declared.node.Direction.TheVariants as directions
-use Rattle.scr_nodes.specs.declared.node.Equities.{Equities}
-use Rattle.scr_nodes.specs.declared.node.Equities.TheVariants as equities
-use Rattle.scr_nodes.specs.declared.node.Measure.{Measure}
 use Rattle.scr_nodes.specs.declared.node.Measure.TheVariants as measures
 use Rattle.scr_nodes.specs.declared.node.Node.{Node}
 use Rattle.scr_nodes.specs.declared.node.Node.TheVariants as nodes
@@ -34,7 +25,6 @@ use Rattle.scr_nodes.specs.declared.node.OfLiability.TheVariants as of_liabiliti
 use Rattle.scr_nodes.specs.declared.node.OfCurrency.TheVariants as of_currencies
 use Rattle.scr_nodes.specs.declared.node.OfGroup.TheVariants as of_groups
 use Rattle.scr_nodes.specs.declared.node.Whole.TheVariants as wholes
-use Rattle.scr_nodes.specs.declared.node.Risk.{Risk}
 use Rattle.scr_nodes.specs.declared.node.Risk.TheVariants as risks
 use Rattle.scr_nodes.specs.OwnOf.{risk_key}
 use Rattle.scr_nodes.specs.Rows.{group_of, liability_of}
@@ -43,67 +33,13 @@ use Rattle.scr_rules.specs.Alternatives.{Outcomes}
 use Rattle.scr_rules.specs.Holdings.{class_total, group_cents, assets_cents}
 use Rattle.scr_exact.specs.LifeExact.{stress_loss, stress_outcome, lapse_outcomes, lapse_outcome, life_exact, slt_exact}
 use Rattle.scr_exact.specs.DefaultExact.{group_loss, class_loss, class_square, default_variance, type1_exact, due_exact, default_exact}
-use Rattle.scr_exact.specs.LossExact.{OtherModules, bscr_exact, diversification_exact, operational_exact, adjustment_exact, scr_exact}
+use Rattle.scr_exact.specs.Measured.{measured}
+use Rattle.scr_exact.specs.LossExact.{bscr_exact, diversification_exact, operational_exact, adjustment_exact, scr_exact}
 use Rattle.scr_exact.specs.NonlifeExact.{catastrophe_charge, lapse_charge, segment_exact, premium_reserve_exact, natural_exact}
 use Rattle.scr_exact.specs.NonlifeExact.{man_made_exact, catastrophe_exact, health_catastrophe_exact, nonlife_exact, nslt_exact, health_exact}
-use Rattle.scr_exact.specs.InterestExact.{security_unit_loss, security_loss, liability_loss, currency_loss, scenario_of, decisive_outcome}
-use Rattle.scr_exact.specs.MarketExact.{liability_worth, change_outcome, change_outcomes, decisive_change, currency_exact, property_exact, bond_exact, spread_exact, group_square_exact, concentration_exact}
-
--- one kind of equities, by the symmetric adjustment as it stands (Articles 164a, 164b, 169, 171 and 172)
-abbrev pub equities_exact : BalanceSheet → Equities → Figure
-equities_exact sheet equities.Type1 =
-    type1_figure (class_total classes.Type1Equity sheet) (class_total classes.Type1Strategic sheet) sheet.numbers.sym
-equities_exact sheet equities.Type2 =
-    type2_figure (class_total classes.Type2Equity sheet) (class_total classes.Type2Strategic sheet) sheet.numbers.sym
-equities_exact sheet equities.Infrastructure = infra_figure (class_total classes.Infrastructure sheet) sheet.numbers.sym
-equities_exact sheet equities.InfrastructureCorporate =
-    infracorp_figure (class_total classes.InfrastructureCorporate sheet) sheet.numbers.sym
-
--- all of them: the root over type 1 equities and the sum of all others (Article 168(4))
-unfoldable pub equity_exact : BalanceSheet → Figure
-equity_exact sheet =
-    equity_root_figure (equities_exact sheet equities.Type1)
-    (Sum (Sum (equities_exact sheet equities.Type2) (equities_exact sheet equities.Infrastructure))
-    (equities_exact sheet equities.InfrastructureCorporate))
-
--- ---- market risk
-
--- a requirement before absorption, or what is left of it after
-abbrev pub part_exact : Measure → Figure → ℕ → Figure
-part_exact measures.Gross figure absorb = figure
-part_exact measures.Net figure absorb = net_figure figure absorb
-
-abbrev pub absorbed_part : BalanceSheet → Measure → Risk → Figure → Figure
-absorbed_part sheet measure risk figure = part_exact measure figure (absorbed (risk_key risk) sheet.numbers)
-
--- the place of the interest rate scenario that decides: 0 of the rise, 1 of the fall
-abbrev pub decisive_place : BalanceSheet → ℕ
-decisive_place sheet = chosen (scenario_of sheet directions.Up ∷ scenario_of sheet directions.Down ∷ [])
-
--- interest rate, equity, property, spread, concentration and currency risk, before or after absorption
-abbrev pub market_parts_exact : FactorValues → BalanceSheet → Measure → List Figure
-market_parts_exact factors sheet measure =
-    Frac (measured measure (decisive_outcome sheet)) ∷ absorbed_part sheet measure risks.Equity (equity_exact sheet)
-    ∷ absorbed_part sheet measure risks.Property (property_exact sheet)
-    ∷ absorbed_part sheet measure risks.Spread (spread_exact factors sheet)
-    ∷ absorbed_part sheet measure risks.Concentration (concentration_exact sheet)
-    ∷ Frac (currency_exact measure sheet) ∷ []
-
--- their root, where the scenario that decides sets the correlation of interest rate risk (Article 164)
-unfoldable pub market_exact : FactorValues → BalanceSheet → Measure → Figure
-market_exact factors sheet measure =
-    market_figure (decisive_place sheet) (parts_of (market_parts_exact factors sheet measure))
-
--- ---- all modules
-
--- what the Basic Solvency Capital Requirement and the health module take of the modules that stand in files of their own
-abbrev pub other_modules : FactorValues → BalanceSheet → OtherModules
-other_modules factors sheet = record {
-  market = market_exact factors sheet;
-  default_risk = λ (measure : Measure). absorbed_part sheet measure risks.Default (default_exact sheet);
-  life = life_exact sheet;
-  slt = slt_exact sheet;
-}
+use Rattle.scr_exact.specs.InterestExact.{security_unit_loss, security_loss, liability_cost, currency_loss, scenario_of, decisive_outcome}
+use Rattle.scr_exact.specs.MarketExact.{equities_exact, equity_exact, liability_worth, change_outcome, change_outcomes, decisive_change, currency_exact, property_exact}
+use Rattle.scr_exact.specs.MarketExact.{bond_exact, spread_exact, group_square_exact, concentration_exact, market_exact}
 
 -- ---- choices
 
@@ -128,7 +64,7 @@ exact factors sheet (nodes.Security name (of_securities.UnitLoss direction)) =
 exact factors sheet (nodes.Security name (of_securities.Rate direction)) =
     Some (Frac (option_map_or (security_loss sheet direction) (position_of name sheet.securities) zero_fraction))
 exact factors sheet (nodes.Liability name (of_liabilities.Rate direction)) =
-    Some (Frac (option_map_or (liability_loss sheet direction) (liability_of name sheet.liabilities) zero_fraction))
+    Some (Frac (option_map_or (liability_cost sheet direction) (liability_of name sheet.liabilities) zero_fraction))
 exact factors sheet (nodes.Currency currency (of_currencies.Loss direction)) = Some (Frac (counted (currency_loss sheet direction currency)))
 exact factors sheet (nodes.Whole (wholes.InterestScenario direction measure)) = Some (Frac (measured measure (scenario_of sheet direction)))
 exact factors sheet (nodes.Whole (wholes.Choice which)) = None
@@ -189,15 +125,14 @@ exact factors sheet (nodes.Whole wholes.NonlifeCatastrophe) = Some (catastrophe_
 exact factors sheet (nodes.Whole wholes.HealthCatastrophe) = Some (health_catastrophe_exact sheet measures.Gross)
 exact factors sheet (nodes.Whole (wholes.NetPart risks.HealthCatastrophe)) = Some (health_catastrophe_exact sheet measures.Net)
 exact factors sheet (nodes.Whole (wholes.Nslt measure)) = Some (nslt_exact factors sheet)
-exact factors sheet (nodes.Whole (wholes.Health measure)) =
-    Some (health_exact ((other_modules factors sheet).slt measure) factors sheet measure)
+exact factors sheet (nodes.Whole (wholes.Health measure)) = Some (health_exact factors sheet measure)
 exact factors sheet (nodes.Whole (wholes.Nonlife measure)) = Some (nonlife_exact factors sheet)
 exact factors sheet (nodes.Whole wholes.Intangible) = Some (intangible_figure sheet.numbers.intangible)
-exact factors sheet (nodes.Whole (wholes.Bscr measure)) = Some (bscr_exact (other_modules factors sheet) factors sheet measure)
-exact factors sheet (nodes.Whole (wholes.OpPart part)) = Some (operational_exact (other_modules factors sheet) factors sheet part)
-exact factors sheet (nodes.Whole (wholes.Adjust adjustment)) = Some (adjustment_exact (other_modules factors sheet) factors sheet adjustment)
-exact factors sheet (nodes.Whole wholes.Scr) = Some (scr_exact (other_modules factors sheet) factors sheet)
-exact factors sheet (nodes.Whole wholes.Diversification) = Some (diversification_exact (other_modules factors sheet) factors sheet)
+exact factors sheet (nodes.Whole (wholes.Bscr measure)) = Some (bscr_exact factors sheet measure)
+exact factors sheet (nodes.Whole (wholes.OpPart part)) = Some (operational_exact factors sheet part)
+exact factors sheet (nodes.Whole (wholes.Adjust adjustment)) = Some (adjustment_exact factors sheet adjustment)
+exact factors sheet (nodes.Whole wholes.Scr) = Some (scr_exact factors sheet)
+exact factors sheet (nodes.Whole wholes.Diversification) = Some (diversification_exact factors sheet)
 
 -- how many of its units make one of the figure's: 1 where it is in whole cents, 1000 where it is in grains
 abbrev pub unit_of : Node → ℕ

@@ -1,15 +1,15 @@
 -- The exact figures of interest rate risk for a balance sheet, in cents (Articles 165 to 167 and 206(2) of Delegated
 -- Regulation (EU) 2015/35). Nothing is rounded, and each payment is discounted by itself.
-use Rattle.std.specs.Prelude.{ℕ, ℤ, pos, List, [], ◌∷◌, map, if◌then◌else◌}
+use Rattle.std.specs.Prelude.{ℕ, ℤ, pos, Bool, List, [], ◌∷◌, map, if◌then◌else◌}
 use Rattle.std.proofs.Common.{lit<}
 use Rattle.scr_num.specs.Fraction.{Fraction, over, zero_fraction, plus, minus, product}
 use Rattle.scr_dates.specs.declared.day.Day.{Day}
+use Rattle.scr_curve.specs.Discount.{discount_exact}
 use Rattle.scr_curve.specs.Rate.{rate}
 use Rattle.scr_curve.specs.declared.tilt.Tilt.TheVariants as tilts
-use Rattle.scr_flow.specs.Payments.{payments_loss_exact}
-use Rattle.scr_agg.specs.Choice.{Outcome}
+use Rattle.scr_flow.specs.Payments.{payments_exact, payments_loss_exact}
+use Rattle.scr_agg.specs.Choice.{Outcome, chosen}
 use Rattle.scr_rate.specs.Interest.{scenario_outcome, interest_outcome}
-use Rattle.scr_names.specs.Names.{same_name}
 use Rattle.scr_sheet.specs.declared.sheet.BalanceSheet.{BalanceSheet}
 use Rattle.scr_sheet.specs.Absorptions.{absorbed}
 use Rattle.scr_sheet.specs.declared.keys.AbsorbKey.TheVariants as absorb
@@ -18,9 +18,21 @@ use Rattle.scr_sheet.specs.declared.rows.Liability.{Liability}
 use Rattle.scr_sheet.specs.declared.rows.Curve.{Curve}
 use Rattle.scr_nodes.specs.declared.node.Direction.{Direction}
 use Rattle.scr_nodes.specs.declared.node.Direction.TheVariants as directions
-use Rattle.scr_nodes.specs.Rows.{rates_of}
+use Rattle.scr_nodes.specs.Rows.{is_held_in, is_owed_in, rates_of}
 use Rattle.scr_rules.specs.Discounts.{tilt_of}
 use Rattle.scr_rules.specs.Holdings.{security_cents}
+
+-- a sum over the rows that pass a test
+abbrev pub sum_where : {Row : Type 0} → (Row → Bool) → (Row → Fraction) → List Row → Fraction
+sum_where test part [] = zero_fraction
+sum_where test part (row ∷ rows) = plus (if test row then part row else zero_fraction) (sum_where test part rows)
+
+-- the present value of payments in a currency, each by the discount of its own maturity (Directive 2009/138/EC, Article
+-- 77(2))
+abbrev pub present_value : BalanceSheet → (currency : List ℕ) → (payments : List (Day × ℤ)) → Fraction
+present_value sheet currency payments =
+    let rates = rates_of currency sheet in
+    payments_exact (λ years. discount_exact (rate rates tilts.Base years) years) sheet.numbers.asof.number payments
 
 -- what payments in a currency lose of their present value where its rates change
 abbrev pub payments_loss : BalanceSheet → Direction → List ℕ → List (Day × ℤ) → Fraction
@@ -37,20 +49,14 @@ unfoldable pub security_loss : BalanceSheet → Direction → Position → Fract
 security_loss sheet direction p = product (over (pos (security_cents sheet p)) 1_000_000 (lit< tt)) (security_unit_loss sheet direction p)
 
 -- what is owed to policyholders costs more where its present value rises
-unfoldable pub liability_loss : BalanceSheet → Direction → Liability → Fraction
-liability_loss sheet direction liability = minus zero_fraction (payments_loss sheet direction liability.currency liability.flows.base)
-
--- a sum over the rows that are in the currency
-abbrev pub sum_in : {Row : Type 0} → (Row → List ℕ) → (Row → Fraction) → List ℕ → List Row → Fraction
-sum_in currency_of part currency [] = zero_fraction
-sum_in currency_of part currency (row ∷ rows) =
-    plus (if same_name currency (currency_of row) then part row else zero_fraction) (sum_in currency_of part currency rows)
+unfoldable pub liability_cost : BalanceSheet → Direction → Liability → Fraction
+liability_cost sheet direction liability = minus zero_fraction (payments_loss sheet direction liability.currency liability.flows.base)
 
 -- what the change costs in one currency; a gain is below 0
 unfoldable pub currency_loss : BalanceSheet → Direction → List ℕ → Fraction
 currency_loss sheet direction currency =
-    plus (sum_in (λ p. p.security.currency) (security_loss sheet direction) currency sheet.securities)
-    (sum_in (λ liability. liability.currency) (liability_loss sheet direction) currency sheet.liabilities)
+    plus (sum_where (is_held_in currency) (security_loss sheet direction) sheet.securities)
+    (sum_where (is_owed_in currency) (liability_cost sheet direction) sheet.liabilities)
 
 -- in each currency, in the order of the curves
 abbrev pub losses : BalanceSheet → Direction → List Fraction
@@ -71,3 +77,7 @@ scenario_of sheet directions.Down = scenario_outcome (losses sheet directions.Do
 unfoldable pub decisive_outcome : BalanceSheet → Outcome
 decisive_outcome sheet =
     interest_outcome (losses sheet directions.Up) (losses sheet directions.Down) (up_absorption sheet) (down_absorption sheet)
+
+-- its place: 0 of the rise, 1 of the fall
+abbrev pub decisive_place : BalanceSheet → ℕ
+decisive_place sheet = chosen (scenario_of sheet directions.Up ∷ scenario_of sheet directions.Down ∷ [])

@@ -1,15 +1,10 @@
 -- The exact figures of life underwriting risk and of health underwriting risk similar to life, in cents: Articles 136 to
 -- 143, 151 to 159 and 206(2) of Delegated Regulation (EU) 2015/35. Nothing is rounded.
-use Rattle.std.specs.Prelude.{ℕ, ℤ, List, [], ◌∷◌, Bool, if◌then◌else◌}
-use Rattle.scr_num.specs.Fraction.{Fraction, zero_fraction, plus, minus, greater}
+use Rattle.std.specs.Prelude.{List, [], ◌∷◌}
+use Rattle.scr_num.specs.Fraction.{Fraction, zero_fraction, minus, greater}
 use Rattle.scr_num.specs.Figure.{Figure, Figures}
 use Rattle.scr_num.specs.Figure.Figure.{Frac}
 use Rattle.scr_num.specs.Figure.Figures.{more, none}
-use Rattle.scr_dates.specs.declared.day.Day.{Day}
-use Rattle.scr_curve.specs.Discount.{discount_exact}
-use Rattle.scr_curve.specs.Rate.{rate}
-use Rattle.scr_curve.specs.declared.tilt.Tilt.TheVariants as tilts
-use Rattle.scr_flow.specs.Payments.{payments_exact}
 use Rattle.scr_agg.specs.Absorbed.{net_exact}
 use Rattle.scr_agg.specs.Choice.{Outcome, outcome_at, chosen}
 use Rattle.scr_bio.specs.Biometric.{life_figure, slt_figure}
@@ -22,20 +17,9 @@ use Rattle.scr_nodes.specs.declared.node.Biometric.{Biometric}
 use Rattle.scr_nodes.specs.declared.node.Biometric.TheVariants as biometrics
 use Rattle.scr_nodes.specs.declared.node.Measure.{Measure}
 use Rattle.scr_nodes.specs.OwnOf.{stress_absorbed}
-use Rattle.scr_nodes.specs.Rows.{rates_of, is_stressed}
+use Rattle.scr_nodes.specs.Rows.{is_stressed}
+use Rattle.scr_exact.specs.InterestExact.{sum_where, present_value}
 use Rattle.scr_exact.specs.Measured.{measured}
-
--- a sum over the rows that pass a test
-abbrev pub sum_where : {Row : Type 0} → (Row → Bool) → (Row → Fraction) → List Row → Fraction
-sum_where test part [] = zero_fraction
-sum_where test part (row ∷ rows) = plus (if test row then part row else zero_fraction) (sum_where test part rows)
-
--- the present value of payments in a currency, each by the discount of its own maturity (Directive 2009/138/EC, Article
--- 77(2))
-abbrev pub present_value : BalanceSheet → (currency : List ℕ) → (payments : List (Day × ℤ)) → Fraction
-present_value sheet currency payments =
-    let rates = rates_of currency sheet in
-    payments_exact (λ years. discount_exact (rate rates tilts.Base years) years) sheet.numbers.asof.number payments
 
 -- what a liability is worth more under a stress than by the best estimate; a gain counts as nil (this project's own)
 unfoldable pub stress_loss : BalanceSheet → Projection → Liability → Fraction

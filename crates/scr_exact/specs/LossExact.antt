@@ -16,14 +16,12 @@ use Rattle.scr_nodes.specs.declared.node.Measure.{Measure}
 use Rattle.scr_nodes.specs.declared.node.Measure.TheVariants as measures
 use Rattle.scr_nodes.specs.declared.node.Operational.{Operational}
 use Rattle.scr_nodes.specs.declared.node.Operational.TheVariants as operations
+use Rattle.scr_nodes.specs.declared.node.Risk.TheVariants as risks
+use Rattle.scr_exact.specs.DefaultExact.{default_exact}
+use Rattle.scr_exact.specs.LifeExact.{life_exact}
+use Rattle.scr_exact.specs.MarketExact.{market_exact}
+use Rattle.scr_exact.specs.Measured.{absorbed_part}
 use Rattle.scr_exact.specs.NonlifeExact.{nonlife_exact, health_exact}
-
--- the figures of market, default and life risk, and of health that is similar to life, before and after absorption
-pub record OtherModules : Type 0 where
-  pub market : Measure → Figure
-  pub default_risk : Measure → Figure
-  pub life : Measure → Figure
-  pub slt : Measure → Figure
 
 -- what operational risk is reckoned from
 abbrev pub operations_of : Numbers → OpInput
@@ -40,12 +38,12 @@ operations_of numbers = record {
   expul = slice_index_or numbers.earned 6 0;
 }
 
-module _ (others : OtherModules) (factors : FactorValues) (sheet : BalanceSheet) where
+module _ (factors : FactorValues) (sheet : BalanceSheet) where
   -- the modules of the Basic Solvency Capital Requirement (Annex IV of Directive 2009/138/EC)
   abbrev pub modules_exact : Measure → List Figure
   modules_exact measure =
-      others.market measure ∷ others.default_risk measure ∷ others.life measure
-      ∷ health_exact (others.slt measure) factors sheet measure ∷ nonlife_exact factors sheet ∷ []
+      market_exact factors sheet measure ∷ absorbed_part sheet measure risks.Default (default_exact sheet)
+      ∷ life_exact sheet measure ∷ health_exact factors sheet measure ∷ nonlife_exact factors sheet ∷ []
 
   -- the Basic Solvency Capital Requirement (Articles 87 and 203)
   unfoldable pub bscr_exact : Measure → Figure

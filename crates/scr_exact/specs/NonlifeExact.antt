@@ -22,6 +22,7 @@ use Rattle.scr_sheet.specs.declared.sheet.BalanceSheet.{BalanceSheet}
 use Rattle.scr_nodes.specs.declared.node.Measure.{Measure}
 use Rattle.scr_nodes.specs.declared.node.Measure.TheVariants as measures
 use Rattle.scr_nodes.specs.OwnOf.{catastrophe_cents, lapse_cents, deviations_of, volumes_in_regions}
+use Rattle.scr_exact.specs.LifeExact.{slt_exact}
 
 -- ---- charges that are handed in
 
@@ -109,7 +110,7 @@ unfoldable pub nslt_exact : FactorValues → BalanceSheet → Figure
 nslt_exact factors sheet =
     nslt_figure (premium_reserve_exact factors sheet sets.Nslt) (lapse_cents sets.Nslt sheet.numbers)
 
--- health, of which `slt` is the part that is similar to life, before or after absorption (Article 144)
-unfoldable pub health_exact : (slt : Figure) → FactorValues → BalanceSheet → Measure → Figure
-health_exact slt factors sheet measure =
-    health_figure slt (nslt_exact factors sheet) (health_catastrophe_exact sheet measure)
+-- health, before or after absorption (Article 144)
+unfoldable pub health_exact : FactorValues → BalanceSheet → Measure → Figure
+health_exact factors sheet measure =
+    health_figure (slt_exact sheet measure) (nslt_exact factors sheet) (health_catastrophe_exact sheet measure)

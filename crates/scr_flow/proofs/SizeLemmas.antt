@@ -14,7 +14,8 @@ use Rattle.scr_dates.specs.declared.term.Maturity.TheVariants.{Past, Years, TooF
 use Rattle.scr_dates.specs.Years.{maturity_of}
 use Rattle.scr_curve.specs.DiscountEnds.{IsDiscount}
 use Rattle.scr_curve.specs.declared.table.TheConstants.{MAX_DISCOUNT}
-use Rattle.scr_flow.specs.Due.{amount_at, due_in, dues, paid_total}
+use Rattle.scr_dates.specs.Payments.{total}
+use Rattle.scr_flow.specs.Due.{amount_at, due_in, dues}
 use Rattle.scr_flow.specs.Sums.{flow_ends, weighted_ends}
 use Rattle.scr_curve.specs.Falls.{difference, differences}
 use Rattle.scr_flow.specs.LossEnds.{present_ends, loss_ends, scaled_ends}
@@ -64,7 +65,7 @@ size-due (Years n) amount =
     omega (arith, one, here)
 size-due (TooFar n) amount = let none = size-none (λ years. pos 0) 1 100 (λ k le. refl) in omega (arith, none)
 
-pub dues-within : (asof : ℤ) (payments : List (Day × ℤ)) → sum_by unsigned_abs (dues asof payments) ≤ paid_total payments
+pub dues-within : (asof : ℤ) (payments : List (Day × ℤ)) → sum_by unsigned_abs (dues asof payments) ≤ total payments
 unfolding due_in
 dues-within asof [] = let none = size-none (λ years. pos 0) 1 100 (λ k le. refl) in omega (arith, none)
 dues-within asof (p ∷ payments) =

@@ -1,5 +1,5 @@
 -- The amounts that fall due at a maturity, this project's own.
-use Rattle.std.specs.Prelude.{ℕ, ◌==◌, ◌≢◌, All, if◌then◌else◌, ℤ, pos, ◌+ℤ◌, List, [], ◌∷◌, map, sum_by, unsigned_abs}
+use Rattle.std.specs.Prelude.{ℕ, ◌==◌, ◌≢◌, All, if◌then◌else◌, ℤ, pos, ◌+ℤ◌, List, [], ◌∷◌, map}
 use Rattle.std.specs.List.{range_with_len}
 use Rattle.scr_dates.specs.declared.day.Day.{Day}
 use Rattle.scr_dates.specs.declared.term.Maturity.{Maturity}
@@ -21,10 +21,6 @@ due_in asof (payment ∷ payments) years =
 -- the sums of the amounts that fall due after 1, 2, 3 and up to 100 years
 abbrev pub dues : ℤ → List (Day × ℤ) → List ℤ
 dues asof payments = map (due_in asof payments) (range_with_len 1 100)
-
--- the absolute amounts, summed
-abbrev pub paid_total : List (Day × ℤ) → ℕ
-paid_total payments = sum_by (λ payment. unsigned_abs payment.1) payments
 
 -- no payment lies further ahead than 100 years
 abbrev pub AreNear : ℤ → List (Day × ℤ) → Type 0

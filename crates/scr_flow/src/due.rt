@@ -2,7 +2,8 @@
 
 ghost use Rattle.std.specs.Prelude.{◌≡◌, ◌≤◌, All, sum_by, unsigned_abs};
 ghost use Rattle.scr_dates.specs.Civil.{IsDay};
-ghost use Rattle.scr_flow.specs.Due.{dues, paid_total, AreNear};
+ghost use Rattle.scr_dates.specs.Payments.{total};
+ghost use Rattle.scr_flow.specs.Due.{dues, AreNear};
 
 use scr_dates::Day;
 use scr_years::Years;
@@ -14,9 +15,9 @@ pub fn bucket(asof: Day, pairs: &[(Day, i64)]) -> [i64; 100]
     requires asof_in { IsDay asof.number }
     requires days_in { All (λ pair. IsDay pair.0.number) pairs.now }
     requires near { AreNear asof.number pairs.now }
-    requires small { paid_total pairs.now ≤ 50_000_000_000_000 }
+    requires small { total pairs.now ≤ 50_000_000_000_000 }
     ensures value { result ≡ dues asof.number pairs.now }
-    ensures no_larger { sum_by unsigned_abs result ≤ paid_total pairs.now }
+    ensures no_larger { sum_by unsigned_abs result ≤ total pairs.now }
 {
     bucket_by(&Years::new(asof), pairs)
 }
@@ -25,9 +26,9 @@ pub fn bucket(asof: Day, pairs: &[(Day, i64)]) -> [i64; 100]
 pub fn bucket_by(years: &Years, pairs: &[(Day, i64)]) -> [i64; 100]
     requires days_in { All (λ pair. IsDay pair.0.number) pairs.now }
     requires near { AreNear years.now pairs.now }
-    requires small { paid_total pairs.now ≤ 50_000_000_000_000 }
+    requires small { total pairs.now ≤ 50_000_000_000_000 }
     ensures value { result ≡ dues years.now pairs.now }
-    ensures no_larger { sum_by unsigned_abs result ≤ paid_total pairs.now }
+    ensures no_larger { sum_by unsigned_abs result ≤ total pairs.now }
 {
     let mut flows = [0; 100];
     for (day, amount) in pairs {

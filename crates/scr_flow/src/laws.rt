@@ -10,7 +10,8 @@ ghost use Rattle.scr_num.specs.Sums.{Equals, weighted_sum};
 ghost use Rattle.scr_curve.specs.Parts.{AreRates};
 ghost use Rattle.scr_curve.specs.DiscountEnds.{one, IsDiscount, EncloseDiscounts};
 ghost use Rattle.scr_curve.specs.declared.table.TheConstants.{MAX_DISCOUNT};
-ghost use Rattle.scr_flow.specs.Due.{dues, paid_total, AreNear};
+ghost use Rattle.scr_dates.specs.Payments.{total};
+ghost use Rattle.scr_flow.specs.Due.{dues, AreNear};
 ghost use Rattle.scr_flow.specs.Loss.{loss_exact};
 ghost use Rattle.scr_flow.specs.LossEnds.{present_ends, loss_ends, scaled_ends};
 ghost use Rattle.scr_flow.specs.Payments.{payments_exact, payments_loss_exact};
@@ -21,7 +22,7 @@ ghost use Rattle.scr_num.specs.Narrow.{IsNarrow};
 /// are worth one by one, each at its own maturity.
 pub fn amounts_due()
     ensures count { (asof : ℤ) (payments : List (Day × ℤ)) → length (dues asof payments) ≡ 100 }
-    ensures size { (asof : ℤ) (payments : List (Day × ℤ)) → sum_by unsigned_abs (dues asof payments) ≤ paid_total payments }
+    ensures size { (asof : ℤ) (payments : List (Day × ℤ)) → sum_by unsigned_abs (dues asof payments) ≤ total payments }
     ensures by_maturity { (worth : ℕ → Fraction) (asof : ℤ) (payments : List (Day × ℤ)) → AreNear asof payments
         → Equals (weighted_sum worth 1 (dues asof payments)) (payments_exact worth asof payments) }
 {}

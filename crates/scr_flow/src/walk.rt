@@ -4,7 +4,8 @@ ghost use Rattle.std.specs.Prelude.{◌≡◌, ◌*◌, ◌≤◌, pos, ◌≤�
 ghost use Rattle.scr_num.specs.Rounding.{ends};
 ghost use Rattle.scr_dates.specs.Civil.{IsDay};
 ghost use Rattle.scr_curve.specs.declared.table.TheConstants.{MAX_DISCOUNT};
-ghost use Rattle.scr_flow.specs.Due.{dues, paid_total, AreNear};
+ghost use Rattle.scr_dates.specs.Payments.{total};
+ghost use Rattle.scr_flow.specs.Due.{dues, AreNear};
 ghost use Rattle.scr_flow.specs.Sums.{weighted_ends};
 
 use crate::falls::lost_at;
@@ -25,13 +26,13 @@ pub fn both_losses(
     requires days_in { All (λ pair. IsDay pair.0.number) pairs.now }
     requires near { AreNear years.now pairs.now }
     requires none_owed { All (λ pair. pos 0 ≤ℤ pair.1) pairs.now }
-    requires small { paid_total pairs.now ≤ 50_000_000_000_000 }
+    requires small { total pairs.now ≤ 50_000_000_000_000 }
     ensures first { ends result.0 ≡ weighted_ends (dues years.now pairs.now) first.now }
     ensures second { ends result.1 ≡ weighted_ends (dues years.now pairs.now) second.now }
-    ensures first_low { unsigned_abs result.0.low ≤ MAX_DISCOUNT * paid_total pairs.now }
-    ensures first_high { unsigned_abs result.0.high ≤ MAX_DISCOUNT * paid_total pairs.now }
-    ensures second_low { unsigned_abs result.1.low ≤ MAX_DISCOUNT * paid_total pairs.now }
-    ensures second_high { unsigned_abs result.1.high ≤ MAX_DISCOUNT * paid_total pairs.now }
+    ensures first_low { unsigned_abs result.0.low ≤ MAX_DISCOUNT * total pairs.now }
+    ensures first_high { unsigned_abs result.0.high ≤ MAX_DISCOUNT * total pairs.now }
+    ensures second_low { unsigned_abs result.1.low ≤ MAX_DISCOUNT * total pairs.now }
+    ensures second_high { unsigned_abs result.1.high ≤ MAX_DISCOUNT * total pairs.now }
 {
     let mut left = exact(0);
     let mut right = exact(0);

@@ -34,6 +34,6 @@ abbrev pub bscr_figure : List Figure → (intangible : ℕ) → Figure
 bscr_figure modules intangible = Sum (modules_figure modules) (intangible_figure intangible)
 
 -- what the sum of the modules is above the root over them, which is the Basic Solvency Capital Requirement without
--- intangible assets
+-- intangible assets (this project's own)
 abbrev pub diversification_figure : List Figure → Figure
 diversification_figure modules = Diff (sum_figure modules) (modules_figure modules)

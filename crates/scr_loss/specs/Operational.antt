@@ -43,7 +43,7 @@ level_figure op =
     Sum (Times (Frac (whole (pos op.el -ℤ pos op.eul))) (percent_share 4))
     (Times (cents_figure op.en) (percent_share 3))
 
--- and as much of what each has grown beyond 20 percent
+-- and as much of what each has grown beyond 20 percent (Article 204(3))
 abbrev pub growth_figure : OpInput → Figure
 growth_figure op =
     Sum (or_nil (Times (Frac (life_growth op)) (percent_share 4)))
@@ -63,7 +63,7 @@ prov_figure op =
     Sum (Times (or_nil (Frac (whole (op.tpl -ℤ op.tpul)))) life_provisions_share)
     (Times (or_nil (Frac (whole op.tpn))) (percent_share 3))
 
--- 30 percent of the Basic Solvency Capital Requirement
+-- 30 percent of the Basic Solvency Capital Requirement (Article 204(1))
 abbrev pub cap_figure : Figure → Figure
 cap_figure bscr = Times bscr (percent_share 30)
 

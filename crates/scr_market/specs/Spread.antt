@@ -7,8 +7,8 @@ use Rattle.scr_num.specs.Fraction.{Fraction, is_less, over, percent, millionths,
 use Rattle.scr_factors.specs.Values.{FactorValues, spread_at}
 use Rattle.scr_market.specs.Equity.{part_of}
 
--- the row of the factors: that of the credit quality step, and the last where a security has no group or its group no
--- step
+-- the row of the factors: that of the credit quality step (Article 176(3)), and the last where a security has no group or
+-- its group no step (Article 176(4))
 abbrev pub row_of : Option ℕ → ℕ
 row_of None = 7
 row_of (Some step) = step

@@ -61,7 +61,7 @@ pub data Own : Type 0 where
   -- a sum in which a gain counts as nil
   Lost : Own
   -- a sum in another unit
-  Gross : Own
+  Converted : Own
   -- what an absorption of so many cents leaves (Article 206(2))
   Net : ℕ → Own
   -- which of the alternatives may decide, and what the one that does comes to

@@ -48,7 +48,7 @@ use Rattle.scr_nodes.specs.declared.node.Operational.TheVariants as operations
 use Rattle.scr_nodes.specs.declared.node.Risk.{Risk}
 use Rattle.scr_nodes.specs.declared.node.Risk.TheVariants as risks
 use Rattle.scr_nodes.specs.Own.{Own, Paid, Reinsured, Valued}
-use Rattle.scr_nodes.specs.Own.Own.{Held, Loss, Cost, Scaled, Lost, Gross, Net, Choice, Picked, Added, Fall, EquityRoot}
+use Rattle.scr_nodes.specs.Own.Own.{Held, Loss, Cost, Scaled, Lost, Converted, Net, Choice, Picked, Added, Fall, EquityRoot}
 use Rattle.scr_nodes.specs.Own.Own.{Worth, Excess, Multiple, Charged, Stressed, Spread, Foreign, Square, SquareRoot, Market}
 use Rattle.scr_nodes.specs.Own.Own.{Losses, Squares, Variance, Band, Banded, Due, Correlated, CorrelatedWith, Segment as SegmentOwn}
 use Rattle.scr_nodes.specs.Own.Own.{PremiumReserve, Catastrophes, Bscr, Diversified, Premiums, Provisions, Cap, OperationalCharge}
@@ -255,7 +255,7 @@ own_of factors sheet (nodes.Security name (of_securities.UnitLoss direction)) = 
 own_of factors sheet (nodes.Security name (of_securities.Rate direction)) = Scaled
 own_of factors sheet (nodes.Liability name (of_liabilities.Rate direction)) = Cost (liability_paid sheet name direction)
 own_of factors sheet (nodes.Currency currency (of_currencies.Loss direction)) = Lost
-own_of factors sheet (nodes.Whole (wholes.InterestScenario direction measures.Gross)) = Gross
+own_of factors sheet (nodes.Whole (wholes.InterestScenario direction measures.Gross)) = Converted
 own_of factors sheet (nodes.Whole (wholes.InterestScenario direction measures.Net)) = Net
     (absorbed (interest_key direction) sheet.numbers)
 own_of factors sheet (nodes.Whole (wholes.Choice alternatives)) = Choice
@@ -293,7 +293,7 @@ own_of factors sheet (nodes.Whole wholes.DefaultType1) = Banded
 own_of factors sheet (nodes.Whole wholes.DefaultType2) =
     Due (slice_index_or sheet.numbers.due 0 0) (slice_index_or sheet.numbers.due 1 0)
 own_of factors sheet (nodes.Whole wholes.Default) = Correlated DefaultRoot
-own_of factors sheet (nodes.Whole (wholes.BioScenario biometric projection measures.Gross)) = Gross
+own_of factors sheet (nodes.Whole (wholes.BioScenario biometric projection measures.Gross)) = Converted
 own_of factors sheet (nodes.Whole (wholes.BioScenario biometric projection measures.Net)) =
     Net (stress_absorbed sheet biometric projection)
 own_of factors sheet (nodes.Whole (wholes.Life measure)) = Correlated LifeRoot

@@ -14,11 +14,11 @@ use Rattle.scr_num.proofs.CentAmounts.{Encloses-cents, cents-not_negative}
 use Rattle.scr_profile.specs.declared.matrix.Matrix.{Matrix}
 use Rattle.scr_profile.specs.declared.correlations.TheConstants.{NONLIFE}
 use Rattle.scr_profile.proofs.CorrelationRules.{is_correlation, is_correlation-holds}
-use Rattle.scr_agg.specs.Correlated.{table_of, CellsWithin}
+use Rattle.scr_agg.specs.Correlated.{table_of, uncorrelated, CellsWithin}
 use Rattle.scr_agg.proofs.Roots.{table_of-square}
 use Rattle.scr_agg.proofs.RootSizes.{root-within}
 use Rattle.scr_nonlife.specs.declared.catastrophes.TheConstants.{NATURAL, MANMADE, CATASTROPHES}
-use Rattle.scr_nonlife.specs.Nonlife.{three, premium_reserve_figure, five_perils, six_perils, three_catastrophes, nonlife_correlations, nat_figure, manmade_figure, cat_figure, nonlife_figure}
+use Rattle.scr_nonlife.specs.Nonlife.{three, premium_reserve_figure, nonlife_correlations, nat_figure, manmade_figure, cat_figure, nonlife_figure}
 use Rattle.scr_nonlife.specs.NonlifeEnds.{premium_reserve_ends, nat_ends, manmade_ends, cat_ends, nonlife_ends}
 
 -- a root over a matrix whose places pass the test is at most the sum of its parts
@@ -48,11 +48,11 @@ square_of m parts count = rw count (table_of-square m)
 
 pub nat-encloses : (perils : List Ends) (figures : Figures) → length perils ≡ 5 → EncloseAll 1000 perils figures
     → Encloses 1000 (nat_ends perils).low (nat_ends perils).high (nat_figure figures)
-nat-encloses perils figures count h = Encloses-quad 1000 (lit< tt) perils figures five_perils (lit< tt) (square_of NATURAL perils count) h
+nat-encloses perils figures count h = Encloses-quad 1000 (lit< tt) perils figures (uncorrelated 5) (lit< tt) (square_of NATURAL perils count) h
 
 pub manmade-encloses : (perils : List Ends) (figures : Figures) → length perils ≡ 6 → EncloseAll 1000 perils figures
     → Encloses 1000 (manmade_ends perils).low (manmade_ends perils).high (manmade_figure figures)
-manmade-encloses perils figures count h = Encloses-quad 1000 (lit< tt) perils figures six_perils (lit< tt) (square_of MANMADE perils count) h
+manmade-encloses perils figures count h = Encloses-quad 1000 (lit< tt) perils figures (uncorrelated 6) (lit< tt) (square_of MANMADE perils count) h
 
 pub nat-size : (mosts : List ℕ) (perils : List Ends) → length perils ≡ 5 → AreAmounts mosts perils → IsAmount (sum_by (λ most. most) mosts) (nat_ends perils)
 nat-size mosts perils count h = within NATURAL mosts perils refl count h
@@ -68,7 +68,7 @@ pub cat-encloses : (nat manmade property other : Ends) (f g h k : Figure) → po
     → Encloses 1000 (cat_ends nat manmade property other).low (cat_ends nat manmade property other).high (cat_figure f g h k)
 cat-encloses nat manmade property other f g h k p q r s in_nat in_manmade in_property in_other =
     Encloses-quad 1000 (lit< tt) (add_ends nat property ∷ manmade ∷ other ∷ [])
-    (more (Sum f h) (more g (more k none))) three_catastrophes (lit< tt) (table_of-square CATASTROPHES) (
+    (more (Sum f h) (more g (more k none))) (uncorrelated 3) (lit< tt) (table_of-square CATASTROPHES) (
       sum-not_negative nat.low property.low p r,
       Encloses-add 1000 nat.low nat.high property.low property.high f h in_nat in_property,
       (q, in_manmade, (s, in_other, tt)),

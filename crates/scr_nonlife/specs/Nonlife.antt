@@ -11,6 +11,7 @@ use Rattle.scr_num.specs.Figure.Figure.{Sum, Times, Root}
 use Rattle.scr_num.specs.Figure.Figures.{more, none}
 use Rattle.scr_num.specs.Table.{Table}
 use Rattle.scr_num.specs.Cents.{cents_figure}
+use Rattle.scr_agg.specs.Correlated.{uncorrelated}
 
 -- ---- premium and reserve risk
 abbrev pub three : Share
@@ -34,57 +35,21 @@ nslt_correlations = record {
       ∷ [];
 }
 
--- ---- catastrophe risk
--- no two of five natural perils, of six man-made ones and of three kinds of catastrophe are correlated
-abbrev pub five_perils : Table
-five_perils = record {
-  den = 1;
-  rows =
-      (pos 1 ∷ pos 0 ∷ pos 0 ∷ pos 0 ∷ pos 0 ∷ [])
-      ∷ (pos 0 ∷ pos 1 ∷ pos 0 ∷ pos 0 ∷ pos 0 ∷ [])
-      ∷ (pos 0 ∷ pos 0 ∷ pos 1 ∷ pos 0 ∷ pos 0 ∷ [])
-      ∷ (pos 0 ∷ pos 0 ∷ pos 0 ∷ pos 1 ∷ pos 0 ∷ [])
-      ∷ (pos 0 ∷ pos 0 ∷ pos 0 ∷ pos 0 ∷ pos 1 ∷ [])
-      ∷ [];
-}
-
-abbrev pub six_perils : Table
-six_perils = record {
-  den = 1;
-  rows =
-      (pos 1 ∷ pos 0 ∷ pos 0 ∷ pos 0 ∷ pos 0 ∷ pos 0 ∷ [])
-      ∷ (pos 0 ∷ pos 1 ∷ pos 0 ∷ pos 0 ∷ pos 0 ∷ pos 0 ∷ [])
-      ∷ (pos 0 ∷ pos 0 ∷ pos 1 ∷ pos 0 ∷ pos 0 ∷ pos 0 ∷ [])
-      ∷ (pos 0 ∷ pos 0 ∷ pos 0 ∷ pos 1 ∷ pos 0 ∷ pos 0 ∷ [])
-      ∷ (pos 0 ∷ pos 0 ∷ pos 0 ∷ pos 0 ∷ pos 1 ∷ pos 0 ∷ [])
-      ∷ (pos 0 ∷ pos 0 ∷ pos 0 ∷ pos 0 ∷ pos 0 ∷ pos 1 ∷ [])
-      ∷ [];
-}
-
-abbrev pub three_catastrophes : Table
-three_catastrophes = record {
-  den = 1;
-  rows =
-      (pos 1 ∷ pos 0 ∷ pos 0 ∷ [])
-      ∷ (pos 0 ∷ pos 1 ∷ pos 0 ∷ [])
-      ∷ (pos 0 ∷ pos 0 ∷ pos 1 ∷ [])
-      ∷ [];
-}
-
+-- ---- catastrophe risk, in which no two perils and no two kinds of catastrophe are correlated
 -- natural catastrophes: the root of the squares of windstorm, earthquake, flood, hail and subsidence (Article 120)
 abbrev pub nat_figure : (perils : Figures) → Figure
-nat_figure perils = Root perils five_perils
+nat_figure perils = Root perils (uncorrelated 5)
 
 -- man-made catastrophes: the root of the squares of motor, marine, aviation, fire, liability, and credit and suretyship
 -- (Article 128)
 abbrev pub manmade_figure : (perils : Figures) → Figure
-manmade_figure perils = Root perils six_perils
+manmade_figure perils = Root perils (uncorrelated 6)
 
 -- the root of the squares of natural catastrophes with non-proportional property reinsurance, of man-made ones and of
 -- others (Article 119)
 abbrev pub cat_figure : (nat manmade property other : Figure) → Figure
 cat_figure nat manmade property other =
-    Root (more (Sum nat property) (more manmade (more other none))) three_catastrophes
+    Root (more (Sum nat property) (more manmade (more other none))) (uncorrelated 3)
 
 -- ---- from thirteen charges in cents
 abbrev pub charge_figure : List ℕ → ℕ → Figure

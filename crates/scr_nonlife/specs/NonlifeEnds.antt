@@ -4,22 +4,23 @@ use Rattle.std.specs.Prelude.{ℕ, List, [], ◌∷◌, slice_index}
 use Rattle.scr_num.specs.Rounding.{Ends, add_ends, scale_ends, quad_ends}
 use Rattle.scr_num.specs.Cents.{cents_ends}
 use Rattle.scr_num.specs.Table.{Table}
-use Rattle.scr_nonlife.specs.Nonlife.{five_perils, six_perils, three_catastrophes, nonlife_correlations}
+use Rattle.scr_agg.specs.Correlated.{uncorrelated}
+use Rattle.scr_nonlife.specs.Nonlife.{nonlife_correlations}
 
 abbrev pub premium_reserve_ends : List Ends → Table → Ends
 premium_reserve_ends segments correlations = scale_ends (quad_ends segments correlations) 3 1
 
 -- windstorm, earthquake, flood, hail and subsidence, in grains
 abbrev pub nat_ends : (perils : List Ends) → Ends
-nat_ends perils = quad_ends perils five_perils
+nat_ends perils = quad_ends perils (uncorrelated 5)
 
 -- motor, marine, aviation, fire, liability, and credit and suretyship, in grains
 abbrev pub manmade_ends : (perils : List Ends) → Ends
-manmade_ends perils = quad_ends perils six_perils
+manmade_ends perils = quad_ends perils (uncorrelated 6)
 
 -- non-proportional property reinsurance is added to natural catastrophes before the outer root
 abbrev pub cat_ends : (nat manmade property other : Ends) → Ends
-cat_ends nat manmade property other = quad_ends (add_ends nat property ∷ manmade ∷ other ∷ []) three_catastrophes
+cat_ends nat manmade property other = quad_ends (add_ends nat property ∷ manmade ∷ other ∷ []) (uncorrelated 3)
 
 -- ---- from thirteen charges in cents
 abbrev pub charge_ends : List ℕ → ℕ → Ends

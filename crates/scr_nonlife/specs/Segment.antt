@@ -32,7 +32,7 @@ share_of num zero = record { num = 1; den = 1; positive = lit< tt }
 share_of num (suc n) = record { num = num; den = suc n; positive = zero-lt-suc n }
 
 -- the geographical diversification: the squares of the regional volumes over the square of their sum (Article 116 and
--- Annex III), and 1 where there is no volume (this project's own)
+-- Annex III), of every segment, and 1 where there is no volume (both this project's own)
 abbrev pub diversification : List (ℕ × ℕ) → Share
 diversification volumes = share_of (squared_volumes volumes) (total_volume volumes * total_volume volumes)
 

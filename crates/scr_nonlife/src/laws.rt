@@ -8,22 +8,22 @@ ghost use Rattle.scr_num.specs.Enclosure.{Encloses, EncloseAll};
 ghost use Rattle.scr_num.specs.Rounding.{Ends};
 ghost use Rattle.scr_num.specs.Ratio.{ratio_unit, fraction_of};
 ghost use Rattle.scr_num.specs.Amounts.{IsAmount, AreAmounts};
-ghost use Rattle.scr_agg.specs.Correlated.{table_of, CellsWithin};
+ghost use Rattle.scr_agg.specs.Correlated.{table_of, uncorrelated, CellsWithin};
 ghost use Rattle.scr_profile.specs.declared.matrix.Matrix.{Matrix};
 ghost use Rattle.scr_profile.specs.declared.correlations.TheConstants.{NONLIFE, NSLT};
 ghost use Rattle.scr_nonlife.specs.declared.catastrophes.TheConstants.{NATURAL, MANMADE, CATASTROPHES};
 ghost use Rattle.scr_nonlife.specs.Segment.{total_volume, diversification, segment_figure};
 ghost use Rattle.scr_nonlife.specs.SegmentEnds.{diversification_ends, segment_ends};
-ghost use Rattle.scr_nonlife.specs.Nonlife.{premium_reserve_figure, nat_figure, manmade_figure, cat_figure, nonlife_figure, five_perils, six_perils, three_catastrophes, nonlife_correlations, nslt_correlations};
+ghost use Rattle.scr_nonlife.specs.Nonlife.{premium_reserve_figure, nat_figure, manmade_figure, cat_figure, nonlife_figure, nonlife_correlations, nslt_correlations};
 ghost use Rattle.scr_nonlife.specs.NonlifeEnds.{premium_reserve_ends, nat_ends, manmade_ends, cat_ends, nonlife_ends};
 
 /// The tables that the roots are taken over are those of the Regulation.
 pub fn tables()
     ensures nonlife { table_of NONLIFE ≡ nonlife_correlations }
     ensures nslt { table_of NSLT ≡ nslt_correlations }
-    ensures natural { table_of NATURAL ≡ five_perils }
-    ensures manmade { table_of MANMADE ≡ six_perils }
-    ensures catastrophes { table_of CATASTROPHES ≡ three_catastrophes }
+    ensures natural { table_of NATURAL ≡ uncorrelated 5 }
+    ensures manmade { table_of MANMADE ≡ uncorrelated 6 }
+    ensures catastrophes { table_of CATASTROPHES ≡ uncorrelated 3 }
 {}
 
 /// For all volumes and standard deviations the ends of a segment and of its diversification enclose

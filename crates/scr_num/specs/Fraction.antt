@@ -1,7 +1,7 @@
 -- Fractions of any size, this project's own: the exact figures are made of them, and nothing of them is
 -- rounded. A fraction is a pair of whole numbers with a positive denominator; it need not be in lowest terms.
-use Rattle.std.specs.Prelude.{ℕ, ◌*◌, ◌<◌, ℤ, pos, ◌+ℤ◌, ◌-ℤ◌, ◌*ℤ◌, ◌≤ℤ◌, Bool, int_lt, if◌then◌else◌}
-use Rattle.std.proofs.Common.{mul-pos, lit<}
+use Rattle.std.specs.Prelude.{ℕ, zero, suc, ◌*◌, ◌<◌, ℤ, pos, negsuc, ◌+ℤ◌, ◌-ℤ◌, ◌*ℤ◌, ◌≤ℤ◌, Bool, int_lt, if◌then◌else◌}
+use Rattle.std.proofs.Common.{mul-pos, lit<, zero-lt-suc}
 
 pub record Fraction : Type 0 where
   pub num : ℤ
@@ -46,6 +46,16 @@ product p q = over (p.num *ℤ q.num) (p.den * q.den) (mul-pos p.positive q.posi
 
 abbrev pub square : Fraction → Fraction
 square p = product p p
+
+-- den / num of a numerator above 0, and 0 of any other
+abbrev pub reciprocal_of : ℤ → ℕ → Fraction
+reciprocal_of (pos zero) den = zero_fraction
+reciprocal_of (pos (suc n)) den = over (pos den) (suc n) (zero-lt-suc n)
+reciprocal_of (negsuc n) den = zero_fraction
+
+-- 1 / p, where p is above 0
+abbrev pub reciprocal : Fraction → Fraction
+reciprocal p = reciprocal_of p.num p.den
 
 -- p is below q, as a test
 abbrev pub is_less : Fraction → Fraction → Bool

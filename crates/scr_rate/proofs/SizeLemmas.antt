@@ -10,7 +10,7 @@ use Rattle.scr_num.specs.Rounding.{Ends, ends, floor_div, ceil_div}
 use Rattle.scr_num.proofs.Quotients.{floor_div-times, floor_div-next, ceil_div-times, ceil_div-next}
 use Rattle.scr_agg.specs.Absorbed.{net_ends}
 use Rattle.scr_agg.specs.Correlated.{all_ends}
-use Rattle.scr_agg.specs.Unbeaten.{Alternative, Holds, alternative_at, chosen_gross, chosen_net}
+use Rattle.scr_agg.specs.Unbeaten.{Alternative, Covers, alternative_at, chosen_gross, chosen_net}
 use Rattle.scr_agg.proofs.Hulls.{chosen_gross-within, chosen_net-within}
 use Rattle.scr_num.specs.Sums.{sum_ends}
 use Rattle.scr_rate.specs.InterestEnds.{gross_ends, scenario_ends, IsCost}
@@ -98,12 +98,12 @@ module _ (a b : Alternative) where
   abbrev list : List Alternative
   list = a ∷ b ∷ []
 
-  at-gross : (wide : Ends) → Holds wide a.gross → Holds wide b.gross → (k : ℕ) → k < length list → Holds wide (alternative_at list k).gross
+  at-gross : (wide : Ends) → Covers wide a.gross → Covers wide b.gross → (k : ℕ) → k < length list → Covers wide (alternative_at list k).gross
   at-gross wide h k zero within = h
   at-gross wide h k (suc zero) within = k
   at-gross wide h k (suc (suc n)) within = absurd (omega (arith, within))
 
-  at-net : (wide : Ends) → Holds wide a.net → Holds wide b.net → (k : ℕ) → k < length list → Holds wide (alternative_at list k).net
+  at-net : (wide : Ends) → Covers wide a.net → Covers wide b.net → (k : ℕ) → k < length list → Covers wide (alternative_at list k).net
   at-net wide h k zero within = h
   at-net wide h k (suc zero) within = k
   at-net wide h k (suc (suc n)) within = absurd (omega (arith, within))
@@ -112,28 +112,28 @@ module _ (a b : Alternative) where
   abbrev about : ℤ → ℕ → Ends
   about low most = record { low = low; high = pos most }
 
-  pub gross-chosen : (low : ℤ) (most : ℕ) → low ≤ℤ pos 0 → Holds (about low most) a.gross → Holds (about low most) b.gross → Holds (about low most) (chosen_gross list)
+  pub gross-chosen : (low : ℤ) (most : ℕ) → low ≤ℤ pos 0 → Covers (about low most) a.gross → Covers (about low most) b.gross → Covers (about low most) (chosen_gross list)
   gross-chosen low most le h k = chosen_gross-within (about low most) list (record { low = le; high = omega (arith, ints) }) (at-gross (about low most) h k)
 
-  pub net-chosen : (low : ℤ) (most : ℕ) → low ≤ℤ pos 0 → Holds (about low most) a.net → Holds (about low most) b.net → Holds (about low most) (chosen_net list)
+  pub net-chosen : (low : ℤ) (most : ℕ) → low ≤ℤ pos 0 → Covers (about low most) a.net → Covers (about low most) b.net → Covers (about low most) (chosen_net list)
   net-chosen low most le h k = chosen_net-within (about low most) list (record { low = le; high = omega (arith, ints) }) (at-net (about low most) h k)
 
-held : (most : ℕ) (e : Ends) → IsWithin most e → Holds (record { low = neg_ℤ (pos most); high = pos most }) e
+held : (most : ℕ) (e : Ends) → IsWithin most e → Covers (record { low = neg_ℤ (pos most); high = pos most }) e
 held most e h = record { low = omega (arith, ints, h.low); high = omega (arith, ints, h.high) }
 
-held-up : (most : ℕ) (e : Ends) → pos 0 ≤ℤ e.low → IsWithin most e → Holds (record { low = pos 0; high = pos most }) e
+held-up : (most : ℕ) (e : Ends) → pos 0 ≤ℤ e.low → IsWithin most e → Covers (record { low = pos 0; high = pos most }) e
 held-up most e low h = record { low = low; high = omega (arith, ints, h.high) }
 
-ordered-within : (most : ℕ) (e : Ends) → e.low ≤ℤ e.high → Holds (record { low = neg_ℤ (pos most); high = pos most }) e → IsWithin most e
+ordered-within : (most : ℕ) (e : Ends) → e.low ≤ℤ e.high → Covers (record { low = neg_ℤ (pos most); high = pos most }) e → IsWithin most e
 ordered-within most e order h = record { low = omega (arith, ints, order, h.low, h.high); high = omega (arith, ints, order, h.low, h.high) }
 
 -- spans that are chosen between two costs are a cost
 pub picked-cost : (most : ℕ) (a b : Alternative) (gross net : Span) → ends gross ≡ chosen_gross (a ∷ b ∷ []) → ends net ≡ chosen_net (a ∷ b ∷ [])
     → IsCost most a → IsCost most b → IsCost most (record { gross = ends gross; net = ends net })
 picked-cost most a b gross net gross_is net_is h k =
-    let about_gross : Holds (record { low = neg_ℤ (pos most); high = pos most }) (ends gross) =
+    let about_gross : Covers (record { low = neg_ℤ (pos most); high = pos most }) (ends gross) =
     rw gross_is (gross-chosen a b (neg_ℤ (pos most)) most (omega (arith, ints)) (held most a.gross h.gross) (held most b.gross k.gross)) in
-    let about_net : Holds (record { low = pos 0; high = pos most }) (ends net) =
+    let about_net : Covers (record { low = pos 0; high = pos most }) (ends net) =
     rw net_is (net-chosen a b (pos 0) most (omega (arith, ints)) (held-up most a.net h.net_low h.net) (held-up most b.net k.net_low k.net)) in
     record {
       gross = ordered-within most (ends gross) gross.ordered about_gross;
@@ -148,6 +148,6 @@ picked-cost most a b gross net gross_is net_is h k =
 pub picked-low : (a b : Alternative) (gross : Span) (most : ℕ) → ends gross ≡ chosen_gross (a ∷ b ∷ []) → IsWithin most a.gross → IsWithin most b.gross
     → pos 0 ≤ℤ a.gross.low → pos 0 ≤ℤ b.gross.low → pos 0 ≤ℤ gross.low
 picked-low a b gross most gross_is h k low low' =
-    let about_gross : Holds (record { low = pos 0; high = pos most }) (ends gross) =
+    let about_gross : Covers (record { low = pos 0; high = pos most }) (ends gross) =
     rw gross_is (gross-chosen a b (pos 0) most (omega (arith, ints)) (held-up most a.gross low h) (held-up most b.gross low' k)) in
     about_gross.low

@@ -15,7 +15,7 @@ use Rattle.scr_market.specs.SpreadEnds.{spread_ends}
 use Rattle.scr_profile.specs.declared.limits.TheConstants.{MAX_HELD}
 use Rattle.scr_nodes.specs.declared.node.Direction.{Direction}
 use Rattle.scr_nodes.specs.Own.{Own}
-use Rattle.scr_nodes.specs.Own.Own.{Lost, Gross, Added, Foreign, Spread, SquareRoot}
+use Rattle.scr_nodes.specs.Own.Own.{Lost, Converted, Added, Foreign, Spread, SquareRoot}
 use Rattle.scr_rules.specs.BySums.{is_of_sum}
 use Rattle.scr_rules.specs.Fits.{Fits}
 use Rattle.scr_rules.specs.MarketFits.{FitsForeign}
@@ -25,7 +25,7 @@ use Rattle.scr_rules.specs.Rules.{amount_of, rule}
 pub rule-by-sum : (own : Own) (discounts : CurrencyDiscounts) (figures others : List Ends) → is_of_sum own ≡ true
     → sum_ends figures ≡ sum_ends others → rule own discounts figures ≡ rule own discounts others
 rule-by-sum Lost discounts figures others is same = ap (max_ends (exact_ends (pos 0))) same
-rule-by-sum Gross discounts figures others is same = ap (λ sum. scale_ends sum 1 1_000_000_000_000_000) same
+rule-by-sum Converted discounts figures others is same = ap (λ sum. scale_ends sum 1 1_000_000_000_000_000) same
 rule-by-sum Added discounts figures others is same = same
 rule-by-sum Spread discounts figures others is same = ap spread_ends same
 rule-by-sum SquareRoot discounts figures others is same = ap (λ sum. concentration_ends (amount_of sum)) same
@@ -74,7 +74,7 @@ together-by-sums most xs ys small = record {
 pub fits-by-sums : (own : Own) (xs ys : List Ends) → is_of_sum own ≡ true → Fits own (xs ++ ys)
     → Fits own (sum_ends xs ∷ sum_ends ys ∷ [])
 fits-by-sums Lost xs ys is fits = together-by-sums (10 ^ 33) xs ys fits
-fits-by-sums Gross xs ys is fits = together-by-sums (10 ^ 33) xs ys fits
+fits-by-sums Converted xs ys is fits = together-by-sums (10 ^ 33) xs ys fits
 fits-by-sums Added xs ys is fits = together-by-sums (10 ^ 33) xs ys fits
 fits-by-sums Spread xs ys is fits = together-by-sums (10 ^ 33) xs ys fits
 fits-by-sums SquareRoot xs ys is fits = record {

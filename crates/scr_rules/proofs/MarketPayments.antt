@@ -9,7 +9,8 @@ use Rattle.scr_curve.specs.declared.table.TheConstants.{MAX_DISCOUNT}
 use Rattle.scr_curve.specs.declared.tilt.Tilt.TheVariants as tilts
 use Rattle.scr_curve.proofs.RateLemmas.{rates_in_range, length-rates_in_parts}
 use Rattle.scr_curve.proofs.TableLemmas.{table_in_range}
-use Rattle.scr_flow.specs.Due.{dues, paid_total}
+use Rattle.scr_dates.specs.Payments.{total}
+use Rattle.scr_flow.specs.Due.{dues}
 use Rattle.scr_flow.proofs.SizeLemmas.{present-within, dues-within}
 use Rattle.scr_nodes.specs.Own.{Valued}
 use Rattle.scr_discounts.specs.Discounts.{discounts_at}
@@ -22,7 +23,7 @@ module _ (valued : Valued) (curve : IsCurveInMillionths valued.rates) where
   base-table : All IsDiscount (table_ends parts)
   base-table = table_in_range parts (rates_in_range valued.rates tilts.Base curve) (let count = length-rates_in_parts valued.rates tilts.Base in omega (arith, count))
 
-  pub worth-within : (most : ℕ) → paid_total valued.payments ≤ most → IsWithin (MAX_DISCOUNT * most) (worth_ends valued (discounts_at valued.rates))
+  pub worth-within : (most : ℕ) → total valued.payments ≤ most → IsWithin (MAX_DISCOUNT * most) (worth_ends valued (discounts_at valued.rates))
   unfolding worth_ends discounts_at
   worth-within most small =
       let own = present-within (dues valued.asof valued.payments) (table_ends parts) base-table in

@@ -18,7 +18,7 @@ use Rattle.scr_curve.specs.declared.tilt.Tilt.TheVariants as tilts
 use Rattle.scr_curve.specs.declared.table.TheConstants.{MAX_DISCOUNT}
 use Rattle.scr_curve.proofs.RateLemmas.{rates_in_range, length-rates_in_parts}
 use Rattle.scr_curve.proofs.TableLemmas.{table_in_range}
-use Rattle.scr_flow.specs.Due.{dues, paid_total, AreNear}
+use Rattle.scr_flow.specs.Due.{dues, AreNear}
 use Rattle.scr_num.specs.Sizes.{IsWithin}
 use Rattle.scr_flow.proofs.SizeLemmas.{loss-within, dues-within}
 use Rattle.scr_names.proofs.TableRows.{All-row_of}
@@ -152,7 +152,7 @@ base-is rates = refl
 weaker : (m n : ℕ) (e : Ends) → m ≤ n → IsWithin m e → IsWithin n e
 weaker m n e le h = record { low = omega (arith, le, h.low); high = omega (arith, le, h.high) }
 
-pub paid-within : (paid : Paid) (most : ℕ) → IsCurveInMillionths paid.rates → paid_total paid.payments ≤ most
+pub paid-within : (paid : Paid) (most : ℕ) → IsCurveInMillionths paid.rates → total paid.payments ≤ most
     → IsWithin (MAX_DISCOUNT * most) (paid_ends paid (discounts_at paid.rates))
 unfolding paid_ends
 paid-within paid most curve small =

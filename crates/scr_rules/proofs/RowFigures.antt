@@ -10,7 +10,8 @@ use Rattle.scr_curve.specs.DiscountEnds.{IsDiscount}
 use Rattle.scr_curve.specs.declared.table.Discounts.{Discounts}
 use Rattle.scr_curve.specs.declared.table.TheConstants.{MAX_DISCOUNT}
 use Rattle.scr_factors.specs.Values.{FactorValues}
-use Rattle.scr_flow.specs.Due.{dues, paid_total}
+use Rattle.scr_dates.specs.Payments.{total}
+use Rattle.scr_flow.specs.Due.{dues}
 use Rattle.scr_flow.specs.Sums.{weighted_ends}
 use Rattle.scr_flow.specs.LossEnds.{present_ends}
 use Rattle.scr_flow.proofs.SizeLemmas.{dues-within}
@@ -80,7 +81,7 @@ module _ (sheet : BalanceSheet) (p : Position) (row : position_of p.security.nam
         natural [] each = tt
         natural (flow ∷ flows) each = (each.0.0, natural flows each.1)
 
-    pub total-promised : paid_total p.security.flows ≤ 5_000_000
+    pub total-promised : total p.security.flows ≤ 5_000_000
     total-promised = known-here.formed.4.3
 
 -- what 1,000,000 lose of so much that is promised for them

@@ -23,7 +23,7 @@ use Rattle.scr_rate.specs.InterestEnds.{gross_ends}
 use Rattle.scr_rate.proofs.SizeLemmas.{sum-within, gross-within}
 use Rattle.scr_sheet.specs.BalanceSheet.{position_name, liability_name, stake_name, curve_name, position_of, stake_of}
 use Rattle.scr_sheet.specs.CashFlows.{total}
-use Rattle.scr_sheet.specs.Totals.{total_of}
+use Rattle.scr_sheet.specs.Totals.{total_of, closed_total}
 use Rattle.scr_sheet.specs.declared.keys.Projection.TheVariants.{Base}
 use Rattle.scr_sheet.specs.declared.{rows.Class.Class, rows.Curve.Curve, rows.Liability.Liability, rows.Position.Position, sheet.BalanceSheet.BalanceSheet}
 use Rattle.scr_sheet.specs.declared.rows.Class.TheVariants as classes
@@ -45,7 +45,7 @@ use Rattle.scr_nodes.specs.Rows.{is_closed, is_paying, is_paying_in, is_owed_in,
 use Rattle.scr_nodes.specs.Sources.{fund_total, security_total, security_rate, liability_rate, currency_loss, rates_in, held_of_class, funds_of_class}
 use Rattle.scr_nodes.proofs.OwnRows.{own-funds, own-securities, own-liabilities}
 use Rattle.scr_discounts.specs.Discounts.{discounts_at}
-use Rattle.scr_rules.specs.Holdings.{security_cents, fund_cents, closed_total, securities_total, class_total}
+use Rattle.scr_rules.specs.Holdings.{security_cents, fund_cents, class_securities_total, class_total}
 use Rattle.scr_rules.specs.Rules.{paid_ends}
 use Rattle.scr_rules.specs.Worked.{worked}
 use Rattle.scr_rules.proofs.Currencies.{most_in, each-row-once}
@@ -218,7 +218,7 @@ module _ (factors : FactorValues) (sheet : BalanceSheet) (valid : Valid sheet) w
   gross-small direction = subst (IsWithin (10 ^ 18)) (sym (gross-worked direction)) (gross-within (map figure (map (currency_loss direction) sheet.curves)) (losses-together direction))
 
   -- ---- what is held of a class
-  securities-sum : (class : Class) → sum_ends (map figure (map security_total (filter (has_class class) sheet.securities))) ≡ exact_ends (pos (securities_total class sheet))
+  securities-sum : (class : Class) → sum_ends (map figure (map security_total (filter (has_class class) sheet.securities))) ≡ exact_ends (pos (class_securities_total class sheet))
   securities-sum class =
       rows-sum figure security_total (has_class class) (security_cents sheet) sheet.securities
       (All-map (λ p. position_of (position_name p) sheet.securities ≡ Some p) (λ p. figure (security_total p) ≡ exact_ends (pos (security_cents sheet p))) sheet.securities
@@ -239,9 +239,9 @@ module _ (factors : FactorValues) (sheet : BalanceSheet) (valid : Valid sheet) w
   funds-sum classes.Type2Equity = closed-sum
   funds-sum class = refl
 
-  class-is : (class : Class) → class_total class sheet ≡ securities_total class sheet + funds_cents class
+  class-is : (class : Class) → class_total class sheet ≡ class_securities_total class sheet + funds_cents class
   class-is classes.Type2Equity = refl
-  class-is class = plus-none (securities_total class sheet)
+  class-is class = plus-none (class_securities_total class sheet)
     where
       plus-none : (n : ℕ) → n ≡ n + 0
       plus-none n = omega arith

@@ -5,10 +5,11 @@ use Rattle.scr_num.specs.Amounts.{IsAmount}
 use Rattle.scr_num.specs.Rounding.{Ends}
 use Rattle.scr_dates.specs.Civil.{IsDay}
 use Rattle.scr_curve.specs.Parts.{IsCurveInMillionths}
-use Rattle.scr_flow.specs.Due.{paid_total, AreNear}
+use Rattle.scr_dates.specs.Payments.{total}
+use Rattle.scr_flow.specs.Due.{AreNear}
 use Rattle.scr_num.specs.Sizes.{IsWithin, AreTogether}
 use Rattle.scr_nodes.specs.Own.{Own, Paid, Share}
-use Rattle.scr_nodes.specs.Own.Own.{Held, Loss, Cost, Scaled, Lost, Gross, Net, Choice, Picked, Added, Fall, EquityRoot}
+use Rattle.scr_nodes.specs.Own.Own.{Held, Loss, Cost, Scaled, Lost, Converted, Net, Choice, Picked, Added, Fall, EquityRoot}
 use Rattle.scr_nodes.specs.Own.Own.{Worth, Foreign, Multiple, Stressed, Spread, Square, SquareRoot, Market}
 use Rattle.scr_nodes.specs.Own.Own.{Excess, Losses, Squares, Variance, Band, Banded, Due, Correlated}
 use Rattle.scr_nodes.specs.Own.Own.{Charged, CorrelatedWith, Segment, PremiumReserve, Catastrophes, Bscr, Diversified}
@@ -41,7 +42,7 @@ pub record FitsPaid (paid : Paid) : Type 0 where
   pub asof : IsDay paid.asof
   pub days : All (λ payment. IsDay payment.0.number) paid.payments
   pub near : AreNear paid.asof paid.payments
-  pub small : paid_total paid.payments ≤ 50_000_000_000_000
+  pub small : total paid.payments ≤ 50_000_000_000_000
   pub rates : IsCurveInMillionths paid.rates
   pub count : length paid.rates ≤ 100
 
@@ -70,7 +71,7 @@ Fits (Loss paid) figures = FitsPaid paid
 Fits (Cost paid) figures = FitsPaid paid
 Fits Scaled figures = FitsScaled figures
 Fits Lost figures = AreTogether (10 ^ 33) figures
-Fits Gross figures = AreTogether (10 ^ 33) figures
+Fits Converted figures = AreTogether (10 ^ 33) figures
 Fits (Net absorb) figures = FitsNet absorb figures
 Fits Choice figures = FitsChoice figures
 Fits (Picked measure) figures = FitsChoice figures

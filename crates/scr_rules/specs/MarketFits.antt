@@ -6,7 +6,8 @@ use Rattle.scr_num.specs.Sizes.{AreTogether}
 use Rattle.scr_num.specs.Sums.{sum_ends}
 use Rattle.scr_dates.specs.Civil.{IsDay}
 use Rattle.scr_curve.specs.Parts.{IsCurveInMillionths}
-use Rattle.scr_flow.specs.Due.{paid_total, AreNear}
+use Rattle.scr_dates.specs.Payments.{total}
+use Rattle.scr_flow.specs.Due.{AreNear}
 use Rattle.scr_market.specs.Spread.{row_of}
 use Rattle.scr_conc.specs.Thresholds.{step_of}
 use Rattle.scr_conc.specs.declared.TheConstants.{MAX_SQUARES}
@@ -19,7 +20,7 @@ pub record FitsWorth (valued : Valued) : Type 0 where
   pub asof : IsDay valued.asof
   pub days : All (λ payment. IsDay payment.0.number) valued.payments
   pub near : AreNear valued.asof valued.payments
-  pub small : paid_total valued.payments ≤ 50_000_000_000_000
+  pub small : total valued.payments ≤ 50_000_000_000_000
   pub rates : IsCurveInMillionths valued.rates
   pub count : length valued.rates ≤ 100
 

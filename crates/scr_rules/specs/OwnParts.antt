@@ -7,10 +7,10 @@ use Rattle.scr_nodes.specs.declared.node.Adjustment.TheVariants as adjustments
 use Rattle.scr_nodes.specs.declared.node.Measure.{Measure}
 use Rattle.scr_nodes.specs.declared.node.Measure.TheVariants as measures
 use Rattle.scr_nodes.specs.Own.{Own}
-use Rattle.scr_nodes.specs.Own.Own.{Gross, Net, Absorbing, Taxed}
+use Rattle.scr_nodes.specs.Own.Own.{Converted, Net, Absorbing, Taxed}
 
 abbrev pub scenario_own : Measure → (absorb : ℕ) → Own
-scenario_own measures.Gross absorb = Gross
+scenario_own measures.Gross absorb = Converted
 scenario_own measures.Net absorb = Net absorb
 
 abbrev pub adjustment_own : Adjustment → Numbers → Own

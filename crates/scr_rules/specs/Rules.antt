@@ -25,7 +25,7 @@ use Rattle.scr_nodes.specs.declared.node.Equities.TheVariants as equities
 use Rattle.scr_nodes.specs.declared.node.Measure.{Measure}
 use Rattle.scr_nodes.specs.declared.node.Measure.TheVariants as measures
 use Rattle.scr_nodes.specs.Own.{Own, Paid, Share}
-use Rattle.scr_nodes.specs.Own.Own.{Held, Loss, Cost, Scaled, Lost, Gross, Net, Choice, Picked, Added, Fall, EquityRoot, Worth, Foreign, Multiple, Stressed, Spread, Square, SquareRoot, Market, Excess, Losses, Squares, Variance, Band, Banded, Due, Correlated, Charged, CorrelatedWith, Segment, PremiumReserve, Catastrophes, Bscr, Diversified, Premiums, Provisions, Cap, OperationalCharge, Absorbing, Taxed, Requirement}
+use Rattle.scr_nodes.specs.Own.Own.{Held, Loss, Cost, Scaled, Lost, Converted, Net, Choice, Picked, Added, Fall, EquityRoot, Worth, Foreign, Multiple, Stressed, Spread, Square, SquareRoot, Market, Excess, Losses, Squares, Variance, Band, Banded, Due, Correlated, Charged, CorrelatedWith, Segment, PremiumReserve, Catastrophes, Bscr, Diversified, Premiums, Provisions, Cap, OperationalCharge, Absorbing, Taxed, Requirement}
 use Rattle.scr_nodes.specs.Own.Root.{DefaultRoot, LifeRoot, SltRoot, HealthRoot, NaturalRoot, ManMadeRoot, HealthCatastropheRoot}
 use Rattle.scr_nodes.specs.Own.ChargedRoot.{NsltRoot, NonlifeRoot}
 use Rattle.scr_discounts.specs.Discounts.{CurrencyDiscounts}
@@ -107,7 +107,7 @@ rule (Loss paid) discounts figures = paid_ends paid discounts
 rule (Cost paid) discounts figures = sub_ends (exact_ends (pos 0)) (paid_ends paid discounts)
 rule Scaled discounts figures = scaled_ends (figure_at figures 1) (amount_at figures 0)
 rule Lost discounts figures = max_ends (exact_ends (pos 0)) (sum_ends figures)
-rule Gross discounts figures = gross_ends figures
+rule Converted discounts figures = gross_ends figures
 rule (Net absorb) discounts figures = net_ends (figure_at figures 0) absorb
 rule Choice discounts figures = exact_ends (pos (mask_of (alternatives_from figures)))
 rule (Picked measure) discounts figures = chosen_from measure (alternatives_from figures)

@@ -1,7 +1,8 @@
 //! What figures take of the rates that are kept.
 ghost use Rattle.std.specs.Prelude.{◌≡◌, ◌<◌, ◌≤◌, All, Some, length, slice_get, IfSome, sum_by, unsigned_abs};
 ghost use Rattle.scr_dates.specs.Civil.{IsDay};
-ghost use Rattle.scr_flow.specs.Due.{dues, paid_total, AreNear};
+ghost use Rattle.scr_dates.specs.Payments.{total};
+ghost use Rattle.scr_flow.specs.Due.{dues, AreNear};
 ghost use Rattle.scr_discounts.specs.declared.known.CurrencyFalls.{CurrencyFalls};
 ghost use Rattle.scr_rules.specs.Discounts.{falls_in};
 
@@ -34,9 +35,9 @@ pub(crate) fn bucketed(
     requires asof { IsDay sheet.now.numbers.asof.number }
     requires days { All (λ payment. IsDay payment.0.number) payments.now }
     requires near { AreNear sheet.now.numbers.asof.number payments.now }
-    requires small { paid_total payments.now ≤ 50_000_000_000_000 }
+    requires small { total payments.now ≤ 50_000_000_000_000 }
     ensures value { result ≡ dues sheet.now.numbers.asof.number payments.now }
-    ensures no_larger { sum_by unsigned_abs result ≤ paid_total payments.now }
+    ensures no_larger { sum_by unsigned_abs result ≤ total payments.now }
 {
     match kept {
         Some(rates) => bucket_by(&rates.years, payments),

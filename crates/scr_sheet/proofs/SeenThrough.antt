@@ -18,7 +18,8 @@ use Rattle.scr_names.specs.Tables.{has_row}
 use Rattle.scr_names.proofs.TableRows.{All-map, same_name-is, same_name-itself}
 use Rattle.scr_sheet.specs.Records.{natural}
 use Rattle.scr_sheet.specs.Forms.{IsName}
-use Rattle.scr_sheet.specs.Totals.{shared, shared_funds, total_of, parts_of_funds, is_closed, closed_total, securities_total}
+use Rattle.scr_sheet.specs.Totals.{shared, shared_funds, total_of, parts_of_funds, closed_total, securities_total}
+use Rattle.scr_sheet.specs.Members.{is_closed}
 use Rattle.scr_sheet.specs.BalanceSheet.{stake_name, position_name, stake_of, held_of, held_total, components_of}
 use Rattle.scr_sheet.specs.declared.{sheet.BalanceSheet.BalanceSheet, rows.Position.Position, rows.Stake.Stake}
 use Rattle.scr_sheet.specs.Validity.{Valid, IsHeld, IsStake, IsBetween}

@@ -4,7 +4,8 @@ use Rattle.std.specs.List.{fold, filter, list_any, AllByRecursion}
 use Rattle.scr_names.specs.Names.{same_name, earlier}
 use Rattle.scr_sheet.specs.BalanceSheet.{position_name, liability_name, bank_name, rein_name, stake_name}
 use Rattle.scr_sheet.specs.declared.sheet.BalanceSheet.{BalanceSheet}
-use Rattle.scr_sheet.specs.Users.{is_of_group, names_of_group, names_in_currency, has_component, names_of_holders, holder_of, first_row, user_of}
+use Rattle.scr_sheet.specs.Members.{is_of_group}
+use Rattle.scr_sheet.specs.Users.{names_of_group, names_in_currency, has_component, names_of_holders, holder_of, first_row, user_of}
 use Rattle.scr_sheet.specs.declared.fault.User.TheVariants as users
 use Rattle.scr_sheet.specs.declared.keys.Table.TheVariants as tables
 use Rattle.scr_names.proofs.TableRows.{All-map, passes_or_fails}

@@ -1,10 +1,11 @@
 -- What is held of each security and fund of a balance sheet, directly and through funds (Article 84 of Delegated Regulation
 -- (EU) 2015/35), in cents.
-use Rattle.std.specs.Prelude.{ℕ, Bool, true, false, List, [], ◌∷◌, map, sum_by, if◌then◌else◌}
+use Rattle.std.specs.Prelude.{ℕ, List, map, sum_by, if◌then◌else◌}
 use Rattle.scr_funds.specs.LookThrough.{Shared, part_in, total}
 use Rattle.scr_names.specs.Names.{same_name}
 use Rattle.scr_sheet.specs.BalanceSheet.{held_of}
 use Rattle.scr_sheet.specs.declared.{sheet.BalanceSheet.BalanceSheet, rows.Stake.Stake}
+use Rattle.scr_sheet.specs.Members.{is_closed}
 use Rattle.scr_sheet.specs.Records.{natural}
 
 -- a fund's name, and its components with their weights
@@ -20,14 +21,6 @@ total_of sheet name = total same_name (held_of sheet) (shared_funds sheet) name
 -- the parts of a name in the totals of all funds
 abbrev pub parts_of_funds : BalanceSheet → List ℕ → ℕ
 parts_of_funds sheet name = sum_by (λ s. part_in same_name (total_of sheet s.fund.name) (shared s).1 name) sheet.funds
-
--- a fund without components, through which nothing is seen
-abbrev pub is_closed : Stake → Bool
-is_closed stake = no_components stake.fund.components
-  where
-    no_components : {A : Type 0} → List A → Bool
-    no_components [] = true
-    no_components (c ∷ cs) = false
 
 -- all closed funds together
 abbrev pub closed_total : BalanceSheet → ℕ

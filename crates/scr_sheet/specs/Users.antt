@@ -1,18 +1,15 @@
 -- What uses a row that a record would drop, or a liability whose kind it would change (this project's own).
-use Rattle.std.specs.Prelude.{ℕ, ◌++◌, ◌==◌, Bool, false, List, Option, Some, None, if◌then◌else◌, map, filter}
+use Rattle.std.specs.Prelude.{ℕ, ◌++◌, ◌==◌, Bool, List, Option, Some, None, if◌then◌else◌, map, filter}
 use Rattle.std.specs.List.{list_any}
 use Rattle.std.specs.Option.{option_or, option_map, option_map_or}
 use Rattle.scr_names.specs.Names.{same_name, first_in_order}
 use Rattle.scr_names.specs.Tables.{row_of}
 use Rattle.scr_sheet.specs.BalanceSheet.{position_name, liability_name, bank_name, rein_name, curve_name, stake_name, held_of}
-use Rattle.scr_sheet.specs.declared.{sheet.BalanceSheet.BalanceSheet, fault.User.User, keys.Table.Table, rows.Position.Position, rows.Stake.Stake}
+use Rattle.scr_sheet.specs.Members.{is_of_group}
+use Rattle.scr_sheet.specs.declared.{sheet.BalanceSheet.BalanceSheet, fault.User.User, keys.Table.Table, rows.Stake.Stake}
 use Rattle.scr_sheet.specs.declared.fault.User.TheVariants as users
 use Rattle.scr_sheet.specs.declared.keys.AbsorbKey.TheVariants as absorb
 use Rattle.scr_sheet.specs.declared.keys.Table.TheVariants as tables
-
--- a security is of this group
-abbrev pub is_of_group : List ℕ → Position → Bool
-is_of_group name position = option_map_or (same_name name) position.security.group false
 
 -- the names of the securities, banks and reinsurers of a group
 abbrev pub names_of_group : List ℕ → BalanceSheet → List (List ℕ)

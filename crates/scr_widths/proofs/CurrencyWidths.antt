@@ -11,7 +11,7 @@ use Rattle.scr_agg.proofs.ChoiceWidths.{narrow-chosen_gross, narrow-chosen_net}
 use Rattle.scr_curve.specs.Parts.{IsCurveInMillionths, rates_in_parts}
 use Rattle.scr_curve.specs.DiscountEnds.{table_ends}
 use Rattle.scr_curve.specs.declared.tilt.Tilt.TheVariants as tilts
-use Rattle.scr_flow.specs.Due.{dues, paid_total}
+use Rattle.scr_flow.specs.Due.{dues}
 use Rattle.scr_flow.proofs.SizeLemmas.{dues-within}
 use Rattle.scr_flow.proofs.WidthLemmas.{narrow-present}
 use Rattle.scr_factors.specs.Values.{FactorValues}
@@ -53,7 +53,7 @@ use Rattle.scr_widths.proofs.Loads.{flows-loaded}
 use Rattle.scr_widths.proofs.SumWidths.{narrow-number, narrow-less, narrow-from, narrow-net, narrow-rows, shares-within, at-most}
 
 -- what payments of at most so many cents are worth
-pub narrow-worth : (valued : Valued) (most : ℕ) → IsCurveInMillionths valued.rates → paid_total valued.payments ≤ most
+pub narrow-worth : (valued : Valued) (most : ℕ) → IsCurveInMillionths valued.rates → total valued.payments ≤ most
     → IsNarrow (548 * most) (worth_ends valued (discounts_at valued.rates))
 unfolding worth_ends discounts_at
 narrow-worth valued most curve small =

@@ -16,7 +16,7 @@ use Rattle.scr_curve.specs.declared.tilt.Tilt.{Tilt}
 use Rattle.scr_curve.specs.declared.tilt.Tilt.TheVariants as tilts
 use Rattle.scr_curve.proofs.DiscountWidths.{narrow-discounts}
 use Rattle.scr_curve.proofs.RateLemmas.{rates_in_range, length-rates_in_parts}
-use Rattle.scr_flow.specs.Due.{dues, paid_total}
+use Rattle.scr_flow.specs.Due.{dues}
 use Rattle.scr_flow.proofs.SizeLemmas.{dues-within}
 use Rattle.scr_flow.proofs.WidthLemmas.{narrow-loss, narrow-scaled}
 use Rattle.scr_factors.specs.Values.{FactorValues}
@@ -68,7 +68,7 @@ narrow-discounts_at rates tilt curve =
     (let count = length-rates_in_parts rates tilt in omega (arith, count))
 
 -- what payments lose, of at most so many cents
-pub narrow-paid : (paid : Paid) (most : ℕ) → IsCurveInMillionths paid.rates → paid_total paid.payments ≤ most
+pub narrow-paid : (paid : Paid) (most : ℕ) → IsCurveInMillionths paid.rates → total paid.payments ≤ most
     → IsNarrow (1096 * most) (paid_ends paid (discounts_at paid.rates))
 unfolding paid_ends
 narrow-paid paid most curve small =

@@ -39,7 +39,7 @@ use Rattle.scr_rules.proofs.NonlifeSizes as sizes
 use Rattle.scr_rules.proofs.NonlifeSizes.{most_charges}
 use Rattle.scr_widths.specs.Widths.{health_catastrophe_width, health_width, man_made_width, natural_width, nonlife_catastrophe_width, nonlife_width, nslt_width, premium_reserve_width, scale_of, slt_width}
 use Rattle.scr_widths.proofs.SumWidths.{narrow-known, narrow-net, narrow-root_of}
-use Rattle.scr_widths.proofs.Tables.{five, five-spreads, health-spreads, nonlife-spreads, nslt-spreads, six, six-spreads, three, three-spreads, two, two-spreads}
+use Rattle.scr_widths.proofs.Tables.{apart, five-spreads, health-spreads, nonlife-spreads, nslt-spreads, six-spreads, three-spreads, two-spreads}
 
 -- ---- segments
 share-narrow : (num den : ℕ) → IsNarrow 1 (share_ends num den)
@@ -159,7 +159,7 @@ module _ (factors : FactorValues) (known : IsInForm factors) (sheet : BalanceShe
   pub natural-narrow : IsNarrow natural_width (figure (nodes.Whole wholes.Natural))
   natural-narrow =
       subst (IsNarrow natural_width) (sym (sizes.natural-worked factors known sheet valid))
-      (narrow-root_of 3 five five-spreads (most_charges 5) (0 ∷ 0 ∷ 0 ∷ 0 ∷ 0 ∷ []) (sizes.natural_charges factors known sheet valid) refl
+      (narrow-root_of 3 (apart 5) five-spreads (most_charges 5) (0 ∷ 0 ∷ 0 ∷ 0 ∷ 0 ∷ []) (sizes.natural_charges factors known sheet valid) refl
       (sizes.natural-amounts factors known sheet valid)
       (charge-narrow cats.Windstorm, (charge-narrow cats.Earthquake, (charge-narrow cats.Flood, (charge-narrow cats.Hail, (charge-narrow cats.Subsidence, tt)))))
       natural_width (lit≤ tt))
@@ -167,7 +167,7 @@ module _ (factors : FactorValues) (known : IsInForm factors) (sheet : BalanceShe
   pub man_made-narrow : IsNarrow man_made_width (figure (nodes.Whole wholes.ManMade))
   man_made-narrow =
       subst (IsNarrow man_made_width) (sym (sizes.man_made-worked factors known sheet valid))
-      (narrow-root_of 3 six six-spreads (most_charges 6) (0 ∷ 0 ∷ 0 ∷ 0 ∷ 0 ∷ 0 ∷ []) (sizes.man_made_charges factors known sheet valid) refl
+      (narrow-root_of 3 (apart 6) six-spreads (most_charges 6) (0 ∷ 0 ∷ 0 ∷ 0 ∷ 0 ∷ 0 ∷ []) (sizes.man_made_charges factors known sheet valid) refl
       (sizes.man_made-amounts factors known sheet valid)
       (charge-narrow cats.Motor, (charge-narrow cats.Marine, (charge-narrow cats.Aviation, (charge-narrow cats.Fire, (charge-narrow cats.Liability, (charge-narrow cats.Credit, tt))))))
       man_made_width (lit≤ tt))
@@ -177,7 +177,7 @@ module _ (factors : FactorValues) (known : IsInForm factors) (sheet : BalanceShe
       let natural = figure (nodes.Whole wholes.Natural) in
       let property = figure (nodes.Whole (wholes.CatCharge cats.NonProportionalProperty)) in
       subst (IsNarrow nonlife_catastrophe_width) (sym (sizes.catastrophe-worked factors known sheet valid))
-      (narrow-root_of 2 three three-spreads ((50 * 10 ^ 15 + MAX_CHARGE) ∷ 60 * 10 ^ 15 ∷ MAX_CHARGE ∷ []) ((natural_width + 0) ∷ man_made_width ∷ 0 ∷ []) _ refl (
+      (narrow-root_of 2 (apart 3) three-spreads ((50 * 10 ^ 15 + MAX_CHARGE) ∷ 60 * 10 ^ 15 ∷ MAX_CHARGE ∷ []) ((natural_width + 0) ∷ man_made_width ∷ 0 ∷ []) _ refl (
         amount-add (50 * 10 ^ 15) MAX_CHARGE natural property (sizes.natural-amount factors known sheet valid) (sizes.charge-amount factors known sheet valid cats.NonProportionalProperty),
         (sizes.man_made-amount factors known sheet valid, (sizes.charge-amount factors known sheet valid cats.Other, tt)),
       )
@@ -198,7 +198,7 @@ module _ (factors : FactorValues) (known : IsInForm factors) (sheet : BalanceShe
   pub health_catastrophe-narrow : IsNarrow health_catastrophe_width (figure (nodes.Whole wholes.HealthCatastrophe))
   health_catastrophe-narrow =
       subst (IsNarrow health_catastrophe_width) (sym (sizes.health_catastrophe-worked factors known sheet valid))
-      (narrow-root_of 2 three three-spreads (most_charges 3) (0 ∷ 0 ∷ 0 ∷ []) (sizes.health_charges factors known sheet valid) refl
+      (narrow-root_of 2 (apart 3) three-spreads (most_charges 3) (0 ∷ 0 ∷ 0 ∷ []) (sizes.health_charges factors known sheet valid) refl
       (sizes.health-amounts factors known sheet valid)
       (charge-narrow cats.MassAccident, (charge-narrow cats.AccidentConcentration, (charge-narrow cats.Pandemic, tt)))
       health_catastrophe_width (lit≤ tt))
@@ -213,7 +213,7 @@ module _ (factors : FactorValues) (known : IsInForm factors) (sheet : BalanceShe
   nslt-narrow measure =
       let lapse = lapse_cents sets.Nslt sheet.numbers in
       subst (IsNarrow nslt_width) (sym (sizes.nslt-worked factors known sheet valid measure))
-      (narrow-root_of 2 two two-spreads (30_000_000_000_000_000 ∷ 1000 * lapse ∷ []) (premium_reserve_width sets.Nslt ∷ 0 ∷ []) _ refl
+      (narrow-root_of 2 (apart 2) two-spreads (30_000_000_000_000_000 ∷ 1000 * lapse ∷ []) (premium_reserve_width sets.Nslt ∷ 0 ∷ []) _ refl
       (sizes.premium_reserve-amount factors known sheet valid sets.Nslt, (amount-exact (1000 * lapse) (1000 * lapse) (omega arith), tt))
       (premium_reserve-narrow sets.Nslt, (narrow-exact _, tt))
       nslt_width (lit≤ tt))

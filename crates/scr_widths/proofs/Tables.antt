@@ -1,6 +1,6 @@
 -- How far roots over the tables of the formula spread, those of uncorrelated charges among them.
-use Rattle.std.proofs.Common.{refl, arith, lit<, ℕ, pos, List, [], ◌∷◌}
-use Rattle.scr_agg.specs.Correlated.{SpreadsBy}
+use Rattle.std.proofs.Common.{refl, arith, lit<, ℕ, pos}
+use Rattle.scr_agg.specs.Correlated.{SpreadsBy, uncorrelated}
 use Rattle.scr_agg.proofs.TableWidths.{known-spreads}
 use Rattle.scr_profile.specs.declared.correlations.TheConstants.{BSCR, MARKET_0, MARKET_HALF, HEALTH, NONLIFE, NSLT}
 use Rattle.scr_profile.specs.declared.correlations.TheConstants.{EQUITY, DEFAULT}
@@ -31,44 +31,17 @@ pub default-spreads : SpreadsBy 2 DEFAULT
 default-spreads = known-spreads DEFAULT 2 refl refl (lit< tt) (omega arith)
 
 -- ---- two, three, five and six that are not correlated
-abbrev pub two : Matrix
-two = record { n = 2; den = pos 1; cells = (pos 1 ∷ pos 0 ∷ []) ∷ (pos 0 ∷ pos 1 ∷ []) ∷ [] }
+abbrev pub apart : ℕ → Matrix
+apart n = record { n = n; den = pos 1; cells = (uncorrelated n).rows }
 
-abbrev pub three : Matrix
-three = record {
-  n = 3;
-  den = pos 1;
-  cells = (pos 1 ∷ pos 0 ∷ pos 0 ∷ []) ∷ (pos 0 ∷ pos 1 ∷ pos 0 ∷ []) ∷ (pos 0 ∷ pos 0 ∷ pos 1 ∷ []) ∷ [];
-}
+pub two-spreads : SpreadsBy 2 (apart 2)
+two-spreads = known-spreads (apart 2) 2 refl refl (lit< tt) (omega arith)
 
-abbrev pub five : Matrix
-five = record {
-  n = 5;
-  den = pos 1;
-  cells =
-      (pos 1 ∷ pos 0 ∷ pos 0 ∷ pos 0 ∷ pos 0 ∷ []) ∷ (pos 0 ∷ pos 1 ∷ pos 0 ∷ pos 0 ∷ pos 0 ∷ [])
-      ∷ (pos 0 ∷ pos 0 ∷ pos 1 ∷ pos 0 ∷ pos 0 ∷ []) ∷ (pos 0 ∷ pos 0 ∷ pos 0 ∷ pos 1 ∷ pos 0 ∷ [])
-      ∷ (pos 0 ∷ pos 0 ∷ pos 0 ∷ pos 0 ∷ pos 1 ∷ []) ∷ [];
-}
+pub three-spreads : SpreadsBy 2 (apart 3)
+three-spreads = known-spreads (apart 3) 2 refl refl (lit< tt) (omega arith)
 
-abbrev pub six : Matrix
-six = record {
-  n = 6;
-  den = pos 1;
-  cells =
-      (pos 1 ∷ pos 0 ∷ pos 0 ∷ pos 0 ∷ pos 0 ∷ pos 0 ∷ []) ∷ (pos 0 ∷ pos 1 ∷ pos 0 ∷ pos 0 ∷ pos 0 ∷ pos 0 ∷ [])
-      ∷ (pos 0 ∷ pos 0 ∷ pos 1 ∷ pos 0 ∷ pos 0 ∷ pos 0 ∷ []) ∷ (pos 0 ∷ pos 0 ∷ pos 0 ∷ pos 1 ∷ pos 0 ∷ pos 0 ∷ [])
-      ∷ (pos 0 ∷ pos 0 ∷ pos 0 ∷ pos 0 ∷ pos 1 ∷ pos 0 ∷ []) ∷ (pos 0 ∷ pos 0 ∷ pos 0 ∷ pos 0 ∷ pos 0 ∷ pos 1 ∷ []) ∷ [];
-}
+pub five-spreads : SpreadsBy 3 (apart 5)
+five-spreads = known-spreads (apart 5) 3 refl refl (lit< tt) (omega arith)
 
-pub two-spreads : SpreadsBy 2 two
-two-spreads = known-spreads two 2 refl refl (lit< tt) (omega arith)
-
-pub three-spreads : SpreadsBy 2 three
-three-spreads = known-spreads three 2 refl refl (lit< tt) (omega arith)
-
-pub five-spreads : SpreadsBy 3 five
-five-spreads = known-spreads five 3 refl refl (lit< tt) (omega arith)
-
-pub six-spreads : SpreadsBy 3 six
-six-spreads = known-spreads six 3 refl refl (lit< tt) (omega arith)
+pub six-spreads : SpreadsBy 3 (apart 6)
+six-spreads = known-spreads (apart 6) 3 refl refl (lit< tt) (omega arith)
