@@ -1,2 +1,3 @@
-pub mod Blocks
+pub mod ByDay
+pub mod Seats
 pub mod Uses

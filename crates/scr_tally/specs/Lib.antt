@@ -1,4 +1,5 @@
+pub mod Blocks
 pub mod Counts
 pub mod Days
-pub mod Kept
+pub mod Seats
 pub mod Users

@@ -1,14 +1,16 @@
 //! Counts by place, of which the last that is not 0 is known.
-ghost use Rattle.std.specs.Prelude.{◌≡◌, ℕ, ◌+◌, ◌-◌, ◌<◌, ◌≤◌, ◌^◌, length, replicate, slice_set, IfOk};
+ghost use Rattle.std.specs.Prelude.{◌≡◌, ℕ, ◌+◌, ◌-◌, ◌<◌, ◌≤◌, ◌^◌, length, replicate, slice_set};
 ghost use Rattle.scr_tally.specs.Counts.{count_at, IsLastPlace};
 
-use std::alloc::{AllocError as NoMemory, Global};
 use std::marker::Model;
+
+/// The places of a block.
+pub(crate) const PLACES: usize = 438;
 
 /// Counts by place. Contracts see the list of the counts.
 #[derive(Drop)]
 pub(crate) struct Counts {
-    counts: Vec<u32>,
+    counts: [u32; PLACES],
     /// The last place whose count is not 0.
     last: Option<usize>,
 }
@@ -19,23 +21,25 @@ impl Model for Counts {
 
     ghost Value = { List ℕ };
 
-    ghost view = { λ counts. counts.counts.items };
+    ghost view = { λ counts. counts.counts };
 
-    ghost invariant = { λ counts. IsLastPlace counts.counts.items counts.last };
+    ghost invariant = { λ counts. IsLastPlace counts.counts counts.last };
 }
 
 impl Counts {
-    /// So many places, each with the count 0.
-    pub(crate) fn new(alloc: Global, places: usize) -> Result<Counts, NoMemory>
-        ensures { IfOk result (λ counts. counts ≡ replicate places 0) }
+    /// Each count is 0.
+    pub(crate) fn new() -> Counts
+        ensures { result ≡ replicate 438 0 }
     {
-        let counts = vec![in alloc; 0; places]?;
-        Ok(Counts { counts, last: None })
+        Counts {
+            counts: [0; PLACES],
+            last: None,
+        }
     }
 
     /// One more at a place.
     pub(crate) fn add(&mut self, place: usize)
-        requires place { place < length self.old }
+        requires place { place < 438 }
         requires fits { count_at self.old place + 1 < 2 ^ 32 }
         ensures { self.new ≡ slice_set self.old place (count_at self.old place + 1) }
     {
@@ -48,7 +52,7 @@ impl Counts {
 
     /// One less at a place.
     pub(crate) fn take(&mut self, place: usize)
-        requires place { place < length self.old }
+        requires place { place < 438 }
         requires some { 1 ≤ count_at self.old place }
         ensures { self.new ≡ slice_set self.old place (count_at self.old place - 1) }
     {

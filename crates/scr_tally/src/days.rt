@@ -2,9 +2,9 @@
 ghost use Rattle.std.specs.Prelude.{◌≡◌, ℤ, ℕ, ◌+◌, ◌-◌, ◌*◌, ◌/◌, ◌%◌, ◌<◌, ◌≤◌, ◌^◌, IfOk};
 ghost use Rattle.scr_dates.specs.Civil.{IsDay};
 ghost use Rattle.scr_tally.specs.Days.{days_to, count_of, ends_on, IsLast, IsDayOrNone};
-ghost use Rattle.scr_tally.specs.Kept.{IsLastIn};
 
-use crate::counts::Counts;
+use crate::blocks::Blocks;
+use crate::counts::PLACES;
 use scr_dates::Day;
 use std::alloc::{AllocError as NoMemory, Global};
 use std::marker::Model;
@@ -12,28 +12,19 @@ use std::marker::Model;
 /// The number of 1 January 1900.
 const FIRST: i32 = -25_567;
 
-/// The blocks, with a place for each day from 1900 to 2200 together.
-const BLOCKS: usize = 251;
-
-/// The places of a block.
-const PLACES: usize = 438;
-
-/// How many lists of payments end on each day of the years 1900 to 2200. All memory is taken when it is made. Contracts see the
-/// counts by block, and read them by day.
+/// How many lists of payments end on each day of the years 1900 to 2200, which stand in blocks. All memory is taken when it is
+/// made. Contracts see the counts by block, and read them by day.
 #[derive(Drop)]
 pub struct DayTally {
-    blocks: Vec<Counts>,
+    blocks: Blocks,
 }
 
 impl Model for DayTally {
     ghost use Rattle.std.specs.Prelude.{ℕ, List};
-    ghost use Rattle.scr_tally.specs.Kept.{AreBlocks};
 
     ghost Value = { List (List ℕ) };
 
-    ghost view = { λ tally. tally.blocks.items };
-
-    ghost invariant = { λ tally. AreBlocks tally.blocks.items };
+    ghost view = { λ tally. tally.blocks };
 }
 
 impl DayTally {
@@ -41,10 +32,7 @@ impl DayTally {
     pub fn new(alloc: Global) -> Result<DayTally, NoMemory>
         ensures { IfOk result (λ tally. (day : ℤ) → count_of day tally ≡ 0) }
     {
-        let mut blocks = Vec::with_capacity(alloc, BLOCKS)?;
-        for _ in 0..BLOCKS {
-            blocks.push(Counts::new(alloc, PLACES)?)?;
-        }
+        let blocks = Blocks::new(alloc)?;
         Ok(DayTally { blocks })
     }
 
@@ -56,7 +44,7 @@ impl DayTally {
     {
         if let Some(day) = last {
             let (block, place) = place_of(day);
-            self.blocks[block].add(place);
+            self.blocks.add(block, place);
         }
     }
 
@@ -68,7 +56,7 @@ impl DayTally {
     {
         if let Some(day) = last {
             let (block, place) = place_of(day);
-            self.blocks[block].take(place);
+            self.blocks.take(block, place);
         }
     }
 
@@ -76,23 +64,11 @@ impl DayTally {
     pub fn last(&self) -> Option<Day>
         ensures { IsLast self.now result }
     {
-        match last_in(&self.blocks) {
+        match self.blocks.last() {
             Some((block, place)) => Some(day_at(block, place)),
             None => None,
         }
     }
-}
-
-// The last block and place whose count is not 0.
-fn last_in(blocks: &[Counts]) -> Option<(usize, usize)>
-    ensures { IsLastIn blocks.now result }
-{
-    for block in (0..blocks.len()).rev() {
-        if let Some(place) = blocks[block].last() {
-            return Some((block, place));
-        }
-    }
-    None
 }
 
 // The block of a day, and its place there.

@@ -1,6 +1,7 @@
 //! Counts that are kept beside tables, so that a record costs some look-ups.
 #![tactic(auto)]
 
+mod blocks;
 mod counts;
 mod days;
 pub mod laws;

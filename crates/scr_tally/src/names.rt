@@ -135,7 +135,7 @@ impl NameTally {
 
     /// The tally is not lost, and no row uses the name.
     pub fn is_unused(&self, name: &Name) -> bool
-        ensures { result ≡ true → IsUnused name.now self.now }
+        ensures { result ≡ true ↔ IsUnused name.now self.now }
     {
         !self.is_lost && self.users(name) == 0
     }

@@ -1,27 +1,24 @@
-use Rattle.std.proofs.Common.{List, ℕ, Some, None, subst}
+use Rattle.std.proofs.Common.{ℕ, ◌<◌, List, Option, Some, None, IfSome, subst}
 use Rattle.scr_tally.specs.Days.{IsLast}
-use Rattle.scr_tally.specs.Kept.{IsLastIn}
-use Rattle.scr_tally.proofs.Blocks.{last-none, last-some, last-within}
+use Rattle.scr_tally.specs.Blocks.{IsLastIn}
+use Rattle.scr_tally.proofs.ByDay.{last-none, last-some}
 use Rattle.scr_tally.proofs.days.DayTally.last.Goals as goal
 
--- what was found in the blocks
-found : (c : goal.In-Some) → IsLastIn c.self.inside.blocks.items (Some (c.in-Some.block, c.in-Some.place))
-found c = subst (λ (blocks : List (List ℕ)). IsLastIn blocks (Some (c.in-Some.block, c.in-Some.place))) c.deref.ensures.value (subst (IsLastIn c.deref.result.now) c.in-Some.is c.last_in.ensures)
-
 pub day_at-requires-clause-block : goal.day_at-requires-clause-block
-day_at-requires-clause-block c = (last-within c.self.inside.blocks.items c.in-Some.block c.in-Some.place (found c) c.self.invariant).0
+day_at-requires-clause-block c =
+    (subst (λ (found : Option (ℕ × ℕ)). IfSome found (λ at. (at.0 < 251) × (at.1 < 438))) c.in-Some.is c.last.ensures.within).0
 
 pub day_at-requires-clause-place : goal.day_at-requires-clause-place
-day_at-requires-clause-place c = (last-within c.self.inside.blocks.items c.in-Some.block c.in-Some.place (found c) c.self.invariant).1
+day_at-requires-clause-place c =
+    (subst (λ (found : Option (ℕ × ℕ)). IfSome found (λ at. (at.0 < 251) × (at.1 < 438))) c.in-Some.is c.last.ensures.within).1
 
 pub returns-in-Some : goal.returns-in-Some
 returns-in-Some c =
-    let found : IsLastIn c.self.inside.blocks.items (Some (c.in-Some.block, c.in-Some.place)) =
-    subst (λ (blocks : List (List ℕ)). IsLastIn blocks (Some (c.in-Some.block, c.in-Some.place))) c.deref.ensures.value (subst (IsLastIn c.deref.result.now) c.in-Some.is c.last_in.ensures) in
+    let within = subst (λ (found : Option (ℕ × ℕ)). IfSome found (λ at. (at.0 < 251) × (at.1 < 438))) c.in-Some.is c.last.ensures.within in
     subst (λ (blocks : List (List ℕ)). IsLast blocks (Some c.day_at.result)) c.self.view_is
-    (last-some c.self.inside.blocks.items c.in-Some.block c.in-Some.place found c.day_at.result c.day_at.ensures.is_day c.day_at.ensures.days (last-within c.self.inside.blocks.items c.in-Some.block c.in-Some.place found c.self.invariant).1)
+    (last-some _ c.in-Some.block c.in-Some.place (subst (IsLastIn _) c.in-Some.is c.last.ensures.last) c.day_at.result c.day_at.ensures.is_day c.day_at.ensures.days within.1)
 
 pub returns-in-None : goal.returns-in-None
 returns-in-None c =
     subst (λ (blocks : List (List ℕ)). IsLast blocks None) c.self.view_is
-    (last-none c.self.inside.blocks.items (subst (λ (blocks : List (List ℕ)). IsLastIn blocks None) c.deref.ensures.value (subst (IsLastIn c.deref.result.now) c.in-None.is c.last_in.ensures)))
+    (last-none _ (subst (IsLastIn _) c.in-None.is c.last.ensures.last))

@@ -1,5 +1,5 @@
-use Rattle.std.proofs.Common.{◌≡◌, sym, ap, ◌∙◌, rules}
-use Rattle.scr_names.specs.Tables.{has_row, with_row}
+use Rattle.std.proofs.Common.{sym, ap, ◌∙◌, rules}
+use Rattle.scr_names.specs.Tables.{with_row}
 use Rattle.scr_tally.specs.declared.names.Used.{Used}
 use Rattle.scr_tally.specs.Users.{Tallied, used_name, came}
 use Rattle.scr_tally.proofs.Uses.{written-users, changed-users}

@@ -1,5 +1,5 @@
-use Rattle.std.proofs.Common.{ℕ, List, Option, ◌<◌, IfSome, sym, subst, arith}
-use Rattle.scr_tally.specs.Users.{uses_one, users_under, nothing, Moves}
+use Rattle.std.proofs.Common.{ℕ, List, Option, sym, subst, arith}
+use Rattle.scr_tally.specs.Users.{uses_one, nothing, Moves}
 use Rattle.scr_tally.proofs.Uses.{written-less, came-used}
 use Rattle.scr_tally.proofs.names.NameTally.take.Goals as goal
 
