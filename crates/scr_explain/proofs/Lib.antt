@@ -1,2 +1,4 @@
+mod Asking
 mod Cells
+mod Options
 mod Owed

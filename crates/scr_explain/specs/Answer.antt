@@ -1,8 +1,9 @@
 -- What a question about a book is answered (this project's own): the factor file is read, then the book, each as a run
 -- reads it, and the answer is written.
-use Rattle.std.specs.Prelude.{◌≡◌, ℕ, zero, ◌≤◌, ◌<◌, ◌++◌, Bool, true, false, List, [], None, Some, Result, Ok, Err, codes, is_some, length, option_map, slice_get}
+use Rattle.std.specs.Prelude.{◌≡◌, ℕ, zero, ◌≤◌, ◌<◌, ◌++◌, Bool, true, false, List, [], None, Some, Result, Ok, Err, ◌^◌, codes, is_some, length, min, option_map, slice_get}
 use Rattle.std.specs.Option.{option_map_or}
-use Rattle.clap.specs.Matches.{first_value}
+use Rattle.std.specs.Str.Parse.{IsNumeral, digits_value, without_leading_plus}
+use Rattle.clap.specs.Matches.{first_value, one_text}
 use Rattle.clap.specs.declared.parser.matches.Found.{Found}
 use Rattle.scr_factors.specs.Values.{FactorValues}
 use Rattle.scr_sheet.specs.declared.fault.Fault.{Fault}
@@ -30,14 +31,39 @@ CanAsk (asks.Account cell extent) = (cell < CELL_COUNT) × (extent.depth ≤ 1_0
 CanAsk (asks.Moves line) = length line.now ≤ 67108864
 CanAsk asks.Drawing = Unit {0}
 
--- what the words ask, by the values that were found among them: a drawing; or the moves by a record; or why the first
--- cell of a name is what it is
+-- the value under a name writes this number in decimal digits, before which a plus may stand, and it has 32 bits
+pub record HasNumber (found : Found) (name : List ℕ) (number : ℕ) : Type 0 where
+  pub text : List ℕ
+  pub given : one_text found name ≡ Some text
+  pub digits : IsNumeral 10 (without_leading_plus text)
+  pub few : digits_value 10 (without_leading_plus text) < 2 ^ 32
+  pub value : number ≡ digits_value 10 (without_leading_plus text)
+
+-- the tree that is asked for, in which a depth above 1,000 counts as 1,000
+pub record IsExtent (found : Found) (extent : Extent) : Type 0 where
+  pub levels : ℕ
+  pub depth : HasNumber found (codes "depth") levels
+  pub most : extent.depth ≡ min levels 1_000
+  pub top : HasNumber found (codes "top") extent.top
+
+-- the cell of the table has the name that is given
+pub record IsNamed (found : Found) (cell : ℕ) : Type 0 where
+  pub name : List ℕ
+  pub given : first_value found (codes "cell") ≡ Some name
+  pub shown : option_map (λ c. c.name) (slice_get table cell) ≡ Some name
+
+-- What the words ask, by the values that were found among them: a drawing; or else the moves by a record; or else why the
+-- cell of a name is what it is, in a tree of the extent that they give.
 abbrev pub IsAsked : Found → Asked → Type 0
 IsAsked found (asks.Account cell extent) =
-    (first_value found (codes "svg") ≡ None) × (first_value found (codes "record") ≡ None)
-    × (first_value found (codes "cell") ≡ option_map (λ c. c.name) (slice_get table cell))
+    (first_value found (codes "svg") ≡ None) × (first_value found (codes "record") ≡ None) × IsNamed found cell
+    × IsExtent found extent
 IsAsked found (asks.Moves line) = (first_value found (codes "svg") ≡ None) × (first_value found (codes "record") ≡ Some line.now)
 IsAsked found asks.Drawing = is_some (first_value found (codes "svg")) ≡ true
+
+-- they ask nothing that can be asked: no cell has the name, there is no number for the extent, or the record is too long
+abbrev pub AskNothing : Found → Type 0
+AskNothing found = (asked : Asked) → CanAsk asked → IsAsked found asked → ⊥
 
 -- ---- why a cell is what it is
 
@@ -80,8 +106,8 @@ pub record Ask : Type 0 where
   pub book : List ℕ
   pub asked : Asked
 
-abbrev pub question_of : Question → Ask
-question_of question = record { factors = question.factors.now; book = question.book.now; asked = question.asked }
+abbrev pub ask_of : Question → Ask
+ask_of question = record { factors = question.factors.now; book = question.book.now; asked = question.asked }
 
 unfoldable pub answered : Asked → FactorValues → BalanceSheet → Plan Status
 answered asked factors sheet =

@@ -5,7 +5,7 @@ ghost use Rattle.scr_plans.specs.Moment.{Shelved, sunk, shelved};
 ghost use Rattle.scr_plans.specs.Owes.{Owes};
 ghost use Rattle.scr_run.specs.BookFile.{recorded};
 ghost use Rattle.scr_run.specs.Statuses.{answer_of};
-ghost use Rattle.scr_explain.specs.Answer.{CanAsk, account_answer, answer_to, answered, drawing_answer, heading, moves_answer, question_of, question_plan};
+ghost use Rattle.scr_explain.specs.Answer.{CanAsk, account_answer, answer_to, answered, ask_of, drawing_answer, heading, moves_answer, question_plan};
 
 use crate::question::{Asked, Question};
 use scr_account::{Extent, cell_bounds, push_account, push_moves};
@@ -35,7 +35,7 @@ pub fn explain<R: Threads + Sync, F: Shelf, K: Sink>(
     sink: &mut K,
 ) -> Status
     requires { CanAsk question.now.asked }
-    ensures { Owes (question_plan (question_of question.now))
+    ensures { Owes (question_plan (ask_of question.now))
         (shelved (F.content shelf.old) (F.faults shelf.old) (F.strays shelf.old))
         (shelved (F.content shelf.new) (F.faults shelf.new) (F.strays shelf.new))
         (sunk (K.written sink.old) (K.faults sink.old))

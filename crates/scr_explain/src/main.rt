@@ -2,15 +2,17 @@
 //! figures under a cell.
 #![tactic(auto)]
 
+mod command;
 mod explaining;
 mod late_file;
 mod question;
 
 use clap::ArgMatches;
 use clap::error::ErrorKind;
+use command::command;
 use explaining::explain;
 use late_file::LateFile;
-use question::{command, question_of};
+use question::question_of;
 use scr_io::{HostShelf, HostSink};
 use scr_run::{Status, conclude};
 use std::process::ExitCode;
@@ -66,7 +68,7 @@ fn answer<R: Threads + Sync>(
 ) -> Result<Status, u8> {
     let Some(question) = question_of(matches) else {
         let _ = eprintln!(rt;
-            "scr_explain: no cell has this name; docs/FORMATS.md lists the cells"
+            "scr_explain: no cell has this name, or the record is too long; docs/FORMATS.md lists the cells"
         );
         return Err(USAGE);
     };

@@ -1,14 +1,20 @@
 //! What the words of the command line ask.
-ghost use Rattle.std.specs.Prelude.{◌≡◌, ◌<◌, ℕ, IfSome, None, Some, codes, option_map, slice_get};
+ghost use Rattle.std.specs.Prelude.{◌≡◌, ◌<◌, ◌⊎◌, ℕ, IfSome, None, Some, codes, option_map, slice_get};
 ghost use Rattle.clap.specs.Matches.{first_value, found_of};
 ghost use Rattle.scr_cells.specs.Table.{table};
 ghost use Rattle.scr_cells.specs.declared.table.TheConstants.{CELL_COUNT};
-ghost use Rattle.scr_explain.specs.Answer.{CanAsk, IsAsked};
+ghost use Rattle.scr_account.specs.declared.account.Extent.{Extent as ExtentSeen};
+ghost use Rattle.scr_explain.specs.Answer.{AskNothing, CanAsk, HasNumber, IsAsked, IsExtent};
 
-use clap::{Arg, ArgAction, ArgMatches, Command, value_parser};
+use clap::ArgMatches;
 use scr_account::Extent;
 use scr_cells::{CELL_COUNT, cell_name};
-use std::alloc::{AllocError as NoMemory, Global};
+
+/// The most bytes of a record: those of a file.
+const MAX_RECORD: usize = 67_108_864;
+
+/// The most levels of a tree.
+const MAX_DEPTH: u32 = 1_000;
 
 /// What is asked of a book.
 #[derive(Clone, Copy)]
@@ -29,93 +35,17 @@ pub struct Question<'a> {
     pub asked: Asked<'a>,
 }
 
-/// The command, with help and a version.
-pub fn command<'a>(alloc: Global) -> Result<Command<'a>, NoMemory> {
-    Command::new(alloc, "scr_explain")
-        .version("1.0")
-        .about("Tells why a figure of the Solvency Capital Requirement is what it is")
-        .arg(text(alloc, "factors", "FILE", "The factor file").required(true))?
-        .arg(text(alloc, "book", "FILE", "The balance sheet").required(true))?
-        .arg(cell(alloc)?)?
-        .arg(number(
-            alloc,
-            "depth",
-            "N",
-            "2",
-            "How many levels of sources are told",
-        ))?
-        .arg(number(
-            alloc,
-            "top",
-            "K",
-            "10",
-            "How many sources of a figure are told, the largest",
-        ))?
-        .arg(record(alloc)?)?
-        .arg(text(
-            alloc,
-            "svg",
-            "FILE",
-            "Writes a drawing of the requirement to this file",
-        ))
-}
-
-/// The option for a cell, which is needed where neither a record nor a drawing is asked for, and goes with neither.
-fn cell<'a>(alloc: Global) -> Result<Arg<'a>, NoMemory> {
-    text(
-        alloc,
-        "cell",
-        "NAME",
-        "The cell of the report, such as S2501.scr",
-    )
-    .required_unless_present("record")?
-    .required_unless_present("svg")?
-    .conflicts_with("record")?
-    .conflicts_with("svg")
-}
-
-/// The option for a record, which goes with no drawing.
-fn record<'a>(alloc: Global) -> Result<Arg<'a>, NoMemory> {
-    text(
-        alloc,
-        "record",
-        "LINE",
-        "Tells which cells this record of a script moves",
-    )
-    .conflicts_with("svg")
-}
-
-fn text<'a>(alloc: Global, name: &'a str, value: &'a str, help: &'a str) -> Arg<'a> {
-    Arg::new(alloc, name)
-        .long(name)
-        .value_name(value)
-        .help(help)
-        .action(ArgAction::Set)
-}
-
-fn number<'a>(
-    alloc: Global,
-    name: &'a str,
-    value: &'a str,
-    default: &'a str,
-    help: &'a str,
-) -> Arg<'a> {
-    Arg::new(alloc, name)
-        .long(name)
-        .value_name(value)
-        .help(help)
-        .default_value(default)
-        .value_parser(value_parser!(u32).range(0..=1000))
-        .action(ArgAction::Set)
-}
-
-/// What the words ask; nothing where no cell has the name.
+/// What the words ask. Nothing exactly where no file is named, or where they ask nothing that can be asked: no cell has the name, or
+/// the record is longer than a file may be.
 pub fn question_of<'a>(matches: &ArgMatches<'a>) -> Option<Question<'a>>
     ensures files { IfSome result (λ question.
         (first_value (found_of matches.now) (codes "factors") ≡ Some question.factors.now)
         × (first_value (found_of matches.now) (codes "book") ≡ Some question.book.now)) }
     ensures asked { IfSome result (λ question. IsAsked (found_of matches.now) question.asked) }
     ensures can { IfSome result (λ question. CanAsk question.asked) }
+    ensures none { result ≡ None → (first_value (found_of matches.now) (codes "factors") ≡ None)
+        ⊎ (first_value (found_of matches.now) (codes "book") ≡ None)
+        ⊎ AskNothing (found_of matches.now) }
 {
     Some(Question {
         factors: matches.get_str("factors")?,
@@ -124,24 +54,42 @@ pub fn question_of<'a>(matches: &ArgMatches<'a>) -> Option<Question<'a>>
     })
 }
 
+/// The same without the files.
 fn asked_by<'a>(matches: &ArgMatches<'a>) -> Option<Asked<'a>>
     ensures asked { IfSome result (IsAsked (found_of matches.now)) }
     ensures can { IfSome result CanAsk }
+    ensures none { result ≡ None → AskNothing (found_of matches.now) }
 {
     if matches.get_str("svg").is_some() {
         return Some(Asked::Drawing);
     }
     if let Some(record) = matches.get_str("record") {
-        if record.len() > 67_108_864 {
+        if record.len() > MAX_RECORD {
             return None;
         }
         return Some(Asked::Moves(record));
     }
-    let extent = Extent {
-        depth: matches.get_one::<u32>("depth")?.min(1_000),
-        top: matches.get_one::<u32>("top")?,
-    };
+    let extent = extent_of(matches)?;
     Some(Asked::Account(cell_named(matches.get_str("cell")?)?, extent))
+}
+
+/// The extent of the tree that is asked for.
+fn extent_of(matches: &ArgMatches<'_>) -> Option<Extent>
+    ensures given { IfSome result (IsExtent (found_of matches.now)) }
+    ensures none { result ≡ None → (extent : ExtentSeen) → IsExtent (found_of matches.now) extent → ⊥ }
+{
+    Some(Extent {
+        depth: number_of(matches, "depth")?.min(MAX_DEPTH),
+        top: number_of(matches, "top")?,
+    })
+}
+
+/// The number that is given under a name.
+fn number_of(matches: &ArgMatches<'_>, name: &str) -> Option<u32>
+    ensures given { IfSome result (HasNumber (found_of matches.now) name.now) }
+    ensures none { result ≡ None → (number : ℕ) → HasNumber (found_of matches.now) name.now number → ⊥ }
+{
+    matches.get_one::<u32>(name)
 }
 
 /// The number of the first cell of this name.

@@ -1,5 +1,5 @@
 //! Rows in one list.
-ghost use Rattle.std.specs.Prelude.{◌≡◌, ◌+◌, [], ◌∷◌, ◌++◌, IfOk, OnOk, length, slice_get, slice_index_or};
+ghost use Rattle.std.specs.Prelude.{◌≡◌, ◌+◌, [], ◌∷◌, ◌++◌, IfOk, OnErr, OnOk, length, slice_get, slice_index_or};
 
 use std::alloc::{AllocError as NoMemory, Global};
 use std::marker::Model;
@@ -63,9 +63,10 @@ impl<T: Copy> Rows<T> {
         self.row(place as usize).get(k as usize).copied()
     }
 
-    /// A row more. Room for more than 2^32 items is refused as if for want of memory.
+    /// A row more. Room for more than 2^32 items is refused as if for want of memory; the rows then stay as they are.
     pub fn push(&mut self, row: &[T]) -> Result<(), NoMemory>
-        ensures { OnOk result (self.new ≡ self.old ++ row.now ∷ []) }
+        ensures ok { OnOk result (self.new ≡ self.old ++ row.now ∷ []) }
+        ensures err { OnErr result (self.new ≡ self.old) }
     {
         let from = count_of(self.items.len())?;
         let to = added(from, count_of(row.len())?)?;

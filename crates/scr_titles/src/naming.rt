@@ -1,5 +1,6 @@
 //! The title of a figure.
-ghost use Rattle.std.specs.Prelude.{◌≡◌, ◌++◌, OnOk, codes};
+ghost use Rattle.std.specs.Io.{StartsWith};
+ghost use Rattle.std.specs.Prelude.{◌≡◌, ◌++◌, OnErr, OnOk, codes};
 ghost use Rattle.scr_titles.specs.Titles.{subject, title};
 
 use crate::titles::{absorption, detail, family};
@@ -7,10 +8,12 @@ use scr_names::Name;
 use scr_nodes::Node;
 use std::alloc::AllocError as NoMemory;
 
-/// Appends what a figure is called: the row that it is of, what it is, and whether it is gross or net.
-#[tactic(auto, unfolding(crate::specs::Titles::title))]
+/// Appends what a figure is called: the row that it is of, what it is, and whether it is gross or net. Where memory is refused the text
+/// still begins with what stood there.
+#[tactic(auto, using(std::proofs::Transfers::starts_with_trans, std::proofs::Transfers::starts_with_of_append), unfolding(crate::specs::Titles::title))]
 pub fn push_title(out: &mut Vec<u8>, node: &Node) -> Result<(), NoMemory>
-    ensures { OnOk result (out.new.items ≡ out.old.items ++ title node.now) }
+    ensures ok { OnOk result (out.new.items ≡ out.old.items ++ title node.now) }
+    ensures err { OnErr result (StartsWith out.new.items out.old.items) }
 {
     push_subject(out, node)?;
     push(out, family(node))?;
@@ -19,7 +22,8 @@ pub fn push_title(out: &mut Vec<u8>, node: &Node) -> Result<(), NoMemory>
 }
 
 fn push_subject(out: &mut Vec<u8>, node: &Node) -> Result<(), NoMemory>
-    ensures { OnOk result (out.new.items ≡ out.old.items ++ subject node.now) }
+    ensures ok { OnOk result (out.new.items ≡ out.old.items ++ subject node.now) }
+    ensures err { OnErr result (StartsWith out.new.items out.old.items) }
 {
     match node {
         Node::Fund(name, _) => push_row(out, "fund ", name),
@@ -31,8 +35,10 @@ fn push_subject(out: &mut Vec<u8>, node: &Node) -> Result<(), NoMemory>
     }
 }
 
+#[tactic(auto, using(std::proofs::Transfers::starts_with_trans, std::proofs::Transfers::starts_with_of_append))]
 fn push_row(out: &mut Vec<u8>, table: &str, name: &Name) -> Result<(), NoMemory>
-    ensures { OnOk result (out.new.items ≡ out.old.items ++ (table.now ++ name.now) ++ codes ": ") }
+    ensures ok { OnOk result (out.new.items ≡ out.old.items ++ (table.now ++ name.now) ++ codes ": ") }
+    ensures err { OnErr result (StartsWith out.new.items out.old.items) }
 {
     push(out, table)?;
     out.extend_from_slice(name.as_bytes())?;
@@ -40,7 +46,8 @@ fn push_row(out: &mut Vec<u8>, table: &str, name: &Name) -> Result<(), NoMemory>
 }
 
 fn push(out: &mut Vec<u8>, text: &str) -> Result<(), NoMemory>
-    ensures { OnOk result (out.new.items ≡ out.old.items ++ text.now) }
+    ensures ok { OnOk result (out.new.items ≡ out.old.items ++ text.now) }
+    ensures err { OnErr result (StartsWith out.new.items out.old.items) }
 {
     out.extend_from_slice(text.as_bytes())
 }

@@ -141,7 +141,8 @@ pub fn absorption(node: &Node) -> &'static str
     }
 }
 
-/// The articles of Delegated Regulation (EU) 2015/35 that a figure is by, or that of the Directive.
+/// The articles of Delegated Regulation (EU) 2015/35 that a figure is by, or that of the Directive. A figure after absorption is by
+/// Article 206(2), alone where what is absorbed is taken off just there.
 pub fn article(node: &Node) -> &'static str
     ensures { result.now ≡ titles.article node.now }
 {
@@ -154,21 +155,27 @@ pub fn article(node: &Node) -> &'static str
         Node::Security(_, OfSecurity::Spread) => "Article 176",
         Node::Liability(_, OfLiability::Present) => "Article 188",
         Node::Liability(_, OfLiability::Loss(projection)) => line_article(*projection),
-        Node::Whole(Whole::BioScenario(obligations, projection, _)) => stress_article(
+        Node::Whole(Whole::BioScenario(obligations, projection, Measure::Gross)) => stress_article(
             *obligations,
             *projection,
         ),
-        Node::Currency(_, OfCurrency::Scenario(_, _)) => "Article 188(3) and (4)",
+        Node::Currency(_, OfCurrency::Scenario(_, Measure::Gross)) => "Article 188(3) and (4)",
         Node::Currency(_, OfCurrency::Choice) | Node::Currency(_, OfCurrency::Picked(_)) =>
             "Article 188(2)",
         Node::Group(_, OfGroup::Total) => "Article 182",
         Node::Group(_, OfGroup::ConcentrationSquare) => "Articles 184(1) and 187",
         Node::Group(_, OfGroup::Loss) => "Article 192",
-        Node::Whole(Whole::InterestScenario(direction, _)) => direction_article(*direction),
-        Node::Whole(Whole::Choice(_))
-        | Node::Whole(Whole::Picked(_, _))
-        | Node::Whole(Whole::NetPart(_)) => "Article 206(2)",
-        Node::Whole(Whole::Currency(_)) => "Article 188(1)",
+        Node::Whole(Whole::InterestScenario(direction, Measure::Gross)) => direction_article(
+            *direction,
+        ),
+        Node::Currency(_, OfCurrency::Scenario(_, Measure::Net))
+        | Node::Whole(Whole::InterestScenario(_, Measure::Net))
+        | Node::Whole(Whole::BioScenario(_, _, Measure::Net))
+        | Node::Whole(Whole::NetPart(_))
+        | Node::Whole(Whole::Choice(_))
+        | Node::Whole(Whole::Picked(_, _)) => "Article 206(2)",
+        Node::Whole(Whole::Currency(Measure::Gross)) => "Article 188(1)",
+        Node::Whole(Whole::Currency(Measure::Net)) => "Articles 188(1) and 206(2)",
         Node::Whole(Whole::ClassSum(_)) => "Article 168",
         Node::Whole(Whole::EquityPart(_)) => "Articles 169 and 171",
         Node::Whole(Whole::EquityRoot) => "Article 168(4)",
@@ -176,15 +183,18 @@ pub fn article(node: &Node) -> &'static str
         Node::Whole(Whole::Spread) => "Article 175",
         Node::Whole(Whole::Assets) => "Article 184(2)",
         Node::Whole(Whole::Concentration) => "Article 183",
-        Node::Whole(Whole::Market(_)) => "Article 164",
+        Node::Whole(Whole::Market(Measure::Gross)) => "Article 164",
+        Node::Whole(Whole::Market(Measure::Net)) => "Articles 164 and 206(2)",
         Node::Whole(Whole::ClassLoss(_))
         | Node::Whole(Whole::ClassSquare(_))
         | Node::Whole(Whole::Variance) => "Article 201",
         Node::Whole(Whole::DefaultBand) | Node::Whole(Whole::DefaultType1) => "Article 200",
         Node::Whole(Whole::DefaultType2) => "Article 202",
         Node::Whole(Whole::Default) => "Article 189(1)",
-        Node::Whole(Whole::Life(_)) => "Article 136",
-        Node::Whole(Whole::Slt(_)) => "Article 151",
+        Node::Whole(Whole::Life(Measure::Gross)) => "Article 136",
+        Node::Whole(Whole::Life(Measure::Net)) => "Articles 136 and 206(2)",
+        Node::Whole(Whole::Slt(Measure::Gross)) => "Article 151",
+        Node::Whole(Whole::Slt(Measure::Net)) => "Articles 151 and 206(2)",
         Node::Whole(Whole::Segment(segment)) => segment_article(segment.set()),
         Node::Whole(Whole::PremiumReserve(set)) => premium_article(*set),
         Node::Whole(Whole::CatCharge(key)) => catastrophe_article(*key),
@@ -193,11 +203,16 @@ pub fn article(node: &Node) -> &'static str
         Node::Whole(Whole::ManMade) => "Article 128",
         Node::Whole(Whole::NonlifeCatastrophe) => "Article 119",
         Node::Whole(Whole::HealthCatastrophe) => "Article 160",
-        Node::Whole(Whole::Nslt(_)) => "Article 145",
-        Node::Whole(Whole::Health(_)) => "Article 144",
-        Node::Whole(Whole::Nonlife(_)) => "Article 114",
+        Node::Whole(Whole::Nslt(Measure::Gross)) => "Article 145",
+        Node::Whole(Whole::Nslt(Measure::Net)) => "Articles 145 and 206(2)",
+        Node::Whole(Whole::Health(Measure::Gross)) => "Article 144",
+        Node::Whole(Whole::Health(Measure::Net)) => "Articles 144 and 206(2)",
+        Node::Whole(Whole::Nonlife(Measure::Gross)) => "Article 114",
+        Node::Whole(Whole::Nonlife(Measure::Net)) => "Articles 114 and 206(2)",
         Node::Whole(Whole::Intangible) => "Article 203",
-        Node::Whole(Whole::Bscr(_)) | Node::Whole(Whole::Diversification) => "Article 87",
+        Node::Whole(Whole::Bscr(Measure::Gross)) | Node::Whole(Whole::Diversification) =>
+            "Article 87",
+        Node::Whole(Whole::Bscr(Measure::Net)) => "Articles 87 and 206(2)",
         Node::Whole(Whole::OpPart(_)) => "Article 204",
         Node::Whole(Whole::Adjust(adjustment)) => adjustment_article(*adjustment),
         Node::Whole(Whole::Scr) => "Article 103 of Directive 2009/138/EC",
