@@ -2,9 +2,8 @@
 use Rattle.std.proofs.Common.{◌≡◌, ℕ, zero, suc, true, false, nat_eq, List, [], ◌∷◌, length, Some, None, slice_get, refl, sym, ap, subst, ◌∙◌, inl, inr}
 use Rattle.std.specs.List.{IsDistinct}
 use Rattle.scr_funds.proofs.Members.{IsMember, IsMember-from_Contains, Contains-from_IsMember, at_member}
-use Rattle.scr_sheet.specs.declared.sheet.BalanceSheet.{BalanceSheet}
-use Rattle.scr_nodes.specs.declared.node.Node.{Node}
 use Rattle.std.proofs.lemmas.Bool.{eq-eqb}
+use Rattle.scr_reach.specs.Graph.{Graph}
 use Rattle.scr_reach.specs.Leading.{IsCountOf}
 use Rattle.scr_reach.specs.Linked.{AreAt, AreNumbers}
 use Rattle.scr_reach.proofs.Placed.{get-member, standing}
@@ -26,7 +25,7 @@ once-number (x ∷ xs) once (suc j) zero n a b =
 once-number (x ∷ xs) once (suc j) (suc k) n a b = ap suc (once-number xs once.1 j k n a b)
 
 -- the place at which a figure stands in its list is that of its number in theirs
-number-at : (At : Node → ℕ → Type 0) (numbers : List ℕ) (nodes : List Node) → AreAt At numbers nodes → (j : ℕ) (n : Node)
+number-at : {Node : Type 0} (At : Node → ℕ → Type 0) (numbers : List ℕ) (nodes : List Node) → AreAt At numbers nodes → (j : ℕ) (n : Node)
     → slice_get nodes j ≡ Some n → (p : ℕ) × (slice_get numbers j ≡ Some p) × At n p
 number-at At numbers [] at zero n is = absurd (let clash : None ≡ Some n = is in cc)
 number-at At numbers [] at (suc j) n is = absurd (let clash : None ≡ Some n = is in cc)
@@ -34,7 +33,7 @@ number-at At [] (m ∷ nodes) at j n is = absurd at
 number-at At (q ∷ numbers) (m ∷ nodes) at zero n is = let same : m ≡ n = cc in (q, refl, subst (λ x. At x q) same at.0)
 number-at At (q ∷ numbers) (m ∷ nodes) at (suc j) n is = number-at At numbers nodes at.1 j n is
 
-module _ (At : Node → ℕ → Type 0) (size : ℕ) (sheet : BalanceSheet) (are : AreNumbers sheet At size) (P : Node → Type 0) where
+module _ {Node : Type 0} (At : Node → ℕ → Type 0) (size : ℕ) (graph : Graph Node) (are : AreNumbers graph At size) (P : Node → Type 0) where
   -- the figures at numbers at each of which there is one
   nodes-at : (numbers : List ℕ) → ((p : ℕ) → IsMember p numbers → (n : Node) × At n p × P n)
       → (nodes : List Node) × AreAt At numbers nodes × ((n : Node) → IsMember n nodes → P n)

@@ -1,19 +1,13 @@
--- What follows of a balance sheet that was edited: what is reached, and what is not.
-use Rattle.std.proofs.Common.{◌≡◌, ◌||◌, ℕ, zero, suc, ◌+◌, true, cond, List, [], length, Contains, ap, subst, ◌∙◌}
+-- What follows of a graph that was edited: what is reached, and what is not.
+use Rattle.std.proofs.Common.{◌≡◌, ◌||◌, ℕ, zero, suc, true, cond, List, [], length, Contains, ap, subst, ◌∙◌}
 use Rattle.std.specs.List.{AllByRecursion}
 use Rattle.scr_funds.proofs.Members.{IsMember, IsMember-from_Contains, Contains-from_IsMember, at_member}
 use Rattle.scr_links.specs.Edges.{Edge}
 use Rattle.scr_rounds.specs.Dues.{EndsIn, IsSchedule}
 use Rattle.scr_rounds.specs.Reached.{IsReached}
 use Rattle.scr_rounds.specs.declared.ranks.Due.{Due}
-use Rattle.scr_sheet.specs.Validity.{Valid}
-use Rattle.scr_sheet.specs.declared.sheet.BalanceSheet.{BalanceSheet}
-use Rattle.scr_nodes.specs.declared.node.Node.{Node}
-use Rattle.scr_nodes.specs.Live.{is_live}
-use Rattle.scr_nodes.specs.Sources.{sources_of}
-use Rattle.scr_nodes.proofs.Depth.{sources-end}
-use Rattle.scr_nodes.proofs.Depth.{EndsIn as EndsWithin}
 use Rattle.scr_reach.specs.Dues.{AreDues, AreEdited, AreReachedLive, IsDue, IsLiveAt}
+use Rattle.scr_reach.specs.Graph.{EndsWithin, Graph, IsClosed, IsLive}
 use Rattle.scr_reach.specs.Leading.{IsAtStart, IsCountOf, IsInReach}
 use Rattle.scr_reach.specs.Linked.{AreAt, AreNumbers, linked_to, sources_in}
 use Rattle.scr_reach.proofs.Counting.{counted}
@@ -21,25 +15,25 @@ use Rattle.scr_reach.proofs.Placed.{standing}
 use Rattle.scr_reach.proofs.Reaching.{IsMarked, leads-marked, marked-leads, or-right, unmarked-closed}
 use Rattle.scr_reach.proofs.Reaching.{reached-live as live-reached}
 
-module _ (after : BalanceSheet) (valid : Valid after) (At : Node → ℕ → Type 0) (size : ℕ) (edges : List Edge)
+module _ {Node : Type 0} (after : Graph Node) (closed : IsClosed after) (At : Node → ℕ → Type 0) (size : ℕ) (edges : List Edge)
     (starts : List ℕ) (edited : AreEdited after At size edges starts) where
   -- a live figure stands at a number that is reached, unless it is a start
   pub reached-live : (p : ℕ) → IsReached edges starts p → (Contains starts p → ⊥) → IsLiveAt after At p
-  reached-live = live-reached edited.before after valid At size edited.numbers edges edited.linked starts edited.same
+  reached-live = live-reached edited.before after closed At size edited.numbers edges edited.linked starts edited.same
 
   -- what stands at none of the starts is as it was
-  pub elsewhere-same : (n : Node) (p : ℕ) → At n p → (Contains starts p → ⊥) → (is_live edited.before n || is_live after n) ≡ true
-      → (is_live edited.before n ≡ is_live after n) × (sources_of edited.before n ≡ sources_of after n)
+  pub elsewhere-same : (n : Node) (p : ℕ) → At n p → (Contains starts p → ⊥) → (edited.before.live n || after.live n) ≡ true
+      → (edited.before.live n ≡ after.live n) × (edited.before.sources n ≡ after.sources n)
   elsewhere-same n p at none =
       edited.same n (λ h. none (subst (Contains starts) (edited.numbers.only n h.0 p h.1 at) h.2))
 
   -- what is linked to a figure at no start are its sources
-  pub sources-linked : (p : ℕ) (n : Node) → At n p → is_live after n ≡ true → (Contains starts p → ⊥)
-      → AreAt At (sources_in edges p) (sources_of after n)
+  pub sources-linked : (p : ℕ) (n : Node) → At n p → after.live n ≡ true → (Contains starts p → ⊥)
+      → AreAt At (sources_in edges p) (after.sources n)
   sources-linked p n at live none =
-      let kept = elsewhere-same n p at none (or-right (is_live edited.before n) (is_live after n) live) in
-      let same : linked_to edited.before n ≡ sources_of after n =
-      ap (λ b. cond b (sources_of edited.before n) []) (kept.0 ∙ live) ∙ kept.1 in
+      let kept = elsewhere-same n p at none (or-right (edited.before.live n) (after.live n) live) in
+      let same : linked_to edited.before n ≡ after.sources n =
+      ap (λ b. cond b (edited.before.sources n) []) (kept.0 ∙ live) ∙ kept.1 in
       subst (AreAt At (sources_in edges p)) same (edited.linked.linked n p at)
 
   module _ (numbers : List ℕ) (reached : AreReachedLive after At edges starts numbers) where
@@ -56,14 +50,14 @@ module _ (after : BalanceSheet) (valid : Valid after) (At : Node → ℕ → Typ
               live.1,
               record {
                 live = live.2;
-                leads = marked-leads edited.before after valid At size edited.numbers edges edited.linked starts edited.same p has.0
+                leads = marked-leads edited.before after closed At size edited.numbers edges edited.linked starts edited.same p has.0
                     live.0 live.1;
               },
             )
 
         all : (n : Node) → IsInReach after (IsAtStart At starts) n → (p : ℕ) × At n p × IsMember p numbers
         all n reach =
-            let marked = leads-marked edited.before after valid At size edited.numbers edges edited.linked starts edited.same n
+            let marked = leads-marked edited.before after closed At size edited.numbers edges edited.linked starts edited.same n
             reach.leads reach.live in (
               marked.0,
               marked.1,
@@ -73,10 +67,10 @@ module _ (after : BalanceSheet) (valid : Valid after) (At : Node → ℕ → Typ
     -- a live figure that is not reached
     abbrev pub IsLeft : Node → Type 0
     IsLeft n =
-        (is_live after n ≡ true)
-        × (IsMarked edited.before after valid At size edited.numbers edges edited.linked starts edited.same n → ⊥)
+        (after.live n ≡ true)
+        × (IsMarked edited.before after closed At size edited.numbers edges edited.linked starts edited.same n → ⊥)
 
-    pub left-from : (p : ℕ) (n : Node) → At n p → is_live after n ≡ true → (Contains numbers p → ⊥) → IsLeft n
+    pub left-from : (p : ℕ) (n : Node) → At n p → after.live n ≡ true → (Contains numbers p → ⊥) → IsLeft n
     left-from p n at live none = (
       live,
       λ marked. none (reached.all p
@@ -84,32 +78,33 @@ module _ (after : BalanceSheet) (valid : Valid after) (At : Node → ℕ → Typ
     )
 
     -- has only such sources
-    pub left-closed : (n : Node) → IsLeft n → AllByRecursion IsLeft (sources_of after n)
+    pub left-closed : (n : Node) → IsLeft n → AllByRecursion IsLeft (after.sources n)
     left-closed =
-        unmarked-closed edited.before after valid At size edited.numbers edges edited.linked starts edited.same
+        unmarked-closed edited.before after closed At size edited.numbers edges edited.linked starts edited.same
 
 -- ---- dues in rounds
 
-module _ (sheet : BalanceSheet) (valid : Valid sheet) (At : Node → ℕ → Type 0) (size : ℕ)
-    (numbers : AreNumbers sheet At size) where
+module _ {Node : Type 0} (graph : Graph Node) (At : Node → ℕ → Type 0) (size : ℕ)
+    (numbers : AreNumbers graph At size) where
   -- no chain of dues is longer than one of sources
-  chains-end : (dues : List Due) → AreDues sheet At dues → (levels : ℕ) (n : Node) → EndsWithin sheet levels n
+  chains-end : (dues : List Due) → AreDues graph At dues → (levels : ℕ) (n : Node) → EndsWithin graph levels n
       → (p : ℕ) → At n p → EndsIn dues levels p
   unfolding EndsIn
   chains-end dues are zero n ends p at = absurd ends
   chains-end dues are (suc levels) n ends p at = λ due has number source named.
-      let is = at_member (IsDue sheet At) dues due are.each (IsMember-from_Contains dues due has) in
+      let is = at_member (IsDue graph At) dues due are.each (IsMember-from_Contains dues due has) in
       let one : is.node ≡ n = numbers.exact p is.node n (subst (At is.node) number is.at) at in
-      let s = standing At due.sources.items (sources_of sheet is.node) is.sources source
+      let s = standing At due.sources.items (graph.sources is.node) is.sources source
       (IsMember-from_Contains due.sources.items source named) in
       chains-end dues are levels s.0
-      (at_member (EndsWithin sheet levels) (sources_of sheet n) s.0 ends (subst (λ x. IsMember s.0 (sources_of sheet x)) one s.1))
+      (at_member (EndsWithin graph levels) (graph.sources n) s.0 ends (subst (λ x. IsMember s.0 (graph.sources x)) one s.1))
       source s.2
 
-  pub scheduled : (dues : List Due) → AreDues sheet At dues → IsSchedule dues (length sheet.funds + 200)
-  scheduled dues are = record {
+  pub scheduled : (levels : ℕ) → ((n : Node) → IsLive graph n → EndsWithin graph levels n) → (dues : List Due)
+      → AreDues graph At dues → IsSchedule dues levels
+  scheduled levels ends dues are = record {
     once = are.once;
     ends = λ due has.
-        let is = at_member (IsDue sheet At) dues due are.each (IsMember-from_Contains dues due has) in
-        chains-end dues are (length sheet.funds + 200) is.node (sources-end sheet valid is.node) due.number is.at;
+        let is = at_member (IsDue graph At) dues due are.each (IsMember-from_Contains dues due has) in
+        chains-end dues are levels is.node (ends is.node is.live) due.number is.at;
   }

@@ -4,7 +4,6 @@ use Rattle.std.specs.List.{list_any}
 use Rattle.std.proofs.lemmas.Bool.{cases_Bool, eq-eqb, eqb-true}
 use Rattle.scr_funds.proofs.Members.{IsMember, IsMember-from_Contains, Contains-from_IsMember, IsMember-map, IsMember-mapped}
 use Rattle.scr_links.specs.Edges.{Edge}
-use Rattle.scr_nodes.specs.declared.node.Node.{Node}
 use Rattle.scr_reach.specs.Linked.{AreAt, edges_to, sources_in}
 use Rattle.scr_reach.proofs.Ranks.{has-member, member-has}
 
@@ -59,7 +58,7 @@ number-or xs q = elim (cases_Bool (list_any (nat_eq q) xs)) [
 
 -- ---- of numbers and figures, each at the number of the other
 
-module _ (At : Node → ℕ → Type 0) where
+module _ {Node : Type 0} (At : Node → ℕ → Type 0) where
   pub placed : (numbers : List ℕ) (nodes : List Node) → AreAt At numbers nodes → (n : Node) → IsMember n nodes
       → (q : ℕ) × IsMember q numbers × At n q
   placed numbers [] at n h = absurd h
@@ -77,7 +76,7 @@ module _ (At : Node → ℕ → Type 0) where
       let later = standing numbers nodes at.1 q h in (later.0, inr later.1, later.2)
 
 -- what holds of each figure at its number
-pub at-weaker : (At Other : Node → ℕ → Type 0) (numbers : List ℕ) (nodes : List Node)
+pub at-weaker : {Node : Type 0} (At Other : Node → ℕ → Type 0) (numbers : List ℕ) (nodes : List Node)
     → ((n : Node) (q : ℕ) → IsMember n nodes → At n q → Other n q) → AreAt At numbers nodes → AreAt Other numbers nodes
 at-weaker At Other [] [] keeps at = at
 at-weaker At Other [] (m ∷ nodes) keeps at = absurd at

@@ -5,20 +5,15 @@ use Rattle.scr_funds.proofs.Members.{IsMember, IsMember-from_Contains, Contains-
 use Rattle.scr_links.specs.Edges.{Edge}
 use Rattle.scr_rounds.specs.Reached.{IsReached}
 use Rattle.scr_rounds.specs.Reached.IsReached.{begins, follows}
-use Rattle.scr_sheet.specs.Validity.{Valid}
-use Rattle.scr_sheet.specs.declared.sheet.BalanceSheet.{BalanceSheet}
-use Rattle.scr_nodes.specs.declared.node.Node.{Node}
-use Rattle.scr_nodes.specs.Live.{is_live}
-use Rattle.scr_nodes.specs.Sources.{sources_of}
-use Rattle.scr_nodes.proofs.LiveSources.{IsLive, sources-live}
 use Rattle.scr_reach.specs.Dues.{IsLiveAt}
+use Rattle.scr_reach.specs.Graph.{Graph, IsClosed, IsLive}
 use Rattle.scr_reach.specs.Leading.{IsAtStart, Leads, AreOthersSame}
 use Rattle.scr_reach.specs.Leading.Leads.{touched, above}
 use Rattle.scr_reach.specs.Linked.{AreLinked, AreNumbers, linked_to, sources_in}
 use Rattle.scr_reach.proofs.Placed.{placed, standing, edge-from, source-of, number-or}
 
 -- a figure that has nothing linked to it is none, else these are its sources
-pub linked-live : (b : Bool) (sources : List Node) (s : Node) → IsMember s (cond b sources []) → (b ≡ true) × IsMember s sources
+pub linked-live : {Node : Type 0} (b : Bool) (sources : List Node) (s : Node) → IsMember s (cond b sources []) → (b ≡ true) × IsMember s sources
 linked-live true sources s h = (refl, h)
 linked-live false sources s h = absurd h
 
@@ -30,7 +25,7 @@ pub or-right : (a b : Bool) → b ≡ true → (a || b) ≡ true
 or-right true b e = refl
 or-right false b e = e
 
-module _ (before after : BalanceSheet) (valid : Valid after) (At : Node → ℕ → Type 0) (size : ℕ)
+module _ {Node : Type 0} (before after : Graph Node) (closed : IsClosed after) (At : Node → ℕ → Type 0) (size : ℕ)
     (numbers : AreNumbers after At size) (edges : List Edge) (linked : AreLinked before At edges) (starts : List ℕ)
     (same : AreOthersSame before after At starts) where
   -- the number of the figure is reached
@@ -49,7 +44,7 @@ module _ (before after : BalanceSheet) (valid : Valid after) (At : Node → ℕ 
   start-marked n h = (h.0, h.1, begins h.0 h.2)
 
   -- a figure of which a source is marked is marked
-  pub marked-above : (n s : Node) → is_live after n ≡ true → IsMember s (sources_of after n) → IsMarked s → IsMarked n
+  pub marked-above : (n s : Node) → after.live n ≡ true → IsMember s (after.sources n) → IsMarked s → IsMarked n
   marked-above n s live source marked = by (start-or own.0 n own.1)
     where
       own : (number : ℕ) × At n number
@@ -58,10 +53,10 @@ module _ (before after : BalanceSheet) (valid : Valid after) (At : Node → ℕ 
       by : IsAtStart At starts n ⊎ (IsAtStart At starts n → ⊥) → IsMarked n
       by (inl h) = start-marked n h
       by (inr none) =
-          let kept = same n none (or-right (is_live before n) (is_live after n) live) in
-          let was : is_live before n ≡ true = kept.0 ∙ live in
+          let kept = same n none (or-right (before.live n) (after.live n) live) in
+          let was : before.live n ≡ true = kept.0 ∙ live in
           let from : IsMember s (linked_to before n) =
-          subst (λ b. IsMember s (cond b (sources_of before n) [])) (sym was) (subst (IsMember s) (sym kept.1) source) in
+          subst (λ b. IsMember s (cond b (before.sources n) [])) (sym was) (subst (IsMember s) (sym kept.1) source) in
           let q = placed At (sources_in edges own.0) (linked_to before n) (linked.linked n own.0 own.1) s from in
           let e = edge-from edges own.0 q.0 q.1 in
           let one : q.0 ≡ marked.0 = numbers.only s q.0 marked.0 q.2 marked.1 in (
@@ -71,12 +66,12 @@ module _ (before after : BalanceSheet) (valid : Valid after) (At : Node → ℕ 
                 (follows e.0 (Contains-from_IsMember edges e.0 e.1) (subst (IsReached edges starts) (sym (e.2 ∙ one)) marked.2)),
           )
 
-  pub leads-marked : (n : Node) → Leads after (IsAtStart At starts) n → is_live after n ≡ true → IsMarked n
+  pub leads-marked : (n : Node) → Leads after (IsAtStart At starts) n → after.live n ≡ true → IsMarked n
   leads-marked _ (touched n h) live = start-marked n h
   leads-marked _ (above n s source rest) live =
-      let member = IsMember-from_Contains (sources_of after n) s source in
+      let member = IsMember-from_Contains (after.sources n) s source in
       marked-above n s live member
-      (leads-marked s rest (at_member (IsLive after) (sources_of after n) s (sources-live after valid n live) member))
+      (leads-marked s rest (at_member (IsLive after) (after.sources n) s (closed n live) member))
 
   -- from what an edge comes to a figure
   edge-source : (e : Edge) → Contains edges e → (n : Node) → At n e.dependant
@@ -96,9 +91,9 @@ module _ (before after : BalanceSheet) (valid : Valid after) (At : Node → ℕ 
       by (inl h) further = touched n h
       by (inr none) further =
           let s = edge-source e h n here in
-          let was = linked-live (is_live before n) (sources_of before n) s.0 s.1 in
-          let kept = same n none (or-left (is_live before n) (is_live after n) was.0) in
-          above n s.0 (Contains-from_IsMember (sources_of after n) s.0 (subst (IsMember s.0) kept.1 was.1))
+          let was = linked-live (before.live n) (before.sources n) s.0 s.1 in
+          let kept = same n none (or-left (before.live n) (after.live n) was.0) in
+          above n s.0 (Contains-from_IsMember (after.sources n) s.0 (subst (IsMember s.0) kept.1 was.1))
           (further s.0 s.2)
 
   -- a live figure stands at a number that is reached, unless it is a start
@@ -107,17 +102,17 @@ module _ (before after : BalanceSheet) (valid : Valid after) (At : Node → ℕ 
   reached-live _ (follows e h rest) none =
       let n = linked.placed e h in
       let s = edge-source e h n.0 n.1 in
-      let was = linked-live (is_live before n.0) (sources_of before n.0) s.0 s.1 in
+      let was = linked-live (before.live n.0) (before.sources n.0) s.0 s.1 in
       let kept = same n.0 (λ start. none (subst (Contains starts) (numbers.only n.0 start.0 e.dependant start.1 n.1) start.2))
-      (or-left (is_live before n.0) (is_live after n.0) was.0) in
+      (or-left (before.live n.0) (after.live n.0) was.0) in
       (n.0, n.1, sym kept.0 ∙ was.0)
 
   -- the live figures that are not marked have only such sources
-  pub unmarked-closed : (n : Node) → (is_live after n ≡ true) × (IsMarked n → ⊥)
-      → AllByRecursion (λ s. (is_live after s ≡ true) × (IsMarked s → ⊥)) (sources_of after n)
+  pub unmarked-closed : (n : Node) → (after.live n ≡ true) × (IsMarked n → ⊥)
+      → AllByRecursion (λ s. (after.live s ≡ true) × (IsMarked s → ⊥)) (after.sources n)
   unmarked-closed n h =
-      each-from_members (λ s. (is_live after s ≡ true) × (IsMarked s → ⊥)) (sources_of after n)
+      each-from_members (λ s. (after.live s ≡ true) × (IsMarked s → ⊥)) (after.sources n)
       (λ s member. (
-        at_member (IsLive after) (sources_of after n) s (sources-live after valid n h.0) member,
+        at_member (IsLive after) (after.sources n) s (closed n h.0) member,
         λ marked. h.1 (marked-above n s h.0 member marked),
       ))

@@ -1,19 +1,14 @@
--- Once what is due is linked to the starts, the links are those of the balance sheet, and links can be made as they were.
+-- Once what is due is linked to the starts, the links are those of the graph, and links can be made as they were.
 use Rattle.std.proofs.Common.{◌≡◌, ◌⊎◌, inl, inr, ℕ, Bool, true, false, cond, List, [], ◌∷◌, map, Contains, refl, sym, ap, subst, ◌∙◌}
 use Rattle.std.specs.List.{AllByRecursion}
 use Rattle.scr_funds.proofs.Members.{IsMember, IsMember-from_Contains, Contains-from_IsMember, IsMember-map, at_member}
 use Rattle.scr_links.specs.Edges.{Edge}
 use Rattle.scr_rounds.specs.declared.ranks.Due.{Due}
-use Rattle.scr_sheet.specs.Validity.{Valid}
-use Rattle.scr_sheet.specs.declared.sheet.BalanceSheet.{BalanceSheet}
-use Rattle.scr_nodes.specs.declared.node.Node.{Node}
-use Rattle.scr_nodes.specs.Live.{is_live}
-use Rattle.scr_nodes.specs.Sources.{sources_of}
-use Rattle.scr_nodes.proofs.LiveSources.{IsLive, sources-live}
 use Rattle.scr_reach.specs.Dues.{AreDuesFor, AreEdited, AreRelinked, IsDueAt, numbers_of}
+use Rattle.scr_reach.specs.Graph.{Graph, IsClosed, IsLive}
 use Rattle.scr_reach.specs.Linked.{AreAt, AreLinked, AreNumbers, linked_to, sources_in}
 use Rattle.scr_reach.proofs.Edits.{elsewhere-same, sources-linked}
-use Rattle.scr_reach.proofs.Placed.{at-weaker, edge-from, number-or, placed, source-of}
+use Rattle.scr_reach.proofs.Placed.{at-weaker, edge-from, number-or, source-of}
 use Rattle.scr_reach.proofs.Reaching.{linked-live, or-left}
 
 module _ (dues : List Due) (old new : List Edge) (relinked : AreRelinked dues old new) where
@@ -40,11 +35,11 @@ edge-kept old new e h same =
     edge-from old e.dependant e.source
     (subst (IsMember e.source) same (source-of new e.dependant e (IsMember-from_Contains new e h) refl))
 
--- where the same is linked to each number the links are of the same balance sheet
-pub linked-same : (sheet : BalanceSheet) (At : Node → ℕ → Type 0) (old new : List Edge) → AreLinked sheet At old
-    → ((number : ℕ) → sources_in new number ≡ sources_in old number) → AreLinked sheet At new
-linked-same sheet At old new linked same = record {
-  linked = λ node number at. subst (λ numbers. AreAt At numbers (linked_to sheet node)) (sym (same number))
+-- where the same is linked to each number the links are of the same graph
+pub linked-same : {Node : Type 0} (graph : Graph Node) (At : Node → ℕ → Type 0) (old new : List Edge) → AreLinked graph At old
+    → ((number : ℕ) → sources_in new number ≡ sources_in old number) → AreLinked graph At new
+linked-same graph At old new linked same = record {
+  linked = λ node number at. subst (λ numbers. AreAt At numbers (linked_to graph node)) (sym (same number))
       (linked.linked node number at);
   placed = λ e h.
       let d = edge-kept old new e h (same e.dependant) in
@@ -52,7 +47,7 @@ linked-same sheet At old new linked same = record {
       (n.0, subst (At n.0) d.3 n.1);
 }
 
-module _ (after : BalanceSheet) (valid : Valid after) (At : Node → ℕ → Type 0) (size : ℕ) (old new : List Edge)
+module _ {Node : Type 0} (after : Graph Node) (closed : IsClosed after) (At : Node → ℕ → Type 0) (size : ℕ) (old new : List Edge)
     (starts : List ℕ) (edited : AreEdited after At size old starts) (dues : List Due) (due : AreDuesFor after At starts dues)
     (relinked : AreRelinked dues old new) where
   at-start : (node : Node) (number : ℕ) → At node number → Contains starts number
@@ -66,17 +61,17 @@ module _ (after : BalanceSheet) (valid : Valid after) (At : Node → ℕ → Typ
   unlisted number none h = none (subst (λ numbers. Contains numbers number) due.numbers h)
 
   elsewhere : (node : Node) (number : ℕ) → At node number → (Contains starts number → ⊥) → (b c : Bool)
-      → is_live after node ≡ b → is_live edited.before node ≡ c → AreAt At (sources_in old number) (linked_to after node)
+      → after.live node ≡ b → edited.before.live node ≡ c → AreAt At (sources_in old number) (linked_to after node)
   elsewhere node number at none true c live was =
-      subst (AreAt At (sources_in old number)) (sym (ap (λ b. cond b (sources_of after node) []) live))
-      (sources-linked after valid At size old starts edited number node at live none)
+      subst (AreAt At (sources_in old number)) (sym (ap (λ b. cond b (after.sources node) []) live))
+      (sources-linked after closed At size old starts edited number node at live none)
   elsewhere node number at none false true live was =
-      let same = elsewhere-same after valid At size old starts edited node number at none
-      (or-left (is_live edited.before node) (is_live after node) was) in
+      let same = elsewhere-same after closed At size old starts edited node number at none
+      (or-left (edited.before.live node) (after.live node) was) in
       let clash : true ≡ false = sym was ∙ (same.0 ∙ live) in absurd (cc)
   elsewhere node number at none false false live was =
       subst (AreAt At (sources_in old number))
-      (ap (λ b. cond b (sources_of edited.before node) []) was ∙ sym (ap (λ b. cond b (sources_of after node) []) live))
+      (ap (λ b. cond b (edited.before.sources node) []) was ∙ sym (ap (λ b. cond b (after.sources node) []) live))
       (edited.linked.linked node number at)
 
   linked-anew : (node : Node) (number : ℕ) → At node number → AreAt At (sources_in new number) (linked_to after node)
@@ -87,7 +82,7 @@ module _ (after : BalanceSheet) (valid : Valid after) (At : Node → ℕ → Typ
       by (inr none) =
           subst (λ numbers. AreAt At numbers (linked_to after node))
           (sym (kept-sources dues old new relinked number (unlisted number none)))
-          (elsewhere node number at none (is_live after node) (is_live edited.before node) refl refl)
+          (elsewhere node number at none (after.live node) (edited.before.live node) refl refl)
 
   placed-anew : (e : Edge) → Contains new e → (node : Node) × At node e.dependant
   placed-anew e h = by (number-or starts e.dependant)
@@ -120,23 +115,23 @@ relinked-back old mid new dues former there same each back number = by (number-o
 
 -- ---- the same links for numbers more or fewer
 
-module _ (sheet : BalanceSheet) (Few Many : Node → ℕ → Type 0) (size : ℕ) (numbers : AreNumbers sheet Many size)
-    (live : (node : Node) → is_live sheet node ≡ true → (number : ℕ) × Few node number)
+module _ {Node : Type 0} (graph : Graph Node) (Few Many : Node → ℕ → Type 0) (size : ℕ) (numbers : AreNumbers graph Many size)
+    (live : (node : Node) → graph.live node ≡ true → (number : ℕ) × Few node number)
     (keeps : (node : Node) (number : ℕ) → Few node number → Many node number) (edges : List Edge) where
   -- a live figure that stands at one of many numbers stands there among the few
-  pub stands-yet : (node : Node) (number : ℕ) → Many node number → is_live sheet node ≡ true → Few node number
+  pub stands-yet : (node : Node) (number : ℕ) → Many node number → graph.live node ≡ true → Few node number
   stands-yet node number at is =
       let own = live node is in
       subst (Few node) (numbers.only node own.0 number (keeps node own.0 own.1) at) own.1
 
-  pub linked-more : AreLinked sheet Few edges → AreLinked sheet Many edges
+  pub linked-more : AreLinked graph Few edges → AreLinked graph Many edges
   linked-more linked = record {
-    linked = λ node number at. by node number at (is_live sheet node) refl;
+    linked = λ node number at. by node number at (graph.live node) refl;
     placed = λ e h. let n = linked.placed e h in (n.0, keeps n.0 e.dependant n.1);
   }
     where
-      -- nothing is linked to a figure that the balance sheet does not have
-      none : (node : Node) (number : ℕ) → Many node number → is_live sheet node ≡ false → (q : ℕ)
+      -- nothing is linked to a figure that the graph does not have
+      none : (node : Node) (number : ℕ) → Many node number → graph.live node ≡ false → (q : ℕ)
           → IsMember q (sources_in edges number) → ⊥
       none node number at dead q h =
           let e = edge-from edges number q h in
@@ -144,7 +139,7 @@ module _ (sheet : BalanceSheet) (Few Many : Node → ℕ → Type 0) (size : ℕ
           let here : Few n.0 number = subst (Few n.0) e.3 n.1 in
           let one : n.0 ≡ node = numbers.exact number n.0 node (keeps n.0 number here) at in
           let to = linked.linked n.0 number here in
-          let empty : linked_to sheet n.0 ≡ [] = ap (linked_to sheet) one ∙ ap (λ b. cond b (sources_of sheet node) []) dead in
+          let empty : linked_to graph n.0 ≡ [] = ap (linked_to graph) one ∙ ap (λ b. cond b (graph.sources node) []) dead in
           nothing (sources_in edges number) (subst (AreAt Few (sources_in edges number)) empty to) q h
         where
           nothing : (numbers : List ℕ) → AreAt Few numbers [] → (q : ℕ) → IsMember q numbers → ⊥
@@ -155,21 +150,21 @@ module _ (sheet : BalanceSheet) (Few Many : Node → ℕ → Type 0) (size : ℕ
       no-members [] free = refl
       no-members (q ∷ numbers) free = absurd (free q (inl refl))
 
-      by : (node : Node) (number : ℕ) → Many node number → (b : Bool) → is_live sheet node ≡ b
-          → AreAt Many (sources_in edges number) (linked_to sheet node)
+      by : (node : Node) (number : ℕ) → Many node number → (b : Bool) → graph.live node ≡ b
+          → AreAt Many (sources_in edges number) (linked_to graph node)
       by node number at true is =
-          at-weaker Few Many (sources_in edges number) (linked_to sheet node) (λ n q member. keeps n q)
+          at-weaker Few Many (sources_in edges number) (linked_to graph node) (λ n q member. keeps n q)
           (linked.linked node number (stands-yet node number at is))
       by node number at false dead =
-          subst (AreAt Many (sources_in edges number)) (sym (ap (λ b. cond b (sources_of sheet node) []) dead))
+          subst (AreAt Many (sources_in edges number)) (sym (ap (λ b. cond b (graph.sources node) []) dead))
           (subst (λ numbers. AreAt Many numbers []) (sym (no-members (sources_in edges number) (none node number at dead))) tt)
 
-  pub linked-fewer : Valid sheet → AreLinked sheet Many edges → AreLinked sheet Few edges
-  linked-fewer valid linked = record {
+  pub linked-fewer : IsClosed graph → AreLinked graph Many edges → AreLinked graph Few edges
+  linked-fewer closed linked = record {
     linked = λ node number at.
-        at-weaker Many Few (sources_in edges number) (linked_to sheet node)
-        (λ n q member there. let was = linked-live (is_live sheet node) (sources_of sheet node) n member in
-        stands-yet n q there (at_member (IsLive sheet) (sources_of sheet node) n (sources-live sheet valid node was.0) was.1))
+        at-weaker Many Few (sources_in edges number) (linked_to graph node)
+        (λ n q member there. let was = linked-live (graph.live node) (graph.sources node) n member in
+        stands-yet n q there (at_member (IsLive graph) (graph.sources node) n (closed node was.0) was.1))
         (linked.linked node number (keeps node number at));
     placed = λ e h.
         let n = linked.placed e h in
@@ -180,16 +175,16 @@ module _ (sheet : BalanceSheet) (Few Many : Node → ℕ → Type 0) (size : ℕ
     where
       -- a figure to which something is linked is live
       linked-of : (node : Node) (number : ℕ) → Many node number → (q : ℕ) → IsMember q (sources_in edges number)
-          → is_live sheet node ≡ true
-      linked-of node number at q h = by (is_live sheet node) refl
+          → graph.live node ≡ true
+      linked-of node number at q h = by (graph.live node) refl
         where
           nothing : (numbers : List ℕ) → AreAt Many numbers [] → IsMember q numbers → ⊥
           nothing [] at h = h
           nothing (p ∷ numbers) at h = at
 
-          by : (b : Bool) → is_live sheet node ≡ b → is_live sheet node ≡ true
+          by : (b : Bool) → graph.live node ≡ b → graph.live node ≡ true
           by true e = e
           by false e =
               absurd (nothing (sources_in edges number)
-              (subst (AreAt Many (sources_in edges number)) (ap (λ b. cond b (sources_of sheet node) []) e)
+              (subst (AreAt Many (sources_in edges number)) (ap (λ b. cond b (graph.sources node) []) e)
               (linked.linked node number at)) h)

@@ -2,11 +2,10 @@
 use Rattle.std.proofs.Common.{◌≡◌, ◌⊎◌, inl, inr, ℕ, ◌++◌, nat_eq, List, [], ◌∷◌, Contains, refl, sym, subst}
 use Rattle.std.specs.List.{IsDistinct}
 use Rattle.scr_funds.proofs.Members.{IsMember, IsMember-from_Contains, Contains-from_IsMember, IsMember-left, IsMember-right, IsMember-cases}
-use Rattle.scr_nodes.specs.declared.node.Node.{Node}
 use Rattle.scr_reach.specs.Dues.{AreStarts}
 use Rattle.scr_reach.proofs.Ranks.{distinct-append}
 
-module _ (At : Node → ℕ → Type 0) where
+module _ {Node : Type 0} (At : Node → ℕ → Type 0) where
   pub starts-none : AreStarts At [] []
   starts-none = record {
     each = λ n h. absurd (IsMember-from_Contains [] n h);

@@ -1,3 +1,4 @@
+pub mod Graph
 pub mod Linked
 pub mod Leading
 pub mod Dues

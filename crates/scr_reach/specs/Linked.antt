@@ -3,20 +3,17 @@
 use Rattle.std.specs.Prelude.{◌≡◌, ℕ, ◌<◌, true, List, [], Contains, filter, map, nat_eq, if◌then◌else◌}
 use Rattle.std.specs.List.{AllZip}
 use Rattle.scr_links.specs.Edges.{Edge}
-use Rattle.scr_sheet.specs.declared.sheet.BalanceSheet.{BalanceSheet}
-use Rattle.scr_nodes.specs.declared.node.Node.{Node}
-use Rattle.scr_nodes.specs.Live.{is_live}
-use Rattle.scr_nodes.specs.Sources.{sources_of}
+use Rattle.scr_reach.specs.Graph.{Graph}
 
--- Each figure that the balance sheet has stands at one number, which is no other figure's. All are below the size.
-pub record AreNumbers (sheet : BalanceSheet) (At : Node → ℕ → Type 0) (size : ℕ) : Type 0 where
+-- Each figure that the graph has stands at one number, which is no other figure's. All are below the size.
+pub record AreNumbers {Node : Type 0} (graph : Graph Node) (At : Node → ℕ → Type 0) (size : ℕ) : Type 0 where
   pub exact : (number : ℕ) (a b : Node) → At a number → At b number → a ≡ b
   pub only : (node : Node) (n m : ℕ) → At node n → At node m → n ≡ m
-  pub live : (node : Node) → is_live sheet node ≡ true → (number : ℕ) × At node number
+  pub live : (node : Node) → graph.live node ≡ true → (number : ℕ) × At node number
   pub within : (node : Node) (number : ℕ) → At node number → number < size
 
 -- the numbers are those of these figures, in the same order
-abbrev pub AreAt : (Node → ℕ → Type 0) → List ℕ → List Node → Type 0
+abbrev pub AreAt : {Node : Type 0} → (Node → ℕ → Type 0) → List ℕ → List Node → Type 0
 AreAt At numbers nodes = AllZip (λ number node. At node number) numbers nodes
 
 -- the edges to a number, and where they come from
@@ -26,20 +23,20 @@ edges_to edges number = filter (λ (e : Edge). nat_eq e.dependant number) edges
 abbrev pub sources_in : List Edge → ℕ → List ℕ
 sources_in edges number = map (λ (e : Edge). e.source) (edges_to edges number)
 
--- what is linked to a figure: its sources, and nothing where the balance sheet does not have it
-abbrev pub linked_to : BalanceSheet → Node → List Node
-linked_to sheet node = if is_live sheet node then sources_of sheet node else []
+-- what is linked to a figure: its sources, and nothing where the graph does not have it
+abbrev pub linked_to : {Node : Type 0} → Graph Node → Node → List Node
+linked_to graph node = if graph.live node then graph.sources node else []
 
--- each figure of the balance sheet is linked to its sources in their order, and nothing is linked to a number at which no
+-- each figure of the graph is linked to its sources in their order, and nothing is linked to a number at which no
 -- figure stands
-pub record AreLinked (sheet : BalanceSheet) (At : Node → ℕ → Type 0) (edges : List Edge) : Type 0 where
-  pub linked : (node : Node) (number : ℕ) → At node number → AreAt At (sources_in edges number) (linked_to sheet node)
+pub record AreLinked {Node : Type 0} (graph : Graph Node) (At : Node → ℕ → Type 0) (edges : List Edge) : Type 0 where
+  pub linked : (node : Node) (number : ℕ) → At node number → AreAt At (sources_in edges number) (linked_to graph node)
   pub placed : (edge : Edge) → Contains edges edge → (node : Node) × At node edge.dependant
 
--- The same of figures of a kind: those that the balance sheet has are linked to their sources, and nothing is linked to any
+-- The same of figures of a kind: those that the graph has are linked to their sources, and nothing is linked to any
 -- other number.
-pub record AreLinkedOf (sheet : BalanceSheet) (At : Node → ℕ → Type 0) (edges : List Edge) (P : Node → Type 0) : Type 0 where
-  pub done : (node : Node) (number : ℕ) → At node number → is_live sheet node ≡ true → P node
-      → AreAt At (sources_in edges number) (sources_of sheet node)
+pub record AreLinkedOf {Node : Type 0} (graph : Graph Node) (At : Node → ℕ → Type 0) (edges : List Edge) (P : Node → Type 0) : Type 0 where
+  pub done : (node : Node) (number : ℕ) → At node number → graph.live node ≡ true → P node
+      → AreAt At (sources_in edges number) (graph.sources node)
   pub only : (edge : Edge) → Contains edges edge
-      → (node : Node) × At node edge.dependant × (is_live sheet node ≡ true) × P node
+      → (node : Node) × At node edge.dependant × (graph.live node ≡ true) × P node

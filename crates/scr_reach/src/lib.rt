@@ -1,4 +1,4 @@
-//! The links between the numbers of a balance sheet's figures, and what an edit reaches along them. Which number a figure
+//! The links between the numbers of figures, and what an edit reaches along them. Which figures there are, which number each
 //! has, and how it is reckoned, is no matter of this crate.
 #![tactic(auto)]
 

@@ -23,6 +23,7 @@ use Rattle.scr_tree.specs.declared.figures.Figure.{Figure}
 use Rattle.scr_tree.specs.declared.making.{Ground.Ground, LinkGround.LinkGround, Made.Made}
 use Rattle.scr_tree.proofs.Made.{made-all, none-reckoned}
 use Rattle.scr_tree.proofs.Sorting.{distinct-last, none-distinct}
+use Rattle.scr_tree.specs.Graphs.{graph_of}
 
 -- a number below the next end is below this one, or is the end
 below-or : (number end : ℕ) → number < end + 1 → (number < end) ⊎ (number ≡ end)
@@ -41,7 +42,7 @@ no-flag (suc k) flag told = let clash : None ≡ Some flag = told in cc
 
 pub found-live : (sheet : BalanceSheet) (places : Numbered) (number : ℕ) (found : Option Node)
     → IfSome found (λ node. StandsAt sheet places node number) → IfSome found (λ node. is_live sheet node ≡ true)
-    → is_some found ≡ true → IsLiveAt sheet (StandsAt sheet places) number
+    → is_some found ≡ true → IsLiveAt (graph_of sheet) (StandsAt sheet places) number
 found-live sheet places number (Some node) there live some = (node, there, live)
 found-live sheet places number None there live some = absurd (let clash : false ≡ true = some in cc)
 
@@ -100,7 +101,7 @@ module _ (sheet : BalanceSheet) (places : Numbered) where
             in-now m (IsMember-left list (number ∷ []) m (IsMember-from_Contains list m (so.all m low alive none)))
         all m alive none (inr same) = in-now m (IsMember-right list (number ∷ []) m (inl same))
 
-  pub below-all : AreNumbers sheet (StandsAt sheet places) places.size → (list : List ℕ) → AreRestBelow sheet places places.size list
+  pub below-all : AreNumbers (graph_of sheet) (StandsAt sheet places) places.size → (list : List ℕ) → AreRestBelow sheet places places.size list
       → AreAllRest sheet places list
   below-all numbers list so = record {
     once = so.once;
@@ -108,7 +109,7 @@ module _ (sheet : BalanceSheet) (places : Numbered) where
     all = λ m live none. so.all m (numbers.within live.node m live.at) live none;
   }
 
-  pub begun-flags : (list : List ℕ) → AreAllRest sheet places list → AreFlagged sheet (StandsAt sheet places) list []
+  pub begun-flags : (list : List ℕ) → AreAllRest sheet places list → AreFlagged (graph_of sheet) (StandsAt sheet places) list []
   begun-flags list all = record {
     live = λ k m here told. absurd (no-flag k true told);
     dead = λ k m here told. absurd (no-flag k false told);

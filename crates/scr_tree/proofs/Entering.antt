@@ -22,7 +22,7 @@ use Rattle.scr_rules.specs.Worked.{worked}
 use Rattle.scr_reach.specs.Dues.{IsLiveAt, numbers_of}
 use Rattle.scr_reach.specs.Linked.{AreAt, sources_in}
 use Rattle.scr_reach.proofs.Placed.{get-member, standing}
-use Rattle.scr_tree.specs.Figures.{AreKnownOf, HasFigure}
+use Rattle.scr_tree.specs.Figures.{AreKnownOf, HasFigure, reckoning_of}
 use Rattle.scr_tree.specs.FirstDues.{AreFirstDues, AreTotalsOn, IsFirstDue, IsFirstDueOn, IsFirstOf, is_total, sources_but}
 use Rattle.scr_tree.specs.Ready.{AreInTurnOn, AreKnownBut, IsBasis, IsNoneOf}
 use Rattle.scr_tree.specs.Together.{IsKnownOn, ends_on}
@@ -33,6 +33,7 @@ use Rattle.scr_tree.proofs.Known.{known-have, known-weaker}
 use Rattle.scr_tree.proofs.Sorting.{none-distinct}
 use Rattle.scr_tree.proofs.Spanned.{distinct-numbers, ends-here}
 use Rattle.scr_workers.specs.Workable.{AreWorkable}
+use Rattle.scr_tree.specs.Graphs.{graph_of}
 
 -- a total stands in one of the first two stages
 total-first : (sheet : BalanceSheet) (node : Node) → is_total node ≡ true → IsBefore sheet (turn 2 0 0) node
@@ -45,10 +46,10 @@ total-first sheet (nodes.Group name what) is = absurd (let clash : false ≡ tru
 total-first sheet (nodes.Whole what) is = absurd (let clash : false ≡ true = is in cc)
 
 pub totals-there : (factors : FactorValues) (sheet : BalanceSheet) (places : Numbered) (figures : List Figure)
-    → AreKnownOf factors sheet (StandsAt sheet places) figures (IsBefore sheet (turn 2 0 0))
-    → AreKnownOf factors sheet (StandsAt sheet places) figures (λ node. is_total node ≡ true)
+    → AreKnownOf (reckoning_of factors sheet) (StandsAt sheet places) figures (IsBefore sheet (turn 2 0 0))
+    → AreKnownOf (reckoning_of factors sheet) (StandsAt sheet places) figures (λ node. is_total node ≡ true)
 totals-there factors sheet places figures known =
-    known-weaker factors sheet (StandsAt sheet places) figures (IsBefore sheet (turn 2 0 0)) (λ node. is_total node ≡ true)
+    known-weaker (reckoning_of factors sheet) (StandsAt sheet places) figures (IsBefore sheet (turn 2 0 0)) (λ node. is_total node ≡ true)
     (λ node live is. total-first sheet node is) known
 
 pub dues-none : (b : Basis) (dues : List Due) → dues ≡ [] → AreFirstDues b [] dues
@@ -91,7 +92,7 @@ module _ (b : Basis) (figures : List Figure) (due : Due) (is : IsFirstOf b figur
       node,
       at,
       first-live,
-      subst (HasFigure b.inputs.factors.now b.inputs.book.now.sheet figures due.number) (sym first-one)
+      subst (HasFigure (reckoning_of b.inputs.factors.now b.inputs.book.now.sheet) figures due.number) (sym first-one)
           (is.total (sym (ap is_total first-one) ∙ total)),
     ),
   )
@@ -118,7 +119,7 @@ module _ (b : Basis) (is : IsBasis b) (figures : List Figure) (numbers : List �
   abbrev NoneLeft : Node → Type 0
   NoneLeft = IsNoneOf Stands numbers
 
-  live-due : (due : Due) → IsMember due dues → IsLiveAt sheet Stands due.number
+  live-due : (due : Due) → IsMember due dues → IsLiveAt (graph_of sheet) Stands due.number
   live-due due h =
       in_turn.each due.number (subst (λ list. Contains list due.number) first.numbers_are
       (Contains-from_IsMember (numbers_of dues) due.number (IsMember-mapped (λ (d : Due). d.number) dues due h)))
@@ -141,7 +142,7 @@ module _ (b : Basis) (is : IsBasis b) (figures : List Figure) (numbers : List �
       (sym (own due h ∙ ap (λ t. sources_but t (sources_in b.links.now.edges due.number)) other)) (linked-at due h)
 
   total-has : (node : Node) (number : ℕ) → Stands node number → is_live sheet node ≡ true → is_total node ≡ true
-      → HasFigure factors sheet figures number node
+      → HasFigure (reckoning_of factors sheet) figures number node
   unfolding AreKnownOf
   total-has node number at live total = totals node number at live total
 
@@ -197,7 +198,7 @@ module _ (b : Basis) (is : IsBasis b) (figures : List Figure) (numbers : List �
       let apart : NoneLeft s.0 = λ m at left.
       none (subst (λ list. Contains list source) (sym first.numbers_are)
       (subst (Contains numbers) (is.0.numbers.only s.0 m source at s.2) left)) in
-      let figure = known-have factors sheet Stands figures NoneLeft known (source ∷ []) (s.0 ∷ []) (s.2, tt) ((lives, apart), tt) in
+      let figure = known-have (reckoning_of factors sheet) Stands figures NoneLeft known (source ∷ []) (s.0 ∷ []) (s.2, tt) ((lives, apart), tt) in
       (is, (s.0, s.2, lives, figure.0))
 
   pub first-workable : AreWorkable (IsKnownOn b figures) (IsFirstDueOn b figures) dues

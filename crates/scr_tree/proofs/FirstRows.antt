@@ -27,6 +27,7 @@ use Rattle.scr_tree.specs.Turns.{Turn, next, turn, turn_of}
 use Rattle.scr_tree.specs.declared.making.Made.{Made}
 use Rattle.scr_tree.proofs.Made.{made-good}
 use Rattle.scr_tree.proofs.Turns.{IsAsGood, IsTurnOf, dead-skipped, good-and, row-begun, row-ended, security-first, of-table}
+use Rattle.scr_tree.specs.Graphs.{graph_of}
 
 pub on-ok : {E : Type 0} (P Q : Type 0) (r : Result (Unit {0}) E) → (P → Q) → OnOk r P → OnOk r Q
 on-ok P Q (Ok u) step h = step h
@@ -50,7 +51,7 @@ got-row (x ∷ xs) zero l = (x, refl)
 got-row (x ∷ xs) (suc k) l = got-row xs k (omega (arith, l))
 
 module _ (factors : FactorValues) (sheet : BalanceSheet) (valid : Valid sheet) (places : Numbered) (numbered : IsNumbered sheet places)
-    (numbers : AreNumbers sheet (StandsAt sheet places) places.size) where
+    (numbers : AreNumbers (graph_of sheet) (StandsAt sheet places) places.size) where
   pub made-on : (made : Made) (t u : Turn) → IsAsGood sheet t u → IsMade factors sheet places made t t
       → IsMade factors sheet places made u u
   made-on made t u good is = made-good factors sheet valid places numbered numbers made t u t u good good is

@@ -40,6 +40,8 @@ use Rattle.scr_tree.specs.declared.starts.Starts.{Starts}
 use Rattle.scr_tree.proofs.KeptRates.{rates-kept}
 use Rattle.scr_tree.proofs.Started.{known-kept}
 use Rattle.scr_tree.proofs.Taken.{at-listed, back-linked, back-numbers, back-settled, count-like, edited-from, keeps-after, now-numbered, numbers-after, numbers-before, others-same, reach-like, size-grown, starts-come, starts-gone, yet-linked, yet-settled}
+use Rattle.scr_tree.specs.Graphs.{graph_of}
+use Rattle.scr_tree.specs.Figures.{reckoning_of}
 
 -- the step leads from the one balance sheet to the other
 pub taken-leads : (factors : FactorValues) (before after : BalanceSheet) (taken : Taken) → IsTaken factors before after taken
@@ -64,7 +66,7 @@ module _ (factors : FactorValues) (after : BalanceSheet) (taken : Taken) (known 
       now-numbered fo.before after fo.old state.places taken.step leads fo.takes fo.by.valid later fo.numbered fo.numbers
       apart within
 
-  pub own-after : AreNumbers after (StandsAt after state.places) state.places.size
+  pub own-after : AreNumbers (graph_of after) (StandsAt after state.places) state.places.size
   own-after = record {
     exact = exact after state.places apart;
     only = λ node n m. only after state.places (named-once after later) n m node;
@@ -72,12 +74,12 @@ module _ (factors : FactorValues) (after : BalanceSheet) (taken : Taken) (known 
     within = λ node number at. within number (table_of node) at.k (family_of node) at.at;
   }
 
-  numbers-yet : AreNumbers after At state.places.size
+  numbers-yet : AreNumbers (graph_of after) At state.places.size
   numbers-yet =
       numbers-after fo.before after fo.old state.places taken.step leads fo.takes fo.by.valid later fo.numbered fo.numbers
       apart within
 
-  numbers-once : AreNumbers fo.before At state.places.size
+  numbers-once : AreNumbers (graph_of fo.before) At state.places.size
   numbers-once =
       numbers-before fo.before after fo.old state.places taken.step leads fo.takes fo.by.valid later fo.numbered
       fo.numbers apart within
@@ -107,7 +109,7 @@ module _ (factors : FactorValues) (after : BalanceSheet) (taken : Taken) (known 
       (room : state.places.size ≤ length figures.items) (marked : state.places.size ≤ marks.size)
       (none : marks.list ≡ []) (numbers : List ℕ) (some : IfSome known (λ list. numbers ≡ list.items))
       (come : IfNone known (AreStarts (StandsAt after state.places) taken.touched.now numbers))
-      (distinct : IfNone known (IsDistinct nat_eq numbers)) (starts : Starts) (all : AreAllStarts after state.places numbers starts)
+      (distinct : IfNone known (IsDistinct nat_eq numbers)) (starts : Starts) (all : AreAllStarts (graph_of after) (StandsAt after state.places) numbers starts)
       (rates : Option Rates) (rows : AreRowsFor taken.edit.now after rates) where
     touched : AreStarts At taken.touched.now starts.numbers.items × IsDistinct nat_eq starts.numbers.items
     touched =
@@ -128,12 +130,12 @@ module _ (factors : FactorValues) (after : BalanceSheet) (taken : Taken) (known 
           touched.0 state.links.edges
           (yet-linked fo.before after fo.old state.places taken.step leads fo.takes fo.by.valid later fo.numbered
           fo.numbers apart within state.links.edges fo.links);
-      due = subst (λ list. AreAllStarts after state.places list starts) (sym all.numbers) all;
+      due = subst (λ list. AreAllStarts (graph_of after) (StandsAt after state.places) list starts) (sym all.numbers) all;
       once = touched.1;
       same = others-same factors fo.before after taken fo.by At state.places.size numbers-yet numbers-once starts.numbers.items
           touched.0;
       rates_after = rates-after rates rows;
-      figures = known-kept factors fo.before At (λ node. Unit {0}) state.figures.items figures.items kept
+      figures = known-kept (reckoning_of factors fo.before) At (λ node. Unit {0}) state.figures.items figures.items kept
           (yet-settled fo.before after fo.old state.places taken.step leads fo.takes fo.by.valid later fo.numbered
           fo.numbers apart within factors state.figures.items fo.figures);
       size = let small = fo.size in
@@ -150,8 +152,8 @@ module _ (factors : FactorValues) (after : BalanceSheet) (taken : Taken) (known 
     steps-reach old new steps =
         let s = steps started in (
           s.0,
-          count-like (IsInReach after (IsAtStart At starts.numbers.items)) (IsInReach after (Contains taken.touched.now))
-              (reach-like after (IsAtStart At starts.numbers.items) (Contains taken.touched.now)
+          count-like (IsInReach (graph_of after) (IsAtStart At starts.numbers.items)) (IsInReach (graph_of after) (Contains taken.touched.now))
+              (reach-like (graph_of after) (IsAtStart At starts.numbers.items) (Contains taken.touched.now)
               (at-listed factors fo.before after taken fo.by At state.places.size numbers-yet numbers-once starts.numbers.items touched.0))
               s.0 s.1,
           s.2,
@@ -220,10 +222,10 @@ kept-back factors before after taken by state is places takes now un back return
       rates = ap known_of un.rates ∙ is.rates;
       numbered = known.0;
       numbers = back-numbers before by.valid state.places back is.numbered known.1 is.numbers grown;
-      figures = known-kept factors before (StandsAt before back) (λ node. Unit {0}) state.figures.items now.figures.items
+      figures = known-kept (reckoning_of factors before) (StandsAt before back) (λ node. Unit {0}) state.figures.items now.figures.items
           un.figures
           (back-settled before by.valid state.places back is.numbered known.1 factors state.figures.items is.figures);
-      links = linked-same before (StandsAt before back) state.links.edges now.links.edges
+      links = linked-same (graph_of before) (StandsAt before back) state.links.edges now.links.edges
           (back-linked before by.valid state.places back is.numbered known.1 state.places.size is.numbers state.links.edges
           is.links) un.links;
       size = let small = is.size in
@@ -268,11 +270,11 @@ taken-steps factors before after taken by workers old new steps = record {
   accepted = λ one.
       let s = steps one in (
         s.0,
-        count-like (IsInReach (applied taken.edit.now before) (Contains taken.touched.now))
+        count-like (IsInReach (graph_of (applied taken.edit.now before)) (Contains taken.touched.now))
             (IsReachedBy factors before taken.edit.now)
-            (reach-like (applied taken.edit.now before) (Contains taken.touched.now)
+            (reach-like (graph_of (applied taken.edit.now before)) (Contains taken.touched.now)
             (IsTouched factors before taken.edit.now) (λ n. (by.told n).listed)) s.0
-            (subst (λ sheet. IsCountOf (IsInReach sheet (Contains taken.touched.now)) s.0) by.is s.1),
+            (subst (λ sheet. IsCountOf (IsInReach (graph_of sheet) (Contains taken.touched.now)) s.0) by.is s.1),
         s.2,
       );
   refused = λ fault e. absurd (cc);

@@ -20,7 +20,7 @@ use Rattle.scr_nodes.specs.declared.{node.Node.Node, node.OfCurrency.OfCurrency,
 use Rattle.scr_nodes.specs.declared.node.Node.TheVariants as nodes
 use Rattle.scr_nodes.specs.declared.node.OfGroup.TheVariants as of_groups
 use Rattle.scr_nodes.specs.declared.node.Whole.TheVariants as wholes
-use Rattle.scr_tree.specs.Figures.{HaveFigures, total_worth, worth_at, worth_of}
+use Rattle.scr_tree.specs.Figures.{HaveFigures, reckoning_of, total_worth, worth_at, worth_of}
 use Rattle.scr_tree.specs.First.{AreReckonedTo, IsDone, IsGround, IsLinkGround, IsPut, link_ground}
 use Rattle.scr_tree.specs.Turns.{IsBefore, Turn, next, stage_of, turn, turn_of}
 use Rattle.scr_figures.specs.SourceNumbers.{ArePushed}
@@ -165,7 +165,7 @@ module _ (ground : Ground) (g : IsGround ground) where
       (live : is_live ground.inputs.book.now.sheet node ≡ true) where
     pub sources-known : (a : Made) → 2 ≤ stage_of node → IsDone ground a (turn_of node row) → (sources : List ℕ)
         → AllZip (λ m source. StandsAt ground.inputs.book.now.sheet ground.places.now source m) sources (sources_of ground.inputs.book.now.sheet node)
-        → HaveFigures ground.inputs.factors.now ground.inputs.book.now.sheet a.figures.items sources (sources_of ground.inputs.book.now.sheet node)
+        → HaveFigures (reckoning_of ground.inputs.factors.now ground.inputs.book.now.sheet) a.figures.items sources (sources_of ground.inputs.book.now.sheet node)
     sources-known a high is sources are =
         known-sources ground.inputs.factors.now ground.inputs.book.now.sheet g.valid ground.places.now g.numbered g.numbers a
         node row live named high is sources are
@@ -194,7 +194,7 @@ module _ (ground : Ground) (g : IsGround ground) where
       → AreReckonedTo ground figures u
   reckoned-good figures t u good is = record {
     count = is.count;
-    known = known-weaker ground.inputs.factors.now ground.inputs.book.now.sheet (StandsAt ground.inputs.book.now.sheet ground.places.now) figures
+    known = known-weaker (reckoning_of ground.inputs.factors.now ground.inputs.book.now.sheet) (StandsAt ground.inputs.book.now.sheet ground.places.now) figures
         (IsBefore ground.inputs.book.now.sheet t) (IsBefore ground.inputs.book.now.sheet u) (λ n live before. good.back n live before) is.known;
   }
 
@@ -298,7 +298,7 @@ pushed-at sheet book places node old now same none pushed =
 
 -- figures that are there are within
 pub have-within : (factors : FactorValues) (sheet : BalanceSheet) (figures : List Figure) (numbers : List ℕ) (list : List Node)
-    → HaveFigures factors sheet figures numbers list → AllByRecursion (λ n. n < length figures) numbers
+    → HaveFigures (reckoning_of factors sheet) figures numbers list → AllByRecursion (λ n. n < length figures) numbers
 have-within factors sheet figures [] [] have = tt
 have-within factors sheet figures [] (m ∷ list) have = absurd have
 have-within factors sheet figures (n ∷ numbers) [] have = absurd have

@@ -13,11 +13,10 @@ use Rattle.scr_nodes.specs.declared.node.Node.{Node}
 use Rattle.scr_nodes.specs.declared.node.Node.TheVariants as nodes
 use Rattle.scr_nodes.specs.declared.node.OfCurrency.TheVariants as of_currencies
 use Rattle.scr_nodes.specs.declared.node.Whole.TheVariants as wholes
-use Rattle.scr_nodes.specs.Live.{is_live}
-use Rattle.scr_rules.specs.Close.{close_under, is_open_choice}
+use Rattle.scr_rules.specs.Close.{is_open_choice}
 use Rattle.scr_rules.specs.Worked.{worked}
 use Rattle.scr_reach.specs.Linked.{AreAt, AreNumbers}
-use Rattle.scr_tree.specs.Figures.{AreKnownOf, AreReadAt, AreSpansOf, HasFigure, HaveFigures, IsPutRight, Worth, opens, worth_at, worth_of}
+use Rattle.scr_tree.specs.Figures.{AreKnownOf, AreReadAt, AreSpansOf, HasFigure, HaveFigures, IsPutRight, Reckoning, Worth, opens, worth_of}
 use Rattle.scr_tree.specs.declared.figures.Below.{Below}
 use Rattle.scr_tree.specs.declared.figures.Figure.{Figure}
 
@@ -68,15 +67,15 @@ read-next figures numbers number figure old now read here spans close = record {
   close = close ∙ (ap (λ b. b || figure.close) read.close ∙ sym (any-next (λ (f : Figure). f.close) read.read figure));
 }
 
-module _ (factors : FactorValues) (sheet : BalanceSheet) (figures : List Figure) where
-  one-worth : (number : ℕ) (node : Node) (figure : Figure) → HasFigure factors sheet figures number node
-      → slice_get figures number ≡ Some figure → worth_of figure ≡ worth_at factors sheet node
+module _ {Node : Type 0} (reckoning : Reckoning Node) (figures : List Figure) where
+  one-worth : (number : ℕ) (node : Node) (figure : Figure) → HasFigure reckoning figures number node
+      → slice_get figures number ≡ Some figure → worth_of figure ≡ reckoning.worth node
   one-worth number node figure has here =
-      let both : Some (worth_of figure) ≡ Some (worth_at factors sheet node) = sym (ap (option_map worth_of) here) ∙ has in cc
+      let both : Some (worth_of figure) ≡ Some (reckoning.worth node) = sym (ap (option_map worth_of) here) ∙ has in cc
 
-  worths : (numbers : List ℕ) (list : List Node) (read : List Figure) → HaveFigures factors sheet figures numbers list
+  worths : (numbers : List ℕ) (list : List Node) (read : List Figure) → HaveFigures reckoning figures numbers list
       → AllZip (λ number figure. slice_get figures number ≡ Some figure) numbers read
-      → map worth_of read ≡ map (worth_at factors sheet) list
+      → map worth_of read ≡ map reckoning.worth list
   worths [] [] [] have at = refl
   worths [] [] (f ∷ read) have at = absurd at
   worths [] (m ∷ list) read have at = absurd have
@@ -91,33 +90,33 @@ map-worked : (read : List Figure) → map ends (map (λ (f : Figure). f.span) re
 map-worked [] = refl
 map-worked (f ∷ read) = ap (λ es. ends f.span ∷ es) (map-worked read)
 
-worked-each : (factors : FactorValues) (sheet : BalanceSheet) (list : List Node)
-    → map (λ (w : Worth). w.worked) (map (worth_at factors sheet) list) ≡ map (worked factors sheet) list
-worked-each factors sheet [] = refl
-worked-each factors sheet (n ∷ list) = ap (λ es. worked factors sheet n ∷ es) (worked-each factors sheet list)
+worked-each : {Node : Type 0} (worth : Node → Worth) (list : List Node)
+    → map (λ (w : Worth). w.worked) (map worth list) ≡ map (λ node. (worth node).worked) list
+worked-each worth [] = refl
+worked-each worth (n ∷ list) = ap (λ es. (worth n).worked ∷ es) (worked-each worth list)
 
 any-close : (read : List Figure) → list_any (λ (f : Figure). f.close) read ≡ list_any (λ b. b) (map (λ (w : Worth). w.close) (map worth_of read))
 any-close [] = refl
 any-close (f ∷ read) = ap (λ b. f.close || b) (any-close read)
 
-close-each : (factors : FactorValues) (sheet : BalanceSheet) (list : List Node)
-    → map (λ (w : Worth). w.close) (map (worth_at factors sheet) list) ≡ map (close_under factors sheet) list
-close-each factors sheet [] = refl
-close-each factors sheet (n ∷ list) = ap (λ bs. close_under factors sheet n ∷ bs) (close-each factors sheet list)
+close-each : {Node : Type 0} (worth : Node → Worth) (list : List Node)
+    → map (λ (w : Worth). w.close) (map worth list) ≡ map (λ node. (worth node).close) list
+close-each worth [] = refl
+close-each worth (n ∷ list) = ap (λ bs. (worth n).close ∷ bs) (close-each worth list)
 
 -- what is read at the numbers of figures that are right is what these are worth
-pub read-right : (factors : FactorValues) (sheet : BalanceSheet) (figures : List Figure) (numbers : List ℕ) (list : List Node)
-    (below : Below) → HaveFigures factors sheet figures numbers list → AreReadAt figures numbers below
-    → AreSpansOf factors sheet list below
-read-right factors sheet figures numbers list below have read =
-    let same : map worth_of read.read ≡ map (worth_at factors sheet) list =
-    worths factors sheet figures numbers list read.read have read.at in
+pub read-right : {Node : Type 0} (reckoning : Reckoning Node) (figures : List Figure) (numbers : List ℕ) (list : List Node)
+    (below : Below) → HaveFigures reckoning figures numbers list → AreReadAt figures numbers below
+    → AreSpansOf reckoning list below
+read-right reckoning figures numbers list below have read =
+    let same : map worth_of read.read ≡ map reckoning.worth list =
+    worths reckoning figures numbers list read.read have read.at in
     record {
       spans = ap (map ends) read.spans ∙ (map-worked read.read ∙ (ap (map (λ (w : Worth). w.worked)) same
-          ∙ worked-each factors sheet list));
+          ∙ worked-each reckoning.worth list));
       close = read.close ∙ (any-close read.read
           ∙ (ap (λ ws. list_any (λ b. b) (map (λ (w : Worth). w.close) ws)) same
-          ∙ ap (list_any (λ b. b)) (close-each factors sheet list)));
+          ∙ ap (list_any (λ b. b)) (close-each reckoning.worth list)));
     }
 
 pub opens-is : (factors : FactorValues) (sheet : BalanceSheet) (node : Node)
@@ -129,19 +128,19 @@ opens-is factors sheet node = refl
 
 -- ---- figures that are known
 
-module _ (factors : FactorValues) (sheet : BalanceSheet) (At : Node → ℕ → Type 0) where
+module _ {Node : Type 0} (reckoning : Reckoning Node) (At : Node → ℕ → Type 0) where
   -- of a kind, all of which are of another
   pub known-weaker : (figures : List Figure) (P Q : Node → Type 0)
-      → ((node : Node) → is_live sheet node ≡ true → Q node → P node)
-      → AreKnownOf factors sheet At figures P → AreKnownOf factors sheet At figures Q
+      → ((node : Node) → reckoning.graph.live node ≡ true → Q node → P node)
+      → AreKnownOf reckoning At figures P → AreKnownOf reckoning At figures Q
   unfolding AreKnownOf
   known-weaker figures P Q step known = λ node number at live q. known node number at live (step node live q)
 
   -- at the numbers of nodes of the kind
-  pub known-have : (figures : List Figure) (P : Node → Type 0) → AreKnownOf factors sheet At figures P
+  pub known-have : (figures : List Figure) (P : Node → Type 0) → AreKnownOf reckoning At figures P
       → (numbers : List ℕ) (list : List Node) → AreAt At numbers list
-      → AllByRecursion (λ node. (is_live sheet node ≡ true) × P node) list
-      → HaveFigures factors sheet figures numbers list
+      → AllByRecursion (λ node. (reckoning.graph.live node ≡ true) × P node) list
+      → HaveFigures reckoning figures numbers list
   unfolding AreKnownOf
   known-have figures P known [] [] at each = tt
   known-have figures P known [] (m ∷ list) at each = absurd at
@@ -150,23 +149,23 @@ module _ (factors : FactorValues) (sheet : BalanceSheet) (At : Node → ℕ → 
       (known m n at.0 each.0.0 each.0.1, known-have figures P known numbers list at.1 each.1)
 
   -- with one more, that is put
-  pub known-put : (size : ℕ) → AreNumbers sheet At size → (old now : List Figure) (P : Node → Type 0) (node : Node) (number : ℕ)
-      → AreKnownOf factors sheet At old P → IsPutRight factors sheet At old now node number
-      → AreKnownOf factors sheet At now (λ n. P n ⊎ (n ≡ node))
+  pub known-put : (size : ℕ) → AreNumbers reckoning.graph At size → (old now : List Figure) (P : Node → Type 0) (node : Node) (number : ℕ)
+      → AreKnownOf reckoning At old P → IsPutRight reckoning At old now node number
+      → AreKnownOf reckoning At now (λ n. P n ⊎ (n ≡ node))
   unfolding AreKnownOf
   known-put size are old now P node number known put =
       λ n m at live p. passes_or_fails (nat_eq m number)
       (λ e. here n m at (eqb-true m number e))
       (λ e. by n m at live (λ same. let clash : true ≡ false = sym (eq-eqb m number same) ∙ e in absurd (cc)) p)
     where
-      here : (n : Node) (m : ℕ) → At n m → m ≡ number → HasFigure factors sheet now m n
+      here : (n : Node) (m : ℕ) → At n m → m ≡ number → HasFigure reckoning now m n
       here n m at same =
           let one : n ≡ node = are.exact number n node (subst (At n) same at) put.at in
-          subst (λ k. HasFigure factors sheet now k n) (sym same)
-          (subst (HasFigure factors sheet now number) (sym one) put.there)
+          subst (λ k. HasFigure reckoning now k n) (sym same)
+          (subst (HasFigure reckoning now number) (sym one) put.there)
 
-      by : (n : Node) (m : ℕ) → At n m → is_live sheet n ≡ true → (m ≡ number → ⊥) → P n ⊎ (n ≡ node)
-          → HasFigure factors sheet now m n
+      by : (n : Node) (m : ℕ) → At n m → reckoning.graph.live n ≡ true → (m ≡ number → ⊥) → P n ⊎ (n ≡ node)
+          → HasFigure reckoning now m n
       by n m at live other (inl p) = ap (option_map worth_of) (put.others m other) ∙ known n m at live p
       by n m at live other (inr same) =
           absurd (other (are.only n m number at (subst (λ k. At k number) (sym same) put.at)))

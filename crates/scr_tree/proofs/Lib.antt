@@ -30,3 +30,4 @@ pub mod Begun
 pub mod Entering
 pub mod RowParts
 pub mod GroupSums
+pub mod Ending

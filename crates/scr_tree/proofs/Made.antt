@@ -17,7 +17,7 @@ use Rattle.scr_nodes.specs.Sources.{sources_of}
 use Rattle.scr_nodes.specs.declared.node.Node.{Node}
 use Rattle.scr_nodes.proofs.LiveSources.{IsLive, sources-live}
 use Rattle.scr_reach.specs.Linked.{AreAt, AreLinked, AreLinkedOf, AreNumbers, edges_to, sources_in}
-use Rattle.scr_tree.specs.Figures.{AreKnownOf, AreSettled, HaveFigures, IsPutRight, worth_at, worth_of}
+use Rattle.scr_tree.specs.Figures.{AreKnownOf, AreSettled, HaveFigures, IsPutRight, reckoning_of, worth_at, worth_of}
 use Rattle.scr_tree.specs.First.{IsEntered, IsMade}
 use Rattle.scr_tree.specs.Turns.{IsBefore, Turn, next, stage_of, turn, turn_of}
 use Rattle.scr_tree.specs.declared.figures.Figure.{Figure}
@@ -25,6 +25,7 @@ use Rattle.scr_tree.specs.declared.making.Made.{Made}
 use Rattle.scr_tree.proofs.FirstSources.{sources-before}
 use Rattle.scr_tree.proofs.Known.{known-have, known-put, known-weaker}
 use Rattle.scr_tree.proofs.Turns.{IsAsGood, IsTurnOf, all-done, family-within, its-turn, later, none-done, not-before, one-turn, step-back}
+use Rattle.scr_tree.specs.Graphs.{graph_of}
 
 -- ---- edges to a number
 
@@ -78,17 +79,17 @@ was-there old now number kept e has other =
 -- ---- one figure more
 
 module _ (sheet : BalanceSheet) (valid : Valid sheet) (places : Numbered) (numbered : IsNumbered sheet places)
-    (numbers : AreNumbers sheet (StandsAt sheet places) places.size) where
+    (numbers : AreNumbers (graph_of sheet) (StandsAt sheet places) places.size) where
   same-turn : (t : Turn) (n node : Node) → is_live sheet n ≡ true → IsTurnOf sheet t n → IsTurnOf sheet t node → n ≡ node
   same-turn t n node live x y = one-turn sheet t n node x y (family-within sheet places numbered n live)
 
   -- it is linked
   pub linked-next : (old now : List Edge) (t : Turn) (node : Node) (number : ℕ) (sources : List ℕ)
-      → AreLinkedOf sheet (StandsAt sheet places) old (IsBefore sheet t) → IsTurnOf sheet t node → is_live sheet node ≡ true
+      → AreLinkedOf (graph_of sheet) (StandsAt sheet places) old (IsBefore sheet t) → IsTurnOf sheet t node → is_live sheet node ≡ true
       → StandsAt sheet places node number → AreAt (StandsAt sheet places) sources (sources_of sheet node)
       → sources_in now number ≡ sources_in old number ++ sources
       → ((other : ℕ) → nat_eq number other ≡ false → edges_to now other ≡ edges_to old other)
-      → AreLinkedOf sheet (StandsAt sheet places) now (IsBefore sheet (next t))
+      → AreLinkedOf (graph_of sheet) (StandsAt sheet places) now (IsBefore sheet (next t))
   linked-next old now t node number sources linked turn alive at are made kept = record {
     done = λ n m stands live before. done n m stands live (step-back sheet t n before);
     only = λ e has. only e (IsMember-from_Contains now e has);
@@ -130,15 +131,15 @@ module _ (sheet : BalanceSheet) (valid : Valid sheet) (places : Numbered) (numbe
 
   -- ---- the beginning and the end of all links
 
-  pub links-none : (edges : List Edge) → edges ≡ [] → AreLinkedOf sheet (StandsAt sheet places) edges (IsBefore sheet (turn 0 0 0))
+  pub links-none : (edges : List Edge) → edges ≡ [] → AreLinkedOf (graph_of sheet) (StandsAt sheet places) edges (IsBefore sheet (turn 0 0 0))
   links-none edges none = record {
     done = λ n m stands live before. absurd (none-done sheet n before);
     only = λ e has. absurd (IsMember-from_Contains [] e (subst (λ es. Contains es e) none has));
   }
 
   -- all are linked
-  pub links-all : (edges : List Edge) → AreLinkedOf sheet (StandsAt sheet places) edges (IsBefore sheet (turn 7 0 153))
-      → AreLinked sheet (StandsAt sheet places) edges
+  pub links-all : (edges : List Edge) → AreLinkedOf (graph_of sheet) (StandsAt sheet places) edges (IsBefore sheet (turn 7 0 153))
+      → AreLinked (graph_of sheet) (StandsAt sheet places) edges
   links-all edges is = record {
     linked = λ n m stands. linked n m stands (is_live sheet n) refl;
     placed = λ e has. let l = is.only e has in (l.0, l.1);
@@ -155,15 +156,15 @@ module _ (sheet : BalanceSheet) (valid : Valid sheet) (places : Numbered) (numbe
           tt
 
 module _ (factors : FactorValues) (sheet : BalanceSheet) (valid : Valid sheet) (places : Numbered) (numbered : IsNumbered sheet places)
-    (numbers : AreNumbers sheet (StandsAt sheet places) places.size) where
+    (numbers : AreNumbers (graph_of sheet) (StandsAt sheet places) places.size) where
   -- it is reckoned
-  pub reckoned-next : (old now : List Figure) (t : Turn) (node : Node) (number : ℕ) → AreKnownOf factors sheet (StandsAt sheet places) old (IsBefore sheet t)
-      → IsTurnOf sheet t node → IsPutRight factors sheet (StandsAt sheet places) old now node number
-      → AreKnownOf factors sheet (StandsAt sheet places) now (IsBefore sheet (next t))
+  pub reckoned-next : (old now : List Figure) (t : Turn) (node : Node) (number : ℕ) → AreKnownOf (reckoning_of factors sheet) (StandsAt sheet places) old (IsBefore sheet t)
+      → IsTurnOf sheet t node → IsPutRight (reckoning_of factors sheet) (StandsAt sheet places) old now node number
+      → AreKnownOf (reckoning_of factors sheet) (StandsAt sheet places) now (IsBefore sheet (next t))
   reckoned-next old now t node number known turn put =
-      known-weaker factors sheet (StandsAt sheet places) now (λ n. IsBefore sheet t n ⊎ (n ≡ node)) (IsBefore sheet (next t))
+      known-weaker (reckoning_of factors sheet) (StandsAt sheet places) now (λ n. IsBefore sheet t n ⊎ (n ≡ node)) (IsBefore sheet (next t))
       (λ n live before. by n live (step-back sheet t n before))
-      (known-put factors sheet (StandsAt sheet places) places.size numbers old now (IsBefore sheet t) node number known put)
+      (known-put (reckoning_of factors sheet) (StandsAt sheet places) places.size numbers old now (IsBefore sheet t) node number known put)
     where
       by : (n : Node) → is_live sheet n ≡ true → IsBefore sheet t n ⊎ IsTurnOf sheet t n → IsBefore sheet t n ⊎ (n ≡ node)
       by n live (inl before) = inl before
@@ -176,7 +177,7 @@ module _ (factors : FactorValues) (sheet : BalanceSheet) (valid : Valid sheet) (
   made-good made t u v w a b is = record {
     count = is.count;
     size = is.size;
-    known = known-weaker factors sheet (StandsAt sheet places) made.figures.items (IsBefore sheet t) (IsBefore sheet u)
+    known = known-weaker (reckoning_of factors sheet) (StandsAt sheet places) made.figures.items (IsBefore sheet t) (IsBefore sheet u)
         (λ n live before. a.back n live before) is.known;
     links = record {
       done = λ n m stands live before. is.links.done n m stands live (b.back n live before);
@@ -205,9 +206,9 @@ module _ (factors : FactorValues) (sheet : BalanceSheet) (valid : Valid sheet) (
       → slice_get (names_in sheet (table_of node)) row ≡ Some (name_of node) → 2 ≤ stage_of node
       → IsMade factors sheet places made (turn_of node row) (turn_of node row) → (sources : List ℕ)
       → AreAt (StandsAt sheet places) sources (sources_of sheet node)
-      → HaveFigures factors sheet made.figures.items sources (sources_of sheet node)
+      → HaveFigures (reckoning_of factors sheet) made.figures.items sources (sources_of sheet node)
   known-sources made node row live named high is sources are =
-      known-have factors sheet (StandsAt sheet places) made.figures.items (IsBefore sheet (turn_of node row)) is.known sources
+      known-have (reckoning_of factors sheet) (StandsAt sheet places) made.figures.items (IsBefore sheet (turn_of node row)) is.known sources
       (sources_of sheet node) are
       (both (sources_of sheet node) (sources-live sheet valid node live) (sources-before sheet valid node live row named high))
     where
@@ -218,7 +219,7 @@ module _ (factors : FactorValues) (sheet : BalanceSheet) (valid : Valid sheet) (
 
   -- ---- the beginning and the end
 
-  pub none-reckoned : (figures : List Figure) → AreKnownOf factors sheet (StandsAt sheet places) figures (IsBefore sheet (turn 0 0 0))
+  pub none-reckoned : (figures : List Figure) → AreKnownOf (reckoning_of factors sheet) (StandsAt sheet places) figures (IsBefore sheet (turn 0 0 0))
   unfolding AreKnownOf
   none-reckoned figures = λ n m stands live before. absurd (none-done sheet n before)
 
@@ -232,9 +233,9 @@ module _ (factors : FactorValues) (sheet : BalanceSheet) (valid : Valid sheet) (
   }
 
   pub made-all : (made : Made) → IsMade factors sheet places made (turn 7 0 153) (turn 7 0 153)
-      → AreSettled factors sheet (StandsAt sheet places) made.figures.items × AreLinked sheet (StandsAt sheet places) made.links.edges
+      → AreSettled (reckoning_of factors sheet) (StandsAt sheet places) made.figures.items × AreLinked (graph_of sheet) (StandsAt sheet places) made.links.edges
   made-all made is = (
-    known-weaker factors sheet (StandsAt sheet places) made.figures.items (IsBefore sheet (turn 7 0 153)) (λ n. Unit {0})
+    known-weaker (reckoning_of factors sheet) (StandsAt sheet places) made.figures.items (IsBefore sheet (turn 7 0 153)) (λ n. Unit {0})
         (λ n live all. all-done sheet places numbered n live) is.known,
     links-all sheet valid places numbered numbers made.links.edges is.links,
   )

@@ -7,9 +7,10 @@ use Rattle.scr_figures.specs.Numbers.{IsNumbered, StandsAt}
 use Rattle.scr_figures.proofs.Live.{live-stands, named-once}
 use Rattle.scr_figures.proofs.Standing.{exact, only}
 use Rattle.scr_reach.specs.Linked.{AreNumbers}
+use Rattle.scr_tree.specs.Graphs.{graph_of}
 
 pub are-numbers : (sheet : BalanceSheet) (places : Numbered) → Valid sheet → IsNumbered sheet places → IsWithin places → IsApart places
-    → AreNumbers sheet (StandsAt sheet places) places.size
+    → AreNumbers (graph_of sheet) (StandsAt sheet places) places.size
 are-numbers sheet places valid numbered within apart = record {
   exact = exact sheet places apart;
   only = λ node n m. only sheet places (named-once sheet valid) n m node;

@@ -29,7 +29,7 @@ use Rattle.scr_rules.specs.Worked.{worked}
 use Rattle.scr_reach.specs.Dues.{IsDue, IsLiveAt, numbers_of}
 use Rattle.scr_reach.specs.Linked.{AreAt, sources_in}
 use Rattle.scr_reach.proofs.Placed.{get-member, placed-get, standing}
-use Rattle.scr_tree.specs.Figures.{HasFigure, HaveFigures, Worth, opens, worth_at, worth_of}
+use Rattle.scr_tree.specs.Figures.{HasFigure, HaveFigures, Worth, opens, reckoning_of, worth_at, worth_of}
 use Rattle.scr_tree.specs.Ready.{AreInTurnOn, AreKnownBut, IsBasis, IsLinkedUp, IsNoneOf, IsReady}
 use Rattle.scr_tree.specs.Starts.{AreFormer}
 use Rattle.scr_tree.specs.Together.{AreSpansOn, IsSpanOn, IsDueOn, IsKnownOn, any_close, close_at, ends_at, ends_on, has_number, node_with, number_in}
@@ -38,6 +38,7 @@ use Rattle.scr_tree.specs.declared.figures.Figure.{Figure}
 use Rattle.scr_rules.proofs.Equations.{close-equation}
 use Rattle.scr_tree.proofs.Known.{known-have, opens-is}
 use Rattle.scr_workers.specs.Workable.{AreWorkable}
+use Rattle.scr_tree.specs.Graphs.{graph_of}
 
 module _ (factors : FactorValues) (sheet : BalanceSheet) (places : Numbered) (edges : List Edge)
     (up : IsLinkedUp sheet places edges) where
@@ -120,7 +121,7 @@ module _ (factors : FactorValues) (sheet : BalanceSheet) (places : Numbered) (ed
 
   -- ---- open choices
 
-  close-one : (figures : List Figure) (number : ℕ) (node : Node) → HasFigure factors sheet figures number node
+  close-one : (figures : List Figure) (number : ℕ) (node : Node) → HasFigure (reckoning_of factors sheet) figures number node
       → close_at figures number ≡ close_under factors sheet node
   close-one figures number node has = by (slice_get figures number) has
     where
@@ -129,7 +130,7 @@ module _ (factors : FactorValues) (sheet : BalanceSheet) (places : Numbered) (ed
       by None has = let clash : None ≡ Some (worth_at factors sheet node) = has in absurd (cc)
       by (Some figure) has = ap (λ found. option_map_or (λ (w : Worth). w.close) found false) has
 
-  pub close-all : (figures : List Figure) (numbers : List ℕ) (nodes : List Node) → HaveFigures factors sheet figures numbers nodes
+  pub close-all : (figures : List Figure) (numbers : List ℕ) (nodes : List Node) → HaveFigures (reckoning_of factors sheet) figures numbers nodes
       → any_close figures numbers ≡ list_any (λ b. b) (map (close_under factors sheet) nodes)
   close-all figures [] [] have = refl
   close-all figures [] (m ∷ nodes) have = absurd have
@@ -141,7 +142,7 @@ module _ (factors : FactorValues) (sheet : BalanceSheet) (places : Numbered) (ed
 
 module _ (factors : FactorValues) (sheet : BalanceSheet) (places : Numbered) (edges : List Edge)
     (up : IsLinkedUp sheet places edges) (figures : List Figure) (number : ℕ)
-    (ready : IsReady factors sheet places edges figures number) (span : Span)
+    (ready : IsReady (reckoning_of factors sheet) (StandsAt sheet places) edges figures number) (span : Span)
     (is : ends span ≡ ends_at factors sheet places number) where
   pub right-span : (node : Node) → StandsAt sheet places node number → (close : Bool)
       → close ≡ (opens node (ends span) || any_close figures (sources_in edges number))
@@ -175,7 +176,7 @@ span-there b numbers spans k number span are at there =
 -- ---- what a figure that is there comes to
 
 pub figure-there : (factors : FactorValues) (sheet : BalanceSheet) (figures : List Figure) (number : ℕ) (node : Node)
-    → HasFigure factors sheet figures number node
+    → HasFigure (reckoning_of factors sheet) figures number node
     → (figure : Figure) × (slice_get figures number ≡ Some figure) × (worth_of figure ≡ worth_at factors sheet node)
 figure-there factors sheet figures number node has = by (slice_get figures number) refl has
   where
@@ -205,7 +206,7 @@ pub due-basis : (b : Basis) (due : Due) → IsDueOn b due → IsBasis b
 unfolding IsDueOn
 due-basis b due is = is.0
 
-pub due-is : (b : Basis) (due : Due) → IsDueOn b due → IsDue b.inputs.book.now.sheet (StandsAt b.inputs.book.now.sheet b.places.now) due
+pub due-is : (b : Basis) (due : Due) → IsDueOn b due → IsDue (graph_of b.inputs.book.now.sheet) (StandsAt b.inputs.book.now.sheet b.places.now) due
 unfolding IsDueOn
 due-is b due is = is.1
 
@@ -225,7 +226,7 @@ module _ (b : Basis) (is : IsBasis b) (figures : List Figure) (numbers : List �
   abbrev NoneLeft : Node → Type 0
   NoneLeft = IsNoneOf Stands numbers
 
-  live-due : (due : Due) → IsMember due dues → IsLiveAt sheet Stands due.number
+  live-due : (due : Due) → IsMember due dues → IsLiveAt (graph_of sheet) Stands due.number
   live-due due h =
       turn.each due.number (subst (λ list. Contains list due.number) former.numbers
       (Contains-from_IsMember (numbers_of dues) due.number (IsMember-mapped (λ (d : Due). d.number) dues due h)))
@@ -265,7 +266,7 @@ module _ (b : Basis) (is : IsBasis b) (figures : List Figure) (numbers : List �
       let apart : NoneLeft s.0 = λ m at left.
       none (subst (λ list. Contains list source) (sym former.numbers)
       (subst (Contains numbers) (is.0.numbers.only s.0 m source at s.2) left)) in
-      let figure = known-have factors sheet Stands figures NoneLeft known (source ∷ []) (s.0 ∷ []) (s.2, tt) ((lives, apart), tt) in
+      let figure = known-have (reckoning_of factors sheet) Stands figures NoneLeft known (source ∷ []) (s.0 ∷ []) (s.2, tt) ((lives, apart), tt) in
       (is, (s.0, s.2, lives, figure.0))
 
   pub workable : AreWorkable (IsKnownOn b figures) (IsDueOn b) dues

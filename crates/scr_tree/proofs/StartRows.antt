@@ -10,9 +10,10 @@ use Rattle.scr_sheet.specs.declared.sheet.BalanceSheet.{BalanceSheet}
 use Rattle.scr_nodes.specs.declared.node.Node.{Node}
 use Rattle.scr_nodes.specs.Live.{is_live}
 use Rattle.scr_nodes.specs.Sources.{sources_of}
+use Rattle.scr_tree.specs.Graphs.{graph_of}
+use Rattle.scr_reach.specs.Graph.{Graph}
 use Rattle.scr_numbers.specs.Ranges.{Numbered}
 use Rattle.scr_figures.specs.Numbers.{StandsAt}
-use Rattle.scr_nodes.specs.LiveNodes.{HasNoRepeats}
 use Rattle.scr_reach.specs.Dues.{AreStarts, IsLiveAt, numbers_of}
 use Rattle.scr_reach.specs.Linked.{AreAt, AreNumbers, sources_in}
 use Rattle.scr_reach.proofs.Starting.{starts-more, starts-once, starts-skip}
@@ -22,7 +23,7 @@ use Rattle.scr_tree.proofs.Known.{zip-next}
 
 module _ (sheet : BalanceSheet) (places : Numbered) (due : Due) where
   pub start-live : (node : Node) (before : List ℕ) → StandsAt sheet places node due.number → is_live sheet node ≡ true
-      → before ≡ [] → ArePushed sheet places node before due.sources.items → IsStart sheet places due true
+      → before ≡ [] → ArePushed sheet places node before due.sources.items → IsStart (graph_of sheet) (StandsAt sheet places) due true
   start-live node before at live none pushed = record {
     live = λ e. record {
       node = node;
@@ -35,8 +36,9 @@ module _ (sheet : BalanceSheet) (places : Numbered) (due : Due) where
     dead = λ e. absurd (let clash : true ≡ false = e in cc);
   }
 
-  pub start-dead : due.sources.items ≡ [] → (IsLiveAt sheet (StandsAt sheet places) due.number → ⊥)
-      → IsStart sheet places due false
+module _ {Node : Type 0} (graph : Graph Node) (At : Node → ℕ → Type 0) (due : Due) where
+  pub start-dead : due.sources.items ≡ [] → (IsLiveAt graph At due.number → ⊥)
+      → IsStart graph At due false
   start-dead empty absent = record {
     live = λ e. absurd (let clash : false ≡ true = e in cc);
     none = λ e. empty;
@@ -44,11 +46,11 @@ module _ (sheet : BalanceSheet) (places : Numbered) (due : Due) where
   }
 
   pub starts-next : (dues : List Due) (live : List Bool) (numbers done : List ℕ) (lives : Bool) → numbers_of dues ≡ done
-      → AllZip (IsStart sheet places) dues live → IsStart sheet places due lives → numbers ≡ done ++ due.number ∷ []
-      → (numbers_of (dues ++ due ∷ []) ≡ numbers) × AllZip (IsStart sheet places) (dues ++ due ∷ []) (live ++ lives ∷ [])
+      → AllZip (IsStart graph At) dues live → IsStart graph At due lives → numbers ≡ done ++ due.number ∷ []
+      → (numbers_of (dues ++ due ∷ []) ≡ numbers) × AllZip (IsStart graph At) (dues ++ due ∷ []) (live ++ lives ∷ [])
   starts-next dues live numbers done lives named each own is = (
     map-append (λ (due : Due). due.number) dues (due ∷ []) ∙ ap (λ list. list ++ due.number ∷ []) named ∙ sym is,
-    zip-next (IsStart sheet places) dues live due lives each own,
+    zip-next (IsStart graph At) dues live due lives each own,
   )
 
 -- what was linked to one number more
@@ -70,19 +72,17 @@ in-front (y ∷ xs) (suc i) x (inl e) = (0, omega arith, ap Some (sym e))
 in-front (y ∷ xs) (suc i) x (inr h) =
     let r = in-front xs i x h in let l : r.0 < i = r.1 in (suc r.0, omega (arith, l), r.2)
 
-module _ (sheet : BalanceSheet) (places : Numbered) (numbers : AreNumbers sheet (StandsAt sheet places) places.size) where
+module _ {Node : Type 0} (graph : Graph Node) (At : Node → ℕ → Type 0) (size : ℕ) (numbers : AreNumbers graph At size) where
   -- those of one figure more
-  pub numbers-next : (nodes : List Node) (k : ℕ) (n : Node) (old new : List ℕ) → HasNoRepeats nodes → k < length nodes
+  pub numbers-next : (nodes : List Node) (k : ℕ) (n : Node) (old new : List ℕ)
+      → ((i j : ℕ) (node : Node) → slice_get nodes i ≡ Some node → slice_get nodes j ≡ Some node → i ≡ j) → k < length nodes
       → n ≡ get_or nodes k n
-      → AreStarts (StandsAt sheet places) (take k nodes) old × IsDistinct nat_eq old
-      → IsNumberPushed sheet places n old new
-      → AreStarts (StandsAt sheet places) (take (k + 1) nodes) new × IsDistinct nat_eq new
+      → AreStarts At (take k nodes) old × IsDistinct nat_eq old
+      → IsNumberPushed At n old new
+      → AreStarts At (take (k + 1) nodes) new × IsDistinct nat_eq new
   numbers-next nodes k n old new once low is so pushed =
       subst (λ list. AreStarts At list new × IsDistinct nat_eq new) (sym next) (by pushed)
     where
-      At : Node → ℕ → Type 0
-      At = StandsAt sheet places
-
       next : take (k + 1) nodes ≡ take k nodes ++ n ∷ []
       next = take_more nodes k n low ∙ ap (λ m. take k nodes ++ m ∷ []) (sym is)
 
@@ -95,7 +95,7 @@ module _ (sheet : BalanceSheet) (places : Numbered) (numbers : AreNumbers sheet 
           let early = r.1 in
           let no : ⊥ = omega (arith, one, early) in no
 
-      by : IsNumberPushed sheet places n old new
+      by : IsNumberPushed At n old new
           → AreStarts At (take k nodes ++ n ∷ []) new × IsDistinct nat_eq new
       by (inl told) =
           subst (λ list. AreStarts At (take k nodes ++ n ∷ []) list × IsDistinct nat_eq list) (sym told.2) (

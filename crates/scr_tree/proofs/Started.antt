@@ -14,6 +14,7 @@ use Rattle.scr_sheet.specs.declared.sheet.BalanceSheet.{BalanceSheet}
 use Rattle.scr_nodes.specs.declared.node.Node.{Node}
 use Rattle.scr_nodes.specs.Live.{is_live}
 use Rattle.scr_nodes.specs.Sources.{sources_of}
+use Rattle.scr_nodes.proofs.LiveSources.{sources-live}
 use Rattle.scr_numbers.specs.Ranges.{Numbered}
 use Rattle.scr_figures.specs.Numbers.{StandsAt}
 use Rattle.scr_figures.proofs.Live.{live-stands}
@@ -31,7 +32,7 @@ use Rattle.scr_reach.proofs.Placed.{at-weaker, get-contains, placed-get}
 use Rattle.scr_reach.proofs.Reaching.{or-right, start-marked}
 use Rattle.scr_reach.proofs.Relinked.{linked-fewer, links-anew, relinked-back}
 use Rattle.scr_tree.specs.Changed.{IsRelinkedFor, IsStarted, IsStateOf, IsUndone, StandsYet, StepsOver, StepsTaken}
-use Rattle.scr_tree.specs.Figures.{AreKnownOf, AreSettled, HasFigure, worth_at, worth_of}
+use Rattle.scr_tree.specs.Figures.{AreKnownOf, AreSettled, HasFigure, Reckoning, reckoning_of, worth_of}
 use Rattle.scr_tree.specs.Order.{AreLiveOf}
 use Rattle.scr_tree.specs.Ready.{IsLinkedUp, IsNoneOf}
 use Rattle.scr_tree.specs.Starts.{AreFormer, IsStart}
@@ -39,6 +40,7 @@ use Rattle.scr_tree.specs.declared.edits.State.{State}
 use Rattle.scr_tree.specs.declared.figures.Figure.{Figure}
 use Rattle.scr_tree.specs.declared.starts.Starts.{Starts}
 use Rattle.scr_tree.proofs.Unreached.{worth-kept}
+use Rattle.scr_tree.specs.Graphs.{graph_of}
 
 -- ---- lists side by side
 
@@ -84,17 +86,17 @@ take-got (y ∷ xs) (suc n) zero x is = is
 take-got (y ∷ xs) (suc n) (suc k) x is = take-got xs n k x is
 
 -- a list that is written over keeps its figures where it had some
-pub known-kept : (factors : FactorValues) (sheet : BalanceSheet) (At : Node → ℕ → Type 0) (P : Node → Type 0)
+pub known-kept : {N : Type 0} (reckoning : Reckoning N) (At : N → ℕ → Type 0) (P : N → Type 0)
     (old now : List Figure) → ((n : ℕ) → n < length old → slice_get now n ≡ slice_get old n)
-    → AreKnownOf factors sheet At old P → AreKnownOf factors sheet At now P
+    → AreKnownOf reckoning At old P → AreKnownOf reckoning At now P
 unfolding AreKnownOf
-known-kept factors sheet At P old now same known = λ node number at live p.
+known-kept {N} reckoning At P old now same known = λ node number at live p.
     there node number (slice_get old number) refl (known node number at live p)
   where
-    there : (node : Node) (number : ℕ) (found : Option Figure) → slice_get old number ≡ found
-        → HasFigure factors sheet old number node → HasFigure factors sheet now number node
+    there : (node : N) (number : ℕ) (found : Option Figure) → slice_get old number ≡ found
+        → HasFigure reckoning old number node → HasFigure reckoning now number node
     there node number None e has =
-        let clash : None ≡ Some (worth_at factors sheet node) = sym (ap (option_map worth_of) e) ∙ has in absurd (cc)
+        let clash : None ≡ Some (reckoning.worth node) = sym (ap (option_map worth_of) e) ∙ has in absurd (cc)
     there node number (Some figure) e has =
         ap (option_map worth_of) (same number (slice_get_within old number figure e)) ∙ has
 
@@ -124,13 +126,13 @@ module _ (factors : FactorValues) (after : BalanceSheet) (starts : Starts) (rate
       let own = own-live node live in
       subst (Own node) (st.edited.numbers.only node own.0 number (st.keeps node own.0 own.1) at) own.1
 
-  live-own : (number : ℕ) → IsLiveAt after At number → IsLiveAt after Own number
+  live-own : (number : ℕ) → IsLiveAt (graph_of after) At number → IsLiveAt (graph_of after) Own number
   live-own number live = (live.0, stands-own live.0 number live.1 live.2, live.2)
 
-  live-yet : (number : ℕ) → IsLiveAt after Own number → IsLiveAt after At number
+  live-yet : (number : ℕ) → IsLiveAt (graph_of after) Own number → IsLiveAt (graph_of after) At number
   live-yet number live = (live.0, st.keeps live.0 number live.1, live.2)
 
-  pub own-numbers : AreNumbers after Own size
+  pub own-numbers : AreNumbers (graph_of after) Own size
   own-numbers = record {
     exact = λ number a b x y. st.edited.numbers.exact number a b (st.keeps a number x) (st.keeps b number y);
     only = λ node n m x y. st.edited.numbers.only node n m (st.keeps node n x) (st.keeps node m y);
@@ -140,27 +142,27 @@ module _ (factors : FactorValues) (after : BalanceSheet) (starts : Starts) (rate
 
   -- ---- what is due at the starts
 
-  due-at : (due : Due) (lives : Bool) → IsStart after state.places due lives → IsDueAt after At due
+  due-at : (due : Due) (lives : Bool) → IsStart (graph_of after) (StandsAt after state.places) due lives → IsDueAt (graph_of after) At due
   due-at due lives is = λ node at. by lives refl node at (is_live after node) refl
     where
       by : (b : Bool) → lives ≡ b → (node : Node) → At node due.number → (c : Bool) → is_live after node ≡ c
-          → AreAt At due.sources.items (linked_to after node)
+          → AreAt At due.sources.items (linked_to (graph_of after) node)
       by true e node at c live =
           let d = is.live e in
           let one : d.node ≡ node = st.edited.numbers.exact due.number d.node node (st.keeps d.node due.number d.at) at in
-          subst (λ n. AreAt At due.sources.items (linked_to after n)) one
+          subst (λ n. AreAt At due.sources.items (linked_to (graph_of after) n)) one
           (subst (AreAt At due.sources.items) (sym (ap (λ b. cond b (sources_of after d.node) []) d.live))
           (at-weaker Own At due.sources.items (sources_of after d.node) (λ n q member. st.keeps n q) d.sources))
       by false e node at true live = absurd (is.dead e (node, stands-own node due.number at live, live))
       by false e node at false dead =
-          subst (λ list. AreAt At list (linked_to after node)) (sym (is.none e))
+          subst (λ list. AreAt At list (linked_to (graph_of after) node)) (sym (is.none e))
           (subst (AreAt At []) (sym (ap (λ b. cond b (sources_of after node) []) dead)) tt)
 
-  pub due-for : AreDuesFor after At numbers starts.dues.items
+  pub due-for : AreDuesFor (graph_of after) At numbers starts.dues.items
   due-for = record {
     numbers = st.due.dues;
-    each = each-from_members (IsDueAt after At) starts.dues.items
-        (λ due h. let flag = zip-member (IsStart after state.places) starts.dues.items starts.live.items st.due.each due h in
+    each = each-from_members (IsDueAt (graph_of after) At) starts.dues.items
+        (λ due h. let flag = zip-member (IsStart (graph_of after) (StandsAt after state.places)) starts.dues.items starts.live.items st.due.each due h in
         due-at due flag.0 flag.1);
   }
 
@@ -177,7 +179,7 @@ module _ (factors : FactorValues) (after : BalanceSheet) (starts : Starts) (rate
   pub due-linkable : (links : Linked) → size ≤ links.size → sources_count starts.dues.items ≤ links.spare
       → AreLinkable links starts.dues.items
   due-linkable links room spare =
-      linkable after At size st.edited.numbers numbers st.edited.at starts.dues.items links due-for st.once room spare
+      linkable (graph_of after) At size st.edited.numbers numbers st.edited.at starts.dues.items links due-for st.once room spare
 
   pub former-linkable : (former : List Due) → AreFormer numbers edges former → (links : Linked) → size ≤ links.size
       → sources_count former ≤ links.spare → AreLinkable links former
@@ -198,8 +200,8 @@ module _ (factors : FactorValues) (after : BalanceSheet) (starts : Starts) (rate
     valid = st.later;
     numbered = st.numbered;
     numbers = own-numbers;
-    linked = linked-fewer after Own At size st.edited.numbers own-live st.keeps new st.later
-        (links-anew after st.later At size edges new numbers st.edited starts.dues.items due-for relinked);
+    linked = linked-fewer (graph_of after) Own At size st.edited.numbers own-live st.keeps new (sources-live after st.later)
+        (links-anew (graph_of after) (sources-live after st.later) At size edges new numbers st.edited starts.dues.items due-for relinked);
   }
 
   pub back-again : (former : List Due) → AreFormer numbers edges former → (mid new : List Edge)
@@ -214,13 +216,13 @@ module _ (factors : FactorValues) (after : BalanceSheet) (starts : Starts) (rate
     -- as many flags as starts
     flags-long : length starts.live.items ≡ length numbers
     flags-long =
-        sym (zip-long (IsStart after state.places) starts.dues.items starts.live.items st.due.each)
+        sym (zip-long (IsStart (graph_of after) (StandsAt after state.places)) starts.dues.items starts.live.items st.due.each)
         ∙ sym (map-long (λ (due : Due). due.number) starts.dues.items) ∙ ap length st.due.dues
 
     flag-at : (k number : ℕ) (flag : Bool) → slice_get reached k ≡ Some number → slice_get starts.live.items k ≡ Some flag
-        → (due : Due) × (due.number ≡ number) × IsStart after state.places due flag
+        → (due : Due) × (due.number ≡ number) × IsStart (graph_of after) (StandsAt after state.places) due flag
     flag-at k number flag here told =
-        let d = zip-right (IsStart after state.places) starts.dues.items starts.live.items st.due.each k flag told in
+        let d = zip-right (IsStart (graph_of after) (StandsAt after state.places)) starts.dues.items starts.live.items st.due.each k flag told in
         let named : slice_get numbers k ≡ Some (d.0).number =
         ap (λ xs. slice_get xs k) (sym st.due.dues) ∙ map-got (λ (due : Due). due.number) starts.dues.items k d.0 d.1 in
         let in_all : slice_get reached k ≡ Some (d.0).number =
@@ -228,9 +230,9 @@ module _ (factors : FactorValues) (after : BalanceSheet) (starts : Starts) (rate
         let one : (d.0).number ≡ number = (let both : Some (d.0).number ≡ Some number = sym in_all ∙ here in cc) in
         (d.0, one, d.2)
 
-    later-live : (k number : ℕ) → length starts.live.items ≤ k → slice_get reached k ≡ Some number → IsLiveAt after At number
+    later-live : (k number : ℕ) → length starts.live.items ≤ k → slice_get reached k ≡ Some number → IsLiveAt (graph_of after) At number
     later-live k number high here =
-        reached-live after st.later At size edges numbers st.edited number
+        reached-live (graph_of after) (sources-live after st.later) At size edges numbers st.edited number
         (all.each number (get-contains reached k number here)) none
       where
         none : Contains numbers number → ⊥
@@ -241,7 +243,7 @@ module _ (factors : FactorValues) (after : BalanceSheet) (starts : Starts) (rate
             let one = once-number reached all.once h.0 k number in_all here in
             let no : ⊥ = omega (arith, low, one, high, flags-long) in no
 
-    pub flagged : AreFlagged after Own reached starts.live.items
+    pub flagged : AreFlagged (graph_of after) Own reached starts.live.items
     flagged = record {
       live = λ k number here told.
           let d = flag-at k number true here told in
@@ -249,39 +251,39 @@ module _ (factors : FactorValues) (after : BalanceSheet) (starts : Starts) (rate
           (is.node, subst (Own is.node) d.1 is.at, is.live);
       dead = λ k number here told live.
           let d = flag-at k number false here told in
-          (d.2).dead refl (subst (IsLiveAt after Own) (sym d.1) live);
+          (d.2).dead refl (subst (IsLiveAt (graph_of after) Own) (sym d.1) live);
       rest = λ k number high here. live-own number (later-live k number high here);
     }
 
-    reached-numbers : (order : List ℕ) → AreLiveOf after Own reached order → AreReachedLive after At edges numbers order
+    reached-numbers : (order : List ℕ) → AreLiveOf (graph_of after) Own reached order → AreReachedLive (graph_of after) At edges numbers order
     reached-numbers order live = record {
       once = live.once;
       each = λ number h. let of = live.each number h in (all.each number of.0, live-yet number of.1);
       all = λ number is lives. live.all number (all.all number is) (live-own number lives);
     }
 
-    pub order-counted : (order : List ℕ) → AreLiveOf after Own reached order
-        → IsCountOf (IsInReach after (IsAtStart At numbers)) (length order)
+    pub order-counted : (order : List ℕ) → AreLiveOf (graph_of after) Own reached order
+        → IsCountOf (IsInReach (graph_of after) (IsAtStart At numbers)) (length order)
     order-counted order live =
-        reach-counted after st.later At size edges numbers st.edited order (reached-numbers order live)
+        reach-counted (graph_of after) (sources-live after st.later) At size edges numbers st.edited order (reached-numbers order live)
 
     -- the figures of all others are known
-    pub others-known : (order : List ℕ) → AreLiveOf after Own reached order
-        → AreKnownOf factors after Own state.figures.items (IsNoneOf Own order)
+    pub others-known : (order : List ℕ) → AreLiveOf (graph_of after) Own reached order
+        → AreKnownOf (reckoning_of factors after) Own state.figures.items (IsNoneOf Own order)
     unfolding AreKnownOf
     others-known order live = λ node number own lives none.
         let at = st.keeps node number own in
-        let In = IsLeft after st.later At size edges numbers st.edited order (reached-numbers order live) in
-        let left : In node = left-from after st.later At size edges numbers st.edited order (reached-numbers order live) number
+        let In = IsLeft (graph_of after) (sources-live after st.later) At size edges numbers st.edited order (reached-numbers order live) in
+        let left : In node = left-from (graph_of after) (sources-live after st.later) At size edges numbers st.edited order (reached-numbers order live) number
         node at lives (none number own) in
         let same : (m : Node) → In m → IsSame factors st.before after m = λ m h.
-        st.same m (λ start. h.1 (start-marked st.edited.before after st.later At size st.edited.numbers edges
+        st.same m (λ start. h.1 (start-marked st.edited.before (graph_of after) (sources-live after st.later) At size st.edited.numbers edges
         st.edited.linked numbers st.edited.same m start))
         (or-right (is_live st.before m) (is_live after m) h.0) in
         let was : is_live st.before node ≡ true = (same node left).live ∙ lives in
         st.figures node number at was tt
         ∙ ap Some (worth-kept factors st.before after st.valid st.later In
-        (left-closed after st.later At size edges numbers st.edited order (reached-numbers order live)) same node left)
+        (left-closed (graph_of after) (sources-live after st.later) At size edges numbers st.edited order (reached-numbers order live)) same node left)
 
     -- so the figures that are reached can be reckoned anew
     pub relinked-for : (marks : MarkedNumbers) (links : Linked) → marks.list ≡ reached
@@ -290,8 +292,8 @@ module _ (factors : FactorValues) (after : BalanceSheet) (starts : Starts) (rate
     relinked-for marks links is relinked = record {
       up = up-anew links.edges relinked;
       rates_after = st.rates_after;
-      flags = subst (λ list. AreFlagged after Own list starts.live.items) (sym is) flagged;
-      others = λ order live. others-known order (subst (λ list. AreLiveOf after Own list order) is live);
+      flags = subst (λ list. AreFlagged (graph_of after) Own list starts.live.items) (sym is) flagged;
+      others = λ order live. others-known order (subst (λ list. AreLiveOf (graph_of after) Own list order) is live);
       room = st.room;
     }
 
@@ -316,7 +318,7 @@ err-so (Err e) P p = p
 -- with the new links the kept state is that of the balance sheet
 pub state-anew : (factors : FactorValues) (after : BalanceSheet) (places : Numbered) (rates : Rates) (now : State)
     → IsLinkedUp after places now.links.edges → known_of rates ≡ all_rates after
-    → AreSettled factors after (StandsAt after places) now.figures.items → now.links.size ≤ places.size
+    → AreSettled (reckoning_of factors after) (StandsAt after places) now.figures.items → now.links.size ≤ places.size
     → now.places ≡ places → IsStateOf factors after (record now { rates = rates })
 state-anew factors after places rates now up known settled size same =
     by now.places same

@@ -7,6 +7,7 @@ use Rattle.scr_sheet.specs.Validity.{Valid}
 use Rattle.scr_sheet.specs.declared.sheet.BalanceSheet.{BalanceSheet}
 use Rattle.scr_nodes.specs.declared.node.Node.{Node}
 use Rattle.scr_nodes.specs.Live.{is_live}
+use Rattle.scr_nodes.proofs.LiveSources.{sources-live}
 use Rattle.scr_numbers.specs.Moves.{Came}
 use Rattle.scr_numbers.specs.declared.table.Table.{Table}
 use Rattle.scr_numbers.specs.Ranges.{IsApart, IsWithin, Numbered, count, made, stride}
@@ -20,30 +21,32 @@ use Rattle.scr_figures.proofs.Moved.{came-keeps, step-numbered, went-kept}
 use Rattle.scr_figures.proofs.Standing.{exact, only, stands}
 use Rattle.scr_touched.specs.Touched.{IsSame, IsTouched}
 use Rattle.scr_reach.specs.Dues.{AreEdited, AreStarts}
+use Rattle.scr_reach.specs.Graph.{Graph}
 use Rattle.scr_reach.specs.Leading.{IsAtStart, IsCountOf, IsInReach, Leads}
 use Rattle.scr_reach.specs.Leading.Leads.{touched, above}
 use Rattle.scr_reach.specs.Linked.{AreLinked, AreNumbers}
 use Rattle.scr_reach.proofs.Relinked.{linked-fewer, linked-more, stands-yet}
 use Rattle.scr_tree.specs.Changed.{AreGone, IsTaken, StandsYet}
-use Rattle.scr_tree.specs.Figures.{AreKnownOf, AreSettled}
+use Rattle.scr_tree.specs.Figures.{AreKnownOf, AreSettled, Reckoning, reckoning_of}
 use Rattle.scr_tree.specs.declared.edits.Taken.{Taken}
 use Rattle.scr_tree.specs.declared.figures.Figure.{Figure}
+use Rattle.scr_tree.specs.Graphs.{graph_of}
 
 -- ---- figures of more numbers, and of fewer
 
-module _ (factors : FactorValues) (sheet : BalanceSheet) (Few Many : Node → ℕ → Type 0) where
+module _ {Node : Type 0} (reckoning : Reckoning Node) (Few Many : Node → ℕ → Type 0) where
   pub settled-fewer : ((node : Node) (number : ℕ) → Few node number → Many node number) → (figures : List Figure)
-      → AreSettled factors sheet Many figures → AreSettled factors sheet Few figures
+      → AreSettled reckoning Many figures → AreSettled reckoning Few figures
   unfolding AreKnownOf
   settled-fewer keeps figures settled = λ node number at live any. settled node number (keeps node number at) live any
 
-  pub settled-more : (size : ℕ) → AreNumbers sheet Many size
-      → ((node : Node) → is_live sheet node ≡ true → (number : ℕ) × Few node number)
+  pub settled-more : (size : ℕ) → AreNumbers reckoning.graph Many size
+      → ((node : Node) → reckoning.graph.live node ≡ true → (number : ℕ) × Few node number)
       → ((node : Node) (number : ℕ) → Few node number → Many node number) → (figures : List Figure)
-      → AreSettled factors sheet Few figures → AreSettled factors sheet Many figures
+      → AreSettled reckoning Few figures → AreSettled reckoning Many figures
   unfolding AreKnownOf
   settled-more size numbers live keeps figures settled = λ node number at is any.
-      settled node number (stands-yet sheet Few Many size numbers live keeps [] node number at is) is any
+      settled node number (stands-yet reckoning.graph Few Many size numbers live keeps [] node number at is) is any
 
 -- ---- while a record is taken up
 
@@ -82,7 +85,7 @@ module _ (before after : BalanceSheet) (old now : Numbered) where
 
   module _ (step : Step) (leads : LeadsTo step before after) (takes : Takes step old now) (valid : Valid before)
       (later : Valid after) (numbered : IsNumbered before old)
-      (numbers : AreNumbers before (StandsAt before old) old.size) (apart : IsApart now) (within : IsWithin now) where
+      (numbers : AreNumbers (graph_of before) (StandsAt before old) old.size) (apart : IsApart now) (within : IsWithin now) where
     abbrev Yet : Node → ℕ → Type 0
     Yet = StandsYet step before old after now
 
@@ -114,7 +117,7 @@ module _ (before after : BalanceSheet) (old now : Numbered) where
     yet-within (steps.Goes table k) t = λ node number at.
         let low = numbers.within node number at in let same = t.size in omega (arith, low, same)
 
-    pub numbers-after : AreNumbers after Yet now.size
+    pub numbers-after : AreNumbers (graph_of after) Yet now.size
     numbers-after = record {
       exact = yet-exact step;
       only = yet-only step;
@@ -123,7 +126,7 @@ module _ (before after : BalanceSheet) (old now : Numbered) where
       within = yet-within step takes;
     }
 
-    pub numbers-before : AreNumbers before Yet now.size
+    pub numbers-before : AreNumbers (graph_of before) Yet now.size
     numbers-before = record {
       exact = yet-exact step;
       only = yet-only step;
@@ -131,13 +134,13 @@ module _ (before after : BalanceSheet) (old now : Numbered) where
       within = yet-within step takes;
     }
 
-    pub yet-linked : (edges : List Edge) → AreLinked before (StandsAt before old) edges → AreLinked before Yet edges
-    yet-linked = linked-more before (StandsAt before old) Yet now.size numbers-before numbers.live keeps-before
+    pub yet-linked : (edges : List Edge) → AreLinked (graph_of before) (StandsAt before old) edges → AreLinked (graph_of before) Yet edges
+    yet-linked = linked-more (graph_of before) (StandsAt before old) Yet now.size numbers-before numbers.live keeps-before
 
-    pub yet-settled : (factors : FactorValues) (figures : List Figure) → AreSettled factors before (StandsAt before old) figures
-        → AreSettled factors before Yet figures
+    pub yet-settled : (factors : FactorValues) (figures : List Figure) → AreSettled (reckoning_of factors before) (StandsAt before old) figures
+        → AreSettled (reckoning_of factors before) Yet figures
     yet-settled factors =
-        settled-more factors before (StandsAt before old) Yet now.size numbers-before numbers.live keeps-before
+        settled-more (reckoning_of factors before) (StandsAt before old) Yet now.size numbers-before numbers.live keeps-before
 
 -- ---- the numbers of the touched figures
 
@@ -163,8 +166,8 @@ module _ (before after : BalanceSheet) (old now : Numbered) (listed : List Node)
 -- ---- what is touched, by numbers
 
 module _ (factors : FactorValues) (before after : BalanceSheet) (taken : Taken) (by : IsTaken factors before after taken)
-    (At : Node → ℕ → Type 0) (size : ℕ) (numbers_after : AreNumbers after At size)
-    (numbers_before : AreNumbers before At size) (starts : List ℕ) (are : AreStarts At taken.touched.now starts) where
+    (At : Node → ℕ → Type 0) (size : ℕ) (numbers_after : AreNumbers (graph_of after) At size)
+    (numbers_before : AreNumbers (graph_of before) At size) (starts : List ℕ) (are : AreStarts At taken.touched.now starts) where
   numbered-touched : (node : Node) → (is_live before node || is_live after node) ≡ true → (number : ℕ) × At node number
   numbered-touched node live = of (is_live before node) refl
     where
@@ -192,9 +195,9 @@ module _ (factors : FactorValues) (before after : BalanceSheet) (taken : Taken) 
       ((by.told node).rest (λ has. none ((at-listed node).1 has))
       (subst (λ sheet. (is_live before node || is_live sheet node) ≡ true) by.is live))
 
-  pub edited-from : (edges : List Edge) → AreLinked before At edges → AreEdited after At size edges starts
+  pub edited-from : (edges : List Edge) → AreLinked (graph_of before) At edges → AreEdited (graph_of after) At size edges starts
   edited-from edges linked = record {
-    before = before;
+    before = graph_of before;
     numbers = numbers_after;
     numbers_before = numbers_before;
     at = λ number h. let m = are.only number h in (m.0, m.2);
@@ -204,7 +207,7 @@ module _ (factors : FactorValues) (before after : BalanceSheet) (taken : Taken) 
 
 -- ---- counts of figures of one kind
 
-pub count-like : (P Q : Node → Type 0) → ((n : Node) → P n ↔ Q n) → (k : ℕ) → IsCountOf P k → IsCountOf Q k
+pub count-like : {Node : Type 0} (P Q : Node → Type 0) → ((n : Node) → P n ↔ Q n) → (k : ℕ) → IsCountOf P k → IsCountOf Q k
 count-like P Q like k count = record {
   list = count.list;
   once = count.once;
@@ -212,14 +215,14 @@ count-like P Q like k count = record {
   long = count.long;
 }
 
-leads-like : (sheet : BalanceSheet) (P Q : Node → Type 0) → ((n : Node) → P n → Q n) → (n : Node) → Leads sheet P n → Leads sheet Q n
-leads-like sheet P Q like _ (touched n h) = touched n (like n h)
-leads-like sheet P Q like _ (above n s has rest) = above n s has (leads-like sheet P Q like s rest)
+leads-like : {Node : Type 0} (graph : Graph Node) (P Q : Node → Type 0) → ((n : Node) → P n → Q n) → (n : Node) → Leads graph P n → Leads graph Q n
+leads-like graph P Q like _ (touched n h) = touched n (like n h)
+leads-like graph P Q like _ (above n s has rest) = above n s has (leads-like graph P Q like s rest)
 
-pub reach-like : (sheet : BalanceSheet) (P Q : Node → Type 0) → ((n : Node) → P n ↔ Q n) → (n : Node) → IsInReach sheet P n ↔ IsInReach sheet Q n
-reach-like sheet P Q like n = (
-  λ h. record { live = h.live; leads = leads-like sheet P Q (λ m. (like m).0) n h.leads },
-  λ h. record { live = h.live; leads = leads-like sheet Q P (λ m. (like m).1) n h.leads },
+pub reach-like : {Node : Type 0} (graph : Graph Node) (P Q : Node → Type 0) → ((n : Node) → P n ↔ Q n) → (n : Node) → IsInReach graph P n ↔ IsInReach graph Q n
+reach-like graph P Q like n = (
+  λ h. record { live = h.live; leads = leads-like graph P Q (λ m. (like m).0) n h.leads },
+  λ h. record { live = h.live; leads = leads-like graph Q P (λ m. (like m).1) n h.leads },
 )
 
 -- ---- once the step is taken back
@@ -232,8 +235,8 @@ module _ (before : BalanceSheet) (valid : Valid before) (old now : Numbered) (nu
       let one = only before now (named-once before valid) _ number node (kept node _ own) at in
       subst (StandsAt before old node) one own
 
-  pub back-numbers : AreNumbers before (StandsAt before old) old.size → old.size ≤ now.size
-      → AreNumbers before (StandsAt before now) now.size
+  pub back-numbers : AreNumbers (graph_of before) (StandsAt before old) old.size → old.size ≤ now.size
+      → AreNumbers (graph_of before) (StandsAt before now) now.size
   back-numbers are grown = record {
     exact = λ number a b x y. are.exact number a b (stood a number x) (stood b number y);
     only = λ node n m x y. are.only node n m (stood node n x) (stood node m y);
@@ -241,12 +244,12 @@ module _ (before : BalanceSheet) (valid : Valid before) (old now : Numbered) (nu
     within = λ node number at. let low = are.within node number (stood node number at) in omega (arith, low, grown);
   }
 
-  pub back-linked : (size : ℕ) → AreNumbers before (StandsAt before old) size → (edges : List Edge)
-      → AreLinked before (StandsAt before old) edges → AreLinked before (StandsAt before now) edges
+  pub back-linked : (size : ℕ) → AreNumbers (graph_of before) (StandsAt before old) size → (edges : List Edge)
+      → AreLinked (graph_of before) (StandsAt before old) edges → AreLinked (graph_of before) (StandsAt before now) edges
   back-linked size are edges linked =
-      linked-fewer before (StandsAt before now) (StandsAt before old) size are
-      (λ node live. let own = are.live node live in (own.0, kept node own.0 own.1)) stood edges valid linked
+      linked-fewer (graph_of before) (StandsAt before now) (StandsAt before old) size are
+      (λ node live. let own = are.live node live in (own.0, kept node own.0 own.1)) stood edges (sources-live before valid) linked
 
-  pub back-settled : (factors : FactorValues) (figures : List Figure) → AreSettled factors before (StandsAt before old) figures
-      → AreSettled factors before (StandsAt before now) figures
-  back-settled factors = settled-fewer factors before (StandsAt before now) (StandsAt before old) stood
+  pub back-settled : (factors : FactorValues) (figures : List Figure) → AreSettled (reckoning_of factors before) (StandsAt before old) figures
+      → AreSettled (reckoning_of factors before) (StandsAt before now) figures
+  back-settled factors = settled-fewer (reckoning_of factors before) (StandsAt before now) (StandsAt before old) stood

@@ -7,20 +7,18 @@ use Rattle.std.proofs.lemmas.List.{append-nil, append_assoc, drop_all, drop_more
 use Rattle.std.proofs.lemmas.Option.{get_or_from_slice_get, slice_get_within}
 use Rattle.scr_funds.proofs.Members.{All-from_members, IsMember, IsMember-from_Contains, Contains-from_IsMember, IsMember-right, at_member, each-from_members}
 use Rattle.scr_links.specs.Edges.{Edge}
-use Rattle.scr_factors.specs.Values.{FactorValues}
 use Rattle.scr_sheet.specs.declared.sheet.BalanceSheet.{BalanceSheet}
-use Rattle.scr_nodes.specs.declared.node.Node.{Node}
-use Rattle.scr_nodes.specs.Live.{is_live}
-use Rattle.scr_nodes.specs.Sources.{sources_of}
-use Rattle.scr_nodes.proofs.LiveSources.{IsLive, sources-live}
+use Rattle.scr_nodes.proofs.LiveSources.{sources-live}
 use Rattle.scr_numbers.specs.Ranges.{Numbered}
 use Rattle.scr_figures.specs.Numbers.{StandsAt}
 use Rattle.scr_reach.specs.Dues.{IsLiveAt}
+use Rattle.scr_reach.specs.Graph.{Graph, IsLive}
 use Rattle.scr_reach.specs.Linked.{AreAt, sources_in}
 use Rattle.scr_reach.proofs.Placed.{get-contains}
-use Rattle.scr_tree.specs.Figures.{AreKnownOf, AreReadAt, AreSettled, HasFigure, HaveFigures, worth_at, worth_of}
+use Rattle.scr_tree.specs.Figures.{AreKnownOf, AreReadAt, AreSettled, HasFigure, HaveFigures, Reckoning, worth_of}
+use Rattle.scr_tree.specs.Graphs.{graph_of}
 use Rattle.scr_tree.specs.Order.{AreLiveOf, IsOrder, start_of}
-use Rattle.scr_tree.specs.Ready.{AreInTurn, IsLinkedUp, IsNoneOf, IsReady, IsRight}
+use Rattle.scr_tree.specs.Ready.{AreInTurn, IsLinkedUp, IsNoneOf, IsReady, IsRight, IsUp}
 use Rattle.scr_tree.specs.declared.figures.Below.{Below}
 use Rattle.scr_tree.specs.declared.figures.Figure.{Figure}
 use Rattle.scr_tree.proofs.Known.{known-have, known-put, known-weaker, read-next}
@@ -54,9 +52,9 @@ slice-of ends (suc j) k l low = by (cases_lt k (start_of ends j)) (slice-of ends
     by (inl below) further = further below
     by (inr from) further = (j, omega (arith, l), from, low)
 
-pub in-turn : (sheet : BalanceSheet) (places : Numbered) (reached numbers ends : List ℕ)
-    → IsOrder sheet (StandsAt sheet places) reached numbers ends → AreInTurn sheet places numbers
-in-turn sheet places reached numbers ends order = record {
+pub in-turn : {Node : Type 0} (graph : Graph Node) (At : Node → ℕ → Type 0) (reached numbers ends : List ℕ)
+    → IsOrder graph At reached numbers ends → AreInTurn graph At numbers
+in-turn graph At reached numbers ends order = record {
   once = order.once;
   each = λ number h. (order.each number h).1;
   before = λ k i number source_number node source here at has there before.
@@ -68,47 +66,50 @@ in-turn sheet places reached numbers ends order = record {
       omega (arith, first, from);
 }
 
+-- the graph of a valid balance sheet whose figures have numbers and are linked
+pub sheet-up : (sheet : BalanceSheet) (places : Numbered) (edges : List Edge) → IsLinkedUp sheet places edges
+    → IsUp (graph_of sheet) (StandsAt sheet places) places.size edges
+sheet-up sheet places edges up =
+    record { closed = sources-live sheet up.valid; numbers = up.numbers; linked = up.linked }
+
 -- ---- figures known and reckoned
 
-module _ (factors : FactorValues) (sheet : BalanceSheet) (places : Numbered) (edges : List Edge)
-    (up : IsLinkedUp sheet places edges) where
-  abbrev At : Node → ℕ → Type 0
-  At = StandsAt sheet places
-
+module _ {Node : Type 0} (reckoning : Reckoning Node) (At : Node → ℕ → Type 0) (size : ℕ) (edges : List Edge)
+    (up : IsUp reckoning.graph At size edges) where
   abbrev Known : List Figure → List ℕ → Type 0
-  Known figures numbers = AreKnownOf factors sheet At figures (IsNoneOf At numbers)
+  Known figures numbers = AreKnownOf reckoning At figures (IsNoneOf At numbers)
 
   -- the figure of a number whose sources stand before the numbers that are left can be reckoned
   pub ready : (figures : List Figure) (numbers : List ℕ) (from number : ℕ) (node : Node) → At node number
-      → is_live sheet node ≡ true
-      → ((i source_number : ℕ) (source : Node) → Contains (sources_of sheet node) source → At source source_number
+      → reckoning.graph.live node ≡ true
+      → ((i source_number : ℕ) (source : Node) → Contains (reckoning.graph.sources node) source → At source source_number
       → slice_get numbers i ≡ Some source_number → i < from)
-      → Known figures (drop from numbers) → IsReady factors sheet places edges figures number
+      → Known figures (drop from numbers) → IsReady reckoning At edges figures number
   ready figures numbers from number node at live before known = record {
     node = node;
     at = at;
     live = live;
-    sources = known-have factors sheet At figures (IsNoneOf At (drop from numbers)) known (sources_in edges number)
-        (sources_of sheet node)
-        (subst (AreAt At (sources_in edges number)) (ap (λ b. cond b (sources_of sheet node) []) live)
+    sources = known-have reckoning At figures (IsNoneOf At (drop from numbers)) known (sources_in edges number)
+        (reckoning.graph.sources node)
+        (subst (AreAt At (sources_in edges number)) (ap (λ b. cond b (reckoning.graph.sources node) []) live)
         (up.linked.linked node number at))
-        (each-from_members (λ s. (is_live sheet s ≡ true) × IsNoneOf At (drop from numbers) s) (sources_of sheet node) done);
+        (each-from_members (λ s. (reckoning.graph.live s ≡ true) × IsNoneOf At (drop from numbers) s) (reckoning.graph.sources node) done);
   }
     where
-      done : (s : Node) → IsMember s (sources_of sheet node)
-          → (is_live sheet s ≡ true) × IsNoneOf At (drop from numbers) s
+      done : (s : Node) → IsMember s (reckoning.graph.sources node)
+          → (reckoning.graph.live s ≡ true) × IsNoneOf At (drop from numbers) s
       done s h = (
-        at_member (IsLive sheet) (sources_of sheet node) s (sources-live sheet up.valid node live) h,
+        at_member (IsLive reckoning.graph) (reckoning.graph.sources node) s (up.closed node live) h,
         λ m there left.
             let i = place-from numbers from m (IsMember-from_Contains (drop from numbers) m left) in
-            let low = before i.0 m s (Contains-from_IsMember (sources_of sheet node) s h) there i.2 in
+            let low = before i.0 m s (Contains-from_IsMember (reckoning.graph.sources node) s h) there i.2 in
             let high = i.1 in
             let no : ⊥ = omega (arith, low, high) in no,
       )
 
   -- of the number at a place of those in turn
-  pub ready-next : (figures : List Figure) (numbers : List ℕ) (k number : ℕ) → AreInTurn sheet places numbers
-      → slice_get numbers k ≡ Some number → Known figures (drop k numbers) → IsReady factors sheet places edges figures number
+  pub ready-next : (figures : List Figure) (numbers : List ℕ) (k number : ℕ) → AreInTurn reckoning.graph At numbers
+      → slice_get numbers k ≡ Some number → Known figures (drop k numbers) → IsReady reckoning At edges figures number
   ready-next figures numbers k number turn here known =
       let live = turn.each number (get-contains numbers k number here) in
       ready figures numbers k number live.0 live.1 live.2
@@ -116,7 +117,7 @@ module _ (factors : FactorValues) (sheet : BalanceSheet) (places : Numbered) (ed
       known
 
   -- the figures of its sources are there
-  have-within : (figures : List Figure) (numbers : List ℕ) (nodes : List Node) → HaveFigures factors sheet figures numbers nodes
+  have-within : (figures : List Figure) (numbers : List ℕ) (nodes : List Node) → HaveFigures reckoning figures numbers nodes
       → AllByRecursion (λ number. number < length figures) numbers
   have-within figures [] [] have = tt
   have-within figures [] (m ∷ nodes) have = absurd have
@@ -124,42 +125,42 @@ module _ (factors : FactorValues) (sheet : BalanceSheet) (places : Numbered) (ed
   have-within figures (n ∷ numbers) (m ∷ nodes) have =
       (there (slice_get figures n) refl have.0, have-within figures numbers nodes have.1)
     where
-      there : (found : Option Figure) → slice_get figures n ≡ found → HasFigure factors sheet figures n m → n < length figures
+      there : (found : Option Figure) → slice_get figures n ≡ found → HasFigure reckoning figures n m → n < length figures
       there None e has =
-          let clash : None ≡ Some (worth_at factors sheet m) = sym (ap (option_map worth_of) e) ∙ has in absurd (cc)
+          let clash : None ≡ Some (reckoning.worth m) = sym (ap (option_map worth_of) e) ∙ has in absurd (cc)
       there (Some figure) e has = slice_get_within figures n figure e
 
-  pub ready-within : (figures : List Figure) (number : ℕ) → IsReady factors sheet places edges figures number
+  pub ready-within : (figures : List Figure) (number : ℕ) → IsReady reckoning At edges figures number
       → AllByRecursion (λ source. source < length figures) (sources_in edges number)
-  ready-within figures number is = have-within figures (sources_in edges number) (sources_of sheet is.node) is.sources
+  ready-within figures number is = have-within figures (sources_in edges number) (reckoning.graph.sources is.node) is.sources
 
   -- all numbers in turn are below the size
-  pub turn-within : (numbers : List ℕ) (size : ℕ) → places.size ≤ size → AreInTurn sheet places numbers
-      → All (λ number. number < size) numbers
-  turn-within numbers size room turn =
-      All-from_members (λ number. number < size) numbers
+  pub turn-within : (numbers : List ℕ) (many : ℕ) → size ≤ many → AreInTurn reckoning.graph At numbers
+      → All (λ number. number < many) numbers
+  turn-within numbers many room turn =
+      All-from_members (λ number. number < many) numbers
       (λ number h. let live = turn.each number (Contains-from_IsMember numbers number h) in
       let low = up.numbers.within live.0 number live.1 in omega (arith, low, room))
 
   -- once the right figure is written at the next number, one figure more is known
-  pub known-next : (numbers : List ℕ) (k number : ℕ) (figure : Figure) (old now : List Figure) → AreInTurn sheet places numbers
-      → slice_get numbers k ≡ Some number → IsRight factors sheet places number figure
+  pub known-next : (numbers : List ℕ) (k number : ℕ) (figure : Figure) (old now : List Figure) → AreInTurn reckoning.graph At numbers
+      → slice_get numbers k ≡ Some number → IsRight reckoning At number figure
       → slice_get now number ≡ Some figure
       → ((other : ℕ) → (other ≡ number → ⊥) → slice_get now other ≡ slice_get old other)
       → Known old (drop k numbers) → Known now (drop (k + 1) numbers)
   known-next numbers k number figure old now turn here right there others known =
-      known-weaker factors sheet At now (λ n. IsNoneOf At (drop k numbers) n ⊎ (n ≡ live.0)) (IsNoneOf At (drop (k + 1) numbers))
+      known-weaker reckoning At now (λ n. IsNoneOf At (drop k numbers) n ⊎ (n ≡ live.0)) (IsNoneOf At (drop (k + 1) numbers))
       left
-      (known-put factors sheet At places.size up.numbers old now (IsNoneOf At (drop k numbers)) live.0 number known
+      (known-put reckoning At size up.numbers old now (IsNoneOf At (drop k numbers)) live.0 number known
       (record { at = live.1; there = ap (option_map worth_of) there ∙ ap Some (right live.0 live.1); others = others }))
     where
-      live : IsLiveAt sheet At number
+      live : IsLiveAt reckoning.graph At number
       live = turn.each number (get-contains numbers k number here)
 
       next : drop k numbers ≡ number ∷ drop (k + 1) numbers
       next = drop-next numbers k number here
 
-      left : (n : Node) → is_live sheet n ≡ true → IsNoneOf At (drop (k + 1) numbers) n
+      left : (n : Node) → reckoning.graph.live n ≡ true → IsNoneOf At (drop (k + 1) numbers) n
           → IsNoneOf At (drop k numbers) n ⊎ (n ≡ live.0)
       left n is none = by (eq-or own.0 number)
         where
@@ -185,9 +186,9 @@ module _ (factors : FactorValues) (sheet : BalanceSheet) (places : Numbered) (ed
 
   -- once none is left all are known
   pub settled-all : (figures : List Figure) (numbers : List ℕ) (k : ℕ) → length numbers ≤ k → Known figures (drop k numbers)
-      → AreSettled factors sheet At figures
+      → AreSettled reckoning At figures
   settled-all figures numbers k end known =
-      known-weaker factors sheet At figures (IsNoneOf At (drop k numbers)) (λ n. Unit {0})
+      known-weaker reckoning At figures (IsNoneOf At (drop k numbers)) (λ n. Unit {0})
       (λ n live any m at has. IsMember-from_Contains [] m (subst (λ xs. Contains xs m) (drop_all k numbers end) has)) known
 
 -- ---- figures that are read along links
@@ -221,6 +222,6 @@ next-within figures source left numbers below yet within =
     at_member (λ n. n < length figures) numbers source within
     (subst (IsMember source) yet.split (IsMember-right yet.done (source ∷ left) source (inl refl)))
 
-pub order-live : (sheet : BalanceSheet) (At : Node → ℕ → Type 0) (reached numbers ends : List ℕ)
-    → IsOrder sheet At reached numbers ends → AreLiveOf sheet At reached numbers
-order-live sheet At reached numbers ends order = record { once = order.once; each = order.each; all = order.all }
+pub order-live : {Node : Type 0} (graph : Graph Node) (At : Node → ℕ → Type 0) (reached numbers ends : List ℕ)
+    → IsOrder graph At reached numbers ends → AreLiveOf graph At reached numbers
+order-live graph At reached numbers ends order = record { once = order.once; each = order.each; all = order.all }

@@ -37,7 +37,7 @@ use Rattle.scr_pieces.specs.declared.rows.Sort.{Sort}
 use Rattle.scr_pieces.specs.declared.rows.Sort.TheVariants as sorts
 use Rattle.scr_pieces.proofs.Counted.{all-once, times_row-append}
 use Rattle.scr_rules.specs.Worked.{worked}
-use Rattle.scr_tree.specs.Figures.{AreKnownOf, HasFigure, HaveFigures, worth_of}
+use Rattle.scr_tree.specs.Figures.{AreKnownOf, HasFigure, HaveFigures, reckoning_of, worth_of}
 use Rattle.scr_tree.specs.First.{AreReckonedTo, IsGround}
 use Rattle.scr_tree.specs.Order.{IsOrder}
 use Rattle.scr_tree.specs.Ready.{IsNoneOf}
@@ -52,6 +52,7 @@ use Rattle.scr_tree.proofs.Journaled.{set-here, set-other}
 use Rattle.scr_tree.proofs.Known.{known-have, known-weaker, take-next}
 use Rattle.scr_tree.proofs.Plain.{is_plain, plain-worth}
 use Rattle.scr_tree.proofs.Turns.{family-within}
+use Rattle.scr_tree.specs.Graphs.{graph_of}
 
 -- ---- spans, one after another
 
@@ -175,7 +176,7 @@ module _ (ground : Ground) (g : IsGround ground) where
   At = StandsAt ground.inputs.book.now.sheet ground.places.now
 
   abbrev Has : List Figure → ℕ → Node → Type 0
-  Has figures number node = HasFigure ground.inputs.factors.now ground.inputs.book.now.sheet figures number node
+  Has figures number node = HasFigure (reckoning_of ground.inputs.factors.now ground.inputs.book.now.sheet) figures number node
 
   module _ (sort : Sort) (k : ℕ) (own : List Span) (is : IsRowOf ground.inputs.factors.now ground.inputs.book.now.sheet sort k own) (start : ℕ)
       (at : start ≡ first ground.places.now (sort_table sort) k) (a b : List Figure) (written : IsWrittenAt start own a b) where
@@ -339,7 +340,7 @@ module _ (ground : Ground) (g : IsGround ground) where
   pub early-totals : (figures : List Figure) → AreReckonedTo ground figures (turn 3 0 0) → AreReckonedTo ground figures (turn 2 0 0)
   early-totals figures is = record {
     count = is.count;
-    known = known-weaker ground.inputs.factors.now ground.inputs.book.now.sheet At figures (IsBefore ground.inputs.book.now.sheet (turn 3 0 0))
+    known = known-weaker (reckoning_of ground.inputs.factors.now ground.inputs.book.now.sheet) At figures (IsBefore ground.inputs.book.now.sheet (turn 3 0 0))
         (IsBefore ground.inputs.book.now.sheet (turn 2 0 0)) (λ node live before. earlier node before) is.known;
   }
     where
@@ -376,22 +377,22 @@ module _ (ground : Ground) (g : IsGround ground) where
 
 -- all that is not listed is reckoned with its row, or is a total
 pub rest-known : (factors : FactorValues) (sheet : BalanceSheet) (places : Numbered) (figures : List Figure) (list numbers ends : List ℕ)
-    → AreAllRest sheet places list → AreRowsThere factors sheet places figures → IsOrder sheet (StandsAt sheet places) list numbers ends
-    → AreKnownOf factors sheet (StandsAt sheet places) figures (IsNoneOf (StandsAt sheet places) numbers)
+    → AreAllRest sheet places list → AreRowsThere factors sheet places figures → IsOrder (graph_of sheet) (StandsAt sheet places) list numbers ends
+    → AreKnownOf (reckoning_of factors sheet) (StandsAt sheet places) figures (IsNoneOf (StandsAt sheet places) numbers)
 unfolding AreKnownOf
 rest-known factors sheet places figures list numbers ends rest there order = λ node number stood live none.
     by node number stood live none (is_by_row node) refl
   where
     of-rest : (node : Node) (number : ℕ) → StandsAt sheet places node number → is_live sheet node ≡ true
         → IsNoneOf (StandsAt sheet places) numbers node → is_by_row node ≡ false → (t : Bool) → is_total node ≡ t
-        → HasFigure factors sheet figures number node
+        → HasFigure (reckoning_of factors sheet) figures number node
     of-rest node number stood live none own true total = there.totals node number stood live total
     of-rest node number stood live none own false total =
         absurd (none number stood (order.all number
         (rest.all number (record { node = node; at = stood; live = live; rest = own }) total) (node, stood, live)))
 
     by : (node : Node) (number : ℕ) → StandsAt sheet places node number → is_live sheet node ≡ true
-        → IsNoneOf (StandsAt sheet places) numbers node → (b : Bool) → is_by_row node ≡ b → HasFigure factors sheet figures number node
+        → IsNoneOf (StandsAt sheet places) numbers node → (b : Bool) → is_by_row node ≡ b → HasFigure (reckoning_of factors sheet) figures number node
     by node number stood live none true own = there.rows node number stood live own
     by node number stood live none false own = of-rest node number stood live none own (is_total node) refl
 
@@ -511,11 +512,11 @@ totals-at sheet places apart number table k j at node stood =
 pub assets-known : (ground : Ground) (g : IsGround ground) (figures : List Figure) → AreReckonedTo ground figures (turn 2 0 0)
     → (numbers : List ℕ)
     → AreAt (StandsAt ground.inputs.book.now.sheet ground.places.now) numbers (sources_of ground.inputs.book.now.sheet (nodes.Whole wholes.Assets))
-    → HaveFigures ground.inputs.factors.now ground.inputs.book.now.sheet figures numbers
+    → HaveFigures (reckoning_of ground.inputs.factors.now ground.inputs.book.now.sheet) figures numbers
     (sources_of ground.inputs.book.now.sheet (nodes.Whole wholes.Assets))
 assets-known ground g figures is numbers at =
     let sheet = ground.inputs.book.now.sheet in
-    known-have ground.inputs.factors.now sheet (StandsAt sheet ground.places.now) figures (IsBefore sheet (turn 2 0 0)) is.known numbers
+    known-have (reckoning_of ground.inputs.factors.now sheet) (StandsAt sheet ground.places.now) figures (IsBefore sheet (turn 2 0 0)) is.known numbers
     (sources_of sheet (nodes.Whole wholes.Assets)) at
     (both (sources_of sheet (nodes.Whole wholes.Assets)) (sources-live sheet g.valid (nodes.Whole wholes.Assets) refl)
     (below-chosen stage_of 2 has_group security_total sheet.securities (λ p. omega arith)))

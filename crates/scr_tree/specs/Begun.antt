@@ -5,24 +5,25 @@ use Rattle.scr_links.specs.Edges.{Linked}
 use Rattle.scr_figures.specs.Numbers.{StandsAt}
 use Rattle.scr_discounts.specs.KeptRates.{all_rates, known_of}
 use Rattle.scr_reach.specs.Linked.{AreLinked}
-use Rattle.scr_tree.specs.Figures.{AreSettled}
+use Rattle.scr_tree.specs.Figures.{AreSettled, reckoning_of}
 use Rattle.scr_tree.specs.First.{totals_of}
 use Rattle.scr_tree.specs.Written.{AreAllRest, AreRowsThere}
 use Rattle.scr_tree.specs.declared.first_together.{Beside.Beside, Listed.Listed, Totaled.Totaled}
 use Rattle.scr_tree.specs.declared.making.LinkGround.{LinkGround}
 use Rattle.scr_tree.specs.declared.making.Made.{Made}
+use Rattle.scr_tree.specs.Graphs.{graph_of}
 
 -- there is a place for the links of each number, and all figures are linked to their sources
 pub record AreAllLinked (ground : LinkGround) (links : Linked) : Type 0 where
   pub size : links.size ≡ ground.places.now.size
-  pub linked : AreLinked ground.book.now.sheet (StandsAt ground.book.now.sheet ground.places.now) links.edges
+  pub linked : AreLinked (graph_of ground.book.now.sheet) (StandsAt ground.book.now.sheet ground.places.now) links.edges
 
 -- each figure is at its number, and is linked from its sources
 pub record IsAllMade (factors : FactorValues) (ground : LinkGround) (made : Made) : Type 0 where
   pub count : length made.figures.items ≡ ground.places.now.size
   pub size : made.links.size ≡ ground.places.now.size
-  pub figures : AreSettled factors ground.book.now.sheet (StandsAt ground.book.now.sheet ground.places.now) made.figures.items
-  pub links : AreLinked ground.book.now.sheet (StandsAt ground.book.now.sheet ground.places.now) made.links.edges
+  pub figures : AreSettled (reckoning_of factors ground.book.now.sheet) (StandsAt ground.book.now.sheet ground.places.now) made.figures.items
+  pub links : AreLinked (graph_of ground.book.now.sheet) (StandsAt ground.book.now.sheet ground.places.now) made.links.edges
 
 -- ---- what several workers make beside one another
 

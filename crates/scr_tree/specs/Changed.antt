@@ -23,7 +23,7 @@ use Rattle.scr_touched.specs.Touched.{IsSame, IsTold}
 use Rattle.scr_reach.specs.Dues.{AreEdited, AreFlagged, AreStarts}
 use Rattle.scr_reach.specs.Leading.{IsAtStart, IsCountOf, IsInReach}
 use Rattle.scr_reach.specs.Linked.{AreLinked, AreNumbers, sources_in}
-use Rattle.scr_tree.specs.Figures.{AreKnownOf, AreSettled}
+use Rattle.scr_tree.specs.Figures.{AreKnownOf, AreSettled, reckoning_of}
 use Rattle.scr_tree.specs.KeptRates.{keeps_rates}
 use Rattle.scr_tree.specs.Order.{AreLiveOf}
 use Rattle.scr_tree.specs.Ready.{IsLinkedUp, IsNoneOf}
@@ -31,6 +31,7 @@ use Rattle.scr_tree.specs.Starts.{AreAllStarts}
 use Rattle.scr_tree.specs.declared.edits.State.{State}
 use Rattle.scr_tree.specs.declared.edits.Taken.{Taken}
 use Rattle.scr_tree.specs.declared.starts.Starts.{Starts}
+use Rattle.scr_tree.specs.Graphs.{graph_of}
 
 -- ---- what an engine keeps beside factors and book
 
@@ -38,9 +39,9 @@ use Rattle.scr_tree.specs.declared.starts.Starts.{Starts}
 pub record IsStateOf (factors : FactorValues) (sheet : BalanceSheet) (state : State) : Type 0 where
   pub rates : known_of state.rates ≡ all_rates sheet
   pub numbered : IsNumbered sheet state.places
-  pub numbers : AreNumbers sheet (StandsAt sheet state.places) state.places.size
-  pub figures : AreSettled factors sheet (StandsAt sheet state.places) state.figures.items
-  pub links : AreLinked sheet (StandsAt sheet state.places) state.links.edges
+  pub numbers : AreNumbers (graph_of sheet) (StandsAt sheet state.places) state.places.size
+  pub figures : AreSettled (reckoning_of factors sheet) (StandsAt sheet state.places) state.figures.items
+  pub links : AreLinked (graph_of sheet) (StandsAt sheet state.places) state.links.edges
   pub size : state.links.size ≤ state.places.size
 
 -- rates, figures and links are as they were, and the numbers are the same
@@ -93,10 +94,10 @@ pub record IsFollowed (factors : FactorValues) (after : BalanceSheet) (taken : T
   pub gone_numbers : AreGone taken.step before old taken.touched.now gone
   pub takes : Takes taken.step old state.places
   pub numbered : IsNumbered before old
-  pub numbers : AreNumbers before (StandsAt before old) old.size
+  pub numbers : AreNumbers (graph_of before) (StandsAt before old) old.size
   pub rates : known_of state.rates ≡ all_rates before
-  pub figures : AreSettled factors before (StandsAt before old) state.figures.items
-  pub links : AreLinked before (StandsAt before old) state.links.edges
+  pub figures : AreSettled (reckoning_of factors before) (StandsAt before old) state.figures.items
+  pub links : AreLinked (graph_of before) (StandsAt before old) state.links.edges
   pub size : state.links.size ≤ old.size
   pub marks : state.marks.list ≡ []
 
@@ -119,14 +120,14 @@ pub record IsStarted (factors : FactorValues) (after : BalanceSheet) (starts : S
   pub numbered : IsNumbered after state.places
   pub keeps : (node : Node) (number : ℕ) → StandsAt after state.places node number
       → StandsYet step before old after state.places node number
-  pub edited : AreEdited after (StandsYet step before old after state.places) state.places.size state.links.edges
+  pub edited : AreEdited (graph_of after) (StandsYet step before old after state.places) state.places.size state.links.edges
       starts.numbers.items
-  pub due : AreAllStarts after state.places starts.numbers.items starts
+  pub due : AreAllStarts (graph_of after) (StandsAt after state.places) starts.numbers.items starts
   pub once : IsDistinct nat_eq starts.numbers.items
   pub same : (node : Node) → (IsAtStart (StandsYet step before old after state.places) starts.numbers.items node → ⊥)
       → (is_live before node || is_live after node) ≡ true → IsSame factors before after node
   pub rates_after : option_map_or known_of rates (known_of state.rates) ≡ all_rates after
-  pub figures : AreSettled factors before (StandsYet step before old after state.places) state.figures.items
+  pub figures : AreSettled (reckoning_of factors before) (StandsYet step before old after state.places) state.figures.items
   pub size : state.links.size ≤ state.places.size
   pub room : state.places.size ≤ length state.figures.items
   pub marks : state.marks.list ≡ []
@@ -138,9 +139,9 @@ pub record IsRelinkedFor (factors : FactorValues) (after : BalanceSheet) (live :
     (state : State) : Type 0 where
   pub up : IsLinkedUp after state.places state.links.edges
   pub rates_after : option_map_or known_of rates (known_of state.rates) ≡ all_rates after
-  pub flags : AreFlagged after (StandsAt after state.places) state.marks.list live
-  pub others : (numbers : List ℕ) → AreLiveOf after (StandsAt after state.places) state.marks.list numbers
-      → AreKnownOf factors after (StandsAt after state.places) state.figures.items
+  pub flags : AreFlagged (graph_of after) (StandsAt after state.places) state.marks.list live
+  pub others : (numbers : List ℕ) → AreLiveOf (graph_of after) (StandsAt after state.places) state.marks.list numbers
+      → AreKnownOf (reckoning_of factors after) (StandsAt after state.places) state.figures.items
       (IsNoneOf (StandsAt after state.places) numbers)
   pub room : state.places.size ≤ length state.figures.items
 
@@ -149,20 +150,20 @@ pub record IsRelinkedFor (factors : FactorValues) (after : BalanceSheet) (live :
 -- as many steps as live figures stand at these numbers
 abbrev pub StepsOver : BalanceSheet → Numbered → List ℕ → ℕ → ℕ → Type 0
 StepsOver sheet places reached old new =
-    (numbers : List ℕ) × AreLiveOf sheet (StandsAt sheet places) reached numbers × (new ≡ old + length numbers)
+    (numbers : List ℕ) × AreLiveOf (graph_of sheet) (StandsAt sheet places) reached numbers × (new ≡ old + length numbers)
 
 -- as many steps as figures are reached from those at the starts
 abbrev pub StepsTaken : FactorValues → BalanceSheet → Starts → Option Rates → State → ℕ → ℕ → Type 0
 StepsTaken factors after starts rates state old new =
     (started : IsStarted factors after starts rates state)
-    → (count : ℕ) × IsCountOf (IsInReach after
+    → (count : ℕ) × IsCountOf (IsInReach (graph_of after)
     (IsAtStart (StandsYet started.step started.before started.old after state.places) starts.numbers.items)) count
     × (new ≡ old + count)
 
 -- as many steps as figures are reached from those that are listed
 abbrev pub StepsReach : BalanceSheet → List Node → ℕ → ℕ → Type 0
 StepsReach after touched old new =
-    (count : ℕ) × IsCountOf (IsInReach after (Contains touched)) count × (new ≡ old + count)
+    (count : ℕ) × IsCountOf (IsInReach (graph_of after) (Contains touched)) count × (new ≡ old + count)
 
 -- ---- rates
 

@@ -9,9 +9,10 @@ use Rattle.scr_nodes.specs.declared.node.Node.{Node}
 use Rattle.scr_nodes.specs.declared.node.Node.TheVariants as nodes
 use Rattle.scr_nodes.specs.declared.node.OfCurrency.TheVariants as of_currencies
 use Rattle.scr_nodes.specs.declared.node.Whole.TheVariants as wholes
-use Rattle.scr_nodes.specs.Live.{is_live}
 use Rattle.scr_rules.specs.Close.{close_under, is_open}
 use Rattle.scr_rules.specs.Worked.{worked}
+use Rattle.scr_reach.specs.Graph.{Graph}
+use Rattle.scr_tree.specs.Graphs.{graph_of}
 use Rattle.scr_tree.specs.declared.figures.Below.{Below}
 use Rattle.scr_tree.specs.declared.figures.Figure.{Figure}
 
@@ -27,6 +28,15 @@ worth_of figure = record { worked = ends figure.span; close = figure.close }
 abbrev pub worth_at : FactorValues → BalanceSheet → Node → Worth
 worth_at factors sheet node = record { worked = worked factors sheet node; close = close_under factors sheet node }
 
+-- a graph whose figures come to something
+pub record Reckoning (Node : Type 0) : Type 0 where
+  pub graph : Graph Node
+  pub worth : Node → Worth
+
+-- that of a balance sheet, by the factors
+abbrev pub reckoning_of : FactorValues → BalanceSheet → Reckoning Node
+reckoning_of factors sheet = record { graph = graph_of sheet; worth = worth_at factors sheet }
+
 -- so many cents, which rest on no choice
 abbrev pub total_worth : ℕ → Worth
 total_worth cents = record { worked = exact_ends (pos cents); close = false }
@@ -41,29 +51,28 @@ opens node mask = false
 -- ---- figures by number
 
 -- the node's figure is at the number
-abbrev pub HasFigure : FactorValues → BalanceSheet → List Figure → ℕ → Node → Type 0
-HasFigure factors sheet figures number node =
-    option_map worth_of (slice_get figures number) ≡ Some (worth_at factors sheet node)
+abbrev pub HasFigure : {Node : Type 0} → Reckoning Node → List Figure → ℕ → Node → Type 0
+HasFigure reckoning figures number node = option_map worth_of (slice_get figures number) ≡ Some (reckoning.worth node)
 
 -- those of these nodes are at these numbers, in their order
-abbrev pub HaveFigures : FactorValues → BalanceSheet → List Figure → List ℕ → List Node → Type 0
-HaveFigures factors sheet figures numbers nodes = AllZip (HasFigure factors sheet figures) numbers nodes
+abbrev pub HaveFigures : {Node : Type 0} → Reckoning Node → List Figure → List ℕ → List Node → Type 0
+HaveFigures reckoning figures numbers nodes = AllZip (HasFigure reckoning figures) numbers nodes
 
--- those of all nodes of this kind are there that the balance sheet has
-unfoldable pub AreKnownOf : FactorValues → BalanceSheet → (Node → ℕ → Type 0) → List Figure → (Node → Type 0) → Type 0
-AreKnownOf factors sheet At figures P =
-    (node : Node) (number : ℕ) → At node number → is_live sheet node ≡ true → P node
-    → HasFigure factors sheet figures number node
+-- those of all nodes of this kind are there that the graph has
+unfoldable pub AreKnownOf : {Node : Type 0} → Reckoning Node → (Node → ℕ → Type 0) → List Figure → (Node → Type 0) → Type 0
+AreKnownOf {Node} reckoning At figures P =
+    (node : Node) (number : ℕ) → At node number → reckoning.graph.live node ≡ true → P node
+    → HasFigure reckoning figures number node
 
 -- those of all
-abbrev pub AreSettled : FactorValues → BalanceSheet → (Node → ℕ → Type 0) → List Figure → Type 0
-AreSettled factors sheet At figures = AreKnownOf factors sheet At figures (λ node. Unit {0})
+abbrev pub AreSettled : {Node : Type 0} → Reckoning Node → (Node → ℕ → Type 0) → List Figure → Type 0
+AreSettled reckoning At figures = AreKnownOf reckoning At figures (λ node. Unit {0})
 
 -- a figure is written at the node's number that is the node's, and all others stay
-pub record IsPutRight (factors : FactorValues) (sheet : BalanceSheet) (At : Node → ℕ → Type 0) (old now : List Figure)
+pub record IsPutRight {Node : Type 0} (reckoning : Reckoning Node) (At : Node → ℕ → Type 0) (old now : List Figure)
     (node : Node) (number : ℕ) : Type 0 where
   pub at : At node number
-  pub there : HasFigure factors sheet now number node
+  pub there : HasFigure reckoning now number node
   pub others : (other : ℕ) → (other ≡ number → ⊥) → slice_get now other ≡ slice_get old other
 
 -- ---- what a figure is reckoned from
@@ -76,6 +85,6 @@ pub record AreReadAt (figures : List Figure) (numbers : List ℕ) (below : Below
   pub close : below.close ≡ list_any (λ (figure : Figure). figure.close) read
 
 -- these are the spans of the figures of these nodes, and one of them rests on an open choice or none
-pub record AreSpansOf (factors : FactorValues) (sheet : BalanceSheet) (nodes : List Node) (below : Below) : Type 0 where
-  pub spans : map ends below.spans.items ≡ map (worked factors sheet) nodes
-  pub close : below.close ≡ list_any (λ b. b) (map (close_under factors sheet) nodes)
+pub record AreSpansOf {Node : Type 0} (reckoning : Reckoning Node) (nodes : List Node) (below : Below) : Type 0 where
+  pub spans : map ends below.spans.items ≡ map (λ node. (reckoning.worth node).worked) nodes
+  pub close : below.close ≡ list_any (λ b. b) (map (λ node. (reckoning.worth node).close) nodes)

@@ -15,13 +15,14 @@ use Rattle.scr_sheet.specs.Validity.{Valid}
 use Rattle.scr_totals.specs.ByNumber.{names_by_number}
 use Rattle.scr_nodes.specs.declared.node.Node.{Node}
 use Rattle.scr_reach.specs.Linked.{AreLinkedOf, AreNumbers, edges_to, sources_in}
-use Rattle.scr_tree.specs.Figures.{AreKnownOf, worth_at, worth_of}
+use Rattle.scr_tree.specs.Figures.{AreKnownOf, reckoning_of, worth_at, worth_of}
 use Rattle.scr_tree.specs.Inputs.{AreOfBook}
 use Rattle.scr_tree.specs.Turns.{IsBefore, Turn}
 use Rattle.scr_tree.specs.declared.figures.Figure.{Figure}
 use Rattle.scr_tree.specs.declared.making.Ground.{Ground}
 use Rattle.scr_tree.specs.declared.making.LinkGround.{LinkGround}
 use Rattle.scr_tree.specs.declared.making.Made.{Made}
+use Rattle.scr_tree.specs.Graphs.{graph_of}
 
 -- ---- what is made
 
@@ -49,8 +50,8 @@ pub record IsMade (factors : FactorValues) (sheet : BalanceSheet) (places : Numb
     : Type 0 where
   pub count : length made.figures.items ≡ places.size
   pub size : made.links.size ≡ places.size
-  pub known : AreKnownOf factors sheet (StandsAt sheet places) made.figures.items (IsBefore sheet reckoned)
-  pub links : AreLinkedOf sheet (StandsAt sheet places) made.links.edges (IsBefore sheet linked)
+  pub known : AreKnownOf (reckoning_of factors sheet) (StandsAt sheet places) made.figures.items (IsBefore sheet reckoned)
+  pub links : AreLinkedOf (graph_of sheet) (StandsAt sheet places) made.links.edges (IsBefore sheet linked)
 
 -- the rows are those of a valid balance sheet, and so are the numbers, the rates, the gathered rows and the losses
 pub record IsGround (ground : Ground) : Type 0 where
@@ -58,7 +59,7 @@ pub record IsGround (ground : Ground) : Type 0 where
   pub valid : Valid ground.inputs.book.now.sheet
   pub rates : AreOfBook ground.inputs
   pub numbered : IsNumbered ground.inputs.book.now.sheet ground.places.now
-  pub numbers : AreNumbers ground.inputs.book.now.sheet (StandsAt ground.inputs.book.now.sheet ground.places.now) ground.places.now.size
+  pub numbers : AreNumbers (graph_of ground.inputs.book.now.sheet) (StandsAt ground.inputs.book.now.sheet ground.places.now) ground.places.now.size
   pub members : AreMembersOf ground.inputs.book.now.sheet ground.members.now
   pub losses : AreLossesOf ground.inputs.book.now.sheet ground.losses.now
 
@@ -75,7 +76,7 @@ link_ground ground = record {
 pub record IsLinkGround (ground : LinkGround) : Type 0 where
   pub valid : Valid ground.book.now.sheet
   pub numbered : IsNumbered ground.book.now.sheet ground.places.now
-  pub numbers : AreNumbers ground.book.now.sheet (StandsAt ground.book.now.sheet ground.places.now) ground.places.now.size
+  pub numbers : AreNumbers (graph_of ground.book.now.sheet) (StandsAt ground.book.now.sheet ground.places.now) ground.places.now.size
   pub members : AreMembersOf ground.book.now.sheet ground.members.now
 
 -- what is held of each fund and then of each security, in cents
@@ -85,13 +86,13 @@ totals_of sheet = map (total_of sheet) (names_by_number sheet)
 -- There is a place for each figure, and all before a turn are reckoned.
 pub record AreReckonedTo (ground : Ground) (figures : List Figure) (t : Turn) : Type 0 where
   pub count : length figures ≡ ground.places.now.size
-  pub known : AreKnownOf ground.inputs.factors.now ground.inputs.book.now.sheet (StandsAt ground.inputs.book.now.sheet ground.places.now) figures
+  pub known : AreKnownOf (reckoning_of ground.inputs.factors.now ground.inputs.book.now.sheet) (StandsAt ground.inputs.book.now.sheet ground.places.now) figures
       (IsBefore ground.inputs.book.now.sheet t)
 
 -- There is a place for the links of each number, and all figures before a turn are linked to their sources.
 pub record AreLinkedTo (ground : LinkGround) (links : Linked) (t : Turn) : Type 0 where
   pub size : links.size ≡ ground.places.now.size
-  pub linked : AreLinkedOf ground.book.now.sheet (StandsAt ground.book.now.sheet ground.places.now) links.edges
+  pub linked : AreLinkedOf (graph_of ground.book.now.sheet) (StandsAt ground.book.now.sheet ground.places.now) links.edges
       (IsBefore ground.book.now.sheet t)
 
 -- these sources are linked to the number, and to all others the same as before

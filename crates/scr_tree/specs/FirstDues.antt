@@ -11,7 +11,7 @@ use Rattle.scr_nodes.specs.Sources.{sources_of}
 use Rattle.scr_figures.specs.Numbers.{StandsAt}
 use Rattle.scr_reach.specs.Dues.{numbers_of}
 use Rattle.scr_reach.specs.Linked.{AreAt, sources_in}
-use Rattle.scr_tree.specs.Figures.{AreKnownOf, HasFigure}
+use Rattle.scr_tree.specs.Figures.{AreKnownOf, HasFigure, reckoning_of}
 use Rattle.scr_tree.specs.Ready.{IsBasis}
 use Rattle.scr_tree.specs.declared.basis.Basis.{Basis}
 use Rattle.scr_tree.specs.declared.figures.Figure.{Figure}
@@ -40,7 +40,7 @@ pub record AreFirstDues (b : Basis) (numbers : List ℕ) (dues : List Due) : Typ
 -- the totals are there
 abbrev pub AreTotalsOn : Basis → List Figure → Type 0
 AreTotalsOn b figures =
-    AreKnownOf b.inputs.factors.now b.inputs.book.now.sheet (StandsAt b.inputs.book.now.sheet b.places.now) figures (λ node. is_total node ≡ true)
+    AreKnownOf (reckoning_of b.inputs.factors.now b.inputs.book.now.sheet) (StandsAt b.inputs.book.now.sheet b.places.now) figures (λ node. is_total node ≡ true)
 
 -- a live figure is due: a total, which is there, or another with the numbers of its sources
 pub record IsFirstOf (b : Basis) (figures : List Figure) (due : Due) : Type 0 where
@@ -48,7 +48,7 @@ pub record IsFirstOf (b : Basis) (figures : List Figure) (due : Due) : Type 0 wh
   pub node : Node
   pub at : StandsAt b.inputs.book.now.sheet b.places.now node due.number
   pub live : is_live b.inputs.book.now.sheet node ≡ true
-  pub total : is_total node ≡ true → HasFigure b.inputs.factors.now b.inputs.book.now.sheet figures due.number node
+  pub total : is_total node ≡ true → HasFigure (reckoning_of b.inputs.factors.now b.inputs.book.now.sheet) figures due.number node
   pub other : is_total node ≡ false → AreAt (StandsAt b.inputs.book.now.sheet b.places.now) due.sources.items (sources_of b.inputs.book.now.sheet node)
 
 unfoldable pub IsFirstDueOn : Basis → List Figure → Due → Type 0

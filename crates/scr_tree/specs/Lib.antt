@@ -1,3 +1,4 @@
+pub mod Graphs
 pub mod Figures
 pub mod Inputs
 pub mod Order

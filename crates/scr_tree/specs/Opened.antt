@@ -6,8 +6,9 @@ use Rattle.scr_sheet.specs.Validity.{Valid}
 use Rattle.scr_sheet.specs.declared.sheet.BalanceSheet.{BalanceSheet}
 use Rattle.scr_discounts.specs.KeptRates.{known_of, all_rates}
 use Rattle.scr_reach.specs.Linked.{AreLinked}
-use Rattle.scr_tree.specs.Figures.{AreSettled}
+use Rattle.scr_tree.specs.Figures.{AreSettled, reckoning_of}
 use Rattle.scr_tree.specs.declared.first.Opened.{Opened}
+use Rattle.scr_tree.specs.Graphs.{graph_of}
 
 -- the book is valid, rates and numbers are its own, each figure is at its number, and is linked to its sources
 pub record IsOpened (factors : FactorValues) (book : BalanceSheet) (opened : Opened) : Type 0 where
@@ -16,5 +17,5 @@ pub record IsOpened (factors : FactorValues) (book : BalanceSheet) (opened : Ope
   pub numbered : IsNumbered book opened.places
   pub room : opened.places.size ≤ length opened.figures.items
   pub size : opened.links.size ≤ opened.places.size
-  pub figures : AreSettled factors book (StandsAt book opened.places) opened.figures.items
-  pub links : AreLinked book (StandsAt book opened.places) opened.links.edges
+  pub figures : AreSettled (reckoning_of factors book) (StandsAt book opened.places) opened.figures.items
+  pub links : AreLinked (graph_of book) (StandsAt book opened.places) opened.links.edges

@@ -1,10 +1,8 @@
 -- The order in which an edit reckons figures anew, and the old figures of those that it has (this project's own).
 use Rattle.std.specs.Prelude.{◌≡◌, ℕ, zero, suc, ◌<◌, ◌≤◌, ◌++◌, List, [], ◌∷◌, Contains, Some, length, nat_eq, slice_get, slice_index_or, take}
 use Rattle.std.specs.List.{IsDistinct}
-use Rattle.scr_sheet.specs.declared.sheet.BalanceSheet.{BalanceSheet}
-use Rattle.scr_nodes.specs.declared.node.Node.{Node}
-use Rattle.scr_nodes.specs.Sources.{sources_of}
 use Rattle.scr_reach.specs.Dues.{IsLiveAt}
+use Rattle.scr_reach.specs.Graph.{Graph}
 use Rattle.scr_tree.specs.declared.figures.Figure.{Figure}
 
 -- the numbers are cut into slices, each of which begins where the one before ends
@@ -13,22 +11,22 @@ start_of ends zero = 0
 start_of ends (suc j) = slice_index_or ends j 0
 
 -- just those of the reached numbers at which a figure lives, each once
-pub record AreLiveOf (sheet : BalanceSheet) (At : Node → ℕ → Type 0) (reached numbers : List ℕ) : Type 0 where
+pub record AreLiveOf {Node : Type 0} (graph : Graph Node) (At : Node → ℕ → Type 0) (reached numbers : List ℕ) : Type 0 where
   pub once : IsDistinct nat_eq numbers
-  pub each : (number : ℕ) → Contains numbers number → Contains reached number × IsLiveAt sheet At number
-  pub all : (number : ℕ) → Contains reached number → IsLiveAt sheet At number → Contains numbers number
+  pub each : (number : ℕ) → Contains numbers number → Contains reached number × IsLiveAt graph At number
+  pub all : (number : ℕ) → Contains reached number → IsLiveAt graph At number → Contains numbers number
 
 -- Just the numbers of these that live, each once, in slices: whatever a figure of a slice is reckoned from stands before
 -- the slice, where it is one of them.
-pub record IsOrder (sheet : BalanceSheet) (At : Node → ℕ → Type 0) (reached numbers ends : List ℕ) : Type 0 where
+pub record IsOrder {Node : Type 0} (graph : Graph Node) (At : Node → ℕ → Type 0) (reached numbers ends : List ℕ) : Type 0 where
   pub once : IsDistinct nat_eq numbers
-  pub each : (number : ℕ) → Contains numbers number → Contains reached number × IsLiveAt sheet At number
-  pub all : (number : ℕ) → Contains reached number → IsLiveAt sheet At number → Contains numbers number
+  pub each : (number : ℕ) → Contains numbers number → Contains reached number × IsLiveAt graph At number
+  pub all : (number : ℕ) → Contains reached number → IsLiveAt graph At number → Contains numbers number
   pub rising : (j : ℕ) → j < length ends → start_of ends j ≤ start_of ends (suc j)
   pub whole : start_of ends (length ends) ≡ length numbers
   pub after : (j k i number source_number : ℕ) (node source : Node) → j < length ends
       → start_of ends j ≤ k → k < start_of ends (suc j) → slice_get numbers k ≡ Some number → At node number
-      → Contains (sources_of sheet node) source → At source source_number → slice_get numbers i ≡ Some source_number
+      → Contains (graph.sources node) source → At source source_number → slice_get numbers i ≡ Some source_number
       → i < start_of ends j
 
 -- The figures now are those before, but for the numbers that were written: of these the former figures are kept.

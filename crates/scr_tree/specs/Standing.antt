@@ -11,6 +11,7 @@ use Rattle.scr_touched.specs.Touched.{IsTouched}
 use Rattle.scr_reach.specs.Leading.{IsCountOf, IsInReach}
 use Rattle.scr_tree.specs.declared.refusal.Refusal.{Refusal}
 use Rattle.scr_tree.specs.declared.refusal.Refusal.TheVariants as refusals
+use Rattle.scr_tree.specs.Graphs.{graph_of}
 
 -- the factors of the formula, and the balance sheet of today
 pub record Standing : Type 0 where
@@ -38,7 +39,7 @@ Refuses due (Err (refusals.Fault fault)) = due ≡ Some fault
 
 -- the figures that a record reaches: those of the balance sheet after it that it touches, or that are reckoned from such
 abbrev pub IsReachedBy : FactorValues → BalanceSheet → Edit → Node → Type 0
-IsReachedBy factors sheet edit node = IsInReach (applied edit sheet) (IsTouched factors sheet edit) node
+IsReachedBy factors sheet edit node = IsInReach (graph_of (applied edit sheet)) (IsTouched factors sheet edit) node
 
 -- Where one worker reckons, a record that is accepted takes as many steps as it reaches figures. One that has a fault takes
 -- none.

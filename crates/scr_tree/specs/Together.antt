@@ -16,10 +16,11 @@ use Rattle.scr_figures.specs.Numbers.{StandsAt, names_in}
 use Rattle.scr_figures.specs.Records.{place_in}
 use Rattle.scr_rules.specs.Worked.{worked}
 use Rattle.scr_reach.specs.Dues.{IsDue}
-use Rattle.scr_tree.specs.Figures.{HasFigure}
+use Rattle.scr_tree.specs.Figures.{HasFigure, reckoning_of}
 use Rattle.scr_tree.specs.Ready.{IsBasis}
 use Rattle.scr_tree.specs.declared.basis.Basis.{Basis}
 use Rattle.scr_tree.specs.declared.figures.Figure.{Figure}
+use Rattle.scr_tree.specs.Graphs.{graph_of}
 
 -- ---- the figure at a number
 
@@ -58,11 +59,11 @@ IsSpanOn b number span = ends span ≡ ends_on b number
 unfoldable pub IsKnownOn : Basis → List Figure → ℕ → Type 0
 IsKnownOn b figures number =
     IsBasis b × ((node : Node) × StandsAt b.inputs.book.now.sheet b.places.now node number × (is_live b.inputs.book.now.sheet node ≡ true)
-    × HasFigure b.inputs.factors.now b.inputs.book.now.sheet figures number node)
+    × HasFigure (reckoning_of b.inputs.factors.now b.inputs.book.now.sheet) figures number node)
 
 -- a live figure is due, with the numbers of its sources
 unfoldable pub IsDueOn : Basis → Due → Type 0
-IsDueOn b due = IsBasis b × IsDue b.inputs.book.now.sheet (StandsAt b.inputs.book.now.sheet b.places.now) due
+IsDueOn b due = IsBasis b × IsDue (graph_of b.inputs.book.now.sheet) (StandsAt b.inputs.book.now.sheet b.places.now) due
 
 -- ---- open choices
 

@@ -14,7 +14,7 @@ use Rattle.scr_figures.specs.Numbers.{StandsAt}
 use Rattle.scr_numbers.specs.Ranges.{Numbered}
 use Rattle.scr_numbers.specs.declared.table.Table.{Table}
 use Rattle.scr_numbers.specs.declared.table.Table.TheVariants as tables
-use Rattle.scr_tree.specs.Figures.{AreKnownOf, HasFigure}
+use Rattle.scr_tree.specs.Figures.{AreKnownOf, HasFigure, reckoning_of}
 use Rattle.scr_tree.specs.FirstDues.{is_total}
 use Rattle.scr_tree.specs.RowSpans.{IsOfRow}
 use Rattle.scr_tree.specs.declared.figures.Figure.{Figure}
@@ -53,18 +53,18 @@ pub record IsWrittenOf (ground : Ground) (rows : List Row) (before now : List Fi
   pub count : length now ≡ length before
   pub each : (node : Node) (number : ℕ) → StandsAt ground.inputs.book.now.sheet ground.places.now node number
       → IsOfRows ground.inputs.book.now.sheet rows node
-      → HasFigure ground.inputs.factors.now ground.inputs.book.now.sheet now number node
+      → HasFigure (reckoning_of ground.inputs.factors.now ground.inputs.book.now.sheet) now number node
   pub kept : (node : Node) (number : ℕ) → StandsAt ground.inputs.book.now.sheet ground.places.now node number
       → is_live ground.inputs.book.now.sheet node ≡ true
-      → HasFigure ground.inputs.factors.now ground.inputs.book.now.sheet before number node
-      → HasFigure ground.inputs.factors.now ground.inputs.book.now.sheet now number node
+      → HasFigure (reckoning_of ground.inputs.factors.now ground.inputs.book.now.sheet) before number node
+      → HasFigure (reckoning_of ground.inputs.factors.now ground.inputs.book.now.sheet) now number node
 
 -- There is a place for each figure. Those that are reckoned with their rows are there, and the totals of funds and securities.
 pub record AreRowsThere (factors : FactorValues) (sheet : BalanceSheet) (places : Numbered) (figures : List Figure) : Type 0 where
   pub count : length figures ≡ places.size
-  pub rows : AreKnownOf factors sheet (StandsAt sheet places) figures
+  pub rows : AreKnownOf (reckoning_of factors sheet) (StandsAt sheet places) figures
       (λ node. is_by_row node ≡ true)
-  pub totals : AreKnownOf factors sheet (StandsAt sheet places) figures
+  pub totals : AreKnownOf (reckoning_of factors sheet) (StandsAt sheet places) figures
       (λ node. is_total node ≡ true)
 
 -- ---- all other figures

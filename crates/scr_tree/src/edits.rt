@@ -5,13 +5,14 @@ ghost use Rattle.scr_discounts.specs.KeptRates.{known_of};
 ghost use Rattle.scr_reach.specs.Dues.{sources_count, AreStarts};
 ghost use Rattle.scr_tree.specs.Changed.{AreGone, AreRowsFor, IsFollowed, IsRecorded, IsRelinkedFor, IsStarted, IsStateOf, IsUndone, KeepsState, StepsOver, StepsReach, StepsTaken};
 ghost use Rattle.scr_figures.specs.Numbers.{StandsAt, IsNumbered};
-ghost use Rattle.scr_tree.specs.Figures.{AreSettled};
+ghost use Rattle.scr_tree.specs.Figures.{AreSettled, reckoning_of};
 ghost use Rattle.std.specs.List.{IsDistinct};
 ghost use Rattle.scr_sheet.specs.Validity.{Valid};
 ghost use Rattle.scr_sheet.specs.declared.sheet.BalanceSheet.{BalanceSheet};
 ghost use Rattle.scr_nodes.specs.LiveNodes.{HasNoRepeats};
 ghost use Rattle.scr_reach.specs.Linked.{AreNumbers};
 ghost use Rattle.scr_tree.specs.KeptRates.{AreKeptFor, keeps_rates};
+ghost use Rattle.scr_tree.specs.Graphs.{graph_of};
 
 use crate::basis::{Basis, Crew};
 use crate::figures::{Below, Figure, Inputs, NO_FIGURE};
@@ -70,7 +71,7 @@ pub(crate) fn numbers_gone(
 ) -> Result<Option<Vec<u32>>, NoMemory>
     requires valid { Valid sheet.now }
     requires numbered { IsNumbered sheet.now places.now }
-    requires numbers { AreNumbers sheet.now (StandsAt sheet.now places.now) places.now.size }
+    requires numbers { AreNumbers (graph_of sheet.now) (StandsAt sheet.now places.now) places.now.size }
     requires once { HasNoRepeats touched.now }
     ensures { IfOk result (AreGone step sheet.now places.now touched.now) }
 {
@@ -182,7 +183,7 @@ fn reckon_marked<R: Threads + Sync, G: Gate + Sync, L: Ledger>(
     steps: &mut Steps<L>,
 ) -> Result<(), NoMemory>
     requires { IsRelinkedFor footing.factors.now footing.book.now.sheet live.now rates.now state.old }
-    ensures settled { OnOk result (AreSettled footing.entry.factors.now footing.entry.book.now.sheet
+    ensures settled { OnOk result (AreSettled (reckoning_of footing.entry.factors.now footing.entry.book.now.sheet)
         (StandsAt footing.entry.book.now.sheet state.old.places) state.new.figures.items) }
     ensures steps { OnOk result (crew.now.workers ≡ 1
         → StepsOver footing.entry.book.now.sheet state.old.places state.old.marks.list steps.old steps.new) }
@@ -226,7 +227,7 @@ fn all_numbers(
 ) -> Result<Vec<u32>, NoMemory>
     requires valid { Valid view.sheet.now }
     requires numbered { IsNumbered view.sheet.now view.places.now }
-    requires numbers { AreNumbers view.sheet.now (StandsAt view.sheet.now view.places.now) view.places.now.size }
+    requires numbers { AreNumbers (graph_of view.sheet.now) (StandsAt view.sheet.now view.places.now) view.places.now.size }
     requires once { HasNoRepeats touched.now }
     ensures gone { IfOk result (λ numbers. IfSome gone (λ list. numbers.items ≡ list.items)) }
     ensures starts { IfOk result (λ numbers. IfNone gone (AreStarts (StandsAt view.entry.sheet.now view.entry.places.now) touched.now numbers.items)) }

@@ -4,7 +4,7 @@ ghost use Rattle.scr_num.specs.Rounding.{ends};
 ghost use Rattle.scr_nodes.specs.Live.{is_live};
 ghost use Rattle.scr_nodes.specs.Sources.{sources_of};
 ghost use Rattle.scr_rules.specs.Close.{is_open as open_mask};
-ghost use Rattle.scr_tree.specs.Figures.{AreReadAt, AreSpansOf, opens, worth_at, worth_of};
+ghost use Rattle.scr_tree.specs.Figures.{AreReadAt, AreSpansOf, opens, reckoning_of, worth_at, worth_of};
 ghost use Rattle.scr_tree.specs.Inputs.{AreOfBook};
 
 use scr_book::Book;
@@ -98,7 +98,7 @@ pub(crate) fn reckoned<G: Gate, L: Ledger>(
 ) -> Figure
     requires inputs { AreOfBook inputs }
     requires live { is_live inputs.book.now.sheet node.now ≡ true }
-    requires below { AreSpansOf inputs.factors.now inputs.book.now.sheet (sources_of inputs.book.now.sheet node.now) below.now }
+    requires below { AreSpansOf (reckoning_of inputs.factors.now inputs.book.now.sheet) (sources_of inputs.book.now.sheet node.now) below.now }
     ensures figure { worth_of result ≡ worth_at inputs.entry.factors.now inputs.entry.book.now.sheet node.now }
     ensures step { steps.new ≡ steps.old + 1 }
 {

@@ -12,6 +12,7 @@ ghost use Rattle.scr_tree.specs.FirstDues.{is_total};
 ghost use Rattle.scr_tree.specs.First.{IsGround, IsLinkGround, totals_of};
 ghost use Rattle.scr_tree.specs.Ready.{AreSettledOn, IsBasis};
 ghost use Rattle.scr_tree.specs.Written.{AreAllRest, AreRowsThere, IsRestAt, in_row, in_total, is_by_row};
+ghost use Rattle.scr_tree.specs.Graphs.{graph_of};
 
 use crate::basis::{Basis, Crew};
 use crate::figures::{Figure, Inputs, no_figures};
@@ -252,7 +253,7 @@ fn reckon_rest<R: Threads + Sync, G: Gate + Sync>(
 /// that have other figures: these pass the gate in their rows.
 fn rest_numbers(alloc: Global, view: View<'_>) -> Result<Vec<u32>, NoMemory>
     requires numbered { IsNumbered view.sheet.now view.places.now }
-    requires numbers { AreNumbers view.sheet.now (StandsAt view.sheet.now view.places.now) view.places.now.size }
+    requires numbers { AreNumbers (graph_of view.sheet.now) (StandsAt view.sheet.now view.places.now) view.places.now.size }
     ensures { IfOk result (λ numbers. AreAllRest view.entry.sheet.now view.entry.places.now numbers.items) }
 {
     let mut numbers = Vec::new(alloc);
@@ -267,7 +268,7 @@ fn rest_numbers(alloc: Global, view: View<'_>) -> Result<Vec<u32>, NoMemory>
 /// A figure lives at the number that neither is reckoned row by row nor passes the gate in its row.
 fn is_rest(view: View<'_>, number: u32) -> bool
     requires numbered { IsNumbered view.sheet.now view.places.now }
-    requires numbers { AreNumbers view.sheet.now (StandsAt view.sheet.now view.places.now) view.places.now.size }
+    requires numbers { AreNumbers (graph_of view.sheet.now) (StandsAt view.sheet.now view.places.now) view.places.now.size }
     ensures yes { result ≡ true → IsRestAt view.entry.sheet.now view.entry.places.now number }
     ensures no { result ≡ false → (rest : IsRestAt view.entry.sheet.now view.entry.places.now number) → is_total rest.node ≡ true }
 {

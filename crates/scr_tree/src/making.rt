@@ -6,7 +6,7 @@ ghost use Rattle.scr_numbers.specs.Ranges.{count, first, stride};
 ghost use Rattle.scr_nodes.specs.Live.{is_live};
 ghost use Rattle.scr_nodes.specs.Sources.{sources_of};
 ghost use Rattle.scr_reach.specs.Linked.{AreAt};
-ghost use Rattle.scr_tree.specs.Figures.{HaveFigures};
+ghost use Rattle.scr_tree.specs.Figures.{HaveFigures, reckoning_of};
 ghost use Rattle.scr_tree.specs.First.{IsDone, IsEntered, IsGround, IsLinkGround, IsPut};
 ghost use Rattle.scr_tree.specs.Turns.{next, stage_of, turn_of};
 
@@ -184,7 +184,7 @@ pub(crate) fn put<G: Gate, L: Ledger>(
     requires live { is_live ground.inputs.book.now.sheet node.now ≡ true }
     requires number { number < length making.old.made.figures.items }
     requires size { making.old.made.links.size ≡ length making.old.made.figures.items }
-    requires sources { HaveFigures ground.inputs.factors.now ground.inputs.book.now.sheet making.old.made.figures.items
+    requires sources { HaveFigures (reckoning_of ground.inputs.factors.now ground.inputs.book.now.sheet) making.old.made.figures.items
         making.old.sources.items (sources_of ground.inputs.book.now.sheet node.now) }
     ensures { OnOk result (IsPut ground.entry.inputs.factors.now ground.entry.inputs.book.now.sheet node.now number
         making.old.sources.items making.old.made making.new.made) }

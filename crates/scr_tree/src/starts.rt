@@ -8,6 +8,7 @@ ghost use Rattle.scr_figures.specs.Numbers.{IsNumbered, StandsAt};
 ghost use Rattle.scr_reach.specs.Dues.{AreStarts, IsLiveAt};
 ghost use Rattle.scr_reach.specs.Linked.{AreNumbers};
 ghost use Rattle.scr_tree.specs.Starts.{AreAllStarts, AreFormer, IsNumberPushed, IsStart};
+ghost use Rattle.scr_tree.specs.Graphs.{graph_of};
 
 use scr_figures::{View, find, node_at, push_walked};
 use scr_links::Links;
@@ -32,7 +33,7 @@ pub(crate) fn numbers_of(
 ) -> Result<Vec<u32>, NoMemory>
     requires valid { Valid view.sheet.now }
     requires numbered { IsNumbered view.sheet.now view.places.now }
-    requires numbers { AreNumbers view.sheet.now (StandsAt view.sheet.now view.places.now) view.places.now.size }
+    requires numbers { AreNumbers (graph_of view.sheet.now) (StandsAt view.sheet.now view.places.now) view.places.now.size }
     requires once { HasNoRepeats nodes.now }
     ensures starts { IfOk result (λ numbers. AreStarts (StandsAt view.entry.sheet.now view.entry.places.now) nodes.now numbers.items) }
     ensures once { IfOk result (λ numbers. IsDistinct nat_eq numbers.items) }
@@ -47,7 +48,7 @@ pub(crate) fn numbers_of(
 /// The number of one figure more, if it has one.
 fn push_number(numbers: &mut Vec<u32>, view: View<'_>, node: &Node) -> Result<(), NoMemory>
     requires { IsNumbered view.sheet.now view.places.now }
-    ensures { OnOk result (IsNumberPushed view.entry.sheet.now view.entry.places.now node.now numbers.old.items numbers.new.items) }
+    ensures { OnOk result (IsNumberPushed (StandsAt view.entry.sheet.now view.entry.places.now) node.now numbers.old.items numbers.new.items) }
 {
     match find(view.places, view.sheet, node) {
         Some(number) => {
@@ -66,8 +67,8 @@ pub(crate) fn starts_of(
 ) -> Result<Starts, NoMemory>
     requires valid { Valid view.sheet.now }
     requires numbered { IsNumbered view.sheet.now view.places.now }
-    requires numbers { AreNumbers view.sheet.now (StandsAt view.sheet.now view.places.now) view.places.now.size }
-    ensures { IfOk result (AreAllStarts view.entry.sheet.now view.entry.places.now numbers.items) }
+    requires numbers { AreNumbers (graph_of view.sheet.now) (StandsAt view.sheet.now view.places.now) view.places.now.size }
+    ensures { IfOk result (AreAllStarts (graph_of view.entry.sheet.now) (StandsAt view.entry.sheet.now view.entry.places.now) numbers.items) }
 {
     let mut dues = Vec::with_capacity(alloc, numbers.len())?;
     let mut live = Vec::with_capacity(alloc, numbers.len())?;
@@ -87,9 +88,9 @@ pub(crate) fn starts_of(
 fn start_at(alloc: Global, view: View<'_>, number: u32) -> Result<(Due, bool), NoMemory>
     requires valid { Valid view.sheet.now }
     requires numbered { IsNumbered view.sheet.now view.places.now }
-    requires numbers { AreNumbers view.sheet.now (StandsAt view.sheet.now view.places.now) view.places.now.size }
+    requires numbers { AreNumbers (graph_of view.sheet.now) (StandsAt view.sheet.now view.places.now) view.places.now.size }
     ensures number { IfOk result (λ start. start.0.number ≡ number) }
-    ensures start { IfOk result (λ start. IsStart view.entry.sheet.now view.entry.places.now start.0 start.1) }
+    ensures start { IfOk result (λ start. IsStart (graph_of view.entry.sheet.now) (StandsAt view.entry.sheet.now view.entry.places.now) start.0 start.1) }
 {
     let mut sources = Vec::new(alloc);
     match live_at(view, number) {
@@ -104,10 +105,10 @@ fn start_at(alloc: Global, view: View<'_>, number: u32) -> Result<(Due, bool), N
 /// The live figure at a number.
 pub(crate) fn live_at(view: View<'_>, number: u32) -> Option<Node>
     requires numbered { IsNumbered view.sheet.now view.places.now }
-    requires numbers { AreNumbers view.sheet.now (StandsAt view.sheet.now view.places.now) view.places.now.size }
+    requires numbers { AreNumbers (graph_of view.sheet.now) (StandsAt view.sheet.now view.places.now) view.places.now.size }
     ensures there { IfSome result (λ node. StandsAt view.entry.sheet.now view.entry.places.now node number) }
     ensures live { IfSome result (λ node. is_live view.entry.sheet.now node ≡ true) }
-    ensures absent { IsNone result → IsLiveAt view.entry.sheet.now (StandsAt view.entry.sheet.now view.entry.places.now) number → ⊥ }
+    ensures absent { IsNone result → IsLiveAt (graph_of view.entry.sheet.now) (StandsAt view.entry.sheet.now view.entry.places.now) number → ⊥ }
 {
     match node_at(view.places, view.sheet, number) {
         Some(node) if is_live(view.sheet, &node) => Some(node),

@@ -11,6 +11,7 @@ use Rattle.scr_tree.proofs.KeptRates.{kept-for}
 use Rattle.scr_tree.proofs.Started.{err-so}
 use Rattle.scr_tree.specs.declared.edits.State.{State}
 use Rattle.scr_tree.proofs.edits.change.Goals as goal
+use Rattle.scr_tree.specs.Graphs.{graph_of}
 
 pub all_numbers-requires-clause-valid : goal.all_numbers-requires-clause-valid
 all_numbers-requires-clause-valid g c = subst Valid (sym c.sheet.ensures.sheet) c.sheet.ensures.valid
@@ -23,7 +24,7 @@ all_numbers-requires-clause-numbered g c =
 
 pub all_numbers-requires-clause-numbers : goal.all_numbers-requires-clause-numbers
 all_numbers-requires-clause-numbers g c =
-    subst (λ sheet. AreNumbers sheet (StandsAt sheet c.args.state.now.places) c.args.state.now.places.size)
+    subst (λ sheet. AreNumbers (graph_of sheet) (StandsAt sheet c.args.state.now.places) c.args.state.now.places.size)
     (sym c.sheet.ensures.sheet)
     (own-after c.args.footing.factors.now c.args.footing.book.now.sheet c.args.taken c.args.gone c.args.state.now c.requires
     c.sheet.ensures.valid c.len-size.ensures.apart c.len-size.ensures.within)
@@ -39,7 +40,7 @@ starts_of-requires-clause-numbered g c =
 
 pub starts_of-requires-clause-numbers : goal.starts_of-requires-clause-numbers
 starts_of-requires-clause-numbers g c =
-    subst (λ sheet. AreNumbers sheet (StandsAt sheet c.args.state.now.places) c.args.state.now.places.size)
+    subst (λ sheet. AreNumbers (graph_of sheet) (StandsAt sheet c.args.state.now.places) c.args.state.now.places.size)
     (sym c.sheet.ensures.sheet)
     (own-after c.args.footing.factors.now c.args.footing.book.now.sheet c.args.taken c.args.gone c.args.state.now c.requires
     c.sheet.ensures.valid c.len-size.ensures.apart c.len-size.ensures.within)
@@ -60,7 +61,7 @@ change_from-changed-requires-after_bounds g c κs within =
     (subst (λ sheet. IfNone c.args.gone (AreStarts (StandsAt sheet c.args.state.now.places) c.args.taken.touched.now
     c.in_ok-numbers.numbers.items)) c.sheet.ensures.sheet c.in_ok-numbers.ensures.starts) c.in_ok-numbers.ensures.once
     c.in_ok-starts.starts
-    (subst (λ sheet. AreAllStarts sheet c.args.state.now.places c.in_ok-numbers.numbers.items c.in_ok-starts.starts)
+    (subst (λ sheet. AreAllStarts (graph_of sheet) (StandsAt sheet c.args.state.now.places) c.in_ok-numbers.numbers.items c.in_ok-starts.starts)
     c.sheet.ensures.sheet c.in_ok-starts.ensures) c.in_ok-rates.rates c.in_ok-rates.ensures
 
 pub returns-in_err-make_room-clause-err : goal.returns-in_err-make_room-clause-err
@@ -105,7 +106,7 @@ returns-clause-steps g c =
     (subst (λ sheet. IfNone c.args.gone (AreStarts (StandsAt sheet c.args.state.now.places) c.args.taken.touched.now
     c.in_ok-numbers.numbers.items)) c.sheet.ensures.sheet c.in_ok-numbers.ensures.starts) c.in_ok-numbers.ensures.once
     c.in_ok-starts.starts
-    (subst (λ sheet. AreAllStarts sheet c.args.state.now.places c.in_ok-numbers.numbers.items c.in_ok-starts.starts)
+    (subst (λ sheet. AreAllStarts (graph_of sheet) (StandsAt sheet c.args.state.now.places) c.in_ok-numbers.numbers.items c.in_ok-starts.starts)
     c.sheet.ensures.sheet c.in_ok-starts.ensures) c.in_ok-rates.rates c.in_ok-rates.ensures c.args.steps.now c.change_from-changed.new.steps (steps one))
     c.change_from-changed.ensures.steps
 

@@ -3,6 +3,7 @@ use Rattle.scr_figures.specs.Numbers.{StandsAt}
 use Rattle.scr_reach.specs.Dues.{IsLiveAt}
 use Rattle.scr_tree.proofs.Begun.{found-live, found-none}
 use Rattle.scr_tree.proofs.first_together.is_rest.Goals as goal
+use Rattle.scr_tree.specs.Graphs.{graph_of}
 
 pub returns-then-is_of_row-clause-no : goal.returns-then-is_of_row-clause-no
 returns-then-is_of_row-clause-no c = λ no is.
@@ -25,5 +26,5 @@ returns-clause-yes c = λ yes.
 pub returns-clause-no : goal.returns-clause-no
 returns-clause-no c = λ no is.
     let sheet = c.args.view.sheet.now in
-    absurd (found-none c.live_at.result (IsLiveAt sheet (StandsAt sheet c.args.view.places.now) c.args.number) c.live_at.ensures.absent
+    absurd (found-none c.live_at.result (IsLiveAt (graph_of sheet) (StandsAt sheet c.args.view.places.now) c.args.number) c.live_at.ensures.absent
     (sym c.is_some.ensures ∙ no) (is.node, is.at, is.live))

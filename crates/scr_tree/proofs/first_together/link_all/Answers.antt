@@ -3,6 +3,7 @@ use Rattle.scr_figures.specs.Numbers.{IsNumbered, StandsAt}
 use Rattle.scr_reach.specs.Linked.{AreNumbers}
 use Rattle.scr_tree.specs.Written.{AreAllRest}
 use Rattle.scr_tree.proofs.first_together.link_all.Goals as goal
+use Rattle.scr_tree.specs.Graphs.{graph_of}
 
 pub rest_numbers-requires-clause-numbered : goal.rest_numbers-requires-clause-numbered
 rest_numbers-requires-clause-numbered c =
@@ -10,7 +11,7 @@ rest_numbers-requires-clause-numbered c =
 
 pub rest_numbers-requires-clause-numbers : goal.rest_numbers-requires-clause-numbers
 rest_numbers-requires-clause-numbers c =
-    subst (λ sheet. AreNumbers sheet (StandsAt sheet c.args.ground.places.now) c.args.ground.places.now.size)
+    subst (λ sheet. AreNumbers (graph_of sheet) (StandsAt sheet c.args.ground.places.now) c.args.ground.places.now.size)
     (sym c.sheet.ensures.sheet) c.requires.numbers
 
 pub returns : goal.returns

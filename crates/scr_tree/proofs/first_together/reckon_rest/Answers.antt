@@ -7,6 +7,7 @@ use Rattle.scr_tree.specs.Order.{IsOrder}
 use Rattle.scr_tree.proofs.Begun.{begun-flags}
 use Rattle.scr_tree.proofs.Writing.{rest-known}
 use Rattle.scr_tree.proofs.first_together.reckon_rest.Goals as goal
+use Rattle.scr_tree.specs.Graphs.{graph_of}
 
 pub ordered-requires-clause-valid : goal.ordered-requires-clause-valid
 ordered-requires-clause-valid g c = subst Valid (sym c.sheet.ensures.sheet) c.requires.basis.0.valid
@@ -17,7 +18,7 @@ ordered-requires-clause-numbered g c =
 
 pub ordered-requires-clause-linked : goal.ordered-requires-clause-linked
 ordered-requires-clause-linked g c =
-    subst (λ sheet. AreLinked sheet (StandsAt sheet c.args.basis.places.now) c.args.basis.links.now.edges)
+    subst (λ sheet. AreLinked (graph_of sheet) (StandsAt sheet c.args.basis.places.now) c.args.basis.links.now.edges)
     (sym c.sheet.ensures.sheet) c.requires.basis.0.linked
 
 pub ordered-requires-clause-once : goal.ordered-requires-clause-once
@@ -25,14 +26,14 @@ ordered-requires-clause-once g c = c.requires.rest.once
 
 pub ordered-requires-clause-live : goal.ordered-requires-clause-live
 ordered-requires-clause-live g c =
-    subst (λ sheet. AreFlagged sheet (StandsAt sheet c.args.basis.places.now) c.args.rest.now [])
+    subst (λ sheet. AreFlagged (graph_of sheet) (StandsAt sheet c.args.basis.places.now) c.args.rest.now [])
     (sym c.sheet.ensures.sheet)
     (begun-flags c.args.basis.inputs.book.now.sheet c.args.basis.places.now c.args.rest.now c.requires.rest)
 
 pub reckon_entered-requires-clause-order : goal.reckon_entered-requires-clause-order
 reckon_entered-requires-clause-order g c κs within = (
   c.args.rest.now,
-  subst (λ sheet. IsOrder sheet (StandsAt sheet c.args.basis.places.now) c.args.rest.now c.in_ok-order.order.numbers.items
+  subst (λ sheet. IsOrder (graph_of sheet) (StandsAt sheet c.args.basis.places.now) c.args.rest.now c.in_ok-order.order.numbers.items
       c.in_ok-order.order.ends.items) c.sheet.ensures.sheet c.in_ok-order.ensures,
 )
 
@@ -44,7 +45,7 @@ reckon_entered-requires-clause-known g c κs within =
     let ends = c.in_ok-order.order.ends.items in
     rest-known c.args.basis.inputs.factors.now sheet places c.args.figures.now.items c.args.rest.now numbers ends
     c.requires.rest c.requires.rows
-    (subst (λ s. IsOrder s (StandsAt s places) c.args.rest.now numbers ends) c.sheet.ensures.sheet c.in_ok-order.ensures)
+    (subst (λ s. IsOrder (graph_of s) (StandsAt s places) c.args.rest.now numbers ends) c.sheet.ensures.sheet c.in_ok-order.ensures)
 
 pub reckon_entered-requires-clause-totals : goal.reckon_entered-requires-clause-totals
 reckon_entered-requires-clause-totals g c κs within = c.requires.rows.totals

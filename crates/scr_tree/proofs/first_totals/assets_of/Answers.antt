@@ -4,7 +4,7 @@ use Rattle.scr_num.specs.Rounding.{ends}
 use Rattle.scr_nodes.specs.Sources.{sources_of}
 use Rattle.scr_nodes.specs.declared.node.Node.TheVariants as nodes
 use Rattle.scr_nodes.specs.declared.node.Whole.TheVariants as wholes
-use Rattle.scr_tree.specs.Figures.{AreReadAt}
+use Rattle.scr_tree.specs.Figures.{AreReadAt, reckoning_of}
 use Rattle.scr_tree.proofs.Grounds.{have-within}
 use Rattle.scr_tree.proofs.Known.{read-right}
 use Rattle.scr_tree.proofs.Writing.{assets-known}
@@ -27,7 +27,7 @@ uncounted-span-requires-clause-below c =
     let figures = c.args.figures.now in
     let sources = c.gather.new.sources.items in
     let list = sources_of ground.inputs.book.now.sheet (nodes.Whole wholes.Assets) in
-    let right = read-right ground.inputs.factors.now ground.inputs.book.now.sheet figures sources list c.read.new.below
+    let right = read-right (reckoning_of ground.inputs.factors.now ground.inputs.book.now.sheet) figures sources list c.read.new.below
     (assets-known ground c.requires.ground figures c.requires.totals sources c.in_ok-gather.ensures)
     (subst (λ ns. AreReadAt figures ns c.read.new.below) c.as_slice.ensures.value c.in_ok-read.ensures) in
     ap (map ends) c.as_slice-2.ensures.value ∙ right.spans

@@ -1,7 +1,6 @@
 use Rattle.std.proofs.Common.{sym, subst}
 use Rattle.scr_tree.specs.First.{AreLinkedTo, IsDone, IsLinkGround, link_ground}
 use Rattle.scr_tree.specs.Turns.{turn}
-use Rattle.scr_tree.specs.declared.making.LinkGround.{LinkGround}
 use Rattle.scr_tree.proofs.FirstRows.{on-ok}
 use Rattle.scr_tree.proofs.Grounds.{for-links}
 use Rattle.scr_tree.proofs.first_totals.put_totals.Goals as goal

@@ -1,7 +1,7 @@
 use Rattle.std.proofs.Common.{◌<◌, All, length, sym, subst}
 use Rattle.std.proofs.lemmas.List.Elements.{All-from_recursion}
 use Rattle.scr_nodes.specs.Sources.{sources_of}
-use Rattle.scr_tree.specs.Figures.{AreReadAt}
+use Rattle.scr_tree.specs.Figures.{AreReadAt, reckoning_of}
 use Rattle.scr_tree.specs.First.{IsEntered, IsPut}
 use Rattle.scr_tree.proofs.FirstRows.{on-ok}
 use Rattle.scr_tree.proofs.Grounds.{have-within}
@@ -23,7 +23,7 @@ pub reckoned-figure-requires-clause-below : goal.reckoned-figure-requires-clause
 reckoned-figure-requires-clause-below g c =
     let figures = c.args.making.now.made.figures.items in
     let sources = c.args.making.now.sources.items in
-    read-right c.args.ground.inputs.factors.now c.args.ground.inputs.book.now.sheet figures sources
+    read-right (reckoning_of c.args.ground.inputs.factors.now c.args.ground.inputs.book.now.sheet) figures sources
     (sources_of c.args.ground.inputs.book.now.sheet c.args.node.now) c.read.new.below c.requires.sources
     (subst (λ fs. AreReadAt fs sources c.read.new.below) c.as_slice.ensures.value
     (subst (λ ns. AreReadAt c.as_slice.result.now ns c.read.new.below) c.as_slice-2.ensures.value c.in_ok-read.ensures))

@@ -3,15 +3,15 @@ use Rattle.scr_nodes.specs.Live.{is_live}
 use Rattle.scr_nodes.specs.Sources.{sources_of}
 use Rattle.scr_figures.specs.Numbers.{IsNumbered, StandsAt}
 use Rattle.scr_reach.specs.Linked.{sources_in}
-use Rattle.scr_tree.specs.Figures.{AreSpansOf, worth_at}
+use Rattle.scr_tree.specs.Figures.{AreSpansOf, reckoning_of, worth_at}
 use Rattle.scr_tree.proofs.Known.{read-right}
-use Rattle.scr_tree.proofs.Turning.{ready-within}
+use Rattle.scr_tree.proofs.Turning.{ready-within, sheet-up}
 use Rattle.scr_tree.proofs.reckoning.figure_at.Goals as goal
 
 pub read_linked-requires : goal.read_linked-requires
 read_linked-requires g c =
-    ready-within c.args.basis.inputs.factors.now c.args.basis.inputs.book.now.sheet c.args.basis.places.now
-    c.args.basis.links.now.edges (c.requires.basis).0 c.args.figures.now c.args.number c.requires.ready
+    ready-within (reckoning_of c.args.basis.inputs.factors.now c.args.basis.inputs.book.now.sheet) (StandsAt c.args.basis.inputs.book.now.sheet c.args.basis.places.now) c.args.basis.places.now.size c.args.basis.links.now.edges
+    (sheet-up c.args.basis.inputs.book.now.sheet c.args.basis.places.now c.args.basis.links.now.edges (c.requires.basis).0) c.args.figures.now c.args.number c.requires.ready
 
 pub node_at-requires : goal.node_at-requires
 node_at-requires g c =
@@ -38,8 +38,8 @@ reckoned-requires-clause-below g c =
     let there = subst (λ s. StandsAt s c.args.basis.places.now c.in-Some.node c.args.number) c.sheet.ensures.sheet
     c.in-Some.ensures.there in
     let one = ((c.requires.basis).0).numbers.exact c.args.number c.in-Some.node c.requires.ready.node there c.requires.ready.at in
-    subst (λ n. AreSpansOf factors sheet (sources_of sheet n) c.read_linked.new.below) (sym one)
-    (read-right factors sheet c.args.figures.now (sources_in c.args.basis.links.now.edges c.args.number)
+    subst (λ n. AreSpansOf (reckoning_of factors sheet) (sources_of sheet n) c.read_linked.new.below) (sym one)
+    (read-right (reckoning_of factors sheet) c.args.figures.now (sources_in c.args.basis.links.now.edges c.args.number)
     (sources_of sheet c.requires.ready.node) c.read_linked.new.below c.requires.ready.sources c.in_ok-read_linked.ensures)
 
 pub returns-clause-figure : goal.returns-clause-figure

@@ -4,8 +4,10 @@ use Rattle.std.proofs.lemmas.Option.{slice_get-get_or}
 use Rattle.scr_tree.specs.Order.{IsJournaled, IsWritten}
 use Rattle.scr_tree.specs.Ready.{AreKnownBut, IsReadyOn, IsRightOn}
 use Rattle.scr_tree.proofs.Reckoned.{count-next, journaled-written, known-written}
-use Rattle.scr_tree.proofs.Turning.{ready-next, settled-all, turn-within}
+use Rattle.scr_tree.proofs.Turning.{ready-next, settled-all, sheet-up, turn-within}
 use Rattle.scr_tree.proofs.reckoning.write_in_turn.Goals as goal
+use Rattle.scr_tree.specs.Figures.{reckoning_of}
+use Rattle.scr_figures.specs.Numbers.{StandsAt}
 
 -- the number at the place of this turn
 number-at : (now numbers : List ℕ) (k end number : ℕ) → now ≡ numbers → end ≡ length numbers → k < end → number ≡ get_or now k number
@@ -19,7 +21,8 @@ figure_at-requires-clause-ready g c =
     let numbers = c.args.journal.now.numbers.items in
     let number = c.index-number.result.now in
     subst (λ figures. IsReadyOn basis figures number) (sym c.as_slice.ensures.value)
-    (ready-next basis.inputs.factors.now basis.inputs.book.now.sheet basis.places.now basis.links.now.edges (c.requires.basis).0
+    (ready-next (reckoning_of basis.inputs.factors.now basis.inputs.book.now.sheet) (StandsAt basis.inputs.book.now.sheet basis.places.now) basis.places.now.size basis.links.now.edges
+    (sheet-up basis.inputs.book.now.sheet basis.places.now basis.links.now.edges (c.requires.basis).0)
     c.loop-k.figures.items numbers c.loop-k.k number c.requires.turn
     (number-at c.loop-k.journal.numbers.items numbers c.loop-k.k c.len-k-end.result number c.loop-k.invariant.numbers
     (c.len-k-end.ensures ∙ c.args.journal.now.numbers.ok.0) c.loop-k-test.true c.index-number.ensures)
@@ -33,7 +36,8 @@ write-requires-clause-within g c =
     let long = c.loop-k.invariant.journaled.long in
     let room = c.requires.room in
     subst (All (λ n. n < length c.as_mut_slice.result.now)) (sym c.loop-k.invariant.numbers)
-    (turn-within basis.inputs.factors.now basis.inputs.book.now.sheet basis.places.now basis.links.now.edges (c.requires.basis).0 numbers
+    (turn-within (reckoning_of basis.inputs.factors.now basis.inputs.book.now.sheet) (StandsAt basis.inputs.book.now.sheet basis.places.now) basis.places.now.size basis.links.now.edges
+    (sheet-up basis.inputs.book.now.sheet basis.places.now basis.links.now.edges (c.requires.basis).0) numbers
     (length c.as_mut_slice.result.now) (omega (arith, lent, long, room)) c.requires.turn)
 
 pub loop-k-preserved : goal.loop-k-preserved
@@ -82,6 +86,7 @@ pub returns-clause-settled : goal.returns-clause-settled
 returns-clause-settled g c =
     let basis = c.args.basis in
     let end = c.len-k-end.ensures ∙ c.args.journal.now.numbers.ok.0 in
-    settled-all basis.inputs.factors.now basis.inputs.book.now.sheet basis.places.now basis.links.now.edges (c.requires.basis).0
+    settled-all (reckoning_of basis.inputs.factors.now basis.inputs.book.now.sheet) (StandsAt basis.inputs.book.now.sheet basis.places.now) basis.places.now.size basis.links.now.edges
+    (sheet-up basis.inputs.book.now.sheet basis.places.now basis.links.now.edges (c.requires.basis).0)
     c.loop-k.figures.items c.args.journal.now.numbers.items c.loop-k.k (omega (arith, end, c.loop-k-test.false))
     c.loop-k.invariant.known

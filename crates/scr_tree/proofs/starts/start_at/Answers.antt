@@ -1,6 +1,8 @@
 use Rattle.std.proofs.Common.{refl}
 use Rattle.scr_tree.proofs.StartRows.{start-dead, start-live}
 use Rattle.scr_tree.proofs.starts.start_at.Goals as goal
+use Rattle.scr_tree.specs.Graphs.{graph_of}
+use Rattle.scr_figures.specs.Numbers.{StandsAt}
 
 pub returns-in_ok-push_walked-in-Some-clause-start : goal.returns-in_ok-push_walked-in-Some-clause-start
 returns-in_ok-push_walked-in-Some-clause-start c =
@@ -9,4 +11,4 @@ returns-in_ok-push_walked-in-Some-clause-start c =
 
 pub returns-in-None-clause-start : goal.returns-in-None-clause-start
 returns-in-None-clause-start c =
-    start-dead c.args.view.sheet.now c.args.view.places.now _ c.new-sources.ensures.items (c.in-None.ensures.absent refl)
+    start-dead (graph_of c.args.view.sheet.now) (StandsAt c.args.view.sheet.now c.args.view.places.now) _ c.new-sources.ensures.items (c.in-None.ensures.absent refl)

@@ -2,16 +2,17 @@ use Rattle.std.proofs.Common.{◌≡◌, ◌||◌, refl, sym, ap, subst, ◌∙�
 use Rattle.scr_num.specs.Rounding.{ends}
 use Rattle.scr_figures.specs.Numbers.{IsNumbered, StandsAt}
 use Rattle.scr_reach.specs.Linked.{sources_in}
-use Rattle.scr_tree.specs.Figures.{opens}
+use Rattle.scr_tree.specs.Figures.{opens, reckoning_of}
 use Rattle.scr_tree.specs.Together.{any_close}
 use Rattle.scr_tree.proofs.Spanned.{right-span}
-use Rattle.scr_tree.proofs.Turning.{ready-within}
+use Rattle.scr_tree.proofs.Turning.{ready-within, sheet-up}
 use Rattle.scr_tree.proofs.together.figure_with.Goals as goal
 
 pub rests_on_choice-close-requires : goal.rests_on_choice-close-requires
 rests_on_choice-close-requires c =
     let b = c.args.basis in
-    ready-within b.inputs.factors.now b.inputs.book.now.sheet b.places.now b.links.now.edges c.requires.basis.0 c.args.figures.now
+    ready-within (reckoning_of b.inputs.factors.now b.inputs.book.now.sheet) (StandsAt b.inputs.book.now.sheet b.places.now) b.places.now.size b.links.now.edges
+    (sheet-up b.inputs.book.now.sheet b.places.now b.links.now.edges c.requires.basis.0) c.args.figures.now
     c.args.number c.requires.ready
 
 pub node_at-requires : goal.node_at-requires

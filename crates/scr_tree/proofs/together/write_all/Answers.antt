@@ -4,8 +4,10 @@ use Rattle.std.proofs.lemmas.Option.{slice_get-get_or}
 use Rattle.scr_reach.proofs.Placed.{get-contains}
 use Rattle.scr_tree.proofs.Journaled.{set-here, set-other}
 use Rattle.scr_tree.proofs.Spanned.{as-many, span-there}
-use Rattle.scr_tree.proofs.Turning.{known-next, ready-next, settled-all}
+use Rattle.scr_tree.proofs.Turning.{known-next, ready-next, settled-all, sheet-up}
 use Rattle.scr_tree.proofs.together.write_all.Goals as goal
+use Rattle.scr_tree.specs.Figures.{reckoning_of}
+use Rattle.scr_figures.specs.Numbers.{StandsAt}
 
 pub figure_with-requires-clause-ready : goal.figure_with-requires-clause-ready
 figure_with-requires-clause-ready c =
@@ -14,7 +16,8 @@ figure_with-requires-clause-ready c =
     let k = c.loop-k.k in
     let many = as-many b numbers c.args.spans.now c.requires.spans in
     let low = c.loop-k-test.true in
-    ready-next b.inputs.factors.now b.inputs.book.now.sheet b.places.now b.links.now.edges c.requires.basis.0 c.loop-k.figures numbers k
+    ready-next (reckoning_of b.inputs.factors.now b.inputs.book.now.sheet) (StandsAt b.inputs.book.now.sheet b.places.now) b.places.now.size b.links.now.edges
+    (sheet-up b.inputs.book.now.sheet b.places.now b.links.now.edges c.requires.basis.0) c.loop-k.figures numbers k
     (get_or numbers k 0) c.requires.turn (slice_get-get_or numbers k 0 (omega (arith, many, low))) c.loop-k.invariant.known
 
 pub figure_with-requires-clause-span : goal.figure_with-requires-clause-span
@@ -59,7 +62,8 @@ loop-k-preserved c =
     let room = c.requires.room in
     let long = c.loop-k.invariant.long in
     record {
-      known = known-next b.inputs.factors.now b.inputs.book.now.sheet b.places.now b.links.now.edges c.requires.basis.0 numbers k number figure
+      known = known-next (reckoning_of b.inputs.factors.now b.inputs.book.now.sheet) (StandsAt b.inputs.book.now.sheet b.places.now) b.places.now.size b.links.now.edges
+          (sheet-up b.inputs.book.now.sheet b.places.now b.links.now.edges c.requires.basis.0) numbers k number figure
           figures (set figures number figure) c.requires.turn here c.figure_with.ensures
           (set-here figures number figure (omega (arith, within, room, long))) (λ other apart. set-other figures number other figure apart)
           c.loop-k.invariant.known;
@@ -72,5 +76,6 @@ returns-clause-settled c =
     let numbers = c.args.numbers.now in
     let many = as-many b numbers c.args.spans.now c.requires.spans in
     let end = c.loop-k-test.false in
-    settled-all b.inputs.factors.now b.inputs.book.now.sheet b.places.now b.links.now.edges c.requires.basis.0 c.loop-k.figures numbers
+    settled-all (reckoning_of b.inputs.factors.now b.inputs.book.now.sheet) (StandsAt b.inputs.book.now.sheet b.places.now) b.places.now.size b.links.now.edges
+    (sheet-up b.inputs.book.now.sheet b.places.now b.links.now.edges c.requires.basis.0) c.loop-k.figures numbers
     c.loop-k.k (omega (arith, many, end)) c.loop-k.invariant.known

@@ -18,6 +18,7 @@ use Rattle.scr_tree.specs.declared.edits.Taken.{Taken}
 use Rattle.scr_tree.proofs.Edited.{taken-by}
 use Rattle.scr_tree.proofs.Followed.{recorded, taken-steps}
 use Rattle.scr_tree.proofs.engine.Engine.edit.Goals as goal
+use Rattle.scr_tree.specs.Graphs.{graph_of}
 
 -- the refusal for a fault that is due
 refuses : (due : Option Fault) (fault : Fault) (refusal : Refusal) → refusal ≡ refusal_of fault
@@ -40,7 +41,7 @@ numbers_gone-requires-clause-numbered g c =
 
 pub numbers_gone-requires-clause-numbers : goal.numbers_gone-requires-clause-numbers
 numbers_gone-requires-clause-numbers g c =
-    subst (λ sheet. AreNumbers sheet (StandsAt sheet c.self.inside.state.places) c.self.inside.state.places.size)
+    subst (λ sheet. AreNumbers (graph_of sheet) (StandsAt sheet c.self.inside.state.places) c.self.inside.state.places.size)
     (sym c.sheet-sheet.ensures.sheet) c.self.invariant.state.numbers
 
 pub take_up-requires-after_bounds : goal.take_up-requires-after_bounds

@@ -6,14 +6,14 @@ use Rattle.scr_nodes.specs.Live.{is_live}
 use Rattle.scr_numbers.specs.Ranges.{Numbered}
 use Rattle.scr_figures.specs.Numbers.{IsNumbered, StandsAt}
 use Rattle.scr_figures.proofs.Live.{live-stands}
-use Rattle.scr_tree.specs.Figures.{AreKnownOf, AreSettled, Worth, worth_at, worth_of}
+use Rattle.scr_tree.specs.Figures.{AreKnownOf, AreSettled, Worth, reckoning_of, worth_at, worth_of}
 use Rattle.scr_tree.specs.Standing.{Standing}
 use Rattle.scr_tree.specs.declared.figures.Figure.{Figure}
 use Rattle.scr_tree.proofs.engine.Engine.figure.Goals as goal
 
 -- the figure at the number of a live node is its own
 settled : (kept now : Standing) (places : Numbered) (figures : List Figure) (number : ℕ) (node : Node) → kept ≡ now
-    → AreSettled kept.factors kept.sheet (StandsAt kept.sheet places) figures → StandsAt kept.sheet places node number
+    → AreSettled (reckoning_of kept.factors kept.sheet) (StandsAt kept.sheet places) figures → StandsAt kept.sheet places node number
     → is_live now.sheet node ≡ true
     → option_map worth_of (slice_get figures number) ≡ Some (worth_at now.factors now.sheet node)
 unfolding AreKnownOf
