@@ -19,7 +19,7 @@ use Rattle.scr_sheet.specs.declared.sheet.BalanceSheet.{BalanceSheet}
 use Rattle.scr_sheet.proofs.Greatest.{greatest-le}
 use Rattle.scr_dates.proofs.LastDays.{years_at, years-last, last-on_day}
 use Rattle.scr_sheet.proofs.Projections.{every_projection}
-use Rattle.scr_tally.proofs.Blocks.{ends-own}
+use Rattle.scr_tally.proofs.ByDay.{ends-own}
 use Rattle.scr_book.specs.LastDays.{security_ends, liability_ends, lists_ending, AreDaysOf}
 use Rattle.scr_book.proofs.LastDays.{projection-le}
 

@@ -31,5 +31,6 @@ pub mod RollsDropped
 pub mod RollsLeft
 pub mod RollsOpening
 pub mod RollsAsked
+pub mod RollPlaces
 pub mod BookMoves
 pub mod Examples

@@ -11,7 +11,8 @@ use Rattle.scr_tally.specs.Users.{Tallied, Counts, Moves, IsFresh, IsUnused, use
 use Rattle.scr_sheet.specs.BalanceSheet.{position_name, stake_name, liability_name, bank_name, rein_name, held_of}
 use Rattle.scr_sheet.specs.Records.{applied, natural, kept_flows, kept_hold}
 use Rattle.scr_sheet.specs.CashFlows.{with_flows, no_flows}
-use Rattle.scr_sheet.specs.Users.{is_of_group, has_component, names_of_holders, names_in_currency, absorption_of, holder_of, user_of, first_row, unless_none}
+use Rattle.scr_sheet.specs.Members.{is_of_group}
+use Rattle.scr_sheet.specs.Users.{has_component, names_of_holders, names_in_currency, absorption_of, holder_of, user_of, first_row, unless_none}
 use Rattle.scr_sheet.specs.declared.edit.Edit.{Edit}
 use Rattle.scr_sheet.specs.declared.edit.Edit.TheVariants as edits
 use Rattle.scr_sheet.specs.declared.fault.User.{User}

@@ -1,5 +1,5 @@
 //! The book as it is kept.
-ghost use Rattle.std.specs.Prelude.{◌≡◌, ◌<◌, ◌↔◌, ℕ, List, [], None, length, map, slice_get, Some, IsNone, IfOk, OnOk, OnErr, IfSome, IsTrue, false};
+ghost use Rattle.std.specs.Prelude.{◌≡◌, ◌<◌, ◌↔◌, ℕ, List, [], None, is_some, length, map, position, slice_get, Some, IsNone, IfOk, OnOk, OnErr, IfSome, IsTrue, false};
 ghost use Rattle.std.specs.List.{IsDistinct};
 ghost use Rattle.std.specs.Option.{option_map};
 ghost use Rattle.scr_names.specs.Names.{same_name};
@@ -12,7 +12,7 @@ ghost use Rattle.scr_sheet.specs.Members.{is_member};
 ghost use Rattle.scr_sheet.specs.Validity.{Valid};
 ghost use Rattle.scr_book.specs.Places.{names_in, shares_names};
 ghost use Rattle.scr_book.specs.RolledSheets.{AreRolled, AreStill};
-ghost use Rattle.scr_book.specs.Rolls.{roll_of, roll_back, standing_of, CanGoBack};
+ghost use Rattle.scr_book.specs.Rolls.{AreRollsOf, CanGoBack, number_of_roll, roll_back, roll_of, standing_of};
 ghost use Rattle.scr_sheet.specs.declared.roll.Roll.{Roll as TheRoll};
 
 use crate::checks::checked;
@@ -24,6 +24,7 @@ use crate::{
     BalanceSheet, Bank, Curve, Edit, Fault, Fund, Group, Liability, Name, Numbers, Rein, Roll,
     Security, Table,
 };
+use scr_rolls::Seating;
 use std::alloc::{AllocError as NoMemory, Global};
 use std::marker::Model;
 use std::mem::drop;
@@ -320,6 +321,55 @@ impl Book {
         ensures members { (name : List ℕ) → has name (roll_of roll self.now.rolls) ≡ is_member roll name self.now.sheet }
     {
         self.rolls.roll(roll)
+    }
+
+    /// The number of a list among those of the table whose rows its members are. A list of a group or of a currency has one from its
+    /// first member on; the bonds have that of their class.
+    pub fn roll_number(&self, roll: Roll) -> Option<u32>
+        ensures number { result ≡ number_of_roll roll self.now.rolls }
+        ensures kept { AreRollsOf self.now.sheet self.now.rolls }
+    {
+        self.rolls.number(roll)
+    }
+
+    /// The place of a name in a list, if it is a member. The cost is that of a look-up of its row, however long the list is.
+    pub fn place(&self, roll: Roll, name: &Name) -> Option<u32>
+        ensures place { result ≡ position (same_name name.now) (roll_of roll self.now.rolls) }
+        ensures member { is_some result ≡ is_member roll name.now self.now.sheet }
+    {
+        self.rolls.place(self.ledger.sheet(), roll, name)
+    }
+
+    /// Where the securities stand in their lists, by the numbers of these.
+    pub fn security_seats(&self) -> &Seating<5>
+        ensures seats { result.now ≡ self.now.rolls.securities }
+        ensures kept { AreRollsOf self.now.sheet self.now.rolls }
+    {
+        &self.rolls.securities
+    }
+
+    /// Where the funds stand in their list.
+    pub fn fund_seats(&self) -> &Seating<1>
+        ensures seats { result.now ≡ self.now.rolls.funds }
+        ensures kept { AreRollsOf self.now.sheet self.now.rolls }
+    {
+        &self.rolls.funds
+    }
+
+    /// Where the liabilities stand in their lists, by the numbers of these.
+    pub fn liability_seats(&self) -> &Seating<11>
+        ensures seats { result.now ≡ self.now.rolls.liabilities }
+        ensures kept { AreRollsOf self.now.sheet self.now.rolls }
+    {
+        &self.rolls.liabilities
+    }
+
+    /// Where the groups stand in their list.
+    pub fn group_seats(&self) -> &Seating<1>
+        ensures seats { result.now ≡ self.now.rolls.groups }
+        ensures kept { AreRollsOf self.now.sheet self.now.rolls }
+    {
+        &self.rolls.groups
     }
 
     /// The tables and the numbers, to look up and to walk.

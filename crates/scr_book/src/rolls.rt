@@ -1,20 +1,21 @@
 //! The member lists of the large sums, as the book keeps them beside its rows.
-ghost use Rattle.std.specs.Prelude.{◌≡◌, ◌≢◌, ℕ, ℤ, ◌+◌, ◌<◌, ◌≤◌, ◌==◌, ◌++◌, true, false, [], ◌∷◌, Option, Some, None, IfOk, IfSome, OnErr, if◌then◌else◌, is_some, length, map, slice_index_or};
+ghost use Rattle.std.specs.Prelude.{◌≡◌, ◌≢◌, ℕ, ℤ, ◌+◌, ◌<◌, ◌≤◌, ◌==◌, ◌++◌, true, false, [], ◌∷◌, Option, Some, None, IfOk, IfSome, OnErr, if◌then◌else◌, is_some, length, map, position, slice_index_or};
 ghost use Rattle.std.specs.Option.{option_map, option_map_or};
+ghost use Rattle.scr_names.specs.Names.{same_name};
 ghost use Rattle.scr_names.specs.Tables.{has_row, row_of};
 ghost use Rattle.scr_profile.specs.declared.group_kind.GroupKind.{GroupKind};
 ghost use Rattle.scr_rolls.specs.Members.{has, moved};
 ghost use Rattle.scr_rolls.specs.Owned.{number_of};
-ghost use Rattle.scr_rolls.specs.Seatings.{NOWHERE, AreSeated, AwaitsSeats, IsFor, KeepsRoom, KeepsSeats, names_of, roll_in, room_of, seat_of, seats_of, target};
+ghost use Rattle.scr_rolls.specs.Seatings.{NOWHERE, AreSeated, AwaitsSeats, IsFor, KeepsRoom, KeepsSeats, names_of, roll_in, room_of, seat_of, seats_of, stood, target};
 ghost use Rattle.scr_sheet.specs.BalanceSheet.{liability_name, opening, position_of};
 ghost use Rattle.scr_sheet.specs.CashFlows.{all_projections};
-ghost use Rattle.scr_sheet.specs.Members.{edit_name, has_flows};
+ghost use Rattle.scr_sheet.specs.Members.{edit_name, has_flows, table_of};
 ghost use Rattle.scr_sheet.specs.Validity.{Valid};
 ghost use Rattle.scr_sheet.specs.declared.sheet.BalanceSheet.{BalanceSheet as Sheet};
 ghost use Rattle.scr_sheet.specs.declared.roll.Roll.{Roll as List_of};
 ghost use Rattle.scr_book.specs.Sums.{place_of};
 ghost use Rattle.scr_book.specs.Verbs.{takes_no_memory};
-ghost use Rattle.scr_book.specs.Rolls.{AreKept, AreRollsOf, Await, CanGoBack, CanRegain, GivesNumber, GroupNumber, HaveReturned, IsPrepared, IsRegained, IsReturning, IsSettled, IsTaken, KeptRolls, class_number, kind_number, liability_rolls, moves_in, roll_of, same_table, security_rolls, standing_of};
+ghost use Rattle.scr_book.specs.Rolls.{AreKept, AreRollsOf, Await, CanGoBack, CanRegain, GivesNumber, GroupNumber, HaveReturned, IsPrepared, IsRegained, IsReturning, IsSettled, IsTaken, KeptRolls, class_number, kind_number, liability_rolls, moves_in, number_of_roll, roll_of, same_table, seat_of_roll, security_rolls, standing_of, stands_in};
 
 use crate::recent::recent_place;
 use crate::sums::place_of;
@@ -57,10 +58,10 @@ const FIRST: [usize; 1] = [0];
 /// The rolls of a book, by the table of their members, with the seats of its rows.
 #[derive(Drop)]
 pub(crate) struct Rolls {
-    securities: Seating<5>,
-    funds: Seating<1>,
-    liabilities: Seating<11>,
-    groups: Seating<1>,
+    pub(crate) securities: Seating<5>,
+    pub(crate) funds: Seating<1>,
+    pub(crate) liabilities: Seating<11>,
+    pub(crate) groups: Seating<1>,
     /// The numbers of the rolls of a group's securities.
     of_groups: Owners,
     /// The first numbers of the two rolls of a currency's securities: of all, and of those with payments.
@@ -140,6 +141,53 @@ impl Rolls {
                 .roll(first_loss(kind) + place_of(projection) as u32),
             Roll::Closed => self.funds.roll(CLOSED),
             Roll::Groups => self.groups.roll(GROUPS),
+        }
+    }
+
+    /// The number of a roll among those of its table; none where its owner never had one.
+    pub(crate) fn number(&self, roll: Roll) -> Option<u32>
+        requires { (sheet : Sheet) × AreRollsOf sheet self.now }
+        ensures { result ≡ number_of_roll roll self.now }
+    {
+        match roll {
+            Roll::Class(class) => Some(class_number(class)),
+            Roll::Bonds => Some(class_number(Class::Bond)),
+            Roll::Grouped => Some(GROUPED),
+            Roll::Group(group) => self.of_groups.number(&group),
+            Roll::Assets(currency) => self.of_assets.number(&currency),
+            Roll::Flows(currency) => match self.of_assets.number(&currency) {
+                Some(number) => Some(number + 1),
+                None => None,
+            },
+            Roll::Lines(currency) => self.of_lines.number(&currency),
+            Roll::Losses(kind, projection) => Some(first_loss(kind) + place_of(projection) as u32),
+            Roll::Closed => Some(CLOSED),
+            Roll::Groups => Some(GROUPS),
+        }
+    }
+
+    /// The place of a name in a roll, if it is a member: the seats of its row say it.
+    pub(crate) fn place(&self, sheet: &BalanceSheet, roll: Roll, name: &Name) -> Option<u32>
+        requires valid { Valid sheet.now }
+        requires rolls { AreRollsOf sheet.now self.now }
+        ensures { result ≡ position (same_name name.now) (roll_of roll self.now) }
+    {
+        let number = self.number(roll)?;
+        let seats = self.row_seats(sheet, &roll, name)?;
+        stood(&seats, seat_of_roll(&roll), number)
+    }
+
+    // The seats of the row of a name in the table of a roll's members, if the row is there.
+    fn row_seats(&self, sheet: &BalanceSheet, roll: &Roll, name: &Name) -> Option<Seats>
+        requires { AreRollsOf sheet.now self.now }
+        ensures { result ≡ (stands_in (table_of roll.now) name.now sheet.now self.now).seats }
+    {
+        match roll.table() {
+            Table::Security => seats_at(&self.securities, &sheet.securities, name),
+            Table::Fund => seats_at(&self.funds, &sheet.funds, name),
+            Table::Liability => seats_at(&self.liabilities, &sheet.liabilities, name),
+            Table::Group => seats_at(&self.groups, &sheet.groups, name),
+            Table::Bank | Table::Rein | Table::Curve => None,
         }
     }
 
@@ -544,6 +592,34 @@ fn seats_at<R: Row, const N: usize>(
     let _count = rows.len();
     let place = rows.place(name)?;
     Some(seating.seats(place))
+}
+
+// The place of one with these seats in a roll of a seat, if it stands there.
+fn stood(seats: &Seats, seat: usize, number: u32) -> Option<u32>
+    requires { seat < 11 }
+    ensures { result ≡ stood seat number seats.now }
+{
+    if seats.roll(seat) == number {
+        Some(seats.place(seat))
+    } else {
+        None
+    }
+}
+
+// The seat in which its members have a roll.
+fn seat_of_roll(roll: &Roll) -> usize
+    ensures seat { result ≡ seat_of_roll roll.now }
+    ensures few { result < 11 }
+{
+    match roll {
+        Roll::Class(_) | Roll::Bonds | Roll::Closed | Roll::Groups => 0,
+        Roll::Grouped => 1,
+        Roll::Group(_) => OF_GROUP,
+        Roll::Assets(_) => OF_ASSETS,
+        Roll::Flows(_) => OF_FLOWS,
+        Roll::Lines(_) => OF_LINES,
+        Roll::Losses(_, projection) => place_of(*projection),
+    }
 }
 
 fn class_number(class: Class) -> u32

@@ -5,3 +5,7 @@ pub mod Owners
 pub mod Moving
 pub mod Fronts
 pub mod Members
+pub mod Filled
+pub mod Followed
+pub mod Freed
+pub mod PartNumbered

@@ -2,3 +2,6 @@ pub mod Parts
 pub mod Moves
 pub mod Kept
 pub mod Firsts
+pub mod Filling
+pub mod Following
+pub mod PartNumbers

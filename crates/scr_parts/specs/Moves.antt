@@ -1,7 +1,8 @@
 -- What parts that come and go change of the slots (this project's own): no part has another slot than before, and taking back takes no
 -- memory.
-use Rattle.std.specs.Prelude.{◌≡◌, ◌≢◌, ℕ, ◌+◌, ◌≤◌, ◌^◌, ◌++◌, ◌∷◌, List, [], Some, length}
+use Rattle.std.specs.Prelude.{◌≡◌, ◌≢◌, ℕ, ◌+◌, ◌≤◌, ◌^◌, ◌++◌, ◌∷◌, List, [], Some, length, reverse}
 use Rattle.scr_blocks.specs.declared.blocks.Level.{Level}
+use Rattle.scr_blocks.specs.declared.blocks.Level.TheVariants as levels
 use Rattle.scr_parts.specs.Parts.{FREE, Parted, NumberList, count_of, key_of, list_at, room_in, size_of, slot_of, slots_in}
 use Rattle.scr_parts.specs.declared.parts.Part.{Part}
 
@@ -48,6 +49,21 @@ pub record IsFront (key : ℕ) (shorter longer : Parted) : Type 0 where
 -- a part came, last of its list's: with the slot that was free last, or with a new one where none was
 abbrev pub Came : ℕ → Level → Parted → Parted → Type 0
 Came list level before now = IsFront (key_of list level) before now × (count_of list level now ≡ count_of list level before + 1)
+
+-- The last parts of a list went, so many of them, and their slots are free, each behind those that went before it. Read the other way, so many
+-- parts came, each with the slot that was free last.
+pub record Freed (key many : ℕ) (before now : Parted) : Type 0 where
+  pub freed : List ℕ
+  pub count : length freed ≡ many
+  pub left : slots_in key before ≡ slots_in key now ++ reverse freed
+  pub free : slots_in FREE now ≡ slots_in FREE before ++ freed
+  pub others : (other : ℕ) → other ≢ key → other ≢ FREE → slots_in other now ≡ slots_in other before
+
+-- so many of the first level, and then so many of the second
+pub record HaveGone (list firsts seconds : ℕ) (before now : Parted) : Type 0 where
+  pub between : Parted
+  pub one : Freed (key_of list levels.First) firsts before between
+  pub two : Freed (key_of list levels.Second) seconds between now
 
 -- ---- the lists alone
 

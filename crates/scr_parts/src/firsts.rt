@@ -1,8 +1,9 @@
 //! The first numbers of members, beside the lists.
 ghost use Rattle.std.specs.Prelude.{◌≡◌, ℕ, ◌<◌, ◌≤◌, [], length, OnOk};
+ghost use Rattle.scr_parts.specs.Filling.{IsWritten};
 ghost use Rattle.scr_parts.specs.Firsts.{Becomes, back_at, firsts_in, joined, left, room_beside};
 
-use crate::numbers::{Numbers, leave, make_room, put_back, put_last};
+use crate::numbers::{Numbers, leave, make_room, put_back, put_last, write};
 use std::alloc::{AllocError as NoMemory, Global};
 use std::marker::Model;
 
@@ -72,5 +73,18 @@ impl Firsts {
         ensures { Becomes list (back_at place first (firsts_in list self.old)) self.old self.new }
     {
         put_back(&mut self.lists, list as usize, place, first);
+    }
+
+    /// A number stands at a place of a list, which is as long as that takes.
+    pub(crate) fn write(
+        &mut self,
+        alloc: Global,
+        list: u32,
+        place: u32,
+        first: u32,
+    ) -> Result<(), NoMemory>
+        ensures { OnOk result (IsWritten list place first self.old self.new) }
+    {
+        write(&mut self.lists, alloc, list as usize, place, first)
     }
 }

@@ -3,7 +3,7 @@ ghost use Rattle.std.specs.Prelude.{◌≡◌, ◌≢◌, ℕ, ◌<◌, ◌≤�
 ghost use Rattle.scr_rolls.specs.Members as members;
 ghost use Rattle.scr_parts.specs.Firsts.{back_at, joined, left};
 ghost use Rattle.scr_parts.specs.Parts.{AreOwn, FREE, Parted, part_at, slot_of, slots_in};
-ghost use Rattle.scr_parts.specs.Moves.{Moved};
+ghost use Rattle.scr_parts.specs.Moves.{HaveGone, Moved};
 ghost use Rattle.scr_parts.specs.declared.parts.Part.{Part};
 
 use crate::{Firsts, Part, Parts};
@@ -17,6 +17,12 @@ pub fn apart()
 /// A slot that left a list and goes back leaves each list as it was.
 pub fn moves_back()
     ensures { (from to : ℕ) (before between after : Parted) → Moved from to before between → Moved to from between after
+        → (key : ℕ) → slots_in key after ≡ slots_in key before }
+{}
+
+/// Parts that went and come back, as many on each level, have the slots that they had, and no other part has another one.
+pub fn comes_back()
+    ensures { (list firsts seconds : ℕ) (before now after : Parted) → HaveGone list firsts seconds before now → HaveGone list firsts seconds after now
         → (key : ℕ) → slots_in key after ≡ slots_in key before }
 {}
 

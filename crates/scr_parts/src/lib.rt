@@ -2,9 +2,12 @@
 //! what a slot stands for, is no matter of this crate: a list is told by a number. Beside the lists stand the first numbers of their members.
 #![tactic(auto)]
 
+mod filling;
 mod firsts;
+mod following;
 pub mod laws;
 mod numbers;
+mod part_numbers;
 mod parts;
 
 pub use firsts::Firsts;

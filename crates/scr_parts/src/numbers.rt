@@ -1,5 +1,5 @@
 //! One list of numbers.
-ghost use Rattle.std.specs.Prelude.{◌≡◌, ◌+◌, ◌<◌, ◌≤◌, ◌++◌, ◌∷◌, [], length, OnOk};
+ghost use Rattle.std.specs.Prelude.{◌≡◌, ◌≢◌, ℕ, ◌+◌, ◌-◌, ◌<◌, ◌≤◌, ◌++◌, ◌∷◌, [], length, replicate, slice_set, OnOk};
 ghost use Rattle.scr_parts.specs.Parts.{list_at};
 ghost use Rattle.scr_parts.specs.Firsts.{back_at, left};
 ghost use Rattle.scr_parts.specs.Moves.{AreOthers, Roomier};
@@ -82,6 +82,21 @@ impl Numbers {
             Some(number) => number,
             None => unreachable!(),
         }
+    }
+
+    /// A number stands at a place. Before it stand as many numbers as that takes.
+    fn write(&mut self, place: u32, number: u32) -> Result<(), NoMemory>
+        ensures { OnOk result (self.new.items
+            ≡ slice_set (self.old.items ++ replicate (place + 1 - length self.old.items) 0) place number) }
+    {
+        let size = self.numbers.len();
+        let most = size.max(place as usize + 1);
+        if most > MOST {
+            return Err(NoMemory);
+        }
+        self.numbers.resize(most, 0)?;
+        self.numbers[place as usize] = number;
+        Ok(())
     }
 
     /// The one at a place leaves, and the last takes its place. There is room for one more.
@@ -179,4 +194,20 @@ pub(crate) fn put_back(lists: &mut Vec<Numbers>, key: usize, place: u32, number:
     ensures others { AreOthers key lists.old.items lists.new.items }
 {
     lists[key].put_back(place, number);
+}
+
+/// A number stands at a place of a list, which is as long as that takes.
+pub(crate) fn write(
+    lists: &mut Vec<Numbers>,
+    alloc: Global,
+    key: usize,
+    place: u32,
+    number: u32,
+) -> Result<(), NoMemory>
+    ensures items { OnOk result ((list_at key lists.new.items).items
+        ≡ slice_set ((list_at key lists.old.items).items ++ replicate (place + 1 - length (list_at key lists.old.items).items) 0) place number) }
+    ensures others { OnOk result ((other : ℕ) → other ≢ key → (list_at other lists.new.items).items ≡ (list_at other lists.old.items).items) }
+{
+    reach(lists, alloc, key)?;
+    lists[key].write(place, number)
 }

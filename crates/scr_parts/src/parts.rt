@@ -1,9 +1,11 @@
 //! The parts of all lists, and their slots.
-ghost use Rattle.std.specs.Prelude.{◌≡◌, ◌≢◌, ℕ, ◌+◌, ◌<◌, ◌≤◌, ◌^◌, ◌++◌, ◌∷◌, [], length, max, min, nat_eq, slice_set, IfOk, OnOk, OnErr};
+ghost use Rattle.std.specs.Prelude.{◌≡◌, ◌≢◌, ℕ, ◌+◌, ◌-◌, ◌<◌, ◌≤◌, ◌^◌, ◌++◌, ◌∷◌, [], length, max, min, nat_eq, slice_set, IfOk, OnOk, OnErr, Some};
 ghost use Rattle.scr_blocks.specs.Blocks.{blocks_at};
 ghost use Rattle.scr_blocks.specs.declared.blocks.Level.{Level};
+ghost use Rattle.scr_blocks.specs.declared.blocks.Level.TheVariants as levels;
 ghost use Rattle.scr_parts.specs.Parts.{FREE, AreOwn, count_of, key_of, list_at, part_at, part_of, room_in, size_of, slot_of, slots_in, slots_of};
-ghost use Rattle.scr_parts.specs.Moves.{AreSame, Came, IsFront, KeepsOthers, KeepsParts, Made, Moved};
+ghost use Rattle.scr_parts.specs.declared.parts.Part.{Part as ThePart};
+ghost use Rattle.scr_parts.specs.Moves.{AreSame, Came, Freed, HaveGone, IsFront, KeepsOthers, KeepsParts, KeepsRoom, Made, Moved};
 
 use crate::numbers::{Numbers, make_room, put_last, room_for, take_last};
 use scr_blocks::{Level, blocks_at};
@@ -68,6 +70,7 @@ impl Parts {
     pub fn len(&self) -> u32
         ensures size { result ≡ size_of self.now }
         ensures own { AreOwn self.now }
+        ensures lists { (part : ThePart) (slot : ℕ) → slot_of part self.now ≡ Some slot → part.list < 2 ^ 31 }
     {
         self.owner.as_slice().len() as u32
     }
@@ -120,11 +123,31 @@ impl Parts {
     /// The parts that a list of so many members has no more go, from the last on. It takes no memory, so it takes back what came.
     pub fn shrink(&mut self, list: u32, members: usize)
         ensures count { (level : Level) → count_of list level self.new ≡ min (count_of list level self.old) (blocks_at members level) }
+        ensures gone { HaveGone list (count_of list levels.First self.old - blocks_at members levels.First)
+            (count_of list levels.Second self.old - blocks_at members levels.Second) self.old self.new }
+        ensures room { KeepsRoom self.old self.new }
         ensures others { KeepsOthers list self.old self.new }
         ensures kept { KeepsParts self.new self.old }
     {
         self.cut(list, Level::First, blocks_at(members, Level::First));
         self.cut(list, Level::Second, blocks_at(members, Level::Second));
+    }
+
+    /// The parts of a list that has so many members again come back, as many as it has Blocks, each with the slot that was free last. It
+    /// takes no memory: there are slots and room where parts went. So it takes back what went, and each part has the slot that it had.
+    pub fn grow_back(&mut self, list: u32, members: usize)
+        requires free { (blocks_at members levels.First - count_of list levels.First self.old)
+            + (blocks_at members levels.Second - count_of list levels.Second self.old) ≤ length (slots_in FREE self.old) }
+        requires room { (level : Level) → blocks_at members level ≤ count_of list level self.old + room_in (key_of list level) self.old }
+        ensures count { (level : Level) → count_of list level self.new ≡ max (count_of list level self.old) (blocks_at members level) }
+        ensures gone { HaveGone list (blocks_at members levels.First - count_of list levels.First self.old)
+            (blocks_at members levels.Second - count_of list levels.Second self.old) self.new self.old }
+        ensures room { KeepsRoom self.old self.new }
+        ensures others { KeepsOthers list self.old self.new }
+        ensures kept { KeepsParts self.old self.new }
+    {
+        self.regain(list, Level::Second, blocks_at(members, Level::Second));
+        self.regain(list, Level::First, blocks_at(members, Level::First));
     }
 
     /// The last part of a list goes, and its slot is free, the last of the free ones. It takes no memory.
@@ -186,10 +209,27 @@ impl Parts {
         Ok(())
     }
 
+    // Parts of a level come back until there are so many.
+    fn regain(&mut self, list: u32, level: Level, many: usize)
+        requires free { many - count_of list level self.old ≤ length (slots_in FREE self.old) }
+        requires room { many ≤ count_of list level self.old + room_in (key_of list level) self.old }
+        ensures count { count_of list level self.new ≡ max (count_of list level self.old) many }
+        ensures front { IsFront (key_of list level) self.old self.new }
+        ensures gone { Freed (key_of list level) (many - count_of list level self.old) self.new self.old }
+        ensures room { KeepsRoom self.old self.new }
+    {
+        let more = many.saturating_sub(self.count(list, level));
+        for _ in 0..more {
+            self.go_back(list, level);
+        }
+    }
+
     // Parts of a level go until there are no more than so many.
     fn cut(&mut self, list: u32, level: Level, many: usize)
         ensures count { count_of list level self.new ≡ min (count_of list level self.old) many }
         ensures front { IsFront (key_of list level) self.new self.old }
+        ensures gone { Freed (key_of list level) (count_of list level self.old - many) self.old self.new }
+        ensures room { KeepsRoom self.old self.new }
     {
         let fewer = self.count(list, level).saturating_sub(many);
         for _ in 0..fewer {

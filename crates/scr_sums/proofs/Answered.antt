@@ -1,15 +1,15 @@
 -- What the calls that tell of turns and of what a record touches rest on.
-use Rattle.std.proofs.Common.{IfOk, OnOk, Result, Ok, Err, ◌≡◌, ◌↔◌, ℕ, ◌≤◌, Bool, true, false, cond, ltb, Contains, List, [], Option, Some, None, is_some, length, not, position, refl, sym, ap, ap₂, subst, ◌∙◌, arith}
+use Rattle.std.proofs.Common.{IfOk, OnOk, Result, Ok, Err, ◌≡◌, ◌↔◌, ℕ, Bool, true, false, cond, ltb, Contains, List, [], Option, Some, None, is_some, length, position, refl, sym, ap, ap₂, subst, ◌∙◌, arith}
 use Rattle.std.specs.List.{position_or_len}
 use Rattle.std.specs.Option.{option_or}
 use Rattle.std.proofs.lemmas.Bool.Decides.{nat_tests}
-use Rattle.std.proofs.lemmas.List.Sums.{prefix_len-le-length}
 use Rattle.std.proofs.lemmas.Option.{same_Some}
 use Rattle.scr_factors.specs.Values.{FactorValues}
 use Rattle.scr_names.specs.Names.{same_name}
 use Rattle.scr_rolls.specs.Members.{has}
 use Rattle.scr_blocks.specs.Blocks.{HasEachOnce}
 use Rattle.scr_book.specs.RolledSheets.{RolledSheet}
+use Rattle.scr_book.specs.Rolls.{roll_of as names_in}
 use Rattle.scr_changes.specs.Changes.{after}
 use Rattle.scr_changes.specs.declared.change.Change.{Change}
 use Rattle.scr_sheet.specs.Faults.{cycle, fault_of, fields_outside, in_use, list_fault, sheet_outside, unknown_name, wrong_kind}
@@ -17,7 +17,7 @@ use Rattle.scr_sheet.specs.Forms.{Formed}
 use Rattle.scr_sheet.specs.Members.{edit_name, is_member}
 use Rattle.scr_sheet.specs.Records.{applied}
 use Rattle.scr_sheet.specs.Validity.{Valid}
-use Rattle.scr_sheet.specs.declared.{edit.Edit.Edit, sheet.BalanceSheet.BalanceSheet}
+use Rattle.scr_sheet.specs.declared.{edit.Edit.Edit, roll.Roll.Roll, sheet.BalanceSheet.BalanceSheet}
 use Rattle.scr_sheet.proofs.Preserved.{Valid-applied}
 use Rattle.scr_nodes.specs.Changed.{IsChanged}
 use Rattle.scr_nodes.specs.LiveNodes.{HasNoRepeats}
@@ -45,18 +45,6 @@ position-is p xs k found = by (ltb (position_or_len p xs) (length xs)) refl
     by : (t : Bool) → ltb (position_or_len p xs) (length xs) ≡ t → k ≡ position_or_len p xs
     by true e = sym (same_Some (position_or_len p xs) k (at true e))
     by false e = let never : None ≡ Some k = at false e in absurd (cc)
-
-pub position-none : {X : Type 0} (p : X → Bool) (xs : List X) → position p xs ≡ None → length xs ≡ position_or_len p xs
-position-none p xs none = by (ltb (position_or_len p xs) (length xs)) refl
-  where
-    at : (t : Bool) → ltb (position_or_len p xs) (length xs) ≡ t → cond t (Some (position_or_len p xs)) None ≡ None
-    at t e = ap (λ s. cond s (Some (position_or_len p xs)) None) (sym e) ∙ none
-
-    by : (t : Bool) → ltb (position_or_len p xs) (length xs) ≡ t → length xs ≡ position_or_len p xs
-    by true e = let never : Some (position_or_len p xs) ≡ None = at true e in absurd (cc)
-    by false e =
-        let past : length xs ≤ position_or_len p xs = grind (arith, nat_tests, e) in
-        omega (arith, past, prefix_len-le-length (λ x. not (p x)) xs)
 
 -- ---- turns
 
@@ -90,6 +78,26 @@ step-within edit book sum own =
     by true true known = tt
     by false true known = tt
     by false false known = tt
+
+-- what a book tells of the row's place tells of the list
+module _ (book : RolledSheet) (sum : Sum) (name : List ℕ) (later : BalanceSheet) (roll : Roll) (own : roll ≡ roll_of sum) (found : Option ℕ)
+    (placed : found ≡ position (same_name name) (names_in roll book.rolls)) (member : is_some found ≡ is_member roll name book.sheet) (is : Bool)
+    (told : is ≡ is_member (roll_of sum) name later) where
+  was-told : (was : Bool) → is_some found ≡ was → was ≡ is_member (roll_of sum) name book.sheet
+  was-told was e = sym e ∙ member ∙ ap (λ r. is_member r name book.sheet) own
+
+  pub step-left : (place : ℕ) → found ≡ Some place
+      → step_of true is place ≡ step_of (is_member (roll_of sum) name book.sheet) (is_member (roll_of sum) name later)
+      (position_or_len (same_name name) (roll_in (rolled_of book) sum))
+  step-left place e =
+      ap (λ was. step_of was is place) (was-told true (ap is_some e))
+      ∙ ap₂ (λ (i : Bool) (p : ℕ). step_of (is_member (roll_of sum) name book.sheet) i p) told
+      (position-is (same_name name) (roll_in (rolled_of book) sum) place (ap (λ r. position (same_name name) (names_in r book.rolls)) (sym own) ∙ sym placed ∙ e))
+
+  pub step-joined : found ≡ None → (place : ℕ)
+      → step_of false is place ≡ step_of (is_member (roll_of sum) name book.sheet) (is_member (roll_of sum) name later) place
+  step-joined e place =
+      ap₂ (λ (was i : Bool). step_of was i place) (was-told false (ap is_some e)) told
 
 -- ---- records with a fault
 

@@ -58,10 +58,19 @@ first-live sheet node sum e = by node e ∙ ap (λ s. option_map_or (reads sheet
     by (nodes.Whole (wholes.BioScenario biometric projection measures.Gross)) e = refl
     by node e = absurd (cc)
 
+pub second-live : (sheet : BalanceSheet) (node : Node) (sum : Sum) → second_sum node ≡ Some sum → is_live sheet node ≡ reads sheet sum
+second-live sheet node sum e = by node e ∙ ap (λ s. option_map_or (reads sheet) s (is_live sheet node)) e
+  where
+    by : (node : Node) → second_sum node ≡ Some sum → is_live sheet node ≡ option_map_or (reads sheet) (second_sum node) (is_live sheet node)
+    by (nodes.Currency currency (of_currencies.Loss direction)) e = refl
+    by (nodes.Currency currency (of_currencies.Scenario direction measures.Gross)) e = refl
+    by (nodes.Whole (wholes.ClassSum classes.Type2Equity)) e = refl
+    by node e = absurd (cc)
+
 -- ---- the members of a sum are told by the figures that it lists
 
 module _ (sheet : BalanceSheet) (valid : Valid sheet) (sum : Sum) (name : List ℕ) where
-  to-listed : is_member (roll_of sum) name sheet ≡ true → IsMember (member_of sum name) (listed sheet (Some sum))
+  pub to-listed : is_member (roll_of sum) name sheet ≡ true → IsMember (member_of sum name) (listed sheet (Some sum))
   to-listed member =
       IsMember-mapped (member_of sum) (names_listed sheet sum) name
       (named name (names_listed sheet sum) (listed-members sheet valid sum name ∙ member))
@@ -161,14 +170,14 @@ module _ (factors : FactorValues) (edit : Edit) (book : Rolled) (node : Node) (n
   abbrev plain : Rolled
   plain = applied_in edit book
 
-  plain-in : IsSame factors book.sheet plain.sheet node → IsSameIn factors book plain (points.Figure node)
+  pub plain-in : IsSame factors book.sheet plain.sheet node → IsSameIn factors book plain (points.Figure node)
   plain-in same = record {
     live = same.live;
     own = own-plain factors book node none ∙ same.own ∙ sym (own-plain factors plain node none);
     sources = sources-plain book node none ∙ ap (map points.Figure) same.sources ∙ sym (sources-plain plain node none);
   }
 
-  plain-out : IsSameIn factors book plain (points.Figure node) → IsSame factors book.sheet plain.sheet node
+  pub plain-out : IsSameIn factors book plain (points.Figure node) → IsSame factors book.sheet plain.sheet node
   plain-out same = record {
     live = same.live;
     own = sym (own-plain factors book node none) ∙ same.own ∙ own-plain factors plain node none;
@@ -236,16 +245,7 @@ module _ (factors : FactorValues) (edit : Edit) (book : Rolled) (valid : Valid b
     second-in : (second : Option Sum) → second_sum node ≡ second → is_live book.sheet node ≡ is_live later.sheet node
         → tops_of book second ≡ tops_of later second → option_map_or moves (turn_at edit book second) false ≡ false
     second-in None e live tops = refl
-    second-in (Some s) e live tops = stays-in s (have s (inr e)) (sym (second-live book.sheet s e) ∙ live ∙ second-live later.sheet s e) tops
-      where
-        second-live : (sheet : BalanceSheet) (s : Sum) → second_sum node ≡ Some s → is_live sheet node ≡ reads sheet s
-        second-live sheet s e = by node e ∙ ap (λ o. option_map_or (reads sheet) o (is_live sheet node)) e
-          where
-            by : (node : Node) → second_sum node ≡ Some s → is_live sheet node ≡ option_map_or (reads sheet) (second_sum node) (is_live sheet node)
-            by (nodes.Currency currency (of_currencies.Loss direction)) e = refl
-            by (nodes.Currency currency (of_currencies.Scenario direction measures.Gross)) e = refl
-            by (nodes.Whole (wholes.ClassSum classes.Type2Equity)) e = refl
-            by node e = absurd (cc)
+    second-in (Some s) e live tops = stays-in s (have s (inr e)) (sym (second-live book.sheet node s e) ∙ live ∙ second-live later.sheet node s e) tops
 
     -- it is the same exactly where none moves
     pub still-same : is_kept edit book node ≡ false → IsSameIn factors book later (points.Figure node)
@@ -265,7 +265,7 @@ module _ (factors : FactorValues) (edit : Edit) (book : Rolled) (valid : Valid b
         (second-in (second_sum node) refl same.live tops.1)
 
   -- and it changes in the graph of the balance sheet where it changes in that of the book
-  plain-same : (node : Node) → is_some (first_sum node) ≡ true → IsSame factors book.sheet later.sheet node → IsSameIn factors book later (points.Figure node)
+  pub plain-same : (node : Node) → is_some (first_sum node) ≡ true → IsSame factors book.sheet later.sheet node → IsSameIn factors book later (points.Figure node)
   plain-same node summed same = (summed-same factors book later node summed same.live).1 (both-tops edit book valid now node summed same.sources)
 
   pub kept-told : (told : List Node) → HaveRolls book told → (node : Node) → Contains told node ↔ IsChanged factors book.sheet later.sheet node

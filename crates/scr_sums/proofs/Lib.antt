@@ -25,3 +25,7 @@ pub mod Answered
 pub mod BlockNumbers
 pub mod ListNumbers
 pub mod Plain
+pub mod Untouched
+pub mod SumsAt
+pub mod Numbered
+pub mod ReadSums

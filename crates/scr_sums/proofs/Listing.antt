@@ -126,7 +126,7 @@ abbrev is_figure : Point → ℕ
 is_figure (points.Figure node) = 1
 is_figure (points.Block block) = 0
 
-one-reads : (a b x y : Bool) → IsTrue ((a && x) || (b && y)) → IsTrue (a || b)
+pub one-reads : (a b x y : Bool) → IsTrue ((a && x) || (b && y)) → IsTrue (a || b)
 one-reads true b x y h = refl
 one-reads false true x y h = refl
 one-reads false false x y h = absurd (cc)

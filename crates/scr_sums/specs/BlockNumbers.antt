@@ -1,6 +1,6 @@
 -- The numbers of Blocks (this project's own): each part of a member list has a row of numbers, one for each sum that runs over the list. So
 -- the Blocks of two sums over one list, which span the same members, stand in one row.
-use Rattle.std.specs.Prelude.{◌≡◌, ℕ, ◌+◌, ◌*◌, ◌<◌, ◌≤◌, Option, Some, length}
+use Rattle.std.specs.Prelude.{◌≡◌, ℕ, ◌+◌, ◌*◌, ◌<◌, ◌≤◌, ◌==◌, ◌&&◌, Option, Some, None, if◌then◌else◌, length}
 use Rattle.scr_blocks.specs.Blocks.{blocks_at}
 use Rattle.scr_blocks.specs.declared.blocks.Level.{Level}
 use Rattle.scr_numbers.specs.Ranges.{IsAt, Numbered, count, first}
@@ -8,12 +8,14 @@ use Rattle.scr_numbers.specs.declared.table.Table.TheVariants as numbered_tables
 use Rattle.scr_parts.specs.Parts.{Parted, count_of, size_of, slot_of}
 use Rattle.scr_parts.specs.Moves.{KeepsParts}
 use Rattle.scr_parts.specs.declared.parts.Part.{Part}
-use Rattle.scr_sheet.specs.Members.{table_of}
+use Rattle.scr_sheet.specs.Members.{is_of_class, table_of}
 use Rattle.scr_sheet.specs.declared.keys.Table.{Table}
 use Rattle.scr_sheet.specs.declared.keys.Table.TheVariants as tables
 use Rattle.scr_sheet.specs.declared.roll.Roll.{Roll}
 use Rattle.scr_sheet.specs.declared.roll.Roll.TheVariants as rolls
 use Rattle.scr_sheet.specs.declared.rows.Class.TheVariants as classes
+use Rattle.scr_sheet.specs.declared.rows.LiabilityKind.TheVariants as kinds
+use Rattle.scr_nodes.specs.declared.node.Biometric.TheVariants as biometrics
 use Rattle.scr_nodes.specs.declared.node.Direction.TheVariants as directions
 use Rattle.scr_nodes.specs.declared.node.Node.{Node}
 use Rattle.scr_sums.specs.Graph.{Rolled}
@@ -53,6 +55,25 @@ table_place table = 3
 
 abbrev pub list_number : Roll → ℕ → ℕ
 list_number roll number = 4 * number + table_place (table_of roll)
+
+-- the sum that runs over a list at a place, if there is one; the bonds have those of their class
+abbrev pub sum_at : Roll → ℕ → Option Sum
+sum_at (rolls.Class class) place =
+    if place == 0 then Some (sums.Class class) else (if is_of_class classes.Bond class && (place == 1) then Some sums.Spreads else None)
+sum_at rolls.Bonds place = if place == 0 then Some (sums.Class classes.Bond) else (if place == 1 then Some sums.Spreads else None)
+sum_at rolls.Closed place = if place == 0 then Some sums.Closed else None
+sum_at rolls.Grouped place = if place == 0 then Some sums.Grouped else None
+sum_at (rolls.Group name) place = if place == 0 then Some (sums.Group name) else None
+sum_at (rolls.Assets currency) place = if place == 0 then Some (sums.Assets currency) else None
+sum_at (rolls.Flows currency) place =
+    if place == 0 then Some (sums.Rates currency directions.Up) else (if place == 1 then Some (sums.Rates currency directions.Down) else None)
+sum_at (rolls.Lines currency) place =
+    if place == 0 then Some (sums.Costs currency directions.Up)
+    else (if place == 1 then Some (sums.Costs currency directions.Down) else (if place == 2 then Some (sums.Presents currency) else None))
+sum_at (rolls.Losses kinds.Life projection) place = if place == 0 then Some (sums.Losses biometrics.Life projection) else None
+sum_at (rolls.Losses kinds.Health projection) place = if place == 0 then Some (sums.Losses biometrics.Health projection) else None
+sum_at (rolls.Losses kinds.Other projection) place = None
+sum_at rolls.Groups place = if place == 0 then Some sums.Squares else None
 
 -- ---- Blocks by number
 

@@ -7,3 +7,4 @@ pub mod Turns
 pub mod Touched
 pub mod Told
 pub mod BlockNumbers
+pub mod Reading

@@ -1,6 +1,6 @@
 //! Laws of the large sums with the Blocks under them, whatever a program does. Each is a function that does nothing, whose contract is
 //! the law.
-ghost use Rattle.std.specs.Prelude.{◌≡◌, ◌↔◌, ◌<◌, ◌≤◌, ◌*◌, ◌++◌, false, true, Bool, Contains, List, Option, is_some, length, map};
+ghost use Rattle.std.specs.Prelude.{◌≡◌, ◌↔◌, ◌⊎◌, ◌<◌, ◌≤◌, ◌*◌, ◌++◌, ◌||◌, false, true, Bool, Contains, IsTrue, List, Option, is_some, length, map};
 ghost use Rattle.std.specs.List.{list_any};
 ghost use Rattle.scr_num.specs.Rounding.{Ends};
 ghost use Rattle.scr_num.specs.Sums.{sum_ends};
@@ -8,6 +8,7 @@ ghost use Rattle.scr_factors.specs.Values.{FactorValues};
 ghost use Rattle.scr_blocks.specs.Blocks.{HasEachOnce, is_block};
 ghost use Rattle.scr_blocks.specs.ChangedBlocks.{IsChangedBlock};
 ghost use Rattle.scr_blocks.specs.Readers.{AreApart};
+ghost use Rattle.scr_nodes.specs.Changed.{IsChanged, IsSame};
 ghost use Rattle.scr_nodes.specs.Live.{is_live};
 ghost use Rattle.scr_nodes.specs.Sources.{sources_of};
 ghost use Rattle.scr_nodes.specs.declared.node.Node.{Node};
@@ -19,6 +20,7 @@ ghost use Rattle.scr_sums.specs.Graph.{AreRolls, Rolled, block_point, is_live_in
 ghost use Rattle.scr_sums.specs.Changed.{IsChangedIn, IsSameIn};
 ghost use Rattle.scr_sums.specs.Levels.{level_in};
 ghost use Rattle.scr_sums.specs.Touched.{IsGainedOrLost, IsTouchedIn, applied_in};
+ghost use Rattle.scr_sums.specs.Reading.{IsSummed, ReadsBlock, ReadsMember};
 ghost use Rattle.scr_sums.specs.Sums.{first_sum, second_sum};
 ghost use Rattle.scr_sums.specs.declared.point.Block.{Block};
 ghost use Rattle.scr_sums.specs.declared.point.Point.{Point};
@@ -84,6 +86,14 @@ pub fn apart()
     ensures { (sum : Sum) → AreApart (member_point sum) (block_point sum) }
 {}
 
+/// What is reckoned from sums is reckoned from the members that it adds up and from the Blocks, and from nothing else: each member and each
+/// Block under a sum is a source of just what adds it up (`scr_blocks::laws::readers`). So what depends on a member is told by its place in
+/// its list.
+pub fn readers()
+    ensures { (book : Rolled) → AreRolls book → (point source : Point) → IsSummed point → is_live_in book point ≡ true
+        → Contains (sources_in book point) source ↔ ((sum : Sum) × (ReadsMember book sum point source ⊎ ReadsBlock book sum point source)) }
+{}
+
 /// Where the sum is read in both of two books, a Block under it changes from one to the other exactly where it changes as a Block of the
 /// member list; where the sum is read in one of them alone, each Block that this one has under it changes. A figure that is reckoned from sums, and that both have or lack, is the same exactly where what is left at their tops is.
 pub fn changes()
@@ -104,6 +114,16 @@ pub fn changes()
         → is_live before.sheet node ≡ is_live after.sheet node
         → IsSameIn factors before after (points.Figure node)
         ↔ ((tops_of before (first_sum node) ≡ tops_of after (first_sum node)) × (tops_of before (second_sum node) ≡ tops_of after (second_sum node))) }
+{}
+
+/// A figure or a Block that a book has before a record or after it, and that the record does not touch, is the same in both books: it is
+/// reckoned from the same data and the same others. That is so where it is so of the figures of the balance sheet (`scr_touched::touched`).
+pub fn untouched()
+    ensures { (factors : FactorValues) (edit : Edit) (book : Rolled) → Valid book.sheet → Valid (applied edit book.sheet) → AreRolls book
+        → ((node : Node) → (IsChanged factors book.sheet (applied edit book.sheet) node → ⊥)
+        → IsTrue (is_live book.sheet node || is_live (applied edit book.sheet) node) → IsSame factors book.sheet (applied edit book.sheet) node)
+        → (point : Point) → (IsTouchedIn factors book edit point → ⊥)
+        → IsTrue (is_live_in book point || is_live_in (applied_in edit book) point) → IsSameIn factors book (applied_in edit book) point }
 {}
 
 /// A record touches at most four Blocks for each pair of a figure and a source that it makes or ends: no list of Blocks that it touches, each

@@ -1,31 +1,172 @@
-//! Laws of the numbers of Blocks, whatever a program does. Each is a function that does nothing, whose contract is the law. Of figures and
-//! Blocks together (`PointAt`) they follow for every relation that tells the numbers of figures (proofs BlockNumbers).
-ghost use Rattle.std.specs.Prelude.{◌≡◌, ◌<◌, ℕ, Option, true};
+//! The numbers of Blocks. Laws of them hold whatever a program does: each is a function that does nothing, whose contract is the law. Of
+//! figures and Blocks together (`PointAt`) they follow for every relation that tells the numbers of figures (proofs BlockNumbers).
+ghost use Rattle.std.specs.Prelude.{◌≡◌, ◌<◌, ◌≤◌, ◌^◌, ◌==◌, ℕ, IfSome, IsNone, None, Option, Some, if◌then◌else◌, true};
 ghost use Rattle.scr_numbers.specs.Ranges.{IsApart, IsWithin, Numbered};
 ghost use Rattle.scr_parts.specs.Parts.{AreOwn, Parted};
-ghost use Rattle.scr_sheet.specs.declared.roll.Roll.{Roll};
+ghost use Rattle.scr_sheet.specs.declared.roll.Roll.{Roll as TheRoll};
+ghost use Rattle.scr_sheet.specs.declared.roll.Roll.TheVariants as rolls;
 ghost use Rattle.scr_book.specs.Rolls.{AreNumbered, KeptRolls, number_of_roll};
 ghost use Rattle.scr_sums.specs.BlockNumbers.{AreListsApart, BlockAt, HaveParts, KeepsBlocks};
+ghost use Rattle.scr_sums.specs.BlockNumbers as spec;
 ghost use Rattle.scr_sums.specs.Graph.{Rolled, is_live_in};
-ghost use Rattle.scr_sums.specs.declared.point.Block.{Block};
+ghost use Rattle.scr_sums.specs.Sums.{roll_of};
+ghost use Rattle.scr_sums.specs.declared.point.Block.{Block as TheBlock};
 ghost use Rattle.scr_sums.specs.declared.point.Point.TheVariants as points;
+ghost use Rattle.scr_sums.specs.declared.sum.Sum.{Sum as TheSum};
+
+use crate::{Block, Sum};
+use scr_book::Book;
+use scr_nodes::{Biometric, Direction};
+use scr_numbers::Places;
+use scr_parts::{Part, Parts};
+use scr_sheet::{Class, LiabilityKind, Name, Projection, Roll, Table};
+
+/// The number of a Block: in the row of the slot of its part that at the place of its sum among those over the list. None exactly where no
+/// such Block has a number.
+pub fn block_number(book: &Book, parts: &Parts, places: &Places, block: &Block) -> Option<u32>
+    ensures there { IfSome result (λ number. BlockAt (λ roll. number_of_roll roll book.now.rolls) parts.now places.now block.now number) }
+    ensures absent { IsNone result → (number : ℕ)
+        → BlockAt (λ roll. number_of_roll roll book.now.rolls) parts.now places.now block.now number → ⊥ }
+{
+    // No list beyond a number has parts.
+    let _slots = parts.len();
+    let roll = block.sum.roll();
+    let number = book.roll_number(roll)?;
+    let list = list_number(&roll, number)?;
+    let part = Part {
+        list,
+        level: block.level,
+        index: block.index,
+    };
+    parts.number(places, &part, place_of(&block.sum))
+}
+
+/// The number of a list among those of all tables, if a list of that number can have parts.
+fn list_number(roll: &Roll, number: u32) -> Option<u32>
+    ensures there { IfSome result (λ list. list ≡ spec.list_number roll.now number) }
+    ensures absent { IsNone result → 2 ^ 31 ≤ spec.list_number roll.now number }
+{
+    if number >= 1 << 29 {
+        return None;
+    }
+    Some(4 * number + table_place(roll.table()))
+}
+
+fn table_place(table: Table) -> u32
+    ensures place { result ≡ spec.table_place table }
+    ensures few { result < 4 }
+{
+    match table {
+        Table::Security => 0,
+        Table::Liability => 1,
+        Table::Fund => 2,
+        Table::Group | Table::Bank | Table::Rein | Table::Curve => 3,
+    }
+}
+
+/// The place of a sum among those over its list.
+fn place_of(sum: &Sum) -> u32
+    ensures place { result ≡ spec.place_of sum.now }
+    ensures few { result < 3 }
+{
+    match sum {
+        Sum::Rates(_, Direction::Down) | Sum::Costs(_, Direction::Down) | Sum::Spreads => 1,
+        Sum::Presents(_) => 2,
+        _ => 0,
+    }
+}
+
+/// The sum that runs over a list at a place of the numbers of its parts, if there is one.
+pub fn sum_at(roll: &Roll, place: u32) -> Option<Sum>
+    ensures { result ≡ spec.sum_at roll.now place }
+{
+    match roll {
+        Roll::Class(class) => of_class(*class, place),
+        Roll::Bonds => of_class(Class::Bond, place),
+        Roll::Closed => sole(Sum::Closed, place),
+        Roll::Grouped => sole(Sum::Grouped, place),
+        Roll::Group(name) => sole(Sum::Group(*name), place),
+        Roll::Assets(currency) => sole(Sum::Assets(*currency), place),
+        Roll::Flows(currency) => of_flows(*currency, place),
+        Roll::Lines(currency) => of_lines(*currency, place),
+        Roll::Losses(kind, projection) => of_losses(*kind, *projection, place),
+        Roll::Groups => sole(Sum::Squares, place),
+    }
+}
+
+/// The one sum over a list.
+fn sole(sum: Sum, place: u32) -> Option<Sum>
+    ensures { result ≡ (if place == 0 then Some sum else None) }
+{
+    if place == 0 { Some(sum) } else { None }
+}
+
+fn of_class(class: Class, place: u32) -> Option<Sum>
+    ensures { result ≡ spec.sum_at (rolls.Class class) place }
+{
+    if place == 0 {
+        Some(Sum::Class(class))
+    } else if matches!(class, Class::Bond) && place == 1 {
+        Some(Sum::Spreads)
+    } else {
+        None
+    }
+}
+
+fn of_flows(currency: Name, place: u32) -> Option<Sum>
+    ensures { result ≡ spec.sum_at (rolls.Flows currency) place }
+{
+    match place {
+        0 => Some(Sum::Rates(currency, Direction::Up)),
+        1 => Some(Sum::Rates(currency, Direction::Down)),
+        _ => None,
+    }
+}
+
+fn of_lines(currency: Name, place: u32) -> Option<Sum>
+    ensures { result ≡ spec.sum_at (rolls.Lines currency) place }
+{
+    match place {
+        0 => Some(Sum::Costs(currency, Direction::Up)),
+        1 => Some(Sum::Costs(currency, Direction::Down)),
+        2 => Some(Sum::Presents(currency)),
+        _ => None,
+    }
+}
+
+fn of_losses(kind: LiabilityKind, projection: Projection, place: u32) -> Option<Sum>
+    ensures { result ≡ spec.sum_at (rolls.Losses kind projection) place }
+{
+    match kind {
+        LiabilityKind::Life => sole(Sum::Losses(Biometric::Life, projection), place),
+        LiabilityKind::Health => sole(Sum::Losses(Biometric::Health, projection), place),
+        LiabilityKind::Other => None,
+    }
+}
+
+/// Over the list of each sum it runs at its place, and no other one does.
+pub fn sums()
+    ensures there { (sum : TheSum) → spec.sum_at (roll_of sum) (spec.place_of sum) ≡ Some sum }
+    ensures only { (roll : TheRoll) (place : ℕ) (sum : TheSum) → spec.sum_at roll place ≡ Some sum
+        → (spec.sole (roll_of sum) ≡ spec.sole roll) × (spec.place_of sum ≡ place) }
+{}
 
 /// Each Block that a book has, has a number, and no other one; no other Block has it; and it is below the size of all numbers.
 pub fn blocks()
-    ensures live { (book : Rolled) (numbers : Roll → Option ℕ) (parts : Parted) (places : Numbered) → HaveParts book numbers parts places → AreOwn parts
-        → (block : Block) → is_live_in book (points.Block block) ≡ true → (number : ℕ) × BlockAt numbers parts places block number }
-    ensures only { (numbers : Roll → Option ℕ) (parts : Parted) (places : Numbered) (block : Block) (n m : ℕ)
+    ensures live { (book : Rolled) (numbers : TheRoll → Option ℕ) (parts : Parted) (places : Numbered) → HaveParts book numbers parts places → AreOwn parts
+        → (block : TheBlock) → is_live_in book (points.Block block) ≡ true → (number : ℕ) × BlockAt numbers parts places block number }
+    ensures only { (numbers : TheRoll → Option ℕ) (parts : Parted) (places : Numbered) (block : TheBlock) (n m : ℕ)
         → BlockAt numbers parts places block n → BlockAt numbers parts places block m → n ≡ m }
-    ensures exact { (numbers : Roll → Option ℕ) (parts : Parted) (places : Numbered) → IsApart places → AreOwn parts → AreListsApart numbers
-        → (number : ℕ) (a b : Block) → BlockAt numbers parts places a number → BlockAt numbers parts places b number → a ≡ b }
-    ensures within { (numbers : Roll → Option ℕ) (parts : Parted) (places : Numbered) → IsWithin places → (block : Block) (number : ℕ)
+    ensures exact { (numbers : TheRoll → Option ℕ) (parts : Parted) (places : Numbered) → IsApart places → AreOwn parts → AreListsApart numbers
+        → (number : ℕ) (a b : TheBlock) → BlockAt numbers parts places a number → BlockAt numbers parts places b number → a ≡ b }
+    ensures within { (numbers : TheRoll → Option ℕ) (parts : Parted) (places : Numbered) → IsWithin places → (block : TheBlock) (number : ℕ)
         → BlockAt numbers parts places block number → number < places.size }
 {}
 
 /// While parts come, each Block keeps its number.
 pub fn kept()
-    ensures { (numbers_before numbers_now : Roll → Option ℕ) (before now : Parted) (old new : Numbered)
-        → KeepsBlocks numbers_before numbers_now before now old new → (block : Block) (number : ℕ)
+    ensures { (numbers_before numbers_now : TheRoll → Option ℕ) (before now : Parted) (old new : Numbered)
+        → KeepsBlocks numbers_before numbers_now before now old new → (block : TheBlock) (number : ℕ)
         → BlockAt numbers_before before old block number → BlockAt numbers_now now new block number }
 {}
 

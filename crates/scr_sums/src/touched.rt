@@ -33,8 +33,8 @@ use std::mem::drop;
 /// The figures and Blocks whose own data or list of sources the record changes, or which it makes or takes away, each once. Told
 /// are the figures of which that is so in the balance sheet alone, each once (`scr_touched::touched`). Of a record that would
 /// be refused nothing is told but that none stands twice. Only want of memory is refused. The cost is that of the row that the
-/// record makes, and for each figure that is told and is reckoned from large sums that of some look-ups; where the row leaves the
-/// list of a sum it is that of a walk along the list, and where a sum comes to be read or is read no more, of all Blocks under it.
+/// record makes, and for each figure that is told and is reckoned from large sums that of some look-ups; where a sum comes to be
+/// read or is read no more it is that of all Blocks under it.
 pub fn touched_in(
     alloc: Global,
     book: &Book,

@@ -1,13 +1,13 @@
 //! How a sum stands before a record and after it, and which of the Blocks under it change.
-ghost use Rattle.std.specs.Prelude.{◌≡◌, ◌≤◌, ◌++◌, ◌∷◌, [], IfSome, OnOk, Some, map, option_to_list, position, slice_get};
+ghost use Rattle.std.specs.Prelude.{◌≡◌, ℕ, ◌≤◌, ◌++◌, ◌∷◌, [], IfSome, OnOk, Some, false, map, option_to_list, slice_get, true};
 ghost use Rattle.std.specs.List.{position_or_len, range_with_len};
 ghost use Rattle.scr_names.specs.Names.{same_name};
 ghost use Rattle.scr_changes.specs.Changes.{IsNamed, after, change_of as the_change};
-ghost use Rattle.scr_sheet.specs.Members.{edit_name, is_member as is_member_of};
+ghost use Rattle.scr_sheet.specs.Members.{edit_name, is_member};
 ghost use Rattle.scr_sheet.specs.Records.{applied};
 ghost use Rattle.scr_sheet.specs.Validity.{Valid};
 ghost use Rattle.scr_sums.specs.Books.{rolled_of};
-ghost use Rattle.scr_sums.specs.Graph.{IsRoll, block_point};
+ghost use Rattle.scr_sums.specs.Graph.{IsRoll, block_point, roll_in};
 ghost use Rattle.scr_sums.specs.Sums.{roll_of};
 ghost use Rattle.scr_sums.specs.Told.{blocks_by, moves, turn_at};
 ghost use Rattle.scr_sums.specs.Turns as spec;
@@ -19,7 +19,7 @@ use crate::{Block, Point, Sum};
 use scr_blocks::{Level, blocks_at, coming, leaving, top_count};
 use scr_book::Book;
 use scr_changes::Change;
-use scr_sheet::{BalanceSheet, Edit, Name, is_member, row_name};
+use scr_sheet::{Edit, Name, row_name};
 use std::alloc::AllocError as NoMemory;
 
 /// What becomes of the list of a sum's members.
@@ -70,55 +70,63 @@ fn turn_of(book: &Book, edit: &Edit, change: &Change, sum: &Sum) -> Turn
         was_read: reads(sheet, sum),
         is_read: reads_after(sheet, change, sum),
         count: names.len(),
-        step: step_of(sheet, edit, change, sum, names),
+        step: step_of(book, edit, change, sum),
     }
 }
 
 /// What the record makes of the list of the sum's members: its row alone may come or leave.
-fn step_of(sheet: &BalanceSheet, edit: &Edit, change: &Change, sum: &Sum, names: &[Name]) -> Step
-    requires valid { Valid sheet.now }
-    requires change { change.now ≡ the_change edit.now sheet.now }
-    ensures { result ≡ spec.step_of (is_member_of (roll_of sum.now) (edit_name edit.now) sheet.now)
-        (is_member_of (roll_of sum.now) (edit_name edit.now) (applied edit.now sheet.now))
-        (position_or_len (same_name (edit_name edit.now)) names.now) }
+fn step_of(book: &Book, edit: &Edit, change: &Change, sum: &Sum) -> Step
+    requires { change.now ≡ the_change edit.now book.now.sheet }
+    ensures { result ≡ spec.step_of (is_member (roll_of sum.now) (edit_name edit.now) book.now.sheet)
+        (is_member (roll_of sum.now) (edit_name edit.now) (applied edit.now book.now.sheet))
+        (position_or_len (same_name (edit_name edit.now)) (roll_in (rolled_of book.now) sum.now)) }
 {
     match row_name(edit) {
-        Some(name) => named_step(sheet, change, sum, names, &name),
+        Some(name) => named_step(book, change, sum, &name),
         None => Step::Stays,
     }
 }
 
-/// What becomes of the list if the row of a name comes or leaves.
-fn named_step(sheet: &BalanceSheet, change: &Change, sum: &Sum, names: &[Name], name: &Name) -> Step
-    requires valid { Valid sheet.now }
-    requires named { IsNamed change.now }
-    ensures { result ≡ spec.step_of (is_member_of (roll_of sum.now) name.now sheet.now)
-        (is_member_of (roll_of sum.now) name.now (after change.now sheet.now))
-        (position_or_len (same_name name.now) names.now) }
+/// What becomes of the list if the row of a name comes or leaves: where it stands there is told by the book.
+fn named_step(book: &Book, change: &Change, sum: &Sum, name: &Name) -> Step
+    requires { IsNamed change.now }
+    ensures step { result ≡ spec.step_of (is_member (roll_of sum.now) name.now book.now.sheet)
+        (is_member (roll_of sum.now) name.now (after change.now book.now.sheet))
+        (position_or_len (same_name name.now) (roll_in (rolled_of book.now) sum.now)) }
+    ensures valid { Valid book.now.sheet }
 {
-    let was = is_member(sheet, &sum.roll(), name);
-    let is = is_member_after(sheet, change, sum, name);
-    match (was, is) {
-        (false, true) => Step::Comes,
-        (true, false) => Step::Leaves(place_in(names, name)),
-        (true, true) | (false, false) => Step::Stays,
+    let is = is_later(book, change, sum, name);
+    match book.place(sum.roll(), name) {
+        Some(place) => left(place, is),
+        None => joined(is),
     }
 }
 
-/// The place of a name, or how many there are where it is none of them.
-fn place_in(names: &[Name], name: &Name) -> usize
-    ensures { result ≡ position_or_len (same_name name.now) names.now }
+/// Whether the row of the name is a member after the record.
+fn is_later(book: &Book, change: &Change, sum: &Sum, name: &Name) -> bool
+    requires { IsNamed change.now }
+    ensures is { result ≡ is_member (roll_of sum.now) name.now (after change.now book.now.sheet) }
+    ensures valid { Valid book.now.sheet }
 {
-    match place_of(names, name) {
-        Some(place) => place,
-        None => names.len(),
+    is_member_after(book.sheet(), change, sum, name)
+}
+
+/// What becomes of the list where the row stood at a place.
+fn left(place: u32, is: bool) -> Step
+    ensures { result ≡ spec.step_of true is place }
+{
+    if is {
+        Step::Stays
+    } else {
+        Step::Leaves(place as usize)
     }
 }
 
-fn place_of(names: &[Name], name: &Name) -> Option<usize>
-    ensures { result ≡ position (same_name name.now) names.now }
+/// What becomes of it where the row was no member.
+fn joined(is: bool) -> Step
+    ensures { (place : ℕ) → result ≡ spec.step_of false is place }
 {
-    names.iter().position(|other| name == other)
+    if is { Step::Comes } else { Step::Stays }
 }
 
 /// How many members the sum has after the record.

@@ -1,15 +1,9 @@
-use Rattle.std.proofs.Common.{ℕ, List, length, sym, ap, ap₂, subst, ◌∙◌}
-use Rattle.std.specs.List.{position_or_len}
-use Rattle.scr_names.specs.Names.{same_name}
-use Rattle.scr_changes.specs.Changes.{after, change_of}
-use Rattle.scr_sheet.specs.Members.{edit_name, is_member}
-use Rattle.scr_sheet.specs.Records.{applied}
+use Rattle.std.proofs.Common.{length, sym, ap, subst, ◌∙◌}
+use Rattle.scr_changes.specs.Changes.{after}
 use Rattle.scr_sheet.specs.Validity.{Valid}
-use Rattle.scr_sheet.specs.declared.sheet.BalanceSheet.{BalanceSheet}
 use Rattle.scr_sums.specs.Books.{rolled_of}
 use Rattle.scr_sums.specs.Graph.{reads}
-use Rattle.scr_sums.specs.Sums.{roll_of}
-use Rattle.scr_sums.specs.Turns.{IsSmall, step_of}
+use Rattle.scr_sums.specs.Turns.{IsSmall}
 use Rattle.scr_sums.proofs.Answered.{step-within, turn-is}
 use Rattle.scr_sums.proofs.Laters.{applied-after, is-named-change}
 use Rattle.scr_sums.proofs.turns.turn_of.Goals as goal
@@ -20,11 +14,8 @@ reads_after-requires-clause-valid c = subst Valid (sym c.sheet-sheet.ensures.she
 pub reads_after-requires-clause-named : goal.reads_after-requires-clause-named
 reads_after-requires-clause-named c = is-named-change c.args.edit.now c.args.book.now.sheet c.args.change.now c.requires
 
-pub step_of-requires-clause-valid : goal.step_of-requires-clause-valid
-step_of-requires-clause-valid c = subst Valid (sym c.sheet-sheet.ensures.sheet) c.sheet-sheet.ensures.valid
-
-pub step_of-requires-clause-change : goal.step_of-requires-clause-change
-step_of-requires-clause-change c = c.requires ∙ ap (change_of c.args.edit.now) (sym c.sheet-sheet.ensures.sheet)
+pub step_of-requires : goal.step_of-requires
+step_of-requires c = c.requires
 
 pub returns-clause-turn : goal.returns-clause-turn
 returns-clause-turn c =
@@ -37,10 +28,7 @@ returns-clause-turn c =
     (c.reads_after.ensures ∙ ap (λ s. reads (after change s) sum) own
     ∙ ap (λ s. reads s sum) (applied-after edit c.args.book.now.sheet change c.sheet-sheet.ensures.valid c.requires))
     (ap length c.members-names.ensures.names)
-    (c.step_of.ensures
-    ∙ ap₂ (λ (s : BalanceSheet) (names : List (List ℕ)).
-    step_of (is_member (roll_of sum) (edit_name edit) s) (is_member (roll_of sum) (edit_name edit) (applied edit s)) (position_or_len (same_name (edit_name edit)) names))
-    own c.members-names.ensures.names)
+    c.step_of.ensures
 
 pub returns-clause-small : goal.returns-clause-small
 returns-clause-small c =
@@ -52,10 +40,7 @@ returns-clause-small c =
     (c.reads_after.ensures ∙ ap (λ s. reads (after c.args.change.now s) sum) own
     ∙ ap (λ s. reads s sum) (applied-after edit c.args.book.now.sheet c.args.change.now c.sheet-sheet.ensures.valid c.requires))
     (ap length c.members-names.ensures.names)
-    (c.step_of.ensures
-    ∙ ap₂ (λ (s : BalanceSheet) (names : List (List ℕ)).
-    step_of (is_member (roll_of sum) (edit_name edit) s) (is_member (roll_of sum) (edit_name edit) (applied edit s)) (position_or_len (same_name (edit_name edit)) names))
-    own c.members-names.ensures.names) in
+    c.step_of.ensures in
     subst IsSmall (sym is)
     (record { few = c.members-names.ensures.few; within = step-within edit (rolled_of c.args.book.now) sum c.members-names.ensures.own })
 

@@ -1,0 +1,23 @@
+use Rattle.std.proofs.Common.{ℕ, subst, sym, ◌∙◌}
+use Rattle.scr_rolls.specs.Seatings.{place_in, roll_in}
+use Rattle.scr_parts.specs.Filling.{IsWritten}
+use Rattle.scr_parts.specs.Firsts.{FirstLists}
+use Rattle.scr_parts.proofs.Filled.{seat-free, seat-written}
+use Rattle.scr_parts.proofs.firsts.Firsts.enter.Goals.{then-roll+in_ok-write, else-roll}
+use Rattle.scr_parts.proofs.firsts.Firsts.enter.Goals as goal
+
+pub loop-seat-preserved : goal.loop-seat-preserved
+loop-seat-preserved c =
+    let seats = c.args.seats.now in
+    let seat = c.loop-seat.seat in
+    elim c.if-roll.branch [
+      | then-roll+in_ok-write w ↦
+          seat-written seats c.args.first seat c.args.self.now c.loop-seat.self c.if-roll.self c.loop-seat.invariant
+          (λ e. w.if-roll.true (c.roll.ensures ∙ e))
+          (subst (λ (now : FirstLists). IsWritten (roll_in seat seats) (place_in seat seats) c.args.first c.loop-seat.self now) (sym w.self-is)
+          (subst (λ (list : ℕ). IsWritten list (place_in seat seats) c.args.first c.loop-seat.self w.write.new.self) w.roll-then-roll.ensures
+          (subst (λ (place : ℕ). IsWritten w.roll-then-roll.result place c.args.first c.loop-seat.self w.write.new.self) w.place.ensures w.in_ok-write.ensures)))
+      | else-roll w ↦
+          seat-free seats c.args.first seat c.args.self.now c.loop-seat.self c.if-roll.self c.loop-seat.invariant
+          (sym c.roll.ensures ∙ w.if-roll.false) w.self-is
+    ]

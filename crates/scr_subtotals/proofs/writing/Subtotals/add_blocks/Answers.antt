@@ -1,0 +1,75 @@
+use Rattle.std.proofs.Common.{ℕ, ◌-◌, get_or, subst, arith}
+use Rattle.scr_num.specs.Rounding.{ends}
+use Rattle.scr_subtotals.specs.Written.{blocks_ends}
+use Rattle.scr_subtotals.proofs.Added.{AddedTo, added-end, added-next, next-high, next-low}
+use Rattle.scr_subtotals.proofs.Seconds.{block-at, blocks-length}
+use Rattle.scr_subtotals.proofs.writing.Subtotals.add_blocks.Goals as goal
+
+pub add-sum-requires-clause-b_low : goal.add-sum-requires-clause-b_low
+add-sum-requires-clause-b_low c =
+    let figures = c.args.figures.now in
+    let s = c.args.self.now in
+    let many = c.args.end - c.args.start in
+    let i = c.loop-index.index in
+    let n = c.number-number.result in
+    let d = c.index-figures-number.result in
+    let within = c.number-number.ensures.within in
+    let is = c.number-number.ensures.number in
+    let room = c.requires.room in
+    let from = c.loop-index.invariant.from in
+    let low = c.loop-index-test.true in
+    let few = next-low (blocks_ends figures s c.args.level c.args.start many) (ends c.loop-index.sum) (ends (get_or figures n d).span) (i - c.args.start) _
+    (omega (arith, low, from, blocks-length figures s c.args.level c.args.start many))
+    (block-at figures s c.args.level c.args.start many i n d from (omega (arith, low, from)) is (omega (arith, within, is, room)))
+    c.requires.together.lows c.loop-index.invariant.added in
+    omega (arith, few)
+
+pub add-sum-requires-clause-b_high : goal.add-sum-requires-clause-b_high
+add-sum-requires-clause-b_high c =
+    let figures = c.args.figures.now in
+    let s = c.args.self.now in
+    let many = c.args.end - c.args.start in
+    let i = c.loop-index.index in
+    let n = c.number-number.result in
+    let d = c.index-figures-number.result in
+    let within = c.number-number.ensures.within in
+    let is = c.number-number.ensures.number in
+    let room = c.requires.room in
+    let from = c.loop-index.invariant.from in
+    let low = c.loop-index-test.true in
+    let few = next-high (blocks_ends figures s c.args.level c.args.start many) (ends c.loop-index.sum) (ends (get_or figures n d).span) (i - c.args.start) _
+    (omega (arith, low, from, blocks-length figures s c.args.level c.args.start many))
+    (block-at figures s c.args.level c.args.start many i n d from (omega (arith, low, from)) is (omega (arith, within, is, room)))
+    c.requires.together.highs c.loop-index.invariant.added in
+    omega (arith, few)
+
+pub loop-index-preserved : goal.loop-index-preserved
+loop-index-preserved c =
+    let figures = c.args.figures.now in
+    let s = c.args.self.now in
+    let many = c.args.end - c.args.start in
+    let i = c.loop-index.index in
+    let n = c.number-number.result in
+    let d = c.index-figures-number.result in
+    let within = c.number-number.ensures.within in
+    let is = c.number-number.ensures.number in
+    let room = c.requires.room in
+    let from = c.loop-index.invariant.from in
+    let low = c.loop-index-test.true in
+    let all = blocks_ends figures s c.args.level c.args.start many in
+    let next = added-next all (ends c.loop-index.sum) (ends (get_or figures n d).span) (ends c.add-sum.result) (i - c.args.start)
+    (omega (arith, low, from, blocks-length figures s c.args.level c.args.start many))
+    (block-at figures s c.args.level c.args.start many i n d from (omega (arith, low, from)) is (omega (arith, within, is, room)))
+    c.add-sum.ensures.ends c.loop-index.invariant.added in
+    record {
+      from = omega (arith, from);
+      added = subst (λ (k : ℕ). AddedTo all (ends c.add-sum.result) k) (omega (arith, from)) next;
+    }
+
+pub returns : goal.returns
+returns c =
+    let many = c.args.end - c.args.start in
+    let past = c.loop-index-test.false in
+    let from = c.loop-index.invariant.from in
+    added-end (blocks_ends c.args.figures.now c.args.self.now c.args.level c.args.start many) (ends c.loop-index.sum) (c.loop-index.index - c.args.start)
+    (omega (arith, past, from, blocks-length c.args.figures.now c.args.self.now c.args.level c.args.start many)) c.loop-index.invariant.added

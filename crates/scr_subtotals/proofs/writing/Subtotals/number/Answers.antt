@@ -1,0 +1,29 @@
+use Rattle.std.proofs.Common.{◌≡◌, ℕ, ◌+◌, None, Some, sym, ap, ◌∙◌, arith}
+use Rattle.scr_numbers.specs.Ranges.{first}
+use Rattle.scr_numbers.specs.declared.table.Table.TheVariants as tables
+use Rattle.scr_parts.specs.Parts.{key_of, slot_at}
+use Rattle.scr_subtotals.proofs.Numbered.{number-within, part_in, slot-is, slot-there}
+use Rattle.scr_subtotals.proofs.writing.Subtotals.number.Goals as goal
+
+pub first-requires : goal.first-requires
+first-requires c =
+    let s = c.args.self.now in
+    let slot = c.requires.numbered.slots.within (part_in s c.args.level c.args.index) c.in-Some.slot (sym c.slot.ensures ∙ c.in-Some.is) in
+    let rows = c.requires.numbered.rows in
+    omega (arith, slot, rows)
+
+pub unreachable-requires : goal.unreachable-requires
+unreachable-requires c =
+    let s = c.args.self.now in
+    let clash : None ≡ Some (slot_at (key_of s.list c.args.level) c.args.index s.parts.now) =
+    sym c.in-None.is ∙ c.slot.ensures ∙ slot-there s c.args.count c.requires.numbered c.args.level c.args.index c.requires.there in
+    cc
+
+pub returns-clause-number : goal.returns-clause-number
+returns-clause-number c =
+    let s = c.args.self.now in
+    ap (λ (k : ℕ). k + s.own) (c.first.ensures.first ∙ ap (first s.places.now tables.Part)
+    (slot-is s c.args.count c.requires.numbered c.args.level c.args.index c.in-Some.slot c.requires.there (sym c.slot.ensures ∙ c.in-Some.is)))
+
+pub returns-clause-within : goal.returns-clause-within
+returns-clause-within c = number-within c.args.self.now c.args.count c.requires.numbered c.args.level c.args.index c.requires.there

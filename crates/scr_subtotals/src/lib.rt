@@ -1,0 +1,11 @@
+//! What the figures of the members of a list come to: part by part, with the blocks of 32 neighbours written between the members and their
+//! sum. Which list it is, and of what the figures are, is no matter of this crate.
+#![tactic(auto)]
+
+mod adding;
+mod figure;
+mod writing;
+
+pub use adding::add_members;
+pub use figure::Figure;
+pub use writing::Subtotals;

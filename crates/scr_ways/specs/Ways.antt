@@ -1,0 +1,64 @@
+-- What a record reaches in the graph of a balance sheet, and in that of a book with the Blocks under its large sums (this project's
+-- own): what the record leaves there and from which a chain of sources leads to what it touches.
+use Rattle.std.specs.Prelude.{◌≡◌, ◌⊎◌, ℕ, ◌<◌, ◌≤◌, true, List, Contains, Some, length, slice_get}
+use Rattle.scr_blocks.specs.Blocks.{end_of, start_of}
+use Rattle.scr_factors.specs.Values.{FactorValues}
+use Rattle.scr_sheet.specs.Records.{applied}
+use Rattle.scr_sheet.specs.Validity.{Valid}
+use Rattle.scr_sheet.specs.declared.edit.Edit.{Edit}
+use Rattle.scr_sheet.specs.declared.sheet.BalanceSheet.{BalanceSheet}
+use Rattle.scr_nodes.specs.Changed.{IsChanged}
+use Rattle.scr_nodes.specs.Live.{is_live}
+use Rattle.scr_nodes.specs.Sources.{sources_of}
+use Rattle.scr_nodes.specs.declared.node.Node.{Node}
+use Rattle.scr_reach.specs.Graph.{Graph}
+use Rattle.scr_reach.specs.Leading.{IsInReach}
+use Rattle.scr_sums.specs.Graph.{AreRolls, Rolled, is_live_in, roll_in, sources_in}
+use Rattle.scr_sums.specs.Sums.{member_of}
+use Rattle.scr_sums.specs.Touched.{IsTouchedIn, applied_in}
+use Rattle.scr_sums.specs.declared.point.Block.{Block}
+use Rattle.scr_sums.specs.declared.point.Point.{Point}
+use Rattle.scr_sums.specs.declared.point.Point.TheVariants as points
+
+-- ---- the two graphs
+
+abbrev pub sheet_graph : BalanceSheet → Graph Node
+sheet_graph sheet = record { live = is_live sheet; sources = sources_of sheet }
+
+abbrev pub book_graph : Rolled → Graph Point
+book_graph book = record { live = is_live_in book; sources = sources_in book }
+
+-- ---- what is in reach
+
+abbrev pub IsFigureReached : FactorValues → BalanceSheet → Edit → Node → Type 0
+IsFigureReached factors sheet edit node = IsInReach (sheet_graph (applied edit sheet)) (IsChanged factors sheet (applied edit sheet)) node
+
+abbrev pub IsPointReached : FactorValues → Rolled → Edit → Point → Type 0
+IsPointReached factors book edit point = IsInReach (book_graph (applied_in edit book)) (IsTouchedIn factors book edit) point
+
+-- The balance sheet is valid before the record and after it, and the lists have just its members before, and so after.
+pub record AreKept (edit : Edit) (book : Rolled) : Type 0 where
+  pub valid : Valid book.sheet
+  pub valid_after : Valid (applied edit book.sheet)
+  pub rolls : AreRolls book
+
+-- ---- what lies under a Block
+
+-- a member of its sum, at a place that the Block spans
+pub record IsUnder (book : Rolled) (block : Block) (name : List ℕ) : Type 0 where
+  pub place : ℕ
+  pub at : slice_get (roll_in book block.sum) place ≡ Some name
+  pub behind : start_of (length (roll_in book block.sum)) block.level block.index ≤ place
+  pub before : place < end_of (length (roll_in book block.sum)) block.level block.index
+
+-- the Block itself, or a Block that it adds up
+abbrev pub IsPartOf : Rolled → Block → Block → Type 0
+IsPartOf book block part = (part ≡ block) ⊎ Contains (sources_in book (points.Block block)) (points.Block part)
+
+-- The Blocks in reach, told without chains through Blocks: the book has the Block after the record, and the record touches it or a Block
+-- that it adds up, or reaches the figure of a member under it.
+abbrev pub IsBlockReached : FactorValues → Rolled → Edit → Block → Type 0
+IsBlockReached factors book edit block =
+    (is_live_in (applied_in edit book) (points.Block block) ≡ true)
+    × (((part : Block) × IsPartOf (applied_in edit book) block part × IsTouchedIn factors book edit (points.Block part))
+    ⊎ ((name : List ℕ) × IsUnder (applied_in edit book) block name × IsFigureReached factors book.sheet edit (member_of block.sum name)))
