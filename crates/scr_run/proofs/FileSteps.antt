@@ -1,15 +1,16 @@
 -- A file that is read, and what its bytes stand for.
-use Rattle.std.proofs.Common.{◌≡◌, ℕ, ◌<◌, ◌≤◌, Bool, true, false, cond, nat_le, le-leb, leb-true, arith, List, length, Ok, Err, refl, ap, sym, subst, ◌∙◌}
-use Rattle.scr_io.specs.Content.{IsPresentAnd}
+use Rattle.std.proofs.Common.{◌≡◌, ℕ, ◌<◌, ◌≤◌, Bool, true, false, cond, nat_le, le-leb, leb-true, arith, List, length, Ok, Err, IsErrOf, refl, ap, sym, subst, ◌∙◌}
+use Rattle.scr_io.specs.Content.{Content, IsPresentAnd}
 use Rattle.scr_io.specs.Reading.{UnlessFailed}
 use Rattle.scr_io.specs.declared.reading.ReadFault.{ReadFault}
 use Rattle.scr_io.specs.declared.reading.ReadFault.TheVariants as read_faults
 use Rattle.scr_io.specs.declared.reading.TheConstants.{MAX_BYTES}
-use Rattle.scr_plans.specs.Moment.{Shelved}
+use Rattle.scr_plans.specs.Moment.{Shelved, shelved}
 use Rattle.scr_plans.specs.Moment.Answer.{Due}
+use Rattle.scr_plans.specs.Owes.{FailedAt}
 use Rattle.scr_plans.specs.Plan.{and_then}
 use Rattle.scr_plans.specs.Steps.{Passed, Stopped}
-use Rattle.scr_plans.proofs.Walks.{exceeds, lacks_memory, passes_on, stops_on}
+use Rattle.scr_plans.proofs.Walks.{exceeds, lacks_memory, passes_on, same_shelved, stops_on}
 use Rattle.scr_factors.specs.Reading.{Answers, values_in}
 use Rattle.scr_factors.specs.Values.{FactorValues}
 use Rattle.scr_factors.specs.declared.fault.FactorFault.{FactorFault}
@@ -18,17 +19,22 @@ use Rattle.scr_sheet.specs.declared.sheet.BalanceSheet.{BalanceSheet}
 use Rattle.scr_sheet.specs.declared.fault.Fault.{Fault}
 use Rattle.scr_sheet.specs.declared.fault.Fault.TheVariants as faults
 use Rattle.scr_run.specs.BookFile.{sheet_of}
-use Rattle.scr_run.specs.Readings.{CallsFor, book_in, bytes_in, edits_in, factors_in, sheet_or_fault, status_of_fault, too_long_of, values_or_fault}
+use Rattle.scr_run.specs.Readings.{CallsFor, book_in, bytes_in, edits_in, factors_in, sheet_or_fault, status_of_fault, status_unread, too_long_of, values_or_fault}
 use Rattle.scr_run.specs.Statuses.{IsEarly, answer_of}
 use Rattle.scr_run.specs.declared.files.Role.{Role}
 use Rattle.scr_run.specs.declared.files.Role.TheVariants as roles
 use Rattle.scr_run.specs.declared.status.Status.{Status}
 use Rattle.scr_run.specs.declared.status.Status.TheVariants as statuses
 
--- what is told unless a read failed, where the file is too long
-pub steady_at : (T : Type 0) (fault : ReadFault) (P : Type 0) → fault ≡ read_faults.TooLong
-    → UnlessFailed {T = T} (Err fault) P → P
-steady_at T fault P e h = subst (λ f. UnlessFailed {T = T} (Err f) P) e h
+-- the shelf is as before unless a read failed
+pub same_unless_failed : (T : Type 0) (fault : ReadFault) (content later : List ℕ → Content) (faults then strays then_strays : ℕ)
+    → later ≡ content → UnlessFailed {T = T} (Err fault) ((then ≡ faults) × (then_strays ≡ strays))
+    → UnlessFailed {T = T} (Err fault) (shelved later then then_strays ≡ shelved content faults strays)
+same_unless_failed T read_faults.Failed content later faults then strays then_strays e h = tt
+same_unless_failed T read_faults.TooLong content later faults then strays then_strays e h =
+    same_shelved content later faults then strays then_strays e h.0 h.1
+same_unless_failed T read_faults.NoMemory content later faults then strays then_strays e h =
+    same_shelved content later faults then strays then_strays e h.0 h.1
 
 module _ (name : List ℕ) (before now : Shelved) where
   due_too_long : (role : Role) → now ≡ before → IsPresentAnd (before.content name) (λ bytes. MAX_BYTES < length bytes)
@@ -37,12 +43,23 @@ module _ (name : List ℕ) (before now : Shelved) where
   due_too_long roles.Book same there = exceeds name MAX_BYTES (too_long_of roles.Book) before now same there
   due_too_long roles.Edits same there = exceeds name MAX_BYTES (too_long_of roles.Edits) before now same there
 
-  -- the file is too long
-  pub too_long_stops : (role : Role) (status : Status) → status ≡ too_long_of role → now ≡ before
-      → IsPresentAnd (before.content name) (λ bytes. MAX_BYTES < length bytes)
+  stops_unread : (T : Type 0) (role : Role) (fault : ReadFault)
+      → (IsErrOf {T = T} (Err fault) read_faults.TooLong → IsPresentAnd (before.content name) (λ bytes. MAX_BYTES < length bytes))
+      → (IsErrOf {T = T} (Err fault) read_faults.Failed → FailedAt name before now)
+      → UnlessFailed {T = T} (Err fault) (now ≡ before)
+      → Stopped name (bytes_in role) before now (answer_of (status_unread role fault))
+  stops_unread T role read_faults.Failed long failed same = record { cause = failed refl }
+  stops_unread T role read_faults.TooLong long failed same = due_too_long role same (long refl)
+  stops_unread T role read_faults.NoMemory long failed same = record { cause = same }
+
+  -- the file was not read
+  pub unread_stops : (T : Type 0) (role : Role) (fault : ReadFault) (status : Status) → status ≡ status_unread role fault
+      → (IsErrOf {T = T} (Err fault) read_faults.TooLong → IsPresentAnd (before.content name) (λ bytes. MAX_BYTES < length bytes))
+      → (IsErrOf {T = T} (Err fault) read_faults.Failed → FailedAt name before now)
+      → UnlessFailed {T = T} (Err fault) (now ≡ before)
       → Stopped name (bytes_in role) before now (answer_of status)
-  too_long_stops role status e same there =
-      subst (λ s. Stopped name (bytes_in role) before now (answer_of s)) (sym e) (due_too_long role same there)
+  unread_stops T role fault status e long failed same =
+      subst (λ s. Stopped name (bytes_in role) before now (answer_of s)) (sym e) (stops_unread T role fault long failed same)
 
   module _ (bytes seen : List ℕ) (is_seen : seen ≡ bytes) where
     -- the values of the factor file

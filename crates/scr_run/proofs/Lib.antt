@@ -1,4 +1,5 @@
 pub mod FileSteps
+pub mod Filling
 pub mod Pieces
 pub mod Pushes
 pub mod Recording

@@ -1,6 +1,8 @@
 -- What the bytes of each file stand for, or the status that they call for (this project's own). A file above its limit
 -- is too long, whatever its bytes.
 use Rattle.std.specs.Prelude.{◌≡◌, ℕ, List, Result, Ok, Err}
+use Rattle.scr_io.specs.declared.reading.ReadFault.{ReadFault}
+use Rattle.scr_io.specs.declared.reading.ReadFault.TheVariants as read_faults
 use Rattle.scr_io.specs.declared.reading.TheConstants.{MAX_BYTES}
 use Rattle.scr_book.specs.RolledSheets.{RolledSheet}
 use Rattle.scr_sheet.specs.declared.sheet.BalanceSheet.{BalanceSheet}
@@ -26,6 +28,12 @@ abbrev pub too_long_of : Role → Status
 too_long_of roles.Factors = statuses.FactorsTooLong
 too_long_of roles.Book = statuses.TooLong files.Book
 too_long_of roles.Edits = statuses.TooLong files.Edits
+
+-- the status of a run whose file was not read
+abbrev pub status_unread : Role → ReadFault → Status
+status_unread role read_faults.Failed = statuses.Read
+status_unread role read_faults.TooLong = too_long_of role
+status_unread role read_faults.NoMemory = statuses.NoMemory
 
 -- the bytes of a file that is not too long
 abbrev pub bytes_in : Role → List ℕ → Result (List ℕ) Status

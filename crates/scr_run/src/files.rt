@@ -1,16 +1,19 @@
 //! The files that a run reads: each is read whole, and its bytes are refused or stand for a value.
 ghost use Rattle.std.specs.Prelude.{◌≡◌, ◌≤◌, IfOk, IfErr, OnOk, vec_len, length};
 ghost use Rattle.std.specs.Io.KnownBytes.{IsAtEnd};
+ghost use Rattle.scr_passages.specs.Files.{bytes_of};
+ghost use Rattle.scr_passages.specs.Passages.{AreWhole};
 ghost use Rattle.scr_plans.specs.Moment.{shelved};
 ghost use Rattle.scr_plans.specs.Steps.{Passed, Stopped};
-ghost use Rattle.scr_run.specs.Readings.{Bears, IsLimited, too_long_of, bytes_in, factors_in, book_in, status_of_fault};
+ghost use Rattle.scr_run.specs.Readings.{Bears, IsLimited, too_long_of, bytes_in, factors_in, book_in, status_of_fault, status_unread};
 ghost use Rattle.scr_run.specs.Statuses.{answer_of, IsEarly};
 
-use crate::records::{BookFault, read_book};
+use crate::records::{BookFault, read_book, read_file};
 use crate::status::{Status, Which};
 use scr_book::Book;
 use scr_factors::{FactorFault, Factors, read_factors};
 use scr_io::{MAX_BYTES, ReadFault, Shelf, read_all};
+use scr_passages::{Passages, read_passages};
 use std::alloc::Global;
 
 /// What a file is read for.
@@ -29,6 +32,18 @@ fn too_long(role: Role) -> Status
         Role::Factors => Status::FactorsTooLong,
         Role::Book => Status::TooLong(Which::Book),
         Role::Edits => Status::TooLong(Which::Edits),
+    }
+}
+
+/// The status of a run whose file was not read.
+fn unread(fault: ReadFault, role: Role) -> Status
+    ensures status { result ≡ status_unread role fault }
+    ensures early { IsEarly result }
+{
+    match fault {
+        ReadFault::Failed => Status::Read,
+        ReadFault::TooLong => too_long(role),
+        ReadFault::NoMemory => Status::NoMemory,
     }
 }
 
@@ -52,9 +67,32 @@ pub fn file_bytes<F: Shelf>(
 {
     match read_all(alloc, shelf, name) {
         Ok(bytes) => Ok(bytes),
-        Err(ReadFault::Failed) => Err(Status::Read),
-        Err(ReadFault::TooLong) => Err(too_long(role)),
-        Err(ReadFault::NoMemory) => Err(Status::NoMemory),
+        Err(fault) => Err(unread(fault, role)),
+    }
+}
+
+/// The same in passages, each of which can be given back once it was read.
+fn file_passages<F: Shelf>(
+    alloc: Global,
+    shelf: &mut F,
+    name: &str,
+    role: Role,
+) -> Result<Passages, Status>
+    ensures passed { IfOk result (λ file. Passed name.now (bytes_in role)
+        (shelved (F.content shelf.old) (F.faults shelf.old) (F.strays shelf.old))
+        (shelved (F.content shelf.new) (F.faults shelf.new) (F.strays shelf.new))
+        (bytes_of file)) }
+    ensures stopped { IfErr result (λ status. Stopped name.now (bytes_in role)
+        (shelved (F.content shelf.old) (F.faults shelf.old) (F.strays shelf.old))
+        (shelved (F.content shelf.new) (F.faults shelf.new) (F.strays shelf.new))
+        (answer_of status)) }
+    ensures whole { IfOk result (λ file. AreWhole file.whole.items) }
+    ensures short { IfOk result (λ file. length (bytes_of file) ≤ 67108864) }
+    ensures early { IfErr result IsEarly }
+{
+    match read_passages(alloc, shelf, name) {
+        Ok(file) => Ok(file),
+        Err(fault) => Err(unread(fault, role)),
     }
 }
 
@@ -102,11 +140,11 @@ pub fn file_book<F: Shelf>(alloc: Global, shelf: &mut F, name: &str) -> Result<B
         (answer_of status)) }
     ensures early { IfErr result IsEarly }
 {
-    let bytes = match file_bytes(alloc, shelf, name, Role::Book) {
-        Ok(bytes) => bytes,
+    let file = match file_passages(alloc, shelf, name, Role::Book) {
+        Ok(file) => file,
         Err(status) => return Err(status),
     };
-    match read_book(alloc, bytes.as_slice()) {
+    match read_file(alloc, file) {
         Ok(book) => Ok(book),
         Err(BookFault::NoMemory) => Err(Status::NoMemory),
         Err(BookFault::Record(line, fault)) => Err(Status::Book(line, fault)),

@@ -1,5 +1,5 @@
 //! The records of a book and of its edits, applied one after another.
-ghost use Rattle.std.specs.Prelude.{◌≡◌, ℕ, ◌<◌, ◌≤◌, Ok, Err, IsErrOf, OnOk, OnErr, length};
+ghost use Rattle.std.specs.Prelude.{◌≡◌, ℕ, ◌+◌, ◌<◌, ◌≤◌, Ok, Err, IsErrOf, OnOk, OnErr, length};
 ghost use Rattle.scr_sheet.specs.declared.fault.Fault.TheVariants as faults;
 ghost use Rattle.scr_sheet.specs.Faults.{fault_of};
 ghost use Rattle.scr_sheet.specs.Forms.{Formed};
@@ -9,11 +9,14 @@ ghost use Rattle.scr_run.specs.BookFile.{recorded, sheet_from, sheet_of};
 ghost use Rattle.scr_run.specs.BookAnswers.{Filled, Recorded, Replied, Read};
 ghost use Rattle.scr_csv.specs.Lines.{records};
 ghost use Rattle.scr_csv.specs.LineOrder.{lines_left};
+ghost use Rattle.scr_passages.specs.Files.{bytes_of};
+ghost use Rattle.scr_passages.specs.Passages.{AreWhole, records_behind};
 
 use crate::crew::Crew;
 use scr_book::{Book, Edit, Fault};
-use scr_csv::{LineFault, lines, read_line};
+use scr_csv::{LineFault, read_line};
 use scr_io::{Gate, Steps};
+use scr_passages::{Passages, lines_behind, passed_behind};
 use scr_tree::{Engine, Refusal};
 use std::alloc::Global;
 use std::marker::Brand;
@@ -40,7 +43,7 @@ pub fn read_book(alloc: Global, bytes: &[u8]) -> Result<Book, BookFault>
     let Ok(mut book) = Book::new(alloc) else {
         return Err(BookFault::NoMemory);
     };
-    match fill(alloc, &mut book, bytes) {
+    match fill(alloc, &mut book, 0, bytes) {
         Ok(()) => Ok(book),
         Err(fault) => {
             book.close();
@@ -49,13 +52,56 @@ pub fn read_book(alloc: Global, bytes: &[u8]) -> Result<Book, BookFault>
     }
 }
 
-/// Applies the records of the file to the book, one after another, up to the first that is refused.
-fn fill(alloc: Global, book: &mut Book, bytes: &[u8]) -> Result<(), BookFault>
-    requires { length bytes.now ≤ 67108864 }
-    ensures answer { Filled (sheet_from (records bytes.now) book.old.sheet) result book.new.sheet }
+/// The book that the records of the file give, one after another. Each passage is given back when its
+/// records were applied, so that the book takes its room.
+#[tactic(auto, unfolding(crate::specs::BookFile::sheet_of))]
+pub fn read_file(alloc: Global, file: Passages) -> Result<Book, BookFault>
+    requires short { length (bytes_of file) ≤ 67108864 }
+    requires whole { AreWhole file.whole.items }
+    ensures answer { Read (sheet_of (bytes_of file)) result }
     ensures never_memory { (line : ℕ) → IsErrOf result (BookFault.Record line faults.NoMemory) → ⊥ }
 {
-    for line in lines(bytes) {
+    let Ok(mut book) = Book::new(alloc) else {
+        return Err(BookFault::NoMemory);
+    };
+    match fill_from(alloc, &mut book, file) {
+        Ok(()) => Ok(book),
+        Err(fault) => {
+            book.close();
+            Err(fault)
+        }
+    }
+}
+
+/// Applies the records of the file to the book, passage by passage.
+fn fill_from(alloc: Global, book: &mut Book, file: Passages) -> Result<(), BookFault>
+    requires short { length (bytes_of file) ≤ 67108864 }
+    requires whole { AreWhole file.whole.items }
+    ensures answer { Filled (sheet_from (records (bytes_of file)) book.old.sheet) result
+        book.new.sheet }
+    ensures never_memory { (line : ℕ) → IsErrOf result (BookFault.Record line faults.NoMemory) → ⊥ }
+{
+    let Passages { whole, last } = file;
+    let mut passed = 0;
+    for passage in whole {
+        match fill(alloc, book, passed, passage.as_slice()) {
+            Ok(()) => {}
+            Err(fault) => return Err(fault),
+        }
+        passed = passed_behind(passed, passage.as_slice());
+    }
+    fill(alloc, book, passed, last.as_slice())
+}
+
+/// Applies the records of bytes before which so many lines have passed to the book, one after
+/// another, up to the first that is refused.
+fn fill(alloc: Global, book: &mut Book, passed: u32, bytes: &[u8]) -> Result<(), BookFault>
+    requires { passed + length bytes.now ≤ 67108864 }
+    ensures answer { Filled (sheet_from (records_behind passed bytes.now) book.old.sheet) result
+        book.new.sheet }
+    ensures never_memory { (line : ℕ) → IsErrOf result (BookFault.Record line faults.NoMemory) → ⊥ }
+{
+    for line in lines_behind(passed, bytes) {
         match record(alloc, book, line.text) {
             Ok(()) => {}
             Err(Fault::NoMemory) => return Err(BookFault::NoMemory),

@@ -1,11 +1,17 @@
-use Rattle.std.proofs.Common.{ℕ, Err, ap}
-use Rattle.scr_plans.proofs.Walks.{same_shelved}
-use Rattle.scr_run.proofs.FileSteps.{steady_at, too_long_stops}
+use Rattle.std.proofs.Common.{ℕ}
+use Rattle.std.specs.Global.{Vec}
+use Rattle.scr_run.proofs.FileSteps.{same_unless_failed, unread_stops}
 use Rattle.scr_run.proofs.files.file_bytes.Goals as goal
 
-pub returns-in-Err-TooLong-clause-stopped : goal.returns-in-Err-TooLong-clause-stopped
-returns-in-Err-TooLong-clause-stopped g c =
-    let steady = steady_at ℕ _ _ c.in-Err-TooLong.field-0-is c.in-Err-TooLong.ensures.steady in
-    too_long_stops _ _ _ _ _ c.too_long.ensures
-    (same_shelved _ _ _ _ _ _ c.read_all.ensures.content_stays steady.0 steady.1)
-    (c.in-Err-TooLong.ensures.too_long (ap Err c.in-Err-TooLong.field-0-is))
+pub returns-in-Err-clause-stopped : goal.returns-in-Err-clause-stopped
+returns-in-Err-clause-stopped g c =
+    unread_stops _ _ _ (Vec ℕ) _ _ _ c.unread.ensures.status c.in-Err.ensures.too_long
+    (λ is. record {
+      content = c.read_all.ensures.content_stays;
+      rose = c.in-Err.ensures.failed is;
+      strays = c.read_all.ensures.strays_stay;
+    })
+    (same_unless_failed (Vec ℕ) _ (g.F.Shelf.content c.args.shelf.now) (g.F.Shelf.content c.read_all.new.shelf)
+    (g.F.Shelf.faults c.args.shelf.now) (g.F.Shelf.faults c.read_all.new.shelf)
+    (g.F.Shelf.strays c.args.shelf.now) (g.F.Shelf.strays c.read_all.new.shelf)
+    c.read_all.ensures.content_stays c.in-Err.ensures.steady)
