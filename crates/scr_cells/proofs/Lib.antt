@@ -1,3 +1,4 @@
 mod BlockLines
 pub mod Bounded
+mod LineLists
 mod LiveCells

@@ -21,13 +21,13 @@ lower_bound worked = floor_div worked.low 1000
 abbrev pub upper_bound : Ends → ℤ
 upper_bound worked = ceil_div worked.high 1000
 
--- those of a figure as it is worked out, and whether it rests on a choice that is left open
+-- both, and whether the figure rests on a choice that is left open
+abbrev pub bounds_of : Ends → Bool → Bounds
+bounds_of worked close = record { low = lower_bound worked; high = upper_bound worked; close = close }
+
+-- those of a figure as it is worked out
 abbrev pub bounds_at : FactorValues → BalanceSheet → Node → Bounds
-bounds_at factors sheet node = record {
-  low = lower_bound (worked factors sheet node);
-  high = upper_bound (worked factors sheet node);
-  close = close_under factors sheet node;
-}
+bounds_at factors sheet node = bounds_of (worked factors sheet node) (close_under factors sheet node)
 
 -- ---- a cell
 

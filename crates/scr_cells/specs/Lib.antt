@@ -1,3 +1,4 @@
 pub mod Block
 pub mod Certified
+pub mod Lines
 pub mod Table

@@ -10,6 +10,7 @@ ghost use Rattle.scr_widths.specs.Widths.{stated_width};
 
 use crate::bounds::{Bounds, bounds_at};
 use crate::cells::Cell;
+use crate::lines::Lines;
 use crate::printing::push_bounds;
 use crate::table::{CELL_COUNT, Entry, REQUIREMENT, entry_of};
 use scr_book::Book;
@@ -65,9 +66,8 @@ pub fn print_block(alloc: Global, engine: &Engine, out: &mut Vec<u8>) -> Result<
         then out.old.items ++ block_text engine.now.factors engine.now.sheet
         else out.old.items) }
 {
-    let mut block = Vec::new(alloc);
-    push_cells(alloc, engine, &mut block)?;
-    out.extend_from_slice(block.as_slice())
+    let mut lines = Lines::new(alloc);
+    lines.print(alloc, engine, out)
 }
 
 /// The line of the Solvency Capital Requirement of the engine's book, as it stands in the block.
@@ -78,16 +78,6 @@ pub fn requirement_line(alloc: Global, engine: &Engine) -> Result<Vec<u8>, NoMem
     let mut line = Vec::new(alloc);
     push_cell(alloc, engine, entry_of(REQUIREMENT), &mut line)?;
     Ok(line)
-}
-
-fn push_cells(alloc: Global, engine: &Engine, out: &mut Vec<u8>) -> Result<(), NoMemory>
-    ensures { OnOk result (out.new.items ≡ out.old.items
-        ++ block_text engine.now.factors engine.now.sheet) }
-{
-    for k in 0..CELL_COUNT {
-        push_cell(alloc, engine, entry_of(k), out)?;
-    }
-    Ok(())
 }
 
 #[tactic(auto, unfolding(crate::specs::Block::cell_line))]

@@ -1,10 +1,11 @@
 //! The bounds of a figure, in cents.
 ghost use Rattle.std.specs.Prelude.{◌≡◌, ◌<◌, true};
-ghost use Rattle.scr_num.specs.Rounding.{ceil_div, floor_div};
+ghost use Rattle.scr_num.specs.Rounding.{ceil_div, ends, floor_div};
 ghost use Rattle.scr_nodes.specs.Live.{is_live};
-ghost use Rattle.scr_cells.specs.Block.{bounds_at};
+ghost use Rattle.scr_cells.specs.Block.{bounds_at, bounds_of};
 
 use scr_nodes::Node;
+use scr_num::Span;
 use scr_tree::Engine;
 
 /// So many grains are a cent.
@@ -23,11 +24,17 @@ pub(crate) fn bounds_at(engine: &Engine, node: &Node) -> Bounds
     requires { is_live engine.now.sheet node.now ≡ true }
     ensures { result ≡ bounds_at engine.now.factors engine.now.sheet node.now }
 {
-    let grains = engine.span(*node);
+    bounds_of(engine.span(*node), engine.is_close(node))
+}
+
+/// The bounds of a figure in grains, with what is told of its choices.
+pub(crate) fn bounds_of(grains: Span, close: bool) -> Bounds
+    ensures { result ≡ bounds_of (ends grains) close }
+{
     Bounds {
         low: rounded_down(grains.low, GRAINS),
         high: rounded_up(grains.high, GRAINS),
-        close: engine.is_close(node),
+        close,
     }
 }
 

@@ -9,7 +9,7 @@ use crate::crew::Crew;
 use crate::printing::{number_of, push, push_fault, push_number};
 use crate::records::edit;
 use scr_book::Fault;
-use scr_cells::print_block;
+use scr_cells::Lines;
 use scr_io::Gate;
 use scr_tree::{Engine, Refusal};
 use std::alloc::{AllocError as NoMemory, Global};
@@ -22,15 +22,15 @@ pub struct Reply {
     pub refused: bool,
 }
 
-/// The first lines of the report, for the book as its file gives it.
+/// The first lines of the report, for the book as its file gives it. The lines of its block are kept for the blocks after it.
 #[tactic(auto, unfolding(crate::specs::Report::opening_text))]
-pub fn opening(alloc: Global, engine: &Engine) -> Result<Vec<u8>, NoMemory>
+pub fn opening(alloc: Global, engine: &Engine, lines: &mut Lines) -> Result<Vec<u8>, NoMemory>
     ensures text { IfOk result (λ text. text.items ≡ opening_text
         (block_text engine.now.factors) engine.now.sheet) }
 {
     let mut out = Vec::new(alloc);
     push(&mut out, "# 0 book\n")?;
-    print_block(alloc, engine, &mut out)?;
+    lines.print(alloc, engine, &mut out)?;
     Ok(out)
 }
 
@@ -41,6 +41,7 @@ pub fn reply_to<R: Threads + Sync, G: Gate + Sync>(
     crew: &Crew<'_, R, G>,
     alloc: Global,
     engine: &mut Engine,
+    lines: &mut Lines,
     number: u32,
     text: &[u8],
 ) -> Result<Reply, NoMemory>
@@ -55,7 +56,7 @@ pub fn reply_to<R: Threads + Sync, G: Gate + Sync>(
 {
     match edit(crew, alloc, engine, text) {
         Ok(()) => Ok(Reply {
-            text: accepted(alloc, engine, number)?,
+            text: accepted(alloc, engine, lines, number)?,
             refused: false,
         }),
         Err(Refusal::NoMemory) => Err(NoMemory),
@@ -67,13 +68,18 @@ pub fn reply_to<R: Threads + Sync, G: Gate + Sync>(
 }
 
 #[tactic(auto, unfolding(crate::specs::Report::accepted_text))]
-fn accepted(alloc: Global, engine: &Engine, number: u32) -> Result<Vec<u8>, NoMemory>
+fn accepted(
+    alloc: Global,
+    engine: &Engine,
+    lines: &mut Lines,
+    number: u32,
+) -> Result<Vec<u8>, NoMemory>
     ensures text { IfOk result (λ text. text.items ≡ accepted_text
         (block_text engine.now.factors) number engine.now.sheet) }
 {
     let mut out = start(alloc, number)?;
     push(&mut out, "ok\n")?;
-    print_block(alloc, engine, &mut out)?;
+    lines.print(alloc, engine, &mut out)?;
     Ok(out)
 }
 

@@ -8,6 +8,7 @@ ghost use Rattle.scr_run.specs.Writing.{WritesText};
 
 use crate::crew::Crew;
 use crate::replies::{opening, reply_to};
+use scr_cells::Lines;
 use scr_csv::lines;
 use scr_io::{Gate, Sink, write_all};
 use scr_tree::Engine;
@@ -40,7 +41,8 @@ pub fn write_report<R: Threads + Sync, K: Sink, G: Gate + Sync>(
     ensures refused { IfOk result (λ refused. refused ≡ any_refused
         (answers (records edits.now) engine.old.sheet)) }
 {
-    let Ok(text) = opening(alloc, engine) else {
+    let mut printed = Lines::new(alloc);
+    let Ok(text) = opening(alloc, engine, &mut printed) else {
         return Err(WriteFault::NoMemory);
     };
     match write_all(sink, text.as_slice()) {
@@ -49,7 +51,7 @@ pub fn write_report<R: Threads + Sync, K: Sink, G: Gate + Sync>(
     }
     let mut refused = false;
     for line in lines(edits) {
-        let Ok(reply) = reply_to(crew, alloc, engine, line.number, line.text) else {
+        let Ok(reply) = reply_to(crew, alloc, engine, &mut printed, line.number, line.text) else {
             return Err(WriteFault::NoMemory);
         };
         refused |= reply.refused;
