@@ -7,7 +7,7 @@ use scr_amounts::Bounds;
 use scr_cells::{rounded_down, rounded_up};
 use scr_nodes::Node;
 use scr_titles::unit_of;
-use scr_tree::Engine;
+use scr_tree::{Engine, Point};
 
 /// The bounds of a figure of the engine's book in hundredths of what is told of it, rounded outward.
 #[tactic(auto, using(crate::proofs::Roundings::scale_positive))]
@@ -15,7 +15,7 @@ pub(crate) fn bounds_of(engine: &Engine, node: &Node) -> Bounds
     requires { is_live engine.now.sheet node.now ≡ true }
     ensures { result ≡ told_bounds engine.now.factors engine.now.sheet node.now }
 {
-    let span = engine.span(*node);
+    let span = engine.span(Point::Figure(*node));
     let scale = unit_of(node).scale();
     Bounds {
         low: rounded_down(span.low, scale),
@@ -28,5 +28,5 @@ pub(crate) fn size_of(engine: &Engine, node: &Node) -> u128
     requires { is_live engine.now.sheet node.now ≡ true }
     ensures { result ≡ size engine.now.factors engine.now.sheet node.now }
 {
-    engine.span(*node).high.unsigned_abs()
+    engine.span(Point::Figure(*node)).high.unsigned_abs()
 }

@@ -6,7 +6,7 @@ use Rattle.scr_sheet.specs.declared.edit.Edit.{Edit}
 use Rattle.scr_sheet.specs.declared.roll.Roll.{Roll}
 use Rattle.scr_sheet.specs.declared.sheet.BalanceSheet.{BalanceSheet}
 use Rattle.scr_book.specs.RolledSheets.{RolledSheet}
-use Rattle.scr_book.specs.Rolls.{AreMoved, AreRollsOf, Await, CanGoBack, IsPrepared, IsReady, IsReturning, IsTaken, KeptRolls, roll_back, roll_of, standing_of}
+use Rattle.scr_book.specs.Rolls.{AreMoved, AreRollsOf, Await, CanGoBack, IsPrepared, IsReady, IsReturning, IsTaken, KeepsNumbers, KeptRolls, roll_back, roll_of, standing_of}
 use Rattle.scr_book.specs.Undone.{back, returned_by, sheet_before, Fits, FitsSheet}
 use Rattle.scr_book.specs.declared.rolls.Aim.{Aim}
 use Rattle.scr_book.specs.declared.undo.Undo.{Undo}
@@ -38,6 +38,9 @@ module _ (edit : Edit) (aim : Aim) (old new first next : BalanceSheet) (saw : fi
     module _ (book : RolledSheet) (view : book-of old before ≡ book) where
       pub moved-here : AreMoved edit book.sheet book.rolls now
       moved-here = subst (λ (b : RolledSheet). AreMoved edit b.sheet b.rolls now) view (taken.moved edit old before next-is ready-here)
+
+      pub numbers-here : KeepsNumbers book.rolls now
+      numbers-here = subst (λ (b : RolledSheet). KeepsNumbers b.rolls now) view (taken.numbers edit old before ready-here)
 
       pub goes-here : Valid old → CanGoBack (standing_of edit book.sheet book.rolls) book.sheet new now
       goes-here valid =

@@ -32,5 +32,6 @@ pub mod RollsLeft
 pub mod RollsOpening
 pub mod RollsAsked
 pub mod RollPlaces
+pub mod RollLists
 pub mod BookMoves
 pub mod Examples

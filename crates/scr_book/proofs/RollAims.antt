@@ -20,7 +20,7 @@ use Rattle.scr_sheet.specs.declared.edit.Edit.TheVariants as edits
 use Rattle.scr_sheet.specs.declared.keys.Table.TheVariants as tables
 use Rattle.scr_sheet.specs.declared.roll.Roll.TheVariants as rolls
 use Rattle.scr_sheet.proofs.Membership.{member-other}
-use Rattle.scr_book.specs.Rolls.{AreRollsOf, GroupNumber, HaveSeats, IsAwaited, KeptRolls, class_number, kind_number, liability_rolls, listed, number_of_roll, roll_of, same_table, seat_of_roll, seated_in, security_rolls}
+use Rattle.scr_book.specs.Rolls.{AreRollsOf, GroupNumber, HaveSeats, IsAwaited, IsOfRoll, KeptRolls, class_number, kind_number, liability_rolls, listed, number_of_roll, roll_of, same_table, seat_of_roll, seated_in, security_rolls}
 use Rattle.scr_book.specs.Sums.{place_of}
 use Rattle.scr_book.proofs.RollNumbers.{liability-own, security-own}
 use Rattle.scr_book.proofs.RollSettled.{same-table}
@@ -152,6 +152,29 @@ module _ (sheet : BalanceSheet) (kept : KeptRolls) (h : AreRollsOf sheet kept) w
     fits-in true (suc (suc (suc (suc (suc seat))))) = inl refl
     fits-in false (suc (suc (suc (suc (suc seat))))) = inl refl
 
+    -- and each is a roll's
+    group-owned : (of : Option (List ℕ)) → of ≡ group → group_number ≢ NOWHERE → IsOfRoll tables.Security group_number kept
+    group-owned None e some = absurd (some (subst (λ (o : Option (List ℕ)). GroupNumber o group_number kept) (sym e) is_group))
+    group-owned (Some g) e some = record { roll = rolls.Group g; of = refl; numbered = subst (λ (o : Option (List ℕ)). GroupNumber o group_number kept) (sym e) is_group }
+
+    grouped-owned : (b : Bool) → (if b then 10 else NOWHERE) ≢ NOWHERE → IsOfRoll tables.Security (if b then 10 else NOWHERE) kept
+    grouped-owned true some = record { roll = rolls.Grouped; of = refl; numbered = refl }
+    grouped-owned false some = absurd (some refl)
+
+    owned-in : (b : Bool) (seat : ℕ) → target seat (aims b) ≢ NOWHERE → IsOfRoll tables.Security (target seat (aims b)) kept
+    owned-in true zero some = record { roll = rolls.Class class; of = refl; numbered = refl }
+    owned-in false zero some = record { roll = rolls.Class class; of = refl; numbered = refl }
+    owned-in true (suc zero) some = grouped-owned (is_some group) some
+    owned-in false (suc zero) some = grouped-owned (is_some group) some
+    owned-in true (suc (suc zero)) some = group-owned group refl some
+    owned-in false (suc (suc zero)) some = group-owned group refl some
+    owned-in true (suc (suc (suc zero))) some = record { roll = rolls.Assets currency; of = refl; numbered = is_assets }
+    owned-in false (suc (suc (suc zero))) some = record { roll = rolls.Assets currency; of = refl; numbered = is_assets }
+    owned-in true (suc (suc (suc (suc zero)))) some = record { roll = rolls.Flows currency; of = refl; numbered = ap (option_map (λ n. n + 1)) is_assets }
+    owned-in false (suc (suc (suc (suc zero)))) some = absurd (some refl)
+    owned-in true (suc (suc (suc (suc (suc seat))))) some = absurd (some refl)
+    owned-in false (suc (suc (suc (suc (suc seat))))) some = absurd (some refl)
+
     -- what is masked is nowhere
     unmasked : (b : Bool) (seat : ℕ) → target seat (aims b) ≢ NOWHERE → target seat (aims b) ≡ target seat numbers
     unmasked true seat some = refl
@@ -203,6 +226,7 @@ module _ (sheet : BalanceSheet) (kept : KeptRolls) (h : AreRollsOf sheet kept) w
         elsewhere = elsewhere;
         own = own-security;
         none = none-security;
+        aimed = λ seat some. subst (λ n. IsOfRoll tables.Security n kept) (sym (aim-is seat)) (owned-in (is_paying row) seat (λ e. some (aim-is seat ∙ e)));
         others = others;
       };
       seated = awaits-row position_name row sheet.securities kept.securities (h.seated tables.Security) row_room;
@@ -255,6 +279,7 @@ module _ (sheet : BalanceSheet) (kept : KeptRolls) (h : AreRollsOf sheet kept) w
         elsewhere = elsewhere;
         own = own;
         none = none;
+        aimed = aimed;
         others = others;
       };
       seated = awaits-row stake_name stake sheet.funds kept.funds (h.seated tables.Fund) row_room;
@@ -266,6 +291,14 @@ module _ (sheet : BalanceSheet) (kept : KeptRolls) (h : AreRollsOf sheet kept) w
         closed-fits : (b : Bool) → number ≡ (if b then 0 else NOWHERE) → IsFor kept.funds.rolls 0 number
         closed-fits true e = subst (λ n. IsFor kept.funds.rolls 0 n) (sym e) (serves rolls.Closed 0 refl)
         closed-fits false e = inl e
+
+        closed-owned : (b : Bool) → number ≡ (if b then 0 else NOWHERE) → number ≢ NOWHERE → IsOfRoll tables.Fund number kept
+        closed-owned true e some = subst (λ n. IsOfRoll tables.Fund n kept) (sym e) (record { roll = rolls.Closed; of = refl; numbered = refl })
+        closed-owned false e some = absurd (some e)
+
+        aimed : (seat : ℕ) → target seat (number ∷ []) ≢ NOWHERE → IsOfRoll tables.Fund (target seat (number ∷ [])) kept
+        aimed zero some = closed-owned (is_closed stake) is some
+        aimed (suc seat) some = absurd (some refl)
 
         elsewhere : (other : Table) → same_table other tables.Fund ≡ false → HaveSeats other fund_after kept
         elsewhere tables.Security apart = h.seated tables.Security
@@ -313,6 +346,7 @@ module _ (sheet : BalanceSheet) (kept : KeptRolls) (h : AreRollsOf sheet kept) w
         elsewhere = elsewhere;
         own = own;
         none = none;
+        aimed = aimed;
         others = others;
       };
       seated = awaits-row group_name group-row sheet.groups kept.groups (h.seated tables.Group) row_room;
@@ -329,6 +363,10 @@ module _ (sheet : BalanceSheet) (kept : KeptRolls) (h : AreRollsOf sheet kept) w
         elsewhere tables.Bank apart = tt
         elsewhere tables.Rein apart = tt
         elsewhere tables.Curve apart = tt
+
+        aimed : (seat : ℕ) → target seat (0 ∷ []) ≢ NOWHERE → IsOfRoll tables.Group (target seat (0 ∷ [])) kept
+        aimed zero some = record { roll = rolls.Groups; of = refl; numbered = refl }
+        aimed (suc seat) some = absurd (some refl)
 
         own : (roll : Roll) (n : ℕ) → same_table (table_of roll) tables.Group ≡ true → number_of_roll roll kept ≡ Some n → eqb (target (seat_of_roll roll) (0 ∷ [])) n ≡ is_member roll name group_after
         own rolls.Groups n same e =
@@ -388,6 +426,7 @@ module _ (sheet : BalanceSheet) (kept : KeptRolls) (h : AreRollsOf sheet kept) w
         elsewhere = elsewhere;
         own = own;
         none = none;
+        aimed = aimed;
         others = others;
       };
       seated = awaits-row liability_name liability-row sheet.liabilities kept.liabilities (h.seated tables.Liability) row_room;
@@ -402,6 +441,17 @@ module _ (sheet : BalanceSheet) (kept : KeptRolls) (h : AreRollsOf sheet kept) w
         loss-fits : (projection : Projection) (b : Bool) → IsFor kept.liabilities.rolls (place_of projection) (if b then kind_number kind + place_of projection else NOWHERE)
         loss-fits projection true = serves (rolls.Losses kind projection) (kind_number kind + place_of projection) refl
         loss-fits projection false = inl refl
+
+        loss-owned : (projection : Projection) (b : Bool) → (if b then kind_number kind + place_of projection else NOWHERE) ≢ NOWHERE
+            → IsOfRoll tables.Liability (if b then kind_number kind + place_of projection else NOWHERE) kept
+        loss-owned projection true some = record { roll = rolls.Losses kind projection; of = refl; numbered = refl }
+        loss-owned projection false some = absurd (some refl)
+
+        aimed : (seat : ℕ) → loss_aim seat ≢ NOWHERE → IsOfRoll tables.Liability (loss_aim seat) kept
+        aimed seat some =
+            subst (λ n. IsOfRoll tables.Liability n kept) (sym (loss-aim-is seat))
+            (seat-cases (λ s n. n ≢ NOWHERE → IsOfRoll tables.Liability n kept) (λ projection. loss-owned projection (has_flows projection liability-row))
+            (λ z. record { roll = rolls.Lines currency; of = refl; numbered = is_lines }) (λ s past z. absurd (z refl)) seat (λ e. some (loss-aim-is seat ∙ e)))
 
         loss-room : (projection : Projection) (b : Bool) → (if b then kind_number kind + place_of projection else NOWHERE) ≢ NOWHERE
             → 0 < room_of (if b then kind_number kind + place_of projection else NOWHERE) kept.liabilities.rolls

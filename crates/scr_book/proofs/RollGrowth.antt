@@ -1,5 +1,5 @@
 -- Rolls that are ready for a record: there are more of them, or there is more room, and nothing has moved.
-use Rattle.std.proofs.Common.{◌≡◌, ◌⊎◌, inl, inr, ℕ, ◌+◌, ◌<◌, ◌≤◌, List, [], ◌∷◌, length, Option, Some, None, refl, sym, ap, subst, ◌∙◌, arith}
+use Rattle.std.proofs.Common.{◌≡◌, ◌⊎◌, inl, inr, ℕ, ◌+◌, ◌<◌, ◌≤◌, true, List, [], ◌∷◌, length, Option, Some, None, refl, sym, ap, subst, ◌∙◌, arith}
 use Rattle.std.specs.Option.{option_map, option_map_or}
 use Rattle.std.proofs.lemmas.Option.{slice_get_past}
 use Rattle.scr_rolls.specs.Members.{has}
@@ -10,7 +10,7 @@ use Rattle.scr_sheet.specs.Members.{table_of}
 use Rattle.scr_sheet.specs.declared.{sheet.BalanceSheet.BalanceSheet, keys.Table.Table, roll.Roll.Roll}
 use Rattle.scr_sheet.specs.declared.keys.Table.TheVariants as tables
 use Rattle.scr_sheet.specs.declared.roll.Roll.TheVariants as rolls
-use Rattle.scr_book.specs.Rolls.{AreKept, AreNumbered, AreRollsOf, AreSame, GivesNumber, HaveSeats, IsNew, KeptRolls, listed, number_of_roll, seat_of_roll, seated_in}
+use Rattle.scr_book.specs.Rolls.{AreKept, AreNumbered, AreRollsOf, AreSame, GivesNumber, HaveSeats, IsNew, IsOfRoll, KeptRolls, listed, number_of_roll, seat_of_roll, seated_in}
 
 -- a number that is none has no members
 pub names-past : (n : ℕ) (lists : List Numbered) → length lists ≤ n → names_of n lists ≡ []
@@ -73,8 +73,13 @@ module _ (sheet : BalanceSheet) (old new : KeptRolls) (kept : AreRollsOf sheet o
           first (inr f) = (grows (table_of roll)).names m ∙ names-past m (listed roll old) f.past
 
   numbered : AreNumbered new
-  numbered = record { own = λ roll n e. own roll n (given roll n e); groups = groups; assets = assets; lines = lines }
+  numbered = record { own = λ roll n e. own roll n (given roll n e); owned = owned; groups = groups; assets = assets; lines = lines }
     where
+      owned : (table : Table) (n : ℕ) (name : List ℕ) → has name (names_of n (seated_in table new).rolls) ≡ true → IsOfRoll table n new
+      owned table n name stands =
+          let was = kept.numbered.owned table n name (sym (ap (has name) ((grows table).names n)) ∙ stands) in
+          record { roll = was.roll; of = was.of; numbered = numbers was.roll n was.numbered }
+
       own : (roll : Roll) (n : ℕ) → ((number_of_roll roll old ≡ Some n) ⊎ IsFirst roll n old new)
           → (n < length (listed roll new)) × (seat_of n (listed roll new) ≡ seat_of_roll roll)
       own roll n (inl e) =

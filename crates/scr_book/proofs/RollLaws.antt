@@ -30,6 +30,13 @@ pub row-stands : (names : List (List ℕ)) (seated : Seated) → AreSeated names
     → StandsAt seated.rolls (get_or names k []) s (roll_in s (seat_at k seated.seats)) (place_in s (seat_at k seated.seats))
 row-stands names seated h apart k within s some = moves_of_seats.row-stands names seated h apart k within s some
 
+-- so it is a member of each roll in which its seats have it
+pub row-listed : (names : List (List ℕ)) (seated : Seated) → AreSeated names seated → IsDistinct same_name names → (k : ℕ) → k < length names → (x : List ℕ) → get_or names k [] ≡ x
+    → (s : ℕ) → roll_in s (seat_at k seated.seats) ≢ NOWHERE → has x (names_of (roll_in s (seat_at k seated.seats)) seated.rolls) ≡ true
+row-listed names seated h apart k within x named s some =
+    let at = row-stands names seated h apart k within s some in
+    returns_of_seats.has-at x (names_of (roll_in s (seat_at k seated.seats)) seated.rolls) (place_in s (seat_at k seated.seats)) at.within (at.named ∙ named)
+
 -- the seats of the row of a name are those at its place
 pub own-before : (names : List (List ℕ)) (seated : Seated) → AreSeated names seated → IsDistinct same_name names → (k : ℕ) → k < length names → (x : List ℕ) → get_or names k [] ≡ x
     → seats_of names seated.seats x ≡ seat_at k seated.seats

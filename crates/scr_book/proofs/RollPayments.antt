@@ -22,8 +22,8 @@ use Rattle.scr_sheet.specs.declared.{sheet.BalanceSheet.BalanceSheet, keys.Table
 use Rattle.scr_sheet.specs.declared.edit.Edit.TheVariants as edits
 use Rattle.scr_sheet.specs.declared.keys.Table.TheVariants as tables
 use Rattle.scr_sheet.specs.declared.roll.Roll.TheVariants as rolls
-use Rattle.scr_book.specs.Rolls.{AreRollsOf, HaveSeats, IsAwaited, IsPlaced, KeptRolls, listed, number_of_roll, roll_of, same_table, seat_of_roll, seated_in}
-use Rattle.scr_book.proofs.RollLaws.{own-before, row-has, row-stands}
+use Rattle.scr_book.specs.Rolls.{AreRollsOf, HaveSeats, IsAwaited, IsOfRoll, IsPlaced, KeptRolls, listed, number_of_roll, roll_of, same_table, seat_of_roll, seated_in}
+use Rattle.scr_book.proofs.RollLaws.{own-before, row-has, row-listed, row-stands}
 use Rattle.scr_book.proofs.RollNumbers.{more-apart, nowhere-apart}
 use Rattle.scr_book.proofs.RollSettled.{same-table}
 use Rattle.scr_book.proofs.RollAims.{apart-securities, few, others-at, serves}
@@ -189,6 +189,18 @@ module _ (sheet : BalanceSheet) (kept : KeptRolls) (h : AreRollsOf sheet kept) w
       fits seat true e = subst (λ s. IsFor kept.securities.rolls s number) ((Decides-eqb 4 seat).0 e) (subst (λ n. IsFor kept.securities.rolls 4 n) (sym is) (then-for (is_empty flows)))
       fits seat false e = stands-for seat
 
+      -- each is a roll's
+      then-owned : (empty : Bool) → then_paid empty ≢ NOWHERE → IsOfRoll tables.Security (then_paid empty) kept
+      then-owned true some = absurd (some refl)
+      then-owned false some = record { roll = rolls.Flows p.security.currency; of = refl; numbered = ap (option_map (λ n. n + 1)) currency-number }
+
+      aimed : (seat : ℕ) (t : Bool) → eqb 4 seat ≡ t → (if t then number else roll_in seat seats_own) ≢ NOWHERE
+          → IsOfRoll tables.Security (if t then number else roll_in seat seats_own) kept
+      aimed seat true e some = subst (λ n. IsOfRoll tables.Security n kept) (sym is) (then-owned (is_empty flows) (λ z. some (is ∙ z)))
+      aimed seat false e some =
+          h.numbered.owned tables.Security (roll_in seat seats_own) x
+          (row-listed names kept.securities (h.seated tables.Security) apart place (omega (arith, within, length-map sheet.securities position_name)) x named seat some)
+
       own-seats : seats_of (map position_name paid.securities) kept.securities.seats x ≡ seats_own
       own-seats = ap (λ (ns : List (List ℕ)). seats_of ns kept.securities.seats x) names-paid
           ∙ own-before names kept.securities (h.seated tables.Security) apart place (omega (arith, within, length-map sheet.securities position_name)) x named
@@ -211,6 +223,7 @@ module _ (sheet : BalanceSheet) (kept : KeptRolls) (h : AreRollsOf sheet kept) w
               ∙ sym (ap (λ o. option_map_or (has_security roll) o false) after-found) ∙ sym (ap (λ (t : Table). is_member_in t roll x paid) (same-table (table_of roll) tables.Security same));
           none = λ roll same e.
               ap (λ (t : Table). is_member_in t roll x paid) (same-table (table_of roll) tables.Security same) ∙ ap (λ o. option_map_or (has_security roll) o false) after-found ∙ none-paid roll same e;
+          aimed = λ seat some. aimed seat (eqb 4 seat) refl some;
           others = others;
         };
         seated = inl (subst (λ (ns : List (List ℕ)). AreSeated ns kept.securities) (sym names-paid) (h.seated tables.Security));

@@ -24,9 +24,9 @@ use Rattle.scr_sheet.specs.declared.edit.Edit.TheVariants as edits
 use Rattle.scr_sheet.specs.declared.keys.Table.TheVariants as tables
 use Rattle.scr_sheet.specs.declared.roll.Roll.TheVariants as rolls
 use Rattle.scr_sheet.proofs.Projections.{one_or_other, under-with}
-use Rattle.scr_book.specs.Rolls.{AreRollsOf, HaveSeats, IsAwaited, IsPlaced, KeptRolls, kind_number, listed, number_of_roll, roll_of, same_table, seat_of_roll, seated_in}
+use Rattle.scr_book.specs.Rolls.{AreRollsOf, HaveSeats, IsAwaited, IsOfRoll, IsPlaced, KeptRolls, kind_number, listed, number_of_roll, roll_of, same_table, seat_of_roll, seated_in}
 use Rattle.scr_book.specs.Sums.{place_of}
-use Rattle.scr_book.proofs.RollLaws.{own-before, row-has, row-stands}
+use Rattle.scr_book.proofs.RollLaws.{own-before, row-has, row-listed, row-stands}
 use Rattle.scr_book.proofs.RollNumbers.{kind-apart, more-apart, nowhere-apart}
 use Rattle.scr_book.proofs.RollSettled.{same-table}
 use Rattle.scr_book.proofs.RollAims.{apart-liabilities, few, others-at, serves}
@@ -216,6 +216,18 @@ module _ (sheet : BalanceSheet) (kept : KeptRolls) (h : AreRollsOf sheet kept) w
       fits seat true e = subst (λ s. IsFor kept.liabilities.rolls s number) ((Decides-eqb (place_of projection) seat).0 e) (subst (λ n. IsFor kept.liabilities.rolls (place_of projection) n) (sym is) (then-for (is_empty flows)))
       fits seat false e = stands-for seat
 
+      -- each is a roll's
+      then-owned : (empty : Bool) → then_paid empty ≢ NOWHERE → IsOfRoll tables.Liability (then_paid empty) kept
+      then-owned true some = absurd (some refl)
+      then-owned false some = record { roll = rolls.Losses p.kind projection; of = refl; numbered = refl }
+
+      aimed : (seat : ℕ) (t : Bool) → eqb (place_of projection) seat ≡ t → (if t then number else roll_in seat seats_own) ≢ NOWHERE
+          → IsOfRoll tables.Liability (if t then number else roll_in seat seats_own) kept
+      aimed seat true e some = subst (λ n. IsOfRoll tables.Liability n kept) (sym is) (then-owned (is_empty flows) (λ z. some (is ∙ z)))
+      aimed seat false e some =
+          h.numbered.owned tables.Liability (roll_in seat seats_own) x
+          (row-listed names kept.liabilities (h.seated tables.Liability) apart place (omega (arith, within, length-map sheet.liabilities liability_name)) x named seat some)
+
       own-seats : seats_of (map liability_name paid.liabilities) kept.liabilities.seats x ≡ seats_own
       own-seats = ap (λ (ns : List (List ℕ)). seats_of ns kept.liabilities.seats x) names-paid
           ∙ own-before names kept.liabilities (h.seated tables.Liability) apart place (omega (arith, within, length-map sheet.liabilities liability_name)) x named
@@ -238,6 +250,7 @@ module _ (sheet : BalanceSheet) (kept : KeptRolls) (h : AreRollsOf sheet kept) w
               ∙ sym (ap (λ o. option_map_or (has_liability roll) o false) after-found) ∙ sym (ap (λ (t : Table). is_member_in t roll x paid) (same-table (table_of roll) tables.Liability same));
           none = λ roll same e.
               ap (λ (t : Table). is_member_in t roll x paid) (same-table (table_of roll) tables.Liability same) ∙ ap (λ o. option_map_or (has_liability roll) o false) after-found ∙ none-paid roll same e;
+          aimed = λ seat some. aimed seat (eqb (place_of projection) seat) refl some;
           others = others;
         };
         seated = inl (subst (λ (ns : List (List ℕ)). AreSeated ns kept.liabilities) (sym names-paid) (h.seated tables.Liability));

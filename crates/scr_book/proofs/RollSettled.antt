@@ -1,13 +1,15 @@
 -- Rolls once the row of a record stands where it is to stand.
-use Rattle.std.proofs.Common.{◌≡◌, inl, inr, ℕ, ◌<◌, Bool, true, false, List, [], eqb, length, Option, Some, None, refl, sym, ap, subst, ◌∙◌, arith}
+use Rattle.std.proofs.Common.{◌≡◌, ◌⊎◌, inl, inr, ℕ, ◌<◌, ◌≤◌, Bool, true, false, List, [], eqb, length, Option, Some, None, refl, sym, ap, subst, ◌∙◌, arith}
 use Rattle.std.specs.Prelude.{if◌then◌else◌}
 use Rattle.std.specs.List.{IsDistinct}
 use Rattle.std.specs.Option.{option_map_or}
+use Rattle.std.proofs.lemmas.Bool.{cases_lt}
+use Rattle.std.proofs.lemmas.Bool.Decides.{Decides-eqb}
 use Rattle.scr_names.specs.Names.{same_name}
 use Rattle.scr_names.proofs.TableRows.{same_name-is, same_or_other}
 use Rattle.scr_rolls.specs.Members.{has, moved}
 use Rattle.scr_rolls.specs.Owned.{number_of}
-use Rattle.scr_rolls.specs.Seatings.{AreSeated, Seated, names_of, roll_in, seat_of}
+use Rattle.scr_rolls.specs.Seatings.{NOWHERE, AreSeated, Seated, names_of, roll_in, seat_of}
 use Rattle.scr_rolls.proofs.Settled.{moved-same}
 use Rattle.scr_sheet.specs.Members.{edit_name, is_member, table_of}
 use Rattle.scr_sheet.specs.Records.{applied}
@@ -15,7 +17,7 @@ use Rattle.scr_sheet.specs.declared.{sheet.BalanceSheet.BalanceSheet, edit.Edit.
 use Rattle.scr_sheet.specs.declared.keys.Table.TheVariants as tables
 use Rattle.scr_sheet.specs.declared.roll.Roll.TheVariants as rolls
 use Rattle.scr_book.specs.Places.{names_in}
-use Rattle.scr_book.specs.Rolls.{AreMoved, AreNumbered, AreRollsOf, HaveSeats, IsKnown, IsSettled, KeptRolls, listed, number_of_roll, roll_of, rolled, same_table, seated_in, seat_of_roll}
+use Rattle.scr_book.specs.Rolls.{AreMoved, AreNumbered, AreRollsOf, HaveSeats, IsKnown, IsOfRoll, IsSettled, KeptRolls, listed, number_of_roll, roll_of, rolled, same_table, seated_in, seat_of_roll}
 use Rattle.scr_book.proofs.RollGrowth.{names-past, same-numbers}
 use Rattle.scr_book.proofs.RollLaws.{apart-roll, has-moved}
 
@@ -56,6 +58,16 @@ apart-in tables.Group sheet kept own h n = apart-roll (names_in tables.Group she
 apart-in tables.Bank sheet kept own h n = absurd (cc)
 apart-in tables.Rein sheet kept own h n = absurd (cc)
 apart-in tables.Curve sheet kept own h n = absurd (cc)
+
+-- a table has few rolls
+pub few-of : (table : Table) (sheet : BalanceSheet) (kept : KeptRolls) → HaveSeats table sheet kept → length (seated_in table kept).rolls ≤ NOWHERE
+few-of tables.Security sheet kept h = h.few
+few-of tables.Fund sheet kept h = h.few
+few-of tables.Liability sheet kept h = h.few
+few-of tables.Group sheet kept h = h.few
+few-of tables.Bank sheet kept h = omega arith
+few-of tables.Rein sheet kept h = omega arith
+few-of tables.Curve sheet kept h = omega arith
 
 module _ (table : Table) (name : List ℕ) (aim : ℕ → ℕ) (sheet : BalanceSheet) (old new : KeptRolls) (known : IsKnown table name aim sheet old)
     (distinct : (n : ℕ) → IsDistinct same_name (names_of n (seated_in table old).rolls)) (settled : IsSettled table name aim sheet old new) where
@@ -130,9 +142,51 @@ module _ (table : Table) (name : List ℕ) (aim : ℕ → ℕ) (sheet : BalanceS
   seated : (other : Table) → HaveSeats other sheet new
   seated other = table-cases other table (λ same. subst (λ (t : Table). HaveSeats t sheet new) (sym (same-table other table same)) settled.seated) (seated-elsewhere other)
 
+  -- a list in which the row or another stands is a roll's
+  of-roll : (other : Table) (n : ℕ) → IsOfRoll other n old → IsOfRoll other n new
+  of-roll other n was = record { roll = was.roll; of = was.of; numbered = numbers was.roll ∙ was.numbered }
+
+  came : (n : ℕ) → n < length (seated_in table old).rolls → n < NOWHERE → roll_in (seat_of n (seated_in table old).rolls) settled.now ≡ n → IsOfRoll table n old
+  came n inside few at = by (settled.own seat (λ e. let never : ⊥ = omega (arith, few, at, e) in never))
+    where
+      seat : ℕ
+      seat = seat_of n (seated_in table old).rolls
+
+      by : (roll_in seat settled.now ≡ aim seat) ⊎ (has name (names_of (roll_in seat settled.now) (seated_in table old).rolls) ≡ true) → IsOfRoll table n old
+      by (inl aims) =
+          subst (λ m. IsOfRoll table m old) (sym aims ∙ at) (known.aimed seat (λ e. let never : ⊥ = omega (arith, few, at, aims, e) in never))
+      by (inr stood) = known.numbered.owned table n name (subst (λ m. has name (names_of m (seated_in table old).rolls) ≡ true) at stood)
+
+  owned-here : (n : ℕ) (other : List ℕ) → has other (names_of n (seated_in table new).rolls) ≡ true → IsOfRoll table n old
+  owned-here n other stands = at (cases_lt n (length (seated_in table old).rolls))
+    where
+      roll_before : List (List ℕ)
+      roll_before = names_of n (seated_in table old).rolls
+
+      at : ((n < length (seated_in table old).rolls) ⊎ (length (seated_in table old).rolls ≤ n)) → IsOfRoll table n old
+      at (inr past) =
+          let count = settled.keeps.count in
+          let nobody : names_of n (seated_in table new).rolls ≡ [] = names-past n (seated_in table new).rolls (omega (arith, past, count)) in
+          let never : false ≡ true = sym (ap (has other) nobody) ∙ stands in
+          absurd (cc)
+      at (inl inside) =
+          by (same_name name other) refl
+          (sym (ap (has other) (settled.names n inside) ∙ has-moved name other test roll_before (distinct n)) ∙ stands)
+        where
+          test : Bool
+          test = eqb (roll_in (seat_of n (seated_in table old).rolls) settled.now) n
+
+          by : (t : Bool) → same_name name other ≡ t → (if t then test else has other roll_before) ≡ true → IsOfRoll table n old
+          by true e is =
+              let most = few-of table sheet new settled.seated in
+              let count = settled.keeps.count in
+              came n inside (omega (arith, inside, most, count)) ((Decides-eqb (roll_in (seat_of n (seated_in table old).rolls) settled.now) n).0 is)
+          by false e is = known.numbered.owned table n other is
+
   numbered : AreNumbered new
   numbered = record {
     own = λ roll n e. own roll n (sym (numbers roll) ∙ e);
+    owned = owned;
     groups = λ one two n a b. known.numbered.groups one two n (ap (number_of one) (sym settled.of_groups) ∙ a) (ap (number_of two) (sym settled.of_groups) ∙ b);
     assets = λ one two n a b. known.numbered.assets one two n (ap (number_of one) (sym settled.of_assets) ∙ a) (ap (number_of two) (sym settled.of_assets) ∙ b);
     lines = λ one two n a b. known.numbered.lines one two n (ap (number_of one) (sym settled.of_lines) ∙ a) (ap (number_of two) (sym settled.of_lines) ∙ b);
@@ -154,6 +208,14 @@ module _ (table : Table) (name : List ℕ) (aim : ℕ → ℕ) (sheet : BalanceS
           let same = settled.elsewhere (table_of roll) apart in
           let had = known.numbered.own roll n e in
           (subst (λ (s : Seated). n < length s.rolls) (sym same) had.0, ap (λ (s : Seated). seat_of n s.rolls) same ∙ had.1))
+
+      owned : (other : Table) (n : ℕ) (x : List ℕ) → has x (names_of n (seated_in other new).rolls) ≡ true → IsOfRoll other n new
+      owned other n x stands =
+          table-cases other table
+          (λ same.
+          let is = same-table other table same in
+          subst (λ (t : Table). IsOfRoll t n new) (sym is) (of-roll table n (owned-here n x (subst (λ (t : Table). has x (names_of n (seated_in t new).rolls) ≡ true) is stands))))
+          (λ apart. of-roll other n (known.numbered.owned other n x (subst (λ (s : Seated). has x (names_of n s.rolls) ≡ true) (settled.elsewhere other apart) stands)))
 
   pub settled-rolls : AreRollsOf sheet new
   settled-rolls = record { numbered = numbered; seated = seated; members = members }

@@ -1,6 +1,6 @@
 -- What the steps that seat the row of a record come to.
 use Rattle.std.proofs.Common.{◌≡◌, ◌≢◌, inl, inr, ℕ, zero, suc, ◌<◌, ◌≤◌, Bool, true, false, List, [], ◌∷◌, length, map, set, eqb, slice_get, Option, Some, None, refl, sym, ap, subst, ◌∙◌, arith}
-use Rattle.std.specs.Prelude.{if◌then◌else◌}
+use Rattle.std.specs.Prelude.{◌⊎◌, if◌then◌else◌, slice_index_or}
 use Rattle.std.specs.List.{IsDistinct}
 use Rattle.std.specs.Option.{option_map, option_map_or}
 use Rattle.std.proofs.lemmas.Bool.Decides.{Decides-eqb}
@@ -69,6 +69,12 @@ module _ (lists mids : List Numbered) (rolls : List ℕ) (own : Seats) (aim : �
 
 -- ---- the row is settled
 
+-- the roll that a list names for a seat is told, or is the one in which the row stands
+then-cases : (rolls : List ℕ) (seat roll : ℕ) → (slice_index_or rolls seat roll ≡ slice_index_or rolls seat NOWHERE) ⊎ (slice_index_or rolls seat roll ≡ roll)
+then-cases [] seat roll = inr refl
+then-cases (first ∷ rolls) zero roll = inl refl
+then-cases (first ∷ rolls) (suc seat) roll = then-cases rolls seat roll
+
 -- by a list of rolls by seat
 module _ (table : Table) (name : List ℕ) (aim : ℕ → ℕ) (sheet : BalanceSheet) (old new : KeptRolls) (mid : Seated) (place : ℕ) (rolls : List ℕ)
     (same : mid.rolls ≡ (seated_in table old).rolls) (is : (seat : ℕ) → aim seat ≡ target seat rolls) where
@@ -86,11 +92,12 @@ module _ (table : Table) (name : List ℕ) (aim : ℕ → ℕ) (sheet : BalanceS
       → ((roll : Roll) → table_of roll ≡ table → seat_of_roll roll < length rolls)
       → HaveSeats table sheet new → KeepsSeats mid.rolls (seated_in table new).rolls → KeepsRoom mid.rolls (seated_in table new).rolls
       → name_at place names ≡ name → seats_of names (seated_in table new).seats name ≡ now
+      → ((seat : ℕ) → roll_in seat (seat_at place mid.seats) ≢ NOWHERE → has name (names_of (roll_in seat (seat_at place mid.seats)) mid.rolls) ≡ true)
       → ((seat : ℕ) → roll_in seat now ≡ roll_then seat rolls (seat_at place mid.seats))
       → ((n : ℕ) → n < length mid.rolls → names_of n (seated_in table new).rolls
       ≡ moved (name_at place names) (has (name_at place names) (names_of n mid.rolls)) (eqb (roll_then (seat_of n mid.rolls) rolls (seat_at place mid.seats)) n) (names_of n mid.rolls))
       → IsSettled table name aim sheet old new
-  settles elsewhere of_groups of_assets of_lines within seated keeps room named held own told = record {
+  settles elsewhere of_groups of_assets of_lines within seated keeps room named held stood own told = record {
     elsewhere = elsewhere;
     of_groups = of_groups;
     of_assets = of_assets;
@@ -101,9 +108,19 @@ module _ (table : Table) (name : List ℕ) (aim : ℕ → ℕ) (sheet : BalanceS
     now = now;
     held = held;
     stands = λ roll e. own (seat_of_roll roll) ∙ get_or_default rolls (seat_of_roll roll) (roll_in (seat_of_roll roll) (seat_at place mid.seats)) NOWHERE (within roll e) ∙ sym (is (seat_of_roll roll));
+    own = λ seat some. stands-by seat some (then-cases rolls seat (roll_in seat (seat_at place mid.seats)));
     names = λ n. subst (λ (l : List Numbered). Told l n) same (told-of n);
   }
     where
+      stands-by : (seat : ℕ) → roll_in seat now ≢ NOWHERE
+          → (roll_then seat rolls (seat_at place mid.seats) ≡ target seat rolls) ⊎ (roll_then seat rolls (seat_at place mid.seats) ≡ roll_in seat (seat_at place mid.seats))
+          → (roll_in seat now ≡ aim seat) ⊎ (has name (names_of (roll_in seat now) (seated_in table old).rolls) ≡ true)
+      stands-by seat some (inl e) = inl (own seat ∙ e ∙ sym (is seat))
+      stands-by seat some (inr e) =
+          let stays : roll_in seat now ≡ roll_in seat (seat_at place mid.seats) = own seat ∙ e in
+          inr (subst (λ (l : List Numbered). has name (names_of (roll_in seat now) l) ≡ true) same
+          (subst (λ n. has name (names_of n mid.rolls) ≡ true) (sym stays) (stood seat (λ z. some (stays ∙ z)))))
+
       told-of : (n : ℕ) → Told mid.rolls n
       told-of n inside =
           told n inside
@@ -167,6 +184,7 @@ module _ (table : Table) (sheet : BalanceSheet) (old new : KeptRolls) (place sea
     now = after;
     held = held;
     stands = λ roll e. own (seat_of_roll roll);
+    own = λ s some. inl (own s);
     names = λ n inside. names n inside (eqb (seat_of n (seated_in table old).rolls) seat) refl;
   }
     where
@@ -235,11 +253,13 @@ pub settles-first : (table : Table) (name : List ℕ) (sheet : BalanceSheet) (ol
     → ((roll : Roll) → table_of roll ≡ table → seat_of_roll roll ≡ 0)
     → HaveSeats table sheet new → KeepsSeats (seated_in table old).rolls (seated_in table new).rolls → KeepsRoom (seated_in table old).rolls (seated_in table new).rolls
     → roll_in 0 (seats_of (names_in table sheet) (seated_in table new).seats name) ≡ number
+    → ((seat : ℕ) → 0 < seat → roll_in seat (seats_of (names_in table sheet) (seated_in table new).seats name) ≢ NOWHERE
+    → has name (names_of (roll_in seat (seats_of (names_in table sheet) (seated_in table new).seats name)) (seated_in table old).rolls) ≡ true)
     → ((n : ℕ) → n < length (seated_in table old).rolls → names_of n (seated_in table new).rolls
     ≡ moved name (has name (names_of n (seated_in table old).rolls))
     (eqb (roll_in (seat_of n (seated_in table old).rolls) (seats_of (names_in table sheet) (seated_in table new).seats name)) n) (names_of n (seated_in table old).rolls))
     → IsSettled table name (λ s. target s (number ∷ [])) sheet old new
-settles-first table name sheet old new number elsewhere of_groups of_assets of_lines first seated keeps room own told = record {
+settles-first table name sheet old new number elsewhere of_groups of_assets of_lines first seated keeps room own stood told = record {
   elsewhere = elsewhere;
   of_groups = of_groups;
   of_assets = of_assets;
@@ -251,8 +271,15 @@ settles-first table name sheet old new number elsewhere of_groups of_assets of_l
   held = refl;
   stands = λ roll e.
       ap (λ s. roll_in s (seats_of (names_in table sheet) (seated_in table new).seats name)) (first roll e) ∙ own ∙ sym (ap (λ s. target s (number ∷ [])) (first roll e));
+  own = by;
   names = told;
 }
+  where
+    by : (seat : ℕ) → roll_in seat (seats_of (names_in table sheet) (seated_in table new).seats name) ≢ NOWHERE
+        → (roll_in seat (seats_of (names_in table sheet) (seated_in table new).seats name) ≡ target seat (number ∷ []))
+        ⊎ (has name (names_of (roll_in seat (seats_of (names_in table sheet) (seated_in table new).seats name)) (seated_in table old).rolls) ≡ true)
+    by zero some = inl own
+    by (suc seat) some = inr (stood (suc seat) (omega arith) some)
 
 -- ---- which seats the rolls of a table are in
 

@@ -1,19 +1,20 @@
 -- A row that goes back to where it stood.
-use Rattle.std.proofs.Common.{◌≡◌, ◌⊎◌, inl, ℕ, ◌<◌, Bool, true, false, List, [], length, eqb, Option, Some, None, is_some, refl, sym, ap, subst, ◌∙◌}
+use Rattle.std.proofs.Common.{◌≡◌, ◌≢◌, ◌⊎◌, inl, ℕ, ◌<◌, Bool, true, false, List, [], length, eqb, Option, Some, None, is_some, refl, sym, ap, subst, ◌∙◌}
 use Rattle.std.specs.Prelude.{if◌then◌else◌}
 use Rattle.std.specs.List.{IsDistinct, list_any}
 use Rattle.std.specs.Option.{option_map_or}
 use Rattle.scr_names.specs.Names.{same_name}
 use Rattle.scr_rolls.specs.Members.{has, returned}
-use Rattle.scr_rolls.specs.Seatings.{AreSeated, CanReturn, Seated, free, names_of, place_in, roll_in, seat_of, seats_now, seats_of, stood}
+use Rattle.scr_rolls.specs.Seatings.{NOWHERE, AreSeated, CanReturn, Seated, free, names_of, place_in, roll_in, seat_of, seats_now, seats_of, stood}
 use Rattle.scr_rolls.specs.declared.seats.Seats.{Seats}
 use Rattle.scr_sheet.specs.BalanceSheet.{bank_name, curve_name, group_name, is_in, liability_name, position_name, rein_name, stake_name}
 use Rattle.scr_sheet.specs.Members.{is_member, table_of}
 use Rattle.scr_sheet.specs.declared.{sheet.BalanceSheet.BalanceSheet, keys.Table.Table, roll.Roll.Roll}
 use Rattle.scr_book.specs.Places.{names_in}
-use Rattle.scr_book.specs.Rolls.{AreRollsOf, GoesBack, GoesIn, IsSettled, KeptRolls, listed, number_of_roll, roll_back, roll_of, same_table, seat_of_roll, seated_in, seats_before, stands_in}
+use Rattle.scr_book.specs.Rolls.{AreRollsOf, GoesBack, GoesIn, IsOfRoll, IsSettled, KeptRolls, listed, number_of_roll, roll_back, roll_of, same_table, seat_of_roll, seated_in, seats_before, stands_in}
 use Rattle.scr_book.specs.declared.rolls.Standing.{Standing}
 use Rattle.scr_rolls.proofs.SeatMoves.{has_row-listed, nowhere}
+use Rattle.scr_rolls.proofs.SeatReturns.{has-at}
 use Rattle.scr_rolls.proofs.SeatTables.{seats-none}
 use Rattle.scr_sheet.specs.declared.keys.Table.TheVariants as tables
 use Rattle.scr_book.proofs.RollGrowth.{same-numbers}
@@ -112,6 +113,14 @@ module _ (table : Table) (own : same_table table table ≡ true) (x : List ℕ) 
       let there : number_of_roll roll mid ≡ None = sym (numbers roll) ∙ found in
       sym (kept.members roll x) ∙ ap (λ (o : Option ℕ). has x (option_map_or (λ m. names_of m (listed roll mid)) o [])) there
 
+  -- where it stood, it was a member
+  goes-stood : (seat : ℕ) → roll_in seat (seats_before standing) ≢ NOWHERE → IsOfRoll table (roll_in seat (seats_before standing)) new
+  goes-stood seat some =
+      subst (λ (s : Seats). IsOfRoll table (roll_in seat s) new) (sym before-seats)
+      (let at = seated.there x seat (λ e. some (ap (roll_in seat) before-seats ∙ e)) in
+      let was = kept.numbered.owned table (roll_in seat seats) x (has-at x (names_of (roll_in seat seats) (seated_in table mid).rolls) (place_in seat seats) at.within at.named) in
+      record { roll = was.roll; of = was.of; numbered = numbers was.roll ∙ was.numbered })
+
   -- it can go back without memory
   goes-seats : (is_in table x before ≡ true → seats_now (names_in table before) (seated_in table new).seats x ≡ settled.now) → (seat : ℕ)
       → CanReturn (seated_in table new).rolls (seats_now (names_in table before) (seated_in table new).seats x) (seats_before standing) seat
@@ -137,5 +146,6 @@ module _ (table : Table) (own : same_table table table ≡ true) (x : List ℕ) 
     others = others;
     own = goes-own;
     none = λ roll same found. goes-none roll found;
+    stood = goes-stood;
     seats = λ seat inside. goes-seats is seat;
   }

@@ -19,6 +19,7 @@ use Rattle.scr_book.specs.Rolls.{AreMoved, AreReady, AreRollsOf, CanGoBack, IsAi
 use Rattle.scr_book.specs.declared.rolls.Aim.{Aim}
 use Rattle.scr_book.specs.declared.rolls.Aim.TheVariants as aims
 use Rattle.scr_book.specs.declared.rolls.Standing.{Standing}
+use Rattle.scr_book.proofs.RollGrowth.{same-numbers}
 use Rattle.scr_book.proofs.RollSettled.{moved-all, moves, settled-rolls}
 use Rattle.scr_book.proofs.RollSteps.{apart-awaited, seated-in}
 use Rattle.scr_book.proofs.RollWays.{Way, goes-in, ways}
@@ -100,6 +101,7 @@ module _ (table : Table) (own : same_table table table ≡ true) (name : List �
   taken aim_of aimed of called = record {
     rolls = then-rolls;
     moved = λ edit before first is ready. let a = aimed edit before first ready in then-moved edit before first is (named edit before first is a) a.kept a.ready;
+    numbers = λ edit before first ready roll n e. same-numbers roll old new settled.of_groups settled.of_assets settled.of_lines ∙ (aimed edit before first ready).ready.numbers roll n e;
     back = λ edit before first valid is ready.
         let a = aimed edit before first ready in
         then-back edit before first is (named edit before first is a) a.kept a.ready valid (a.table ∙ ap (λ t. Some t) of);
@@ -116,6 +118,7 @@ pub taken-still : (sheet : BalanceSheet) (kept : KeptRolls) → AreRollsOf sheet
 taken-still sheet kept h = record {
   rolls = h;
   moved = λ edit before first is ready. ready.moved;
+  numbers = λ edit before first ready. ready.numbers;
   back = λ edit before first valid is ready. subst (λ (s : BalanceSheet). CanGoBack (standing_of edit before first) before s kept) (sym is) ready.back;
   returns = λ edit before first valid is ready. ready.returns;
 }

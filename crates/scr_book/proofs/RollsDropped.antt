@@ -27,7 +27,7 @@ use Rattle.scr_book.specs.Places.{names_in}
 use Rattle.scr_book.specs.Rolls.{AreMoved, AreRollsOf, CanGoBack, Goes, GoesIn, HaveSeats, IsDone, IsPrepared, IsSettled, KeptRolls, moves_in, roll_back, same_table, seat_of_roll, seated_in, standing_of, stands_in}
 use Rattle.scr_book.specs.declared.rolls.Aim.TheVariants as aims
 use Rattle.scr_book.specs.declared.rolls.Standing.{Standing}
-use Rattle.scr_book.proofs.RollGrowth.{kept-same}
+use Rattle.scr_book.proofs.RollGrowth.{kept-same, same-numbers}
 use Rattle.scr_book.proofs.RollNumbers.{nowhere-apart}
 use Rattle.scr_book.proofs.RollSettled.{apart-in, moved-all, moves, settled-rolls}
 use Rattle.scr_book.proofs.RollSteps.{seated-in}
@@ -62,6 +62,7 @@ still-names edit sheet none table own = absurd (cc)
 pub done-none : (edit : Edit) (sheet : BalanceSheet) (kept : KeptRolls) → moves_in edit ≡ None → IsDone edit sheet kept kept
 done-none edit sheet kept none = record {
   moved = still-moved edit sheet kept none;
+  numbers = λ roll n e. e;
   back = subst (λ (o : Option Standing). CanGoBack o sheet (applied edit sheet) kept) (sym standing)
       (record { names = still-names edit sheet none; members = λ roll name. sym (still-members edit sheet none roll name) });
   returns = λ roll. ap (λ (o : Option Standing). roll_back o roll kept) standing;
@@ -102,6 +103,7 @@ module _ (table : Table) (own : same_table table table ≡ true) (edit : Edit) (
     now = free;
     held = seats-none (names_in table before) (seated_in table kept).seats x seated.beside unlisted;
     stands = λ roll e. nowhere (seat_of_roll roll);
+    own = λ seat some. absurd (some (nowhere seat));
     names = names;
   }
     where
@@ -121,6 +123,7 @@ module _ (table : Table) (own : same_table table table ≡ true) (edit : Edit) (
     awaits = subst (λ (s : BalanceSheet). AreRollsOf s kept) (sym same) h;
     ready = record {
       moved = unmoved edit before kept (λ roll. ap (is_member roll x) same);
+      numbers = λ roll n e. e;
       back = settled-back table own (λ seat. NOWHERE) edit before kept kept kept valid table_is h (kept-same before kept h).ready absent-then way;
       returns = settled-returns table own (λ seat. NOWHERE) edit before kept kept kept valid table_is h (kept-same before kept h).ready absent-then;
     };
@@ -233,6 +236,7 @@ module _ (table : Table) (own : same_table table table ≡ true) (x : List ℕ) 
     now = free;
     held = seats-none (names_in table after) (seated_in table new).seats x is.beside (sym (listed-in table x after) ∙ gone-in x before valid new free table own);
     stands = λ roll e. nowhere (seat_of_roll roll);
+    own = λ seat some. absurd (some (nowhere seat));
     names = names-then;
   }
     where
@@ -261,6 +265,7 @@ module _ (table : Table) (own : same_table table table ≡ true) (x : List ℕ) 
   unfolding dropped-settled
   dropped-done = record {
     moved = dropped-moved;
+    numbers = λ roll n e. same-numbers roll old new of_groups of_assets of_lines ∙ e;
     back = subst (λ (o : Option Standing). CanGoBack o before after new) (sym standing)
         (can-go-back table own x (λ seat. NOWHERE) before after old new h was (once-in table before valid own) dropped-settled
         (λ other apart. stay-in x before valid new free table other own apart) others

@@ -15,7 +15,7 @@ use Rattle.scr_sheet.specs.declared.keys.Table.TheVariants as tables
 use Rattle.scr_sheet.specs.declared.roll.Roll.TheVariants as list_of
 use Rattle.scr_sheet.specs.declared.rows.Class.TheVariants as classes
 use Rattle.scr_sheet.specs.declared.rows.LiabilityKind.TheVariants as kinds
-use Rattle.scr_book.specs.Rolls.{AreRollsOf, HaveSeats, KeptRolls, class_number, kind_number, listed, number_of_roll, roll_of, seat_of_roll, seated_in}
+use Rattle.scr_book.specs.Rolls.{AreRollsOf, HaveSeats, IsOfRoll, KeptRolls, class_number, kind_number, listed, number_of_roll, roll_of, seat_of_roll, seated_in}
 use Rattle.scr_book.specs.Sums.{place_of}
 use Rattle.scr_book.proofs.RollGrowth.{names-past}
 
@@ -101,16 +101,19 @@ module _ (kept : KeptRolls) (securities : AreFresh security_seats kept.securitie
   unowned : (owned : Owned) (name : List ℕ) → owned.numbers ≡ [] → number_of name owned ≡ None
   unowned owned name empty = ap (lookup (same_name name)) empty
 
+  at : (table : Table) (n : ℕ) → names_of n (seated_in table kept).rolls ≡ []
+  at tables.Security n = securities.names n
+  at tables.Fund n = funds.names n
+  at tables.Liability n = liabilities.names n
+  at tables.Group n = groups.names n
+  at table n = names-past n [] (omega arith)
+
+  owned : (table : Table) (n : ℕ) (name : List ℕ) → has name (names_of n (seated_in table kept).rolls) ≡ true → IsOfRoll table n kept
+  owned table n name stands = let never : false ≡ true = sym (ap (has name) (at table n)) ∙ stands in absurd (cc)
+
   none : (roll : Roll) → roll_of roll kept ≡ []
   none roll = by (number_of_roll roll kept) (table_of roll)
     where
-      at : (table : Table) (n : ℕ) → names_of n (seated_in table kept).rolls ≡ []
-      at tables.Security n = securities.names n
-      at tables.Fund n = funds.names n
-      at tables.Liability n = liabilities.names n
-      at tables.Group n = groups.names n
-      at table n = names-past n [] (omega arith)
-
       by : (found : Option ℕ) (table : Table) → option_map_or (λ n. names_of n (seated_in table kept).rolls) found [] ≡ []
       by None table = refl
       by (Some n) table = at table n
@@ -176,7 +179,7 @@ module _ (kept : KeptRolls) (securities : AreFresh security_seats kept.securitie
 
   pub opening-rolls : AreRollsOf opening kept
   opening-rolls = record {
-    numbered = record { own = own; groups = apart kept.of_groups of_groups; assets = apart kept.of_assets of_assets; lines = apart kept.of_lines of_lines };
+    numbered = record { own = own; owned = owned; groups = apart kept.of_groups of_groups; assets = apart kept.of_assets of_assets; lines = apart kept.of_lines of_lines };
     seated = seats;
     members = λ roll name. ap (has name) (none roll) ∙ sym (nobody roll name);
   }

@@ -1,20 +1,23 @@
 -- Rolls once a row stands again where it stood.
-use Rattle.std.proofs.Common.{◌≡◌, inl, inr, ℕ, ◌<◌, ◌≤◌, true, false, List, [], length, Option, Some, None, is_some, refl, sym, ap, subst, ◌∙◌, arith}
+use Rattle.std.proofs.Common.{◌≡◌, ◌⊎◌, inl, inr, ℕ, ◌<◌, ◌≤◌, Bool, true, false, List, [], eqb, length, Option, Some, None, is_some, refl, sym, ap, subst, ◌∙◌, arith}
 use Rattle.std.specs.Prelude.{if◌then◌else◌}
 use Rattle.std.specs.Option.{option_map_or}
+use Rattle.std.proofs.lemmas.Bool.{cases_lt}
+use Rattle.std.proofs.lemmas.Bool.Decides.{Decides-eqb}
+use Rattle.scr_names.specs.Names.{same_name}
 use Rattle.scr_names.proofs.TableRows.{same_name-is, same_or_other}
 use Rattle.scr_rolls.specs.Members.{has, returned}
 use Rattle.scr_rolls.specs.Owned.{number_of}
-use Rattle.scr_rolls.specs.Seatings.{AreSeated, Seated, names_of, seat_of, stood}
+use Rattle.scr_rolls.specs.Seatings.{AreSeated, Seated, names_of, place_in, roll_in, seat_of, stood}
 use Rattle.scr_sheet.specs.Members.{is_member, table_of}
 use Rattle.scr_sheet.specs.declared.{sheet.BalanceSheet.BalanceSheet, keys.Table.Table, roll.Roll.Roll}
 use Rattle.scr_sheet.specs.declared.keys.Table.TheVariants as tables
 use Rattle.scr_book.specs.Places.{names_in}
-use Rattle.scr_book.specs.Rolls.{AreNumbered, AreRollsOf, GoesBack, HaveReturned, HaveSeats, IsRegained, KeptRolls, listed, number_of_roll, roll_back, roll_of, same_table, seat_of_roll, seated_in, seats_before}
+use Rattle.scr_book.specs.Rolls.{AreNumbered, AreRollsOf, GoesBack, HaveReturned, HaveSeats, IsOfRoll, IsRegained, KeptRolls, listed, number_of_roll, roll_back, roll_of, same_table, seat_of_roll, seated_in, seats_before}
 use Rattle.scr_book.specs.declared.rolls.Standing.{Standing}
-use Rattle.scr_book.proofs.RollGrowth.{same-numbers}
+use Rattle.scr_book.proofs.RollGrowth.{names-past, same-numbers}
 use Rattle.scr_book.proofs.RollLaws.{has-returned}
-use Rattle.scr_book.proofs.RollSettled.{apart-in, same-table, table-cases}
+use Rattle.scr_book.proofs.RollSettled.{apart-in, few-of, same-table, table-cases}
 
 module _ (standing : Standing) (own : same_table standing.table standing.table ≡ true) (goal sheet : BalanceSheet) (first new : KeptRolls)
     (kept : AreRollsOf sheet first) (goes : GoesBack standing goal sheet first)
@@ -114,9 +117,51 @@ module _ (standing : Standing) (own : same_table standing.table standing.table �
   seated : (other : Table) → HaveSeats other goal new
   seated other = table-cases other table (λ same. subst (λ (t : Table). HaveSeats t goal new) (sym (same-table other table same)) regained.seated) (seated-elsewhere other)
 
+  -- a list in which the row or another stands is a roll's
+  of-roll : (other : Table) (n : ℕ) → IsOfRoll other n first → IsOfRoll other n new
+  of-roll other n was = record { roll = was.roll; of = was.of; numbered = numbers was.roll ∙ was.numbered }
+
+  owned-here : (n : ℕ) (other : List ℕ) → has other (names_of n (seated_in table new).rolls) ≡ true → IsOfRoll table n first
+  owned-here n other stands = by-member (has other (names_of n (seated_in table first).rolls)) refl
+    where
+      roll_before : List (List ℕ)
+      roll_before = names_of n (seated_in table first).rolls
+
+      seat : ℕ
+      seat = seat_of n (seated_in table first).rolls
+
+      -- the row came to it
+      comes : n < length (seated_in table first).rolls → (t : Bool) → eqb (roll_in seat (seats_before standing)) n ≡ t
+          → has other (returned name (if t then Some (place_in seat (seats_before standing)) else None) roll_before) ≡ true → has other roll_before ≡ false → IsOfRoll table n first
+      comes inside true at there absent =
+          let most = few-of table sheet first (kept.seated table) in
+          let is : roll_in seat (seats_before standing) ≡ n = (Decides-eqb (roll_in seat (seats_before standing)) n).0 at in
+          subst (λ m. IsOfRoll table m first) is (goes.stood seat (λ e. let never : ⊥ = omega (arith, inside, most, is, e) in never))
+      comes inside false at there absent =
+          let told =
+          has-returned name other None roll_before (apart-in table sheet first own (kept.seated table) n) (λ place none. let never : None ≡ Some place = none in absurd (cc)) in
+          by (same_name name other) told
+        where
+          by : (t : Bool) → has other (returned name None roll_before) ≡ (if t then false else has other roll_before) → IsOfRoll table n first
+          by true e = let never : true ≡ false = sym there ∙ e in absurd (cc)
+          by false e = let never : true ≡ false = sym there ∙ e ∙ absent in absurd (cc)
+
+      by-member : (t : Bool) → has other roll_before ≡ t → IsOfRoll table n first
+      by-member true member = kept.numbered.owned table n other member
+      by-member false absent = at (cases_lt n (length (seated_in table first).rolls))
+        where
+          at : ((n < length (seated_in table first).rolls) ⊎ (length (seated_in table first).rolls ≤ n)) → IsOfRoll table n first
+          at (inr past) =
+              let count = regained.keeps.count in
+              let nobody : names_of n (seated_in table new).rolls ≡ [] = names-past n (seated_in table new).rolls (omega (arith, past, count)) in
+              let never : false ≡ true = sym (ap (has other) nobody) ∙ stands in
+              absurd (cc)
+          at (inl inside) = comes inside (eqb (roll_in seat (seats_before standing)) n) refl (sym (ap (has other) (regained.names n inside)) ∙ stands) absent
+
   numbered : AreNumbered new
   numbered = record {
     own = λ roll n e. own-number roll n (sym (numbers roll) ∙ e);
+    owned = owned;
     groups = λ one two n a b. kept.numbered.groups one two n (ap (number_of one) (sym regained.of_groups) ∙ a) (ap (number_of two) (sym regained.of_groups) ∙ b);
     assets = λ one two n a b. kept.numbered.assets one two n (ap (number_of one) (sym regained.of_assets) ∙ a) (ap (number_of two) (sym regained.of_assets) ∙ b);
     lines = λ one two n a b. kept.numbered.lines one two n (ap (number_of one) (sym regained.of_lines) ∙ a) (ap (number_of two) (sym regained.of_lines) ∙ b);
@@ -138,6 +183,14 @@ module _ (standing : Standing) (own : same_table standing.table standing.table �
           let same = regained.elsewhere (table_of roll) apart in
           let had = kept.numbered.own roll n e in
           (subst (λ (s : Seated). n < length s.rolls) (sym same) had.0, ap (λ (s : Seated). seat_of n s.rolls) same ∙ had.1))
+
+      owned : (other : Table) (n : ℕ) (x : List ℕ) → has x (names_of n (seated_in other new).rolls) ≡ true → IsOfRoll other n new
+      owned other n x stands =
+          table-cases other table
+          (λ same.
+          let is = same-table other table same in
+          subst (λ (t : Table). IsOfRoll t n new) (sym is) (of-roll table n (owned-here n x (subst (λ (t : Table). has x (names_of n (seated_in t new).rolls) ≡ true) is stands))))
+          (λ apart. of-roll other n (kept.numbered.owned other n x (subst (λ (s : Seated). has x (names_of n s.rolls) ≡ true) (regained.elsewhere other apart) stands)))
 
   pub have-returned : HaveReturned (Some standing) goal first new
   have-returned = record { kept = record { numbered = numbered; seated = seated; members = members }; rolls = rolls }

@@ -156,6 +156,7 @@ known-dropped table name sheet kept valid h own = record {
   elsewhere = dropped-seats table name sheet kept h.seated;
   own = λ roll n same e. nowhere-apart n (few sheet kept h roll n e) ∙ sym (gone roll same);
   none = λ roll same e. gone roll same;
+  aimed = λ seat some. absurd (some refl);
   others = others;
 }
   where

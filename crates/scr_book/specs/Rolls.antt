@@ -111,12 +111,24 @@ AreMoved edit sheet old new = (roll : Roll) → roll_of roll new ≡ rolled edit
 abbrev pub AreSame : (old new : KeptRolls) → Type 0
 AreSame old new = (roll : Roll) → roll_of roll new ≡ roll_of roll old
 
+-- a roll that has a number keeps it
+abbrev pub KeepsNumbers : (old new : KeptRolls) → Type 0
+KeepsNumbers old new = (roll : Roll) (number : ℕ) → number_of_roll roll old ≡ Some number → number_of_roll roll new ≡ Some number
+
 -- ---- rolls that are those of a sheet
 
--- each number is that of a roll for the seat, and no two groups and no two currencies have one number
+-- this number, among those of a table, is that of a roll
+pub record IsOfRoll (table : Table) (number : ℕ) (kept : KeptRolls) : Type 0 where
+  pub roll : Roll
+  pub of : table_of roll ≡ table
+  pub numbered : number_of_roll roll kept ≡ Some number
+
+-- each number is that of a roll for the seat, nobody stands in a list that is no roll's, and no two groups and no two currencies have one
+-- number
 pub record AreNumbered (kept : KeptRolls) : Type 0 where
   pub own : (roll : Roll) (number : ℕ) → number_of_roll roll kept ≡ Some number
       → (number < length (listed roll kept)) × (seat_of number (listed roll kept) ≡ seat_of_roll roll)
+  pub owned : (table : Table) (number : ℕ) (name : List ℕ) → has name (names_of number (seated_in table kept).rolls) ≡ true → IsOfRoll table number kept
   pub groups : (one two : List ℕ) (number : ℕ) → number_of one kept.of_groups ≡ Some number → number_of two kept.of_groups ≡ Some number → one ≡ two
   pub assets : (one two : List ℕ) (number : ℕ) → number_of one kept.of_assets ≡ Some number → number_of two kept.of_assets ≡ Some number → one ≡ two
   pub lines : (one two : List ℕ) (number : ℕ) → number_of one kept.of_lines ≡ Some number → number_of two kept.of_lines ≡ Some number → one ≡ two
@@ -160,6 +172,7 @@ pub record IsKnown (table : Table) (name : List ℕ) (aim : ℕ → ℕ) (sheet 
   pub own : (roll : Roll) (number : ℕ) → same_table (table_of roll) table ≡ true → number_of_roll roll kept ≡ Some number
       → (aim (seat_of_roll roll) == number) ≡ is_member roll name sheet
   pub none : (roll : Roll) → same_table (table_of roll) table ≡ true → number_of_roll roll kept ≡ None → is_member roll name sheet ≡ false
+  pub aimed : (seat : ℕ) → aim seat ≢ NOWHERE → IsOfRoll table (aim seat) kept
   pub others : (roll : Roll) (other : List ℕ) → ((same_table (table_of roll) table ≡ false) ⊎ (same_name name other ≡ false))
       → has other (roll_of roll kept) ≡ is_member roll other sheet
 
@@ -220,7 +233,7 @@ aim_name (aims.Projected place seat number) sheet = name_at place (names_in tabl
 -- no roll has lost its number, its members or its room, and no row its seats
 pub record AreReady (first now : KeptRolls) : Type 0 where
   pub rolls : AreSame first now
-  pub numbers : (roll : Roll) (number : ℕ) → number_of_roll roll first ≡ Some number → number_of_roll roll now ≡ Some number
+  pub numbers : KeepsNumbers first now
   pub seats : (table : Table) → (seated_in table now).seats ≡ (seated_in table first).seats
 
 -- a number that an owner is given is the first of new rolls, one for each of these seats
@@ -252,6 +265,8 @@ pub record IsSettled (table : Table) (name : List ℕ) (aim : ℕ → ℕ) (shee
   pub now : Seats
   pub held : seats_of (names_in table sheet) (seated_in table new).seats name ≡ now
   pub stands : (roll : Roll) → table_of roll ≡ table → roll_in (seat_of_roll roll) now ≡ aim (seat_of_roll roll)
+  pub own : (seat : ℕ) → roll_in seat now ≢ NOWHERE
+      → (roll_in seat now ≡ aim seat) ⊎ (has name (names_of (roll_in seat now) (seated_in table old).rolls) ≡ true)
   pub names : (number : ℕ) → number < length (seated_in table old).rolls → names_of number (seated_in table new).rolls
       ≡ moved name (has name (names_of number (seated_in table old).rolls))
       (roll_in (seat_of number (seated_in table old).rolls) now == number) (names_of number (seated_in table old).rolls)
@@ -317,6 +332,7 @@ pub record GoesBack (standing : Standing) (goal sheet : BalanceSheet) (kept : Ke
   pub own : (roll : Roll) (number : ℕ) → same_table (table_of roll) standing.table ≡ true → number_of_roll roll kept ≡ Some number
       → is_some (stood (seat_of_roll roll) number (seats_before standing)) ≡ is_member roll standing.name goal
   pub none : (roll : Roll) → same_table (table_of roll) standing.table ≡ true → number_of_roll roll kept ≡ None → is_member roll standing.name goal ≡ false
+  pub stood : (seat : ℕ) → roll_in seat (seats_before standing) ≢ NOWHERE → IsOfRoll standing.table (roll_in seat (seats_before standing)) kept
   pub seats : (seat : ℕ) → seat < 11 → CanReturn (seated_in standing.table kept).rolls
       (seats_now (names_in standing.table goal) (seated_in standing.table kept).seats standing.name) (seats_before standing) seat
 
@@ -351,6 +367,7 @@ pub record IsAimed (edit : Edit) (sheet : BalanceSheet) (aim : Aim) (first now :
 -- all that the record moves has moved, and can go back
 pub record IsDone (edit : Edit) (sheet : BalanceSheet) (first now : KeptRolls) : Type 0 where
   pub moved : AreMoved edit sheet first now
+  pub numbers : KeepsNumbers first now
   pub back : CanGoBack (standing_of edit sheet first) sheet (applied edit sheet) now
   pub returns : (roll : Roll) → roll_back (standing_of edit sheet first) roll now ≡ roll_of roll first
 
@@ -367,6 +384,7 @@ pub record IsPrepared (edit : Edit) (sheet : BalanceSheet) (aim : Aim) (first no
 pub record IsTaken (sheet : BalanceSheet) (aim : Aim) (old new : KeptRolls) : Type 0 where
   pub rolls : AreRollsOf sheet new
   pub moved : (edit : Edit) (before : BalanceSheet) (first : KeptRolls) → sheet ≡ applied edit before → IsReady edit before aim first old → AreMoved edit before first new
+  pub numbers : (edit : Edit) (before : BalanceSheet) (first : KeptRolls) → IsReady edit before aim first old → KeepsNumbers first new
   pub back : (edit : Edit) (before : BalanceSheet) (first : KeptRolls) → Valid before → sheet ≡ applied edit before → IsReady edit before aim first old
       → CanGoBack (standing_of edit before first) before sheet new
   pub returns : (edit : Edit) (before : BalanceSheet) (first : KeptRolls) → Valid before → sheet ≡ applied edit before → IsReady edit before aim first old

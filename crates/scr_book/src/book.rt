@@ -12,7 +12,7 @@ ghost use Rattle.scr_sheet.specs.Members.{is_member};
 ghost use Rattle.scr_sheet.specs.Validity.{Valid};
 ghost use Rattle.scr_book.specs.Places.{names_in, shares_names};
 ghost use Rattle.scr_book.specs.RolledSheets.{AreRolled, AreStill};
-ghost use Rattle.scr_book.specs.Rolls.{AreRollsOf, CanGoBack, number_of_roll, roll_back, roll_of, standing_of};
+ghost use Rattle.scr_book.specs.Rolls.{AreRollsOf, CanGoBack, KeepsNumbers, number_of_roll, roll_back, roll_of, standing_of};
 ghost use Rattle.scr_sheet.specs.declared.roll.Roll.{Roll as TheRoll};
 
 use crate::checks::checked;
@@ -75,6 +75,7 @@ impl Book {
         ensures err { OnErr result (self.new.sheet ≡ self.old.sheet) }
         ensures rolls { OnOk result (AreRolled edit.now self.old self.new) }
         ensures still { OnErr result (AreStill self.old self.new) }
+        ensures numbers { KeepsNumbers self.old.rolls self.new.rolls }
     {
         let numbers = match checked(alloc, self, edit) {
             Ok(numbers) => numbers,
@@ -95,6 +96,7 @@ impl Book {
         ensures err { OnErr result (self.new.sheet ≡ self.old.sheet) }
         ensures rolls { OnOk result (AreRolled edit self.old self.new) }
         ensures still { OnErr result (AreStill self.old self.new) }
+        ensures numbers { KeepsNumbers self.old.rolls self.new.rolls }
     {
         let numbers = match checked(alloc, self, &edit) {
             Ok(numbers) => numbers,
@@ -114,6 +116,7 @@ impl Book {
         ensures err { OnErr result (self.new.sheet ≡ self.old.sheet) }
         ensures rolls { OnOk result (AreRolled edit self.old self.new) }
         ensures still { OnErr result (AreStill self.old self.new) }
+        ensures numbers { KeepsNumbers self.old.rolls self.new.rolls }
     {
         if !hands_in_payments(&edit) {
             return self.put(alloc, &edit, numbers);
@@ -139,6 +142,7 @@ impl Book {
         ensures err { OnErr result (self.new.sheet ≡ self.old.sheet) }
         ensures rolls { OnOk result (AreRolled edit.now self.old self.new) }
         ensures still { OnErr result (AreStill self.old self.new) }
+        ensures numbers { KeepsNumbers self.old.rolls self.new.rolls }
         ensures goes_back { OnOk result (CanGoBack (standing_of edit.now self.old.sheet self.old.rolls)
             self.old.sheet self.new.sheet self.new.rolls) }
         ensures returns { OnOk result ((roll : TheRoll)

@@ -15,7 +15,7 @@ ghost use Rattle.scr_sheet.specs.declared.sheet.BalanceSheet.{BalanceSheet as Sh
 ghost use Rattle.scr_sheet.specs.declared.roll.Roll.{Roll as List_of};
 ghost use Rattle.scr_book.specs.Sums.{place_of};
 ghost use Rattle.scr_book.specs.Verbs.{takes_no_memory};
-ghost use Rattle.scr_book.specs.Rolls.{AreKept, AreRollsOf, Await, CanGoBack, CanRegain, GivesNumber, GroupNumber, HaveReturned, IsPrepared, IsRegained, IsReturning, IsSettled, IsTaken, KeptRolls, class_number, kind_number, liability_rolls, moves_in, number_of_roll, roll_of, same_table, seat_of_roll, security_rolls, standing_of, stands_in};
+ghost use Rattle.scr_book.specs.Rolls.{AreKept, AreRollsOf, Await, CanGoBack, CanRegain, GivesNumber, GroupNumber, HaveReturned, IsPrepared, IsRegained, IsReturning, IsSettled, IsTaken, KeepsNumbers, KeptRolls, class_number, kind_number, liability_rolls, moves_in, number_of_roll, roll_of, same_table, seat_of_roll, security_rolls, standing_of, stands_in};
 
 use crate::recent::recent_place;
 use crate::sums::place_of;
@@ -282,7 +282,8 @@ impl Rolls {
     pub(crate) fn leave(&mut self, sheet: &BalanceSheet, standing: &Option<Standing>)
         requires valid { Valid sheet.now }
         requires rolls { AreRollsOf sheet.now self.old }
-        ensures { (goal : Sheet) → CanGoBack standing.now goal sheet.now self.old → IsReturning standing.now goal self.old self.new }
+        ensures leaves { (goal : Sheet) → CanGoBack standing.now goal sheet.now self.old → IsReturning standing.now goal self.old self.new }
+        ensures numbers { KeepsNumbers self.old self.new }
     {
         if let Some(standing) = standing {
             if standing.seats.is_none() {
@@ -294,8 +295,9 @@ impl Rolls {
     /// A row that the sheet has as it was stands where it stood, without memory.
     pub(crate) fn restore(&mut self, sheet: &BalanceSheet, standing: &Option<Standing>)
         requires { (first : KeptRolls) × IsReturning standing.now sheet.now first self.old }
-        ensures { (first : KeptRolls) → IsReturning standing.now sheet.now first self.old
+        ensures returns { (first : KeptRolls) → IsReturning standing.now sheet.now first self.old
             → HaveReturned standing.now sheet.now first self.new }
+        ensures numbers { KeepsNumbers self.old self.new }
     {
         if let Some(standing) = standing {
             if let Some(seats) = &standing.seats {
@@ -569,6 +571,8 @@ fn stand<R: Row, const N: usize>(seating: &mut Seating<N>, rows: &Rows<R>, name:
     ensures keeps { KeepsSeats seating.old.rolls seating.new.rolls }
     ensures room { KeepsRoom seating.old.rolls seating.new.rolls }
     ensures own { roll_in 0 (seats_of (map R.name_of rows.now) seating.new.seats name.now) ≡ number }
+    ensures stood { (seat : ℕ) → 0 < seat → roll_in seat (seats_of (map R.name_of rows.now) seating.new.seats name.now) ≢ NOWHERE
+        → has name.now (names_of (roll_in seat (seats_of (map R.name_of rows.now) seating.new.seats name.now)) seating.old.rolls) ≡ true }
     ensures names { (n : ℕ) → n < length seating.old.rolls → names_of n seating.new.rolls
         ≡ moved name.now (has name.now (names_of n seating.old.rolls))
         (roll_in (seat_of n seating.old.rolls) (seats_of (map R.name_of rows.now) seating.new.seats name.now) == n)

@@ -5,7 +5,7 @@ ghost use Rattle.scr_sheet.specs.Forms.{Formed};
 ghost use Rattle.scr_sheet.specs.Records.{applied};
 ghost use Rattle.scr_sheet.specs.declared.roll.Roll.{Roll};
 ghost use Rattle.scr_book.specs.RolledSheets.{AreRolled, AreStill};
-ghost use Rattle.scr_book.specs.Rolls.{roll_of};
+ghost use Rattle.scr_book.specs.Rolls.{KeepsNumbers, roll_of};
 ghost use Rattle.scr_book.specs.Undone.{back, returned_by, Fits, sheet_before, FitsSheet};
 
 use crate::checks::checked;
@@ -42,6 +42,7 @@ impl Book {
         ensures back { IfOk result (λ undo. back undo self.new.sheet ≡ self.old.sheet) }
         ensures rolls { IfOk result (λ undo. AreRolled edit.now self.old self.new) }
         ensures still { OnErr result (AreStill self.old self.new) }
+        ensures numbers { KeepsNumbers self.old.rolls self.new.rolls }
         ensures rolls_back { IfOk result (λ undo. (roll : Roll)
             → returned_by undo roll self.new ≡ roll_of roll self.old.rolls) }
         ensures fits { IfOk result (λ undo. Fits undo self.new) }
@@ -65,6 +66,7 @@ impl Book {
         ensures back { IfOk result (λ undo. back undo self.new.sheet ≡ self.old.sheet) }
         ensures rolls { IfOk result (λ undo. AreRolled edit.now self.old self.new) }
         ensures still { OnErr result (AreStill self.old self.new) }
+        ensures numbers { KeepsNumbers self.old.rolls self.new.rolls }
         ensures rolls_back { IfOk result (λ undo. (roll : Roll)
             → returned_by undo roll self.new ≡ roll_of roll self.old.rolls) }
         ensures fits { IfOk result (λ undo. Fits undo self.new) }
@@ -80,6 +82,7 @@ impl Book {
         requires { Fits undo self.old }
         ensures sheet { self.new.sheet ≡ back undo self.old.sheet }
         ensures rolls { (roll : Roll) → roll_of roll self.new.rolls ≡ returned_by undo roll self.old }
+        ensures numbers { KeepsNumbers self.old.rolls self.new.rolls }
     {
         let Undo { before, standing } = undo;
         self.users.put_back(self.ledger.sheet(), &before.earlier);

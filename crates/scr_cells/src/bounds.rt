@@ -6,7 +6,7 @@ ghost use Rattle.scr_cells.specs.Block.{bounds_at, bounds_of};
 
 use scr_nodes::Node;
 use scr_num::Span;
-use scr_tree::Engine;
+use scr_tree::{Engine, Point};
 
 /// So many grains are a cent.
 const GRAINS: u64 = 1_000;
@@ -24,7 +24,7 @@ pub(crate) fn bounds_at(engine: &Engine, node: &Node) -> Bounds
     requires { is_live engine.now.sheet node.now ≡ true }
     ensures { result ≡ bounds_at engine.now.factors engine.now.sheet node.now }
 {
-    bounds_of(engine.span(*node), engine.is_close(node))
+    bounds_of(engine.span(Point::Figure(*node)), engine.is_close(node))
 }
 
 /// The bounds of a figure in grains, with what is told of its choices.

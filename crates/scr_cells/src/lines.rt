@@ -1,5 +1,5 @@
 //! The lines of a block as they were last formed.
-ghost use Rattle.std.specs.Prelude.{◌≡◌, ◌≤◌, ◌+◌, ◌++◌, if◌then◌else◌, is_ok, length, slice_get, true, IfOk, OnOk, Some};
+ghost use Rattle.std.specs.Prelude.{◌≡◌, ◌≤◌, ◌+◌, ◌++◌, [], if◌then◌else◌, is_ok, length, slice_get, true, IfOk, OnOk, Some};
 ghost use Rattle.scr_num.specs.Rounding.{ends};
 ghost use Rattle.scr_cells.specs.Block.{block_text, cell_line};
 ghost use Rattle.scr_cells.specs.Lines.{IsLineOf, Tells};
@@ -10,7 +10,7 @@ use crate::printing::push_bounds;
 use crate::table::{CELL_COUNT, Entry, entry_of};
 use scr_nodes::Node;
 use scr_num::Span;
-use scr_tree::Engine;
+use scr_tree::{Engine, Point};
 use std::alloc::{AllocError as NoMemory, Global};
 use std::marker::Model;
 
@@ -40,7 +40,9 @@ impl Model for Lines {
 
 impl Lines {
     /// Nothing was printed.
-    pub fn new(alloc: Global) -> Lines {
+    pub fn new(alloc: Global) -> Lines
+        ensures { result ≡ [] }
+    {
         Lines {
             formed: Vec::new(alloc),
         }
@@ -93,7 +95,7 @@ impl Lines {
         ensures formed { OnOk result (k + 1 ≤ length self.new) }
     {
         let node = Node::Whole(entry.shown);
-        let (span, close) = (engine.span(node), engine.is_close(&node));
+        let (span, close) = (engine.span(Point::Figure(node)), engine.is_close(&node));
         self.form(alloc, k, entry, span, close)?;
         push(out, self.formed[k as usize].text.as_slice())
     }

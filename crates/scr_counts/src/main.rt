@@ -1,5 +1,5 @@
-//! Tells how many figures a run evaluates for its book and for each record of its edits: it takes the words of `scr`, and
-//! prints the first line of each piece of the report with the number of evaluations since the piece before.
+//! Tells how many figures and Blocks a run evaluates for its book and for each record of its edits: it takes the words of `scr`,
+//! and prints the first line of each piece of the report with the number of evaluations since the piece before.
 #![tactic(auto)]
 
 mod told;

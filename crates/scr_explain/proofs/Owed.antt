@@ -1,5 +1,5 @@
 -- What is owed of an answer, and of the engine that gives it.
-use Rattle.std.proofs.Common.{◌≡◌, ℕ, Bool, List, ap, subst}
+use Rattle.std.proofs.Common.{◌≡◌, ℕ, Bool, List, ap, ap₂, subst}
 use Rattle.scr_factors.specs.Values.{FactorValues}
 use Rattle.scr_plans.specs.Moment.{Answer, Shelved, Sunk}
 use Rattle.scr_plans.specs.Owes.{Owes}
@@ -24,9 +24,9 @@ module _ (asked : Asked) (factors : FactorValues) (sheet : BalanceSheet) where
         → Owes (answered asked factors sheet) before now old new answer
     owed_as before now old new answer h = subst (λ plan. Owes plan before now old new answer) same_text h
 
-  module _ (made : Standing) (is_over : made ≡ record { factors = factors; sheet = sheet }) where
+  module _ (made : Standing) (has_factors : made.factors ≡ factors) (has_sheet : made.sheet ≡ sheet) where
     same_plan : answered asked made.factors made.sheet ≡ answered asked factors sheet
-    same_plan = ap (λ (s : Standing). answered asked s.factors s.sheet) is_over
+    same_plan = ap₂ (λ values book. answered asked values book) has_factors has_sheet
 
     -- what is owed of an engine is owed of the factors and the book over which it was made
     pub owed_over : (before now : Shelved) (old new : Sunk) (answer : Answer Status)

@@ -32,6 +32,13 @@ impl Firsts {
         }
     }
 
+    /// How many lists there are. No list beyond them has a member.
+    pub fn len(&self) -> usize
+        ensures { result ≡ length self.now.lists }
+    {
+        self.lists.as_slice().len()
+    }
+
     /// The first numbers of a list's members, in the order of their places.
     pub fn list(&self, list: u32) -> &[u32]
         ensures { result.now ≡ firsts_in list self.now }

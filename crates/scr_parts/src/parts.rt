@@ -126,6 +126,7 @@ impl Parts {
         ensures gone { HaveGone list (count_of list levels.First self.old - blocks_at members levels.First)
             (count_of list levels.Second self.old - blocks_at members levels.Second) self.old self.new }
         ensures room { KeepsRoom self.old self.new }
+        ensures size { size_of self.new ≡ size_of self.old }
         ensures others { KeepsOthers list self.old self.new }
         ensures kept { KeepsParts self.new self.old }
     {
@@ -143,6 +144,7 @@ impl Parts {
         ensures gone { HaveGone list (blocks_at members levels.First - count_of list levels.First self.old)
             (blocks_at members levels.Second - count_of list levels.Second self.old) self.new self.old }
         ensures room { KeepsRoom self.old self.new }
+        ensures size { size_of self.new ≡ size_of self.old }
         ensures others { KeepsOthers list self.old self.new }
         ensures kept { KeepsParts self.old self.new }
     {
@@ -217,6 +219,7 @@ impl Parts {
         ensures front { IsFront (key_of list level) self.old self.new }
         ensures gone { Freed (key_of list level) (many - count_of list level self.old) self.new self.old }
         ensures room { KeepsRoom self.old self.new }
+        ensures size { size_of self.new ≡ size_of self.old }
     {
         let more = many.saturating_sub(self.count(list, level));
         for _ in 0..more {
@@ -230,6 +233,7 @@ impl Parts {
         ensures front { IsFront (key_of list level) self.new self.old }
         ensures gone { Freed (key_of list level) (count_of list level self.old - many) self.old self.new }
         ensures room { KeepsRoom self.old self.new }
+        ensures size { size_of self.new ≡ size_of self.old }
     {
         let fewer = self.count(list, level).saturating_sub(many);
         for _ in 0..fewer {

@@ -1,6 +1,7 @@
-//! The sources of a figure.
+//! The sources of a figure or a block.
 ghost use Rattle.std.specs.Prelude.{◌≡◌, slice_get};
-ghost use Rattle.scr_nodes.specs.Sources.{sources_of};
+ghost use Rattle.scr_sums.specs.Books.{rolled_of};
+ghost use Rattle.scr_sums.specs.Graph.{sources_in};
 
 use crate::Node;
 use scr_book::Book;
@@ -8,7 +9,7 @@ use scr_book::Book;
 /// The source of a node at place `k`, counted from 0, in the order in which its rule takes them; none exactly past the
 /// last.
 pub fn source(book: &Book, node: Node, k: u32) -> Option<Node>
-    ensures { result ≡ slice_get (sources_of book.now.sheet node) k }
+    ensures { result ≡ slice_get (sources_in (rolled_of book.now) node) k }
 {
-    scr_nodes::source(book.sheet(), &node, k)
+    scr_sums::source(book, &node, k)
 }

@@ -1,5 +1,5 @@
 -- What is owed of an engine is owed of the factors and the book over which it was made.
-use Rattle.std.proofs.Common.{◌≡◌, ℕ, List, ap, subst, sym}
+use Rattle.std.proofs.Common.{◌≡◌, ℕ, List, ap₂, subst, sym}
 use Rattle.scr_factors.specs.Values.{FactorValues}
 use Rattle.scr_io.specs.Content.{Content}
 use Rattle.scr_plans.specs.Moment.{Answer, Shelved, Sunk}
@@ -11,9 +11,9 @@ use Rattle.scr_run.specs.Plans.{plan_on}
 use Rattle.scr_run.specs.declared.status.Status.{Status}
 
 module _ (made : Standing) (factors : FactorValues) (sheet : BalanceSheet)
-    (is_over : made ≡ record { factors = factors; sheet = sheet }) (edits_name : List ℕ) where
+    (has_factors : made.factors ≡ factors) (has_sheet : made.sheet ≡ sheet) (edits_name : List ℕ) where
   same_plan : plan_on made.factors edits_name made.sheet ≡ plan_on factors edits_name sheet
-  same_plan = ap (λ (s : Standing). plan_on s.factors edits_name s.sheet) is_over
+  same_plan = ap₂ (λ values book. plan_on values edits_name book) has_factors has_sheet
 
   pub owed_over : (before now : Shelved) (old new : Sunk) (answer : Answer Status)
       → Owes (plan_on made.factors edits_name made.sheet) before now old new answer

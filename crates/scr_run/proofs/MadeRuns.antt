@@ -1,5 +1,5 @@
 -- What a run on a made book owes.
-use Rattle.std.proofs.Common.{◌≡◌, ◌∙◌, ℕ, List, Option, Some, Result, Ok, Err, refl, sym, ap, subst}
+use Rattle.std.proofs.Common.{◌≡◌, ◌∙◌, ℕ, List, Option, Some, Result, Ok, Err, refl, sym, ap, ap₂, subst}
 use Rattle.scr_cells.specs.Block.{requirement_line}
 use Rattle.scr_csv.specs.Lines.{records}
 use Rattle.scr_factors.specs.Values.{FactorValues}
@@ -58,12 +58,12 @@ module _ (values : FactorValues) (number : ℕ) (script : List ℕ) (sheet : Bal
   tells content h = subst (λ plan. TellsNothing plan content) script_told h
 
 module _ (number : ℕ) (factors : FactorValues) (sheet : BalanceSheet) (script : List ℕ) (made : Standing)
-    (is_made : made ≡ record { factors = factors; sheet = sheet }) (is_script : script ≡ script_text number)
+    (has_factors : made.factors ≡ factors) (has_sheet : made.sheet ≡ sheet) (is_script : script ≡ script_text number)
     (reads : book_in (book_text number) ≡ Ok sheet) where
   goes_on_with : script_plan made.factors number script made.sheet ≡ book_plan number factors
   unfolding book_plan
   goes_on_with =
-      ap (λ (m : Standing). script_plan m.factors number script m.sheet) is_made
+      ap₂ (λ values book. script_plan values number script book) has_factors has_sheet
       ∙ ap (λ s. script_plan factors number s sheet) is_script
       ∙ sym (ap (unless_refused (script_plan factors number (script_text number))) reads)
 

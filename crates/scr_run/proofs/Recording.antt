@@ -12,7 +12,7 @@ use Rattle.scr_sheet.specs.declared.edit.Edit.{Edit}
 use Rattle.scr_sheet.specs.declared.fault.Fault.{Fault}
 use Rattle.scr_sheet.specs.declared.fault.Fault.TheVariants as faults
 use Rattle.scr_sheet.specs.declared.sheet.BalanceSheet.{BalanceSheet}
-use Rattle.scr_tree.specs.Standing.{Standing, with_sheet, Refuses}
+use Rattle.scr_tree.specs.Standing.{HasSheet, IsAfter, IsAsBefore, Standing, Refuses}
 use Rattle.scr_tree.specs.declared.refusal.Refusal.{Refusal}
 use Rattle.scr_tree.specs.declared.refusal.Refusal.TheVariants as refusals
 use Rattle.scr_run.specs.BookAnswers.{Recorded, Replied}
@@ -75,8 +75,13 @@ of_record text edit old new result e answer ok err =
     (applied_or_told (fault_of edit old) (applied edit old) old new result answer ok err)
 
 -- and so does the engine
+has_sheet : (edit : Edit) (old new : Standing) (result : Result (Unit {0}) Refusal) → OnOk result (IsAfter edit old new)
+    → OnOk result (HasSheet (applied edit old.sheet) old new)
+has_sheet edit old new (Ok done) is = record { factors = is.factors; sheet = is.sheet }
+has_sheet edit old new (Err refusal) is = is
+
 replied : (due : Option Fault) (after : BalanceSheet) (old new : Standing) (result : Result (Unit {0}) Refusal)
-    → Refuses due result → OnOk result (new ≡ with_sheet after old) → OnErr result (new ≡ old)
+    → Refuses due result → OnOk result (HasSheet after old new) → OnErr result (IsAsBefore old new)
     → Replied (unless_faulty due after) old result new
 replied due after old new (Ok done) answer ok err = (after, ap (λ f. unless_faulty f after) answer, ok)
 replied due after old new (Err (refusals.Fault fault)) answer ok err = (ap (λ f. unless_faulty f after) answer, err)
@@ -84,11 +89,11 @@ replied due after old new (Err refusals.NoMemory) answer ok err = err
 
 pub of_reply : (text : List ℕ) (edit : Edit) (old new : Standing) (result : Result (Unit {0}) Refusal)
     → made kept (edit_of_line text) ≡ Ok edit → Refuses (fault_of edit old.sheet) result
-    → OnOk result (new ≡ with_sheet (applied edit old.sheet) old) → OnErr result (new ≡ old)
+    → OnOk result (IsAfter edit old new) → OnErr result (IsAsBefore old new)
     → Replied (recorded text old.sheet) old result new
 of_reply text edit old new result e answer ok err =
     subst (λ due. Replied due old result new) (sym (recorded_kept text edit old.sheet e))
-    (replied (fault_of edit old.sheet) (applied edit old.sheet) old new result answer ok err)
+    (replied (fault_of edit old.sheet) (applied edit old.sheet) old new result answer (has_sheet edit old new result ok) err)
 
 -- a line that is no record has its fault
 pub of_refusal : (text : List ℕ) (told : LineFault) (field : ℕ) (sheet : BalanceSheet)

@@ -5,7 +5,7 @@ use Rattle.scr_book.specs.RolledSheets.{RolledSheet}
 use Rattle.scr_sheet.specs.declared.sheet.BalanceSheet.{BalanceSheet}
 use Rattle.scr_sheet.specs.declared.fault.Fault.{Fault}
 use Rattle.scr_sheet.specs.declared.fault.Fault.TheVariants as faults
-use Rattle.scr_tree.specs.Standing.{Standing, with_sheet}
+use Rattle.scr_tree.specs.Standing.{HasSheet, IsAsBefore, Standing}
 use Rattle.scr_tree.specs.declared.refusal.Refusal.{Refusal}
 use Rattle.scr_tree.specs.declared.refusal.Refusal.TheVariants as refusals
 use Rattle.scr_run.specs.declared.records.BookFault.{BookFault}
@@ -25,9 +25,9 @@ Recorded due old (Err faults.NoMemory) new = new ≡ old
 
 -- The book of an engine changes to what is due, or the fault that is due is told and the engine stays.
 abbrev pub Replied : {A : Type 0} → Result BalanceSheet Fault → Standing → Result A Refusal → Standing → Type 0
-Replied due old (Ok a) new = (sheet : BalanceSheet) × (due ≡ Ok sheet) × (new ≡ with_sheet sheet old)
-Replied due old (Err (refusals.Fault fault)) new = (due ≡ Err fault) × (new ≡ old)
-Replied due old (Err refusals.NoMemory) new = new ≡ old
+Replied due old (Ok a) new = (sheet : BalanceSheet) × (due ≡ Ok sheet) × HasSheet sheet old new
+Replied due old (Err (refusals.Fault fault)) new = (due ≡ Err fault) × IsAsBefore old new
+Replied due old (Err refusals.NoMemory) new = IsAsBefore old new
 
 -- The book that is due, or the line and the fault.
 abbrev pub Read : Result BalanceSheet (ℕ × Fault) → Result RolledSheet BookFault → Type 0

@@ -3,8 +3,7 @@ ghost use Rattle.std.specs.Prelude.{◌≡◌, ℕ, ◌+◌, ◌<◌, ◌≤◌,
 ghost use Rattle.scr_sheet.specs.declared.fault.Fault.TheVariants as faults;
 ghost use Rattle.scr_sheet.specs.Faults.{fault_of};
 ghost use Rattle.scr_sheet.specs.Forms.{Formed};
-ghost use Rattle.scr_sheet.specs.Records.{applied};
-ghost use Rattle.scr_tree.specs.Standing.{Refuses, with_sheet};
+ghost use Rattle.scr_tree.specs.Standing.{IsAfter, IsAsBefore, Refuses};
 ghost use Rattle.scr_run.specs.BookFile.{recorded, sheet_from, sheet_of};
 ghost use Rattle.scr_run.specs.BookAnswers.{Filled, Recorded, Replied, Read};
 ghost use Rattle.scr_csv.specs.Lines.{records};
@@ -154,9 +153,8 @@ fn apply<R: Threads + Sync, G: Gate + Sync>(
     requires crew { (1 ≤ crew.now.workers) × (crew.now.workers ≤ 64) }
     requires formed { Formed edit.now }
     ensures answer { Refuses (fault_of edit.now engine.old.sheet) result }
-    ensures ok { OnOk result (engine.new
-        ≡ with_sheet (applied edit.now engine.old.sheet) engine.old) }
-    ensures err { OnErr result (engine.new ≡ engine.old) }
+    ensures ok { OnOk result (IsAfter edit.now engine.old engine.new) }
+    ensures err { OnErr result (IsAsBefore engine.old engine.new) }
 {
     counted::<R, G, Brand>(crew, alloc, engine, edit, Blank::new(1))
 }
@@ -174,9 +172,8 @@ fn counted<R: Threads + Sync, G: Gate + Sync, L: Ledger>(
     requires parts { blank.parts ≡ L.parts }
     requires some { 0 < blank.parts }
     ensures answer { Refuses (fault_of edit.now engine.old.sheet) result }
-    ensures ok { OnOk result (engine.new
-        ≡ with_sheet (applied edit.now engine.old.sheet) engine.old) }
-    ensures err { OnErr result (engine.new ≡ engine.old) }
+    ensures ok { OnOk result (IsAfter edit.now engine.old engine.new) }
+    ensures err { OnErr result (IsAsBefore engine.old engine.new) }
 {
     let mut steps = Steps::<L>::new(blank);
     engine.edit(crew.rt, alloc, edit, crew.workers, crew.gate, &mut steps)

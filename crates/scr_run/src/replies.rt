@@ -1,7 +1,7 @@
 //! The first lines of the report, and the replies to the records of the edits.
 ghost use Rattle.std.specs.Prelude.{◌≡◌, ℕ, ◌≤◌, ◌++◌, length, is_err, OnOk, IfOk};
 ghost use Rattle.scr_cells.specs.Block.{block_text};
-ghost use Rattle.scr_tree.specs.Standing.{with_sheet};
+ghost use Rattle.scr_tree.specs.Standing.{HasSheet};
 ghost use Rattle.scr_run.specs.BookFile.{recorded};
 ghost use Rattle.scr_run.specs.Report.{opening_text, reply_start, accepted_text, refused_text, reply_text, after};
 
@@ -51,8 +51,7 @@ pub fn reply_to<R: Threads + Sync, G: Gate + Sync>(
         (block_text engine.old.factors) number (recorded text.now engine.old.sheet)) }
     ensures refused { IfOk result (λ reply. reply.refused
         ≡ is_err (recorded text.now engine.old.sheet)) }
-    ensures engine { OnOk result (engine.new
-        ≡ with_sheet (after (recorded text.now engine.old.sheet) engine.old.sheet) engine.old) }
+    ensures engine { OnOk result (HasSheet (after (recorded text.now engine.old.sheet) engine.old.sheet) engine.old engine.new) }
 {
     match edit(crew, alloc, engine, text) {
         Ok(()) => Ok(Reply {

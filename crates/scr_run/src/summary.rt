@@ -3,7 +3,7 @@ ghost use Rattle.std.specs.Prelude.{◌≡◌, ◌≤◌, IfOk, OnOk, is_ok, len
 ghost use Rattle.scr_cells.specs.Block.{requirement_line as line_of};
 ghost use Rattle.scr_csv.specs.Lines.{records};
 ghost use Rattle.scr_plans.specs.Moment.{sunk};
-ghost use Rattle.scr_tree.specs.Standing.{with_sheet};
+ghost use Rattle.scr_tree.specs.Standing.{HasSheet};
 ghost use Rattle.scr_run.specs.Report.{after, answers, any_refused};
 ghost use Rattle.scr_run.specs.BookFile.{recorded};
 ghost use Rattle.scr_run.specs.Summary.{accepted, left_by, summary_text};
@@ -103,8 +103,7 @@ fn apply_all<R: Threads + Sync, G: Gate + Sync>(
     ensures records { IfOk result (λ counts. counts.records ≡ length (records script.now)) }
     ensures accepted { IfOk result (λ counts. counts.accepted
         ≡ accepted (answers (records script.now) engine.old.sheet)) }
-    ensures engine { OnOk result (engine.new ≡ with_sheet
-        (left_by engine.old.sheet (answers (records script.now) engine.old.sheet)) engine.old) }
+    ensures engine { OnOk result (HasSheet (left_by engine.old.sheet (answers (records script.now) engine.old.sheet)) engine.old engine.new) }
 {
     let mut counts = Counts {
         records: 0,
@@ -129,8 +128,7 @@ fn is_accepted<R: Threads + Sync, G: Gate + Sync>(
     requires short { length text.now ≤ 67108864 }
     ensures accepted { IfOk result (λ accepted. accepted
         ≡ is_ok (recorded text.now engine.old.sheet)) }
-    ensures engine { OnOk result (engine.new ≡ with_sheet
-        (after (recorded text.now engine.old.sheet) engine.old.sheet) engine.old) }
+    ensures engine { OnOk result (HasSheet (after (recorded text.now engine.old.sheet) engine.old.sheet) engine.old engine.new) }
 {
     match edit(crew, alloc, engine, text) {
         Ok(()) => Ok(true),

@@ -27,8 +27,7 @@ module _ (s : Subtotals) (members : ℕ) (numbered : AreNumbered s members) wher
   pub number-at : (level : Level) (i : ℕ) → i < blocks_at members level
       → IsAt s.places.now tables.Part (slot_at (key_of s.list level) i s.parts.now) s.own (number_of s level i)
   number-at level i there = record {
-    row = let slot = numbered.slots.within (part_in s level i) (slot_at (key_of s.list level) i s.parts.now) (slot-there level i there) in
-        let rows = numbered.rows in omega (arith, slot, rows);
+    row = numbered.rows (part_in s level i) (slot_at (key_of s.list level) i s.parts.now) (slot-there level i there);
     family = numbered.own;
     is = refl;
   }

@@ -1,5 +1,5 @@
 -- The blocks of one sum over a list, at their numbers (this project's own).
-use Rattle.std.specs.Prelude.{◌≡◌, ℕ, ◌+◌, ◌<◌, ◌≤◌, Bool, false, List, length, map, slice_get}
+use Rattle.std.specs.Prelude.{◌≡◌, ℕ, ◌+◌, ◌<◌, ◌≤◌, Bool, false, List, Some, length, map, slice_get}
 use Rattle.std.specs.List.{range_with_len}
 use Rattle.std.specs.Option.{option_map_or}
 use Rattle.scr_blocks.specs.Blocks.{blocks_at, part}
@@ -10,7 +10,8 @@ use Rattle.scr_num.specs.Sums.{sum_ends}
 use Rattle.scr_num.specs.declared.span.Span.{Span}
 use Rattle.scr_numbers.specs.Ranges.{IsApart, IsWithin, count, first}
 use Rattle.scr_numbers.specs.declared.table.Table.TheVariants as tables
-use Rattle.scr_parts.specs.Parts.{AreOwn, count_of, key_of, size_of, slot_at}
+use Rattle.scr_parts.specs.Parts.{AreOwn, count_of, key_of, slot_at, slot_of}
+use Rattle.scr_parts.specs.declared.parts.Part.{Part}
 use Rattle.scr_subtotals.specs.Figures.{ends_at, members_ends}
 use Rattle.scr_subtotals.specs.declared.figure.Figure.{Figure}
 use Rattle.scr_subtotals.specs.declared.writing.Subtotals.{Subtotals}
@@ -19,13 +20,13 @@ use Rattle.scr_subtotals.specs.declared.writing.Subtotals.{Subtotals}
 abbrev pub number_of : Subtotals → Level → ℕ → ℕ
 number_of s level i = first s.places.now tables.Part (slot_at (key_of s.list level) i s.parts.now) + s.own
 
--- A list of so many members, of which there are no more than securities in a book, has a part for each of its blocks, each slot has numbers
--- of its own, and the sum has one of them.
+-- A list of so many members, of which there are no more than securities in a book, has a part for each of its blocks, the slot of each part has
+-- numbers of its own, and the sum has one of them.
 pub record AreNumbered (s : Subtotals) (members : ℕ) : Type 0 where
   pub own : s.own < 3
   pub few : members ≤ 20000
   pub parts : (level : Level) → count_of s.list level s.parts.now ≡ blocks_at members level
-  pub rows : size_of s.parts.now ≤ count s.places.now tables.Part
+  pub rows : (one : Part) (slot : ℕ) → slot_of one s.parts.now ≡ Some slot → slot < count s.places.now tables.Part
   pub slots : AreOwn s.parts.now
   pub apart : IsApart s.places.now
   pub within : IsWithin s.places.now

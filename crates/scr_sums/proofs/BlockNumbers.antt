@@ -192,15 +192,14 @@ block-lives book numbers parts places have own block live =
     let slot : ℕ = get_or slots block.index 0 in
     let low = long.1 in
     let there : slot_of part parts ≡ Some slot = slice_get-get_or slots block.index 0 (omega (arith, low, count)) in
-    let few = own.within part slot there in
-    let all = have.rows in (
+    let few = have.rows part slot there in (
       first places numbered_tables.Part slot + place_of block.sum,
       record {
         roll = roll.0;
         numbered = roll.1;
         slot = slot;
         part = there;
-        at = record { row = omega (arith, few, all); family = place-fits block.sum; is = refl };
+        at = record { row = few; family = place-fits block.sum; is = refl };
       },
     )
 

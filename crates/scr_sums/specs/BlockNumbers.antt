@@ -5,7 +5,7 @@ use Rattle.scr_blocks.specs.Blocks.{blocks_at}
 use Rattle.scr_blocks.specs.declared.blocks.Level.{Level}
 use Rattle.scr_numbers.specs.Ranges.{IsAt, Numbered, count, first}
 use Rattle.scr_numbers.specs.declared.table.Table.TheVariants as numbered_tables
-use Rattle.scr_parts.specs.Parts.{Parted, count_of, size_of, slot_of}
+use Rattle.scr_parts.specs.Parts.{Parted, count_of, slot_of}
 use Rattle.scr_parts.specs.Moves.{KeepsParts}
 use Rattle.scr_parts.specs.declared.parts.Part.{Part}
 use Rattle.scr_sheet.specs.Members.{is_of_class, table_of}
@@ -98,12 +98,12 @@ PointAt At numbers parts places (points.Block block) number = BlockAt numbers pa
 abbrev pub AreOffParts : (Node → ℕ → Type 0) → Numbered → Type 0
 AreOffParts At places = (node : Node) (number : ℕ) → At node number → (k j : ℕ) → IsAt places numbered_tables.Part k j number → ⊥
 
--- each list that falls into Blocks has a number, and as many parts as Blocks; and each slot has a row of numbers
+-- each list that falls into Blocks has a number, and as many parts as Blocks; and the slot of each part has a row of numbers
 pub record HaveParts (book : Rolled) (numbers : Roll → Option ℕ) (parts : Parted) (places : Numbered) : Type 0 where
   pub numbered : (roll : Roll) → 32 < length (book.rolls roll) → (number : ℕ) × (numbers roll ≡ Some number)
   pub counts : (roll : Roll) (number : ℕ) → numbers roll ≡ Some number → (level : Level)
       → count_of (list_number roll number) level parts ≡ blocks_at (length (book.rolls roll)) level
-  pub rows : size_of parts ≤ count places numbered_tables.Part
+  pub rows : (part : Part) (slot : ℕ) → slot_of part parts ≡ Some slot → slot < count places numbered_tables.Part
 
 -- rows that parts have stay, with their numbers, and so do parts and lists
 pub record KeepsBlocks (numbers_before numbers_now : Roll → Option ℕ) (before now : Parted) (old new : Numbered) : Type 0 where

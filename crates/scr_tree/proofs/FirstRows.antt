@@ -1,32 +1,24 @@
 -- The figures of a row in the first reckoning.
-use Rattle.std.proofs.Common.{◌≡◌, ℕ, zero, suc, ◌+◌, ◌<◌, Bool, true, false, List, [], ◌∷◌, map, length, Some, None, is_some, Result, Ok, Err, OnOk, slice_get, refl, sym, ap, subst, ◌∙◌, arith}
+use Rattle.std.proofs.Common.{◌≡◌, ℕ, zero, suc, ◌<◌, true, List, [], ◌∷◌, map, length, Some, None, is_some, Result, Ok, Err, OnOk, slice_get, refl, ap, subst, arith}
 use Rattle.std.specs.List.{AllByRecursion}
-use Rattle.std.specs.Option.{option_map_or}
 use Rattle.scr_factors.specs.Values.{FactorValues}
 use Rattle.scr_names.specs.Tables.{row_of}
-use Rattle.scr_figures.specs.Families.{name_of, table_of}
-use Rattle.scr_figures.specs.Numbers.{IsNumbered, StandsAt, names_in}
+use Rattle.scr_figures.specs.Numbers.{IsNumbered, StandsAt}
 use Rattle.scr_numbers.specs.Ranges.{Numbered}
-use Rattle.scr_numbers.specs.declared.table.Table.TheVariants as tables
 use Rattle.scr_sheet.specs.BalanceSheet.{group_name, liability_name, position_name, position_of}
 use Rattle.scr_sheet.specs.declared.{keys.Projection.Projection, rows.Group.Group, rows.Liability.Liability, rows.Position.Position, sheet.BalanceSheet.BalanceSheet}
-use Rattle.scr_sheet.specs.declared.rows.Class.TheVariants as classes
 use Rattle.scr_sheet.specs.Validity.{Valid}
 use Rattle.scr_nodes.specs.Live.{is_live}
-use Rattle.scr_nodes.specs.Rows.{has_class, has_flows, is_paying, is_stress, liability_of}
-use Rattle.scr_nodes.specs.Sources.{group_total, liability_loss, security_spread, security_total, unit_loss}
-use Rattle.scr_nodes.specs.declared.{node.Direction.Direction, node.Node.Node}
-use Rattle.scr_nodes.specs.declared.node.Direction.TheVariants.{Up, Down}
-use Rattle.scr_nodes.specs.declared.node.Node.TheVariants as nodes
-use Rattle.scr_nodes.specs.declared.node.OfSecurity.TheVariants as of_securities
-use Rattle.scr_nodes.proofs.LiveSources.{loss-live, passes-own}
+use Rattle.scr_nodes.specs.Rows.{has_flows, is_stress, liability_of}
+use Rattle.scr_nodes.specs.Sources.{group_total, liability_loss, security_total}
+use Rattle.scr_nodes.proofs.LiveSources.{loss-live}
 use Rattle.scr_nodes.proofs.OwnRows.{own-groups, own-liabilities, own-securities}
 use Rattle.scr_reach.specs.Linked.{AreNumbers}
 use Rattle.scr_tree.specs.First.{IsMade}
-use Rattle.scr_tree.specs.Turns.{Turn, next, turn, turn_of}
+use Rattle.scr_tree.specs.Turns.{Turn}
 use Rattle.scr_tree.specs.declared.making.Made.{Made}
 use Rattle.scr_tree.proofs.Made.{made-good}
-use Rattle.scr_tree.proofs.Turns.{IsAsGood, IsTurnOf, dead-skipped, good-and, row-begun, row-ended, security-first, of-table}
+use Rattle.scr_tree.proofs.Turns.{IsAsGood}
 use Rattle.scr_tree.specs.Graphs.{graph_of}
 
 pub on-ok : {E : Type 0} (P Q : Type 0) (r : Result (Unit {0}) E) → (P → Q) → OnOk r P → OnOk r Q
@@ -68,49 +60,6 @@ module _ (sheet : BalanceSheet) (valid : Valid sheet) (places : Numbered) (numbe
 
   pub total-live : is_live sheet (security_total p) ≡ true
   total-live = ap is_some security-own
-
-  pub pays-live : is_paying p ≡ true → (direction : Direction) → is_live sheet (unit_loss direction p) ≡ true
-  pays-live pays direction = passes-own is_paying (position_of p.security.name sheet.securities) p security-own pays
-
-  pub bond-live : has_class classes.Bond p ≡ true → is_live sheet (security_spread p) ≡ true
-  bond-live bond = passes-own (has_class classes.Bond) (position_of p.security.name sheet.securities) p security-own bond
-
-  not-true : (b : Bool) → b ≡ false → b ≡ true → ⊥
-  not-true b f t = let clash : true ≡ false = sym t ∙ f in absurd (cc)
-
-  its : (node : Node) → table_of node ≡ tables.Security → name_of node ≡ p.security.name → IsTurnOf sheet (turn_of node k) node
-  its node table name = record {
-    at = refl;
-    row = ap (λ t. slice_get (names_in sheet t) k) table ∙ (security-named ∙ ap Some (sym name));
-    family = refl;
-  }
-
-  dead : (node : Node) → table_of node ≡ tables.Security → name_of node ≡ p.security.name → (is_live sheet node ≡ true → ⊥)
-      → IsAsGood sheet (turn_of node k) (next (turn_of node k))
-  dead node table name none = dead-skipped sheet places numbered (turn_of node k) node (its node table name) none
-
-  pub pays-not : is_paying p ≡ false → IsAsGood sheet (turn 3 k 0) (turn 3 k 5)
-  pays-not none =
-      good-and sheet (turn 3 k 0) (turn 3 k 1) (turn 3 k 5)
-      (row-begun sheet 3 k 1 (λ n live s. security-first n s))
-      (good-and sheet (turn 3 k 1) (turn 3 k 2) (turn 3 k 5) (dead (nodes.Security p.security.name (of_securities.UnitLoss Up)) refl refl (λ l. clash l))
-      (good-and sheet (turn 3 k 2) (turn 3 k 3) (turn 3 k 5) (dead (nodes.Security p.security.name (of_securities.UnitLoss Down)) refl refl (λ l. clash l))
-      (good-and sheet (turn 3 k 3) (turn 3 k 4) (turn 3 k 5) (dead (nodes.Security p.security.name (of_securities.Rate Up)) refl refl (λ l. clash l))
-      (dead (nodes.Security p.security.name (of_securities.Rate Down)) refl refl (λ l. clash l)))))
-    where
-      clash : option_map_or is_paying (position_of p.security.name sheet.securities) false ≡ true → ⊥
-      clash l = not-true (is_paying p) none (sym (ap (λ o. option_map_or is_paying o false) security-own) ∙ l)
-
-  pub security-ended : IsAsGood sheet (turn 3 k 6) (turn 3 (k + 1) 0)
-  security-ended = row-ended sheet 3 k 6 (λ n live s. of-table sheet places numbered 3 n live s)
-
-  pub bond-not : has_class classes.Bond p ≡ false → IsAsGood sheet (turn 3 k 5) (turn 3 (k + 1) 0)
-  bond-not none =
-      good-and sheet (turn 3 k 5) (turn 3 k 6) (turn 3 (k + 1) 0)
-      (dead (nodes.Security p.security.name of_securities.Spread) refl refl
-      (λ l. not-true (has_class classes.Bond p) none
-      (sym (ap (λ o. option_map_or (has_class classes.Bond) o false) security-own) ∙ l)))
-      security-ended
 
 -- ---- liabilities
 

@@ -1,38 +1,44 @@
 -- The first reckoning figure by figure and table by table: what is made after each.
-use Rattle.std.proofs.Common.{◌≡◌, is_some, map, None, Option, slice_index, ℕ, ◌+◌, ◌<◌, ◌≤◌, ◌++◌, true, List, [], ◌∷◌, length, Some, slice_get, refl, sym, ap, ap₂, subst, ◌∙◌, arith}
+use Rattle.std.proofs.Common.{◌≡◌, is_some, map, None, Option, slice_index, ℕ, ◌+◌, ◌<◌, ◌≤◌, ◌++◌, true, false, List, [], ◌∷◌, length, Some, slice_get, refl, sym, ap, ap₂, subst, ◌∙◌, arith}
 use Rattle.std.specs.List.{AllByRecursion, AllZip}
+use Rattle.std.proofs.lemmas.Bool.{and_parts}
 use Rattle.std.proofs.lemmas.List.{length-map}
 use Rattle.std.proofs.lemmas.Option.{slice_get_within}
 use Rattle.scr_factors.specs.Values.{FactorValues}
 use Rattle.std.specs.Option.{option_map}
-use Rattle.scr_figures.specs.Families.{currency_family, family_of, group_family, name_of, table_of, whole_family}
+use Rattle.scr_figures.specs.Families.{currency_family, family_of, name_of, table_of, whole_family}
 use Rattle.scr_figures.specs.Numbers.{StandsAt, names_in}
 use Rattle.scr_figures.proofs.Standing.{of-sheet, stands}
 use Rattle.scr_numbers.specs.Ranges.{Numbered, count, first, stride}
 use Rattle.scr_numbers.specs.declared.table.Table.TheVariants as tables
 use Rattle.scr_sheet.specs.BalanceSheet.{position_name, stake_name, stake_of}
 use Rattle.scr_sheet.specs.Totals.{total_of}
-use Rattle.scr_sheet.specs.declared.{rows.Group.Group, rows.Position.Position, rows.Stake.Stake, sheet.BalanceSheet.BalanceSheet}
+use Rattle.scr_sheet.specs.declared.{rows.Position.Position, rows.Stake.Stake, sheet.BalanceSheet.BalanceSheet}
 use Rattle.scr_nodes.specs.Live.{is_live}
 use Rattle.scr_nodes.specs.Sources.{fund_total, security_total, sources_of}
 use Rattle.scr_nodes.proofs.OwnRows.{own-funds}
-use Rattle.scr_nodes.specs.declared.{node.Node.Node, node.OfCurrency.OfCurrency, node.OfGroup.OfGroup, node.Whole.Whole}
+use Rattle.scr_nodes.specs.declared.{node.Node.Node, node.OfCurrency.OfCurrency, node.Whole.Whole}
 use Rattle.scr_nodes.specs.declared.node.Node.TheVariants as nodes
-use Rattle.scr_nodes.specs.declared.node.OfGroup.TheVariants as of_groups
-use Rattle.scr_nodes.specs.declared.node.Whole.TheVariants as wholes
-use Rattle.scr_tree.specs.Figures.{HaveFigures, reckoning_of, total_worth, worth_at, worth_of}
-use Rattle.scr_tree.specs.First.{AreReckonedTo, IsDone, IsGround, IsLinkGround, IsPut, link_ground}
+use Rattle.scr_tree.specs.Figures.{AreKnownOf, HaveFigures, reckoning_of, total_worth, worth_at, worth_of}
+use Rattle.scr_tree.specs.First.{AreReckonedTo, IsBlockBefore, IsDone, IsGround, IsLinkGround, IsPut, link_ground}
+use Rattle.scr_tree.specs.Points.{StandsIn, book_reckoning, is_linked}
 use Rattle.scr_tree.specs.Turns.{IsBefore, Turn, next, stage_of, turn, turn_of}
 use Rattle.scr_figures.specs.SourceNumbers.{ArePushed}
-use Rattle.scr_tree.specs.declared.figures.Figure.{Figure}
+use Rattle.scr_sums.specs.Books.{rolled_of}
+use Rattle.scr_sums.specs.Graph.{is_live_in}
+use Rattle.scr_sums.specs.Sums.{reader_of}
+use Rattle.scr_sums.specs.declared.point.Point.{Point}
+use Rattle.scr_sums.specs.declared.point.Point.TheVariants as points
+use Rattle.scr_tree.proofs.BlocksMade.{blocks-beside, blocks-next, reader-unlinked}
+use Rattle.scr_subtotals.specs.declared.figure.Figure.{Figure}
 use Rattle.scr_tree.specs.declared.making.Ground.{Ground}
 use Rattle.scr_tree.specs.declared.making.LinkGround.{LinkGround}
 use Rattle.scr_tree.specs.declared.making.Made.{Made}
-use Rattle.scr_tree.proofs.FirstRows.{each-get, got-map, got-row, group-named, made-on, security-named, total-live}
+use Rattle.scr_tree.proofs.FirstRows.{each-get, got-map, got-row, made-on, security-named, total-live}
 use Rattle.scr_tree.proofs.Plain.{fund-placed, security-placed}
 use Rattle.scr_tree.proofs.Known.{known-weaker}
 use Rattle.scr_tree.proofs.Made.{known-sources, made-entered, reckoned-next}
-use Rattle.scr_tree.proofs.Turns.{IsAsGood, assets-first, dead-skipped, family-within, of-table, row-begun, row-ended, stage-of-whole, table-ended, table_at, total-last}
+use Rattle.scr_tree.proofs.Turns.{IsAsGood, IsTurnOf, assets-first, dead-skipped, family-within, of-table, row-begun, row-ended, stage-of-whole, table-ended, table_at, total-last}
 
 -- as many rows as names
 pub as-long : {Row : Type 0} (name_in : Row → List ℕ) (rows : List Row) (k : ℕ) → k ≡ length rows → k ≡ length (map name_in rows)
@@ -48,32 +54,6 @@ pub currency-turn : (name : List ℕ) (what : OfCurrency) (k f : ℕ) → curren
 currency-turn name what k f same = ap (turn 6 k) same
 
 module _ (ground : LinkGround) (g : IsLinkGround ground) where
-  -- ---- squares
-
-  module _ (k : ℕ) (h : Group) (at : slice_get ground.book.now.sheet.groups k ≡ Some h) (start : ℕ)
-      (own : start ≡ first ground.places.now tables.Group k) where
-    pub group-stands : (what : OfGroup) → group_family what < 3
-        → StandsAt ground.book.now.sheet ground.places.now (nodes.Group h.name what) (start + group_family what)
-    group-stands what few =
-        subst (StandsAt ground.book.now.sheet ground.places.now (nodes.Group h.name what))
-        (ap (λ n. n + group_family what) (sym own))
-        (stands ground.book.now.sheet ground.places.now g.numbered (nodes.Group h.name what) few k
-        (group-named ground.book.now.sheet g.valid k h at))
-
-    pub square-sources : AllZip (λ number source. StandsAt ground.book.now.sheet ground.places.now source number)
-        (153 ∷ start ∷ []) (sources_of ground.book.now.sheet (nodes.Group h.name of_groups.ConcentrationSquare))
-    square-sources =
-        let e : start + 0 ≡ start = omega arith in (
-          subst (StandsAt ground.book.now.sheet ground.places.now (nodes.Whole wholes.Assets))
-              (ap (λ n. n + 153) g.numbered.whole ∙ (let z : 0 + 153 ≡ 153 = refl in z))
-              (stands ground.book.now.sheet ground.places.now g.numbered (nodes.Whole wholes.Assets) (omega arith) 0 refl),
-          (
-            subst (StandsAt ground.book.now.sheet ground.places.now (nodes.Group h.name of_groups.Total)) e
-                (group-stands of_groups.Total (omega arith)),
-            tt,
-          ),
-        )
-
   -- ---- a figure of a row
 
   module _ (node : Node) (row number : ℕ)
@@ -130,30 +110,49 @@ module _ (ground : Ground) (g : IsGround ground) where
   pub for-links : IsLinkGround (link_ground ground)
   for-links = record { valid = g.valid; numbered = g.numbered; numbers = g.numbers; members = g.members }
 
+  -- ---- turns that come to the same
+
+  pub blocks-on : (figures : List Figure) (t u : Turn) → IsAsGood ground.inputs.book.now.sheet t u
+      → AreKnownOf (book_reckoning ground.inputs.factors.now (rolled_of ground.inputs.book.now))
+      (StandsIn ground.inputs.book.now ground.places.now ground.lists.now) figures (IsBlockBefore ground.inputs.book.now.sheet t)
+      → AreKnownOf (book_reckoning ground.inputs.factors.now (rolled_of ground.inputs.book.now))
+      (StandsIn ground.inputs.book.now ground.places.now ground.lists.now) figures (IsBlockBefore ground.inputs.book.now.sheet u)
+  blocks-on figures t u good known =
+      known-weaker (book_reckoning ground.inputs.factors.now (rolled_of ground.inputs.book.now))
+      (StandsIn ground.inputs.book.now ground.places.now ground.lists.now) figures
+      (IsBlockBefore ground.inputs.book.now.sheet t) (IsBlockBefore ground.inputs.book.now.sheet u) (λ point live before. back point live before) known
+    where
+      back : (point : Point) → is_live_in (rolled_of ground.inputs.book.now) point ≡ true → IsBlockBefore ground.inputs.book.now.sheet u point
+          → IsBlockBefore ground.inputs.book.now.sheet t point
+      back (points.Figure node) live before = absurd before
+      back (points.Block block) live before = good.back (reader_of block.sum) (and_parts _ _ live).0 before
+
+  pub done-on : (a : Made) (t u : Turn) → IsAsGood ground.inputs.book.now.sheet t u → IsDone ground a t → IsDone ground a u
+  done-on a t u good is = record {
+    figures = made-on ground.inputs.factors.now ground.inputs.book.now.sheet g.valid ground.places.now g.numbered g.numbers a t u good is.figures;
+    blocks_there = blocks-on a.figures.items t u good is.blocks_there;
+  }
+
   -- a table has no more rows
   pub table-made : (s count : ℕ) → count ≡ length (names_in ground.inputs.book.now.sheet (table_at s)) → (a : Made)
       → IsDone ground a (turn s count 0) → IsDone ground a (turn (s + 1) 0 0)
   table-made s count long a is =
-      made-on ground.inputs.factors.now ground.inputs.book.now.sheet g.valid ground.places.now g.numbered g.numbers a
-      (turn s count 0) (turn (s + 1) 0 0) (table-ended ground.inputs.book.now.sheet ground.places.now g.numbered s count long) is
+      done-on a (turn s count 0) (turn (s + 1) 0 0) (table-ended ground.inputs.book.now.sheet ground.places.now g.numbered s count long) is
 
   pub currency-made : (k : ℕ) (a : Made) → IsDone ground a (turn 6 k 9) → IsDone ground a (turn 6 (k + 1) 0)
   currency-made k a is =
-      made-on ground.inputs.factors.now ground.inputs.book.now.sheet g.valid ground.places.now g.numbered g.numbers a
-      (turn 6 k 9) (turn 6 (k + 1) 0)
+      done-on a (turn 6 k 9) (turn 6 (k + 1) 0)
       (row-ended ground.inputs.book.now.sheet 6 k 9
       (λ n alive s. of-table ground.inputs.book.now.sheet ground.places.now g.numbered 6 n alive s)) is
 
   pub assets-begun : (a : Made) → IsDone ground a (turn 2 0 0) → IsDone ground a (turn 2 0 153)
   assets-begun a is =
-      made-on ground.inputs.factors.now ground.inputs.book.now.sheet g.valid ground.places.now g.numbered g.numbers a
-      (turn 2 0 0) (turn 2 0 153) (row-begun ground.inputs.book.now.sheet 2 0 153 (λ n alive s. assets-first n s)) is
+      done-on a (turn 2 0 0) (turn 2 0 153) (row-begun ground.inputs.book.now.sheet 2 0 153 (λ n alive s. assets-first n s)) is
 
   pub assets-made : (a : Made) → IsDone ground a (turn 2 0 154) → IsDone ground a (turn 3 0 0)
   assets-made a is =
       table-made 2 1 refl a
-      (made-on ground.inputs.factors.now ground.inputs.book.now.sheet g.valid ground.places.now g.numbered g.numbers a
-      (turn 2 0 154) (turn 2 1 0)
+      (done-on a (turn 2 0 154) (turn 2 1 0)
       (row-ended ground.inputs.book.now.sheet 2 0 154
       (λ n alive s. of-table ground.inputs.book.now.sheet ground.places.now g.numbered 2 n alive s)) is)
 
@@ -168,23 +167,33 @@ module _ (ground : Ground) (g : IsGround ground) where
         → HaveFigures (reckoning_of ground.inputs.factors.now ground.inputs.book.now.sheet) a.figures.items sources (sources_of ground.inputs.book.now.sheet node)
     sources-known a high is sources are =
         known-sources ground.inputs.factors.now ground.inputs.book.now.sheet g.valid ground.places.now g.numbered g.numbers a
-        node row live named high is sources are
+        node row live named high is.figures sources are
 
-    pub gathered-made : (a b : Made) (sources : List ℕ) → IsDone ground a (turn_of node row)
+    -- it is of none of the sums: its figure is written, and no Block
+    pub gathered-made : (a b : Made) (sources : List ℕ) → is_linked node ≡ true → IsDone ground a (turn_of node row)
         → AllZip (λ m source. StandsAt ground.inputs.book.now.sheet ground.places.now source m) sources (sources_of ground.inputs.book.now.sheet node)
         → IsPut ground.inputs.factors.now ground.inputs.book.now.sheet node number sources a b → IsDone ground b (next (turn_of node row))
-    gathered-made a b sources is are put =
-        made-entered ground.inputs.factors.now ground.inputs.book.now.sheet g.valid ground.places.now g.numbered g.numbers a b
-        (turn_of node row) node number sources put.figure is (record { at = refl; row = named; family = refl }) live
-        (its-number (link_ground ground) for-links node row number named own live) are put.right put.entered
+    gathered-made a b sources links is are put = record {
+      figures = made-entered ground.inputs.factors.now ground.inputs.book.now.sheet g.valid ground.places.now g.numbered g.numbers a b
+          (turn_of node row) node number sources put.figure is.figures turn_is live links stood are put.right put.entered;
+      blocks_there = blocks-next ground g b.figures.items (turn_of node row) node turn_is live
+          (λ sum reads. let clash : true ≡ false = sym links ∙ (ap is_linked (sym reads) ∙ reader-unlinked sum) in absurd (cc))
+          (blocks-beside ground g a.figures.items b.figures.items node number (IsBlockBefore ground.inputs.book.now.sheet (turn_of node row))
+          (λ n before. before) stood put.entered.others is.blocks_there);
+    }
+      where
+        turn_is : IsTurnOf ground.inputs.book.now.sheet (turn_of node row) node
+        turn_is = record { at = refl; row = named; family = refl }
+
+        stood : StandsAt ground.inputs.book.now.sheet ground.places.now node number
+        stood = its-number (link_ground ground) for-links node row number named own live
 
   -- where the balance sheet does not have the figure
   pub dead-made : (node : Node) (row : ℕ) → slice_get (names_in ground.inputs.book.now.sheet (table_of node)) row ≡ Some (name_of node)
       → (is_live ground.inputs.book.now.sheet node ≡ true → ⊥) → (a : Made) → IsDone ground a (turn_of node row)
       → IsDone ground a (next (turn_of node row))
   dead-made node row named dead a is =
-      made-on ground.inputs.factors.now ground.inputs.book.now.sheet g.valid ground.places.now g.numbered g.numbers a
-      (turn_of node row) (next (turn_of node row))
+      done-on a (turn_of node row) (next (turn_of node row))
       (dead-skipped ground.inputs.book.now.sheet ground.places.now g.numbered (turn_of node row) node
       (record { at = refl; row = named; family = refl }) dead) is
 

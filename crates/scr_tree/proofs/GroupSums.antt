@@ -9,12 +9,10 @@ use Rattle.scr_factors.specs.Values.{FactorValues}
 use Rattle.scr_figures.specs.Gathered.{AreMembersOf}
 use Rattle.scr_figures.specs.Places.{places_where}
 use Rattle.scr_figures.specs.declared.gathered.Members.{Members}
-use Rattle.scr_profile.specs.declared.limits.TheConstants.{MAX_HELD}
 use Rattle.scr_sheet.specs.BalanceSheet.{group_name, position_name, position_of}
 use Rattle.scr_sheet.specs.declared.{rows.Group.Group, rows.Position.Position, sheet.BalanceSheet.BalanceSheet}
 use Rattle.scr_sheet.specs.Totals.{total_of}
 use Rattle.scr_sheet.specs.Validity.{Valid}
-use Rattle.scr_sheet.proofs.SeenThrough.{security-small}
 use Rattle.scr_nodes.specs.Rows.{is_of_group}
 use Rattle.scr_nodes.specs.Sources.{group_total, security_total}
 use Rattle.scr_nodes.proofs.OwnRows.{own-securities}
@@ -86,11 +84,6 @@ module _ (factors : FactorValues) (sheet : BalanceSheet) (valid : Valid sheet) w
   pub total-right : (k : ℕ) (p : Position) → slice_get sheet.securities k ≡ Some p → worked factors sheet (security_total p) ≡ exact_ends (pos (cents p))
   total-right k p at =
       each-get (λ q. worked factors sheet (security_total q) ≡ exact_ends (pos (cents q))) sheet.securities k p all-worked at
-
-  pub cents-small : (k : ℕ) (p : Position) → slice_get sheet.securities k ≡ Some p → cents p < MAX_HELD + 1
-  cents-small k p at =
-      let own = each-get (λ q. position_of (position_name q) sheet.securities ≡ Some q) sheet.securities k p (own-securities sheet valid) at in
-      let small = security-small sheet valid (position_name p) (ap is_some own) in omega (arith, small)
 
   -- the total at a place among those of all securities
   pub total-at : (k : ℕ) (p : Position) → slice_get sheet.securities k ≡ Some p → (totals : List ℕ) → totals ≡ map cents sheet.securities

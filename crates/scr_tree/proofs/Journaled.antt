@@ -1,5 +1,5 @@
 -- Figures that are written one after another, of which the former ones are kept.
-use Rattle.std.proofs.Common.{◌≡◌, ◌⊎◌, inl, inr, ℕ, zero, suc, ◌+◌, ◌<◌, ◌≤◌, ◌++◌, nat_eq, List, [], ◌∷◌, length, set, take, Some, None, slice_get, Contains, refl, sym, ap, ap₂, subst, ◌∙◌, arith}
+use Rattle.std.proofs.Common.{◌≡◌, ◌⊎◌, inl, inr, ℕ, zero, suc, ◌+◌, ◌<◌, ◌≤◌, ◌++◌, nat_eq, List, [], ◌∷◌, length, set, take, Some, None, slice_get, Contains, refl, sym, ap, ap₂, ◌∙◌, arith}
 use Rattle.std.specs.List.{IsDistinct}
 use Rattle.std.proofs.lemmas.Bool.{cases_lt}
 use Rattle.std.proofs.lemmas.List.{length-append, length-set}
@@ -8,7 +8,7 @@ use Rattle.scr_funds.proofs.Members.{IsMember, IsMember-from_Contains, Contains-
 use Rattle.scr_reach.proofs.Counting.{once-number}
 use Rattle.scr_reach.proofs.Placed.{number-or}
 use Rattle.scr_tree.specs.Order.{IsJournaled, IsWritten}
-use Rattle.scr_tree.specs.declared.figures.Figure.{Figure}
+use Rattle.scr_subtotals.specs.declared.figure.Figure.{Figure}
 
 -- ---- places of a list
 
@@ -40,14 +40,6 @@ module _ {A : Type 0} where
   got-last (x ∷ xs) y = got-last xs y
 
 -- ---- one figure more
-
-pub journaled-none : (numbers : List ℕ) (figures : List Figure) → IsJournaled numbers [] figures figures
-journaled-none numbers figures = record {
-  few = omega arith;
-  others = λ number none. refl;
-  each = λ k number l at. let no : ⊥ = omega (arith, l) in absurd no;
-  long = refl;
-}
 
 pub journaled-next : (numbers : List ℕ) (figure : Figure) (former before now former_next next : List Figure)
     → IsDistinct nat_eq numbers → IsJournaled numbers former before now
@@ -88,13 +80,6 @@ journaled-next numbers figure former before now former_next next once is w = rec
         (let both : Some number ≡ Some w.number = sym at ∙ ap (slice_get numbers) last ∙ w.at in cc) in
         ap (slice_get before) own ∙ sym (is.others w.number fresh) ∙ w.here
         ∙ sym (ap (λ xs. slice_get xs k) w.kept ∙ ap (slice_get (former ++ w.was ∷ [])) last ∙ got-last former w.was)
-
--- the same, of numbers and figures that are the same
-pub written-as : (numbers others : List ℕ) (figure : Figure) (former before lent former_now now : List Figure) → others ≡ numbers
-    → lent ≡ before → IsWritten others figure former lent former_now now → IsWritten numbers figure former before former_now now
-written-as numbers others figure former before lent former_now now same_numbers same_figures is =
-    subst (λ fs. IsWritten numbers figure former fs former_now now) same_figures
-    (subst (λ ns. IsWritten ns figure former lent former_now now) same_numbers is)
 
 -- ---- written back
 
@@ -138,13 +123,6 @@ written-set numbers figure former before number was at here = record {
   there = set-here before number figure (slice_get_within before number was here);
   others = λ other apart. set-other before number other figure apart;
   long = length-set before number figure;
-}
-
-pub undoing-none : (numbers : List ℕ) (former now : List Figure) → IsUndoing numbers former now now 0
-undoing-none numbers former now = record {
-  back = λ i number l at. let no : ⊥ = omega (arith, l) in absurd no;
-  others = λ number none. refl;
-  long = refl;
 }
 
 pub undoing-next : (numbers : List ℕ) (former start now : List Figure) (k number : ℕ) (was : Figure) → IsDistinct nat_eq numbers

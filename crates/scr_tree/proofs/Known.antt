@@ -18,7 +18,7 @@ use Rattle.scr_rules.specs.Worked.{worked}
 use Rattle.scr_reach.specs.Linked.{AreAt, AreNumbers}
 use Rattle.scr_tree.specs.Figures.{AreKnownOf, AreReadAt, AreSpansOf, HasFigure, HaveFigures, IsPutRight, Reckoning, Worth, opens, worth_of}
 use Rattle.scr_tree.specs.declared.figures.Below.{Below}
-use Rattle.scr_tree.specs.declared.figures.Figure.{Figure}
+use Rattle.scr_subtotals.specs.declared.figure.Figure.{Figure}
 
 -- ---- along a list
 
@@ -51,10 +51,6 @@ any-next f (y ∷ xs) x = by (f y) (any-next f xs x)
 
 -- ---- figures that are read
 
-pub read-none : (figures : List Figure) (below : Below) → below.spans.items ≡ [] → below.close ≡ false → AreReadAt figures [] below
-read-none figures below spans close = record { read = []; at = tt; spans = spans; close = close }
-
--- one more
 pub read-next : (figures : List Figure) (numbers : List ℕ) (number : ℕ) (figure : Figure) (old now : Below)
     → AreReadAt figures numbers old → slice_get figures number ≡ Some figure
     → now.spans.items ≡ old.spans.items ++ figure.span ∷ [] → now.close ≡ (old.close || figure.close)

@@ -16,11 +16,12 @@ use Rattle.scr_nodes.specs.Live.{is_live}
 use Rattle.scr_nodes.specs.Sources.{sources_of}
 use Rattle.scr_nodes.specs.declared.node.Node.{Node}
 use Rattle.scr_nodes.proofs.LiveSources.{IsLive, sources-live}
-use Rattle.scr_reach.specs.Linked.{AreAt, AreLinked, AreLinkedOf, AreNumbers, edges_to, sources_in}
+use Rattle.scr_reach.specs.Linked.{AreAt, AreLinkedOf, AreNumbers, edges_to, sources_in}
 use Rattle.scr_tree.specs.Figures.{AreKnownOf, AreSettled, HaveFigures, IsPutRight, reckoning_of, worth_at, worth_of}
-use Rattle.scr_tree.specs.First.{IsEntered, IsMade}
+use Rattle.scr_tree.specs.First.{IsEntered, IsLinkedBefore, IsMade}
+use Rattle.scr_tree.specs.Points.{is_linked}
 use Rattle.scr_tree.specs.Turns.{IsBefore, Turn, next, stage_of, turn, turn_of}
-use Rattle.scr_tree.specs.declared.figures.Figure.{Figure}
+use Rattle.scr_subtotals.specs.declared.figure.Figure.{Figure}
 use Rattle.scr_tree.specs.declared.making.Made.{Made}
 use Rattle.scr_tree.proofs.FirstSources.{sources-before}
 use Rattle.scr_tree.proofs.Known.{known-have, known-put, known-weaker}
@@ -80,18 +81,18 @@ was-there old now number kept e has other =
 
 module _ (sheet : BalanceSheet) (valid : Valid sheet) (places : Numbered) (numbered : IsNumbered sheet places)
     (numbers : AreNumbers (graph_of sheet) (StandsAt sheet places) places.size) where
-  same-turn : (t : Turn) (n node : Node) → is_live sheet n ≡ true → IsTurnOf sheet t n → IsTurnOf sheet t node → n ≡ node
+  pub same-turn : (t : Turn) (n node : Node) → is_live sheet n ≡ true → IsTurnOf sheet t n → IsTurnOf sheet t node → n ≡ node
   same-turn t n node live x y = one-turn sheet t n node x y (family-within sheet places numbered n live)
 
   -- it is linked
   pub linked-next : (old now : List Edge) (t : Turn) (node : Node) (number : ℕ) (sources : List ℕ)
-      → AreLinkedOf (graph_of sheet) (StandsAt sheet places) old (IsBefore sheet t) → IsTurnOf sheet t node → is_live sheet node ≡ true
-      → StandsAt sheet places node number → AreAt (StandsAt sheet places) sources (sources_of sheet node)
+      → AreLinkedOf (graph_of sheet) (StandsAt sheet places) old (IsLinkedBefore sheet t) → IsTurnOf sheet t node → is_live sheet node ≡ true
+      → is_linked node ≡ true → StandsAt sheet places node number → AreAt (StandsAt sheet places) sources (sources_of sheet node)
       → sources_in now number ≡ sources_in old number ++ sources
       → ((other : ℕ) → nat_eq number other ≡ false → edges_to now other ≡ edges_to old other)
-      → AreLinkedOf (graph_of sheet) (StandsAt sheet places) now (IsBefore sheet (next t))
-  linked-next old now t node number sources linked turn alive at are made kept = record {
-    done = λ n m stands live before. done n m stands live (step-back sheet t n before);
+      → AreLinkedOf (graph_of sheet) (StandsAt sheet places) now (IsLinkedBefore sheet (next t))
+  linked-next old now t node number sources linked turn alive own_links at are made kept = record {
+    done = λ n m stands live before. done n m stands live before.1 (step-back sheet t n before.0);
     only = λ e has. only e (IsMember-from_Contains now e has);
   }
     where
@@ -99,20 +100,20 @@ module _ (sheet : BalanceSheet) (valid : Valid sheet) (places : Numbered) (numbe
       free = none-linked old number (λ e has same.
           let l = linked.only e (Contains-from_IsMember old e has) in
           let one : l.0 ≡ node = numbers.exact number l.0 node (subst (StandsAt sheet places l.0) same l.1) at in
-          not-before sheet valid t node turn (subst (IsBefore sheet t) one l.3))
+          not-before sheet valid t node turn (subst (IsBefore sheet t) one l.3.0))
 
       own : sources_in now number ≡ sources
       own = made ∙ ap (λ xs. xs ++ sources) free
 
-      done : (n : Node) (m : ℕ) → StandsAt sheet places n m → is_live sheet n ≡ true → IsBefore sheet t n ⊎ IsTurnOf sheet t n
+      done : (n : Node) (m : ℕ) → StandsAt sheet places n m → is_live sheet n ≡ true → is_linked n ≡ true → IsBefore sheet t n ⊎ IsTurnOf sheet t n
           → AreAt (StandsAt sheet places) (sources_in now m) (sources_of sheet n)
-      done n m stands live (inl before) =
+      done n m stands live links (inl before) =
           let other : number ≡ m → ⊥ =
           λ same. (let one : node ≡ n = numbers.exact m node n (subst (StandsAt sheet places node) same at) stands in
           not-before sheet valid t node turn (subst (IsBefore sheet t) (sym one) before)) in
           subst (λ es. AreAt (StandsAt sheet places) (map (λ (e : Edge). e.source) es) (sources_of sheet n))
-          (sym (kept m (ne_eqb number m other))) (linked.done n m stands live before)
-      done n m stands live (inr its) =
+          (sym (kept m (ne_eqb number m other))) (linked.done n m stands live (before, links))
+      done n m stands live links (inr its) =
           let one : n ≡ node = same-turn t n node live its turn in
           let there : m ≡ number = numbers.only node m number (subst (λ k. StandsAt sheet places k m) one stands) at in
           subst (λ k. AreAt (StandsAt sheet places) (sources_in now k) (sources_of sheet n)) (sym there)
@@ -120,40 +121,51 @@ module _ (sheet : BalanceSheet) (valid : Valid sheet) (places : Numbered) (numbe
           (subst (λ xs. AreAt (StandsAt sheet places) xs (sources_of sheet node)) (sym own) are))
 
       only : (e : Edge) → IsMember e now
-          → (n : Node) × StandsAt sheet places n e.dependant × (is_live sheet n ≡ true) × IsBefore sheet (next t) n
+          → (n : Node) × StandsAt sheet places n e.dependant × (is_live sheet n ≡ true) × IsLinkedBefore sheet (next t) n
       only e has = passes_or_fails (nat_eq e.dependant number)
-          (λ same. (node, subst (StandsAt sheet places node) (sym (eqb-true e.dependant number same)) at, alive, its-turn sheet t node turn))
+          (λ same. (
+            node,
+            subst (StandsAt sheet places node) (sym (eqb-true e.dependant number same)) at,
+            alive,
+            (its-turn sheet t node turn, own_links),
+          ))
           (λ apart.
           let other : e.dependant ≡ number → ⊥ =
           λ same. (let clash : true ≡ false = sym (eq-eqb e.dependant number same) ∙ apart in absurd (cc)) in
           let l = linked.only e (Contains-from_IsMember old e (was-there old now number kept e has other)) in
-          (l.0, l.1, l.2, later sheet t l.0 l.3))
+          (l.0, l.1, l.2, (later sheet t l.0 l.3.0, l.3.1)))
+
+  -- a figure that rows or lists link
+  pub linked-still : (edges : List Edge) (t : Turn) (node : Node)
+      → AreLinkedOf (graph_of sheet) (StandsAt sheet places) edges (IsLinkedBefore sheet t) → IsTurnOf sheet t node → is_live sheet node ≡ true
+      → is_linked node ≡ false → AreLinkedOf (graph_of sheet) (StandsAt sheet places) edges (IsLinkedBefore sheet (next t))
+  linked-still edges t node linked turn alive none = record {
+    done = λ n m stands live before. done n m stands live before.1 (step-back sheet t n before.0);
+    only = λ e has. let l = linked.only e has in (l.0, l.1, l.2, (later sheet t l.0 l.3.0, l.3.1));
+  }
+    where
+      done : (n : Node) (m : ℕ) → StandsAt sheet places n m → is_live sheet n ≡ true → is_linked n ≡ true → IsBefore sheet t n ⊎ IsTurnOf sheet t n
+          → AreAt (StandsAt sheet places) (sources_in edges m) (sources_of sheet n)
+      done n m stands live links (inl before) = linked.done n m stands live (before, links)
+      done n m stands live links (inr its) =
+          let one : n ≡ node = same-turn t n node live its turn in
+          let clash : true ≡ false = sym links ∙ (ap is_linked one ∙ none) in absurd (cc)
 
   -- ---- the beginning and the end of all links
 
-  pub links-none : (edges : List Edge) → edges ≡ [] → AreLinkedOf (graph_of sheet) (StandsAt sheet places) edges (IsBefore sheet (turn 0 0 0))
+  pub links-none : (edges : List Edge) → edges ≡ [] → AreLinkedOf (graph_of sheet) (StandsAt sheet places) edges (IsLinkedBefore sheet (turn 0 0 0))
   links-none edges none = record {
-    done = λ n m stands live before. absurd (none-done sheet n before);
+    done = λ n m stands live before. absurd (none-done sheet n before.0);
     only = λ e has. absurd (IsMember-from_Contains [] e (subst (λ es. Contains es e) none has));
   }
 
-  -- all are linked
-  pub links-all : (edges : List Edge) → AreLinkedOf (graph_of sheet) (StandsAt sheet places) edges (IsBefore sheet (turn 7 0 153))
-      → AreLinked (graph_of sheet) (StandsAt sheet places) edges
+  -- all are linked that neither rows nor lists link
+  pub links-all : (edges : List Edge) → AreLinkedOf (graph_of sheet) (StandsAt sheet places) edges (IsLinkedBefore sheet (turn 7 0 153))
+      → AreLinkedOf (graph_of sheet) (StandsAt sheet places) edges (λ n. is_linked n ≡ true)
   links-all edges is = record {
-    linked = λ n m stands. linked n m stands (is_live sheet n) refl;
-    placed = λ e has. let l = is.only e has in (l.0, l.1);
+    done = λ n m stands live links. is.done n m stands live (all-done sheet places numbered n live, links);
+    only = λ e has. let l = is.only e has in (l.0, l.1, l.2, l.3.1);
   }
-    where
-      linked : (n : Node) (m : ℕ) → StandsAt sheet places n m → (b : Bool) → is_live sheet n ≡ b
-          → AreAt (StandsAt sheet places) (sources_in edges m) (if b then sources_of sheet n else [])
-      linked n m stands true live = is.done n m stands live (all-done sheet places numbered n live)
-      linked n m stands false dead =
-          subst (λ xs. AreAt (StandsAt sheet places) xs []) (sym (none-linked edges m (λ e has same.
-          let l = is.only e (Contains-from_IsMember edges e has) in
-          let one : l.0 ≡ n = numbers.exact m l.0 n (subst (StandsAt sheet places l.0) same l.1) stands in
-          let clash : true ≡ false = sym (subst (λ k. is_live sheet k ≡ true) one l.2) ∙ dead in absurd (cc))))
-          tt
 
 module _ (factors : FactorValues) (sheet : BalanceSheet) (valid : Valid sheet) (places : Numbered) (numbered : IsNumbered sheet places)
     (numbers : AreNumbers (graph_of sheet) (StandsAt sheet places) places.size) where
@@ -180,17 +192,18 @@ module _ (factors : FactorValues) (sheet : BalanceSheet) (valid : Valid sheet) (
     known = known-weaker (reckoning_of factors sheet) (StandsAt sheet places) made.figures.items (IsBefore sheet t) (IsBefore sheet u)
         (λ n live before. a.back n live before) is.known;
     links = record {
-      done = λ n m stands live before. is.links.done n m stands live (b.back n live before);
-      only = λ e has. let l = is.links.only e has in (l.0, l.1, l.2, b.to l.0 l.2 l.3);
+      done = λ n m stands live before. is.links.done n m stands live (b.back n live before.0, before.1);
+      only = λ e has. let l = is.links.only e has in (l.0, l.1, l.2, (b.to l.0 l.2 l.3.0, l.3.1));
     };
   }
 
   -- a figure is entered that is right, and its sources
   pub made-entered : (old now : Made) (t : Turn) (node : Node) (number : ℕ) (sources : List ℕ) (figure : Figure)
-      → IsMade factors sheet places old t t → IsTurnOf sheet t node → is_live sheet node ≡ true → StandsAt sheet places node number
+      → IsMade factors sheet places old t t → IsTurnOf sheet t node → is_live sheet node ≡ true → is_linked node ≡ true
+      → StandsAt sheet places node number
       → AreAt (StandsAt sheet places) sources (sources_of sheet node) → worth_of figure ≡ worth_at factors sheet node
       → IsEntered number sources figure old now → IsMade factors sheet places now (next t) (next t)
-  made-entered old now t node number sources figure is turn live at are right entered = record {
+  made-entered old now t node number sources figure is turn live links at are right entered = record {
     count = entered.count ∙ is.count;
     size = entered.size ∙ is.size;
     known = reckoned-next old.figures.items now.figures.items t node number is.known turn (record {
@@ -198,7 +211,8 @@ module _ (factors : FactorValues) (sheet : BalanceSheet) (valid : Valid sheet) (
       there = ap (option_map worth_of) entered.there ∙ ap Some right;
       others = entered.others;
     });
-    links = linked-next sheet valid places numbered numbers old.links.edges now.links.edges t node number sources is.links turn live at are entered.made entered.kept;
+    links = linked-next sheet valid places numbered numbers old.links.edges now.links.edges t node number sources is.links turn live links at are
+        entered.made entered.kept;
   }
 
   -- the sources of a figure whose turn it is are known
@@ -233,7 +247,8 @@ module _ (factors : FactorValues) (sheet : BalanceSheet) (valid : Valid sheet) (
   }
 
   pub made-all : (made : Made) → IsMade factors sheet places made (turn 7 0 153) (turn 7 0 153)
-      → AreSettled (reckoning_of factors sheet) (StandsAt sheet places) made.figures.items × AreLinked (graph_of sheet) (StandsAt sheet places) made.links.edges
+      → AreSettled (reckoning_of factors sheet) (StandsAt sheet places) made.figures.items
+      × AreLinkedOf (graph_of sheet) (StandsAt sheet places) made.links.edges (λ n. is_linked n ≡ true)
   made-all made is = (
     known-weaker (reckoning_of factors sheet) (StandsAt sheet places) made.figures.items (IsBefore sheet (turn 7 0 153)) (λ n. Unit {0})
         (λ n live all. all-done sheet places numbered n live) is.known,

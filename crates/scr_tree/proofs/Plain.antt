@@ -26,7 +26,7 @@ use Rattle.scr_rules.specs.Close.{close_under, is_open_choice}
 use Rattle.scr_rules.specs.Worked.{worked}
 use Rattle.scr_rules.proofs.Totals.{fund-worked, security-worked}
 use Rattle.scr_tree.specs.Figures.{total_worth, worth_at, worth_of}
-use Rattle.scr_tree.specs.declared.figures.Figure.{Figure}
+use Rattle.scr_subtotals.specs.declared.figure.Figure.{Figure}
 
 -- ---- no choice lies under them
 
@@ -77,7 +77,7 @@ closed-step factors sheet (nodes.Group name what) h = sym (none-open (sources_of
 closed-step factors sheet (nodes.Whole wholes.Assets) h = sym (none-open (sources_of sheet (nodes.Whole wholes.Assets)))
 closed-step factors sheet node h = absurd (cc)
 
-never-close : (factors : FactorValues) (sheet : BalanceSheet) → Valid sheet → (node : Node) → IsPlain node
+pub never-close : (factors : FactorValues) (sheet : BalanceSheet) → Valid sheet → (node : Node) → IsPlain node
     → close_under factors sheet node ≡ false
 unfolding close_under
 never-close factors sheet valid node plain =

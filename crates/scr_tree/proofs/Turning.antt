@@ -1,27 +1,20 @@
 -- Figures that are reckoned one after another, each after all that it is reckoned from.
-use Rattle.std.proofs.Common.{◌≡◌, ◌⊎◌, inl, inr, ◌||◌, ℕ, zero, suc, ◌+◌, ◌<◌, ◌≤◌, ◌++◌, true, false, cond, nat_eq, All, List, [], ◌∷◌, drop, length, Option, Some, None, slice_get, Contains, refl, sym, ap, subst, ◌∙◌, arith}
+use Rattle.std.proofs.Common.{◌≡◌, ◌⊎◌, inl, inr, ℕ, zero, suc, ◌+◌, ◌<◌, ◌≤◌, true, false, nat_eq, All, List, [], ◌∷◌, drop, length, Option, Some, None, slice_get, Contains, refl, sym, ap, subst, ◌∙◌, arith}
 use Rattle.std.specs.List.{AllByRecursion}
 use Rattle.std.specs.Option.{option_map}
 use Rattle.std.proofs.lemmas.Bool.{cases_Bool, cases_lt, eq-eqb, eqb-true}
-use Rattle.std.proofs.lemmas.List.{append-nil, append_assoc, drop_all, drop_more}
+use Rattle.std.proofs.lemmas.List.{drop_all, drop_more}
 use Rattle.std.proofs.lemmas.Option.{get_or_from_slice_get, slice_get_within}
-use Rattle.scr_funds.proofs.Members.{All-from_members, IsMember, IsMember-from_Contains, Contains-from_IsMember, IsMember-right, at_member, each-from_members}
-use Rattle.scr_links.specs.Edges.{Edge}
-use Rattle.scr_sheet.specs.declared.sheet.BalanceSheet.{BalanceSheet}
-use Rattle.scr_nodes.proofs.LiveSources.{sources-live}
-use Rattle.scr_numbers.specs.Ranges.{Numbered}
-use Rattle.scr_figures.specs.Numbers.{StandsAt}
+use Rattle.scr_funds.proofs.Members.{All-from_members, IsMember, IsMember-from_Contains, Contains-from_IsMember, at_member, each-from_members}
 use Rattle.scr_reach.specs.Dues.{IsLiveAt}
 use Rattle.scr_reach.specs.Graph.{Graph, IsLive}
-use Rattle.scr_reach.specs.Linked.{AreAt, sources_in}
+use Rattle.scr_reach.specs.Linked.{AreAt}
 use Rattle.scr_reach.proofs.Placed.{get-contains}
-use Rattle.scr_tree.specs.Figures.{AreKnownOf, AreReadAt, AreSettled, HasFigure, HaveFigures, Reckoning, worth_of}
-use Rattle.scr_tree.specs.Graphs.{graph_of}
-use Rattle.scr_tree.specs.Order.{AreLiveOf, IsOrder, start_of}
-use Rattle.scr_tree.specs.Ready.{AreInTurn, IsLinkedUp, IsNoneOf, IsReady, IsRight, IsUp}
-use Rattle.scr_tree.specs.declared.figures.Below.{Below}
-use Rattle.scr_tree.specs.declared.figures.Figure.{Figure}
-use Rattle.scr_tree.proofs.Known.{known-have, known-put, known-weaker, read-next}
+use Rattle.scr_tree.specs.Figures.{AreKnownOf, AreSettled, HasFigure, HaveFigures, Reckoning, worth_of}
+use Rattle.scr_tree.specs.Order.{IsOrder, start_of}
+use Rattle.scr_tree.specs.Ready.{AreInTurn, IsNoneOf, IsReady, IsRight, IsUp}
+use Rattle.scr_subtotals.specs.declared.figure.Figure.{Figure}
+use Rattle.scr_tree.proofs.Known.{known-have, known-put, known-weaker}
 
 -- ---- places in a list
 
@@ -66,16 +59,10 @@ in-turn graph At reached numbers ends order = record {
       omega (arith, first, from);
 }
 
--- the graph of a valid balance sheet whose figures have numbers and are linked
-pub sheet-up : (sheet : BalanceSheet) (places : Numbered) (edges : List Edge) → IsLinkedUp sheet places edges
-    → IsUp (graph_of sheet) (StandsAt sheet places) places.size edges
-sheet-up sheet places edges up =
-    record { closed = sources-live sheet up.valid; numbers = up.numbers; linked = up.linked }
-
 -- ---- figures known and reckoned
 
-module _ {Node : Type 0} (reckoning : Reckoning Node) (At : Node → ℕ → Type 0) (size : ℕ) (edges : List Edge)
-    (up : IsUp reckoning.graph At size edges) where
+module _ {Node : Type 0} (reckoning : Reckoning Node) (At : Node → ℕ → Type 0) (size : ℕ)
+    (up : IsUp reckoning.graph At size) where
   abbrev Known : List Figure → List ℕ → Type 0
   Known figures numbers = AreKnownOf reckoning At figures (IsNoneOf At numbers)
 
@@ -84,15 +71,13 @@ module _ {Node : Type 0} (reckoning : Reckoning Node) (At : Node → ℕ → Typ
       → reckoning.graph.live node ≡ true
       → ((i source_number : ℕ) (source : Node) → Contains (reckoning.graph.sources node) source → At source source_number
       → slice_get numbers i ≡ Some source_number → i < from)
-      → Known figures (drop from numbers) → IsReady reckoning At edges figures number
+      → Known figures (drop from numbers) → IsReady reckoning At figures number
   ready figures numbers from number node at live before known = record {
     node = node;
     at = at;
     live = live;
-    sources = known-have reckoning At figures (IsNoneOf At (drop from numbers)) known (sources_in edges number)
-        (reckoning.graph.sources node)
-        (subst (AreAt At (sources_in edges number)) (ap (λ b. cond b (reckoning.graph.sources node) []) live)
-        (up.linked.linked node number at))
+    sources = λ list there. known-have reckoning At figures (IsNoneOf At (drop from numbers)) known list
+        (reckoning.graph.sources node) there
         (each-from_members (λ s. (reckoning.graph.live s ≡ true) × IsNoneOf At (drop from numbers) s) (reckoning.graph.sources node) done);
   }
     where
@@ -109,7 +94,7 @@ module _ {Node : Type 0} (reckoning : Reckoning Node) (At : Node → ℕ → Typ
 
   -- of the number at a place of those in turn
   pub ready-next : (figures : List Figure) (numbers : List ℕ) (k number : ℕ) → AreInTurn reckoning.graph At numbers
-      → slice_get numbers k ≡ Some number → Known figures (drop k numbers) → IsReady reckoning At edges figures number
+      → slice_get numbers k ≡ Some number → Known figures (drop k numbers) → IsReady reckoning At figures number
   ready-next figures numbers k number turn here known =
       let live = turn.each number (get-contains numbers k number here) in
       ready figures numbers k number live.0 live.1 live.2
@@ -130,9 +115,11 @@ module _ {Node : Type 0} (reckoning : Reckoning Node) (At : Node → ℕ → Typ
           let clash : None ≡ Some (reckoning.worth m) = sym (ap (option_map worth_of) e) ∙ has in absurd (cc)
       there (Some figure) e has = slice_get_within figures n figure e
 
-  pub ready-within : (figures : List Figure) (number : ℕ) → IsReady reckoning At edges figures number
-      → AllByRecursion (λ source. source < length figures) (sources_in edges number)
-  ready-within figures number is = have-within figures (sources_in edges number) (reckoning.graph.sources is.node) is.sources
+  pub ready-within : (figures : List Figure) (number : ℕ) → IsReady reckoning At figures number
+      → (list : List ℕ) → ((node : Node) → At node number → AreAt At list (reckoning.graph.sources node))
+      → AllByRecursion (λ source. source < length figures) list
+  ready-within figures number is list at =
+      have-within figures list (reckoning.graph.sources is.node) (is.sources list (at is.node is.at))
 
   -- all numbers in turn are below the size
   pub turn-within : (numbers : List ℕ) (many : ℕ) → size ≤ many → AreInTurn reckoning.graph At numbers
@@ -190,38 +177,3 @@ module _ {Node : Type 0} (reckoning : Reckoning Node) (At : Node → ℕ → Typ
   settled-all figures numbers k end known =
       known-weaker reckoning At figures (IsNoneOf At (drop k numbers)) (λ n. Unit {0})
       (λ n live any m at has. IsMember-from_Contains [] m (subst (λ xs. Contains xs m) (drop_all k numbers end) has)) known
-
--- ---- figures that are read along links
-
--- those of the numbers but for these, which are left
-pub record AreReadYet (figures : List Figure) (left numbers : List ℕ) (below : Below) : Type 0 where
-  pub done : List ℕ
-  pub split : done ++ left ≡ numbers
-  pub read : AreReadAt figures done below
-
-pub read-all : (figures : List Figure) (numbers : List ℕ) (below : Below) → AreReadYet figures [] numbers below
-    → AreReadAt figures numbers below
-read-all figures numbers below yet =
-    subst (λ done. AreReadAt figures done below) (sym (append-nil yet.done) ∙ yet.split) yet.read
-
-pub read-one : (figures : List Figure) (source : ℕ) (left numbers : List ℕ) (old now : Below) (figure : Figure)
-    → AreReadYet figures (source ∷ left) numbers old → slice_get figures source ≡ Some figure
-    → now.spans.items ≡ old.spans.items ++ figure.span ∷ [] → now.close ≡ (old.close || figure.close)
-    → AreReadYet figures left numbers now
-read-one figures source left numbers old now figure yet here spans close = record {
-  done = yet.done ++ source ∷ [];
-  split = append_assoc yet.done (source ∷ []) left ∙ yet.split;
-  read = read-next figures yet.done source figure old now yet.read here spans close;
-}
-
--- the next is one of all
-pub next-within : (figures : List Figure) (source : ℕ) (left numbers : List ℕ) (below : Below)
-    → AreReadYet figures (source ∷ left) numbers below → AllByRecursion (λ n. n < length figures) numbers
-    → source < length figures
-next-within figures source left numbers below yet within =
-    at_member (λ n. n < length figures) numbers source within
-    (subst (IsMember source) yet.split (IsMember-right yet.done (source ∷ left) source (inl refl)))
-
-pub order-live : {Node : Type 0} (graph : Graph Node) (At : Node → ℕ → Type 0) (reached numbers ends : List ℕ)
-    → IsOrder graph At reached numbers ends → AreLiveOf graph At reached numbers
-order-live graph At reached numbers ends order = record { once = order.once; each = order.each; all = order.all }

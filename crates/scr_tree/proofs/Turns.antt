@@ -119,15 +119,6 @@ pub record IsAsGood (sheet : BalanceSheet) (t u : Turn) : Type 0 where
   pub to : (n : Node) → is_live sheet n ≡ true → IsBefore sheet t n → IsBefore sheet u n
   pub back : (n : Node) → is_live sheet n ≡ true → IsBefore sheet u n → IsBefore sheet t n
 
-pub as-good : (sheet : BalanceSheet) (t : Turn) → IsAsGood sheet t t
-as-good sheet t = record { to = λ n live b. b; back = λ n live b. b }
-
-pub good-and : (sheet : BalanceSheet) (t u v : Turn) → IsAsGood sheet t u → IsAsGood sheet u v → IsAsGood sheet t v
-good-and sheet t u v a b = record {
-  to = λ n live before. b.to n live (a.to n live before);
-  back = λ n live before. a.back n live (b.back n live before);
-}
-
 -- no figure has the turn
 pub skipped : (sheet : BalanceSheet) (t : Turn) → ((n : Node) → is_live sheet n ≡ true → IsTurnOf sheet t n → ⊥)
     → IsAsGood sheet t (next t)
@@ -258,16 +249,6 @@ total-last (nodes.Currency name what) e = absurd (omega (arith, e))
 total-last (nodes.Group name what) e = absurd (omega (arith, e))
 total-last (nodes.Whole wholes.Assets) e = absurd (omega (arith, e))
 total-last (nodes.Whole what) e = absurd (omega (arith, e))
-
-pub security-first : (n : Node) → stage_of n ≡ 3 → 1 ≤ family_of n
-security-first (nodes.Fund name what) e = absurd (omega (arith, e))
-security-first (nodes.Security name of_securities.Total) e = absurd (omega (arith, e))
-security-first (nodes.Security name what) e = omega arith
-security-first (nodes.Liability name what) e = absurd (omega (arith, e))
-security-first (nodes.Currency name what) e = absurd (omega (arith, e))
-security-first (nodes.Group name what) e = absurd (omega (arith, e))
-security-first (nodes.Whole wholes.Assets) e = absurd (omega (arith, e))
-security-first (nodes.Whole what) e = absurd (omega (arith, e))
 
 pub assets-first : (n : Node) → stage_of n ≡ 2 → 153 ≤ family_of n
 assets-first (nodes.Fund name what) e = absurd (omega (arith, e))

@@ -1,5 +1,5 @@
 -- The figures of rows, once they are written at their numbers.
-use Rattle.std.proofs.Common.{◌≡◌, ◌⊎◌, inl, inr, ℕ, zero, suc, ◌+◌, ◌-◌, ◌<◌, ◌≤◌, ◌++◌, Bool, true, false, cond, nat_eq, List, [], ◌∷◌, length, map, take, drop, set, Option, Some, None, slice_get, refl, sym, ap, ap₂, subst, ◌∙◌, arith}
+use Rattle.std.proofs.Common.{◌≡◌, ◌⊎◌, inl, inr, ℕ, zero, suc, ◌+◌, ◌-◌, ◌<◌, ◌≤◌, ◌++◌, Bool, true, false, cond, nat_eq, List, [], ◌∷◌, length, map, take, drop, set, Option, Some, None, slice_get, refl, sym, ap, subst, ◌∙◌, arith}
 use Rattle.std.specs.Option.{option_map}
 use Rattle.std.proofs.lemmas.Bool.{and_parts, cases_lt, eqb-true}
 use Rattle.std.proofs.lemmas.List.Sums.{sum_by-cons}
@@ -7,24 +7,17 @@ use Rattle.std.proofs.lemmas.List.{append-nil, append_assoc, drop_more, flat_map
 use Rattle.std.proofs.lemmas.Option.{get_or_from_slice_get, slice_get_within}
 use Rattle.scr_num.specs.Rounding.{ends}
 use Rattle.scr_num.specs.declared.span.Span.{Span}
-use Rattle.scr_factors.specs.Values.{FactorValues}
 use Rattle.scr_figures.specs.Families.{family_of, name_of, table_of}
 use Rattle.scr_figures.specs.Numbers.{IsNumbered, StandsAt, names_in}
 use Rattle.scr_figures.proofs.Live.{live-stands}
 use Rattle.scr_figures.proofs.Standing.{stands}
+use Rattle.scr_links.specs.Edges.{Edge, Linked}
+use Rattle.scr_reach.specs.Linked.{AreLinkedOf}
 use Rattle.scr_numbers.specs.Ranges.{IsApart, IsAt, IsOne, IsWithin, Numbered, count, first, stride}
-use Rattle.scr_numbers.specs.declared.table.Table.{Table}
 use Rattle.scr_numbers.specs.declared.table.Table.TheVariants as tables
 use Rattle.scr_sheet.specs.BalanceSheet.{group_name, liability_name, position_name}
 use Rattle.scr_sheet.specs.declared.sheet.BalanceSheet.{BalanceSheet}
 use Rattle.scr_nodes.specs.Live.{is_live}
-use Rattle.scr_nodes.specs.Rows.{has_group}
-use Rattle.scr_nodes.specs.Sources.{security_total, sources_of}
-use Rattle.scr_nodes.proofs.Below.{AllBelow, below-chosen}
-use Rattle.scr_nodes.proofs.LiveSources.{IsLive, sources-live}
-use Rattle.scr_reach.specs.Linked.{AreAt}
-use Rattle.std.specs.List.{AllByRecursion}
-use Rattle.scr_nodes.specs.declared.node.Direction.TheVariants.{Up, Down}
 use Rattle.scr_nodes.specs.declared.node.Node.{Node}
 use Rattle.scr_nodes.specs.declared.node.Node.TheVariants as nodes
 use Rattle.scr_nodes.specs.declared.node.OfSecurity.TheVariants as of_securities
@@ -37,22 +30,20 @@ use Rattle.scr_pieces.specs.declared.rows.Sort.{Sort}
 use Rattle.scr_pieces.specs.declared.rows.Sort.TheVariants as sorts
 use Rattle.scr_pieces.proofs.Counted.{all-once, times_row-append}
 use Rattle.scr_rules.specs.Worked.{worked}
-use Rattle.scr_tree.specs.Figures.{AreKnownOf, HasFigure, HaveFigures, reckoning_of, worth_of}
-use Rattle.scr_tree.specs.First.{AreReckonedTo, IsGround}
-use Rattle.scr_tree.specs.Order.{IsOrder}
-use Rattle.scr_tree.specs.Ready.{IsNoneOf}
+use Rattle.scr_tree.specs.Figures.{AreKnownOf, HasFigure, reckoning_of, worth_of}
+use Rattle.scr_tree.specs.First.{AreGroupsDone, AreReckonedTo, IsDone, IsGround, IsLinkedBefore}
+use Rattle.scr_tree.specs.Graphs.{graph_of}
+use Rattle.scr_tree.specs.Points.{is_linked}
 use Rattle.scr_tree.specs.RowSpans.{IsOfRow, IsRowOf, row_count, sort_table}
 use Rattle.scr_tree.specs.Turns.{IsBefore, stage_of, turn}
-use Rattle.scr_tree.specs.Written.{AreAllRest, AreRowsThere, IsOfRows, IsWrittenAt, IsWrittenOf, is_by_row, plain_of, in_row, in_total, rows_among}
-use Rattle.scr_tree.specs.FirstDues.{is_total}
-use Rattle.scr_tree.specs.declared.figures.Figure.{Figure}
-use Rattle.scr_tree.specs.declared.making.Ground.{Ground}
-use Rattle.scr_tree.proofs.Entering.{totals-there}
+use Rattle.scr_tree.specs.Written.{IsOfRows, IsWrittenAt, IsWrittenOf, is_by_row, plain_of, rows_among}
+use Rattle.scr_subtotals.specs.declared.figure.Figure.{Figure}
+use Rattle.scr_tree.specs.declared.making.{Ground.Ground, Made.Made}
+use Rattle.scr_tree.proofs.BlockTurns.{blocks-kept, blocks-rows}
 use Rattle.scr_tree.proofs.Journaled.{set-here, set-other}
-use Rattle.scr_tree.proofs.Known.{known-have, known-weaker, take-next}
+use Rattle.scr_tree.proofs.Known.{take-next}
 use Rattle.scr_tree.proofs.Plain.{is_plain, plain-worth}
 use Rattle.scr_tree.proofs.Turns.{family-within}
-use Rattle.scr_tree.specs.Graphs.{graph_of}
 
 -- ---- spans, one after another
 
@@ -152,6 +143,12 @@ row-plain sorts.Liability (nodes.Whole what) same = absurd (cc)
 row-plain sorts.Security (nodes.Whole what) same = absurd (cc)
 row-plain sorts.Group (nodes.Whole what) same = absurd (cc)
 
+-- rows of no sort are parts of lists
+sort-no-part : (sort : Sort) → tables.Part ≡ sort_table sort → ⊥
+sort-no-part sorts.Liability same = absurd (cc)
+sort-no-part sorts.Security same = absurd (cc)
+sort-no-part sorts.Group same = absurd (cc)
+
 -- what is added to one number to come to another
 rest-of : (a b : ℕ) → a ≤ b → (d : ℕ) × (a + d ≡ b)
 rest-of zero b l = (b, omega arith)
@@ -236,12 +233,34 @@ module _ (ground : Ground) (g : IsGround ground) where
         by (inr from) (inr high) = same (inr high)
         by (inr from) (inl low) = inside from low
 
+    -- a part of a list has none of the row's numbers
+    off-parts : IsApart ground.places.now → k < count ground.places.now (sort_table sort) → (slot j number : ℕ)
+        → IsAt ground.places.now tables.Part slot j number → slice_get b number ≡ slice_get a number
+    off-parts apart few slot j number stood = by (cases_lt number start) (cases_lt number (start + length own))
+      where
+        inside : start ≤ number → number < start + length own → ⊥
+        inside from low =
+            let d = rest-of start number from in
+            let sum : start + d.0 ≡ number = d.1 in
+            let long = is.count in
+            let one : IsOne tables.Part slot j (sort_table sort) k d.0 =
+            apart number tables.Part slot j (sort_table sort) k d.0 stood
+            (record { row = few; family = omega (arith, sum, low, long); is = ap (λ n. n + d.0) (sym at) ∙ sum }) in
+            sort-no-part sort one.tables
+
+        by : (number < start) ⊎ (start ≤ number) → (number < start + length own) ⊎ (start + length own ≤ number)
+            → slice_get b number ≡ slice_get a number
+        by (inl low) l = written.others number (inl low)
+        by (inr from) (inr high) = written.others number (inr high)
+        by (inr from) (inl low) = absurd (inside from low)
+
     pub row-written : IsApart ground.places.now → k < count ground.places.now (sort_table sort)
         → IsWrittenOf ground (row sort k ∷ []) a b
     row-written apart few = record {
       count = written.count;
       each = λ node number stood of. here node number stood (own-row node of.one of.among of.of_row);
       kept = λ node number stood live has. still apart few node number stood live has;
+      parts = off-parts apart few;
     }
       where
         own-row : (node : Node) (one : Row) → 0 < times_row one (row sort k ∷ []) → IsOfRow ground.inputs.book.now.sheet one.sort one.place node
@@ -258,6 +277,7 @@ module _ (ground : Ground) (g : IsGround ground) where
     count = refl;
     each = λ node number stood of. let some : 0 < 0 = of.among in absurd (omega (arith, some));
     kept = λ node number stood live has. has;
+    parts = λ slot j number stood. refl;
   }
 
   pub written-and : (rows more : List Row) (a b c : List Figure) → IsWrittenOf ground rows a b → IsWrittenOf ground more b c
@@ -266,6 +286,7 @@ module _ (ground : Ground) (g : IsGround ground) where
     count = two.count ∙ one.count;
     each = λ node number stood of. each node number stood of (cases_lt 0 (times_row of.one rows));
     kept = λ node number stood live has. two.kept node number stood live (one.kept node number stood live has);
+    parts = λ slot j number stood. two.parts slot j number stood ∙ one.parts slot j number stood;
   }
     where
       each : (node : Node) (number : ℕ) → At node number → (of : IsOfRows ground.inputs.book.now.sheet (rows ++ more) node)
@@ -337,17 +358,6 @@ module _ (ground : Ground) (g : IsGround ground) where
   early-or (nodes.Whole wholes.Assets) before = inl (inl (omega arith))
   early-or (nodes.Whole what) before = absurd (late 6 (nodes.Whole what) (omega arith) before)
 
-  pub early-totals : (figures : List Figure) → AreReckonedTo ground figures (turn 3 0 0) → AreReckonedTo ground figures (turn 2 0 0)
-  early-totals figures is = record {
-    count = is.count;
-    known = known-weaker (reckoning_of ground.inputs.factors.now ground.inputs.book.now.sheet) At figures (IsBefore ground.inputs.book.now.sheet (turn 3 0 0))
-        (IsBefore ground.inputs.book.now.sheet (turn 2 0 0)) (λ node live before. earlier node before) is.known;
-  }
-    where
-      earlier : (node : Node) → IsBefore ground.inputs.book.now.sheet (turn 2 0 0) node → IsBefore ground.inputs.book.now.sheet (turn 3 0 0) node
-      earlier node (inl less) = inl (omega (arith, less))
-      earlier node (inr h) = let e = h.0 in inl (omega (arith, e))
-
   pub rows-reckoned : (rows : List Row) → ((sort : Sort) (k : ℕ) → k < row_count ground.inputs.book.now.sheet sort → 0 < times_row (row sort k) rows)
       → (a b : List Figure) → AreReckonedTo ground a (turn 3 0 0) → IsWrittenOf ground rows a b → AreReckonedTo ground b (turn 6 0 0)
   unfolding AreKnownOf
@@ -361,40 +371,52 @@ module _ (ground : Ground) (g : IsGround ground) where
       by node number stood live (inl early) = written.kept node number stood live (is.known node number stood live early)
       by node number stood live (inr own) = written.each node number stood (its-row rows all node live own)
 
-  -- ---- by several
+  -- no figure of a row is linked
+  row-unlinked : (node : Node) → is_by_row node ≡ true → is_linked node ≡ true → ⊥
+  row-unlinked (nodes.Fund name what) own its = absurd (let clash : false ≡ true = own in cc)
+  row-unlinked (nodes.Security name of_securities.Total) own its = absurd (let clash : false ≡ true = own in cc)
+  row-unlinked (nodes.Security name what) own its = absurd (let clash : false ≡ true = its in cc)
+  row-unlinked (nodes.Liability name what) own its = absurd (let clash : false ≡ true = its in cc)
+  row-unlinked (nodes.Group name what) own its = absurd (let clash : false ≡ true = its in cc)
+  row-unlinked (nodes.Currency name what) own its = absurd (let clash : false ≡ true = own in cc)
+  row-unlinked (nodes.Whole what) own its = absurd (let clash : false ≡ true = own in cc)
 
-  pub rows-there : (rows : List Row) → ((sort : Sort) (k : ℕ) → k < row_count ground.inputs.book.now.sheet sort → 0 < times_row (row sort k) rows)
-      → (a b : List Figure) → AreReckonedTo ground a (turn 2 0 0) → IsWrittenOf ground rows a b
-      → AreRowsThere ground.inputs.factors.now ground.inputs.book.now.sheet ground.places.now b
-  unfolding AreKnownOf
-  rows-there rows all a b is written = record {
-    count = written.count ∙ is.count;
-    rows = λ node number stood live own. written.each node number stood (its-row rows all node live own);
-    totals = λ node number stood live total.
-        written.kept node number stood live
-        (totals-there ground.inputs.factors.now ground.inputs.book.now.sheet ground.places.now a is.known node number stood live total);
+  -- what is linked before the currencies is linked before all rows
+  rows-linked : (edges : List Edge)
+      → AreLinkedOf (graph_of ground.inputs.book.now.sheet) At edges (IsLinkedBefore ground.inputs.book.now.sheet (turn 3 0 0))
+      → AreLinkedOf (graph_of ground.inputs.book.now.sheet) At edges (IsLinkedBefore ground.inputs.book.now.sheet (turn 6 0 0))
+  rows-linked edges is = record {
+    done = λ node number stood live before. is.done node number stood live (early node before.1 (early-or node before.0), before.1);
+    only = λ e has. let l = is.only e has in (l.0, l.1, l.2, (later l.0 l.3.0, l.3.1));
   }
+    where
+      early : (node : Node) → is_linked node ≡ true → IsBefore ground.inputs.book.now.sheet (turn 3 0 0) node ⊎ (is_by_row node ≡ true)
+          → IsBefore ground.inputs.book.now.sheet (turn 3 0 0) node
+      early node its (inl before) = before
+      early node its (inr own) = absurd (row-unlinked node own its)
 
--- all that is not listed is reckoned with its row, or is a total
-pub rest-known : (factors : FactorValues) (sheet : BalanceSheet) (places : Numbered) (figures : List Figure) (list numbers ends : List ℕ)
-    → AreAllRest sheet places list → AreRowsThere factors sheet places figures → IsOrder (graph_of sheet) (StandsAt sheet places) list numbers ends
-    → AreKnownOf (reckoning_of factors sheet) (StandsAt sheet places) figures (IsNoneOf (StandsAt sheet places) numbers)
-unfolding AreKnownOf
-rest-known factors sheet places figures list numbers ends rest there order = λ node number stood live none.
-    by node number stood live none (is_by_row node) refl
-  where
-    of-rest : (node : Node) (number : ℕ) → StandsAt sheet places node number → is_live sheet node ≡ true
-        → IsNoneOf (StandsAt sheet places) numbers node → is_by_row node ≡ false → (t : Bool) → is_total node ≡ t
-        → HasFigure (reckoning_of factors sheet) figures number node
-    of-rest node number stood live none own true total = there.totals node number stood live total
-    of-rest node number stood live none own false total =
-        absurd (none number stood (order.all number
-        (rest.all number (record { node = node; at = stood; live = live; rest = own }) total) (node, stood, live)))
+      later : (node : Node) → IsBefore ground.inputs.book.now.sheet (turn 3 0 0) node → IsBefore ground.inputs.book.now.sheet (turn 6 0 0) node
+      later node (inl less) = inl (omega (arith, less))
+      later node (inr h) = let e = h.0 in inl (omega (arith, e))
 
-    by : (node : Node) (number : ℕ) → StandsAt sheet places node number → is_live sheet node ≡ true
-        → IsNoneOf (StandsAt sheet places) numbers node → (b : Bool) → is_by_row node ≡ b → HasFigure (reckoning_of factors sheet) figures number node
-    by node number stood live none true own = there.rows node number stood live own
-    by node number stood live none false own = of-rest node number stood live none own (is_total node) refl
+  -- all rows are written, and nothing but their figures
+  pub rows-done : (rows : List Row) → ((sort : Sort) (k : ℕ) → k < row_count ground.inputs.book.now.sheet sort → 0 < times_row (row sort k) rows)
+      → (a b : Made) → b.links ≡ a.links → IsDone ground a (turn 3 0 0) → IsWrittenOf ground rows a.figures.items b.figures.items
+      → AreGroupsDone ground b 0
+  rows-done rows all a b links is written =
+      let reckoned = rows-reckoned rows all a.figures.items b.figures.items (record { count = is.figures.count; known = is.figures.known }) written in
+      record {
+        figures = record {
+          count = reckoned.count;
+          size = ap (λ (l : Linked). l.size) links ∙ is.figures.size;
+          known = reckoned.known;
+          links = subst
+              (λ (l : Linked). AreLinkedOf (graph_of ground.inputs.book.now.sheet) At l.edges (IsLinkedBefore ground.inputs.book.now.sheet (turn 6 0 0)))
+              (sym links) (rows-linked a.links.edges is.figures.links);
+        };
+        blocks_there = blocks-rows ground g b.figures.items
+            (blocks-kept ground g a.figures.items b.figures.items (turn 3 0 0) written.parts is.blocks_there);
+      }
 
 -- ---- spans of rows
 
@@ -462,69 +484,6 @@ all-among count is_row parts all sort k low =
 -- and of one worker
 pub all-sorts : (count : Sort → ℕ) (sort : Sort) (k : ℕ) → k < count sort → 0 < times_row (row sort k) (all_rows count)
 all-sorts count sort k low = let one = all-once count sort k low in omega (arith, one)
-
--- ---- which figures are reckoned with their rows
-
-pub row-told : (node : Node) → in_row (table_of node) (family_of node) ≡ is_by_row node
-row-told (nodes.Fund name what) = refl
-row-told (nodes.Security name of_securities.Total) = refl
-row-told (nodes.Security name (of_securities.UnitLoss Up)) = refl
-row-told (nodes.Security name (of_securities.UnitLoss Down)) = refl
-row-told (nodes.Security name (of_securities.Rate Up)) = refl
-row-told (nodes.Security name (of_securities.Rate Down)) = refl
-row-told (nodes.Security name of_securities.Spread) = refl
-row-told (nodes.Liability name what) = refl
-row-told (nodes.Currency name what) = refl
-row-told (nodes.Group name what) = refl
-row-told (nodes.Whole what) = refl
-
--- by its number
-pub row-at : (sheet : BalanceSheet) (places : Numbered) → IsApart places → (number : ℕ) (table : Table) (k j : ℕ)
-    → IsAt places table k j number → (node : Node) → StandsAt sheet places node number → in_row table j ≡ is_by_row node
-row-at sheet places apart number table k j at node stood =
-    let one : IsOne (table_of node) stood.k (family_of node) table k j =
-    apart number (table_of node) stood.k (family_of node) table k j stood.at at in
-    sym (ap₂ in_row one.tables one.families) ∙ row-told node
-
--- so of totals
-total-told : (node : Node) → in_total (table_of node) (family_of node) ≡ is_total node
-total-told (nodes.Fund name what) = refl
-total-told (nodes.Security name of_securities.Total) = refl
-total-told (nodes.Security name (of_securities.UnitLoss Up)) = refl
-total-told (nodes.Security name (of_securities.UnitLoss Down)) = refl
-total-told (nodes.Security name (of_securities.Rate Up)) = refl
-total-told (nodes.Security name (of_securities.Rate Down)) = refl
-total-told (nodes.Security name of_securities.Spread) = refl
-total-told (nodes.Liability name what) = refl
-total-told (nodes.Currency name what) = refl
-total-told (nodes.Group name what) = refl
-total-told (nodes.Whole what) = refl
-
-pub totals-at : (sheet : BalanceSheet) (places : Numbered) → IsApart places → (number : ℕ) (table : Table) (k j : ℕ)
-    → IsAt places table k j number → (node : Node) → StandsAt sheet places node number → in_total table j ≡ is_total node
-totals-at sheet places apart number table k j at node stood =
-    let one : IsOne (table_of node) stood.k (family_of node) table k j =
-    apart number (table_of node) stood.k (family_of node) table k j stood.at at in
-    sym (ap₂ in_total one.tables one.families) ∙ total-told node
-
--- ---- the assets of which concentrations are measured
-
-pub assets-known : (ground : Ground) (g : IsGround ground) (figures : List Figure) → AreReckonedTo ground figures (turn 2 0 0)
-    → (numbers : List ℕ)
-    → AreAt (StandsAt ground.inputs.book.now.sheet ground.places.now) numbers (sources_of ground.inputs.book.now.sheet (nodes.Whole wholes.Assets))
-    → HaveFigures (reckoning_of ground.inputs.factors.now ground.inputs.book.now.sheet) figures numbers
-    (sources_of ground.inputs.book.now.sheet (nodes.Whole wholes.Assets))
-assets-known ground g figures is numbers at =
-    let sheet = ground.inputs.book.now.sheet in
-    known-have (reckoning_of ground.inputs.factors.now sheet) (StandsAt sheet ground.places.now) figures (IsBefore sheet (turn 2 0 0)) is.known numbers
-    (sources_of sheet (nodes.Whole wholes.Assets)) at
-    (both (sources_of sheet (nodes.Whole wholes.Assets)) (sources-live sheet g.valid (nodes.Whole wholes.Assets) refl)
-    (below-chosen stage_of 2 has_group security_total sheet.securities (λ p. omega arith)))
-  where
-    both : (list : List Node) → AllByRecursion (IsLive ground.inputs.book.now.sheet) list → AllBelow stage_of 2 list
-        → AllByRecursion (λ n. (is_live ground.inputs.book.now.sheet n ≡ true) × IsBefore ground.inputs.book.now.sheet (turn 2 0 0) n) list
-    both [] a b = tt
-    both (n ∷ list) a b = ((a.0, inl b.0), both list a.1 b.1)
 
 -- ---- the room of a row
 

@@ -1,53 +1,74 @@
 -- A record that the book has taken, and what it changes beside the book (this project's own).
-use Rattle.std.specs.Prelude.{◌≡◌, ◌||◌, ℕ, ◌+◌, ◌<◌, ◌≤◌, Bool, true, List, [], Contains, Option, Some, None, Vec, length, nat_eq, slice_get}
+use Rattle.std.specs.Prelude.{◌≡◌, ◌↔◌, ℕ, ◌+◌, ◌<◌, ◌≤◌, true, List, [], Contains, IfSome, Option, Some, None, Vec, length, nat_eq, slice_get}
 use Rattle.std.specs.Global.{Global}
 use Rattle.std.specs.List.{IsDistinct}
 use Rattle.std.specs.Option.{option_map_or}
+use Rattle.scr_blocks.specs.Blocks.{HasEachOnce}
 use Rattle.scr_factors.specs.Values.{FactorValues}
+use Rattle.scr_sheet.specs.Faults.{fault_of}
 use Rattle.scr_sheet.specs.Records.{applied}
 use Rattle.scr_sheet.specs.Validity.{Valid}
 use Rattle.scr_sheet.specs.declared.edit.Edit.{Edit}
 use Rattle.scr_sheet.specs.declared.sheet.BalanceSheet.{BalanceSheet}
 use Rattle.scr_nodes.specs.declared.node.Node.{Node}
-use Rattle.scr_nodes.specs.Live.{is_live}
-use Rattle.scr_nodes.specs.LiveNodes.{HasNoRepeats}
-use Rattle.scr_numbers.specs.Ranges.{Numbered}
-use Rattle.scr_figures.specs.Numbers.{IsNumbered, StandsAt}
+use Rattle.scr_book.specs.RolledSheets.{AreRolled, RolledSheet}
+use Rattle.scr_book.specs.Rolls.{number_of_roll}
+use Rattle.scr_sheet.specs.declared.roll.Roll.{Roll}
+use Rattle.scr_numbers.specs.Ranges.{Numbered, count}
+use Rattle.scr_figures.specs.Numbers.{StandsAt}
 use Rattle.scr_figures.specs.Records.{step_of}
 use Rattle.scr_figures.specs.Steps.{Takes}
 use Rattle.scr_figures.specs.declared.steps.Step.{Step}
 use Rattle.scr_figures.specs.declared.steps.Step.TheVariants as steps
 use Rattle.scr_discounts.specs.declared.known.Rates.{Rates}
 use Rattle.scr_discounts.specs.KeptRates.{all_rates, known_of}
-use Rattle.scr_touched.specs.Touched.{IsSame, IsTold}
-use Rattle.scr_reach.specs.Dues.{AreEdited, AreFlagged, AreStarts}
-use Rattle.scr_reach.specs.Leading.{IsAtStart, IsCountOf, IsInReach}
-use Rattle.scr_reach.specs.Linked.{AreLinked, AreNumbers, sources_in}
-use Rattle.scr_tree.specs.Figures.{AreKnownOf, AreSettled, reckoning_of}
+use Rattle.scr_lists.specs.Following.{AreFollowed, AreStill, CanBeTakenBack, CanFollow}
+use Rattle.scr_lists.specs.Lists.{HasLists, HaveRanges}
+use Rattle.scr_lists.specs.declared.standing.Move.{Move}
+use Rattle.scr_lists.specs.declared.standing.Stood.{Stood}
+use Rattle.scr_numbers.specs.declared.table.Table.TheVariants as ranged
+use Rattle.scr_parts.specs.Parts.{size_of}
+use Rattle.scr_lists.specs.Parting.{HasMoreParts}
+use Rattle.scr_lists.specs.Standing.{move_of, stood_of}
+use Rattle.scr_lists.specs.declared.lists.Lists.{Lists}
+use Rattle.scr_reach.specs.Dues.{AreStarts}
+use Rattle.scr_reach.specs.Leading.{IsCountOf, IsInReach}
+use Rattle.scr_reach.specs.Linked.{sources_in}
+use Rattle.scr_sums.specs.Books.{rolled_of}
+use Rattle.scr_sums.specs.Graph.{Rolled, is_live_in}
+use Rattle.scr_sums.specs.Touched.{IsTouchedIn}
+use Rattle.scr_sums.specs.declared.point.Point.{Point}
+use Rattle.scr_tree.specs.Figures.{AreKnownOf, AreSettled}
 use Rattle.scr_tree.specs.KeptRates.{keeps_rates}
-use Rattle.scr_tree.specs.Order.{AreLiveOf}
-use Rattle.scr_tree.specs.Ready.{IsLinkedUp, IsNoneOf}
-use Rattle.scr_tree.specs.Starts.{AreAllStarts}
+use Rattle.scr_tree.specs.Points.{AreNumbersOf, IsGraphOf, StandsIn, book_graph, book_reckoning}
+use Rattle.scr_tree.specs.Starts.{relinked}
 use Rattle.scr_tree.specs.declared.edits.State.{State}
 use Rattle.scr_tree.specs.declared.edits.Taken.{Taken}
-use Rattle.scr_tree.specs.declared.starts.Starts.{Starts}
-use Rattle.scr_tree.specs.Graphs.{graph_of}
 
 -- ---- what an engine keeps beside factors and book
 
--- The rates are those of the balance sheet, each of its figures has a number and is there, and is linked to its sources.
-pub record IsStateOf (factors : FactorValues) (sheet : BalanceSheet) (state : State) : Type 0 where
-  pub rates : known_of state.rates ≡ all_rates sheet
-  pub numbered : IsNumbered sheet state.places
-  pub numbers : AreNumbers (graph_of sheet) (StandsAt sheet state.places) state.places.size
-  pub figures : AreSettled (reckoning_of factors sheet) (StandsAt sheet state.places) state.figures.items
-  pub links : AreLinked (graph_of sheet) (StandsAt sheet state.places) state.links.edges
+-- The rates are those of the balance sheet; each figure and each Block of the book has a number and is there.
+pub record IsStateOf (factors : FactorValues) (book : RolledSheet) (state : State) : Type 0 where
+  pub rates : known_of state.rates ≡ all_rates book.sheet
+  pub graph : IsGraphOf book state.places state.lists state.links.edges
+  pub figures : AreSettled (book_reckoning factors (rolled_of book)) (StandsIn book state.places state.lists) state.figures.items
   pub size : state.links.size ≤ state.places.size
 
--- rates, figures and links are as they were, and the numbers are the same
+-- rates, figures, lists and links are as they were, and all rows have their numbers: those of parts may be more
 pub record IsUndone (old now : State) : Type 0 where
   pub rates : now.rates ≡ old.rates
+  pub places : HasMoreParts old.places now.places
+  pub lists : AreStill old.lists now.lists
+  pub figures : (number : ℕ) → number < length old.figures.items
+      → slice_get now.figures.items number ≡ slice_get old.figures.items number
+  pub links : (number : ℕ) → sources_in now.links.edges number ≡ sources_in old.links.edges number
+  pub size : old.links.size ≤ old.places.size → now.links.size ≤ now.places.size
+
+-- and numbers and lists are the same
+pub record IsUnchanged (old now : State) : Type 0 where
+  pub rates : now.rates ≡ old.rates
   pub places : now.places ≡ old.places
+  pub lists : now.lists ≡ old.lists
   pub figures : (number : ℕ) → number < length old.figures.items
       → slice_get now.figures.items number ≡ slice_get old.figures.items number
   pub links : (number : ℕ) → sources_in now.links.edges number ≡ sources_in old.links.edges number
@@ -55,115 +76,144 @@ pub record IsUndone (old now : State) : Type 0 where
 
 -- ---- a record
 
+-- The book comes from the one before by the record, which has no fault; each list keeps its number; and these are the points that the record
+-- touches, each once.
+pub record IsTakenFrom (factors : FactorValues) (before after : RolledSheet) (taken : Taken) : Type 0 where
+  pub valid : Valid before.sheet
+  pub none : fault_of taken.edit.now before.sheet ≡ None
+  pub sheet : after.sheet ≡ applied taken.edit.now before.sheet
+  pub rolls : AreRolled taken.edit.now before after
+  pub lists : (roll : Roll) (number : ℕ) → number_of_roll roll before.rolls ≡ Some number → number_of_roll roll after.rolls ≡ Some number
+  pub step : taken.step ≡ step_of taken.edit.now before.sheet
+  pub touched : (point : Point) → Contains taken.touched.now point ↔ IsTouchedIn factors (rolled_of before) taken.edit.now point
+  pub once : HasEachOnce taken.touched.now
+
 -- Where a figure stands while a record is taken: in the balance sheet before where a row goes, and else in the one after.
 abbrev pub StandsYet : Step → BalanceSheet → Numbered → BalanceSheet → Numbered → Node → ℕ → Type 0
 StandsYet (steps.Goes table k) before old after now node number = StandsAt before old node number
-StandsYet steps.Stays before old after now node number = StandsAt after now node number
-StandsYet (steps.Comes table) before old after now node number = StandsAt after now node number
+StandsYet step before old after now node number = StandsAt after now node number
 
--- the numbers of the touched figures are known beforehand where a row goes
-abbrev pub AreGone : Step → BalanceSheet → Numbered → List Node → Option (Vec ℕ Global) → Type 0
-AreGone (steps.Goes table k) before old touched gone =
+-- the numbers of the figures whose links the record may change are known beforehand where a row goes
+abbrev pub AreGone : Step → Edit → BalanceSheet → Numbered → List Point → Option (Vec ℕ Global) → Type 0
+AreGone (steps.Goes table k) edit before old touched gone =
     (numbers : Vec ℕ Global) × (gone ≡ Some numbers) × IsDistinct nat_eq numbers.items
-    × AreStarts (StandsAt before old) touched numbers.items
-AreGone step before old touched gone = gone ≡ None
+    × AreStarts (StandsAt before old) (relinked edit touched) numbers.items
+AreGone step edit before old touched gone = gone ≡ None
 
--- The balance sheet comes from the one before by the record, and these are the figures that it touches, each once.
-pub record IsTaken (factors : FactorValues) (before after : BalanceSheet) (taken : Taken) : Type 0 where
-  pub valid : Valid before
-  pub is : after ≡ applied taken.edit.now before
-  pub step : taken.step ≡ step_of taken.edit.now before
-  pub told : (node : Node) → IsTold factors before taken.edit.now taken.touched.now node
-  pub once : HasNoRepeats taken.touched.now
-
--- what is kept is that of the balance sheet before
-pub record IsRecorded (factors : FactorValues) (after : BalanceSheet) (taken : Taken) (gone : Option (Vec ℕ Global))
+-- what is kept is that of the book before, of which it is known where the record's row stood
+pub record IsRecorded (factors : FactorValues) (after : RolledSheet) (taken : Taken) (gone : Option (Vec ℕ Global))
     (state : State) : Type 0 where
-  pub before : BalanceSheet
-  pub by : IsTaken factors before after taken
-  pub gone_numbers : AreGone taken.step before state.places taken.touched.now gone
+  pub before : RolledSheet
+  pub by : IsTakenFrom factors before after taken
+  pub gone_numbers : AreGone taken.step taken.edit.now before.sheet state.places taken.touched.now gone
+  pub stood : taken.stood.now ≡ stood_of taken.edit.now before state.places
   pub state_before : IsStateOf factors before state
   pub marks : state.marks.list ≡ []
 
--- the same once the numbers have followed
-pub record IsFollowed (factors : FactorValues) (after : BalanceSheet) (taken : Taken) (gone : Option (Vec ℕ Global))
+-- the same once the numbers of rows have followed
+pub record IsFollowed (factors : FactorValues) (after : RolledSheet) (taken : Taken) (gone : Option (Vec ℕ Global))
     (state : State) : Type 0 where
-  pub before : BalanceSheet
+  pub before : RolledSheet
   pub old : Numbered
-  pub by : IsTaken factors before after taken
-  pub gone_numbers : AreGone taken.step before old taken.touched.now gone
+  pub by : IsTakenFrom factors before after taken
+  pub gone_numbers : AreGone taken.step taken.edit.now before.sheet old taken.touched.now gone
+  pub stood : taken.stood.now ≡ stood_of taken.edit.now before old
   pub takes : Takes taken.step old state.places
-  pub numbered : IsNumbered before old
-  pub numbers : AreNumbers (graph_of before) (StandsAt before old) old.size
-  pub rates : known_of state.rates ≡ all_rates before
-  pub figures : AreSettled (reckoning_of factors before) (StandsAt before old) state.figures.items
-  pub links : AreLinked (graph_of before) (StandsAt before old) state.links.edges
+  pub rates : known_of state.rates ≡ all_rates before.sheet
+  pub graph : IsGraphOf before old state.lists state.links.edges
+  pub figures : AreSettled (book_reckoning factors (rolled_of before)) (StandsIn before old state.lists) state.figures.items
   pub size : state.links.size ≤ old.size
   pub marks : state.marks.list ≡ []
 
--- what is kept is that of a balance sheet before which the record was taken, and stays so
-abbrev pub KeepsState : FactorValues → BalanceSheet → BalanceSheet → Taken → State → State → Type 0
+-- ---- lists
+
+-- the numbers of rows are the book's, and the row stood where it is told, in lists that are those of a book before
+pub record CanFollowLists (book : RolledSheet) (stood : Option Stood) (state : State) : Type 0 where
+  pub ranges : HaveRanges book.sheet state.places
+  pub table : IfSome stood (λ stood. HasLists stood.table)
+  pub can : (move : Move) → move_of stood book state.places ≡ Some move → CanFollow move state.lists
+
+-- the lists can be put back as they were
+abbrev pub CanPutBack : Option Move → Lists → Lists → Type 0
+CanPutBack None before now = now ≡ before
+CanPutBack (Some move) before now = CanBeTakenBack move before now
+
+-- nothing but the lists is another
+pub record KeepsAllButLists (old now : State) : Type 0 where
+  pub rates : now.rates ≡ old.rates
+  pub places : now.places ≡ old.places
+  pub figures : now.figures ≡ old.figures
+  pub links : now.links ≡ old.links
+  pub marks : now.marks ≡ old.marks
+
+-- the lists have followed the move that is told, with a row of numbers for each slot
+pub record HaveFollowed (book : RolledSheet) (stood : Option Stood) (moved : Option Move) (old now : State) : Type 0 where
+  pub told : moved ≡ move_of stood book old.places
+  pub lists : IfSome moved (λ move. AreFollowed move old.lists now.lists × (size_of now.lists.parts ≤ count now.places ranged.Part))
+  pub still : moved ≡ None → now.lists ≡ old.lists
+  pub back : CanPutBack moved old.lists now.lists
+  pub places : HasMoreParts old.places now.places
+  pub rates : now.rates ≡ old.rates
+  pub figures : now.figures ≡ old.figures
+  pub links : now.links ≡ old.links
+  pub marks : now.marks ≡ old.marks
+
+-- The same once the lists have followed: numbers are those of the book after; what was there before and is still has the number that it
+-- had; and no figure stands where another stood.
+pub record IsMoved (factors : FactorValues) (after : RolledSheet) (taken : Taken) (gone : Option (Vec ℕ Global))
+    (state : State) : Type 0 where
+  pub before : RolledSheet
+  pub old : Numbered
+  pub former : Lists
+  pub by : IsTakenFrom factors before after taken
+  pub gone_numbers : AreGone taken.step taken.edit.now before.sheet old taken.touched.now gone
+  pub numbers : AreNumbersOf after state.places state.lists
+  pub keeps : (point : Point) (number : ℕ) → StandsIn after state.places state.lists point number
+      → is_live_in (rolled_of before) point ≡ true → StandsIn before old former point number
+  pub still_before : (node : Node) (number : ℕ) → StandsAt before.sheet old node number
+      → StandsYet taken.step before.sheet old after.sheet state.places node number
+  pub still_after : (node : Node) (number : ℕ) → StandsAt after.sheet state.places node number
+      → StandsYet taken.step before.sheet old after.sheet state.places node number
+  pub grown : old.size ≤ state.places.size
+  pub rates : known_of state.rates ≡ all_rates before.sheet
+  pub graph : IsGraphOf before old former state.links.edges
+  pub figures : AreSettled (book_reckoning factors (rolled_of before)) (StandsIn before old former) state.figures.items
+  pub size : state.links.size ≤ old.size
+  pub marks : state.marks.list ≡ []
+
+-- what is kept is that of a book before which the record was taken, and stays so
+abbrev pub KeepsState : FactorValues → RolledSheet → RolledSheet → Taken → State → State → Type 0
 KeepsState factors before after taken old now =
-    IsTaken factors before after taken → IsStateOf factors before old → old.marks.list ≡ []
+    IsTakenFrom factors before after taken → IsStateOf factors before old → old.marks.list ≡ []
     → IsStateOf factors before now × (now.marks.list ≡ [])
 
--- ---- from the starts on
+-- ---- from the links on
 
--- Rates, figures and links are those of a balance sheet before, and what stands at none of the starts is the same.
-pub record IsStarted (factors : FactorValues) (after : BalanceSheet) (starts : Starts) (rates : Option Rates) (state : State)
-    : Type 0 where
-  pub before : BalanceSheet
-  pub old : Numbered
-  pub step : Step
-  pub valid : Valid before
-  pub later : Valid after
-  pub numbered : IsNumbered after state.places
-  pub keeps : (node : Node) (number : ℕ) → StandsAt after state.places node number
-      → StandsYet step before old after state.places node number
-  pub edited : AreEdited (graph_of after) (StandsYet step before old after state.places) state.places.size state.links.edges
-      starts.numbers.items
-  pub due : AreAllStarts (graph_of after) (StandsAt after state.places) starts.numbers.items starts
-  pub once : IsDistinct nat_eq starts.numbers.items
-  pub same : (node : Node) → (IsAtStart (StandsYet step before old after state.places) starts.numbers.items node → ⊥)
-      → (is_live before node || is_live after node) ≡ true → IsSame factors before after node
-  pub rates_after : option_map_or known_of rates (known_of state.rates) ≡ all_rates after
-  pub figures : AreSettled (reckoning_of factors before) (StandsYet step before old after state.places) state.figures.items
-  pub size : state.links.size ≤ state.places.size
+-- The links are those of the book after the record, and the figures of all are known that it does not reach.
+pub record IsRelinkedFor (factors : FactorValues) (after : RolledSheet) (touched : List Point) (rates : Option Rates) (state : State) : Type 0 where
+  pub valid : Valid after.sheet
+  pub graph : IsGraphOf after state.places state.lists state.links.edges
+  pub rates_after : option_map_or known_of rates (known_of state.rates) ≡ all_rates after.sheet
+  pub others : AreKnownOf (book_reckoning factors (rolled_of after)) (StandsIn after state.places state.lists) state.figures.items
+      (λ point. IsInReach (book_graph (rolled_of after)) (Contains touched) point → ⊥)
   pub room : state.places.size ≤ length state.figures.items
   pub marks : state.marks.list ≡ []
   pub marked : state.places.size ≤ state.marks.size
 
--- The links are those of the balance sheet, flags tell which of the marked numbers live, and the figures of all others are
--- known.
-pub record IsRelinkedFor (factors : FactorValues) (after : BalanceSheet) (live : List Bool) (rates : Option Rates)
-    (state : State) : Type 0 where
-  pub up : IsLinkedUp after state.places state.links.edges
-  pub rates_after : option_map_or known_of rates (known_of state.rates) ≡ all_rates after
-  pub flags : AreFlagged (graph_of after) (StandsAt after state.places) state.marks.list live
-  pub others : (numbers : List ℕ) → AreLiveOf (graph_of after) (StandsAt after state.places) state.marks.list numbers
-      → AreKnownOf (reckoning_of factors after) (StandsAt after state.places) state.figures.items
-      (IsNoneOf (StandsAt after state.places) numbers)
-  pub room : state.places.size ≤ length state.figures.items
+-- just the numbers of the points are marked that the book has and that are touched or reckoned from such
+pub record AreReachedMarks (book : RolledSheet) (places : Numbered) (lists : Lists) (touched : List Point) (marks : List ℕ) : Type 0 where
+  pub once : IsDistinct nat_eq marks
+  pub each : (number : ℕ) → Contains marks number → (point : Point) × StandsIn book places lists point number
+      × IsInReach (book_graph (rolled_of book)) (Contains touched) point
+  pub all : (point : Point) (number : ℕ) → StandsIn book places lists point number
+      → IsInReach (book_graph (rolled_of book)) (Contains touched) point → Contains marks number
 
 -- ---- steps
 
--- as many steps as live figures stand at these numbers
-abbrev pub StepsOver : BalanceSheet → Numbered → List ℕ → ℕ → ℕ → Type 0
-StepsOver sheet places reached old new =
-    (numbers : List ℕ) × AreLiveOf (graph_of sheet) (StandsAt sheet places) reached numbers × (new ≡ old + length numbers)
-
--- as many steps as figures are reached from those at the starts
-abbrev pub StepsTaken : FactorValues → BalanceSheet → Starts → Option Rates → State → ℕ → ℕ → Type 0
-StepsTaken factors after starts rates state old new =
-    (started : IsStarted factors after starts rates state)
-    → (count : ℕ) × IsCountOf (IsInReach (graph_of after)
-    (IsAtStart (StandsYet started.step started.before started.old after state.places) starts.numbers.items)) count
-    × (new ≡ old + count)
-
--- as many steps as figures are reached from those that are listed
-abbrev pub StepsReach : BalanceSheet → List Node → ℕ → ℕ → Type 0
+-- as many steps as figures and Blocks are reached from those that are listed
+abbrev pub StepsReach : Rolled → List Point → ℕ → ℕ → Type 0
 StepsReach after touched old new =
-    (count : ℕ) × IsCountOf (IsInReach (graph_of after) (Contains touched)) count × (new ≡ old + count)
+    (count : ℕ) × IsCountOf (IsInReach (book_graph after) (Contains touched)) count × (new ≡ old + count)
 
 -- ---- rates
 

@@ -14,7 +14,7 @@ use Rattle.scr_rules.specs.Worked.{worked}
 use Rattle.scr_reach.specs.Graph.{Graph}
 use Rattle.scr_tree.specs.Graphs.{graph_of}
 use Rattle.scr_tree.specs.declared.figures.Below.{Below}
-use Rattle.scr_tree.specs.declared.figures.Figure.{Figure}
+use Rattle.scr_subtotals.specs.declared.figure.Figure.{Figure}
 
 -- what a figure comes to, and whether it rests on an open choice
 pub record Worth : Type 0 where

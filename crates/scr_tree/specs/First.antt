@@ -1,5 +1,5 @@
 -- What the first reckoning of all figures has made (this project's own).
-use Rattle.std.specs.Prelude.{◌≡◌, ℕ, ◌++◌, false, List, Some, length, map, nat_eq, slice_get}
+use Rattle.std.specs.Prelude.{◌≡◌, ◌⊎◌, ℕ, ◌++◌, true, false, Contains, List, Some, length, map, nat_eq, slice_get}
 use Rattle.scr_factors.specs.Values.{FactorValues, IsInForm}
 use Rattle.scr_figures.specs.Numbers.{IsNumbered, StandsAt}
 use Rattle.scr_figures.specs.Gathered.{AreMembersOf}
@@ -15,14 +15,26 @@ use Rattle.scr_sheet.specs.Validity.{Valid}
 use Rattle.scr_totals.specs.ByNumber.{names_by_number}
 use Rattle.scr_nodes.specs.declared.node.Node.{Node}
 use Rattle.scr_reach.specs.Linked.{AreLinkedOf, AreNumbers, edges_to, sources_in}
-use Rattle.scr_tree.specs.Figures.{AreKnownOf, reckoning_of, worth_at, worth_of}
+use Rattle.scr_tree.specs.Figures.{AreKnownOf, AreSettled, reckoning_of, worth_at, worth_of}
 use Rattle.scr_tree.specs.Inputs.{AreOfBook}
-use Rattle.scr_tree.specs.Turns.{IsBefore, Turn}
-use Rattle.scr_tree.specs.declared.figures.Figure.{Figure}
+use Rattle.scr_tree.specs.Turns.{IsBefore, Turn, turn}
+use Rattle.scr_subtotals.specs.declared.figure.Figure.{Figure}
+use Rattle.scr_tree.specs.declared.first.Gathered.{Gathered}
+use Rattle.scr_tree.specs.declared.graph.Numbers.{Numbers}
 use Rattle.scr_tree.specs.declared.making.Ground.{Ground}
 use Rattle.scr_tree.specs.declared.making.LinkGround.{LinkGround}
 use Rattle.scr_tree.specs.declared.making.Made.{Made}
 use Rattle.scr_tree.specs.Graphs.{graph_of}
+use Rattle.scr_book.specs.RolledSheets.{RolledSheet}
+use Rattle.scr_lists.specs.declared.lists.Lists.{Lists}
+use Rattle.scr_sums.specs.Books.{rolled_of}
+use Rattle.scr_sums.specs.Graph.{Rolled, member_point, roll_in}
+use Rattle.scr_sums.specs.Sums.{first_sum, reader_of, second_sum}
+use Rattle.scr_sums.specs.declared.point.Block.{Block}
+use Rattle.scr_sums.specs.declared.point.Point.{Point}
+use Rattle.scr_sums.specs.declared.point.Point.TheVariants as points
+use Rattle.scr_sums.specs.declared.sum.Sum.{Sum}
+use Rattle.scr_tree.specs.Points.{AreNumbersOf, IsLinkedPoint, StandsIn, book_graph, book_reckoning, is_linked}
 
 -- ---- what is made
 
@@ -44,22 +56,38 @@ pub record IsPut (factors : FactorValues) (sheet : BalanceSheet) (node : Node) (
   pub right : worth_of figure ≡ worth_at factors sheet node
   pub entered : IsEntered number sources figure before now
 
--- There is a place for each figure and for its links. All figures before a turn are reckoned, and all before a turn are linked to
--- their sources.
-pub record IsMade (factors : FactorValues) (sheet : BalanceSheet) (places : Numbered) (made : Made) (reckoned linked : Turn)
-    : Type 0 where
+-- a figure before a turn, which is linked
+abbrev pub IsLinkedBefore : BalanceSheet → Turn → Node → Type 0
+IsLinkedBefore sheet t node = IsBefore sheet t node × (is_linked node ≡ true)
+
+-- a Block under a sum of which a reader comes before a turn
+abbrev pub IsBlockBefore : BalanceSheet → Turn → Point → Type 0
+IsBlockBefore sheet t (points.Figure node) = ⊥
+IsBlockBefore sheet t (points.Block block) = IsBefore sheet t (reader_of block.sum)
+
+-- There is a place for each figure and for its links. All figures before a turn are reckoned, and figures before a turn are linked that
+-- neither rows nor lists give.
+pub record IsMade (factors : FactorValues) (sheet : BalanceSheet) (places : Numbered) (made : Made) (reckoned linked : Turn) : Type 0 where
   pub count : length made.figures.items ≡ places.size
   pub size : made.links.size ≡ places.size
   pub known : AreKnownOf (reckoning_of factors sheet) (StandsAt sheet places) made.figures.items (IsBefore sheet reckoned)
-  pub links : AreLinkedOf (graph_of sheet) (StandsAt sheet places) made.links.edges (IsBefore sheet linked)
+  pub links : AreLinkedOf (graph_of sheet) (StandsAt sheet places) made.links.edges (IsLinkedBefore sheet linked)
 
--- the rows are those of a valid balance sheet, and so are the numbers, the rates, the gathered rows and the losses
+-- Each figure and each Block is at its number, and figures are linked that neither rows nor lists give.
+pub record IsAllMade (factors : FactorValues) (book : RolledSheet) (places : Numbered) (lists : Lists) (made : Made) : Type 0 where
+  pub count : length made.figures.items ≡ places.size
+  pub size : made.links.size ≡ places.size
+  pub figures : AreSettled (book_reckoning factors (rolled_of book)) (StandsIn book places lists) made.figures.items
+  pub links : AreLinkedOf (book_graph (rolled_of book)) (StandsIn book places lists) made.links.edges IsLinkedPoint
+
+-- the rows are those of a valid balance sheet, and so are the numbers, the lists, the rates, the gathered rows and the losses
 pub record IsGround (ground : Ground) : Type 0 where
   pub form : IsInForm ground.inputs.factors.now
   pub valid : Valid ground.inputs.book.now.sheet
   pub rates : AreOfBook ground.inputs
   pub numbered : IsNumbered ground.inputs.book.now.sheet ground.places.now
   pub numbers : AreNumbers (graph_of ground.inputs.book.now.sheet) (StandsAt ground.inputs.book.now.sheet ground.places.now) ground.places.now.size
+  pub points : AreNumbersOf ground.inputs.book.now ground.places.now ground.lists.now
   pub members : AreMembersOf ground.inputs.book.now.sheet ground.members.now
   pub losses : AreLossesOf ground.inputs.book.now.sheet ground.losses.now
 
@@ -89,11 +117,11 @@ pub record AreReckonedTo (ground : Ground) (figures : List Figure) (t : Turn) : 
   pub known : AreKnownOf (reckoning_of ground.inputs.factors.now ground.inputs.book.now.sheet) (StandsAt ground.inputs.book.now.sheet ground.places.now) figures
       (IsBefore ground.inputs.book.now.sheet t)
 
--- There is a place for the links of each number, and all figures before a turn are linked to their sources.
+-- There is a place for the links of each number, and figures before a turn are linked that neither rows nor lists give.
 pub record AreLinkedTo (ground : LinkGround) (links : Linked) (t : Turn) : Type 0 where
   pub size : links.size ≡ ground.places.now.size
   pub linked : AreLinkedOf (graph_of ground.book.now.sheet) (StandsAt ground.book.now.sheet ground.places.now) links.edges
-      (IsBefore ground.book.now.sheet t)
+      (IsLinkedBefore ground.book.now.sheet t)
 
 -- these sources are linked to the number, and to all others the same as before
 pub record IsLinkedNext (number : ℕ) (sources : List ℕ) (before now : Linked) : Type 0 where
@@ -106,10 +134,64 @@ abbrev pub IsEstimated : BalanceSheet → ℕ → Estimate → Type 0
 IsEstimated sheet k estimate =
     (liability : Liability) → slice_get sheet.liabilities k ≡ Some liability → IsEstimateOf sheet liability estimate
 
--- all before one turn is reckoned, and all before another is linked
-abbrev pub IsMadeTo : Ground → Made → (reckoned linked : Turn) → Type 0
-IsMadeTo ground made reckoned linked =
-    IsMade ground.inputs.factors.now ground.inputs.book.now.sheet ground.places.now made reckoned linked
+-- all before one turn is reckoned, all before another is linked, and the Blocks are there under sums that are read before a third
+pub record IsMadeTo (ground : Ground) (made : Made) (reckoned linked blocks : Turn) : Type 0 where
+  pub figures : IsMade ground.inputs.factors.now ground.inputs.book.now.sheet ground.places.now made reckoned linked
+  pub blocks_there : AreKnownOf (book_reckoning ground.inputs.factors.now (rolled_of ground.inputs.book.now))
+      (StandsIn ground.inputs.book.now ground.places.now ground.lists.now) made.figures.items (IsBlockBefore ground.inputs.book.now.sheet blocks)
 
 abbrev pub IsDone : Ground → Made → Turn → Type 0
-IsDone ground made t = IsMadeTo ground made t t
+IsDone ground made t = IsMadeTo ground made t t t
+
+abbrev pub IsWhole : Ground → Made → Type 0
+IsWhole ground made = IsAllMade ground.inputs.factors.now ground.inputs.book.now ground.places.now ground.lists.now made
+
+-- the Blocks under the totals of the first groups are there, and all figures of rows
+abbrev pub AreGroupsDone : Ground → Made → ℕ → Type 0
+AreGroupsDone ground made k = IsMadeTo ground made (turn 6 0 0) (turn 6 0 0) (turn 5 k 0)
+
+-- what numbers are read off
+abbrev pub numbers_of : Ground → Numbers
+numbers_of ground = record { book = ground.inputs.book; places = ground.places; lists = ground.lists }
+
+-- ---- large sums
+
+-- the figure is reckoned from the sum
+abbrev pub IsSumOf : Node → Sum → Type 0
+IsSumOf node sum = (first_sum node ≡ Some sum) ⊎ (second_sum node ≡ Some sum)
+
+-- the point is the figure of a member of a sum of a kind
+pub record IsMemberOf (book : Rolled) (P : Sum → Type 0) (point : Point) : Type 0 where
+  pub sum : Sum
+  pub kind : P sum
+  pub name : List ℕ
+  pub there : Contains (roll_in book sum) name
+  pub is : member_point sum name ≡ point
+
+-- the figures of all members are there
+abbrev pub AreMembersThere : Ground → List Figure → (Sum → Type 0) → Type 0
+AreMembersThere ground figures P =
+    AreKnownOf (book_reckoning ground.inputs.factors.now (rolled_of ground.inputs.book.now)) (StandsIn ground.inputs.book.now ground.places.now ground.lists.now)
+    figures (IsMemberOf (rolled_of ground.inputs.book.now) P)
+
+-- the Blocks under them are there
+abbrev pub IsBlockOf : (Sum → Type 0) → Point → Type 0
+IsBlockOf P (points.Figure node) = ⊥
+IsBlockOf P (points.Block block) = P block.sum
+
+abbrev pub AreBlocksThere : Ground → List Figure → (Sum → Type 0) → Type 0
+AreBlocksThere ground figures P =
+    AreKnownOf (book_reckoning ground.inputs.factors.now (rolled_of ground.inputs.book.now)) (StandsIn ground.inputs.book.now ground.places.now ground.lists.now)
+    figures (IsBlockOf P)
+
+-- all figures stay but for those of the Blocks under them
+pub record KeepsOffBlocks (ground : Ground) (P : Sum → Type 0) (before now : List Figure) : Type 0 where
+  pub count : length now ≡ length before
+  pub others : (number : ℕ) → ((block : Block) → P block.sum
+      → StandsIn ground.inputs.book.now ground.places.now ground.lists.now (points.Block block) number → ⊥)
+      → slice_get now number ≡ slice_get before number
+
+-- the gathered rows and the totals are those of the balance sheet
+pub record IsGathered (sheet : BalanceSheet) (gathered : Gathered) : Type 0 where
+  pub members : AreMembersOf sheet gathered.members
+  pub totals : gathered.totals.items ≡ totals_of sheet

@@ -3,13 +3,13 @@ use Rattle.std.specs.Prelude.{◌≡◌, []}
 use Rattle.scr_sheet.specs.Validity.{Valid}
 use Rattle.scr_tree.specs.declared.engine.Engine.TheInside.{Inside}
 use Rattle.scr_tree.specs.Changed.{IsStateOf}
-use Rattle.scr_tree.specs.Standing.{Standing}
+use Rattle.scr_tree.specs.Standing.{Standing, standing_on}
 
 abbrev pub standing_of : Inside → Standing
-standing_of e = record { factors = e.factors; sheet = e.book.sheet }
+standing_of e = standing_on e.factors e.book
 
 -- The book is valid, what is kept beside it is its own, and no number is marked.
 pub record IsKept (e : Inside) : Type 0 where
   pub valid : Valid e.book.sheet
-  pub state : IsStateOf e.factors e.book.sheet e.state
+  pub state : IsStateOf e.factors e.book e.state
   pub marks : e.state.marks.list ≡ []

@@ -1,5 +1,6 @@
 pub mod Graphs
 pub mod Figures
+pub mod Points
 pub mod Inputs
 pub mod Order
 pub mod Ready
@@ -9,11 +10,14 @@ pub mod KeptRates
 pub mod Changed
 pub mod Turns
 pub mod First
+pub mod Left
 pub mod RowSpans
-pub mod Begun
-pub mod FirstDues
 pub mod Written
 pub mod Opened
 pub mod Standing
 pub mod Kept
 pub mod Sorted
+pub mod Opening
+pub mod Summed
+pub mod Marking
+pub mod Reading

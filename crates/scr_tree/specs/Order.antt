@@ -3,18 +3,12 @@ use Rattle.std.specs.Prelude.{◌≡◌, ℕ, zero, suc, ◌<◌, ◌≤◌, ◌
 use Rattle.std.specs.List.{IsDistinct}
 use Rattle.scr_reach.specs.Dues.{IsLiveAt}
 use Rattle.scr_reach.specs.Graph.{Graph}
-use Rattle.scr_tree.specs.declared.figures.Figure.{Figure}
+use Rattle.scr_subtotals.specs.declared.figure.Figure.{Figure}
 
 -- the numbers are cut into slices, each of which begins where the one before ends
 abbrev pub start_of : List ℕ → ℕ → ℕ
 start_of ends zero = 0
 start_of ends (suc j) = slice_index_or ends j 0
-
--- just those of the reached numbers at which a figure lives, each once
-pub record AreLiveOf {Node : Type 0} (graph : Graph Node) (At : Node → ℕ → Type 0) (reached numbers : List ℕ) : Type 0 where
-  pub once : IsDistinct nat_eq numbers
-  pub each : (number : ℕ) → Contains numbers number → Contains reached number × IsLiveAt graph At number
-  pub all : (number : ℕ) → Contains reached number → IsLiveAt graph At number → Contains numbers number
 
 -- Just the numbers of these that live, each once, in slices: whatever a figure of a slice is reckoned from stands before
 -- the slice, where it is one of them.

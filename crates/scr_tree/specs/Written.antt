@@ -1,23 +1,19 @@
 -- The figures of rows, written row by row at their numbers (this project's own).
-use Rattle.std.specs.Prelude.{◌≡◌, ◌⊎◌, ℕ, ◌+◌, ◌<◌, ◌≤◌, ◌++◌, Bool, true, false, List, [], ◌∷◌, Contains, Some, length, nat_eq, nat_le, slice_get}
-use Rattle.std.specs.List.{IsDistinct}
+use Rattle.std.specs.Prelude.{◌≡◌, ◌⊎◌, ℕ, ◌+◌, ◌<◌, ◌≤◌, ◌++◌, Bool, true, false, List, [], ◌∷◌, Some, length, slice_get}
 use Rattle.scr_num.specs.declared.span.Span.{Span}
-use Rattle.scr_factors.specs.Values.{FactorValues}
 use Rattle.scr_pieces.specs.Rows.{Row, rows_of, times_row}
 use Rattle.scr_pieces.specs.declared.rows.Part.{Part}
 use Rattle.scr_sheet.specs.declared.sheet.BalanceSheet.{BalanceSheet}
+use Rattle.scr_numbers.specs.Ranges.{IsAt}
+use Rattle.scr_numbers.specs.declared.table.Table.TheVariants as tables
 use Rattle.scr_nodes.specs.Live.{is_live}
 use Rattle.scr_nodes.specs.declared.node.Node.{Node}
 use Rattle.scr_nodes.specs.declared.node.Node.TheVariants as nodes
 use Rattle.scr_nodes.specs.declared.node.OfSecurity.TheVariants as of_securities
 use Rattle.scr_figures.specs.Numbers.{StandsAt}
-use Rattle.scr_numbers.specs.Ranges.{Numbered}
-use Rattle.scr_numbers.specs.declared.table.Table.{Table}
-use Rattle.scr_numbers.specs.declared.table.Table.TheVariants as tables
-use Rattle.scr_tree.specs.Figures.{AreKnownOf, HasFigure, reckoning_of}
-use Rattle.scr_tree.specs.FirstDues.{is_total}
+use Rattle.scr_tree.specs.Figures.{HasFigure, reckoning_of}
 use Rattle.scr_tree.specs.RowSpans.{IsOfRow}
-use Rattle.scr_tree.specs.declared.figures.Figure.{Figure}
+use Rattle.scr_subtotals.specs.declared.figure.Figure.{Figure}
 use Rattle.scr_tree.specs.declared.making.Ground.{Ground}
 
 -- the figure is reckoned with the others of its row
@@ -48,7 +44,7 @@ pub record IsWrittenAt (first : ℕ) (spans : List Span) (before now : List Figu
   pub there : (j : ℕ) (span : Span) → slice_get spans j ≡ Some span → slice_get now (first + j) ≡ Some (plain_of span)
   pub others : (number : ℕ) → (number < first) ⊎ (first + length spans ≤ number) → slice_get now number ≡ slice_get before number
 
--- the figures of these rows that live are there, and what was there is there still
+-- the figures of these rows that live are there, what was there is there still, and so are all Blocks
 pub record IsWrittenOf (ground : Ground) (rows : List Row) (before now : List Figure) : Type 0 where
   pub count : length now ≡ length before
   pub each : (node : Node) (number : ℕ) → StandsAt ground.inputs.book.now.sheet ground.places.now node number
@@ -58,45 +54,4 @@ pub record IsWrittenOf (ground : Ground) (rows : List Row) (before now : List Fi
       → is_live ground.inputs.book.now.sheet node ≡ true
       → HasFigure (reckoning_of ground.inputs.factors.now ground.inputs.book.now.sheet) before number node
       → HasFigure (reckoning_of ground.inputs.factors.now ground.inputs.book.now.sheet) now number node
-
--- There is a place for each figure. Those that are reckoned with their rows are there, and the totals of funds and securities.
-pub record AreRowsThere (factors : FactorValues) (sheet : BalanceSheet) (places : Numbered) (figures : List Figure) : Type 0 where
-  pub count : length figures ≡ places.size
-  pub rows : AreKnownOf (reckoning_of factors sheet) (StandsAt sheet places) figures
-      (λ node. is_by_row node ≡ true)
-  pub totals : AreKnownOf (reckoning_of factors sheet) (StandsAt sheet places) figures
-      (λ node. is_total node ≡ true)
-
--- ---- all other figures
-
--- the same told by the figure's place
-abbrev pub in_row : Table → ℕ → Bool
-in_row tables.Security family = nat_le 1 family
-in_row tables.Liability family = true
-in_row tables.Group family = true
-in_row table family = false
-
--- so of totals
-abbrev pub in_total : Table → ℕ → Bool
-in_total tables.Fund family = true
-in_total tables.Security family = nat_eq family 0
-in_total table family = false
-
--- one lives at the number
-pub record IsRestAt (sheet : BalanceSheet) (places : Numbered) (number : ℕ) : Type 0 where
-  pub node : Node
-  pub at : StandsAt sheet places node number
-  pub live : is_live sheet node ≡ true
-  pub rest : is_by_row node ≡ false
-
--- Just numbers below the end at which one lives are listed, each once, and all of them but for totals, which are there before.
-pub record AreRestBelow (sheet : BalanceSheet) (places : Numbered) (end : ℕ) (numbers : List ℕ) : Type 0 where
-  pub once : IsDistinct nat_eq numbers
-  pub each : (number : ℕ) → Contains numbers number → (number < end) × IsRestAt sheet places number
-  pub all : (number : ℕ) → number < end → (rest : IsRestAt sheet places number) → is_total rest.node ≡ false → Contains numbers number
-
--- so of all numbers
-pub record AreAllRest (sheet : BalanceSheet) (places : Numbered) (numbers : List ℕ) : Type 0 where
-  pub once : IsDistinct nat_eq numbers
-  pub each : (number : ℕ) → Contains numbers number → IsRestAt sheet places number
-  pub all : (number : ℕ) → (rest : IsRestAt sheet places number) → is_total rest.node ≡ false → Contains numbers number
+  pub parts : (slot j number : ℕ) → IsAt ground.places.now tables.Part slot j number → slice_get now number ≡ slice_get before number

@@ -1,49 +1,58 @@
 //! What a record that the book has taken changes of an engine beside the book.
-ghost use Rattle.std.specs.Prelude.{◌≡◌, ◌+◌, ◌≤◌, ◌<◌, ℕ, [], length, max, nat_eq, slice_get, IfNone, IfOk, IfSome, OnOk, OnErr};
+ghost use Rattle.std.specs.Prelude.{◌≡◌, ◌+◌, ◌≤◌, ◌<◌, [], ℕ, length, max, slice_get, IfNone, IfOk, IfSome, OnOk, OnErr};
 ghost use Rattle.std.specs.Option.{option_map_or};
 ghost use Rattle.scr_discounts.specs.KeptRates.{known_of};
-ghost use Rattle.scr_reach.specs.Dues.{sources_count, AreStarts};
-ghost use Rattle.scr_tree.specs.Changed.{AreGone, AreRowsFor, IsFollowed, IsRecorded, IsRelinkedFor, IsStarted, IsStateOf, IsUndone, KeepsState, StepsOver, StepsReach, StepsTaken};
-ghost use Rattle.scr_figures.specs.Numbers.{StandsAt, IsNumbered};
-ghost use Rattle.scr_tree.specs.Figures.{AreSettled, reckoning_of};
-ghost use Rattle.std.specs.List.{IsDistinct};
+ghost use Rattle.scr_reach.specs.Dues.{AreStarts, sources_count};
+ghost use Rattle.scr_blocks.specs.Blocks.{HasEachOnce};
 ghost use Rattle.scr_sheet.specs.Validity.{Valid};
-ghost use Rattle.scr_sheet.specs.declared.sheet.BalanceSheet.{BalanceSheet};
-ghost use Rattle.scr_nodes.specs.LiveNodes.{HasNoRepeats};
+ghost use Rattle.scr_book.specs.RolledSheets.{RolledSheet};
+ghost use Rattle.scr_figures.specs.Numbers.{IsNumbered, StandsAt};
 ghost use Rattle.scr_reach.specs.Linked.{AreNumbers};
-ghost use Rattle.scr_tree.specs.KeptRates.{AreKeptFor, keeps_rates};
+ghost use Rattle.scr_sums.specs.Books.{rolled_of};
+ghost use Rattle.scr_tree.specs.Changed.{AreGone, AreReachedMarks, AreRowsFor, CanFollowLists, CanPutBack, HaveFollowed, IsFollowed, IsMoved, IsRecorded, IsRelinkedFor, IsStateOf, IsUnchanged, IsUndone, KeepsAllButLists, KeepsState, StepsReach};
+ghost use Rattle.scr_lists.specs.Following.{AreStill};
+ghost use Rattle.scr_lists.specs.declared.lists.Lists.{Lists as TheLists};
+ghost use Rattle.scr_tree.specs.Figures.{AreSettled};
 ghost use Rattle.scr_tree.specs.Graphs.{graph_of};
+ghost use Rattle.scr_tree.specs.Points.{IsGraphOf, StandsIn, book_graph, book_reckoning};
+ghost use Rattle.scr_tree.specs.Starts.{AreMarked, relinked};
+ghost use Rattle.std.specs.List.{IsDistinct};
+ghost use Rattle.std.specs.Prelude.{nat_eq};
+ghost use Rattle.scr_tree.specs.KeptRates.{AreKeptFor, keeps_rates};
 
 use crate::basis::{Basis, Crew};
 use crate::figures::{Below, Figure, Inputs, NO_FIGURE};
+use crate::graph::{Graph, Numbers};
 use crate::order::ordered;
-use crate::reckoning::reckon_in_place;
-use crate::starts::{Starts, linked_dues, numbers_of, starts_of};
+use crate::reckoning::{Scratch, reckon_in_place};
+use crate::starts::{dues_at, linked_dues, linked_numbers, mark_starts};
 use scr_book::{Book, Edit, Table};
 use scr_factors::Factors;
 use scr_figures::{Step, View, follow, take_back};
 use scr_io::{Gate, Steps};
 use scr_links::Links;
-use scr_nodes::Node;
+use scr_lists::{Lists, Move, Stood, move_of};
 use scr_numbers::Places;
 use scr_reach::relink;
-use scr_rounds::{Due, Marked, mark_reached};
+use scr_rounds::{Due, Marked};
 use scr_rules::{Rates, rates, rates_after};
 use scr_sheet::BalanceSheet;
+use scr_sums::Point;
 use std::alloc::{AllocError as NoMemory, Global};
 use std::sync::ledger::Ledger;
 use std::thread::Threads;
 
-/// What an engine keeps beside factors and book: the rates of all currencies, the numbers of all figures, the figures by
-/// number, the links from those of their sources, and room for marks and spans.
+/// What an engine keeps beside factors and book: the rates of all currencies, the numbers of all figures and Blocks, the figures by
+/// number, the links that neither rows nor lists give, and room for marks, numbers and spans.
 #[derive(Drop)]
 pub(crate) struct State {
     pub(crate) rates: Rates,
     pub(crate) places: Places,
+    pub(crate) lists: Lists,
     pub(crate) figures: Vec<Figure>,
     pub(crate) links: Links,
     pub(crate) marks: Marked,
-    pub(crate) below: Below,
+    pub(crate) scratch: Scratch,
 }
 
 /// The factors, and the book that has taken the record.
@@ -53,30 +62,32 @@ pub(crate) struct Footing<'a> {
     pub(crate) book: &'a Book,
 }
 
-/// A record: what it does to the rows that have numbers, and the figures that it touches.
+/// A record: what it does to the rows that have numbers, where its row stood, and the points that it touches.
 #[derive(Clone, Copy)]
 pub(crate) struct Taken<'a> {
     pub(crate) edit: &'a Edit,
     pub(crate) step: Step,
-    pub(crate) touched: &'a [Node],
+    pub(crate) stood: &'a Option<Stood>,
+    pub(crate) touched: &'a [Point],
 }
 
-/// The numbers of the touched figures, where a row goes: once it has gone they cannot be asked for.
+/// The numbers of the touched figures whose links may change, where a row goes: once it has gone they cannot be asked for.
 pub(crate) fn numbers_gone(
     alloc: Global,
     sheet: &BalanceSheet,
     places: &Places,
+    edit: &Edit,
     step: Step,
-    touched: &[Node],
+    touched: &[Point],
 ) -> Result<Option<Vec<u32>>, NoMemory>
     requires valid { Valid sheet.now }
     requires numbered { IsNumbered sheet.now places.now }
     requires numbers { AreNumbers (graph_of sheet.now) (StandsAt sheet.now places.now) places.now.size }
-    requires once { HasNoRepeats touched.now }
-    ensures { IfOk result (AreGone step sheet.now places.now touched.now) }
+    requires once { HasEachOnce touched.now }
+    ensures { IfOk result (AreGone step edit.now sheet.now places.now touched.now) }
 {
     match step {
-        Step::Goes(_, _) => Ok(Some(numbers_of(alloc, View { sheet, places }, touched)?)),
+        Step::Goes(_, _) => Ok(Some(linked_numbers(alloc, View { sheet, places }, edit, touched)?)),
         _ => Ok(None),
     }
 }
@@ -91,21 +102,87 @@ pub(crate) fn take_up<R: Threads + Sync, G: Gate + Sync, L: Ledger>(
     gone: Option<Vec<u32>>,
     steps: &mut Steps<L>,
 ) -> Result<(), NoMemory>
-    requires { IsRecorded footing.factors.now footing.book.now.sheet taken gone state.old }
-    ensures ok { OnOk result (IsStateOf footing.entry.factors.now footing.entry.book.now.sheet state.new) }
+    requires { IsRecorded footing.factors.now footing.book.now taken gone state.old }
+    ensures ok { OnOk result (IsStateOf footing.entry.factors.now footing.entry.book.now state.new) }
     ensures steps { OnOk result (crew.now.workers ≡ 1
-        → StepsReach footing.entry.book.now.sheet taken.entry.touched.now steps.old steps.new) }
+        → StepsReach (rolled_of footing.entry.book.now) taken.entry.touched.now steps.old steps.new) }
     ensures marks { OnOk result (state.new.marks.list ≡ []) }
-    ensures err { OnErr result ((before : BalanceSheet)
-        → KeepsState footing.entry.factors.now before footing.entry.book.now.sheet taken.entry state.old state.new) }
+    ensures err { OnErr result ((before : RolledSheet)
+        → KeepsState footing.entry.factors.now before footing.entry.book.now taken.entry state.old state.new) }
 {
     follow(&mut state.places, taken.step)?;
-    match change(crew, footing, state, taken, gone, steps) {
+    match move_and_change(crew, footing, state, taken, gone, steps) {
         Ok(()) => Ok(()),
         Err(NoMemory) => {
             take_back(&mut state.places, taken.step);
             Err(NoMemory)
         }
+    }
+}
+
+/// The lists follow the row of the record, and all is reckoned anew that it reaches. Where memory is refused, all is as before but that
+/// there may be more rows of parts.
+fn move_and_change<R: Threads + Sync, G: Gate + Sync, L: Ledger>(
+    crew: &Crew<'_, R, G>,
+    footing: Footing<'_>,
+    state: &mut State,
+    taken: Taken<'_>,
+    gone: Option<Vec<u32>>,
+    steps: &mut Steps<L>,
+) -> Result<(), NoMemory>
+    requires { IsFollowed footing.factors.now footing.book.now taken gone state.old }
+    ensures ok { OnOk result (IsStateOf footing.entry.factors.now footing.entry.book.now state.new) }
+    ensures steps { OnOk result (crew.now.workers ≡ 1
+        → StepsReach (rolled_of footing.entry.book.now) taken.entry.touched.now steps.old steps.new) }
+    ensures err { OnErr result (IsUndone state.old state.new) }
+    ensures marks { state.new.marks.list ≡ [] }
+{
+    // The book is valid, and its lists are those of its rows.
+    footing.book.sheet();
+    footing.book.group_seats();
+    let moved = follow_lists(crew.alloc, footing.book, state, taken.stood)?;
+    // No number is that of two rows, and no slot that of two parts.
+    state.places.len();
+    state.lists.parts().len();
+    match change(crew, footing, state, taken, gone, steps) {
+        Ok(()) => Ok(()),
+        Err(NoMemory) => {
+            put_lists_back(state, &moved);
+            Err(NoMemory)
+        }
+    }
+}
+
+/// The lists follow the row of the record, if it moves one, and the move is told. Where memory is refused, all is as before but that there
+/// may be more rows of parts.
+fn follow_lists(
+    alloc: Global,
+    book: &Book,
+    state: &mut State,
+    stood: &Option<Stood>,
+) -> Result<Option<Move>, NoMemory>
+    requires { CanFollowLists book.now stood.now state.old }
+    ensures ok { IfOk result (λ moved. HaveFollowed book.now stood.now moved state.old state.new) }
+    ensures err { OnErr result (IsUndone state.old state.new) }
+    ensures marks { state.new.marks ≡ state.old.marks }
+{
+    match move_of(book, &state.places, stood) {
+        Some(moved) => {
+            state.lists.follow(alloc, &mut state.places, &moved)?;
+            Ok(Some(moved))
+        }
+        None => Ok(None),
+    }
+}
+
+/// The lists are as they were before they followed the row.
+fn put_lists_back(state: &mut State, moved: &Option<Move>)
+    requires { (before : TheLists) × CanPutBack moved.now before state.old.lists }
+    ensures lists { (before : TheLists) → CanPutBack moved.now before state.old.lists → AreStill before state.new.lists }
+    ensures others { KeepsAllButLists state.old state.new }
+{
+    if let Some(moved) = moved {
+        state.lists.take_back(moved);
     }
 }
 
@@ -118,11 +195,11 @@ fn change<R: Threads + Sync, G: Gate + Sync, L: Ledger>(
     gone: Option<Vec<u32>>,
     steps: &mut Steps<L>,
 ) -> Result<(), NoMemory>
-    requires { IsFollowed footing.factors.now footing.book.now.sheet taken gone state.old }
-    ensures ok { OnOk result (IsStateOf footing.entry.factors.now footing.entry.book.now.sheet state.new) }
+    requires { IsMoved footing.factors.now footing.book.now taken gone state.old }
+    ensures ok { OnOk result (IsStateOf footing.entry.factors.now footing.entry.book.now state.new) }
     ensures steps { OnOk result (crew.now.workers ≡ 1
-        → StepsReach footing.entry.book.now.sheet taken.entry.touched.now steps.old steps.new) }
-    ensures err { OnErr result (IsUndone state.old state.new) }
+        → StepsReach (rolled_of footing.entry.book.now) taken.entry.touched.now steps.old steps.new) }
+    ensures err { OnErr result (IsUnchanged state.old state.new) }
     ensures marks { state.new.marks.list ≡ [] }
 {
     let size = state.places.len();
@@ -131,35 +208,21 @@ fn change<R: Threads + Sync, G: Gate + Sync, L: Ledger>(
         sheet: footing.book.sheet(),
         places: &state.places,
     };
-    let numbers = all_numbers(crew.alloc, view, taken.touched, gone)?;
-    let starts = starts_of(crew.alloc, view, numbers)?;
+    let numbers = all_numbers(crew.alloc, view, taken.edit, taken.touched, gone)?;
+    let dues = dues_at(crew.alloc, view, numbers.as_slice())?;
     let rates = new_rates(crew.alloc, footing, &state.rates, taken.edit)?;
-    let changed = change_from(crew, footing, state, &starts, rates, steps);
+    let former = linked_dues(crew.alloc, &state.links, numbers.as_slice())?;
+    reserve(
+        crew.alloc,
+        &mut state.links,
+        size,
+        dues.as_slice(),
+        former.as_slice(),
+    )?;
+    relink(&mut state.links, dues.as_slice());
+    let changed = reckon_reached(crew, footing, state, taken.touched, &rates, steps);
     state.marks.clear();
-    changed
-}
-
-/// From the starts on.
-fn change_from<R: Threads + Sync, G: Gate + Sync, L: Ledger>(
-    crew: &Crew<'_, R, G>,
-    footing: Footing<'_>,
-    state: &mut State,
-    starts: &Starts,
-    rates: Option<Rates>,
-    steps: &mut Steps<L>,
-) -> Result<(), NoMemory>
-    requires { IsStarted footing.factors.now footing.book.now.sheet starts.now rates state.old }
-    ensures ok { OnOk result (IsStateOf footing.entry.factors.now footing.entry.book.now.sheet state.new) }
-    ensures steps { OnOk result (crew.now.workers ≡ 1
-        → StepsTaken footing.entry.factors.now footing.entry.book.now.sheet starts.now rates state.old steps.old steps.new) }
-    ensures err { OnErr result (IsUndone state.old state.new) }
-{
-    mark_reached(&mut state.marks, &state.links, &starts.numbers)?;
-    let former = linked_dues(crew.alloc, &state.links, &starts.numbers)?;
-    let size = state.places.len();
-    reserve(crew.alloc, &mut state.links, size, &starts.dues, &former)?;
-    relink(&mut state.links, &starts.dues);
-    match reckon_marked(crew, footing, state, &starts.live, &rates, steps) {
+    match changed {
         Ok(()) => {
             if let Some(rates) = rates {
                 state.rates = rates;
@@ -167,38 +230,67 @@ fn change_from<R: Threads + Sync, G: Gate + Sync, L: Ledger>(
             Ok(())
         }
         Err(NoMemory) => {
-            relink(&mut state.links, &former);
+            relink(&mut state.links, former.as_slice());
             Err(NoMemory)
         }
     }
 }
 
-/// Reckons what is marked and lives.
-fn reckon_marked<R: Threads + Sync, G: Gate + Sync, L: Ledger>(
+/// The numbers of the touched figures whose links the record may change: those that are known beforehand, and where none are, those of
+/// today.
+fn all_numbers(
+    alloc: Global,
+    view: View<'_>,
+    edit: &Edit,
+    touched: &[Point],
+    gone: Option<Vec<u32>>,
+) -> Result<Vec<u32>, NoMemory>
+    requires valid { Valid view.sheet.now }
+    requires numbered { IsNumbered view.sheet.now view.places.now }
+    requires numbers { AreNumbers (graph_of view.sheet.now) (StandsAt view.sheet.now view.places.now) view.places.now.size }
+    requires once { HasEachOnce touched.now }
+    ensures gone { IfOk result (λ numbers. IfSome gone (λ list. numbers.items ≡ list.items)) }
+    ensures starts { IfOk result (λ numbers. IfNone gone (AreStarts (StandsAt view.entry.sheet.now view.entry.places.now) (relinked edit.now touched.now) numbers.items)) }
+    ensures once { IfOk result (λ numbers. IfNone gone (IsDistinct nat_eq numbers.items)) }
+{
+    match gone {
+        Some(numbers) => Ok(numbers),
+        None => linked_numbers(alloc, view, edit, touched),
+    }
+}
+
+/// Reckons the touched points and all that is reckoned from them.
+fn reckon_reached<R: Threads + Sync, G: Gate + Sync, L: Ledger>(
     crew: &Crew<'_, R, G>,
     footing: Footing<'_>,
     state: &mut State,
-    live: &[bool],
+    touched: &[Point],
     rates: &Option<Rates>,
     steps: &mut Steps<L>,
 ) -> Result<(), NoMemory>
-    requires { IsRelinkedFor footing.factors.now footing.book.now.sheet live.now rates.now state.old }
-    ensures settled { OnOk result (AreSettled (reckoning_of footing.entry.factors.now footing.entry.book.now.sheet)
-        (StandsAt footing.entry.book.now.sheet state.old.places) state.new.figures.items) }
+    requires { IsRelinkedFor footing.factors.now footing.book.now touched.now rates.now state.old }
+    ensures settled { OnOk result (AreSettled (book_reckoning footing.entry.factors.now (rolled_of footing.entry.book.now))
+        (StandsIn footing.entry.book.now state.old.places state.old.lists) state.new.figures.items) }
     ensures steps { OnOk result (crew.now.workers ≡ 1
-        → StepsOver footing.entry.book.now.sheet state.old.places state.old.marks.list steps.old steps.new) }
+        → StepsReach (rolled_of footing.entry.book.now) touched.now steps.old steps.new) }
     ensures figures { OnErr result (state.new.figures.items ≡ state.old.figures.items) }
     ensures count { length state.new.figures.items ≡ length state.old.figures.items }
     ensures rates { state.new.rates ≡ state.old.rates }
     ensures places { state.new.places ≡ state.old.places }
+    ensures lists { state.new.lists ≡ state.old.lists }
     ensures links { state.new.links ≡ state.old.links }
-    ensures marks { state.new.marks ≡ state.old.marks }
 {
-    let view = View {
-        sheet: footing.book.sheet(),
-        places: &state.places,
+    let graph = Graph {
+        numbers: Numbers {
+            book: footing.book,
+            places: &state.places,
+            lists: &state.lists,
+        },
+        links: &state.links,
     };
-    let order = ordered(crew.alloc, view, &state.links, state.marks.as_slice(), live)?;
+    mark_starts(&mut state.marks, graph.numbers, touched)?;
+    climb(graph, &mut state.marks, touched)?;
+    let order = ordered(crew.alloc, graph, state.marks.as_slice())?;
     let basis = Basis {
         inputs: Inputs {
             factors: footing.factors,
@@ -206,6 +298,7 @@ fn reckon_marked<R: Threads + Sync, G: Gate + Sync, L: Ledger>(
             rates: new_or_kept(rates, &state.rates),
         },
         places: &state.places,
+        lists: &state.lists,
         links: &state.links,
     };
     reckon_in_place(
@@ -213,30 +306,28 @@ fn reckon_marked<R: Threads + Sync, G: Gate + Sync, L: Ledger>(
         basis,
         order,
         &mut state.figures,
-        &mut state.below,
+        &mut state.scratch,
         steps,
     )
 }
 
-/// The numbers of all touched figures: those that are known beforehand, and where none are, those of today.
-fn all_numbers(
-    alloc: Global,
-    view: View<'_>,
-    touched: &[Node],
-    gone: Option<Vec<u32>>,
-) -> Result<Vec<u32>, NoMemory>
-    requires valid { Valid view.sheet.now }
-    requires numbered { IsNumbered view.sheet.now view.places.now }
-    requires numbers { AreNumbers (graph_of view.sheet.now) (StandsAt view.sheet.now view.places.now) view.places.now.size }
-    requires once { HasNoRepeats touched.now }
-    ensures gone { IfOk result (λ numbers. IfSome gone (λ list. numbers.items ≡ list.items)) }
-    ensures starts { IfOk result (λ numbers. IfNone gone (AreStarts (StandsAt view.entry.sheet.now view.entry.places.now) touched.now numbers.items)) }
-    ensures once { IfOk result (λ numbers. IfNone gone (IsDistinct nat_eq numbers.items)) }
+/// Marks all that is reckoned from what is marked.
+fn climb(graph: Graph<'_>, marks: &mut Marked, touched: &[Point]) -> Result<(), NoMemory>
+    requires graph { IsGraphOf graph.numbers.book.now graph.numbers.places.now graph.numbers.lists.now graph.links.now.edges }
+    requires valid { Valid graph.numbers.book.now.sheet }
+    requires room { graph.numbers.places.now.size ≤ marks.old.size }
+    requires starts { AreMarked (book_graph (rolled_of graph.numbers.book.now))
+        (StandsIn graph.numbers.book.now graph.numbers.places.now graph.numbers.lists.now) touched.now [] marks.old.list }
+    ensures { OnOk result (AreReachedMarks graph.entry.numbers.book.now graph.entry.numbers.places.now graph.entry.numbers.lists.now touched.now
+        marks.new.list) }
 {
-    match gone {
-        Some(numbers) => Ok(numbers),
-        None => numbers_of(alloc, view, touched),
+    let mut place = 0;
+    while place < marks.as_slice().len() {
+        let number = marks.as_slice()[place];
+        graph.mark_dependants(marks, number)?;
+        place += 1;
     }
+    Ok(())
 }
 
 /// Room for figures and marks of all numbers below the size.

@@ -1,27 +1,38 @@
 //! The engine.
-ghost use Rattle.std.specs.Prelude.{◌≡◌, ◌≤◌, true, IfOk, OnOk, OnErr};
+ghost use Rattle.std.specs.Prelude.{◌≡◌, ◌↔◌, ◌≤◌, true, Contains, None, IfOk, OnOk, OnErr};
+ghost use Rattle.scr_blocks.specs.Blocks.{HasEachOnce};
+ghost use Rattle.scr_factors.specs.Values.{FactorValues};
+ghost use Rattle.scr_sums.specs.declared.point.Point.{Point as ThePoint};
 ghost use Rattle.scr_num.specs.Rounding.{ends};
 ghost use Rattle.scr_sheet.specs.Faults.{fault_of};
 ghost use Rattle.scr_sheet.specs.Forms.{Formed};
-ghost use Rattle.scr_sheet.specs.Records.{applied};
 ghost use Rattle.scr_sheet.specs.Validity.{Valid};
-ghost use Rattle.scr_book.specs.Undone.{back, Fits};
+ghost use Rattle.scr_sheet.specs.declared.roll.Roll.{Roll};
+ghost use Rattle.scr_book.specs.Rolls.{AreRollsOf, KeepsNumbers, roll_of};
+ghost use Rattle.scr_book.specs.Undone.{back, returned_by, Fits};
 ghost use Rattle.scr_nodes.specs.Live.{is_live};
 ghost use Rattle.scr_rules.specs.Close.{close_under};
 ghost use Rattle.scr_rules.specs.Worked.{worked};
-ghost use Rattle.scr_tree.specs.Standing.{Refuses, TakesSteps, with_sheet};
+ghost use Rattle.scr_sums.specs.Books.{rolled_of};
+ghost use Rattle.scr_sums.specs.Graph.{is_live_in, worth_in};
+ghost use Rattle.scr_sums.specs.Touched.{IsTouchedIn};
+ghost use Rattle.scr_num.specs.Sums.{sum_ends};
+ghost use Rattle.scr_tree.specs.Standing.{IsAfter, IsAsBefore, Refuses, TakesSteps, book_of, standing_on};
 
 use crate::basis::Crew;
 use crate::edits::{Footing, State, Taken, numbers_gone, take_up};
 use crate::figures::Figure;
+use crate::graph::Numbers;
 use crate::opening::opened;
 use crate::refusal::{Refusal, refused_for};
 use scr_book::{Book, Edit, Undo};
 use scr_factors::Factors;
 use scr_figures::{find, step_of};
 use scr_io::{Gate, Steps};
+use scr_lists::stood_of;
 use scr_nodes::Node;
 use scr_num::Span;
+use scr_sums::{Point, touched_in};
 use scr_touched::touched;
 use std::alloc::{AllocError as NoMemory, Global};
 use std::marker::Model;
@@ -61,7 +72,7 @@ impl Engine {
         gate: &G,
     ) -> Result<Engine, NoMemory>
         requires { (1 ≤ workers) × (workers ≤ 64) }
-        ensures { IfOk result (λ engine. engine ≡ record { factors = factors; sheet = book.sheet }) }
+        ensures { IfOk result (λ engine. engine ≡ standing_on factors book) }
     {
         let crew = Crew {
             rt,
@@ -84,7 +95,7 @@ impl Engine {
 
     /// Applies a record and reckons the figures anew that depend on it, by so many workers, or refuses it exactly as the
     /// book does; book and figures are then as before. The gate is passed before each evaluation. One worker takes a
-    /// step for each figure that the record reaches.
+    /// step for each figure and each Block that the record reaches.
     pub fn edit<R: Threads + Sync, G: Gate + Sync, L: Ledger>(
         &mut self,
         rt: &R,
@@ -97,23 +108,29 @@ impl Engine {
         requires formed { Formed edit.now }
         requires workers { (1 ≤ workers) × (workers ≤ 64) }
         ensures answer { Refuses (fault_of edit.now self.old.sheet) result }
-        ensures ok { OnOk result (self.new ≡ with_sheet (applied edit.now self.old.sheet) self.old) }
-        ensures err { OnErr result (self.new ≡ self.old) }
-        ensures steps { TakesSteps self.old.factors self.old.sheet edit.now workers steps.old steps.new result }
+        ensures ok { OnOk result (IsAfter edit.now self.old self.new) }
+        ensures err { OnErr result (IsAsBefore self.old self.new) }
+        ensures steps { TakesSteps self.old.factors (book_of self.old) edit.now workers steps.old steps.new result }
     {
-        let touched = match touched(alloc, &self.book, edit) {
+        let touched = match touched_points(alloc, &self.book, edit) {
             Ok(touched) => touched,
             Err(NoMemory) => return Err(Refusal::NoMemory),
         };
         let sheet = self.book.sheet();
         let step = step_of(sheet, edit);
-        let gone = match numbers_gone(alloc, sheet, &self.state.places, step, &touched) {
+        let stood = stood_of(&self.book, &self.state.places, edit);
+        let places = &self.state.places;
+        let gone = match numbers_gone(alloc, sheet, places, edit, step, touched.as_slice()) {
             Ok(gone) => gone,
             Err(NoMemory) => return Err(Refusal::NoMemory),
         };
         let undo = match self.book.apply_kept(alloc, edit) {
             Ok(undo) => undo,
-            Err(fault) => return Err(refused_for(fault)),
+            Err(fault) => {
+                // The member lists are those of the balance sheet still.
+                self.book.group_seats();
+                return Err(refused_for(fault));
+            }
         };
         let crew = Crew {
             rt,
@@ -128,6 +145,7 @@ impl Engine {
         let taken = Taken {
             edit,
             step,
+            stood: &stood,
             touched: touched.as_slice(),
         };
         match take_up(&crew, footing, &mut self.state, taken, gone, steps) {
@@ -139,12 +157,20 @@ impl Engine {
         }
     }
 
-    /// The figure of a node that the book has.
-    pub fn span(&self, node: Node) -> Span
-        requires { is_live self.now.sheet node ≡ true }
-        ensures { ends result ≡ worked self.now.factors self.now.sheet node }
+    /// What a figure or a Block comes to that the book has.
+    pub fn span(&self, point: Point) -> Span
+        requires { is_live_in (book_of self.now) point ≡ true }
+        ensures { ends result ≡ worth_in sum_ends (worked self.now.factors self.now.sheet) (book_of self.now) point }
     {
-        self.figure(&node).span
+        let numbers = Numbers {
+            book: &self.book,
+            places: &self.state.places,
+            lists: &self.state.lists,
+        };
+        match numbers.number_of(&point) {
+            Some(number) => self.state.figures[number as usize].span,
+            None => unreachable!(),
+        }
     }
 
     /// The figure of a node rests on a choice that is open.
@@ -169,6 +195,7 @@ impl Engine {
     /// Today's book.
     pub fn book(&self) -> &Book
         ensures value { result.now.sheet ≡ self.now.sheet }
+        ensures rolls { result.now.rolls ≡ self.now.rolls }
         ensures valid { Valid self.now.sheet }
     {
         &self.book
@@ -187,12 +214,27 @@ impl Engine {
     }
 }
 
+/// The points that a record touches.
+fn touched_points(alloc: Global, book: &Book, edit: &Edit) -> Result<Vec<Point>, NoMemory>
+    requires { Formed edit.now }
+    ensures touched { IfOk result (λ list. (factors : FactorValues) (point : ThePoint) → fault_of edit.now book.now.sheet ≡ None
+        → Contains list.items point ↔ IsTouchedIn factors (rolled_of book.now) edit.now point) }
+    ensures once { IfOk result (λ list. HasEachOnce list.items) }
+{
+    let told = touched(alloc, book, edit)?;
+    touched_in(alloc, book, edit, told)
+}
+
 /// Takes a record back for want of memory, which is the refusal.
 fn taken_back(book: &mut Book, undo: Undo) -> Refusal
     requires { Fits undo book.old }
     ensures before { book.new.sheet ≡ back undo book.old.sheet }
+    ensures rolls { (roll : Roll) → roll_of roll book.new.rolls ≡ returned_by undo roll book.old }
+    ensures numbers { KeepsNumbers book.old.rolls book.new.rolls }
+    ensures kept { AreRollsOf book.new.sheet book.new.rolls }
     ensures refusal { result ≡ Refusal.NoMemory }
 {
     book.put_back(undo);
+    book.group_seats();
     Refusal::NoMemory
 }

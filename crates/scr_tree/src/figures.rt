@@ -13,15 +13,9 @@ use scr_io::{Gate, Steps};
 use scr_nodes::{Node, OfCurrency, Whole};
 use scr_num::Span;
 use scr_rules::{Rates, evaluate_by};
+pub(crate) use scr_subtotals::Figure;
 use std::alloc::{AllocError as NoMemory, Global};
 use std::sync::ledger::Ledger;
-
-/// A figure: its span, and whether it rests on a choice that is open.
-#[derive(Clone, Copy)]
-pub(crate) struct Figure {
-    pub(crate) span: Span,
-    pub(crate) close: bool,
-}
 
 /// What stands at a number of which no figure is known.
 pub(crate) const NO_FIGURE: Figure = Figure {

@@ -1,11 +1,10 @@
-//! The figures of a book, all reckoned for the first time: by several workers at once, or by one row by row, and then those of
-//! currencies and of the whole sheet in their order.
+//! The figures of a book, all reckoned for the first time: totals, rows, and then the large sums with their Blocks and all that is
+//! reckoned from them in its order. Several workers share out the rows.
 ghost use Rattle.std.specs.Prelude.{◌≡◌, ◌+◌, ◌<◌, length, IfOk, OnOk};
 ghost use Rattle.scr_discounts.specs.KeptRates.{all_rates, known_of};
 ghost use Rattle.scr_factors.specs.Values.{IsInForm};
 ghost use Rattle.scr_pieces.specs.Rows.{rows_from};
-ghost use Rattle.scr_tree.specs.Begun.{IsAllMade};
-ghost use Rattle.scr_tree.specs.First.{IsDone, IsGround, IsLinkGround, link_ground, totals_of};
+ghost use Rattle.scr_tree.specs.First.{AreGroupsDone, AreReckonedTo, IsDone, IsGathered, IsGround, IsWhole, totals_of};
 ghost use Rattle.scr_tree.specs.Opened.{IsOpened};
 ghost use Rattle.scr_tree.specs.RowSpans.{IsRowGround, row_count};
 ghost use Rattle.scr_tree.specs.Turns.{turn};
@@ -13,37 +12,47 @@ ghost use Rattle.scr_tree.specs.Written.{IsWrittenOf};
 
 use crate::basis::Crew;
 use crate::figures::{Below, Figure, Inputs, no_figures};
-use crate::first_links::{OF_CURRENCY, WHOLES, link_rows, no_links};
-use crate::first_parts::write_row;
-use crate::first_together::reckon_round;
-use crate::first_totals::{assets_of, put_totals};
-use crate::making::{Ground, LinkGround, Made, Making, put_live};
+use crate::first_links::{ASSETS, OF_CURRENCY, WHOLES, no_links};
+use crate::first_parts::{write_parts, write_row};
+use crate::first_totals::{pass_totals, put_totals};
+use crate::left::put_left;
+use crate::making::{Ground, Made, Making, put_found, put_live};
 use crate::row_spans::RowGround;
+use crate::sums::pass_blocks;
 use scr_book::Book;
 use scr_factors::Factors;
-use scr_figures::gathered::members_of;
+use scr_figures::gathered::{Members, members_of};
 use scr_figures::{currency_at, places_of, whole_at};
-use scr_io::{Gate, Steps};
+use scr_io::{Gate, OpenGate, Steps};
 use scr_links::Links;
+use scr_lists::{Lists, lists_of};
 use scr_nodes::{Node, Whole};
 use scr_num::Span;
 use scr_numbers::Places;
-use scr_pieces::{RowPlan, Sort};
+use scr_pieces::{RowPlan, Sort, reckon_rows};
 use scr_rules::{Rates, group_losses, rates};
+use scr_sums::Sum;
 use scr_totals::totals;
 use std::alloc::{AllocError as NoMemory, Global};
 use std::marker::Brand;
 use std::sync::ledger::{Blank, Ledger};
-use std::thread::Threads;
+use std::thread::{Threads, join};
 
 /// What an engine keeps beside its factors and its book.
 #[derive(Drop)]
 pub(crate) struct Opened {
     pub(crate) rates: Rates,
     pub(crate) places: Places,
+    pub(crate) lists: Lists,
     pub(crate) figures: Vec<Figure>,
     pub(crate) links: Links,
-    pub(crate) below: Below,
+}
+
+/// The rows by which totals and the losses of classes are linked, and the totals of all funds and securities in cents.
+#[derive(Drop)]
+struct Gathered {
+    members: Members,
+    totals: Vec<u64>,
 }
 
 /// All figures of a book with their links. The gate is passed before each evaluation. Only want of memory is refused.
@@ -52,64 +61,17 @@ pub(crate) fn reckon_all<R: Threads + Sync, G: Gate + Sync>(
     factors: &Factors,
     book: &Book,
 ) -> Result<Opened, NoMemory>
-    ensures { IfOk result (IsOpened factors.now book.now.sheet) }
+    ensures { IfOk result (IsOpened factors.now book.now) }
 {
     let alloc = crew.alloc;
     factors.known();
-    let members = members_of(alloc, book.sheet())?;
-    let places = places_of(alloc, book.sheet())?;
+    let mut places = places_of(alloc, book.sheet())?;
+    let lists = lists_of(alloc, book, &mut places)?;
+    // No number is that of two rows, no slot that of two parts, and the lists are those of the rows.
     places.len();
-    let ground = LinkGround {
-        alloc,
-        book,
-        places: &places,
-        members: &members,
-    };
-    let (rates, making) = reckon_by(crew, factors, ground)?;
-    Ok(Opened {
-        rates,
-        places,
-        figures: making.made.figures,
-        links: making.made.links,
-        below: making.below,
-    })
-}
-
-/// The rates of the book, and all figures with their links: by one worker one after another, by several at once.
-fn reckon_by<R: Threads + Sync, G: Gate + Sync>(
-    crew: &Crew<'_, R, G>,
-    factors: &Factors,
-    ground: LinkGround<'_>,
-) -> Result<(Rates, Making), NoMemory>
-    requires form { IsInForm factors.now }
-    requires ground { IsLinkGround ground }
-    ensures rates { IfOk result (λ all. known_of all.0 ≡ all_rates ground.entry.book.now.sheet) }
-    ensures made { IfOk result (λ all. IsAllMade factors.now ground.entry all.1.made) }
-{
-    if crew.workers == 1 {
-        return reckon_alone(factors, ground, crew.gate);
-    }
-    let (rates, made) = reckon_round(crew, factors, ground)?;
-    Ok((rates, making_of(ground.alloc, made)))
-}
-
-fn reckon_alone<G: Gate>(
-    factors: &Factors,
-    linked: LinkGround<'_>,
-    gate: &G,
-) -> Result<(Rates, Making), NoMemory>
-    requires form { IsInForm factors.now }
-    requires ground { IsLinkGround linked }
-    ensures rates { IfOk result (λ all. known_of all.0 ≡ all_rates linked.entry.book.now.sheet) }
-    ensures made { IfOk result (λ all. IsAllMade factors.now linked.entry all.1.made) }
-{
-    let LinkGround {
-        alloc,
-        book,
-        places,
-        members,
-    } = linked;
-    let rates = rates(alloc, factors, book)?;
+    lists.parts().len();
+    book.group_seats();
+    let (rates, gathered) = rates_beside(crew, factors, book)?;
     let losses = group_losses(alloc, book)?;
     let ground = Ground {
         alloc,
@@ -118,24 +80,124 @@ fn reckon_alone<G: Gate>(
             book,
             rates: &rates,
         },
-        places,
-        members,
+        places: &places,
+        lists: &lists,
+        members: &gathered.members,
         losses: &losses,
     };
-    let making = make_alone(ground, gate)?;
-    Ok((rates, making))
+    let made = make_all::<R, G, Brand>(crew, ground, gathered.totals.as_slice(), Blank::new(1))?;
+    Ok(Opened {
+        rates,
+        places,
+        lists,
+        figures: made.figures,
+        links: made.links,
+    })
 }
 
-fn make_alone<G: Gate>(ground: Ground<'_>, gate: &G) -> Result<Making, NoMemory>
-    requires { IsGround ground }
-    ensures { IfOk result (λ making. IsAllMade ground.entry.inputs.factors.now (link_ground ground.entry) making.made) }
+/// The rates, by several workers beside the totals.
+fn rates_beside<R: Threads + Sync, G: Gate + Sync>(
+    crew: &Crew<'_, R, G>,
+    factors: &Factors,
+    book: &Book,
+) -> Result<(Rates, Gathered), NoMemory>
+    requires { IsInForm factors.now }
+    ensures rates { IfOk result (λ all. known_of all.0 ≡ all_rates book.now.sheet) }
+    ensures gathered { IfOk result (λ all. IsGathered book.now.sheet all.1) }
 {
-    let totals = totals(ground.alloc, ground.inputs.book.sheet())?;
+    let alloc = crew.alloc;
+    if crew.workers == 1 {
+        let known = rates(alloc, factors, book)?;
+        return Ok((known, gather_all(alloc, book)?));
+    }
+    let working = move || -> Result<Rates, NoMemory>
+        ensures { IfOk result (λ rates. known_of rates ≡ all_rates book.entry.now.sheet) }
+    { rates(alloc, factors, book) };
+    let gathering = move || -> Result<Gathered, NoMemory>
+        ensures { IfOk result (IsGathered book.entry.now.sheet) }
+    { gather_all(alloc, book) };
+    let (rates, gathered) = join(crew.rt, working, gathering);
+    let rates = rates?;
+    let gathered = gathered?;
+    Ok((rates, gathered))
+}
+
+fn gather_all(alloc: Global, book: &Book) -> Result<Gathered, NoMemory>
+    ensures { IfOk result (IsGathered book.now.sheet) }
+{
+    let members = members_of(alloc, book.sheet())?;
+    let totals = totals(alloc, book.sheet())?;
+    Ok(Gathered { members, totals })
+}
+
+/// All figures, each after those that it is reckoned from.
+fn make_all<R: Threads + Sync, G: Gate + Sync, L: Ledger>(
+    crew: &Crew<'_, R, G>,
+    ground: Ground<'_>,
+    totals: &[u64],
+    blank: Blank,
+) -> Result<Made, NoMemory>
+    requires name { blank.name ≡ L.name }
+    requires parts { blank.parts ≡ L.parts }
+    requires some { 0 < blank.parts }
+    requires ground { IsGround ground }
+    requires totals { totals.now ≡ totals_of ground.inputs.book.now.sheet }
+    ensures { IfOk result (IsWhole ground.entry) }
+{
     let figures = no_figures(ground.alloc, ground.places.len())?;
     let links = no_links(ground.for_links())?;
     let mut making = making_of(ground.alloc, Made { figures, links });
-    reckon_tables::<G, Brand>(ground, totals.as_slice(), &mut making, gate, Blank::new(1))?;
-    Ok(making)
+    let mut steps = Steps::<L>::new(blank);
+    if crew.workers == 1 {
+        put_in_turn(ground, totals, &mut making, crew.gate, &mut steps)?;
+    } else {
+        put_together(crew, ground, totals, &mut making, &mut steps)?;
+    }
+    Ok(making.made)
+}
+
+/// All figures by one worker, one after another.
+fn put_in_turn<G: Gate, L: Ledger>(
+    ground: Ground<'_>,
+    totals: &[u64],
+    making: &mut Making,
+    gate: &G,
+    steps: &mut Steps<L>,
+) -> Result<(), NoMemory>
+    requires ground { IsGround ground }
+    requires totals { totals.now ≡ totals_of ground.inputs.book.now.sheet }
+    requires nothing { IsDone ground making.old.made (turn 0 0 0) }
+    ensures { OnOk result (IsWhole ground.entry making.new.made) }
+{
+    put_totals(ground, totals, making, gate)?;
+    put_assets(ground, making, gate, steps)?;
+    put_rows(ground, totals, making, gate)?;
+    put_groups(ground, &mut making.made, gate);
+    put_currencies(ground, making, gate, steps)?;
+    put_wholes(ground, making, gate, steps)
+}
+
+/// All figures by several workers: rows in pieces, and then all others, each as soon as those of its sources are known. What was found
+/// beforehand passes the gate when all workers are done.
+fn put_together<R: Threads + Sync, G: Gate + Sync, L: Ledger>(
+    crew: &Crew<'_, R, G>,
+    ground: Ground<'_>,
+    totals: &[u64],
+    making: &mut Making,
+    steps: &mut Steps<L>,
+) -> Result<(), NoMemory>
+    requires ground { IsGround ground }
+    requires totals { totals.now ≡ totals_of ground.inputs.book.now.sheet }
+    requires nothing { IsDone ground making.old.made (turn 0 0 0) }
+    ensures { OnOk result (IsWhole ground.entry making.new.made) }
+{
+    put_totals(ground, totals, making, &OpenGate)?;
+    put_assets(ground, making, &OpenGate, steps)?;
+    put_by_pieces(crew, ground, totals, &mut making.made)?;
+    put_left(crew, ground, &mut making.made)?;
+    pass_totals(ground, crew.gate);
+    pass_assets(ground, crew.gate);
+    Ok(())
 }
 
 /// What is made, with no room yet for what one figure is reckoned from.
@@ -152,30 +214,6 @@ fn making_of(alloc: Global, made: Made) -> Making
     }
 }
 
-/// All figures, each after those that it is reckoned from.
-fn reckon_tables<G: Gate, L: Ledger>(
-    ground: Ground<'_>,
-    totals: &[u64],
-    making: &mut Making,
-    gate: &G,
-    blank: Blank,
-) -> Result<(), NoMemory>
-    requires name { blank.name ≡ L.name }
-    requires parts { blank.parts ≡ L.parts }
-    requires some { 0 < blank.parts }
-    requires ground { IsGround ground }
-    requires totals { totals.now ≡ totals_of ground.inputs.book.now.sheet }
-    requires nothing { IsDone ground making.old.made (turn 0 0 0) }
-    ensures { OnOk result (IsAllMade ground.entry.inputs.factors.now (link_ground ground.entry) making.new.made) }
-{
-    let mut steps = Steps::<L>::new(blank);
-    put_totals(ground, totals, making, gate)?;
-    put_assets(ground, making, gate, &mut steps)?;
-    put_rows(ground, totals, making, gate)?;
-    put_currencies(ground, making, gate, &mut steps)?;
-    put_wholes(ground, making, gate, &mut steps)
-}
-
 /// The assets of which concentrations are measured.
 fn put_assets<G: Gate, L: Ledger>(
     ground: Ground<'_>,
@@ -190,6 +228,28 @@ fn put_assets<G: Gate, L: Ledger>(
     put_live(ground, making, &Node::Whole(Whole::Assets), 0, gate, steps)
 }
 
+/// Passes the gate for the assets, and for the Blocks under them.
+fn pass_assets<G: Gate>(ground: Ground<'_>, gate: &G)
+    requires { IsGround ground }
+{
+    pass_blocks(ground.numbers(), &Sum::Grouped, gate);
+    gate.pass(ASSETS);
+}
+
+fn row_ground<'a>(ground: Ground<'a>, totals: &'a [u64], figures: &[Figure]) -> RowGround<'a>
+    requires ground { IsGround ground }
+    requires totals { totals.now ≡ totals_of ground.inputs.book.now.sheet }
+    requires done { AreReckonedTo ground figures.now (turn 3 0 0) }
+    ensures rows { IsRowGround result }
+    ensures ground { result.ground ≡ ground.entry }
+{
+    RowGround {
+        ground,
+        totals: &totals[ground.inputs.book.sheet().funds.len()..],
+        assets: figures[ASSETS as usize].span,
+    }
+}
+
 /// The figures of all rows, but for the totals of funds and securities.
 fn put_rows<G: Gate>(
     ground: Ground<'_>,
@@ -200,18 +260,9 @@ fn put_rows<G: Gate>(
     requires ground { IsGround ground }
     requires totals { totals.now ≡ totals_of ground.inputs.book.now.sheet }
     requires done { IsDone ground making.old.made (turn 3 0 0) }
-    ensures { OnOk result (IsDone ground.entry making.new.made (turn 6 0 0)) }
+    ensures { OnOk result (AreGroupsDone ground.entry making.new.made 0) }
 {
-    link_rows(
-        ground.for_links(),
-        &mut making.made.links,
-        &mut making.sources,
-    )?;
-    let rows = RowGround {
-        ground,
-        totals: &totals[ground.inputs.book.sheet().funds.len()..],
-        assets: assets_of(ground, making.made.figures.as_slice())?,
-    };
+    let rows = row_ground(ground, totals, making.made.figures.as_slice());
     let figures = making.made.figures.as_mut_slice();
     let room = &mut making.below.spans;
     put_sort(&rows, Sort::Liability, figures, room, gate)?;
@@ -239,6 +290,48 @@ fn put_sort<G: Gate>(
         write_row(rows.ground, figures, sort, k, room.as_slice());
     }
     Ok(())
+}
+
+/// The figures of all rows by several workers, who draw the rows in pieces.
+fn put_by_pieces<R: Threads + Sync, G: Gate + Sync>(
+    crew: &Crew<'_, R, G>,
+    ground: Ground<'_>,
+    totals: &[u64],
+    made: &mut Made,
+) -> Result<(), NoMemory>
+    requires ground { IsGround ground }
+    requires totals { totals.now ≡ totals_of ground.inputs.book.now.sheet }
+    requires done { IsDone ground made.old (turn 3 0 0) }
+    ensures { OnOk result (AreGroupsDone ground.entry made.new 0) }
+{
+    let rows = row_ground(ground, totals, made.figures.as_slice());
+    let parts = reckon_rows(crew.rt, crew.alloc, crew.workers, &rows, crew.gate)?;
+    write_parts(ground, made.figures.as_mut_slice(), parts.as_slice());
+    Ok(())
+}
+
+/// The Blocks under the totals of groups, which were reckoned with their rows.
+fn put_groups<G: Gate>(ground: Ground<'_>, made: &mut Made, gate: &G)
+    requires ground { IsGround ground }
+    requires done { AreGroupsDone ground made.old 0 }
+    ensures { IsDone ground.entry made.new (turn 6 0 0) }
+{
+    let sheet = ground.inputs.book.sheet();
+    for k in 0..sheet.groups.len() {
+        put_group(ground, made, k, gate);
+    }
+}
+
+/// The Blocks under the total of a group.
+fn put_group<G: Gate>(ground: Ground<'_>, made: &mut Made, k: usize, gate: &G)
+    requires ground { IsGround ground }
+    requires row { k < length ground.inputs.book.now.sheet.groups }
+    requires done { AreGroupsDone ground made.old k }
+    ensures { AreGroupsDone ground.entry made.new (k + 1) }
+{
+    let group = ground.inputs.book.sheet().groups.at(k);
+    let found = Some(Sum::Group(group.name));
+    put_found(ground, &mut made.figures, &found, gate);
 }
 
 fn put_currencies<G: Gate, L: Ledger>(

@@ -1,20 +1,19 @@
-//! The links between the numbers of all figures of a book, table by table.
+//! The links between the numbers of the totals of funds and securities.
 ghost use Rattle.std.specs.Prelude.{◌≡◌, ◌+◌, ◌<◌, [], true, All, Some, length, slice_get, IfOk, OnOk};
 ghost use Rattle.scr_figures.specs.Families.{name_of, table_of};
 ghost use Rattle.scr_figures.specs.Numbers.{names_in};
 ghost use Rattle.scr_nodes.specs.Live.{is_live};
-ghost use Rattle.scr_tree.specs.Begun.{AreAllLinked};
 ghost use Rattle.scr_tree.specs.First.{AreLinkedTo, IsLinkGround, IsLinkedNext};
+ghost use Rattle.scr_tree.specs.Points.{is_linked};
 ghost use Rattle.scr_tree.specs.Turns.{next, turn, turn_of};
 
+use crate::graph::is_linked;
 use crate::making::{LinkGround, gather_linked, make_room, number_at};
 use scr_figures::{currency_at, whole_at};
 use scr_links::Links;
-use scr_nodes::rows::{has_class, is_paying};
-use scr_nodes::{Node, OfFund, OfGroup, OfSecurity, Whole, is_live};
-use scr_numbers::Table;
+use scr_nodes::{Node, OfFund, OfSecurity, is_live};
 use scr_reach::link;
-use scr_sheet::{BalanceSheet, Class};
+use scr_sheet::BalanceSheet;
 use std::alloc::AllocError as NoMemory;
 
 /// The number of the assets of which concentrations are measured.
@@ -25,16 +24,6 @@ pub(crate) const OF_CURRENCY: u32 = 9;
 
 /// How many figures of the whole sheet come after all rows: all but the assets of which concentrations are measured.
 pub(crate) const WHOLES: u32 = 153;
-
-/// Links all figures to their sources, before any is reckoned. Only want of memory is refused.
-pub(crate) fn link_tables(ground: LinkGround<'_>) -> Result<Links, NoMemory>
-    requires { IsLinkGround ground }
-    ensures { IfOk result (AreAllLinked ground.entry) }
-{
-    let mut links = no_links(ground)?;
-    link_stages(ground, &mut links)?;
-    Ok(links)
-}
 
 /// No link, with room for those of all figures.
 pub(crate) fn no_links(ground: LinkGround<'_>) -> Result<Links, NoMemory>
@@ -47,36 +36,19 @@ pub(crate) fn no_links(ground: LinkGround<'_>) -> Result<Links, NoMemory>
     Ok(links)
 }
 
-/// How many links figures have at most to their sources, or nearly so: of a security at most twelve but for the funds that hold it,
-/// of a liability at most fourteen, of a group five, and of a currency twenty.
+/// How many links figures of currencies and of the whole sheet have at most to their sources, or nearly so: of a currency twenty, and
+/// to each group two.
 fn expected_links(sheet: &BalanceSheet) -> u32 {
     let count = sheet
-        .securities
+        .groups
         .len()
-        .saturating_mul(12)
-        .saturating_add(sheet.liabilities.len().saturating_mul(14))
-        .saturating_add(sheet.groups.len().saturating_mul(5))
+        .saturating_mul(2)
         .saturating_add(sheet.curves.len().saturating_mul(20))
-        .saturating_add(512);
+        .saturating_add(4096);
     match u32::try_from(count) {
         Ok(count) => count,
         Err(_) => u32::MAX,
     }
-}
-
-/// The figures of a table after those of another, in the order in which they are reckoned.
-fn link_stages(ground: LinkGround<'_>, links: &mut Links) -> Result<(), NoMemory>
-    requires ground { IsLinkGround ground }
-    requires nothing { AreLinkedTo ground links.old (turn 0 0 0) }
-    ensures { OnOk result (AreLinkedTo ground.entry links.new (turn 7 0 153)) }
-{
-    let mut sources = Vec::new(ground.alloc);
-    link_funds(ground, links, &mut sources)?;
-    link_securities(ground, links, &mut sources)?;
-    link_live(ground, links, &mut sources, &Node::Whole(Whole::Assets), 0)?;
-    link_rows(ground, links, &mut sources)?;
-    link_currencies(ground, links, &mut sources)?;
-    link_wholes(ground, links, &mut sources)
 }
 
 /// Links to the total of each fund those of the funds that hold it.
@@ -115,121 +87,23 @@ pub(crate) fn link_securities(
     Ok(())
 }
 
-/// Links to the figures of all rows, but for the totals of funds and securities, those that they are reckoned from.
-pub(crate) fn link_rows(
-    ground: LinkGround<'_>,
-    links: &mut Links,
-    sources: &mut Vec<u32>,
-) -> Result<(), NoMemory>
-    requires ground { IsLinkGround ground }
-    requires linked { AreLinkedTo ground links.old (turn 3 0 0) }
-    ensures { OnOk result (AreLinkedTo ground.entry links.new (turn 6 0 0)) }
-{
-    link_losses(ground, links)?;
-    link_groups(ground, links, sources)
-}
-
-/// Links to what each security loses what it is reckoned from.
-fn link_losses(ground: LinkGround<'_>, links: &mut Links) -> Result<(), NoMemory>
-    requires ground { IsLinkGround ground }
-    requires linked { AreLinkedTo ground links.old (turn 3 0 0) }
-    ensures { OnOk result (AreLinkedTo ground.entry links.new (turn 4 0 0)) }
-{
-    for k in 0..ground.book.sheet().securities.len() {
-        link_rates(ground, links, k)?;
-        link_spread(ground, links, k)?;
-    }
-    Ok(())
-}
-
-/// Where a security has payments, links to what it loses where rates rise, and where they fall, its total and the loss of a unit.
-fn link_rates(ground: LinkGround<'_>, links: &mut Links, k: usize) -> Result<(), NoMemory>
-    requires ground { IsLinkGround ground }
-    requires row { k < length ground.book.now.sheet.securities }
-    requires linked { AreLinkedTo ground links.old (turn 3 k 0) }
-    ensures { OnOk result (AreLinkedTo ground.entry links.new (turn 3 k 5)) }
-{
-    let position = ground.book.sheet().securities.at(k);
-    if !is_paying(position) {
-        return Ok(());
-    }
-    let first = ground.places.first(Table::Security, k);
-    link_next(ground, links, first + 3, &[first, first + 1])?;
-    link_next(ground, links, first + 4, &[first, first + 2])
-}
-
-/// Links to what a bond loses where spreads widen its total.
-fn link_spread(ground: LinkGround<'_>, links: &mut Links, k: usize) -> Result<(), NoMemory>
-    requires ground { IsLinkGround ground }
-    requires row { k < length ground.book.now.sheet.securities }
-    requires linked { AreLinkedTo ground links.old (turn 3 k 5) }
-    ensures { OnOk result (AreLinkedTo ground.entry links.new (turn 3 (k + 1) 0)) }
-{
-    let position = ground.book.sheet().securities.at(k);
-    if !has_class(Class::Bond, position) {
-        return Ok(());
-    }
-    let first = ground.places.first(Table::Security, k);
-    link_next(ground, links, first + 5, &[first])
-}
-
-/// The figures of all groups of counterparties. Those of liabilities, which come before, have no sources.
-fn link_groups(
-    ground: LinkGround<'_>,
-    links: &mut Links,
-    sources: &mut Vec<u32>,
-) -> Result<(), NoMemory>
-    requires ground { IsLinkGround ground }
-    requires linked { AreLinkedTo ground links.old (turn 4 0 0) }
-    ensures { OnOk result (AreLinkedTo ground.entry links.new (turn 6 0 0)) }
-{
-    for k in 0..ground.book.sheet().groups.len() {
-        link_group(ground, links, sources, k)?;
-    }
-    Ok(())
-}
-
-/// Links to the total of a group those of its securities, and to the square of its concentration the assets and its total. What is
-/// lost where it defaults has no sources.
-fn link_group(
-    ground: LinkGround<'_>,
-    links: &mut Links,
-    sources: &mut Vec<u32>,
-    k: usize,
-) -> Result<(), NoMemory>
-    requires ground { IsLinkGround ground }
-    requires row { k < length ground.book.now.sheet.groups }
-    requires linked { AreLinkedTo ground links.old (turn 5 k 0) }
-    ensures { OnOk result (AreLinkedTo ground.entry links.new (turn 5 (k + 1) 0)) }
-{
-    let name = ground.book.sheet().groups.at(k).name;
-    link_gathered(
-        ground,
-        links,
-        sources,
-        &Node::Group(name, OfGroup::Total),
-        k,
-    )?;
-    let first = ground.places.first(Table::Group, k);
-    link_next(ground, links, first + 1, &[ASSETS, first])
-}
-
-/// Links to the figures of all currencies their sources.
-fn link_currencies(
+/// Links to all figures of currencies and of the whole sheet their sources, but to those that are reckoned from a large sum.
+pub(crate) fn link_left(
     ground: LinkGround<'_>,
     links: &mut Links,
     sources: &mut Vec<u32>,
 ) -> Result<(), NoMemory>
     requires ground { IsLinkGround ground }
     requires linked { AreLinkedTo ground links.old (turn 6 0 0) }
-    ensures { OnOk result (AreLinkedTo ground.entry links.new (turn 7 0 0)) }
+    ensures { OnOk result (AreLinkedTo ground.entry links.new (turn 7 0 153)) }
 {
     for k in 0..ground.book.sheet().curves.len() {
         link_currency(ground, links, sources, k)?;
     }
-    Ok(())
+    link_wholes(ground, links, sources)
 }
 
+/// Links to all figures of a currency their sources, but to those that are reckoned from a large sum.
 fn link_currency(
     ground: LinkGround<'_>,
     links: &mut Links,
@@ -243,14 +117,13 @@ fn link_currency(
 {
     let name = ground.book.sheet().curves.at(k).currency;
     for family in 0..OF_CURRENCY {
-        let what = currency_at(family);
-        let node = Node::Currency(name, what);
-        link_live(ground, links, sources, &node, k)?;
+        let node = Node::Currency(name, currency_at(family));
+        link_if_there(ground, links, sources, &node, k)?;
     }
     Ok(())
 }
 
-/// Links to the figures of the whole sheet their sources.
+/// The same of the whole sheet.
 fn link_wholes(
     ground: LinkGround<'_>,
     links: &mut Links,
@@ -261,13 +134,14 @@ fn link_wholes(
     ensures { OnOk result (AreLinkedTo ground.entry links.new (turn 7 0 153)) }
 {
     for number in 0..WHOLES {
-        link_live(ground, links, sources, &Node::Whole(whole_at(number)), 0)?;
+        let node = Node::Whole(whole_at(number));
+        link_if_there(ground, links, sources, &node, 0)?;
     }
     Ok(())
 }
 
-/// Links to a figure of the row at a place all of its sources; nothing where the balance sheet does not have the figure.
-fn link_live(
+/// The same of a figure, if the balance sheet has it and no large sum gives it.
+fn link_if_there(
     ground: LinkGround<'_>,
     links: &mut Links,
     sources: &mut Vec<u32>,
@@ -279,7 +153,7 @@ fn link_live(
     requires linked { AreLinkedTo ground links.old (turn_of node.now row) }
     ensures { OnOk result (AreLinkedTo ground.entry links.new (next (turn_of node.now row))) }
 {
-    if !is_live(ground.book.sheet(), node) {
+    if !is_linked(node) || !is_live(ground.book.sheet(), node) {
         return Ok(());
     }
     link_gathered(ground, links, sources, node, row)
@@ -295,6 +169,7 @@ fn link_gathered(
 ) -> Result<(), NoMemory>
     requires ground { IsLinkGround ground }
     requires live { is_live ground.book.now.sheet node.now ≡ true }
+    requires linked_node { is_linked node.now ≡ true }
     requires row { slice_get (names_in ground.book.now.sheet (table_of node.now)) row ≡ Some (name_of node.now) }
     requires linked { AreLinkedTo ground links.old (turn_of node.now row) }
     ensures { OnOk result (AreLinkedTo ground.entry links.new (next (turn_of node.now row))) }

@@ -1,31 +1,21 @@
 //! The totals of all funds and securities, found at once.
-ghost use Rattle.std.specs.Prelude.{◌≡◌, ◌<◌, ℕ, true, pos, map, Some, length, slice_get, IfOk, OnOk};
+ghost use Rattle.std.specs.Prelude.{◌≡◌, ◌<◌, ℕ, pos, map, Some, length, slice_get, OnOk};
 ghost use Rattle.std.specs.Option.{option_map};
 ghost use Rattle.scr_num.specs.Rounding.{ends, exact_ends};
 ghost use Rattle.scr_sheet.specs.BalanceSheet.{position_name, stake_name};
 ghost use Rattle.scr_sheet.specs.Totals.{total_of};
-ghost use Rattle.scr_nodes.specs.Live.{is_live};
-ghost use Rattle.scr_nodes.specs.Sources.{sources_of};
-ghost use Rattle.scr_nodes.specs.declared.node.Node.TheVariants as nodes;
-ghost use Rattle.scr_nodes.specs.declared.node.Whole.TheVariants as wholes;
-ghost use Rattle.scr_rules.specs.Worked.{worked};
 ghost use Rattle.scr_tree.specs.Figures.{total_worth, worth_of};
 ghost use Rattle.scr_tree.specs.First.{AreReckonedTo, IsDone, IsGround, totals_of};
-ghost use Rattle.scr_tree.specs.Inputs.{AreOfBook};
 ghost use Rattle.scr_tree.specs.Turns.{turn};
 
-use crate::figures::{Below, Figure, Inputs, read};
+use crate::figures::Figure;
 use crate::first_links::{link_funds, link_securities};
-use crate::making::{Ground, Making, gather};
+use crate::making::{Ground, Making};
 use crate::row_spans::stands_alone;
-use crate::together::span_from;
-use scr_io::{Gate, Steps};
-use scr_nodes::{Node, Whole};
+use scr_io::Gate;
 use scr_num::{Span, exact};
 use scr_numbers::Table;
 use std::alloc::AllocError as NoMemory;
-use std::marker::Brand;
-use std::sync::ledger::{Blank, Ledger};
 
 /// The totals, and the links between them. The gate is passed before each but those of securities that have other figures: these pass
 /// it in their rows.
@@ -91,6 +81,19 @@ fn put_securities<G: Gate>(ground: Ground<'_>, figures: &mut Vec<Figure>, totals
     }
 }
 
+/// Passes the gate for all totals but those of securities that have other figures.
+pub(crate) fn pass_totals<G: Gate>(ground: Ground<'_>, gate: &G)
+    requires { IsGround ground }
+{
+    let sheet = ground.inputs.book.sheet();
+    for k in 0..sheet.funds.len() {
+        gate.pass(ground.places.first(Table::Fund, k));
+    }
+    for k in 0..sheet.securities.len() {
+        pass_alone(ground, k, ground.places.first(Table::Security, k), gate);
+    }
+}
+
 /// Passes the gate before the total of a security that has no other figure. All others pass in their rows.
 fn pass_alone<G: Gate>(ground: Ground<'_>, k: usize, number: u32, gate: &G)
     requires { k < length ground.inputs.book.now.sheet.securities }
@@ -118,38 +121,4 @@ fn amount(cents: u64) -> Span
     ensures { ends result ≡ exact_ends (pos cents) }
 {
     exact(i128::from(cents))
-}
-
-/// The assets of which concentrations are measured, where the totals are there.
-pub(crate) fn assets_of(ground: Ground<'_>, figures: &[Figure]) -> Result<Span, NoMemory>
-    requires ground { IsGround ground }
-    requires totals { AreReckonedTo ground figures.now (turn 2 0 0) }
-    ensures { IfOk result (λ span. ends span
-        ≡ worked ground.entry.inputs.factors.now ground.entry.inputs.book.now.sheet (nodes.Whole wholes.Assets)) }
-{
-    let node = Node::Whole(Whole::Assets);
-    let mut sources = Vec::new(ground.alloc);
-    gather(ground, &mut sources, &node, 0)?;
-    let mut below = Below {
-        spans: Vec::new(ground.alloc),
-        close: false,
-    };
-    read(figures, sources.as_slice(), &mut below)?;
-    let span = uncounted::<Brand>(ground.inputs, &node, below.spans.as_slice(), Blank::new(1));
-    Ok(span)
-}
-
-/// The span of a figure from those of its sources, with a counter of its own.
-fn uncounted<L: Ledger>(inputs: Inputs<'_>, node: &Node, below: &[Span], blank: Blank) -> Span
-    requires name { blank.name ≡ L.name }
-    requires parts { blank.parts ≡ L.parts }
-    requires some { 0 < blank.parts }
-    requires inputs { AreOfBook inputs }
-    requires live { is_live inputs.book.now.sheet node.now ≡ true }
-    requires below { map ends below.now
-        ≡ map (worked inputs.factors.now inputs.book.now.sheet) (sources_of inputs.book.now.sheet node.now) }
-    ensures { ends result ≡ worked inputs.entry.factors.now inputs.entry.book.now.sheet node.now }
-{
-    let mut steps = Steps::<L>::new(blank);
-    span_from(inputs, node, below, &mut steps)
 }

@@ -14,8 +14,8 @@ pub(crate) struct Journal {
 }
 
 impl Journal {
-    ghost use Rattle.std.specs.Prelude.{ℕ, List};
-    ghost use Rattle.scr_tree.specs.declared.figures.Figure.{Figure};
+    ghost use Rattle.std.specs.Prelude.{List};
+    ghost use Rattle.scr_subtotals.specs.declared.figure.Figure.{Figure};
 
     /// No figure is written yet.
     pub(crate) fn new(alloc: Global, numbers: Vec<u32>) -> Result<Journal, NoMemory>

@@ -1,5 +1,5 @@
 //! The figures and links that are made when all are reckoned for the first time.
-ghost use Rattle.std.specs.Prelude.{◌≡◌, ◌+◌, ◌<◌, ◌≤◌, ℕ, true, All, Some, length, slice_get, OnOk};
+ghost use Rattle.std.specs.Prelude.{◌≡◌, ◌⊎◌, ◌+◌, ◌<◌, ◌≤◌, ℕ, true, All, Some, is_some, length, slice_get, OnOk};
 ghost use Rattle.scr_figures.specs.Families.{family_of, name_of, table_of};
 ghost use Rattle.scr_figures.specs.Numbers.{StandsAt, names_in};
 ghost use Rattle.scr_numbers.specs.Ranges.{count, first, stride};
@@ -7,29 +7,42 @@ ghost use Rattle.scr_nodes.specs.Live.{is_live};
 ghost use Rattle.scr_nodes.specs.Sources.{sources_of};
 ghost use Rattle.scr_reach.specs.Linked.{AreAt};
 ghost use Rattle.scr_tree.specs.Figures.{HaveFigures, reckoning_of};
-ghost use Rattle.scr_tree.specs.First.{IsDone, IsEntered, IsGround, IsLinkGround, IsPut};
+ghost use Rattle.scr_sums.specs.Graph.{reads};
+ghost use Rattle.scr_sums.specs.Sums.{first_sum, reader_of};
+ghost use Rattle.scr_sums.specs.Told.{is_reader};
+ghost use Rattle.scr_sums.specs.declared.sum.Sum.{Sum as TheSum};
+ghost use Rattle.scr_num.specs.Rounding.{ends};
+ghost use Rattle.scr_tree.specs.First.{AreBlocksThere, AreMembersThere, IsDone, IsEntered, IsGround, IsLinkGround, IsPut, IsSumOf, KeepsOffBlocks};
+ghost use Rattle.scr_tree.specs.Points.{is_linked};
+ghost use Rattle.scr_tree.specs.Summed.{summed_in};
 ghost use Rattle.scr_tree.specs.Turns.{next, stage_of, turn_of};
 
 use crate::figures::{Below, Figure, Inputs, read, reckoned};
+use crate::graph::Numbers;
+use crate::sums::{by_sums, put_blocks, sum_there};
 use scr_book::Book;
 use scr_figures::gathered::Members;
 use scr_figures::{View, family, push_gathered, table};
 use scr_io::{Gate, Steps};
 use scr_links::Links;
-use scr_nodes::{Node, is_live};
+use scr_lists::Lists;
+use scr_nodes::{Direction, Node, OfCurrency, is_live};
+use scr_num::{Span, exact};
 use scr_numbers::Places;
 use scr_reach::link;
 use scr_rules::GroupLosses;
+use scr_sums::{Sum, first_sum, second_sum};
 use std::alloc::{AllocError as NoMemory, Global};
 use std::sync::ledger::Ledger;
 
-/// What all figures are reckoned from for the first time: beside the book and its rates the numbers of all figures, the rows
-/// that the large sums are of, and the losses of all groups.
+/// What all figures are reckoned from for the first time: beside the book and its rates the numbers of all figures and Blocks, the rows
+/// that figures are linked by, and the losses of all groups.
 #[derive(Clone, Copy)]
 pub(crate) struct Ground<'a> {
     pub(crate) alloc: Global,
     pub(crate) inputs: Inputs<'a>,
     pub(crate) places: &'a Places,
+    pub(crate) lists: &'a Lists,
     pub(crate) members: &'a Members,
     pub(crate) losses: &'a GroupLosses,
 }
@@ -45,7 +58,7 @@ pub(crate) struct LinkGround<'a> {
 
 impl<'a> Ground<'a> {
     ghost use Rattle.std.specs.Prelude.{◌≡◌};
-    ghost use Rattle.scr_tree.specs.First.{link_ground};
+    ghost use Rattle.scr_tree.specs.First.{link_ground, numbers_of};
 
     /// What figures are linked by.
     pub(crate) fn for_links(&self) -> LinkGround<'a>
@@ -56,6 +69,17 @@ impl<'a> Ground<'a> {
             book: self.inputs.book,
             places: self.places,
             members: self.members,
+        }
+    }
+
+    /// What numbers are read off.
+    pub(crate) fn numbers(&self) -> Numbers<'a>
+        ensures { result ≡ numbers_of self.now }
+    {
+        Numbers {
+            book: self.inputs.book,
+            places: self.places,
+            lists: self.lists,
         }
     }
 }
@@ -216,13 +240,116 @@ pub(crate) fn put_live<G: Gate, L: Ledger>(
     requires ground { IsGround ground }
     requires row { slice_get (names_in ground.inputs.book.now.sheet (table_of node.now)) row ≡ Some (name_of node.now) }
     requires later { 2 ≤ stage_of node.now }
+    requires read { (is_some (first_sum node.now) ≡ true) ⊎ (is_linked node.now ≡ true) }
     requires done { IsDone ground making.old.made (turn_of node.now row) }
     ensures { OnOk result (IsDone ground.entry making.new.made (next (turn_of node.now row))) }
 {
     if !is_live(ground.inputs.book.sheet(), node) {
         return Ok(());
     }
-    put_gathered(ground, making, node, row, gate, steps)
+    match first_sum(node) {
+        Some(_) => {
+            put_summed(ground, &mut making.made, node, row, gate, steps);
+            Ok(())
+        }
+        None => put_gathered(ground, making, node, row, gate, steps),
+    }
+}
+
+/// The figure of a node that is reckoned from large sums, with the Blocks under these.
+fn put_summed<G: Gate, L: Ledger>(
+    ground: Ground<'_>,
+    made: &mut Made,
+    node: &Node,
+    row: usize,
+    gate: &G,
+    steps: &mut Steps<L>,
+)
+    requires ground { IsGround ground }
+    requires live { is_live ground.inputs.book.now.sheet node.now ≡ true }
+    requires row { slice_get (names_in ground.inputs.book.now.sheet (table_of node.now)) row ≡ Some (name_of node.now) }
+    requires later { 2 ≤ stage_of node.now }
+    requires summed { is_some (first_sum node.now) ≡ true }
+    requires done { IsDone ground made.old (turn_of node.now row) }
+    ensures { IsDone ground.entry made.new (next (turn_of node.now row)) }
+{
+    put_under(ground, &mut made.figures, node, gate);
+    let first = first_sum(node);
+    let second = second_sum(node);
+    let held = sum_under(ground, made.figures.as_slice(), &first);
+    let owed = sum_under(ground, made.figures.as_slice(), &second);
+    let number = number_at(ground.places, node, row);
+    gate.pass(number);
+    let span = by_sums(ground.inputs, node, held, owed, steps);
+    write(&mut made.figures, number, Figure { span, close: false });
+}
+
+/// Writes all Blocks under the sums of a figure. A currency's fall has those of its rise, with which they are written.
+fn put_under<G: Gate>(ground: Ground<'_>, figures: &mut Vec<Figure>, node: &Node, gate: &G)
+    requires ground { IsGround ground }
+    requires live { is_live ground.inputs.book.now.sheet node.now ≡ true }
+    requires count { length figures.old.items ≡ ground.places.now.size }
+    requires members { AreMembersThere ground figures.old.items (IsSumOf node.now) }
+    requires there { AreBlocksThere ground figures.old.items (λ sum. IsSumOf node.now sum × (reader_of sum ≡ node.now → ⊥)) }
+    ensures blocks { AreBlocksThere ground.entry figures.new.items (IsSumOf node.now) }
+    ensures others { KeepsOffBlocks ground.entry (λ sum. reader_of sum ≡ node.now) figures.old.items figures.new.items }
+{
+    if !is_reader(node) {
+        return;
+    }
+    let first = first_sum(node);
+    let second = second_sum(node);
+    put_found(ground, figures, &first, gate);
+    put_found(ground, figures, &second, gate);
+}
+
+/// Whether the Blocks under its sums are written with the figure.
+fn is_reader(node: &Node) -> bool
+    ensures { result ≡ is_reader node.now }
+{
+    !matches!(
+        node,
+        Node::Currency(_, OfCurrency::Scenario(Direction::Down, _))
+    )
+}
+
+/// Writes all Blocks under a sum, if there is one.
+pub(crate) fn put_found<G: Gate>(
+    ground: Ground<'_>,
+    figures: &mut Vec<Figure>,
+    found: &Option<Sum>,
+    gate: &G,
+)
+    requires ground { IsGround ground }
+    requires reads { (sum : TheSum) → found.now ≡ Some sum → reads ground.inputs.book.now.sheet sum ≡ true }
+    requires count { length figures.old.items ≡ ground.places.now.size }
+    requires members { AreMembersThere ground figures.old.items (λ sum. found.now ≡ Some sum) }
+    ensures blocks { AreBlocksThere ground.entry figures.new.items (λ sum. found.now ≡ Some sum) }
+    ensures others { KeepsOffBlocks ground.entry (λ sum. found.now ≡ Some sum) figures.old.items figures.new.items }
+{
+    // There are no more figures than numbers.
+    let _size = ground.places.len();
+    match found {
+        Some(sum) => put_blocks(ground.numbers(), figures.as_mut_slice(), sum, gate),
+        None => (),
+    }
+}
+
+/// What a sum comes to whose Blocks are there; one that is not there comes to nothing.
+fn sum_under(ground: Ground<'_>, figures: &[Figure], found: &Option<Sum>) -> Span
+    requires ground { IsGround ground }
+    requires reads { (sum : TheSum) → found.now ≡ Some sum → reads ground.inputs.book.now.sheet sum ≡ true }
+    requires count { length figures.now ≡ ground.places.now.size }
+    requires members { AreMembersThere ground figures.now (λ sum. found.now ≡ Some sum) }
+    requires blocks { AreBlocksThere ground figures.now (λ sum. found.now ≡ Some sum) }
+    ensures { ends result ≡ summed_in ground.entry.inputs.factors.now ground.entry.inputs.book.now found.now }
+{
+    // There are no more figures than numbers.
+    let _size = ground.places.len();
+    match found {
+        Some(sum) => sum_there(ground.numbers(), figures, sum),
+        None => exact(0),
+    }
 }
 
 /// The figure of a node of the row at a place, from all its sources.
@@ -236,6 +363,7 @@ fn put_gathered<G: Gate, L: Ledger>(
 ) -> Result<(), NoMemory>
     requires ground { IsGround ground }
     requires live { is_live ground.inputs.book.now.sheet node.now ≡ true }
+    requires linked { is_linked node.now ≡ true }
     requires row { slice_get (names_in ground.inputs.book.now.sheet (table_of node.now)) row ≡ Some (name_of node.now) }
     requires later { 2 ≤ stage_of node.now }
     requires done { IsDone ground making.old.made (turn_of node.now row) }

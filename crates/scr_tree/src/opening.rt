@@ -6,6 +6,7 @@ ghost use Rattle.scr_tree.specs.Changed.{IsStateOf};
 use crate::basis::Crew;
 use crate::edits::State;
 use crate::first::{Opened, reckon_all};
+use crate::reckoning::Scratch;
 use scr_book::Book;
 use scr_factors::Factors;
 use scr_io::Gate;
@@ -21,24 +22,25 @@ pub(crate) fn opened<R: Threads + Sync, G: Gate + Sync>(
     book: &Book,
 ) -> Result<State, NoMemory>
     ensures valid { IfOk result (λ state. Valid book.now.sheet) }
-    ensures state { IfOk result (IsStateOf factors.now book.now.sheet) }
+    ensures state { IfOk result (IsStateOf factors.now book.now) }
     ensures marks { IfOk result (λ state. state.marks.list ≡ []) }
 {
     let Opened {
         rates,
         places,
+        lists,
         figures,
         links,
-        below,
     } = reckon_all(crew, factors, book)?;
     let mut marks = Marked::new(crew.alloc);
     marks.grow(places.len() as usize)?;
     Ok(State {
         rates,
         places,
+        lists,
         figures,
         links,
         marks,
-        below,
+        scratch: Scratch::new(crew.alloc),
     })
 }

@@ -1,35 +1,54 @@
-//! The figures that an edit reaches, reckoned in place, each once and after all that it is reckoned from.
-ghost use Rattle.std.specs.Prelude.{◌≡◌, ◌+◌, ◌<◌, ◌≤◌, [], List, drop, length, take, IfOk, OnOk, OnErr};
-ghost use Rattle.std.specs.List.{AllByRecursion, AllZip};
-ghost use Rattle.scr_reach.specs.Linked.{sources_in};
-ghost use Rattle.scr_tree.specs.Figures.{AreReadAt};
+//! The points that an edit reaches, reckoned in place, each once and after all that it is reckoned from.
+ghost use Rattle.std.specs.Prelude.{◌≡◌, ◌+◌, ◌≤◌, [], length, IfOk, OnOk, OnErr};
+ghost use Rattle.scr_num.specs.Rounding.{ends};
+ghost use Rattle.scr_tree.specs.Opening.{opens_in};
 ghost use Rattle.scr_tree.specs.Order.{IsJournaled};
 ghost use Rattle.scr_tree.specs.Ready.{AreInTurnOn, AreKnownBut, AreSettledOn, IsBasis, IsOrderOn, IsReadyOn, IsRightOn};
-ghost use Rattle.scr_tree.specs.declared.figures.Figure.{Figure};
 
 use crate::basis::{Basis, Crew};
-use crate::figures::{Below, Figure, reckoned};
+use crate::figures::{Below, Figure, is_open_choice, read};
 use crate::journal::Journal;
 use crate::order::Order;
+use crate::sums::span_of;
 use crate::together::reckon_together;
-use scr_figures::node_at;
 use scr_io::{Gate, Steps};
-use scr_links::Links;
-use std::alloc::AllocError as NoMemory;
+use scr_num::Span;
+use scr_numbers::{Places, Table};
+use scr_sums::Point;
+use std::alloc::{AllocError as NoMemory, Global};
 use std::sync::ledger::Ledger;
 use std::thread::Threads;
 
 /// So many figures that are reckoned from payments are worth several workers.
 const SHARED: u32 = 256;
 
-/// Reckons the figures of an order in place, by several workers where that is sooner. One worker takes a step for each. Where
+/// Room for what one point is reckoned from: the numbers of its sources, and their spans.
+#[derive(Drop)]
+pub(crate) struct Scratch {
+    pub(crate) sources: Vec<u32>,
+    pub(crate) below: Below,
+}
+
+impl Scratch {
+    pub(crate) fn new(alloc: Global) -> Scratch {
+        Scratch {
+            sources: Vec::new(alloc),
+            below: Below {
+                spans: Vec::new(alloc),
+                close: false,
+            },
+        }
+    }
+}
+
+/// Reckons the points of an order in place, by several workers where that is sooner. One worker takes a step for each. Where
 /// memory is refused, all figures are as before.
 pub(crate) fn reckon_in_place<R: Threads + Sync, G: Gate + Sync, L: Ledger>(
     crew: &Crew<'_, R, G>,
     basis: Basis<'_>,
     order: Order,
     figures: &mut Vec<Figure>,
-    below: &mut Below,
+    scratch: &mut Scratch,
     steps: &mut Steps<L>,
 ) -> Result<(), NoMemory>
     requires basis { IsBasis basis }
@@ -41,18 +60,17 @@ pub(crate) fn reckon_in_place<R: Threads + Sync, G: Gate + Sync, L: Ledger>(
     ensures steps { OnOk result (crew.now.workers ≡ 1 → steps.new ≡ steps.old + length order.numbers.items) }
     ensures err { OnErr result (figures.new.items ≡ figures.old.items) }
 {
-    if crew.workers == 1 || !are_many(basis.links, order.numbers.as_slice()) {
-        return reckon_in_turn(crew, basis, order, figures, below, steps);
+    if crew.workers == 1 || !are_many(basis.places, order.numbers.as_slice()) {
+        return reckon_in_turn(crew, basis, order, figures, scratch, steps);
     }
     reckon_together(crew, basis, order, figures)
 }
 
-/// Many of the figures are linked to none: those are reckoned from payments, and take the most time. All others cost less than
-/// to share them out.
-fn are_many(links: &Links, numbers: &[u32]) -> bool {
+/// Many of the figures are reckoned from payments, which takes the most time. All others cost less than to share them out.
+fn are_many(places: &Places, numbers: &[u32]) -> bool {
     let mut wanted = SHARED;
     for number in numbers {
-        if links.sources(*number).next().is_none() {
+        if is_of_payments(places, *number) {
             if wanted == 0 {
                 return true;
             }
@@ -62,13 +80,24 @@ fn are_many(links: &Links, numbers: &[u32]) -> bool {
     false
 }
 
+fn is_of_payments(places: &Places, number: u32) -> bool {
+    match places.at(number) {
+        Some(place) => match place.table {
+            Table::Liability => true,
+            Table::Security => place.family == 1 || place.family == 2,
+            _ => false,
+        },
+        None => false,
+    }
+}
+
 /// By one worker, one after another.
 fn reckon_in_turn<R: Threads + Sync, G: Gate + Sync, L: Ledger>(
     crew: &Crew<'_, R, G>,
     basis: Basis<'_>,
     order: Order,
     figures: &mut Vec<Figure>,
-    below: &mut Below,
+    scratch: &mut Scratch,
     steps: &mut Steps<L>,
 ) -> Result<(), NoMemory>
     requires basis { IsBasis basis }
@@ -82,7 +111,7 @@ fn reckon_in_turn<R: Threads + Sync, G: Gate + Sync, L: Ledger>(
 {
     let Order { numbers, .. } = order;
     let mut journal = Journal::new(crew.alloc, numbers)?;
-    match write_in_turn(basis, &mut journal, figures, below, crew.gate, steps) {
+    match write_in_turn(basis, &mut journal, figures, scratch, crew.gate, steps) {
         Ok(()) => Ok(()),
         Err(NoMemory) => {
             journal.undo(figures.as_mut_slice());
@@ -95,7 +124,7 @@ fn write_in_turn<G: Gate, L: Ledger>(
     basis: Basis<'_>,
     journal: &mut Journal,
     figures: &mut Vec<Figure>,
-    below: &mut Below,
+    scratch: &mut Scratch,
     gate: &G,
     steps: &mut Steps<L>,
 ) -> Result<(), NoMemory>
@@ -111,7 +140,7 @@ fn write_in_turn<G: Gate, L: Ledger>(
 {
     for k in 0..journal.numbers.len() {
         let number = journal.numbers[k];
-        let figure = figure_at(basis, figures.as_slice(), number, below, gate, steps)?;
+        let figure = figure_at(basis, figures.as_slice(), number, scratch, gate, steps)?;
         journal.write(figures.as_mut_slice(), figure)?;
     }
     Ok(())
@@ -122,7 +151,7 @@ pub(crate) fn figure_at<G: Gate, L: Ledger>(
     basis: Basis<'_>,
     figures: &[Figure],
     number: u32,
-    below: &mut Below,
+    scratch: &mut Scratch,
     gate: &G,
     steps: &mut Steps<L>,
 ) -> Result<Figure, NoMemory>
@@ -131,26 +160,28 @@ pub(crate) fn figure_at<G: Gate, L: Ledger>(
     ensures figure { IfOk result (IsRightOn basis.entry number) }
     ensures step { OnOk result (steps.new ≡ steps.old + 1) }
 {
-    read_linked(figures, basis.links, number, below)?;
-    match node_at(basis.places, basis.inputs.book.sheet(), number) {
-        Some(node) => Ok(reckoned(basis.inputs, below, number, &node, gate, steps)),
-        None => unreachable!(),
-    }
+    let Some(point) = basis.numbers().point_at(number) else {
+        unreachable!();
+    };
+    scratch.sources.clear();
+    basis
+        .graph()
+        .push_sources(&mut scratch.sources, number, &point)?;
+    read(figures, scratch.sources.as_slice(), &mut scratch.below)?;
+    gate.pass(number);
+    let span = span_of(basis.inputs, &point, scratch.below.spans.as_slice(), steps);
+    Ok(Figure {
+        span,
+        close: opens(&point, span) || scratch.below.close,
+    })
 }
 
-/// Reads the figures of the sources that are linked to a number, in their order.
-fn read_linked(
-    figures: &[Figure],
-    links: &Links,
-    number: u32,
-    below: &mut Below,
-) -> Result<(), NoMemory>
-    requires { AllByRecursion (λ source. source < length figures.now) (sources_in links.now.edges number) }
-    ensures { OnOk result (AreReadAt figures.now (sources_in links.now.edges number) below.new) }
+/// The point is a choice that is open.
+pub(crate) fn opens(point: &Point, span: Span) -> bool
+    ensures { result ≡ opens_in point.now (ends span) }
 {
-    below.clear();
-    for (source, _) in links.sources(number) {
-        below.push(&figures[source as usize])?;
+    match point {
+        Point::Figure(node) => is_open_choice(node, span),
+        Point::Block(_) => false,
     }
-    Ok(())
 }

@@ -1,109 +1,182 @@
-//! The figures that a record touches, by their numbers.
-ghost use Rattle.std.specs.Prelude.{◌≡◌, true, nat_eq, IfOk, IfSome, IsNone, OnOk};
-ghost use Rattle.std.specs.List.{IsDistinct};
+//! The points that a record touches, by their numbers.
+
+ghost use Rattle.std.specs.Prelude.{◌≡◌, ◌≤◌, true, nat_eq, IfOk, IfSome, IsNone, OnOk};
+ghost use Rattle.std.specs.List.{AllByRecursion, IsDistinct};
+ghost use Rattle.scr_blocks.specs.Blocks.{HasEachOnce};
 ghost use Rattle.scr_sheet.specs.Validity.{Valid};
 ghost use Rattle.scr_nodes.specs.Live.{is_live};
-ghost use Rattle.scr_nodes.specs.LiveNodes.{HasNoRepeats};
 ghost use Rattle.scr_figures.specs.Numbers.{IsNumbered, StandsAt};
-ghost use Rattle.scr_reach.specs.Dues.{AreStarts, IsLiveAt};
+ghost use Rattle.scr_reach.specs.Dues.{AreDuesFor, AreStarts, IsDueAt, IsLiveAt};
 ghost use Rattle.scr_reach.specs.Linked.{AreNumbers};
-ghost use Rattle.scr_tree.specs.Starts.{AreAllStarts, AreFormer, IsNumberPushed, IsStart};
+ghost use Rattle.scr_sums.specs.Books.{rolled_of};
 ghost use Rattle.scr_tree.specs.Graphs.{graph_of};
+ghost use Rattle.scr_tree.specs.Points.{AreNumbersOf, StandsIn, book_graph};
+ghost use Rattle.scr_tree.specs.Starts as starting;
+ghost use Rattle.scr_tree.specs.Starts.{AreFormer, AreMarked, IsLiveOrEmpty, IsMarkedOf, IsPointPushed, IsPushedIf, relinked};
 
+use crate::graph::{Numbers, is_linked};
+use scr_book::{Edit, Table as RowTable};
 use scr_figures::{View, find, node_at, push_walked};
 use scr_links::Links;
 use scr_nodes::{Node, is_live};
 use scr_reach::linked_sources;
-use scr_rounds::Due;
+use scr_rounds::{Due, Marked};
+use scr_sums::{Point, is_live_in};
 use std::alloc::{AllocError as NoMemory, Global};
 
-/// The numbers of the touched figures; of each the numbers of the sources that it has from now on, and whether it lives.
-#[derive(Drop)]
-pub(crate) struct Starts {
-    pub(crate) numbers: Vec<u32>,
-    pub(crate) dues: Vec<Due>,
-    pub(crate) live: Vec<bool>,
-}
-
-/// The numbers of those figures that the balance sheet has rows for.
-pub(crate) fn numbers_of(
-    alloc: Global,
-    view: View<'_>,
-    nodes: &[Node],
-) -> Result<Vec<u32>, NoMemory>
-    requires valid { Valid view.sheet.now }
-    requires numbered { IsNumbered view.sheet.now view.places.now }
-    requires numbers { AreNumbers (graph_of view.sheet.now) (StandsAt view.sheet.now view.places.now) view.places.now.size }
-    requires once { HasNoRepeats nodes.now }
-    ensures starts { IfOk result (λ numbers. AreStarts (StandsAt view.entry.sheet.now view.entry.places.now) nodes.now numbers.items) }
-    ensures once { IfOk result (λ numbers. IsDistinct nat_eq numbers.items) }
+/// Marks the numbers of those points that the book has.
+pub(crate) fn mark_starts(
+    marks: &mut Marked,
+    numbers: Numbers<'_>,
+    touched: &[Point],
+) -> Result<(), NoMemory>
+    requires numbers { AreNumbersOf numbers.book.now numbers.places.now numbers.lists.now }
+    requires room { numbers.places.now.size ≤ marks.old.size }
+    ensures marked { OnOk result (AreMarked (book_graph (rolled_of numbers.entry.book.now))
+        (StandsIn numbers.entry.book.now numbers.entry.places.now numbers.entry.lists.now) touched.now marks.old.list marks.new.list) }
+    ensures size { marks.new.size ≡ marks.old.size }
 {
-    let mut numbers = Vec::with_capacity(alloc, nodes.len())?;
-    for node in nodes {
-        push_number(&mut numbers, view, node)?;
+    for point in touched {
+        mark_start(marks, numbers, point)?;
     }
-    Ok(numbers)
+    Ok(())
 }
 
-/// The number of one figure more, if it has one.
-fn push_number(numbers: &mut Vec<u32>, view: View<'_>, node: &Node) -> Result<(), NoMemory>
-    requires { IsNumbered view.sheet.now view.places.now }
-    ensures { OnOk result (IsNumberPushed (StandsAt view.entry.sheet.now view.entry.places.now) node.now numbers.old.items numbers.new.items) }
+/// Marks the number of a point, if the book has it.
+fn mark_start(marks: &mut Marked, numbers: Numbers<'_>, point: &Point) -> Result<(), NoMemory>
+    requires numbers { AreNumbersOf numbers.book.now numbers.places.now numbers.lists.now }
+    requires room { numbers.places.now.size ≤ marks.old.size }
+    ensures marked { OnOk result (IsMarkedOf (book_graph (rolled_of numbers.entry.book.now))
+        (StandsIn numbers.entry.book.now numbers.entry.places.now numbers.entry.lists.now) point.now marks.old.list marks.new.list) }
+    ensures size { marks.new.size ≡ marks.old.size }
 {
-    match find(view.places, view.sheet, node) {
+    if !is_live_in(numbers.book, point) {
+        return Ok(());
+    }
+    match numbers.number_of(point) {
         Some(number) => {
-            numbers.push(number)?;
+            marks.insert(number)?;
             Ok(())
         }
         None => Ok(()),
     }
 }
 
-/// What is due at these numbers.
-pub(crate) fn starts_of(
+/// The numbers of those touched figures whose links the record may change.
+pub(crate) fn linked_numbers(
     alloc: Global,
     view: View<'_>,
-    numbers: Vec<u32>,
-) -> Result<Starts, NoMemory>
+    edit: &Edit,
+    touched: &[Point],
+) -> Result<Vec<u32>, NoMemory>
     requires valid { Valid view.sheet.now }
     requires numbered { IsNumbered view.sheet.now view.places.now }
     requires numbers { AreNumbers (graph_of view.sheet.now) (StandsAt view.sheet.now view.places.now) view.places.now.size }
-    ensures { IfOk result (AreAllStarts (graph_of view.entry.sheet.now) (StandsAt view.entry.sheet.now view.entry.places.now) numbers.items) }
+    requires once { HasEachOnce touched.now }
+    ensures starts { IfOk result (λ numbers. AreStarts (StandsAt view.entry.sheet.now view.entry.places.now) (relinked edit.now touched.now) numbers.items) }
+    ensures once { IfOk result (λ numbers. IsDistinct nat_eq numbers.items) }
 {
-    let mut dues = Vec::with_capacity(alloc, numbers.len())?;
-    let mut live = Vec::with_capacity(alloc, numbers.len())?;
-    for number in numbers.as_slice() {
-        let (due, lives) = start_at(alloc, view, *number)?;
-        dues.push(due)?;
-        live.push(lives)?;
+    let mut numbers = Vec::new(alloc);
+    for point in touched {
+        push_of_point(&mut numbers, view, edit, point)?;
     }
-    Ok(Starts {
-        numbers,
-        dues,
-        live,
-    })
+    Ok(numbers)
 }
 
-/// What is due at a number, and whether a figure lives there.
-fn start_at(alloc: Global, view: View<'_>, number: u32) -> Result<(Due, bool), NoMemory>
+/// Pushes the number of a point whose links the record may change.
+fn push_of_point(
+    numbers: &mut Vec<u32>,
+    view: View<'_>,
+    edit: &Edit,
+    point: &Point,
+) -> Result<(), NoMemory>
+    requires { IsNumbered view.sheet.now view.places.now }
+    ensures { OnOk result (IsPointPushed (StandsAt view.entry.sheet.now view.entry.places.now) edit.now point.now numbers.old.items numbers.new.items) }
+{
+    match point {
+        Point::Figure(node) => push_number(numbers, view, edit, node),
+        Point::Block(_) => Ok(()),
+    }
+}
+
+fn push_number(
+    numbers: &mut Vec<u32>,
+    view: View<'_>,
+    edit: &Edit,
+    node: &Node,
+) -> Result<(), NoMemory>
+    requires { IsNumbered view.sheet.now view.places.now }
+    ensures { OnOk result (IsPushedIf (StandsAt view.entry.sheet.now view.entry.places.now) edit.now node.now numbers.old.items numbers.new.items) }
+{
+    if !is_linked(node) || keeps_links(edit, node) {
+        return Ok(());
+    }
+    if let Some(number) = find(view.places, view.sheet, node) {
+        numbers.push(number)?;
+    }
+    Ok(())
+}
+
+/// Who holds a fund or a security, no record changes but that of a fund. One that comes or goes nobody holds.
+fn keeps_links(edit: &Edit, node: &Node) -> bool
+    ensures { result ≡ starting.keeps_links edit.now node.now }
+{
+    match node {
+        Node::Fund(_, _) | Node::Security(_, _) => !is_of_fund(edit),
+        _ => false,
+    }
+}
+
+fn is_of_fund(edit: &Edit) -> bool
+    ensures { result ≡ starting.is_of_fund edit.now }
+{
+    matches!(
+        edit,
+        Edit::Fund { .. }
+            | Edit::Remove {
+                table: RowTable::Fund,
+                ..
+            }
+    )
+}
+
+/// What is due to be linked to these numbers.
+pub(crate) fn dues_at(alloc: Global, view: View<'_>, numbers: &[u32]) -> Result<Vec<Due>, NoMemory>
     requires valid { Valid view.sheet.now }
     requires numbered { IsNumbered view.sheet.now view.places.now }
     requires numbers { AreNumbers (graph_of view.sheet.now) (StandsAt view.sheet.now view.places.now) view.places.now.size }
-    ensures number { IfOk result (λ start. start.0.number ≡ number) }
-    ensures start { IfOk result (λ start. IsStart (graph_of view.entry.sheet.now) (StandsAt view.entry.sheet.now view.entry.places.now) start.0 start.1) }
+    ensures dues { IfOk result (λ dues. AreDuesFor (graph_of view.entry.sheet.now) (StandsAt view.entry.sheet.now view.entry.places.now) numbers.now dues.items) }
+    ensures empty { IfOk result (λ dues. AllByRecursion (IsLiveOrEmpty (graph_of view.entry.sheet.now) (StandsAt view.entry.sheet.now view.entry.places.now)) dues.items) }
+{
+    let mut dues = Vec::with_capacity(alloc, numbers.len())?;
+    for number in numbers {
+        let due = due_at(alloc, view, *number)?;
+        dues.push(due)?;
+    }
+    Ok(dues)
+}
+
+/// What is due to be linked to one number.
+fn due_at(alloc: Global, view: View<'_>, number: u32) -> Result<Due, NoMemory>
+    requires valid { Valid view.sheet.now }
+    requires numbered { IsNumbered view.sheet.now view.places.now }
+    requires numbers { AreNumbers (graph_of view.sheet.now) (StandsAt view.sheet.now view.places.now) view.places.now.size }
+    ensures number { IfOk result (λ due. due.number ≡ number) }
+    ensures due { IfOk result (IsDueAt (graph_of view.entry.sheet.now) (StandsAt view.entry.sheet.now view.entry.places.now)) }
+    ensures empty { IfOk result (IsLiveOrEmpty (graph_of view.entry.sheet.now) (StandsAt view.entry.sheet.now view.entry.places.now)) }
 {
     let mut sources = Vec::new(alloc);
     match live_at(view, number) {
         Some(node) => {
             push_walked(&mut sources, view, &node)?;
-            Ok((Due { number, sources }, true))
+            Ok(Due { number, sources })
         }
-        None => Ok((Due { number, sources }, false)),
+        None => Ok(Due { number, sources }),
     }
 }
 
 /// The live figure at a number.
-pub(crate) fn live_at(view: View<'_>, number: u32) -> Option<Node>
+fn live_at(view: View<'_>, number: u32) -> Option<Node>
     requires numbered { IsNumbered view.sheet.now view.places.now }
     requires numbers { AreNumbers (graph_of view.sheet.now) (StandsAt view.sheet.now view.places.now) view.places.now.size }
     ensures there { IfSome result (λ node. StandsAt view.entry.sheet.now view.entry.places.now node number) }

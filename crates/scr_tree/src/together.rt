@@ -1,28 +1,25 @@
-//! The figures of an order, reckoned by several workers at once.
-ghost use Rattle.std.specs.Prelude.{◌≡◌, ◌+◌, ◌<◌, ◌≤◌, true, length, map, IfOk, OnOk, OnErr};
-ghost use Rattle.std.specs.List.{AllByRecursion};
-ghost use Rattle.scr_num.specs.Rounding.{ends};
-ghost use Rattle.scr_nodes.specs.Live.{is_live};
-ghost use Rattle.scr_nodes.specs.Sources.{sources_of};
-ghost use Rattle.scr_rules.specs.Worked.{worked};
-ghost use Rattle.scr_reach.specs.Linked.{sources_in};
-ghost use Rattle.scr_tree.specs.Inputs.{AreOfBook};
-ghost use Rattle.scr_tree.specs.Ready.{AreInTurnOn, AreKnownBut, AreSettledOn, IsBasis, IsOrderOn, IsReadyOn, IsRightOn};
-ghost use Rattle.scr_tree.specs.Together.{AreSpansOn, IsSpanOn, any_close};
+//! The points of an order, reckoned by several workers at once.
+ghost use Rattle.std.specs.Prelude.{◌≡◌, ◌<◌, ◌≤◌, All, length, IfOk, OnOk, OnErr};
+ghost use Rattle.scr_reach.specs.Dues.{numbers_of};
+ghost use Rattle.scr_reach.specs.Linked.{AreAt};
+ghost use Rattle.scr_sums.specs.Books.{rolled_of};
+ghost use Rattle.scr_sums.specs.Graph.{sources_in};
+ghost use Rattle.scr_sums.specs.declared.point.Point.{Point as ThePoint};
+ghost use Rattle.scr_tree.specs.Ready.{AreInTurnOn, AreKnownBut, AreSettledOn, IsBasis, IsOrderOn, IsReadyOn, IsRightOn, StandsOn};
+ghost use Rattle.scr_tree.specs.Together.{AreDuesOn, AreSpansOn, IsDueOn, IsSpanOn, any_close};
+ghost use Rattle.scr_reach.specs.Dues.{IsLiveAt};
+ghost use Rattle.scr_tree.specs.Points.{book_graph};
 
 use crate::basis::{Basis, Crew};
-use crate::figures::{Figure, Inputs, is_open_choice};
+use crate::figures::Figure;
 use crate::order::Order;
-use crate::starts::linked_dues;
-use scr_figures::node_at;
+use crate::reckoning::opens;
+use crate::sums::span_of;
 use scr_io::{Gate, Steps};
-use scr_links::Links;
-use scr_nodes::Node;
 use scr_num::Span;
 use scr_rounds::Due;
-use scr_rules::evaluate_by;
 use scr_workers::{Plan, spans_by};
-use std::alloc::AllocError as NoMemory;
+use std::alloc::{AllocError as NoMemory, Global};
 use std::sync::ledger::Ledger;
 use std::thread::Threads;
 
@@ -43,33 +40,63 @@ pub(crate) fn reckon_together<R: Threads + Sync, G: Gate + Sync>(
     ensures err { OnErr result (figures.new.items ≡ figures.old.items) }
 {
     let numbers = order.numbers.as_slice();
-    let spans = spans_of(crew, basis, figures.as_slice(), numbers)?;
-    write_all(basis, figures.as_mut_slice(), numbers, spans.as_slice());
+    let dues = dues_on(crew.alloc, basis, numbers)?;
+    let spans = spans_of(crew, basis, figures.as_slice(), dues.as_slice())?;
+    write_all(
+        basis,
+        figures.as_mut_slice(),
+        dues.as_slice(),
+        spans.as_slice(),
+    );
     Ok(())
 }
 
-/// The spans at numbers each of which comes after those of its sources.
+/// The numbers with those of their sources.
+fn dues_on(alloc: Global, basis: Basis<'_>, numbers: &[u32]) -> Result<Vec<Due>, NoMemory>
+    requires basis { IsBasis basis }
+    requires turn { AreInTurnOn basis numbers.now }
+    ensures { IfOk result (λ dues. AreDuesOn basis.entry numbers.now dues.items) }
+{
+    let mut dues = Vec::with_capacity(alloc, numbers.len())?;
+    for number in numbers {
+        let sources = sources_at(alloc, basis, *number)?;
+        dues.push(Due {
+            number: *number,
+            sources,
+        })?;
+    }
+    Ok(dues)
+}
+
+fn sources_at(alloc: Global, basis: Basis<'_>, number: u32) -> Result<Vec<u32>, NoMemory>
+    requires basis { IsBasis basis }
+    requires live { IsLiveAt (book_graph (rolled_of basis.inputs.book.now)) (StandsOn basis) number }
+    ensures { IfOk result (λ list. (point : ThePoint) → StandsOn basis.entry point number
+        → AreAt (StandsOn basis.entry) list.items (sources_in (rolled_of basis.entry.inputs.book.now) point)) }
+{
+    let Some(point) = basis.numbers().point_at(number) else {
+        unreachable!();
+    };
+    let mut sources = Vec::new(alloc);
+    basis.graph().push_sources(&mut sources, number, &point)?;
+    Ok(sources)
+}
+
+/// The spans of what is due at numbers each of which comes after those of its sources.
 fn spans_of<R: Threads + Sync, G: Gate + Sync>(
     crew: &Crew<'_, R, G>,
     basis: Basis<'_>,
     figures: &[Figure],
-    numbers: &[u32],
+    dues: &[Due],
 ) -> Result<Vec<Span>, NoMemory>
     requires basis { IsBasis basis }
-    requires turn { AreInTurnOn basis numbers.now }
-    requires known { AreKnownBut basis figures.now numbers.now }
-    ensures { IfOk result (λ spans. AreSpansOn basis.entry numbers.now spans.items) }
+    requires turn { AreInTurnOn basis (numbers_of dues.now) }
+    requires dues { AreDuesOn basis (numbers_of dues.now) dues.now }
+    requires known { AreKnownBut basis figures.now (numbers_of dues.now) }
+    ensures { IfOk result (λ spans. AreSpansOn basis.entry (numbers_of dues.now) spans.items) }
 {
-    let dues = linked_dues(crew.alloc, basis.links, numbers)?;
     let known = Known { basis, figures };
-    spans_by(
-        crew.rt,
-        crew.alloc,
-        crew.workers,
-        &known,
-        dues.as_slice(),
-        crew.gate,
-    )
+    spans_by(crew.rt, crew.alloc, crew.workers, &known, dues, crew.gate)
 }
 
 /// What is reckoned from, with the figures that are known.
@@ -93,80 +120,55 @@ impl<'a> Plan for Known<'a> {
     }
 
     fn rule<L: Ledger>(&self, due: &Due, below: &[Span], steps: &mut Steps<L>) -> Span {
-        let Basis { inputs, places, .. } = self.basis;
-        match node_at(places, inputs.book.sheet(), due.number) {
-            Some(node) => span_from(inputs, &node, below, steps),
+        match self.basis.numbers().point_at(due.number) {
+            Some(point) => span_of(self.basis.inputs, &point, below, steps),
             None => unreachable!(),
         }
     }
 }
 
-/// The span of a figure by its rule, from those of its sources.
-pub(crate) fn span_from<L: Ledger>(
-    inputs: Inputs<'_>,
-    node: &Node,
-    below: &[Span],
-    steps: &mut Steps<L>,
-) -> Span
-    requires inputs { AreOfBook inputs }
-    requires live { is_live inputs.book.now.sheet node.now ≡ true }
-    requires below { map ends below.now
-        ≡ map (worked inputs.factors.now inputs.book.now.sheet) (sources_of inputs.book.now.sheet node.now) }
-    ensures span { ends result ≡ worked inputs.entry.factors.now inputs.entry.book.now.sheet node.now }
-    ensures step { steps.new ≡ steps.old + 1 }
-{
-    inputs.factors.known();
-    inputs.book.sheet();
-    evaluate_by(
-        inputs.factors,
-        inputs.book,
-        inputs.rates,
-        *node,
-        below,
-        steps,
-    )
-}
-
 /// Writes the figures that have these spans, each after those of its sources.
-pub(crate) fn write_all(basis: Basis<'_>, figures: &mut [Figure], numbers: &[u32], spans: &[Span])
+fn write_all(basis: Basis<'_>, figures: &mut [Figure], dues: &[Due], spans: &[Span])
     requires basis { IsBasis basis }
-    requires turn { AreInTurnOn basis numbers.now }
-    requires known { AreKnownBut basis figures.old numbers.now }
+    requires turn { AreInTurnOn basis (numbers_of dues.now) }
+    requires dues { AreDuesOn basis (numbers_of dues.now) dues.now }
+    requires known { AreKnownBut basis figures.old (numbers_of dues.now) }
     requires room { basis.places.now.size ≤ length figures.old }
-    requires spans { AreSpansOn basis numbers.now spans.now }
+    requires spans { AreSpansOn basis (numbers_of dues.now) spans.now }
     ensures settled { AreSettledOn basis.entry figures.new }
     ensures count { length figures.new ≡ length figures.old }
 {
     for k in 0..spans.len() {
-        let number = numbers[k];
-        figures[number as usize] = figure_with(basis, figures, number, spans[k]);
+        let figure = figure_with(basis, figures, &dues[k], spans[k]);
+        figures[dues[k].number as usize] = figure;
     }
 }
 
-/// The figure at a number that has this span. It rests on an open choice where it is one, or where one of its sources does.
-fn figure_with(basis: Basis<'_>, figures: &[Figure], number: u32, span: Span) -> Figure
+/// The figure that is due and has this span. It rests on an open choice where it is one, or where one of its sources does.
+fn figure_with(basis: Basis<'_>, figures: &[Figure], due: &Due, span: Span) -> Figure
     requires basis { IsBasis basis }
-    requires ready { IsReadyOn basis figures.now number }
-    requires span { IsSpanOn basis number span }
-    ensures { IsRightOn basis.entry number result }
+    requires ready { IsReadyOn basis figures.now due.now.number }
+    requires due { IsDueOn basis due.now }
+    requires span { IsSpanOn basis due.now.number span }
+    ensures { IsRightOn basis.entry due.now.number result }
 {
-    let close = rests_on_choice(figures, basis.links, number);
-    match node_at(basis.places, basis.inputs.book.sheet(), number) {
-        Some(node) => Figure {
+    let close = rests_on_choice(figures, due.sources.as_slice());
+    match basis.numbers().point_at(due.number) {
+        Some(point) => Figure {
             span,
-            close: is_open_choice(&node, span) || close,
+            close: opens(&point, span) || close,
         },
         None => unreachable!(),
     }
 }
 
-/// One of the figures that are linked to a number rests on an open choice.
-fn rests_on_choice(figures: &[Figure], links: &Links, number: u32) -> bool
-    requires { AllByRecursion (λ source. source < length figures.now) (sources_in links.now.edges number) }
-    ensures { result ≡ any_close figures.now (sources_in links.now.edges number) }
+/// One of the figures at these numbers rests on an open choice.
+fn rests_on_choice(figures: &[Figure], sources: &[u32]) -> bool
+    requires { All (λ source. source < length figures.now) sources.now }
+    ensures { result ≡ any_close figures.now sources.now }
 {
-    for (source, _) in links.sources(number) {
-        if figures[source as usize].close {
+    for source in sources {
+        if figures[*source as usize].close {
             return true;
         }
     }

@@ -1,6 +1,7 @@
-use Rattle.std.proofs.Common.{refl}
+use Rattle.std.proofs.Common.{refl, ap}
 use Rattle.scr_plans.proofs.AllPlans.{wants_memory}
 use Rattle.scr_plans.proofs.Walks.{goes_on, stops}
+use Rattle.scr_tree.specs.Standing.{Standing}
 use Rattle.scr_explain.specs.Answer.{question_plan}
 use Rattle.scr_explain.proofs.Owed.{owed_over}
 use Rattle.scr_explain.proofs.explaining.explain.Goals as goal
@@ -26,4 +27,5 @@ unfolding question_plan
 returns g c =
     goes_on _ _ _ _ _ _ _ _ _ _ c.in-Ok.ensures.passed
     (goes_on _ _ _ _ _ _ _ _ _ _ c.in-Ok-file_book.ensures.passed
-    (owed_over _ _ _ _ c.in-Ok-new.ensures _ _ _ _ _ (c.tell-status.ensures _)))
+    (owed_over _ _ _ c.in-Ok-new.engine (ap (λ (s : Standing). s.factors) c.in-Ok-new.ensures) (ap (λ (s : Standing). s.sheet) c.in-Ok-new.ensures)
+    _ _ _ _ _ (c.tell-status.ensures _)))

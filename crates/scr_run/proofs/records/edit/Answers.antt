@@ -11,4 +11,7 @@ returns-in-Ok g c =
 pub returns-in-Err-Syntax : goal.returns-in-Err-Syntax
 returns-in-Err-Syntax g c =
     let fault = c.in-Err-Syntax.field-0-is ∙ ap Syntax (sym c.in-Err-Syntax.field-is) in
-    (of_refusal _ _ _ _ c.in-Err-Syntax.ensures.answer fault, refl)
+    (of_refusal _ _ _ _ c.in-Err-Syntax.ensures.answer fault, record { factors = refl; sheet = refl; rolls = λ roll. refl })
+
+pub returns-in-Err-NoMemory : goal.returns-in-Err-NoMemory
+returns-in-Err-NoMemory g c = record { factors = refl; sheet = refl; rolls = λ roll. refl }

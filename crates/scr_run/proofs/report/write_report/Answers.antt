@@ -4,7 +4,6 @@ use Rattle.scr_csv.specs.Lines.{records}
 use Rattle.scr_csv.specs.LineOrder.{lines_left}
 use Rattle.scr_io.specs.Cause.{Rose}
 use Rattle.scr_plans.specs.Moment.{sunk}
-use Rattle.scr_tree.specs.Standing.{Standing}
 use Rattle.scr_run.specs.Report.{answers, any_refused}
 use Rattle.scr_run.proofs.Pieces.{front_left, leaves_none}
 use Rattle.scr_run.proofs.ReplySteps.{opening_begun, refusal_told, replies_due, replies_none, reply_begun, reply_written, same_block, told_at_end}
@@ -57,11 +56,11 @@ loop-line-preserved g c = record {
       (g.K.Sink.faults c.write_all-in-loop-line.new.sink)) _
       (c.as_slice-in-loop-line.ensures.value ∙ c.in-Ok-reply_to.ensures.text
       ∙ same_block c.in-Some.line.number c.in-Some.line.text.now c.loop-line.engine _ c.loop-line.invariant.factors)
-      c.reply_to.new.engine.sheet (ap (λ (s : Standing). s.sheet) c.in-Ok-reply_to.ensures.engine)
+      c.reply_to.new.engine.sheet c.in-Ok-reply_to.ensures.engine.sheet
       c.loop-line.invariant.text c.in-Ok-write_all-2.ensures.ok;
-  factors = ap (λ (s : Standing). s.factors) c.in-Ok-reply_to.ensures.engine ∙ c.loop-line.invariant.factors;
+  factors = c.in-Ok-reply_to.ensures.engine.factors ∙ c.loop-line.invariant.factors;
   told = refusal_told _ _ c.in-Some.line.number c.in-Some.line.text.now c.loop-line.engine.sheet c.in-Some.ensures.steps _ _ _ c.reply_to.new.engine.sheet
-      (ap (λ (s : Standing). s.sheet) c.in-Ok-reply_to.ensures.engine) c.in-Ok-reply_to.ensures.refused c.loop-line.invariant.told;
+      c.in-Ok-reply_to.ensures.engine.sheet c.in-Ok-reply_to.ensures.refused c.loop-line.invariant.told;
   faults = c.in-Ok-write_all-2.ensures.steady ∙ c.loop-line.invariant.faults;
 }
 

@@ -1,7 +1,8 @@
-use Rattle.std.proofs.Common.{refl}
+use Rattle.std.proofs.Common.{refl, ap}
 use Rattle.scr_plans.proofs.AllPlans.{wants_memory}
 use Rattle.scr_plans.proofs.Walks.{goes_on, silent_later, stops}
 use Rattle.scr_plans.specs.Plan.{ask}
+use Rattle.scr_tree.specs.Standing.{Standing}
 use Rattle.scr_run.specs.Plans.{plan_on, report_plan}
 use Rattle.scr_run.specs.Readings.{book_in}
 use Rattle.scr_run.proofs.Engines.{owed_over, silent_over}
@@ -28,13 +29,14 @@ unfolding report_plan
 returns-clause-owed g c =
     goes_on _ _ _ _ _ _ _ _ _ _ c.in-Ok.ensures.passed
     (goes_on _ _ _ _ _ _ _ _ _ _ c.in-Ok-file_book.ensures.passed
-    (owed_over _ _ _ c.in-Ok-new.ensures _ _ _ _ _ _ c.report_on-status.ensures.owed))
+    (owed_over c.in-Ok-new.engine _ _ (ap (λ (s : Standing). s.factors) c.in-Ok-new.ensures) (ap (λ (s : Standing). s.sheet) c.in-Ok-new.ensures)
+    _ _ _ _ _ _ c.report_on-status.ensures.owed))
 
 pub returns-clause-silent : goal.returns-clause-silent
 unfolding report_plan
 returns-clause-silent g c =
     λ silent. c.report_on-status.ensures.silent
-    (silent_over _ _ _ c.in-Ok-new.ensures _ _
+    (silent_over c.in-Ok-new.engine _ _ (ap (λ (s : Standing). s.factors) c.in-Ok-new.ensures) (ap (λ (s : Standing). s.sheet) c.in-Ok-new.ensures) _ _
     (silent_later _ _ (plan_on c.in-Ok.factors c.args.files.edits.now) _ _ _ c.in-Ok-file_book.ensures.passed
     (silent_later _ _ (λ values. ask c.args.files.book.now book_in
     (plan_on values c.args.files.edits.now)) _ _ _ c.in-Ok.ensures.passed silent)))

@@ -1,6 +1,5 @@
-use Rattle.std.proofs.Common.{◌∙◌, ap}
+use Rattle.std.proofs.Common.{◌∙◌, ap₂}
 use Rattle.scr_cells.specs.Block.{requirement_line}
-use Rattle.scr_tree.specs.Standing.{Standing}
 use Rattle.scr_run.proofs.ScriptSteps.{refusal_is, summed_up}
 use Rattle.scr_run.proofs.summary.summary_of.Goals as goal
 
@@ -12,7 +11,7 @@ returns-clause-text g c =
     c.in_ok-push_last_line.ensures
     (c.as_slice.ensures.value ∙ c.in_ok-book.ensures)
     (c.as_slice-2.ensures.value ∙ c.in_ok-last.ensures
-    ∙ ap (λ (s : Standing). requirement_line s.factors s.sheet) c.in_ok-counts.ensures.engine)
+    ∙ ap₂ requirement_line c.in_ok-counts.ensures.engine.factors c.in_ok-counts.ensures.engine.sheet)
 
 pub returns-clause-refused : goal.returns-clause-refused
 returns-clause-refused g c =

@@ -3,6 +3,7 @@ use Rattle.scr_sheet.specs.BalanceSheet.{curve_name}
 use Rattle.scr_sheet.specs.declared.sheet.BalanceSheet.{BalanceSheet}
 use Rattle.scr_nodes.specs.declared.node.Node.TheVariants as nodes
 use Rattle.scr_tree.specs.Turns.{next, turn, turn_of}
+use Rattle.scr_tree.proofs.BlockTurns.{currency-read}
 use Rattle.scr_tree.proofs.FirstRows.{got-map}
 use Rattle.scr_tree.proofs.Grounds.{currency-made, currency-turn, turned}
 use Rattle.scr_tree.proofs.first.put_currency.Goals as goal
@@ -11,6 +12,9 @@ pub put_live-requires-clause-row : goal.put_live-requires-clause-row
 put_live-requires-clause-row g c =
     got-map curve_name c.args.ground.inputs.book.now.sheet.curves c.args.k c.at.result.now
     (subst (λ (s : BalanceSheet). slice_get s.curves c.args.k ≡ Some c.at.result.now) c.sheet.ensures.sheet c.at.ensures)
+
+pub put_live-requires-clause-read : goal.put_live-requires-clause-read
+put_live-requires-clause-read g c = currency-read c.at.result.now.currency c.currency_at-what.result
 
 pub put_live-requires-clause-done : goal.put_live-requires-clause-done
 put_live-requires-clause-done g c =

@@ -2,6 +2,7 @@ use Rattle.std.proofs.Common.{◌≡◌, ◌+◌, ◌≤◌, ◌<◌, sym, ap, s
 use Rattle.scr_nodes.specs.declared.node.Node.TheVariants as nodes
 use Rattle.scr_figures.specs.Families.{whole_family}
 use Rattle.scr_tree.specs.Turns.{next, turn, turn_of}
+use Rattle.scr_tree.proofs.BlockTurns.{whole-read}
 use Rattle.scr_tree.proofs.Grounds.{turned, whole-turn}
 use Rattle.scr_tree.proofs.Turns.{stage-of-whole}
 use Rattle.scr_tree.proofs.first.put_wholes.Goals as goal
@@ -11,6 +12,9 @@ put_live-requires-clause-later g c =
     let few : whole_family c.whole_at.result < 153 =
     subst (λ n. n < 153) (sym c.whole_at.ensures) (omega (arith, c.loop-number-test.true)) in
     subst (λ s. 2 ≤ s) (sym (stage-of-whole c.whole_at.result few)) (omega arith)
+
+pub put_live-requires-clause-read : goal.put_live-requires-clause-read
+put_live-requires-clause-read g c = whole-read c.whole_at.result
 
 pub put_live-requires-clause-done : goal.put_live-requires-clause-done
 put_live-requires-clause-done g c =

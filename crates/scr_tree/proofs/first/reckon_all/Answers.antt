@@ -1,31 +1,69 @@
-use Rattle.std.proofs.Common.{subst, arith}
+use Rattle.std.proofs.Common.{subst, ◌∙◌, arith}
+use Rattle.scr_parts.specs.Parts.{AreOwn}
 use Rattle.scr_figures.specs.Numbers.{IsNumbered}
-use Rattle.scr_figures.specs.Gathered.{AreMembersOf}
+use Rattle.scr_figures.proofs.Standing.{parts-numbered}
 use Rattle.scr_tree.proofs.Numbering.{are-numbers}
+use Rattle.scr_tree.proofs.PointNumbers.{have-ranges, points-numbered}
 use Rattle.scr_tree.proofs.first.reckon_all.Goals as goal
 
-pub reckon_by-requires-clause-ground : goal.reckon_by-requires-clause-ground
-reckon_by-requires-clause-ground g c κs within =
-    let numbered = subst (λ s. IsNumbered s c.in_ok-places.places) c.sheet-2.ensures.sheet c.in_ok-places.ensures in
-    record {
-      valid = c.sheet.ensures.valid;
-      numbered = numbered;
-      numbers = are-numbers c.args.book.now.sheet c.in_ok-places.places c.sheet.ensures.valid numbered c.len.ensures.within c.len.ensures.apart;
-      members = subst (λ s. AreMembersOf s c.in_ok-members.members) c.sheet.ensures.sheet c.in_ok-members.ensures;
-    }
+pub lists_of-requires : goal.lists_of-requires
+lists_of-requires g c =
+    have-ranges c.args.book.now.sheet c.in_ok-places.places
+    (subst (λ s. IsNumbered s c.in_ok-places.places) c.sheet.ensures.sheet c.in_ok-places.ensures)
 
-pub returns : goal.returns
-returns g c =
-    let numbered = subst (λ s. IsNumbered s c.in_ok-places.places) c.sheet-2.ensures.sheet c.in_ok-places.ensures in
-    let all = c.in_ok-rates.ensures.made in
-    let count = all.count in
-    let size = all.size in
+pub make_all-requires-clause-ground : goal.make_all-requires-clause-ground
+make_all-requires-clause-ground g c κs within =
+    let book = c.args.book.now in
+    let places = c.lists_of.new.places in
+    let lists = c.in_ok-lists.lists in
+    let numbered = parts-numbered book.sheet c.in_ok-places.places places c.lists_of.ensures.more.others
+    (subst (λ s. IsNumbered s c.in_ok-places.places) c.sheet.ensures.sheet c.in_ok-places.ensures) in
+    let figures = are-numbers book.sheet places c.sheet.ensures.valid numbered c.len.ensures.within c.len.ensures.apart in
     record {
+      form = c.known.ensures;
       valid = c.sheet.ensures.valid;
       rates = c.in_ok-rates.ensures.rates;
       numbered = numbered;
+      numbers = figures;
+      points = record {
+        rolls = c.group_seats.ensures.kept;
+        numbered = numbered;
+        lists_of = c.in_ok-lists.ensures.ok;
+        numbers = points-numbered book places lists c.group_seats.ensures.kept c.len.ensures.apart c.len.ensures.within
+            (subst AreOwn c.parts.ensures c.len-2.ensures.own) c.in_ok-lists.ensures.ok figures;
+      };
+      members = c.in_ok-rates.ensures.gathered.members;
+      losses = c.in_ok-losses.ensures;
+    }
+
+pub make_all-requires-clause-totals : goal.make_all-requires-clause-totals
+make_all-requires-clause-totals g c κs within = c.as_slice.ensures.value ∙ c.in_ok-rates.ensures.gathered.totals
+
+pub returns : goal.returns
+returns g c =
+    let book = c.args.book.now in
+    let places = c.lists_of.new.places in
+    let lists = c.in_ok-lists.lists in
+    let numbered = parts-numbered book.sheet c.in_ok-places.places places c.lists_of.ensures.more.others
+    (subst (λ s. IsNumbered s c.in_ok-places.places) c.sheet.ensures.sheet c.in_ok-places.ensures) in
+    let figures = are-numbers book.sheet places c.sheet.ensures.valid numbered c.len.ensures.within c.len.ensures.apart in
+    let made = c.in_ok-made.ensures in
+    let count = made.count in
+    let size = made.size in
+    record {
+      valid = c.sheet.ensures.valid;
+      rates = c.in_ok-rates.ensures.rates;
+      graph = record {
+        numbers_of = record {
+          rolls = c.group_seats.ensures.kept;
+          numbered = numbered;
+          lists_of = c.in_ok-lists.ensures.ok;
+          numbers = points-numbered book places lists c.group_seats.ensures.kept c.len.ensures.apart c.len.ensures.within
+              (subst AreOwn c.parts.ensures c.len-2.ensures.own) c.in_ok-lists.ensures.ok figures;
+        };
+        linked = made.links;
+      };
       room = omega (arith, count);
       size = omega (arith, size);
-      figures = all.figures;
-      links = all.links;
+      figures = made.figures;
     }

@@ -41,7 +41,7 @@ returns c =
     on-ok (IsLinkedNext c.number_at-number.result c.as_slice.result.now c.args.links.now c.link_next.new.links)
     (AreLinkedTo c.args.ground c.link_next.new.links (next (turn_of c.args.node.now c.args.row))) c.link_next.result
     (λ joined. linked-gathered c.args.ground c.requires.ground c.args.links.now c.link_next.new.links c.args.node.now c.args.row
-    c.number_at-number.result c.gather_linked.new.sources.items c.requires.row c.number_at-number.ensures c.requires.live
+    c.number_at-number.result c.gather_linked.new.sources.items c.requires.row c.number_at-number.ensures c.requires.live c.requires.linked_node
     c.in_ok-gather_linked.ensures c.requires.linked
     (subst (λ ns. IsLinkedNext c.number_at-number.result ns c.args.links.now c.link_next.new.links) c.as_slice.ensures.value joined))
     c.link_next.ensures

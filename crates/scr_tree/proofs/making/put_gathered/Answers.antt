@@ -19,7 +19,7 @@ number_at-number-requires-clause-family g c =
 
 pub put-requires-clause-number : goal.put-requires-clause-number
 put-requires-clause-number g c =
-    subst (λ n. c.number_at-number.result < n) (sym c.requires.done.count)
+    subst (λ n. c.number_at-number.result < n) (sym c.requires.done.figures.count)
     (number-within (link_ground c.args.ground) (for-links c.args.ground c.requires.ground) c.args.node.now c.args.row
     c.number_at-number.result c.requires.row c.number_at-number.ensures c.requires.live)
 
@@ -37,4 +37,4 @@ returns g c =
     (IsDone c.args.ground c.put.new.making.made (next (turn_of c.args.node.now c.args.row))) c.put.result
     (λ put. gathered-made c.args.ground c.requires.ground c.args.node.now c.args.row c.number_at-number.result c.requires.row
     c.number_at-number.ensures c.requires.live c.args.making.now.made c.put.new.making.made c.gather.new.sources.items
-    c.requires.done c.in_ok-gather.ensures put) c.put.ensures
+    c.requires.linked c.requires.done c.in_ok-gather.ensures put) c.put.ensures

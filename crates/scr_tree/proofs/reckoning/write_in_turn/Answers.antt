@@ -2,12 +2,11 @@ use Rattle.std.proofs.Common.{◌≡◌, ◌+◌, ◌<◌, ℕ, All, List, Some,
 use Rattle.std.proofs.lemmas.List.{take_at}
 use Rattle.std.proofs.lemmas.Option.{slice_get-get_or}
 use Rattle.scr_tree.specs.Order.{IsJournaled, IsWritten}
-use Rattle.scr_tree.specs.Ready.{AreKnownBut, IsReadyOn, IsRightOn}
+use Rattle.scr_tree.specs.Ready.{AreKnownBut, IsReadyOn, IsRightOn, StandsOn, reckoning_on}
 use Rattle.scr_tree.proofs.Reckoned.{count-next, journaled-written, known-written}
-use Rattle.scr_tree.proofs.Turning.{ready-next, settled-all, sheet-up, turn-within}
+use Rattle.scr_tree.proofs.Upright.{book-up}
+use Rattle.scr_tree.proofs.Turning.{ready-next, settled-all, turn-within}
 use Rattle.scr_tree.proofs.reckoning.write_in_turn.Goals as goal
-use Rattle.scr_tree.specs.Figures.{reckoning_of}
-use Rattle.scr_figures.specs.Numbers.{StandsAt}
 
 -- the number at the place of this turn
 number-at : (now numbers : List ℕ) (k end number : ℕ) → now ≡ numbers → end ≡ length numbers → k < end → number ≡ get_or now k number
@@ -21,8 +20,8 @@ figure_at-requires-clause-ready g c =
     let numbers = c.args.journal.now.numbers.items in
     let number = c.index-number.result.now in
     subst (λ figures. IsReadyOn basis figures number) (sym c.as_slice.ensures.value)
-    (ready-next (reckoning_of basis.inputs.factors.now basis.inputs.book.now.sheet) (StandsAt basis.inputs.book.now.sheet basis.places.now) basis.places.now.size basis.links.now.edges
-    (sheet-up basis.inputs.book.now.sheet basis.places.now basis.links.now.edges (c.requires.basis).0)
+    (ready-next (reckoning_on basis) (StandsOn basis) basis.places.now.size
+    (book-up basis c.requires.basis)
     c.loop-k.figures.items numbers c.loop-k.k number c.requires.turn
     (number-at c.loop-k.journal.numbers.items numbers c.loop-k.k c.len-k-end.result number c.loop-k.invariant.numbers
     (c.len-k-end.ensures ∙ c.args.journal.now.numbers.ok.0) c.loop-k-test.true c.index-number.ensures)
@@ -36,18 +35,13 @@ write-requires-clause-within g c =
     let long = c.loop-k.invariant.journaled.long in
     let room = c.requires.room in
     subst (All (λ n. n < length c.as_mut_slice.result.now)) (sym c.loop-k.invariant.numbers)
-    (turn-within (reckoning_of basis.inputs.factors.now basis.inputs.book.now.sheet) (StandsAt basis.inputs.book.now.sheet basis.places.now) basis.places.now.size basis.links.now.edges
-    (sheet-up basis.inputs.book.now.sheet basis.places.now basis.links.now.edges (c.requires.basis).0) numbers
+    (turn-within (reckoning_on basis) (StandsOn basis) basis.places.now.size
+    (book-up basis c.requires.basis) numbers
     (length c.as_mut_slice.result.now) (omega (arith, lent, long, room)) c.requires.turn)
 
 pub loop-k-preserved : goal.loop-k-preserved
 loop-k-preserved g c =
     let basis = c.args.basis in
-    let factors = basis.inputs.factors.now in
-    let sheet = basis.inputs.book.now.sheet in
-    let places = basis.places.now in
-    let edges = basis.links.now.edges in
-    let up = (c.requires.basis).0 in
     let numbers = c.args.journal.now.numbers.items in
     let turn = c.requires.turn in
     let k = c.loop-k.k in
@@ -69,12 +63,12 @@ loop-k-preserved g c =
     c.in_ok-write.ensures.ok) in
     let lent = ap length c.as_mut_slice.ensures.value in
     let all = take_at now (drop (length now) old) c.loop-k.figures.len (written.long ∙ sym lent ∙ c.as_mut_slice.ensures.len) in
-    let known = known-written factors sheet places edges up numbers turn k figure former old next now c.loop-k.invariant.count right
+    let known = known-written (reckoning_on basis) (StandsOn basis) basis.places.now.size (book-up basis c.requires.basis) numbers turn k figure former old next now c.loop-k.invariant.count right
     written c.loop-k.invariant.known in
-    let journaled = journaled-written factors sheet places edges up numbers turn k figure former old next now
+    let journaled = journaled-written (reckoning_on basis) (StandsOn basis) basis.places.now.size (book-up basis c.requires.basis) numbers turn k figure former old next now
     c.loop-k.invariant.count right written c.args.figures.now.items c.loop-k.invariant.journaled in
     record {
-      count = count-next factors sheet places edges up numbers turn k figure former old next now c.loop-k.invariant.count right
+      count = count-next (reckoning_on basis) (StandsOn basis) basis.places.now.size (book-up basis c.requires.basis) numbers turn k figure former old next now c.loop-k.invariant.count right
           written;
       numbers = c.write.ensures.numbers ∙ c.loop-k.invariant.numbers;
       known = subst (λ figures. AreKnownBut basis figures (drop (k + 1) numbers)) (sym all) known;
@@ -86,7 +80,7 @@ pub returns-clause-settled : goal.returns-clause-settled
 returns-clause-settled g c =
     let basis = c.args.basis in
     let end = c.len-k-end.ensures ∙ c.args.journal.now.numbers.ok.0 in
-    settled-all (reckoning_of basis.inputs.factors.now basis.inputs.book.now.sheet) (StandsAt basis.inputs.book.now.sheet basis.places.now) basis.places.now.size basis.links.now.edges
-    (sheet-up basis.inputs.book.now.sheet basis.places.now basis.links.now.edges (c.requires.basis).0)
+    settled-all (reckoning_on basis) (StandsOn basis) basis.places.now.size
+    (book-up basis c.requires.basis)
     c.loop-k.figures.items c.args.journal.now.numbers.items c.loop-k.k (omega (arith, end, c.loop-k-test.false))
     c.loop-k.invariant.known

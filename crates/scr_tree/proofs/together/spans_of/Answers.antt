@@ -1,23 +1,18 @@
-use Rattle.std.proofs.Common.{◌≡◌, map, sym, ap, subst, ◌∙◌}
+use Rattle.std.proofs.Common.{◌≡◌, map, ◌∙◌}
 use Rattle.scr_num.specs.Rounding.{ends}
+use Rattle.scr_reach.specs.Dues.{numbers_of}
 use Rattle.scr_rounds.specs.declared.ranks.Due.{Due}
-use Rattle.scr_workers.specs.Workable.{AreWorkable}
-use Rattle.scr_tree.specs.Together.{IsDueOn, IsKnownOn, ends_on}
-use Rattle.scr_tree.proofs.Spanned.{ends-found, ok-weaker, workable}
+use Rattle.scr_tree.specs.Together.{ends_on}
+use Rattle.scr_tree.proofs.Spanned.{ends-due, ok-weaker, workable}
 use Rattle.scr_tree.proofs.together.spans_of.Goals as goal
 
 pub spans_by-requires-clause-due : goal.spans_by-requires-clause-due
 spans_by-requires-clause-due g c κs within =
-    let b = c.args.basis in
-    let figures = c.args.figures.now in
-    subst (AreWorkable (IsKnownOn b figures) (IsDueOn b)) (sym c.as_slice.ensures.value)
-    (workable b c.requires.basis figures c.args.numbers.now c.in_ok-dues.dues.items c.requires.turn c.requires.known c.in_ok-dues.ensures)
+    workable c.args.basis c.requires.basis c.args.figures.now c.args.dues.now c.requires.turn c.requires.known c.requires.dues
 
 pub returns : goal.returns
 returns g c =
     let b = c.args.basis in
-    let found = ends-found b c.requires.basis c.args.figures.now c.args.numbers.now c.in_ok-dues.dues.items c.requires.turn
-    c.requires.known c.in_ok-dues.ensures in
-    ok-weaker (λ spans. map ends spans.items ≡ map (λ (due : Due). ends_on b due.number) c.as_slice.result.now)
-    (λ spans. map ends spans.items ≡ map (ends_on b) c.args.numbers.now)
-    (λ spans is. is ∙ (ap (map (λ (due : Due). ends_on b due.number)) c.as_slice.ensures.value ∙ found)) c.spans_by.result c.spans_by.ensures
+    ok-weaker (λ spans. map ends spans.items ≡ map (λ (due : Due). ends_on b due.number) c.args.dues.now)
+    (λ spans. map ends spans.items ≡ map (ends_on b) (numbers_of c.args.dues.now))
+    (λ spans is. is ∙ ends-due b c.args.dues.now) c.spans_by.result c.spans_by.ensures

@@ -2,10 +2,10 @@ use Rattle.std.proofs.Common.{sym, ap, subst, ◌∙◌}
 use Rattle.scr_sheet.specs.Records.{applied}
 use Rattle.scr_sheet.specs.declared.sheet.BalanceSheet.{BalanceSheet}
 use Rattle.scr_book.specs.RolledSheets.{RolledSheet}
-use Rattle.scr_book.specs.Rolls.{AreRollsOf, AreSame}
+use Rattle.scr_book.specs.Rolls.{AreRollsOf, AreSame, KeepsNumbers}
 use Rattle.scr_book.specs.Users.{AreUsersOf}
 use Rattle.scr_book.specs.Verbs.{takes_no_memory}
-use Rattle.scr_book.proofs.BookMoves.{awaited, goes-here, moved-here, returns-here, rolls-here, takes-memory}
+use Rattle.scr_book.proofs.BookMoves.{awaited, goes-here, moved-here, numbers-here, returns-here, rolls-here, takes-memory}
 use Rattle.scr_book.proofs.book.Book.put.Goals as goal
 
 pub prepare-requires-clause-rolls : goal.prepare-requires-clause-rolls
@@ -35,6 +35,16 @@ pub returns-in-Err-clause-still : goal.returns-in-Err-clause-still
 returns-in-Err-clause-still c =
     subst (λ (b : RolledSheet). AreSame b.rolls c.prepare.new.self) c.self.view_is
     (c.in_ok-aim.ensures.kept (takes-memory (takes_no_memory c.args.edit.now) c.in-Err.ensures.in_place)).ready.rolls
+
+pub returns-in-Err-clause-numbers : goal.returns-in-Err-clause-numbers
+returns-in-Err-clause-numbers c =
+    subst (λ (b : RolledSheet). KeepsNumbers b.rolls c.prepare.new.self) c.self.view_is
+    (c.in_ok-aim.ensures.kept (takes-memory (takes_no_memory c.args.edit.now) c.in-Err.ensures.in_place)).ready.numbers
+
+pub returns-in-Ok-clause-numbers : goal.returns-in-Ok-clause-numbers
+returns-in-Ok-clause-numbers c =
+    numbers-here c.args.edit.now c.in_ok-aim.aim c.self.inside.ledger c.put.new.self c.sheet.result.now c.sheet-in-Ok.result.now c.sheet.ensures.sheet c.sheet-in-Ok.ensures.sheet c.in-Ok.ensures.ok
+    c.self.inside.rolls c.prepare.new.self c.settle.new.self c.in_ok-aim.ensures.prepared c.settle.ensures c.args.self.now c.self.view_is
 
 pub returns-in-Ok-clause-rolls : goal.returns-in-Ok-clause-rolls
 returns-in-Ok-clause-rolls c =

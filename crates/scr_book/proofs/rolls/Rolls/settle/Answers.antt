@@ -129,7 +129,7 @@ returns-in-Fund c =
     (taken tables.Fund refl c.in-Fund.name (λ s. target s (c.in-Fund.number ∷ [])) c.args.sheet.now c.args.self.now (record c.args.self.now { funds = c.stand.new.seating })
     (subst (λ (a : Aim). Await a c.args.sheet.now c.args.self.now) c.in-Fund.is c.requires)
     (settles-first tables.Fund c.in-Fund.name c.args.sheet.now c.args.self.now (record c.args.self.now { funds = c.stand.new.seating }) c.in-Fund.number elsewhere refl refl refl fund-seat
-    c.stand.ensures.seated c.stand.ensures.keeps c.stand.ensures.room c.stand.ensures.own c.stand.ensures.names)
+    c.stand.ensures.seated c.stand.ensures.keeps c.stand.ensures.room c.stand.ensures.own c.stand.ensures.stood c.stand.ensures.names)
     (aims.Fund c.in-Fund.name c.in-Fund.number) (λ edit before first ready. ready) refl refl)
   where
     elsewhere : (other : Table) → same_table other tables.Fund ≡ false → seated_in other (record c.args.self.now { funds = c.stand.new.seating }) ≡ seated_in other c.args.self.now
@@ -147,7 +147,7 @@ returns-in-Group c =
     (taken tables.Group refl c.in-Group.name (λ s. target s (0 ∷ [])) c.args.sheet.now c.args.self.now (record c.args.self.now { groups = c.stand-in-Group.new.seating })
     (subst (λ (a : Aim). Await a c.args.sheet.now c.args.self.now) c.in-Group.is c.requires)
     (settles-first tables.Group c.in-Group.name c.args.sheet.now c.args.self.now (record c.args.self.now { groups = c.stand-in-Group.new.seating }) 0 elsewhere refl refl refl group-seat
-    c.stand-in-Group.ensures.seated c.stand-in-Group.ensures.keeps c.stand-in-Group.ensures.room c.stand-in-Group.ensures.own c.stand-in-Group.ensures.names)
+    c.stand-in-Group.ensures.seated c.stand-in-Group.ensures.keeps c.stand-in-Group.ensures.room c.stand-in-Group.ensures.own c.stand-in-Group.ensures.stood c.stand-in-Group.ensures.names)
     (aims.Group c.in-Group.name) (λ edit before first ready. ready) refl refl)
   where
     elsewhere : (other : Table) → same_table other tables.Group ≡ false → seated_in other (record c.args.self.now { groups = c.stand-in-Group.new.seating }) ≡ seated_in other c.args.self.now

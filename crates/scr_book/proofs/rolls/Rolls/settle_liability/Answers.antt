@@ -6,7 +6,7 @@ use Rattle.scr_sheet.specs.BalanceSheet.{liability_name}
 use Rattle.scr_sheet.specs.declared.keys.Table.{Table}
 use Rattle.scr_sheet.specs.declared.keys.Table.TheVariants as tables
 use Rattle.scr_book.specs.Rolls.{liability_rolls, same_table, seated_in}
-use Rattle.scr_book.proofs.RollLaws.{own-before}
+use Rattle.scr_book.proofs.RollLaws.{own-before, row-listed}
 use Rattle.scr_book.proofs.RollSteps.{for-seats, liability-seat, room-for, row-at, settles}
 use Rattle.scr_book.proofs.rolls.Rolls.settle_liability.Goals as goal
 
@@ -49,6 +49,7 @@ returns c =
     (λ seat. ap (target seat) (sym told)) elsewhere refl refl refl (λ roll e. let few = liability-seat roll e in omega (arith, few, long))
     c.arrange.ensures.seated c.arrange.ensures.seats c.arrange.ensures.room c.placed-place.ensures.name
     (own-before (map liability_name c.args.sheet.now.liabilities) c.arrange.new.self c.arrange.ensures.seated c.len-count.ensures.apart c.placed-place.result (omega (arith, place, rows)) c.args.name.now c.placed-place.ensures.name)
+    (row-listed (map liability_name c.args.sheet.now.liabilities) c.placed-place.new.self c.placed-place.ensures.seated c.len-count.ensures.apart c.placed-place.result (omega (arith, place, rows)) c.args.name.now c.placed-place.ensures.name)
     c.arrange.ensures.own c.arrange.ensures.names
   where
     elsewhere : (other : Table) → same_table other tables.Liability ≡ false → seated_in other (record c.args.self.now { liabilities = c.arrange.new.self }) ≡ seated_in other c.args.self.now

@@ -8,7 +8,7 @@ use Rattle.scr_sheet.specs.Members.{is_paying}
 use Rattle.scr_sheet.specs.declared.keys.Table.{Table}
 use Rattle.scr_sheet.specs.declared.keys.Table.TheVariants as tables
 use Rattle.scr_book.specs.Rolls.{same_table, seated_in, security_rolls}
-use Rattle.scr_book.proofs.RollLaws.{own-before}
+use Rattle.scr_book.proofs.RollLaws.{own-before, row-listed}
 use Rattle.scr_book.proofs.RollSteps.{five, for-seats, room-for, row-at, security-seat, settles}
 use Rattle.scr_book.proofs.rolls.Rolls.settle_security.Goals.{else-not-is_paying, then-not-is_paying}
 use Rattle.scr_book.proofs.rolls.Rolls.settle_security.Goals as goal
@@ -62,6 +62,7 @@ returns c =
     (λ seat. ap (target seat) (sym told)) elsewhere refl refl refl (λ roll e. let few = security-seat roll e in omega (arith, few, long))
     c.arrange.ensures.seated c.arrange.ensures.seats c.arrange.ensures.room c.placed-place.ensures.name
     (own-before (map position_name c.args.sheet.now.securities) c.arrange.new.self c.arrange.ensures.seated c.len-count.ensures.apart c.placed-place.result (omega (arith, place, rows)) c.args.name.now c.placed-place.ensures.name)
+    (row-listed (map position_name c.args.sheet.now.securities) c.placed-place.new.self c.placed-place.ensures.seated c.len-count.ensures.apart c.placed-place.result (omega (arith, place, rows)) c.args.name.now c.placed-place.ensures.name)
     c.arrange.ensures.own c.arrange.ensures.names
   where
     elsewhere : (other : Table) → same_table other tables.Security ≡ false → seated_in other (record c.args.self.now { securities = c.arrange.new.self }) ≡ seated_in other c.args.self.now

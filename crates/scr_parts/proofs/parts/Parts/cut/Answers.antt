@@ -1,4 +1,4 @@
-use Rattle.std.proofs.Common.{◌≡◌, ℕ, ◌-◌, subst, arith, rules}
+use Rattle.std.proofs.Common.{◌≡◌, ℕ, ◌-◌, refl, ◌∙◌, subst, arith, rules}
 use Rattle.scr_parts.specs.Parts.{count_of, key_of}
 use Rattle.scr_parts.specs.Moves.{Freed}
 use Rattle.scr_parts.proofs.Freed.{freed-more, freed-none, room-trans}
@@ -13,6 +13,7 @@ loop-init c =
       count = omega arith;
       gone = freed-none key c.args.self.now;
       room = λ other. omega arith;
+      size = refl;
     }
 
 pub loop-preserved : goal.loop-preserved
@@ -23,6 +24,7 @@ loop-preserved c =
       count = (let left = count-left key c.loop.self c.go.new.self c.go.ensures in let was = c.loop.invariant.count in omega (arith, left, was));
       gone = freed-more key c.loop.counter c.args.self.now c.loop.self c.go.new.self c.loop.invariant.gone c.go.ensures;
       room = room-trans c.args.self.now c.loop.self c.go.new.self c.loop.invariant.room c.go.ensures.room;
+      size = c.go.ensures.size ∙ c.loop.invariant.size;
     }
 
 pub returns-clause-gone : goal.returns-clause-gone

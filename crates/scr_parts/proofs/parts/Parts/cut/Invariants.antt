@@ -1,6 +1,6 @@
 -- So many parts went.
 use Rattle.std.proofs.Common.{◌≡◌, ◌+◌}
-use Rattle.scr_parts.specs.Parts.{count_of, key_of}
+use Rattle.scr_parts.specs.Parts.{count_of, key_of, size_of}
 use Rattle.scr_parts.specs.Moves.{Freed, IsFront, KeepsRoom}
 use Rattle.scr_parts.proofs.parts.Parts.cut.Given as goal
 
@@ -10,4 +10,5 @@ invariant-loop l = record {
   count : count_of l.list l.level l.self + l.counter ≡ count_of l.list l.level l.fn.self;
   gone : Freed (key_of l.list l.level) l.counter l.fn.self l.self;
   room : KeepsRoom l.fn.self l.self;
+  size : size_of l.self ≡ size_of l.fn.self;
 }

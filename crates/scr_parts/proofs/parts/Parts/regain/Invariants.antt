@@ -1,6 +1,6 @@
 -- So many parts came back.
 use Rattle.std.proofs.Common.{◌≡◌, ◌+◌}
-use Rattle.scr_parts.specs.Parts.{count_of, key_of}
+use Rattle.scr_parts.specs.Parts.{count_of, key_of, size_of}
 use Rattle.scr_parts.specs.Moves.{Freed, IsFront, KeepsRoom}
 use Rattle.scr_parts.proofs.parts.Parts.regain.Given as goal
 
@@ -10,4 +10,5 @@ invariant-loop l = record {
   count : count_of l.list l.level l.self ≡ count_of l.list l.level l.fn.self + l.counter;
   gone : Freed (key_of l.list l.level) l.counter l.self l.fn.self;
   room : KeepsRoom l.fn.self l.self;
+  size : size_of l.self ≡ size_of l.fn.self;
 }

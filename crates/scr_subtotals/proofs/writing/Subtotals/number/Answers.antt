@@ -8,9 +8,8 @@ use Rattle.scr_subtotals.proofs.writing.Subtotals.number.Goals as goal
 pub first-requires : goal.first-requires
 first-requires c =
     let s = c.args.self.now in
-    let slot = c.requires.numbered.slots.within (part_in s c.args.level c.args.index) c.in-Some.slot (sym c.slot.ensures ∙ c.in-Some.is) in
-    let rows = c.requires.numbered.rows in
-    omega (arith, slot, rows)
+    let low = c.requires.numbered.rows (part_in s c.args.level c.args.index) c.in-Some.slot (sym c.slot.ensures ∙ c.in-Some.is) in
+    omega (arith, low)
 
 pub unreachable-requires : goal.unreachable-requires
 unreachable-requires c =

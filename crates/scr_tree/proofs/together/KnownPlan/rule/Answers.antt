@@ -1,57 +1,52 @@
-use Rattle.std.proofs.Common.{◌≡◌, true, map, refl, sym, ap, subst, ◌∙◌}
-use Rattle.scr_nodes.specs.Live.{is_live}
-use Rattle.scr_nodes.specs.Sources.{sources_of}
-use Rattle.scr_nodes.proofs.LiveSources.{sources-live}
-use Rattle.scr_figures.specs.Numbers.{IsNumbered, StandsAt}
-use Rattle.scr_rules.specs.Worked.{worked}
+use Rattle.std.proofs.Common.{map, refl, sym, ap, ◌∙◌}
+use Rattle.scr_sums.specs.Books.{rolled_of}
+use Rattle.scr_sums.specs.Graph.{sources_in}
+use Rattle.scr_tree.specs.Ready.{reckoning_on}
+use Rattle.scr_tree.proofs.Here.{found-here, lives-here, numbers-here, stands-here}
 use Rattle.scr_tree.proofs.Spanned.{due-basis, due-is, ends-each, ends-here}
+use Rattle.scr_tree.proofs.Upright.{book-up}
 use Rattle.scr_tree.proofs.together.KnownPlan.rule.Goals as goal
 
-pub node_at-requires : goal.node_at-requires
-node_at-requires g c =
+pub point_at-requires : goal.point_at-requires
+point_at-requires g c =
     let b = c.args.self.now.basis in
-    subst (λ sheet. IsNumbered sheet b.places.now) (sym c.sheet.ensures.sheet) (due-basis b c.args.due.now c.requires.due).0.numbered
+    numbers-here b (due-basis b c.args.due.now c.requires.due) c.numbers.result c.numbers.ensures
 
-pub span_from-requires-clause-inputs : goal.span_from-requires-clause-inputs
-span_from-requires-clause-inputs g c = (due-basis c.args.self.now.basis c.args.due.now c.requires.due).1
+pub span_of-requires-clause-inputs : goal.span_of-requires-clause-inputs
+span_of-requires-clause-inputs g c = (due-basis c.args.self.now.basis c.args.due.now c.requires.due).rates
 
-pub span_from-requires-clause-live : goal.span_from-requires-clause-live
-span_from-requires-clause-live g c =
+pub span_of-requires-clause-live : goal.span_of-requires-clause-live
+span_of-requires-clause-live g c =
     let b = c.args.self.now.basis in
-    let up = (due-basis b c.args.due.now c.requires.due).0 in
-    let is = due-is b c.args.due.now c.requires.due in
-    let there = subst (λ s. StandsAt s b.places.now c.in-Some.node c.args.due.now.number) c.sheet.ensures.sheet c.in-Some.ensures.there in
-    let one = up.numbers.exact c.args.due.now.number c.in-Some.node is.node there is.at in
-    subst (λ n. is_live b.inputs.book.now.sheet n ≡ true) (sym one) is.live
+    let of = due-is b c.args.due.now c.requires.due in
+    lives-here b (due-basis b c.args.due.now c.requires.due) c.numbers.result c.numbers.ensures c.args.due.now.number (of.node, of.at, of.live)
+    c.in-Some.point c.in-Some.ensures.there
 
-pub span_from-requires-clause-below : goal.span_from-requires-clause-below
-span_from-requires-clause-below g c =
+pub span_of-requires-clause-below : goal.span_of-requires-clause-below
+span_of-requires-clause-below g c =
     let b = c.args.self.now.basis in
-    let up = (due-basis b c.args.due.now c.requires.due).0 in
-    let is = due-is b c.args.due.now c.requires.due in
-    let factors = b.inputs.factors.now in
-    let sheet = b.inputs.book.now.sheet in
-    let there = subst (λ s. StandsAt s b.places.now c.in-Some.node c.args.due.now.number) c.sheet.ensures.sheet c.in-Some.ensures.there in
-    let one = up.numbers.exact c.args.due.now.number c.in-Some.node is.node there is.at in
+    let is = due-basis b c.args.due.now c.requires.due in
+    let of = due-is b c.args.due.now c.requires.due in
+    let there = stands-here b is c.numbers.result c.numbers.ensures c.in-Some.point c.args.due.now.number c.in-Some.ensures.there in
+    let one = is.graph.numbers_of.numbers.exact c.args.due.now.number c.in-Some.point of.node there of.at in
     c.requires.below
-    ∙ ends-each factors sheet b.places.now b.links.now.edges up c.args.due.now.sources.items (sources_of sheet is.node) is.sources
-    (sources-live sheet up.valid is.node is.live)
-    ∙ ap (λ n. map (worked factors sheet) (sources_of sheet n)) (sym one)
+    ∙ ends-each b is c.args.due.now.sources.items (sources_in (rolled_of b.inputs.book.now) of.node) of.sources
+    ((book-up b is).closed of.node of.live)
+    ∙ ap (λ p. map (λ q. ((reckoning_on b).worth q).worked) (sources_in (rolled_of b.inputs.book.now) p)) (sym one)
 
 pub unreachable-requires : goal.unreachable-requires
 unreachable-requires g c =
     let b = c.args.self.now.basis in
-    let is = due-is b c.args.due.now c.requires.due in
-    c.in-None.ensures.absent refl is.node
-    (subst (λ sheet. StandsAt sheet b.places.now is.node c.args.due.now.number) (sym c.sheet.ensures.sheet) is.at)
+    let of = due-is b c.args.due.now c.requires.due in
+    found-here b (due-basis b c.args.due.now c.requires.due) c.numbers.result c.numbers.ensures c.args.due.now.number (of.node, of.at, of.live)
+    (c.in-None.ensures.absent refl)
 
 pub returns-clause-worked : goal.returns-clause-worked
 returns-clause-worked g c =
     let b = c.args.self.now.basis in
-    let up = (due-basis b c.args.due.now c.requires.due).0 in
-    let is = due-is b c.args.due.now c.requires.due in
-    let there = subst (λ s. StandsAt s b.places.now c.in-Some.node c.args.due.now.number) c.sheet.ensures.sheet c.in-Some.ensures.there in
-    let one = up.numbers.exact c.args.due.now.number c.in-Some.node is.node there is.at in
-    c.span_from.ensures.span
-    ∙ sym (ends-here b.inputs.factors.now b.inputs.book.now.sheet b.places.now b.links.now.edges up c.in-Some.node c.args.due.now.number there
-    (subst (λ n. is_live b.inputs.book.now.sheet n ≡ true) (sym one) is.live))
+    let is = due-basis b c.args.due.now c.requires.due in
+    let of = due-is b c.args.due.now c.requires.due in
+    let there = stands-here b is c.numbers.result c.numbers.ensures c.in-Some.point c.args.due.now.number c.in-Some.ensures.there in
+    c.span_of.ensures.span
+    ∙ sym (ends-here b is c.in-Some.point c.args.due.now.number there
+    (lives-here b is c.numbers.result c.numbers.ensures c.args.due.now.number (of.node, of.at, of.live) c.in-Some.point c.in-Some.ensures.there))

@@ -1,0 +1,76 @@
+-- The member lists of a book by number (this project's own): beside each list stand the first numbers of its members' rows, and each of its
+-- Blocks has a part with a slot.
+use Rattle.std.specs.Prelude.{◌≡◌, ℕ, ◌+◌, ◌*◌, ◌<◌, true, List, [], Some, length}
+use Rattle.std.specs.List.{position_or_len}
+use Rattle.std.specs.Option.{option_map_or}
+use Rattle.scr_names.specs.Names.{same_name}
+use Rattle.scr_blocks.specs.Blocks.{blocks_at}
+use Rattle.scr_blocks.specs.declared.blocks.Level.{Level}
+use Rattle.scr_numbers.specs.Ranges.{Numbered as Ranges, count, first}
+use Rattle.scr_numbers.specs.declared.table.Table.{Table as Ranged}
+use Rattle.scr_numbers.specs.declared.table.Table.TheVariants as ranged
+use Rattle.scr_rolls.specs.Seatings.{names_of}
+use Rattle.scr_rolls.specs.declared.seating.Numbered.{Numbered}
+use Rattle.scr_parts.specs.Filling.{AreFirsts}
+use Rattle.scr_parts.specs.Firsts.{FirstLists, firsts_in}
+use Rattle.scr_parts.specs.Parts.{count_of, slot_of}
+use Rattle.scr_parts.specs.declared.parts.Part.{Part}
+use Rattle.scr_sheet.specs.Members.{table_of}
+use Rattle.scr_sheet.specs.declared.{sheet.BalanceSheet.BalanceSheet, keys.Table.Table, roll.Roll.Roll}
+use Rattle.scr_sheet.specs.declared.keys.Table.TheVariants as tables
+use Rattle.scr_book.specs.Places.{names_in}
+use Rattle.scr_book.specs.RolledSheets.{RolledSheet}
+use Rattle.scr_book.specs.Rolls.{KeptRolls, number_of_roll, same_table, seated_in}
+use Rattle.scr_lists.specs.declared.lists.Lists.{Lists}
+
+-- rows of the table are members of lists
+abbrev pub HasLists : Table → Type 0
+HasLists table = same_table table table ≡ true
+
+-- the ranges of numbers of the rows of such a table
+abbrev pub ranges_of : Table → Ranged
+ranges_of tables.Security = ranged.Security
+ranges_of tables.Liability = ranged.Liability
+ranges_of tables.Fund = ranged.Fund
+ranges_of table = ranged.Group
+
+-- the number of a list among those of all tables, from its number among those of its own
+abbrev pub table_place : Table → ℕ
+table_place tables.Security = 0
+table_place tables.Liability = 1
+table_place tables.Fund = 2
+table_place table = 3
+
+abbrev pub list_in : Table → ℕ → ℕ
+list_in table number = 4 * number + table_place table
+
+-- the lists of a table
+abbrev pub lists_in : Table → KeptRolls → List Numbered
+lists_in table kept = (seated_in table kept).rolls
+
+-- the first numbers beside them
+abbrev pub firsts_at : Table → Lists → FirstLists
+firsts_at tables.Security lists = lists.securities
+firsts_at tables.Liability lists = lists.liabilities
+firsts_at tables.Fund lists = lists.funds
+firsts_at table lists = lists.groups
+
+-- those beside the list of a roll, none where it has no number
+abbrev pub members_of : Roll → KeptRolls → Lists → List ℕ
+members_of roll kept lists = option_map_or (λ number. firsts_in number (firsts_at (table_of roll) lists)) (number_of_roll roll kept) []
+
+-- the first number of the row of a name
+abbrev pub first_of : BalanceSheet → Ranges → Table → List ℕ → ℕ
+first_of sheet places table name = first places (ranges_of table) (position_or_len (same_name name) (names_in table sheet))
+
+-- each row that may be a member has a range
+abbrev pub HaveRanges : BalanceSheet → Ranges → Type 0
+HaveRanges sheet places = (table : Table) → HasLists table → count places (ranges_of table) ≡ length (names_in table sheet)
+
+-- Beside each list stand, place by place, the first numbers of its members' rows; each list has just the parts that its Blocks are; and the
+-- slot of each part has a row of numbers. A slot that is free may have none, where memory for one was refused.
+pub record AreListsOf (book : RolledSheet) (places : Ranges) (lists : Lists) : Type 0 where
+  pub firsts : (table : Table) → HasLists table → AreFirsts (first_of book.sheet places table) (lists_in table book.rolls) (firsts_at table lists)
+  pub parts : (table : Table) → HasLists table → (number : ℕ) (level : Level)
+      → count_of (list_in table number) level lists.parts ≡ blocks_at (length (names_of number (lists_in table book.rolls))) level
+  pub rows : (part : Part) (slot : ℕ) → slot_of part lists.parts ≡ Some slot → slot < count places ranged.Part

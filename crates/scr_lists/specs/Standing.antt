@@ -1,0 +1,45 @@
+-- Where the row of a record stands in the lists of its table, before the record and after it (this project's own).
+use Rattle.std.specs.Prelude.{ℕ, List, Option, Some, None, if◌then◌else◌}
+use Rattle.std.specs.Option.{option_and_then, option_map}
+use Rattle.scr_numbers.specs.Ranges.{Numbered as Ranges}
+use Rattle.scr_rolls.specs.Seatings.{free, seats_of}
+use Rattle.scr_rolls.specs.declared.seats.Seats.{Seats}
+use Rattle.scr_sheet.specs.BalanceSheet.{is_in}
+use Rattle.scr_sheet.specs.Members.{edit_name}
+use Rattle.scr_sheet.specs.declared.{edit.Edit.Edit, keys.Table.Table}
+use Rattle.scr_book.specs.Places.{names_in}
+use Rattle.scr_book.specs.RolledSheets.{RolledSheet}
+use Rattle.scr_book.specs.Rolls.{moves_in, seated_in}
+use Rattle.scr_lists.specs.Lists.{first_of}
+use Rattle.scr_lists.specs.declared.standing.Move.{Move}
+use Rattle.scr_lists.specs.declared.standing.Stood.{Stood}
+
+-- the seats of the row of a name, nowhere where there is none
+abbrev pub seats_in : Table → List ℕ → RolledSheet → Seats
+seats_in table name book =
+    if is_in table name book.sheet then seats_of (names_in table book.sheet) (seated_in table book.rolls).seats name else free
+
+-- its first number, if it is there
+abbrev pub first_in : Table → List ℕ → RolledSheet → Ranges → Option ℕ
+first_in table name book places = if is_in table name book.sheet then Some (first_of book.sheet places table name) else None
+
+-- where the row of a record stands; of a record that moves no row in a list none
+abbrev pub stood_of : Edit → RolledSheet → Ranges → Option Stood
+stood_of edit book places = option_map (λ (table : Table). record {
+  table = table;
+  name = edit_name edit;
+  seats = seats_in table (edit_name edit) book;
+  first = first_in table (edit_name edit) book places;
+}) (moves_in edit)
+
+-- from where to where it moves. Its first number is that of the row that is there, or of the one that was; none where there is neither.
+abbrev pub moved_from : RolledSheet → Ranges → Stood → Option Move
+moved_from book places stood = option_map (λ (first : ℕ). record {
+  table = stood.table;
+  before = stood.seats;
+  after = seats_in stood.table stood.name book;
+  first = first;
+}) (if is_in stood.table stood.name book.sheet then first_in stood.table stood.name book places else stood.first)
+
+abbrev pub move_of : Option Stood → RolledSheet → Ranges → Option Move
+move_of stood book places = option_and_then (moved_from book places) stood

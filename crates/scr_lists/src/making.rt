@@ -1,0 +1,75 @@
+//! What stands beside the lists of a book is made from nothing.
+ghost use Rattle.std.specs.Prelude.{◌≡◌, ℕ, IfOk, List, length};
+ghost use Rattle.std.specs.List.{IsDistinct, position_or_len};
+ghost use Rattle.scr_names.specs.Names.{same_name};
+ghost use Rattle.scr_numbers.specs.Ranges.{count, first};
+ghost use Rattle.scr_rolls.specs.Seatings.{AreSeated};
+ghost use Rattle.scr_parts.specs.Filling.{AreFirsts};
+ghost use Rattle.scr_lists.specs.Lists as spec;
+ghost use Rattle.scr_lists.specs.Lists.{AreListsOf, HaveRanges};
+ghost use Rattle.scr_lists.specs.Parting.{AreGrown, HasMoreParts};
+
+use crate::Lists;
+use crate::naming::ranges_of;
+use crate::parting::{grow_all, number_parts};
+use scr_book::{Book, Table};
+use scr_numbers::Places;
+use scr_parts::{Firsts, Parts};
+use scr_rolls::Seating;
+use std::alloc::{AllocError as NoMemory, Global};
+
+/// What stands beside the member lists of a book: the first numbers of their members, and their parts, which have their rows among those of
+/// all numbers.
+pub fn lists_of(alloc: Global, book: &Book, places: &mut Places) -> Result<Lists, NoMemory>
+    requires { HaveRanges book.now.sheet places.old }
+    ensures ok { IfOk result (AreListsOf book.now places.new) }
+    ensures more { HasMoreParts places.old places.new }
+{
+    // The sheet is valid, so no two rows of a table have one name.
+    let _sheet = book.sheet();
+    let mut parts = Parts::new(alloc)?;
+    let securities = listed(
+        alloc,
+        &mut parts,
+        book.security_seats(),
+        places,
+        Table::Security,
+    )?;
+    let liabilities = listed(
+        alloc,
+        &mut parts,
+        book.liability_seats(),
+        places,
+        Table::Liability,
+    )?;
+    let funds = listed(alloc, &mut parts, book.fund_seats(), places, Table::Fund)?;
+    let groups = listed(alloc, &mut parts, book.group_seats(), places, Table::Group)?;
+    number_parts(&parts, places)?;
+    // The slot of each part is one of those that there are.
+    let _slots = parts.len();
+    Ok(Lists {
+        securities,
+        liabilities,
+        funds,
+        groups,
+        parts,
+    })
+}
+
+// The first numbers beside the lists of a table, whose parts come.
+fn listed<const N: usize>(
+    alloc: Global,
+    parts: &mut Parts,
+    seating: &Seating<N>,
+    places: &Places,
+    table: Table,
+) -> Result<Firsts, NoMemory>
+    requires { length seating.now.seats ≡ count places.now (spec.ranges_of table) }
+    ensures firsts { IfOk result (λ firsts. (names : List (List ℕ)) → AreSeated names seating.now → IsDistinct same_name names
+        → AreFirsts (λ name. first places.now (spec.ranges_of table) (position_or_len (same_name name) names)) seating.now.rolls firsts) }
+    ensures parts { IfOk result (λ firsts. AreGrown table firsts parts.old parts.new) }
+{
+    let firsts = Firsts::of(alloc, seating, places, ranges_of(table))?;
+    grow_all(alloc, parts, table, &firsts)?;
+    Ok(firsts)
+}

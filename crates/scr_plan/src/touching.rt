@@ -1,0 +1,26 @@
+//! The figures and blocks that a record touches.
+ghost use Rattle.std.specs.Prelude.{◌≡◌, ◌↔◌, Contains, IfOk, None};
+ghost use Rattle.scr_blocks.specs.Blocks.{HasEachOnce};
+ghost use Rattle.scr_factors.specs.Values.{FactorValues};
+ghost use Rattle.scr_sheet.specs.Faults.{fault_of};
+ghost use Rattle.scr_sheet.specs.Forms.{Formed};
+ghost use Rattle.scr_sums.specs.Books.{rolled_of};
+ghost use Rattle.scr_sums.specs.Touched.{IsTouchedIn};
+ghost use Rattle.scr_sums.specs.declared.point.Point.{Point};
+
+use crate::Node;
+use scr_book::{Book, Edit};
+use scr_sums::touched_in;
+use std::alloc::{AllocError as NoMemory, Global};
+
+/// The figures and blocks whose own data or list of sources the record changes, or which it makes or takes away, each once. Of a record
+/// that would be refused nothing is told but that none stands twice. Only want of memory is refused.
+pub fn touched(alloc: Global, book: &Book, edit: &Edit) -> Result<Vec<Node>, NoMemory>
+    requires formed { Formed edit.now }
+    ensures touched { IfOk result (λ list. (factors : FactorValues) (point : Point) → fault_of edit.now book.now.sheet ≡ None
+        → Contains list.items point ↔ IsTouchedIn factors (rolled_of book.now) edit.now point) }
+    ensures once { IfOk result (λ list. HasEachOnce list.items) }
+{
+    let told = scr_touched::touched(alloc, book, edit)?;
+    touched_in(alloc, book, edit, told)
+}

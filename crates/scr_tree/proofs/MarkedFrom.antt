@@ -1,0 +1,268 @@
+-- All that is marked as reckoned from a point: what is linked to it, and then what rows and lists give.
+use Rattle.std.proofs.Common.{◌≡◌, ◌⊎◌, inl, inr, ℕ, ◌<◌, Bool, true, false, cond, ◌++◌, nat_eq, Contains, List, length, map, refl, sym, ap, subst, ◌∙◌, arith}
+use Rattle.std.specs.List.{list_any}
+use Rattle.scr_funds.proofs.Members.{IsMember, IsMember-from_Contains, IsMember-map}
+use Rattle.scr_blocks.specs.Readers.{reader_of_member}
+use Rattle.scr_blocks.specs.declared.readers.Reader.{Reader}
+use Rattle.scr_rounds.proofs.Members as numbers_in
+use Rattle.scr_figures.specs.Numbers.{StandsAt}
+use Rattle.scr_lists.specs.declared.lists.Lists.{Lists}
+use Rattle.scr_numbers.specs.Ranges.{Numbered}
+use Rattle.scr_book.specs.RolledSheets.{RolledSheet}
+use Rattle.scr_sheet.specs.Validity.{Valid}
+use Rattle.scr_nodes.specs.Live.{is_live}
+use Rattle.scr_nodes.specs.Sources.{sources_of}
+use Rattle.scr_nodes.specs.declared.node.Node.{Node}
+use Rattle.scr_nodes.specs.declared.node.Node.TheVariants as nodes
+use Rattle.scr_nodes.specs.declared.node.OfGroup.{OfGroup}
+use Rattle.scr_nodes.specs.declared.node.OfGroup.TheVariants as of_groups
+use Rattle.scr_nodes.specs.declared.node.Whole.TheVariants as wholes
+use Rattle.scr_reach.specs.Leading.Leads.{above, touched}
+use Rattle.scr_sums.specs.Books.{rolled_of}
+use Rattle.scr_sums.specs.Graph.{roll_in, sources_in, tops_of}
+use Rattle.scr_sums.specs.Reading.{IsReading}
+use Rattle.scr_sums.specs.Sums.{first_sum, second_sum}
+use Rattle.scr_sums.specs.declared.point.Point.{Point}
+use Rattle.scr_sums.specs.declared.point.Point.TheVariants as points
+use Rattle.scr_sums.specs.declared.sum.Sum.TheVariants as sums
+use Rattle.scr_tree.specs.Marking.{AreMarkedFrom, AreMarkedMore, IsAboveAt, IsDependantAt, IsLeftToAssets, IsLinkedDependantAt, IsPlainDependantAt, IsSquare, IsSquareOrAbove, assets}
+use Rattle.scr_tree.specs.Points.{AreNumbersOf, IsLinkedPoint, StandsIn, is_linked}
+use Rattle.scr_tree.proofs.Dependants.{ByMember, ByRow, member-as, plain-cases}
+use Rattle.scr_tree.proofs.MemberSeats.{is-member}
+use Rattle.scr_tree.proofs.NoSquares.{square-apart}
+use Rattle.scr_tree.proofs.PlainReaders.{not-summed}
+use Rattle.scr_tree.proofs.OfRows.{assets-only, assets-stand}
+use Rattle.scr_tree.proofs.Squares.{squares-above}
+
+-- the figures of a list of figures as points
+figures-of : (node : Node) (list : List Node) → Contains (map points.Figure list) (points.Figure node) → IsMember node list
+figures-of node list h =
+    let m = IsMember-map points.Figure list (points.Figure node) (IsMember-from_Contains (map points.Figure list) (points.Figure node) h) in
+    subst (λ n. IsMember n list) (let same : m.0 ≡ node = cc in same) m.1
+
+-- a point is linked or not
+linked-or : (point : Point) → IsLinkedPoint point ⊎ (IsLinkedPoint point → ⊥)
+linked-or (points.Block block) = inr (λ h. h)
+linked-or (points.Figure node) = by (is_linked node) refl
+  where
+    by : (t : Bool) → is_linked node ≡ t → (is_linked node ≡ true) ⊎ (is_linked node ≡ true → ⊥)
+    by true e = inl e
+    by false e = inr (λ h. let clash : true ≡ false = sym h ∙ e in absurd (cc))
+
+-- a number is marked or not
+marked-or : (number : ℕ) (list : List ℕ) → Contains list number ⊎ (Contains list number → ⊥)
+marked-or number list = by (list_any (nat_eq number) list) refl
+  where
+    by : (t : Bool) → list_any (nat_eq number) list ≡ t → Contains list number ⊎ (Contains list number → ⊥)
+    by true e = inl (numbers_in.Contains-from_IsMember list number (numbers_in.member-from_any number list e))
+    by false e = inr (λ h.
+        let clash : true ≡ false = sym (numbers_in.any-from_member number list (numbers_in.IsMember-from_Contains list number h)) ∙ e in absurd (cc))
+
+module _ (book : RolledSheet) (places : Numbered) (lists : Lists) (numbers : AreNumbersOf book places lists) (number : ℕ) where
+  abbrev Linked : ℕ → Type 0
+  Linked other = IsLinkedDependantAt book places lists number other
+
+  abbrev Plain : ℕ → Type 0
+  Plain other = IsPlainDependantAt book places lists number other
+
+  dependant-above : (other : ℕ) → IsDependantAt book places lists number other → IsAboveAt book places lists number other
+  dependant-above other d = record {
+    point = d.point;
+    at = d.at;
+    live = d.live;
+    leads = above d.point d.below d.reads (touched d.below d.from);
+  }
+
+  kind-of : (other : ℕ) → IsDependantAt book places lists number other → Linked other ⊎ Plain other
+  kind-of other d = by (linked-or d.point)
+    where
+      by : IsLinkedPoint d.point ⊎ (IsLinkedPoint d.point → ⊥) → Linked other ⊎ Plain other
+      by (inl linked) = inl (d, linked)
+      by (inr plain) = inr (d, plain)
+
+  module _ (m0 m1 m2 : List ℕ) (linked : AreMarkedMore Linked m0 m1) where
+    linked-first : (P : ℕ → Type 0) → AreMarkedMore P m1 m2 → (other : ℕ) → Linked other → Contains m2 other
+    linked-first P more other l = (more.marked other).1 (inl ((linked.marked other).1 (inr l)))
+
+    come : (P : ℕ → Type 0) → AreMarkedMore P m1 m2 → ((other : ℕ) → P other → IsAboveAt book places lists number other) → (other : ℕ) → Contains m2 other
+        → Contains m0 other ⊎ IsAboveAt book places lists number other
+    come P more leads other h = by ((more.marked other).0 h)
+      where
+        before : Contains m0 other ⊎ Linked other → Contains m0 other ⊎ IsAboveAt book places lists number other
+        before (inl h) = inl h
+        before (inr l) = inr (dependant-above other l.0)
+
+        by : Contains m1 other ⊎ P other → Contains m0 other ⊎ IsAboveAt book places lists number other
+        by (inl h) = before ((linked.marked other).0 h)
+        by (inr p) = inr (leads other p)
+
+    -- ---- all that is reckoned from it is marked
+
+    pub from-all : AreMarkedMore (IsDependantAt book places lists number) m1 m2 → (StandsIn book places lists assets number → ⊥)
+        → AreMarkedFrom book places lists number m0 m2
+    from-all more apart = record {
+      once = λ h. more.once (linked.once h);
+      kept = λ place other e. more.kept place other (linked.kept place other e);
+      each = come (IsDependantAt book places lists number) more dependant-above;
+      all = λ other d. inl ((more.marked other).1 (inr d));
+      squares = λ at. absurd (apart at);
+    }
+
+    pub from-plain : AreMarkedMore Plain m1 m2 → (StandsIn book places lists assets number → ⊥) → AreMarkedFrom book places lists number m0 m2
+    from-plain more apart = record {
+      once = λ h. more.once (linked.once h);
+      kept = λ place other e. more.kept place other (linked.kept place other e);
+      each = come Plain more (λ other p. dependant-above other p.0);
+      all = λ other d. inl (by other (kind-of other d));
+      squares = λ at. absurd (apart at);
+    }
+      where
+        by : (other : ℕ) → Linked other ⊎ Plain other → Contains m2 other
+        by other (inl l) = linked-first Plain more other l
+        by other (inr p) = (more.marked other).1 (inr p)
+
+    -- ---- what is reckoned from a square is left where the assets are marked
+
+    abbrev Left : List ℕ → Type 0
+    Left list = IsLeftToAssets book places lists list number
+
+    -- the sources of the assets are not linked
+    left-before : Left m1 → Left m0
+    left-before left = record {
+      square = left.square;
+      is = left.is;
+      at = left.at;
+      assets_at = left.assets_at;
+      there = left.there;
+      marked = by ((linked.marked left.assets_at).0 left.marked);
+    }
+      where
+        by : Contains m0 left.assets_at ⊎ Linked left.assets_at → Contains m0 left.assets_at
+        by (inl h) = h
+        by (inr l) =
+            let clash : false ≡ true = subst IsLinkedPoint (numbers.numbers.exact left.assets_at l.0.point assets l.0.at left.there) l.1 in absurd (cc)
+
+    module _ (name : List ℕ) (what : OfGroup) (at : StandsAt book.sheet places (nodes.Group name what) number) where
+      left-or : (what : OfGroup) → StandsAt book.sheet places (nodes.Group name what) number → Left m1 ⊎ (Left m1 → ⊥)
+      left-or of_groups.Total at = inr (λ left.
+          let same : points.Figure (nodes.Group left.is.0 of_groups.ConcentrationSquare) ≡ points.Figure (nodes.Group name of_groups.Total) =
+          sym left.is.1 ∙ numbers.numbers.exact number left.square (points.Figure (nodes.Group name of_groups.Total)) left.at at in
+          absurd (cc))
+      left-or of_groups.Loss at = inr (λ left.
+          let same : points.Figure (nodes.Group left.is.0 of_groups.ConcentrationSquare) ≡ points.Figure (nodes.Group name of_groups.Loss) =
+          sym left.is.1 ∙ numbers.numbers.exact number left.square (points.Figure (nodes.Group name of_groups.Loss)) left.at at in
+          absurd (cc))
+      left-or of_groups.ConcentrationSquare at = by (marked-or 153 m1)
+        where
+          by : Contains m1 153 ⊎ (Contains m1 153 → ⊥) → Left m1 ⊎ (Left m1 → ⊥)
+          by (inl h) = inl (record {
+            square = points.Figure (nodes.Group name of_groups.ConcentrationSquare);
+            is = (name, refl);
+            at = at;
+            assets_at = 153;
+            there = assets-stand book places lists numbers;
+            marked = h;
+          })
+          by (inr none) = inr (λ left. none (subst (Contains m1) (assets-only book places lists numbers left.assets_at left.there) left.marked))
+
+      pub from-group : AreMarkedMore (λ other. Plain other × (Left m1 → ⊥)) m1 m2 → AreMarkedFrom book places lists number m0 m2
+      from-group more = record {
+        once = λ h. more.once (linked.once h);
+        kept = λ place other e. more.kept place other (linked.kept place other e);
+        each = come (λ other. Plain other × (Left m1 → ⊥)) more (λ other p. dependant-above other p.0.0);
+        all = λ other d. by other (kind-of other d) (left-or what at);
+        squares = λ there.
+            let same : points.Figure (nodes.Group name what) ≡ points.Figure (nodes.Whole wholes.Assets) =
+            numbers.numbers.exact number (points.Figure (nodes.Group name what)) assets at there in
+            absurd (cc);
+      }
+        where
+          by : (other : ℕ) → Linked other ⊎ Plain other → Left m1 ⊎ (Left m1 → ⊥) → Contains m2 other ⊎ Left m0
+          by other (inl l) left = inl (linked-first (λ other. Plain other × (Left m1 → ⊥)) more other l)
+          by other (inr p) (inl left) = inr (left-before left)
+          by other (inr p) (inr not) = inl ((more.marked other).1 (inr (p, not)))
+
+    -- ---- all squares are marked with the assets, and what they lead to
+
+    module _ (valid : Valid book.sheet) (at : StandsIn book places lists assets number) where
+      some-square : (name : List ℕ) → is_live book.sheet (nodes.Group name of_groups.ConcentrationSquare) ≡ true → 0 < length (roll_in (rolled_of book) sums.Squares)
+      some-square name live = let h = is-member book numbers.rolls sums.Squares name live in let low = h.1 in omega (arith, low)
+
+      -- what is reckoned from the assets, but for what is linked, are squares
+      square-of : (other : ℕ) → Plain other → IsSquareOrAbove book places lists other
+      square-of other p = by (plain-cases book places lists numbers (nodes.Whole wholes.Assets) number at other p)
+        where
+          by : ByMember book places lists numbers (nodes.Whole wholes.Assets) other ⊎ ByRow book places lists numbers (nodes.Whole wholes.Assets) other
+              → IsSquareOrAbove book places lists other
+          by (inl m) = absurd m.adds
+          by (inr r) = record {
+            point = points.Figure r.node;
+            at = r.at;
+            live = r.live;
+            some = some-square r.reads.0 (subst (λ n. is_live book.sheet n ≡ true) r.reads.1 r.live);
+            is = inl (r.reads.0, ap points.Figure r.reads.1);
+          }
+
+      -- what is reckoned from a square adds up squares
+      above-square : (square : Point) (place other : ℕ) → IsSquare square → StandsIn book places lists square place → IsDependantAt book places lists place other
+          → IsSquareOrAbove book places lists other
+      above-square square place other (name, e) there d = by (linked-or d.point)
+        where
+          from : StandsAt book.sheet places (nodes.Group name of_groups.ConcentrationSquare) place
+          from = subst (λ p. StandsIn book places lists p place) e there
+
+          below : d.below ≡ points.Figure (nodes.Group name of_groups.ConcentrationSquare)
+          below = numbers.numbers.exact place d.below (points.Figure (nodes.Group name of_groups.ConcentrationSquare)) d.from from
+
+          Square : Node
+          Square = nodes.Group name of_groups.ConcentrationSquare
+
+          shown : Node → Bool → List Point
+          shown node t = cond t (tops_of (rolled_of book) (first_sum node) ++ tops_of (rolled_of book) (second_sum node)) (map points.Figure (sources_of book.sheet node))
+
+          by-member : ByMember book places lists numbers Square other → 0 < length (roll_in (rolled_of book) sums.Squares)
+          by-member m =
+              let h = member-as book places lists numbers m.sum sums.Squares m.name name m.adds.1 m.adds.0 m.member in
+              let low = h.1 in
+              omega (arith, low)
+
+          by-reader : (m : ByMember book places lists numbers Square other) → (reader : Reader) × IsReading sums.Squares reader m.reader.point
+          by-reader m = (
+            reader_of_member (length (roll_in (rolled_of book) m.sum)) m.reader.reads.place,
+            subst (λ s. IsReading s (reader_of_member (length (roll_in (rolled_of book) m.sum)) m.reader.reads.place) m.reader.point) m.adds.1 m.reader.reads.reads,
+          )
+
+          by : IsLinkedPoint d.point ⊎ (IsLinkedPoint d.point → ⊥) → IsSquareOrAbove book places lists other
+          by (inl linked) = absurd (never d.point linked (subst (Contains (sources_in (rolled_of book) d.point)) below d.reads))
+            where
+              never : (point : Point) → IsLinkedPoint point → Contains (sources_in (rolled_of book) point) (points.Figure (nodes.Group name of_groups.ConcentrationSquare)) → ⊥
+              never (points.Block block) linked h = linked
+              never (points.Figure node) linked h =
+                  square-apart book.sheet name node linked
+                  (figures-of (nodes.Group name of_groups.ConcentrationSquare) (sources_of book.sheet node)
+                  (subst (λ t. Contains (shown node t) (points.Figure (nodes.Group name of_groups.ConcentrationSquare))) (not-summed node linked) h))
+          by (inr plain) = of-plain (plain-cases book places lists numbers (nodes.Group name of_groups.ConcentrationSquare) place from other (d, plain))
+            where
+              of-plain : ByMember book places lists numbers (nodes.Group name of_groups.ConcentrationSquare) other
+                  ⊎ ByRow book places lists numbers (nodes.Group name of_groups.ConcentrationSquare) other → IsSquareOrAbove book places lists other
+              of-plain (inl m) = record {
+                point = m.reader.point;
+                at = m.reader.at;
+                live = m.reader.live;
+                some = by-member m;
+                is = inr (by-reader m);
+              }
+              of-plain (inr r) = absurd r.reads
+
+      pub from-squares : AreMarkedMore (IsSquareOrAbove book places lists) m1 m2 → AreMarkedFrom book places lists number m0 m2
+      from-squares more = record {
+        once = λ h. more.once (linked.once h);
+        kept = λ place other e. more.kept place other (linked.kept place other e);
+        each = come (IsSquareOrAbove book places lists) more (squares-above book places lists numbers number at);
+        all = λ other d. inl (by other (kind-of other d));
+        squares = λ _ square place other is there d. (more.marked other).1 (inr (above-square square place other is there d));
+      }
+        where
+          by : (other : ℕ) → Linked other ⊎ Plain other → Contains m2 other
+          by other (inl l) = linked-first (IsSquareOrAbove book places lists) more other l
+          by other (inr p) = (more.marked other).1 (inr (square-of other p))

@@ -1,0 +1,34 @@
+use Rattle.std.proofs.Common.{◌≡◌, true, subst, sym, ap, refl, arith}
+use Rattle.scr_sums.specs.Graph.{is_live_in}
+use Rattle.scr_tree.specs.Figures.{Worth}
+use Rattle.scr_tree.specs.Points.{point_worth}
+use Rattle.scr_tree.specs.Standing.{Standing, book_of}
+use Rattle.scr_tree.proofs.FigureRead.{known-read, known-within}
+use Rattle.scr_tree.proofs.Standings.{settled-point}
+use Rattle.scr_tree.proofs.engine.Engine.span.Goals as goal
+
+pub number_of-requires : goal.number_of-requires
+number_of-requires c = c.self.invariant.state.graph.numbers_of
+
+pub unreachable-requires : goal.unreachable-requires
+unreachable-requires c =
+    let live = subst (λ (s : Standing). is_live_in (book_of s) c.args.point ≡ true) (sym c.self.view_is) c.requires in
+    let own = c.self.invariant.state.graph.numbers_of.numbers.live c.args.point live in
+    c.in-None.ensures.absent refl own.0 own.1
+
+pub index-requires : goal.index-requires
+index-requires c =
+    let state = c.self.inside.state in
+    let low = known-within state.figures.items c.in-Some.number (point_worth c.args.self.now.factors (book_of c.args.self.now) c.args.point)
+    (settled-point c.self.inside.factors c.self.inside.book state.places state.lists state.figures.items c.args.self.now c.self.view_is
+    c.self.invariant.state.figures c.args.point c.in-Some.number c.in-Some.ensures.there c.requires) in
+    omega (arith, low, state.figures.ok.0)
+
+pub returns : goal.returns
+returns c =
+    let state = c.self.inside.state in
+    ap (λ (w : Worth). w.worked)
+    (known-read state.figures.items c.in-Some.number (point_worth c.args.self.now.factors (book_of c.args.self.now) c.args.point) c.index.result.now
+    (settled-point c.self.inside.factors c.self.inside.book state.places state.lists state.figures.items c.args.self.now c.self.view_is
+    c.self.invariant.state.figures c.args.point c.in-Some.number c.in-Some.ensures.there c.requires)
+    c.index.ensures)

@@ -1,0 +1,72 @@
+use Rattle.std.proofs.Common.{subst, ◌∙◌, arith}
+use Rattle.scr_blocks.specs.Blocks.{part}
+use Rattle.scr_blocks.specs.declared.blocks.Level.TheVariants as levels
+use Rattle.scr_nodes.proofs.Walks.{on_ok}
+use Rattle.scr_sums.specs.Books.{rolled_of}
+use Rattle.scr_sums.specs.Graph.{roll_in, sources_in}
+use Rattle.scr_sums.specs.declared.point.Point.TheVariants as points
+use Rattle.scr_tree.proofs.PointSources.{Pushed, below-live, blocks-are, first-firsts, first-sources, firsts-are, members-few, members-pushed, read-and-there, second-sources}
+use Rattle.scr_tree.proofs.graph.Graph.push_below.Goals as goal
+
+pub push_members-requires : goal.push_members-requires
+push_members-requires c =
+    let numbers = c.args.self.now.numbers in
+    let book = numbers.book.now in
+    let places = numbers.places.now in
+    let lists = numbers.lists.now in
+    let block = c.args.block.now in
+    let are = c.requires.numbers in
+    let roll = roll_in (rolled_of book) block.sum in
+    let all = firsts-are book places lists are c.requires.valid block.sum c.roll.result c.members-members.result.now c.members-members.ensures c.roll.ensures in
+    members-few book places lists are c.requires.valid block.sum c.member_family.result c.member_family.ensures (part block.index roll)
+    (sources_in (rolled_of book) (points.Block block)) (first-sources book places lists are c.requires.valid block c.requires.live c.in-First.is)
+    (below-live book places lists are c.requires.valid block c.requires.live) c.part-own.result.now
+    (first-firsts book places lists are c.requires.valid block c.requires.live c.members-members.result.now c.part-own.result.now c.part-own.ensures all)
+    (omega (arith, c.len-size.ensures.size))
+
+pub returns-in-First : goal.returns-in-First
+returns-in-First c =
+    let numbers = c.args.self.now.numbers in
+    let book = numbers.book.now in
+    let places = numbers.places.now in
+    let lists = numbers.lists.now in
+    let block = c.args.block.now in
+    let are = c.requires.numbers in
+    let roll = roll_in (rolled_of book) block.sum in
+    let all = firsts-are book places lists are c.requires.valid block.sum c.roll.result c.members-members.result.now c.members-members.ensures c.roll.ensures in
+    on_ok c.push_members.result _ (Pushed book places lists c.args.list.now.items c.push_members.new.list.items (sources_in (rolled_of book) (points.Block block)))
+    (members-pushed book places lists are c.requires.valid block.sum c.member_family.result c.member_family.ensures (part block.index roll)
+    (sources_in (rolled_of book) (points.Block block)) (first-sources book places lists are c.requires.valid block c.requires.live c.in-First.is)
+    (below-live book places lists are c.requires.valid block c.requires.live) c.part-own.result.now c.args.list.now.items c.push_members.new.list.items
+    (first-firsts book places lists are c.requires.valid block c.requires.live c.members-members.result.now c.part-own.result.now c.part-own.ensures all))
+    c.push_members.ensures
+
+pub push_blocks-requires-clause-reads : goal.push_blocks-requires-clause-reads
+push_blocks-requires-clause-reads c =
+    let numbers = c.args.self.now.numbers in
+    (read-and-there numbers.book.now numbers.places.now numbers.lists.now c.requires.numbers c.requires.valid c.args.block.now c.requires.live).0
+
+pub push_blocks-requires-clause-there : goal.push_blocks-requires-clause-there
+push_blocks-requires-clause-there c =
+    let numbers = c.args.self.now.numbers in
+    let told = blocks-are numbers.book.now numbers.places.now numbers.lists.now c.requires.numbers c.requires.valid c.args.block.now.sum c.roll.result
+    c.members-members.result.now c.members-members.ensures c.roll.ensures levels.First in
+    let firsts = c.blocks_at-firsts.ensures ∙ told in
+    let until = c.places-among.ensures.end in
+    omega (arith, firsts, until)
+
+pub returns-in-Second : goal.returns-in-Second
+returns-in-Second c =
+    let numbers = c.args.self.now.numbers in
+    let book = numbers.book.now in
+    let places = numbers.places.now in
+    let lists = numbers.lists.now in
+    let block = c.args.block.now in
+    let are = c.requires.numbers in
+    let told = blocks-are book places lists are c.requires.valid block.sum c.roll.result c.members-members.result.now c.members-members.ensures c.roll.ensures
+    levels.First in
+    on_ok c.push_blocks.result _ (Pushed book places lists c.args.list.now.items c.push_blocks.new.list.items (sources_in (rolled_of book) (points.Block block)))
+    (subst (Pushed book places lists c.args.list.now.items c.push_blocks.new.list.items)
+    (second-sources book places lists are c.requires.valid block c.requires.live c.in-Second.is c.blocks_at-firsts.result c.places-among.result.start
+    c.places-among.result.end (c.blocks_at-firsts.ensures ∙ told) c.places-among.ensures.start c.places-among.ensures.end))
+    c.push_blocks.ensures

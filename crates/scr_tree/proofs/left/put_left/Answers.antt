@@ -1,0 +1,91 @@
+use Rattle.std.proofs.Common.{ℕ, List, Contains, nat_eq, sym, subst, arith}
+use Rattle.std.specs.List.{IsDistinct}
+use Rattle.scr_reach.specs.Dues.{IsLiveAt}
+use Rattle.scr_sheet.specs.Validity.{Valid}
+use Rattle.scr_sums.specs.Books.{rolled_of}
+use Rattle.scr_tree.specs.Figures.{AreSettled}
+use Rattle.scr_tree.specs.First.{AreLinkedTo, IsLinkGround, IsWhole}
+use Rattle.scr_tree.specs.Left.{AreLeft}
+use Rattle.scr_tree.specs.Order.{IsOrder}
+use Rattle.scr_tree.specs.Points.{AreNumbersOf, IsGraphOf, StandsIn, book_graph, book_reckoning}
+use Rattle.scr_tree.specs.Turns.{turn}
+use Rattle.scr_tree.specs.declared.graph.{Graph.Graph, Numbers.Numbers}
+use Rattle.scr_tree.specs.declared.making.{LinkGround.LinkGround, Made.Made}
+use Rattle.scr_tree.proofs.FirstRows.{on-ok}
+use Rattle.scr_tree.proofs.Grounds.{for-links}
+use Rattle.scr_tree.proofs.LeftKnown.{left-graph, left-known, left-made}
+use Rattle.scr_tree.proofs.left.put_left.Goals as goal
+
+pub link_left-requires-clause-ground : goal.link_left-requires-clause-ground
+link_left-requires-clause-ground g c = subst IsLinkGround (sym c.for_links.ensures) (for-links c.args.ground c.requires.ground)
+
+pub link_left-requires-clause-linked : goal.link_left-requires-clause-linked
+link_left-requires-clause-linked g c =
+    subst (λ (l : LinkGround). AreLinkedTo l c.args.made.now.links (turn 6 0 0)) (sym c.for_links.ensures)
+    (record { size = c.requires.done.figures.size; linked = c.requires.done.figures.links })
+
+pub left_numbers-requires : goal.left_numbers-requires
+left_numbers-requires g c = record {
+  numbers = subst (λ (n : Numbers). AreNumbersOf n.book.now n.places.now n.lists.now) (sym c.numbers.ensures) c.requires.ground.points;
+}
+
+pub ordered-requires-clause-valid : goal.ordered-requires-clause-valid
+ordered-requires-clause-valid g c = subst (λ (h : Graph). Valid h.numbers.book.now.sheet) (sym c.graph.ensures) c.requires.ground.valid
+
+pub ordered-requires-clause-graph : goal.ordered-requires-clause-graph
+ordered-requires-clause-graph g c =
+    subst (λ (h : Graph). IsGraphOf h.numbers.book.now h.numbers.places.now h.numbers.lists.now h.links.now.edges) (sym c.graph.ensures)
+    (left-graph c.args.ground c.requires.ground c.link_left.new.links
+    (subst (λ (l : LinkGround). AreLinkedTo l c.link_left.new.links (turn 7 0 153)) c.for_links.ensures c.in_ok-link_left.ensures))
+
+pub ordered-requires-clause-once : goal.ordered-requires-clause-once
+ordered-requires-clause-once g c = subst (IsDistinct nat_eq) (sym c.as_slice.ensures.value) c.in_ok-left.ensures.once
+
+pub ordered-requires-clause-live : goal.ordered-requires-clause-live
+ordered-requires-clause-live g c = λ number h.
+    subst (λ (h : Graph). IsLiveAt (book_graph (rolled_of h.numbers.book.now)) (StandsIn h.numbers.book.now h.numbers.places.now h.numbers.lists.now) number)
+    (sym c.graph.ensures)
+    ((subst (λ (n : Numbers). AreLeft n c.in_ok-left.left.items) c.numbers.ensures c.in_ok-left.ensures).live number
+    (subst (λ (xs : List ℕ). Contains xs number) c.as_slice.ensures.value h))
+
+pub reckon_together-requires-clause-basis : goal.reckon_together-requires-clause-basis
+reckon_together-requires-clause-basis g c κs within = record {
+  valid = c.requires.ground.valid;
+  graph = left-graph c.args.ground c.requires.ground c.link_left.new.links
+      (subst (λ (l : LinkGround). AreLinkedTo l c.link_left.new.links (turn 7 0 153)) c.for_links.ensures c.in_ok-link_left.ensures);
+  rates = c.requires.ground.rates;
+}
+
+pub reckon_together-requires-clause-order : goal.reckon_together-requires-clause-order
+reckon_together-requires-clause-order g c κs within = (
+  c.as_slice.result.now,
+  subst (λ (h : Graph). IsOrder (book_graph (rolled_of h.numbers.book.now)) (StandsIn h.numbers.book.now h.numbers.places.now h.numbers.lists.now)
+      c.as_slice.result.now c.in_ok-order.order.numbers.items c.in_ok-order.order.ends.items) c.graph.ensures c.in_ok-order.ensures,
+)
+
+pub reckon_together-requires-clause-known : goal.reckon_together-requires-clause-known
+reckon_together-requires-clause-known g c κs within =
+    let ground = c.args.ground in
+    let numbers = c.in_ok-order.order.numbers.items in
+    let ends = c.in_ok-order.order.ends.items in
+    left-known ground c.requires.ground c.args.made.now.figures.items c.in_ok-left.left.items numbers ends
+    c.requires.done.figures.known c.requires.done.blocks_there
+    (subst (λ (n : Numbers). AreLeft n c.in_ok-left.left.items) c.numbers.ensures c.in_ok-left.ensures)
+    (subst (λ (xs : List ℕ). IsOrder (book_graph (rolled_of ground.inputs.book.now))
+    (StandsIn ground.inputs.book.now ground.places.now ground.lists.now) xs numbers ends) c.as_slice.ensures.value
+    (subst (λ (h : Graph). IsOrder (book_graph (rolled_of h.numbers.book.now)) (StandsIn h.numbers.book.now h.numbers.places.now h.numbers.lists.now)
+    c.as_slice.result.now numbers ends) c.graph.ensures c.in_ok-order.ensures))
+
+pub reckon_together-requires-clause-room : goal.reckon_together-requires-clause-room
+reckon_together-requires-clause-room g c κs within = let count = c.requires.done.figures.count in omega (arith, count)
+
+pub returns : goal.returns
+returns g c =
+    let ground = c.args.ground in
+    let now : Made = record { figures = c.reckon_together.new.figures; links = c.link_left.new.links } in
+    on-ok (AreSettled (book_reckoning ground.inputs.factors.now (rolled_of ground.inputs.book.now))
+    (StandsIn ground.inputs.book.now ground.places.now ground.lists.now) c.reckon_together.new.figures.items)
+    (IsWhole ground now) c.reckon_together.result
+    (left-made ground c.requires.ground c.args.made.now now c.requires.done c.reckon_together.ensures.count
+    (subst (λ (l : LinkGround). AreLinkedTo l c.link_left.new.links (turn 7 0 153)) c.for_links.ensures c.in_ok-link_left.ensures))
+    c.reckon_together.ensures.settled

@@ -1,0 +1,110 @@
+-- What is marked as reckoned from a point (this project's own).
+use Rattle.std.specs.Prelude.{◌≡◌, ◌↔◌, ◌⊎◌, ◌<◌, ℕ, true, List, Contains, Some, nat_eq, length, slice_get}
+use Rattle.std.specs.List.{IsDistinct}
+use Rattle.scr_blocks.specs.declared.readers.Reader.{Reader}
+use Rattle.scr_book.specs.RolledSheets.{RolledSheet}
+use Rattle.scr_numbers.specs.Ranges.{Numbered}
+use Rattle.scr_nodes.specs.declared.node.Node.TheVariants as nodes
+use Rattle.scr_nodes.specs.declared.node.OfGroup.TheVariants as of_groups
+use Rattle.scr_nodes.specs.declared.node.Whole.TheVariants as wholes
+use Rattle.scr_lists.specs.declared.lists.Lists.{Lists}
+use Rattle.scr_reach.specs.Leading.{Leads}
+use Rattle.scr_sums.specs.Books.{rolled_of}
+use Rattle.scr_sums.specs.Graph.{is_live_in, member_point, roll_in, sources_in}
+use Rattle.scr_sums.specs.Reading.{IsReading, ReadsMember}
+use Rattle.scr_sums.specs.Sums.{roll_of}
+use Rattle.scr_sums.specs.declared.sum.Sum.TheVariants as sums
+use Rattle.scr_book.specs.Places.{names_in}
+use Rattle.scr_sheet.specs.Members.{table_of}
+use Rattle.scr_sums.specs.declared.point.Point.{Point}
+use Rattle.scr_sums.specs.declared.point.Point.TheVariants as points
+use Rattle.scr_sums.specs.declared.sum.Sum.{Sum}
+use Rattle.scr_tree.specs.Points.{IsLinkedPoint, StandsIn, book_graph}
+
+-- just those are marked more of which it holds, each once; what was marked stands where it stood
+pub record AreMarkedMore (P : ℕ → Type 0) (old new : List ℕ) : Type 0 where
+  pub once : IsDistinct nat_eq old → IsDistinct nat_eq new
+  pub kept : (place other : ℕ) → slice_get old place ≡ Some other → slice_get new place ≡ Some other
+  pub marked : (number : ℕ) → Contains new number ↔ (Contains old number ⊎ P number)
+
+-- a live point at the number is a reader of the sum
+pub record IsReaderAt (book : RolledSheet) (places : Numbered) (lists : Lists) (sum : Sum) (reader : Reader) (number : ℕ) : Type 0 where
+  pub point : Point
+  pub at : StandsIn book places lists point number
+  pub live : is_live_in (rolled_of book) point ≡ true
+  pub reads : IsReading sum reader point
+
+-- a live point at the number adds up, for the sum, the figure of the member of this name
+pub record IsMemberReaderAt (book : RolledSheet) (places : Numbered) (lists : Lists) (sum : Sum) (name : List ℕ) (number : ℕ) : Type 0 where
+  pub point : Point
+  pub at : StandsIn book places lists point number
+  pub live : is_live_in (rolled_of book) point ≡ true
+  pub reads : ReadsMember (rolled_of book) sum point (member_point sum name)
+
+-- so does one for the member in the row at a place of the table of the sum's members, of whatever name it is
+abbrev pub AreRowMarked : RolledSheet → Numbered → Lists → Sum → ℕ → List ℕ → List ℕ → Type 0
+AreRowMarked book places lists sum row old new =
+    (name : List ℕ) → slice_get (names_in (table_of (roll_of sum)) book.sheet) row ≡ Some name
+    → AreMarkedMore (IsMemberReaderAt book places lists sum name) old new
+
+-- a live point at the number is reckoned from the point at another
+pub record IsDependantAt (book : RolledSheet) (places : Numbered) (lists : Lists) (source number : ℕ) : Type 0 where
+  pub point : Point
+  pub below : Point
+  pub at : StandsIn book places lists point number
+  pub live : is_live_in (rolled_of book) point ≡ true
+  pub from : StandsIn book places lists below source
+  pub reads : Contains (sources_in (rolled_of book) point) below
+
+-- a live point at the number leads to the one at another
+pub record IsAboveAt (book : RolledSheet) (places : Numbered) (lists : Lists) (source number : ℕ) : Type 0 where
+  pub point : Point
+  pub at : StandsIn book places lists point number
+  pub live : is_live_in (rolled_of book) point ≡ true
+  pub leads : Leads (book_graph (rolled_of book)) (λ below. StandsIn book places lists below source) point
+
+-- the square of the concentration of a group, and the assets of which concentrations are measured
+abbrev pub IsSquare : Point → Type 0
+IsSquare point = (name : List ℕ) × (point ≡ points.Figure (nodes.Group name of_groups.ConcentrationSquare))
+
+abbrev pub assets : Point
+assets = points.Figure (nodes.Whole wholes.Assets)
+
+-- the square of a group stands at the number, and the assets are marked
+pub record IsLeftToAssets (book : RolledSheet) (places : Numbered) (lists : Lists) (marks : List ℕ) (number : ℕ) : Type 0 where
+  pub square : Point
+  pub is : IsSquare square
+  pub at : StandsIn book places lists square number
+  pub assets_at : ℕ
+  pub there : StandsIn book places lists assets assets_at
+  pub marked : Contains marks assets_at
+
+-- All that is reckoned from the point at the number is marked, and nothing but what leads to it. What squares lead to is left to the assets
+-- where these are marked, and is marked with these.
+pub record AreMarkedFrom (book : RolledSheet) (places : Numbered) (lists : Lists) (number : ℕ) (old new : List ℕ) : Type 0 where
+  pub once : IsDistinct nat_eq old → IsDistinct nat_eq new
+  pub kept : (place other : ℕ) → slice_get old place ≡ Some other → slice_get new place ≡ Some other
+  pub each : (other : ℕ) → Contains new other → Contains old other ⊎ IsAboveAt book places lists number other
+  pub all : (other : ℕ) → IsDependantAt book places lists number other → Contains new other ⊎ IsLeftToAssets book places lists old number
+  pub squares : StandsIn book places lists assets number → (square : Point) (at other : ℕ) → IsSquare square → StandsIn book places lists square at
+      → IsDependantAt book places lists at other → Contains new other
+
+-- the same of a point whose sources are linked, and of one whose sources are not
+abbrev pub IsLinkedDependantAt : RolledSheet → Numbered → Lists → ℕ → ℕ → Type 0
+IsLinkedDependantAt book places lists source number = (is : IsDependantAt book places lists source number) × IsLinkedPoint is.point
+
+abbrev pub IsPlainDependantAt : RolledSheet → Numbered → Lists → ℕ → ℕ → Type 0
+IsPlainDependantAt book places lists source number = (is : IsDependantAt book places lists source number) × (IsLinkedPoint is.point → ⊥)
+
+-- the row at a place of the table of the sum's members is a member of its list
+abbrev pub IsMemberAt : RolledSheet → Sum → ℕ → Type 0
+IsMemberAt book sum row =
+    (name : List ℕ) × (slice_get (names_in (table_of (roll_of sum)) book.sheet) row ≡ Some name) × Contains (roll_in (rolled_of book) sum) name
+
+-- a live square stands at the number, or what adds up squares, where there are any
+pub record IsSquareOrAbove (book : RolledSheet) (places : Numbered) (lists : Lists) (number : ℕ) : Type 0 where
+  pub point : Point
+  pub at : StandsIn book places lists point number
+  pub live : is_live_in (rolled_of book) point ≡ true
+  pub some : 0 < length (roll_in (rolled_of book) sums.Squares)
+  pub is : IsSquare point ⊎ ((reader : Reader) × IsReading sums.Squares reader point)
