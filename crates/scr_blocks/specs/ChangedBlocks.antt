@@ -34,7 +34,8 @@ came count levels.First i = grew count i
 came count levels.Second i = (count % 32 == 0) && grew (count / 32) i
 
 -- where the member at a place of so many leaves: the level ends, or it is the Block of that place, or that of the last, which
--- takes the place
+-- takes the place; at the second level the same Blocks change as where a member came to one fewer, since only the last Block
+-- of the first level comes or goes
 abbrev pub went : ℕ → ℕ → Level → ℕ → Bool
 went count place levels.First i = is_block_over count i && ((count == 33) || ((i == place / 32) || (i == (count - 1) / 32)))
 went count place levels.Second i = came (count - 1) levels.Second i

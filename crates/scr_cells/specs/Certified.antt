@@ -31,7 +31,7 @@ pub record KeepsWidth (factors : FactorValues) (sheet : BalanceSheet) (node : No
       → (bounds_at factors sheet node).high ≤ℤ ((bounds_at factors sheet node).low +ℤ pos width)
   pub near : (bounds_at factors sheet node).close ≡ true → RestsOnNearChoice factors sheet node
 
--- that of each cell is so
+-- of every cell the bounds enclose the exact figure and keep its stated width
 pub record Certified (factors : FactorValues) (sheet : BalanceSheet) : Type 0 where
   pub enclosing : AllByRecursion (λ cell. IsBounded factors sheet cell.node) table
   pub narrow : AllByRecursion (λ cell. KeepsWidth factors sheet cell.node) table

@@ -7,7 +7,8 @@ use Rattle.scr_profile.specs.Interest.{rise, fall, stress}
 use Rattle.scr_curve.specs.declared.tilt.Tilt.{Tilt}
 use Rattle.scr_curve.specs.declared.tilt.Tilt.TheVariants.{Base, Up, Down}
 
--- The rate of a curve at a maturity in years, from 1 on. Beyond the curve's last rate it is flat, this project's own.
+-- The rate of a curve at a maturity in years, from 1 on. Beyond the curve's last rate it is flat, this project's own; a curve
+-- without rates, which no valid book has, counts as 0.
 abbrev pub base_rate : List ℤ → ℕ → Fraction
 base_rate rates years = millionths (slice_index_or rates (min years (length rates) - 1) (pos 0))
 

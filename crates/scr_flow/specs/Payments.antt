@@ -7,7 +7,8 @@ use Rattle.scr_dates.specs.declared.term.Maturity.TheVariants.{Past, Years, TooF
 use Rattle.scr_dates.specs.Years.{maturity_of}
 use Rattle.scr_flow.specs.Loss.{discount_fall}
 
--- what one is worth at a maturity; what is past counts nothing (this project's own)
+-- What one is worth at a maturity; what is past counts nothing, and what lies beyond 100 years, which no valid book has,
+-- counts at its own year (this project's own).
 abbrev pub worth_at : (ℕ → Fraction) → Maturity → Fraction
 worth_at worth Past = zero_fraction
 worth_at worth (Years n) = worth n

@@ -11,6 +11,7 @@ module _ {A : Type 0} (none : A) (rule : Node → List A → A) (sheet : Balance
   reckoned_within zero node = none
   reckoned_within (suc levels) node = rule node (map (reckoned_within levels) (sources_of sheet node))
 
-  -- a chain of funds is no longer than their table, and above it each figure is of a later family than its sources
+  -- A chain of funds is no longer than their table. Above it each figure is of a later family than its sources, and no chain of
+  -- families has 200 of them.
   unfoldable pub reckoned : Node → A
   reckoned node = reckoned_within (length sheet.funds + 200) node

@@ -98,7 +98,7 @@ step_of_group sheet name = option_map_or (λ (group : Group). group.step) (group
 abbrev pub step_of : BalanceSheet → Position → Option ℕ
 step_of sheet position = option_map_or (step_of_group sheet) position.security.group None
 
--- what a bank owes, or a reinsurer, that is of the group
+-- the bank, and the reinsurer, is of this group of counterparties
 abbrev pub is_bank_of : List ℕ → Bank → Bool
 is_bank_of name bank = same_name name bank.group
 

@@ -44,8 +44,8 @@ diversified share = record {
   positive = mul-pos (lit< tt) share.positive;
 }
 
--- the standard deviation of a segment times its volumes for premium and reserve risk: the root of the squares of both
--- products of a standard deviation and its volume and of the product of these two (Article 117)
+-- the standard deviation of a segment times its volume for premium and reserve risk: the root of p² + p·r + r², where p and
+-- r are the standard deviation of premium and of reserve risk, each times its own volume (Article 117)
 abbrev pub deviation_figure : List (ℕ × ℕ) → (premium reserve : ℕ) → Figure
 deviation_figure volumes premium reserve =
     let p = product (millionths (pos premium)) (whole (pos (premium_volume volumes))) in

@@ -2,7 +2,7 @@
 use Rattle.std.specs.Prelude.{◌≡◌, ◌↔◌, ◌||◌, ℕ, true, List, Contains, Some, length, slice_get}
 use Rattle.scr_reach.specs.Graph.{Graph}
 
--- a figure that is touched leads to one, and so does one of which a source does
+-- a figure leads to a touched one where it is touched itself, or where one of its sources leads to one
 pub data Leads {Node : Type 0} (graph : Graph Node) (IsTouched : Node → Type 0) : Node → Type 0 where
   touched : (node : Node) → IsTouched node → Leads graph IsTouched node
   above : (node source : Node) → Contains (graph.sources node) source → Leads graph IsTouched source

@@ -130,7 +130,7 @@ volumes_of sets.Nslt numbers = numbers.nslt
 abbrev pub volumes_total : Set → BalanceSheet → ℕ
 volumes_total set sheet = sum_by (λ segment. sum_by (λ v. v.0 + v.1) segment) (volumes_of set sheet.numbers)
 
--- what banks hold, and the recoverables and the risk-mitigating effects of all reinsurers
+-- the exposures to all banks, and the recoverables and risk-mitigating effects of all reinsurers (Article 189)
 abbrev pub defaults_total : BalanceSheet → ℕ
 defaults_total sheet = sum_by (λ b. b.cents) sheet.banks + sum_by (λ r. r.recoverables + r.mitigation) sheet.reinsurers
 

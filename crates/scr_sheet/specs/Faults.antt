@@ -36,8 +36,8 @@ abbrev pub rates_fault : List ℤ → Option Fault
 rates_fault [] = Some (faults.Syntax 2)
 rates_fault (rate ∷ rates) = too_long 2 1 MAX_RATES (length (rate ∷ rates))
 
--- The first field that repeats a component, or that lies beyond the greatest length: of the component next, `field` is the
--- number, so many may still come, and these came before it.
+-- The first field that repeats a component, or that lies beyond the greatest length: `field` is the number of the next
+-- component's name, `left` how many components may still come, and `met` holds the names before it.
 abbrev pub components_fault : ℕ → ℕ → List (List ℕ) → List (List ℕ × ℤ) → Option Fault
 components_fault field left met [] = None
 components_fault field zero met (c ∷ cs) = Some (faults.Syntax field)
