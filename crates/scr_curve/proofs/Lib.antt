@@ -6,3 +6,4 @@ pub mod SameRates
 pub mod RateLemmas
 pub mod DiscountWidths
 pub mod FallLemmas
+pub mod TwoSteps

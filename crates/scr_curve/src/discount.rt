@@ -1,20 +1,27 @@
 //! The discounts that rates give.
 
-ghost use Rattle.std.specs.Prelude.{◌≡◌, ℕ, ℤ, ◌<◌, ◌≤◌, ◌+◌, pos, ◌+ℤ◌, map, slice_index_or, All};
+ghost use Rattle.std.specs.Prelude.{◌≡◌, ℕ, ℤ, ◌<◌, ◌≤◌, ◌+◌, ◌*◌, ◌/◌, ◌%◌, pos, ◌+ℤ◌, map, slice_index_or, All};
 ghost use Rattle.scr_num.specs.Fraction.{Fraction};
-ghost use Rattle.scr_num.specs.Rounding.{ends, or_zero};
+ghost use Rattle.scr_num.specs.Rounding.{ends, or_zero, scale_ends};
 ghost use Rattle.scr_num.specs.declared.span.Span.{Span};
 ghost use Rattle.scr_curve.specs.Parts.{parts, IsRateInParts, AreRates};
 ghost use Rattle.scr_curve.specs.DiscountEnds.{discount_ends, table_ends, IsDiscount, EncloseDiscounts, AreAboutPowers};
+ghost use Rattle.scr_curve.specs.declared.table.TheConstants.{MAX_DISCOUNT};
 
 use crate::Discounts;
-use scr_num::{Span, exact, scale};
+use scr_num::{Span, exact};
 
 /// One, in the unit of a discount.
 const ONE: i128 = 1_000_000_000_000_000_000;
 
 /// One, in the unit of a rate.
 const PARTS: i64 = 7_000_000_000;
+
+/// The same, to be multiplied by digits of a discount.
+const PARTS_IN_ONE: u64 = 7_000_000_000;
+
+/// The digits of a discount are taken in two steps, the last 30 bits in the second.
+const STEP: u64 = 1_073_741_824;
 
 /// The discounts of payments after 1 to 100 years, each at the rate of its maturity in seven-billionths. Both ends of
 /// a discount start at one and are divided by one plus the rate once a year, the low end rounded down and the high one
@@ -68,13 +75,45 @@ fn year_later(span: Span, rate: i64, years: usize) -> Span
     requires span { ends span ≡ discount_ends rate years }
     ensures { ends result ≡ discount_ends rate (years + 1) }
 {
-    scale(span, PARTS as u128, growth_of(rate))
+    lessened(span, growth_of(rate))
 }
 
 /// One plus the rate.
-fn growth_of(rate: i64) -> u128
+fn growth_of(rate: i64) -> u64
     requires { IsRateInParts rate }
-    ensures { result ≡ or_zero (pos parts +ℤ rate) }
+    ensures value { result ≡ or_zero (pos parts +ℤ rate) }
+    ensures least { 6_930_000_000 ≤ result }
+    ensures most { result ≤ 9_800_000_000 }
 {
-    (PARTS + rate) as u128
+    (PARTS + rate) as u64
+}
+
+/// A discount divided by one plus the rate, the low end rounded down and the high one up.
+fn lessened(span: Span, growth: u64) -> Span
+    requires discount { IsDiscount (ends span) }
+    requires least { 6_930_000_000 ≤ growth }
+    requires most { growth ≤ 9_800_000_000 }
+    ensures { ends result ≡ scale_ends (ends span) parts growth }
+{
+    let (low, _) = divided(span.low as u64, growth);
+    let (high, rest) = divided(span.high as u64, growth);
+    Span {
+        low: i128::from(low),
+        high: i128::from(high + rest.min(1)),
+    }
+}
+
+/// So many parts of a discount divided by one plus the rate, and what is left. In two steps, so that each product fits 64
+/// bits, which are divided at once.
+fn divided(discount: u64, growth: u64) -> (u64, u64)
+    requires small { discount ≤ MAX_DISCOUNT }
+    requires least { 6_930_000_000 ≤ growth }
+    requires most { growth ≤ 9_800_000_000 }
+    ensures quotient { result.0 ≡ discount * parts / growth }
+    ensures rest { result.1 ≡ discount * parts % growth }
+    ensures size { result.0 ≤ 2_800_000_000_000_000_000 }
+{
+    let front = discount / STEP * PARTS_IN_ONE;
+    let back = front % growth * STEP + discount % STEP * PARTS_IN_ONE;
+    (front / growth * STEP + back / growth, back % growth)
 }

@@ -7,3 +7,4 @@ pub mod SizeLemmas
 pub mod LossesEnclosed
 pub mod WidthLemmas
 pub mod WalkLemmas
+pub mod Shares

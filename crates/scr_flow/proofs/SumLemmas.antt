@@ -113,6 +113,11 @@ pub other_order : (flow low high : ℤ) → pos 0 ≤ℤ flow → low ≤ℤ hig
 other_order (pos n) low high h k = order_kept n low high k
 other_order (negsuc n) low high h k = absurd (omega (arith, ints))
 
+-- a payment of at least 0 exchanges no ends
+pub natural_ends : (flow : ℤ) (e : Ends) → pos 0 ≤ℤ flow → flow_ends flow e ≡ record { low = flow *ℤ e.low; high = flow *ℤ e.high }
+natural_ends (pos n) e h = refl
+natural_ends (negsuc n) e h = absurd (omega (arith, ints))
+
 -- ---- a loop over all places
 -- the most that one is worth
 abbrev pub most : ℕ

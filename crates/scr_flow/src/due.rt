@@ -31,8 +31,10 @@ pub fn bucket_by(years: &Years, pairs: &[(Day, i64)]) -> [i64; 100]
     ensures no_larger { sum_by unsigned_abs result ≤ total pairs.now }
 {
     let mut flows = [0; 100];
+    let mut last = 0;
     for (day, amount) in pairs {
-        let maturity = usize::from(years.until(*day));
+        let maturity = usize::from(years.until_after(last, *day));
+        last = maturity;
         if maturity > 0 {
             flows[maturity - 1] += *amount;
         }

@@ -1,11 +1,11 @@
 //! What payments lose by the falls of their discounts.
 
-ghost use Rattle.std.specs.Prelude.{◌≡◌, ◌*◌, ◌<◌, ◌≤◌, length, slice_index_or, sum_by, unsigned_abs};
+ghost use Rattle.std.specs.Prelude.{◌≡◌, ◌*◌, ◌<◌, ◌≤◌, pos, ◌≤ℤ◌, length, slice_index_or, sum_by, unsigned_abs};
 ghost use Rattle.scr_num.specs.Rounding.{Ends, ends};
 ghost use Rattle.scr_curve.specs.declared.table.TheConstants.{MAX_DISCOUNT};
 ghost use Rattle.scr_flow.specs.Sums.{flow_ends, weighted_ends};
 
-use crate::value::{weighted, weighted_sum};
+use crate::value::{promised, weighted_sum};
 use scr_curve::Falls;
 use scr_num::Span;
 
@@ -20,14 +20,15 @@ pub fn fallen(flows: &[i64; 100], falls: &Falls) -> Span
     weighted_sum(flows, falls.spans())
 }
 
-/// What a payment after `place` + 1 years loses.
+/// What a payment of at least 0 after `place` + 1 years loses.
 pub(crate) fn lost_at(falls: &Falls, place: usize, flow: i64) -> Span
     requires place { place < 100 }
+    requires not_negative { pos 0 ≤ℤ flow }
     requires flow_in { unsigned_abs flow ≤ 100_000_000_000_000 }
     ensures ends { (e : Ends) → ends result ≡ flow_ends flow (slice_index_or falls.now place e) }
     ensures count { length falls.now ≡ 100 }
     ensures low_size { unsigned_abs result.low ≤ MAX_DISCOUNT * unsigned_abs flow }
     ensures high_size { unsigned_abs result.high ≤ MAX_DISCOUNT * unsigned_abs flow }
 {
-    weighted(flow, falls.spans()[place])
+    promised(flow, falls.spans()[place])
 }

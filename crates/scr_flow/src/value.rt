@@ -1,6 +1,6 @@
 //! What payments are worth.
 
-ghost use Rattle.std.specs.Prelude.{◌≡◌, ℕ, ◌*◌, ◌≤◌, ◌*ℤ◌, All, length, map, sum_by, unsigned_abs};
+ghost use Rattle.std.specs.Prelude.{◌≡◌, ℕ, ◌*◌, ◌≤◌, pos, ◌*ℤ◌, ◌≤ℤ◌, All, length, map, sum_by, unsigned_abs};
 ghost use Rattle.scr_num.specs.Fraction.{Fraction};
 ghost use Rattle.scr_num.specs.Figure.{Frac};
 ghost use Rattle.scr_num.specs.Rounding.{ends};
@@ -58,12 +58,28 @@ pub(crate) fn weighted(flow: i64, span: Span) -> Span
     ensures low_size { unsigned_abs result.low ≤ MAX_DISCOUNT * unsigned_abs flow }
     ensures high_size { unsigned_abs result.high ≤ MAX_DISCOUNT * unsigned_abs flow }
 {
+    // Both are multiplied before the sign is asked for, so that numbers of either sign are multiplied at once.
+    let low = product(flow, span.low);
+    let high = product(flow, span.high);
     if flow < 0 {
         return Span {
-            low: product(flow, span.high),
-            high: product(flow, span.low),
+            low: high,
+            high: low,
         };
     }
+    Span { low, high }
+}
+
+/// The same of a payment of at least 0, of which no sign is asked for.
+pub(crate) fn promised(flow: i64, span: Span) -> Span
+    requires not_negative { pos 0 ≤ℤ flow }
+    requires flow_in { unsigned_abs flow ≤ 100_000_000_000_000 }
+    requires low_in { unsigned_abs span.low ≤ MAX_DISCOUNT }
+    requires high_in { unsigned_abs span.high ≤ MAX_DISCOUNT }
+    ensures ends { ends result ≡ flow_ends flow (ends span) }
+    ensures low_size { unsigned_abs result.low ≤ MAX_DISCOUNT * unsigned_abs flow }
+    ensures high_size { unsigned_abs result.high ≤ MAX_DISCOUNT * unsigned_abs flow }
+{
     Span {
         low: product(flow, span.low),
         high: product(flow, span.high),
@@ -76,5 +92,6 @@ fn product(flow: i64, end: i128) -> i128
     ensures value { result ≡ flow *ℤ end }
     ensures size { unsigned_abs result ≤ MAX_DISCOUNT * unsigned_abs flow }
 {
-    i128::from(flow) * end
+    // Both are numbers of 64 bits, which are multiplied at once.
+    i128::from(flow) * i128::from(end as i64)
 }

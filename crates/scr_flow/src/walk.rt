@@ -36,8 +36,10 @@ pub fn both_losses(
 {
     let mut left = exact(0);
     let mut right = exact(0);
+    let mut last = 0;
     for (day, amount) in pairs {
-        let maturity = usize::from(years.until(*day));
+        let maturity = usize::from(years.until_after(last, *day));
+        last = maturity;
         if maturity > 0 {
             left = add(left, lost_at(first, maturity - 1, *amount));
             right = add(right, lost_at(second, maturity - 1, *amount));

@@ -104,6 +104,18 @@ too-far asof pay day ahead before =
           (λ j a b. int_le-no pay (anniversary asof j) (early j (omega (arith, b)))),
     )
 
+-- what comes after an anniversary comes after the reference day
+pub after-first : (asof pay : ℤ) (n : ℕ) → IsDay asof → n < 100 → anniversary asof n <ℤ pay → asof <ℤ pay
+after-first asof pay n day few before =
+    let (d, is) = dated asof day in
+    let first = first-day asof day in
+    elim (cases_lt 0 n) [
+      | inl lt ↦
+          let less = anniversary-lt d 0 n (omega (arith, signed_arith, is.year, few)) lt in
+          omega (arith, signed_arith, less, rw is.same at before, rw is.same at first)
+      | inr ge ↦ let same : n ≡ 0 = omega (arith, ge) in omega (arith, signed_arith, first, rw same at before)
+    ]
+
 -- ---- the years that a maturity tells
 pub past-years : (asof pay : ℤ) → pay ≤ℤ asof → years_of (maturity_of asof pay) ≡ 0
 past-years asof pay past = rw (int_le-yes pay asof past) refl

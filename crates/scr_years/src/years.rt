@@ -66,6 +66,19 @@ impl Years {
         unreachable!()
     }
 
+    /// The same. The year after so many is tried first, since payments mostly follow one another year by year.
+    pub fn until_after(&self, last: usize, pay: Day) -> u8
+        requires pay_in { IsDay pay.number }
+        requires near { (years : ℕ) → maturity_of self.now pay.number ≢ TooFar years }
+        ensures value { result ≡ years_of (maturity_of self.now pay.number) }
+        ensures most { result ≤ 100 }
+    {
+        if last < 100 && self.days[last] < pay.number && pay.number <= self.days[last + 1] {
+            return (last + 1) as u8;
+        }
+        self.until(pay)
+    }
+
     // A number of years before which the payment is not reached.
     fn first_guess(&self, pay: Day) -> usize
         requires pay_in { IsDay pay.number }

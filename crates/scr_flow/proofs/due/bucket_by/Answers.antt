@@ -15,13 +15,13 @@ loop-day-init c = due_begun c.args.years.now c.args.pairs.now
 abbrev nobody : Day × ℤ
 nobody = (record { number = pos 0 }, pos 0)
 
-pub until-requires-clause-near : goal.until-requires-clause-near
-until-requires-clause-near c = λ years. c.requires.near c.loop-day.day-index nobody (omega arith) years
+pub until_after-requires-clause-near : goal.until_after-requires-clause-near
+until_after-requires-clause-near c = λ years. c.requires.near c.loop-day.day-index nobody (omega arith) years
 
 pub overflow_add-flows : goal.overflow_add-flows
 overflow_add-flows c =
     let some : 1 ≤ c.from-maturity.result = omega (arith, c.if-maturity-gt0.true) in
-    let most : c.from-maturity.result ≤ 100 = omega (arith, c.from-maturity.ensures, c.until.ensures.most) in
+    let most : c.from-maturity.result ≤ 100 = omega (arith, c.from-maturity.ensures, c.until_after.ensures.most) in
     let flow : FitsSigned w64 (get_or c.loop-day.flows (c.from-maturity.result - 1) (pos 0)) = search rules in
     let amount : FitsSigned w64 (get_or c.args.pairs.now c.loop-day.day-index nobody).1 = search rules in
     let small = due_small c.loop-day.day-index c.args.years.now c.args.pairs.now c.loop-day.flows nobody (c.from-maturity.result - 1) (pos 0) (omega arith) (omega (arith, some, most)) c.loop-day.invariant in
@@ -34,11 +34,11 @@ loop-day-preserved c =
     let pairs = c.args.pairs.now in
     let place : c.loop-day.day-index < length c.args.pairs.now = omega arith in
     let near : (years : ℕ) → maturity_of asof (get_or pairs i nobody).0.number ≡ TooFar years → ⊥ = λ years. c.requires.near i nobody place years in
-    let years = c.from-maturity.ensures ∙ c.until.ensures.value in
+    let years = c.from-maturity.ensures ∙ c.until_after.ensures.value in
     elim c.if-maturity-gt0.branch [
       | then-maturity-gt0 w ↦
           let some : 1 ≤ c.from-maturity.result = omega (arith, w.if-maturity-gt0.true) in
-          let most : c.from-maturity.result ≤ 100 = omega (arith, c.from-maturity.ensures, c.until.ensures.most) in
+          let most : c.from-maturity.result ≤ 100 = omega (arith, c.from-maturity.ensures, c.until_after.ensures.most) in
           let flow : FitsSigned w64 (get_or c.loop-day.flows (c.from-maturity.result - 1) (pos 0)) = search rules in
           let amount : FitsSigned w64 (get_or c.args.pairs.now c.loop-day.day-index nobody).1 = search rules in
           let small = due_small i asof pairs c.loop-day.flows nobody (c.from-maturity.result - 1) (pos 0) place (omega (arith, some, most)) c.loop-day.invariant in

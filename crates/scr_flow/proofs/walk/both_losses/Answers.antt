@@ -21,8 +21,8 @@ loop-day-init c =
     rw c.exact-right.ensures.ends (lost-begun c.args.years.now c.args.pairs.now c.args.second.now) in
     (left, right)
 
-pub until-requires-clause-near : goal.until-requires-clause-near
-until-requires-clause-near c = λ years. c.requires.near c.loop-day.day-index nobody (omega arith) years
+pub until_after-requires-clause-near : goal.until_after-requires-clause-near
+until_after-requires-clause-near c = λ years. c.requires.near c.loop-day.day-index nobody (omega arith) years
 
 pub lost_at-requires-clause-flow_in : goal.lost_at-requires-clause-flow_in
 lost_at-requires-clause-flow_in c =
@@ -34,6 +34,16 @@ lost_at-requires-then-maturity-gt0-clause-flow_in c =
     let amount : FitsSigned w64 (get_or c.args.pairs.now c.loop-day.day-index nobody).1 = search rules in
     simp to_z-of_z (omega (arith, amount-small c.loop-day.day-index c.args.pairs.now nobody (omega arith), c.requires.small))
 
+pub lost_at-requires-clause-not_negative : goal.lost_at-requires-clause-not_negative
+lost_at-requires-clause-not_negative c =
+    let amount : FitsSigned w64 (get_or c.args.pairs.now c.loop-day.day-index nobody).1 = search rules in
+    simp to_z-of_z (c.requires.none_owed c.loop-day.day-index nobody (omega arith))
+
+pub lost_at-requires-then-maturity-gt0-clause-not_negative : goal.lost_at-requires-then-maturity-gt0-clause-not_negative
+lost_at-requires-then-maturity-gt0-clause-not_negative c =
+    let amount : FitsSigned w64 (get_or c.args.pairs.now c.loop-day.day-index nobody).1 = search rules in
+    simp to_z-of_z (c.requires.none_owed c.loop-day.day-index nobody (omega arith))
+
 pub loop-day-preserved : goal.loop-day-preserved
 loop-day-preserved c =
     let i = c.loop-day.day-index in
@@ -41,11 +51,11 @@ loop-day-preserved c =
     let pairs = c.args.pairs.now in
     let inside : c.loop-day.day-index < length c.args.pairs.now = omega arith in
     let near : (years : ℕ) → maturity_of asof (get_or pairs i nobody).0.number ≡ TooFar years → ⊥ = λ years. c.requires.near i nobody inside years in
-    let years = c.from-maturity.ensures ∙ c.until.ensures.value in
+    let years = c.from-maturity.ensures ∙ c.until_after.ensures.value in
     elim c.if-maturity-gt0.branch [
       | then-maturity-gt0 w ↦
           let some : 1 ≤ c.from-maturity.result = omega (arith, w.if-maturity-gt0.true) in
-          let most : c.from-maturity.result ≤ 100 = omega (arith, c.from-maturity.ensures, c.until.ensures.most) in
+          let most : c.from-maturity.result ≤ 100 = omega (arith, c.from-maturity.ensures, c.until_after.ensures.most) in
           let amount : FitsSigned w64 (get_or c.args.pairs.now c.loop-day.day-index nobody).1 = search rules in
           let place = c.from-maturity.result - 1 in
           let few : place < 100 = omega (arith, some, most) in

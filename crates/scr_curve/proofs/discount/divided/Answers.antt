@@ -1,0 +1,11 @@
+use Rattle.scr_curve.proofs.TwoSteps.{two-steps}
+use Rattle.scr_curve.proofs.discount.divided.Goals as goal
+
+pub returns-clause-quotient : goal.returns-clause-quotient
+returns-clause-quotient c = (two-steps c.args.discount c.args.growth c.requires.small c.requires.least c.requires.most).quotient
+
+pub returns-clause-rest : goal.returns-clause-rest
+returns-clause-rest c = (two-steps c.args.discount c.args.growth c.requires.small c.requires.least c.requires.most).rest
+
+pub returns-clause-size : goal.returns-clause-size
+returns-clause-size c = (two-steps c.args.discount c.args.growth c.requires.small c.requires.least c.requires.most).size
