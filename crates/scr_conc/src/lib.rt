@@ -75,20 +75,21 @@ pub fn square(base: u64, exposure: u64, ct: u32, g: u32) -> u128
         (squared (requirement_exact (whole (pos base)) (whole (pos exposure)) threshold factor)) }
     ensures size { result ≤ (73_000 * exposure) * (73_000 * exposure) }
 {
-    let required = requirement(base, exposure, ct, g);
+    let required = u128::from(requirement(base, exposure, ct, g));
     required * required
 }
 
 // In hundred-thousandths of a cent.
-fn requirement(base: u64, exposure: u64, ct: u32, g: u32) -> u128
+fn requirement(base: u64, exposure: u64, ct: u32, g: u32) -> u64
     requires exposed { exposure ≤ MAX_HELD }
     requires held { base ≤ MAX_HELD }
+    requires threshold { ct ≤ 150 }
     requires factor { g ≤ 73 }
     ensures value { result ≡ requirement_units base exposure ct g }
     ensures size { result ≤ 73_000 * exposure }
 {
-    let excess = (1000 * u128::from(exposure)).saturating_sub(u128::from(ct) * u128::from(base));
-    excess * u128::from(g)
+    let excess = (1000 * exposure).saturating_sub(u64::from(ct) * base);
+    excess * u64::from(g)
 }
 
 /// The capital requirement for market risk concentrations in grains, thousandths of a cent: Article 183(1), over

@@ -4,7 +4,7 @@ use Rattle.std.specs.Prelude.{All}
 use Rattle.std.specs.List.{IsDistinct, list_any, range_with_len}
 use Rattle.std.specs.Option.{option_map, option_map_or}
 use Rattle.std.proofs.lemmas.Int.{ints}
-use Rattle.std.proofs.lemmas.List.{drop_more, get_or-map, length-map, map-append, take_more_set}
+use Rattle.std.proofs.lemmas.List.{drop_all, drop_more, get_or-map, length-map, map-append, take_more_set}
 use Rattle.std.proofs.lemmas.List.Elements.{All-from_recursion}
 use Rattle.std.proofs.lemmas.List.Sums.{sum_by-cons}
 use Rattle.std.proofs.lemmas.Option.{get_or_from_slice_get, slice_get_within, slice_get-map}
@@ -121,6 +121,23 @@ module _ (name : List ℕ) where
   none-left : (rest : List Share) → parts_held rest [] ≡ 0
   none-left [] = refl
   none-left (s ∷ rest) = refl
+
+  -- where no fund is left, or no total, the sum is the whole
+  pub added-funds : (cents : ℕ) (funds : List Stake) (figures : List Ends) (k next sum : ℕ) → length funds ≤ k
+      → AreAdded cents funds figures k next sum → sum ≡ cents + parts_held (shares funds) figures
+  added-funds cents funds figures k next sum past so =
+      let none : parts_held (shares (drop k funds)) (drop next figures) ≡ 0 =
+      ap (λ stakes. parts_held (shares stakes) (drop next figures)) (drop_all k funds past) in
+      let all = so.so_far in
+      omega (arith, all, none)
+
+  pub added-totals : (cents : ℕ) (funds : List Stake) (figures : List Ends) (k next sum : ℕ) → length figures ≤ next
+      → AreAdded cents funds figures k next sum → sum ≡ cents + parts_held (shares funds) figures
+  added-totals cents funds figures k next sum past so =
+      let none : parts_held (shares (drop k funds)) (drop next figures) ≡ 0 =
+      ap (parts_held (shares (drop k funds))) (drop_all next figures past) ∙ none-left (shares (drop k funds)) in
+      let all = so.so_far in
+      omega (arith, all, none)
 
   no-part : (share : Share) → part_of 0 share ≡ 0
   no-part share = nothing share.through share.before share.all

@@ -37,3 +37,4 @@ pub mod NonlifeCode
 pub mod GroupSums
 pub mod FallRows
 pub mod RowFigures
+pub mod GroupRows

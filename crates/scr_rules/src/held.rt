@@ -16,7 +16,8 @@ use scr_book::{BalanceSheet, Name, Stake};
 use scr_num::{Span, exact};
 
 /// So many cents, and the parts in all funds that hold what has this name, whose totals are those of the spans (Article 84 of
-/// Delegated Regulation (EU) 2015/35). The cost is that of a walk along all funds and their components.
+/// Delegated Regulation (EU) 2015/35). The cost is that of a walk along the funds and their components up to the last fund
+/// that holds it; of what no fund holds none is looked at.
 pub(crate) fn held(sheet: &BalanceSheet, name: &Name, cents: u64, spans: &[Span]) -> Span
     requires valid { Valid sheet.now }
     requires fits { FitsHeld cents (map (share_in name.now) (holders name.now sheet.now)) (map ends spans.now) }
@@ -26,6 +27,9 @@ pub(crate) fn held(sheet: &BalanceSheet, name: &Name, cents: u64, spans: &[Span]
     let mut sum = cents;
     let mut next = 0;
     for k in 0..sheet.funds.len() {
+        if next == spans.len() {
+            break;
+        }
         let stake = sheet.funds.at(k);
         match share_of(name, stake) {
             Some(share) => {

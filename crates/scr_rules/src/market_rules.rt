@@ -1,5 +1,5 @@
 //! The rules of market risk besides interest rate and equity risk.
-ghost use Rattle.std.specs.Prelude.{◌≡◌, ◌*◌, ◌^◌, ◌<◌, ◌≤◌, pos, ◌≤ℤ◌, All, map, sum_by, unsigned_abs, IfSome};
+ghost use Rattle.std.specs.Prelude.{◌≡◌, ◌*◌, ◌^◌, ◌<◌, ◌≤◌, pos, ◌≤ℤ◌, All, map, sum_by, unsigned_abs, IfSome, Some, [], ◌∷◌};
 ghost use Rattle.scr_num.specs.Amounts.{IsAmount};
 ghost use Rattle.scr_num.specs.Rounding.{ends, exact_ends};
 ghost use Rattle.scr_num.specs.Sizes.{AreTogether, IsWithin};
@@ -21,6 +21,8 @@ ghost use Rattle.scr_nodes.specs.declared.node.OfSecurity.TheVariants as of_secu
 ghost use Rattle.scr_nodes.specs.declared.node.OfLiability.TheVariants as of_liabilities;
 ghost use Rattle.scr_nodes.specs.declared.node.OfGroup.TheVariants as of_groups;
 ghost use Rattle.scr_discounts.specs.Discounts.{no_discounts};
+ghost use Rattle.scr_nodes.specs.Rows.{group_of};
+ghost use Rattle.scr_rules.specs.ByRow.{by_rule};
 ghost use Rattle.scr_rules.specs.Fits.{Fits};
 ghost use Rattle.scr_discounts.specs.Kept.{rows_of, row_in, tables, AreDiscountsOf};
 ghost use Rattle.scr_rules.specs.Discounts.{discounts_in};
@@ -32,7 +34,7 @@ ghost use Rattle.scr_rules.specs.Rules.{amount_of, amount_at, first_sum, other_s
 
 use crate::known::bucketed;
 use crate::spans::{amount, at};
-use scr_book::{BalanceSheet, GroupKind, Name, Position};
+use scr_book::{BalanceSheet, Book, Group, GroupKind, Name, Position};
 use scr_conc::{charge_of, root, threshold_of};
 use scr_curve::Discounts;
 use scr_dates::Day;
@@ -246,6 +248,24 @@ pub(crate) fn square(factors: &Factors, sheet: &BalanceSheet, name: &Name, spans
         Some(group) => group_square(group.kind, group.step, assets, exposure),
         None => group_square(GroupKind::Name, None, assets, exposure),
     }
+}
+
+/// The square of the requirement for the group in a row, from the assets of which concentrations are measured and what is held of the group
+/// (Articles 182 to 185). The row is that of its name.
+pub fn concentration_square(
+    factors: &Factors,
+    book: &Book,
+    group: &Group,
+    assets: Span,
+    exposure: Span,
+) -> Span
+    requires row { group_of group.now.name book.now.sheet.groups ≡ Some group.now }
+    requires fits { Fits (own_of factors.now book.now.sheet (nodes.Group group.now.name of_groups.ConcentrationSquare))
+        (ends assets ∷ ends exposure ∷ []) }
+    ensures { ends result ≡ by_rule factors.now book.now.sheet [] (nodes.Group group.now.name of_groups.ConcentrationSquare)
+        (ends assets ∷ ends exposure ∷ []) }
+{
+    group_square(group.kind, group.step, assets, exposure)
 }
 
 fn group_square(kind: GroupKind, step: Option<u8>, assets: Span, exposure: Span) -> Span

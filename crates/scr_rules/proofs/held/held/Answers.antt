@@ -1,11 +1,14 @@
-use Rattle.std.proofs.Common.{map, sym, subst, arith}
+use Rattle.std.proofs.Common.{◌≡◌, ◌≤◌, ◌+◌, length, map, sym, subst, arith, rules}
+use Rattle.std.proofs.lemmas.List.{length-map}
 use Rattle.scr_num.specs.Rounding.{ends}
 use Rattle.scr_rules.specs.Fits.{IsShare}
 use Rattle.scr_rules.specs.Weights.{shown}
-use Rattle.scr_rules.proofs.CodeLemmas.{stake-formed, part-worked, part-small, added-part, added-none}
+use Rattle.scr_nodes.specs.Rows.{holders, share_in}
+use Rattle.scr_rules.specs.Rules.{parts_held}
+use Rattle.scr_rules.proofs.CodeLemmas.{stake-formed, part-worked, part-small, added-part, added-none, added-funds, added-totals}
 use Rattle.scr_rules.proofs.ShareParts.{share-fits}
 use Rattle.scr_rules.proofs.held.held.Goals as goal
-use Rattle.scr_rules.proofs.held.held.Goals.{in-Some, in-None}
+use Rattle.scr_rules.proofs.held.held.Goals.{in-Some, in-None, else-loop-k-test, then-loop-k-test+then-next-spans}
 
 pub part-sum-requires-clause-share : goal.part-sum-requires-clause-share
 part-sum-requires-clause-share c =
@@ -33,3 +36,19 @@ loop-k-preserved c =
       | in-None w ↦
           rw (w.sum-is, w.next-is) (added-none name c.args.cents funds figures c.loop-k.k c.loop-k.next c.loop-k.sum c.at-stake.result.now c.at-stake.ensures c.loop-k.invariant w.in-None.ensures)
     ]
+
+pub returns : goal.returns
+returns c =
+    let name = c.args.name.now in
+    let funds = c.args.sheet.now.funds in
+    let figures = map ends c.args.spans.now in
+    let all : c.loop-k.sum ≡ c.args.cents + parts_held (map (share_in name) (holders name c.args.sheet.now)) figures =
+    elim c.loop-k-test.branch [
+      | else-loop-k-test w ↦
+          let past : length funds ≤ c.loop-k.k = let count = c.len-k-end.ensures.count in omega (arith, count, w.loop-k-test.false) in
+          added-funds name c.args.cents funds figures c.loop-k.k c.loop-k.next c.loop-k.sum past c.loop-k.invariant
+      | then-loop-k-test+then-next-spans w ↦
+          let past : length figures ≤ c.loop-k.next = let long = length-map c.args.spans.now ends in omega (arith, long, w.if-next-spans.true) in
+          added-totals name c.args.cents funds figures c.loop-k.k c.loop-k.next c.loop-k.sum past c.loop-k.invariant
+    ] in
+    rw (← all) (search rules)
