@@ -14,48 +14,48 @@ pub record Filled (table : Table) (rows : ℕ) (before now : Numbered) : Type 0 
   pub others : IsSameBut table before now
   pub more : count now table ≡ count before table + rows
 
-module _ (sheet : BalanceSheet) (none funds securities liabilities groups all : Numbered) (new : IsNew none)
+module _ (sheet : BalanceSheet) (none funds currencies groups securities all : Numbered) (new : IsNew none)
     (f : Filled tables.Fund (length sheet.funds) none funds)
-    (s : Filled tables.Security (length sheet.securities) funds securities)
-    (l : Filled tables.Liability (length sheet.liabilities) securities liabilities)
-    (g : Filled tables.Group (length sheet.groups) liabilities groups)
-    (c : Filled tables.Currency (length sheet.curves) groups all) where
+    (c : Filled tables.Currency (length sheet.curves) funds currencies)
+    (g : Filled tables.Group (length sheet.groups) currencies groups)
+    (s : Filled tables.Security (length sheet.securities) groups securities)
+    (l : Filled tables.Liability (length sheet.liabilities) securities all) where
   counted : (table : Table) → is_of_sheet table ≡ true → count all table ≡ length (names_in sheet table)
   counted tables.Whole of =
-      c.others.counts tables.Whole refl ∙ g.others.counts tables.Whole refl ∙ l.others.counts tables.Whole refl
-      ∙ s.others.counts tables.Whole refl ∙ f.others.counts tables.Whole refl ∙ new.whole_count
+      l.others.counts tables.Whole refl ∙ s.others.counts tables.Whole refl ∙ g.others.counts tables.Whole refl
+      ∙ c.others.counts tables.Whole refl ∙ f.others.counts tables.Whole refl ∙ new.whole_count
   counted tables.Fund of =
-      let kept = c.others.counts tables.Fund refl ∙ g.others.counts tables.Fund refl ∙ l.others.counts tables.Fund refl
-      ∙ s.others.counts tables.Fund refl in
+      let kept = l.others.counts tables.Fund refl ∙ s.others.counts tables.Fund refl ∙ g.others.counts tables.Fund refl
+      ∙ c.others.counts tables.Fund refl in
       let none_yet = new.counts tables.Fund refl in
       let long = length-map sheet.funds stake_name in
       omega (arith, kept, f.more, none_yet, long)
+  counted tables.Currency of =
+      let kept = l.others.counts tables.Currency refl ∙ s.others.counts tables.Currency refl ∙ g.others.counts tables.Currency refl in
+      let none_yet = f.others.counts tables.Currency refl ∙ new.counts tables.Currency refl in
+      let long = length-map sheet.curves curve_name in
+      omega (arith, kept, c.more, none_yet, long)
+  counted tables.Group of =
+      let kept = l.others.counts tables.Group refl ∙ s.others.counts tables.Group refl in
+      let none_yet = c.others.counts tables.Group refl ∙ f.others.counts tables.Group refl ∙ new.counts tables.Group refl in
+      let long = length-map sheet.groups group_name in
+      omega (arith, kept, g.more, none_yet, long)
   counted tables.Security of =
-      let kept = c.others.counts tables.Security refl ∙ g.others.counts tables.Security refl ∙ l.others.counts tables.Security refl in
-      let none_yet = f.others.counts tables.Security refl ∙ new.counts tables.Security refl in
+      let kept = l.others.counts tables.Security refl in
+      let none_yet = g.others.counts tables.Security refl ∙ c.others.counts tables.Security refl ∙ f.others.counts tables.Security refl
+      ∙ new.counts tables.Security refl in
       let long = length-map sheet.securities position_name in
       omega (arith, kept, s.more, none_yet, long)
   counted tables.Liability of =
-      let kept = c.others.counts tables.Liability refl ∙ g.others.counts tables.Liability refl in
-      let none_yet = s.others.counts tables.Liability refl ∙ f.others.counts tables.Liability refl ∙ new.counts tables.Liability refl in
+      let none_yet = s.others.counts tables.Liability refl ∙ g.others.counts tables.Liability refl ∙ c.others.counts tables.Liability refl
+      ∙ f.others.counts tables.Liability refl ∙ new.counts tables.Liability refl in
       let long = length-map sheet.liabilities liability_name in
-      omega (arith, kept, l.more, none_yet, long)
-  counted tables.Group of =
-      let kept = c.others.counts tables.Group refl in
-      let none_yet = l.others.counts tables.Group refl ∙ s.others.counts tables.Group refl ∙ f.others.counts tables.Group refl
-      ∙ new.counts tables.Group refl in
-      let long = length-map sheet.groups group_name in
-      omega (arith, kept, g.more, none_yet, long)
-  counted tables.Currency of =
-      let none_yet = g.others.counts tables.Currency refl ∙ l.others.counts tables.Currency refl ∙ s.others.counts tables.Currency refl
-      ∙ f.others.counts tables.Currency refl ∙ new.counts tables.Currency refl in
-      let long = length-map sheet.curves curve_name in
-      omega (arith, c.more, none_yet, long)
+      omega (arith, l.more, none_yet, long)
   counted tables.Part of = absurd (cc)
 
   pub filled : IsNumbered sheet all
   filled = record {
     rows = counted;
-    whole = c.others.firsts tables.Whole refl 0 ∙ g.others.firsts tables.Whole refl 0 ∙ l.others.firsts tables.Whole refl 0
-        ∙ s.others.firsts tables.Whole refl 0 ∙ f.others.firsts tables.Whole refl 0 ∙ new.whole_first;
+    whole = l.others.firsts tables.Whole refl 0 ∙ s.others.firsts tables.Whole refl 0 ∙ g.others.firsts tables.Whole refl 0
+        ∙ c.others.firsts tables.Whole refl 0 ∙ f.others.firsts tables.Whole refl 0 ∙ new.whole_first;
   }

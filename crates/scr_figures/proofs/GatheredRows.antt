@@ -1,27 +1,18 @@
 -- Under which keys each row is entered.
-use Rattle.std.proofs.Common.{◌≡◌, ℕ, zero, suc, ◌+◌, ◌<◌, ◌==◌, Bool, true, false, cond, ◌&&◌, ◌||◌, List, [], ◌∷◌, ◌++◌, length, map, take, get_or, replicate, slice_get, Option, Some, None, IfSome, is_some, option_map, Result, Ok, Err, OnOk, refl, sym, ap, subst, ◌∙◌, arith}
+use Rattle.std.proofs.Common.{◌≡◌, ℕ, zero, suc, ◌+◌, ◌<◌, ◌==◌, Bool, true, false, ◌||◌, List, [], ◌∷◌, length, map, take, get_or, replicate, slice_get, Option, Some, None, IfSome, is_some, option_map, Result, Ok, Err, OnOk, refl, sym, ap, subst, ◌∙◌, arith}
 use Rattle.std.specs.List.{AllByRecursion, IsDistinct, list_any}
-use Rattle.std.specs.Option.{option_map_or}
 use Rattle.std.proofs.lemmas.List.{length-map}
 use Rattle.std.proofs.lemmas.Option.{slice_get-get_or, slice_get-map, slice_get_within}
-use Rattle.std.specs.Bool.{then_some}
 use Rattle.scr_names.specs.Names.{same_name}
 use Rattle.scr_names.specs.Tables.{has_row}
 use Rattle.scr_names.proofs.TableRows.{IsFresh, fresh_from_has_row, same_name-flip}
 use Rattle.scr_profile.specs.DefaultClasses.{class_of_step, default_classes, first_step}
 use Rattle.scr_profile.specs.declared.default_class.DefaultClass.{DefaultClass}
 use Rattle.scr_profile.specs.declared.default_class.DefaultClass.TheVariants as default_kinds
-use Rattle.scr_sheet.specs.declared.rows.Class.{Class}
-use Rattle.scr_sheet.specs.declared.rows.Class.TheVariants as class_kinds
-use Rattle.scr_sheet.specs.declared.keys.Projection.{Projection}
 use Rattle.scr_sheet.specs.declared.rows.Group.{Group}
-use Rattle.scr_sheet.specs.declared.rows.Position.{Position}
-use Rattle.scr_nodes.specs.Rows.{is_of_class, is_of_default_class, is_of_group}
-use Rattle.scr_sheet.specs.declared.keys.Projection.TheVariants as projection_kinds
-use Rattle.scr_nodes.specs.Numbers.{class_place}
-use Rattle.scr_figures.specs.Gathered.{classes, projection_place, projections}
+use Rattle.scr_nodes.specs.Rows.{is_of_default_class}
 use Rattle.scr_figures.specs.Places.{AreSame, IsMore, IsMoreAt, IsOnly, entered_at, entered_where, places_by, places_where}
-use Rattle.scr_figures.proofs.Entering.{entered-more, entered-next, entered-none, name-at, name-nowhere, places-more, row-entered}
+use Rattle.scr_figures.proofs.Entering.{entered-more, entered-none, name-at, name-nowhere, row-entered}
 
 -- ---- keys
 
@@ -70,19 +61,6 @@ module _ {Key : Type 0} where
 
 -- ---- classes
 
-pub class-only : (of : Class) → IsOnly (λ class. is_of_class class of) (Some (class_place of)) classes
-class-only class_kinds.Type1Equity = tested (λ class. is_of_class class class_kinds.Type1Equity) 0 classes (omega arith) refl
-class-only class_kinds.Type1Strategic = tested (λ class. is_of_class class class_kinds.Type1Strategic) 1 classes (omega arith) refl
-class-only class_kinds.Type2Equity = tested (λ class. is_of_class class class_kinds.Type2Equity) 2 classes (omega arith) refl
-class-only class_kinds.Type2Strategic = tested (λ class. is_of_class class class_kinds.Type2Strategic) 3 classes (omega arith) refl
-class-only class_kinds.Infrastructure = tested (λ class. is_of_class class class_kinds.Infrastructure) 4 classes (omega arith) refl
-class-only class_kinds.InfrastructureCorporate =
-    tested (λ class. is_of_class class class_kinds.InfrastructureCorporate) 5 classes (omega arith) refl
-class-only class_kinds.Property = tested (λ class. is_of_class class class_kinds.Property) 6 classes (omega arith) refl
-class-only class_kinds.Bond = tested (λ class. is_of_class class class_kinds.Bond) 7 classes (omega arith) refl
-class-only class_kinds.Government = tested (λ class. is_of_class class class_kinds.Government) 8 classes (omega arith) refl
-class-only class_kinds.Other = tested (λ class. is_of_class class class_kinds.Other) 9 classes (omega arith) refl
-
 default-at : (of : DefaultClass) → IsOnly (λ class. first_step of == first_step class) (Some (first_step of)) default_classes
 default-at default_kinds.Step0 = tested (λ class. 0 == first_step class) 0 default_classes (omega arith) refl
 default-at default_kinds.Step1 = tested (λ class. 1 == first_step class) 1 default_classes (omega arith) refl
@@ -117,45 +95,6 @@ row-within name_of name rows (Some k) n all at =
     let same : length (map name_of rows) ≡ length rows = length-map rows name_of in
     omega (arith, all, within, same)
 
--- a test that holds of the same keys
-pub only-alike : {Key : Type 0} (place : Option ℕ) (test like : Key → Bool) (keys : List Key)
-    → ((key : Key) → like key ≡ test key) → IsOnly test place keys → IsOnly like place keys
-only-alike {Key} None test like keys same only = alike keys only
-  where
-    alike : (keys : List Key) → AreSame (λ key. false) test keys → AreSame (λ key. false) like keys
-    alike [] all = tt
-    alike (key ∷ keys) all = (same key ∙ all.0, alike keys all.1)
-only-alike {Key} (Some place) test like keys same only = alike place keys only
-  where
-    rest : (keys : List Key) → AreSame (λ key. false) test keys → AreSame (λ key. false) like keys
-    rest [] all = tt
-    rest (key ∷ keys) all = (same key ∙ all.0, rest keys all.1)
-
-    alike : (place : ℕ) (keys : List Key) → IsMoreAt (λ key. false) test place keys → IsMoreAt (λ key. false) like place keys
-    alike place [] more = absurd more
-    alike zero (key ∷ keys) more = (more.0, same key ∙ more.1, rest keys more.2)
-    alike (suc place) (key ∷ keys) more = (same key ∙ more.0, alike place keys more.1)
-
--- nothing passes
-pub only-none : {Key : Type 0} (test : Key → Bool) (keys : List Key) → ((key : Key) → test key ≡ false) → IsOnly test None keys
-only-none test [] not = tt
-only-none test (key ∷ keys) not = (not key, only-none test keys not)
-
-pub and-true : (a b : Bool) → b ≡ true → (a && b) ≡ a
-and-true true b is = is
-and-true false b is = refl
-
-pub and-false : (a b : Bool) → b ≡ false → (a && b) ≡ false
-and-false true b is = is
-and-false false b is = refl
-
-pub of-group : (name group : List ℕ) (position : Position) → position.security.group ≡ Some group
-    → is_of_group name position ≡ same_name name group
-of-group name group position is = ap (λ o. option_map_or (same_name name) o false) is
-
-pub of-none : (name : List ℕ) (position : Position) → position.security.group ≡ None → is_of_group name position ≡ false
-of-none name position is = ap (λ o. option_map_or (same_name name) o false) is
-
 -- ---- a row more
 
 module _ {Key Row : Type 0} (test : Key → Row → Bool) (keys : List Key) where
@@ -178,17 +117,6 @@ module _ {Key Row : Type 0} (test : Key → Row → Bool) (keys : List Key) wher
       → new ≡ places_by test keys (take (k + 1) rows)
   keys-entered rows k row lists new at are is =
       is ∙ ap (entered_where (λ key. test key row) keys k) are ∙ sym (row-entered test keys rows k row at)
-
--- in a list of one test
-pub place-entered : {Row : Type 0} (test : Row → Bool) (rows : List Row) (k : ℕ) (row : Row) (list new : List ℕ)
-    → slice_get rows k ≡ Some row → list ≡ places_where test 0 (take k rows) → new ≡ list ++ cond (test row) (k ∷ []) []
-    → new ≡ places_where test 0 (take (k + 1) rows)
-place-entered test rows k row list new at is more =
-    let here : 0 + k ≡ k = omega arith in
-    let next : suc k ≡ k + 1 = omega arith in
-    more ∙ ap (λ xs. xs ++ cond (test row) (k ∷ []) []) is
-    ∙ ap (λ n. places_where test 0 (take k rows) ++ cond (test row) (n ∷ []) []) (sym here)
-    ∙ sym (places-more test rows 0 k row at) ∙ ap (λ n. places_where test 0 (take n rows)) next
 
 -- ---- holders
 
@@ -268,34 +196,3 @@ on_both (Err e) P Q R f p q = tt
 -- the element at a place
 pub element-at : {A : Type 0} (xs : List A) (i : ℕ) (x : A) → i < length xs → x ≡ get_or xs i x → slice_get xs i ≡ Some x
 element-at xs i x within is = slice_get-get_or xs i x within ∙ ap Some (sym is)
-
--- the projection of a place
-pub projection-at : (projection : Projection) → slice_get projections (projection_place projection) ≡ Some projection
-projection-at projection_kinds.Base = refl
-projection-at projection_kinds.Mortality = refl
-projection-at projection_kinds.Longevity = refl
-projection-at projection_kinds.Disability = refl
-projection-at projection_kinds.Expense = refl
-projection-at projection_kinds.Revision = refl
-projection-at projection_kinds.LapseUp = refl
-projection-at projection_kinds.LapseDown = refl
-projection-at projection_kinds.LapseMass = refl
-projection-at projection_kinds.Catastrophe = refl
-
--- a row is entered under the projection of the next place, if it falls on the row
-pub stress-entered : (test : Projection → Bool) (k place : ℕ) (projection : Projection) (lists now new : List (List ℕ))
-    → projection_place projection ≡ place → length lists ≡ length projections
-    → now ≡ entered_where test (take place projections) k lists → new ≡ entered_at (then_some (test projection) place) k now
-    → new ≡ entered_where test (take (place + 1) projections) k lists
-stress-entered test k place projection lists now new of all are is =
-    let next : suc place ≡ place + 1 = omega arith in
-    let at : slice_get projections place ≡ Some projection =
-    subst (λ n. slice_get projections n ≡ Some projection) of (projection-at projection) in
-    is ∙ ap (entered_at (then_some (test projection) place) k) are
-    ∙ ap (λ o. entered_at o k (entered_where test (take place projections) k lists)) (by (test projection))
-    ∙ sym (entered-next test k projections place projection lists at all)
-    ∙ ap (λ n. entered_where test (take n projections) k lists) next
-  where
-    by : (t : Bool) → then_some t place ≡ cond t (Some place) None
-    by true = refl
-    by false = refl

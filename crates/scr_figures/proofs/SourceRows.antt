@@ -5,31 +5,23 @@ use Rattle.std.proofs.lemmas.List.{length-map, map-append, take_more}
 use Rattle.std.proofs.lemmas.Option.{slice_get-map, slice_get_within}
 use Rattle.scr_numbers.specs.Ranges.{Numbered, count, stride}
 use Rattle.scr_numbers.specs.declared.table.Table.TheVariants as tables
-use Rattle.scr_sheet.specs.declared.{rows.Class.Class, sheet.BalanceSheet.BalanceSheet}
+use Rattle.scr_sheet.specs.declared.sheet.BalanceSheet.{BalanceSheet}
 use Rattle.scr_sheet.specs.declared.keys.Projection.TheVariants as projection_kinds
-use Rattle.scr_sheet.specs.declared.rows.Class.TheVariants as class_kinds
 use Rattle.scr_nodes.specs.Selections.{is_counted, is_counterparty, is_currency, is_holder, is_obligation}
-use Rattle.scr_nodes.specs.Table.{first_of, second_of}
-use Rattle.scr_nodes.specs.declared.{node.Node.Node, node.OfFund.OfFund, node.OfLiability.OfLiability, selections.Selection.Selection}
-use Rattle.scr_nodes.specs.declared.node.Measure.TheVariants.{Gross}
+use Rattle.scr_nodes.specs.Table.{first_of}
+use Rattle.scr_nodes.specs.declared.{node.OfFund.OfFund, node.OfLiability.OfLiability, selections.Selection.Selection}
 use Rattle.scr_nodes.specs.declared.node.Node.TheVariants as nodes
-use Rattle.scr_nodes.specs.declared.node.OfCurrency.TheVariants as of_currencies
 use Rattle.scr_nodes.specs.declared.node.OfFund.TheVariants as of_funds
-use Rattle.scr_nodes.specs.declared.node.OfGroup.TheVariants as of_groups
 use Rattle.scr_nodes.specs.declared.node.OfLiability.TheVariants as of_liabilities
-use Rattle.scr_nodes.specs.declared.node.OfSecurity.TheVariants as of_securities
-use Rattle.scr_nodes.specs.declared.node.Whole.TheVariants as wholes
 use Rattle.scr_nodes.specs.declared.selections.Holders.TheVariants as holders
 use Rattle.scr_nodes.specs.declared.selections.Selection.TheVariants as selections
 use Rattle.scr_nodes.proofs.Numbers.{direction-place-most}
-use Rattle.scr_figures.specs.Families.{fund_family, liability_family, name_of, table_of}
-use Rattle.scr_figures.specs.Numbers.{IsNumbered, names_in}
+use Rattle.scr_figures.specs.Families.{fund_family, liability_family}
+use Rattle.scr_figures.specs.Numbers.{IsNumbered}
 use Rattle.scr_sheet.specs.BalanceSheet.{curve_name, group_name, liability_name, position_name, stake_name}
-use Rattle.scr_nodes.specs.Numbers.{class_place}
-use Rattle.scr_figures.specs.Gathered.{classes}
 use Rattle.scr_figures.specs.Places.{places_by, places_where}
 use Rattle.scr_figures.proofs.Entering.{places-more}
-use Rattle.scr_figures.specs.SourceNumbers.{IsGathered, selected_family, selected_rows, selected_table}
+use Rattle.scr_figures.specs.SourceNumbers.{selected_family, selected_rows, selected_table}
 use Rattle.scr_figures.proofs.Live.{currency-few, group-few, security-few}
 
 -- ---- places of rows
@@ -72,52 +64,11 @@ module _ {Key Row : Type 0} (test : Key → Row → Bool) (keys : List Key) (row
       ∙ ap (option_map (λ k. places_where (test k) 0 rows)) at in
       cc
 
--- ---- closed lists of keys
-
-pub class-at : (class : Class) → slice_get classes (class_place class) ≡ Some class
-class-at class_kinds.Type1Equity = refl
-class-at class_kinds.Type1Strategic = refl
-class-at class_kinds.Type2Equity = refl
-class-at class_kinds.Type2Strategic = refl
-class-at class_kinds.Infrastructure = refl
-class-at class_kinds.InfrastructureCorporate = refl
-class-at class_kinds.Property = refl
-class-at class_kinds.Bond = refl
-class-at class_kinds.Government = refl
-class-at class_kinds.Other = refl
-
 -- ---- families are within the strides
 
 pub liability-few : (what : OfLiability) → liability_family what ≤ 12
 liability-few (of_liabilities.Loss projection_kinds.Base) = omega arith
 liability-few what = omega (arith, direction-place-most)
-
--- ---- the row by whose name rows are read
-
-module _ (sheet : BalanceSheet) where
-  abbrev IsOwn : Node → ℕ → Type 0
-  IsOwn node row = slice_get (names_in sheet (table_of node)) row ≡ Some (name_of node)
-
-  pub first-gathered : (node : Node) (row : ℕ) → IsOwn node row → IsGathered sheet (first_of node) row
-  first-gathered (nodes.Fund name of_funds.Total) row is = tt
-  first-gathered (nodes.Security name of_securities.Total) row is = tt
-  first-gathered (nodes.Liability name of_liabilities.Present) row is = tt
-  first-gathered (nodes.Currency name (of_currencies.Loss direction)) row is = is
-  first-gathered (nodes.Currency name (of_currencies.Scenario direction Gross)) row is = is
-  first-gathered (nodes.Group name of_groups.Total) row is = is
-  first-gathered (nodes.Whole (wholes.InterestScenario direction Gross)) row is = tt
-  first-gathered (nodes.Whole (wholes.BioScenario biometric projection Gross)) row is = tt
-  first-gathered node row is = tt
-
-  pub second-gathered : (node : Node) (row : ℕ) → IsOwn node row → IsGathered sheet (second_of node) row
-  second-gathered (nodes.Fund name of_funds.Total) row is = tt
-  second-gathered (nodes.Security name of_securities.Total) row is = tt
-  second-gathered (nodes.Liability name of_liabilities.Present) row is = tt
-  second-gathered (nodes.Currency name (of_currencies.Loss direction)) row is = is
-  second-gathered (nodes.Currency name (of_currencies.Scenario direction Gross)) row is = is
-  second-gathered (nodes.Group name of_groups.Total) row is = tt
-  second-gathered (nodes.Whole (wholes.ClassSum class_kinds.Type2Equity)) row is = tt
-  second-gathered node row is = tt
 
 -- ---- what a figure of a fund reads
 

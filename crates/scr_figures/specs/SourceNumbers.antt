@@ -1,17 +1,14 @@
 -- The numbers of the sources of figures (this project's own).
-use Rattle.std.specs.Prelude.{◌≡◌, ℕ, ◌+◌, ◌++◌, true, List, [], Some, map, slice_get}
+use Rattle.std.specs.Prelude.{◌≡◌, ℕ, ◌+◌, ◌++◌, true, List, [], map}
 use Rattle.std.specs.List.{AllByRecursion, AllZip}
 use Rattle.scr_numbers.specs.Ranges.{Numbered, first}
 use Rattle.scr_numbers.specs.declared.table.Table.{Table}
 use Rattle.scr_numbers.specs.declared.table.Table.TheVariants as tables
-use Rattle.scr_sheet.specs.BalanceSheet.{curve_name, group_name}
 use Rattle.scr_sheet.specs.declared.sheet.BalanceSheet.{BalanceSheet}
 use Rattle.scr_nodes.specs.Live.{is_live}
 use Rattle.scr_nodes.specs.Selections.{is_counted, is_counterparty, is_currency, is_holder, is_obligation}
 use Rattle.scr_nodes.specs.Sources.{sources_of}
-use Rattle.scr_nodes.specs.declared.{node.Node.Node, selections.Holdings.Holdings, selections.Obligations.Obligations, selections.Selection.Selection}
-use Rattle.scr_nodes.specs.declared.selections.Holdings.TheVariants as holdings
-use Rattle.scr_nodes.specs.declared.selections.Obligations.TheVariants as obligations
+use Rattle.scr_nodes.specs.declared.{node.Node.Node, selections.Selection.Selection}
 use Rattle.scr_nodes.specs.declared.selections.Selection.TheVariants as selections
 use Rattle.scr_figures.specs.Families.{currency_family, fund_family, group_family, liability_family, security_family}
 use Rattle.scr_figures.specs.Numbers.{StandsAt}
@@ -65,20 +62,3 @@ selected_rows sheet (selections.Groups which what) = places_where (is_counterpar
 abbrev pub selected_numbers : BalanceSheet → Numbered → Selection → List ℕ
 selected_numbers sheet places selection =
     numbers_at places (selected_table selection) (selected_family selection) (selected_rows sheet selection)
-
--- securities that are read by the name of one row: it stands at the place
-abbrev pub AreHeldBy : BalanceSheet → Holdings → ℕ → Type 0
-AreHeldBy sheet (holdings.In currency) row = slice_get (map curve_name sheet.curves) row ≡ Some currency
-AreHeldBy sheet (holdings.PayingIn currency) row = slice_get (map curve_name sheet.curves) row ≡ Some currency
-AreHeldBy sheet (holdings.OfGroup name) row = slice_get (map group_name sheet.groups) row ≡ Some name
-AreHeldBy sheet which row = Unit {0}
-
--- so of liabilities
-abbrev pub AreOwedBy : BalanceSheet → Obligations → ℕ → Type 0
-AreOwedBy sheet (obligations.In currency) row = slice_get (map curve_name sheet.curves) row ≡ Some currency
-AreOwedBy sheet which row = Unit {0}
-
-abbrev pub IsGathered : BalanceSheet → Selection → ℕ → Type 0
-IsGathered sheet (selections.Securities which what) row = AreHeldBy sheet which row
-IsGathered sheet (selections.Liabilities which what) row = AreOwedBy sheet which row
-IsGathered sheet selection row = Unit {0}

@@ -1,8 +1,8 @@
 //! The numbers of a balance sheet's figures: that of a figure is the first number of its row and its family, so it is found by one
 //! look-up of the row and by arithmetic, and leads back to the figure without a table of figures. Which figures a number's row may
 //! have and which the sheet has (`scr_nodes`) are two things: a range has numbers for all of its families. The numbers of a figure's
-//! sources are read off rows that were gathered once, as lists of their places by class, currency, group and projection, or by
-//! walks along the tables.
+//! sources are read off rows that were gathered once, as lists of the places of a fund's or a security's holders and of the groups of
+//! a class, or by walks along the tables.
 #![tactic(auto)]
 
 mod edits;

@@ -8,16 +8,16 @@ use scr_numbers::{Places, Table};
 use scr_sheet::BalanceSheet;
 use std::alloc::{AllocError as NoMemory, Global};
 
-/// Numbers for all rows, table by table in the order of the rows.
+/// Numbers for all rows, table by table in the order of the rows; those of securities and liabilities, which are most, come last.
 pub fn places_of(alloc: Global, sheet: &BalanceSheet) -> Result<Places, NoMemory>
     ensures { IfOk result (IsNumbered sheet.now) }
 {
     let mut places = Places::new(alloc)?;
     fill(&mut places, Table::Fund, sheet.funds.len())?;
+    fill(&mut places, Table::Currency, sheet.curves.len())?;
+    fill(&mut places, Table::Group, sheet.groups.len())?;
     fill(&mut places, Table::Security, sheet.securities.len())?;
     fill(&mut places, Table::Liability, sheet.liabilities.len())?;
-    fill(&mut places, Table::Group, sheet.groups.len())?;
-    fill(&mut places, Table::Currency, sheet.curves.len())?;
     Ok(places)
 }
 

@@ -6,7 +6,6 @@ ghost use Rattle.scr_numbers.specs.declared.table.Table.TheVariants as tables;
 ghost use Rattle.scr_sheet.specs.BalanceSheet.{position_name};
 ghost use Rattle.scr_sheet.specs.Validity.{Valid};
 ghost use Rattle.scr_nodes.specs.Live.{is_live};
-ghost use Rattle.scr_nodes.specs.Rows.{is_stressed};
 ghost use Rattle.scr_nodes.specs.Selections.{is_counted, is_counterparty, is_currency, is_holder, is_obligation};
 ghost use Rattle.scr_nodes.specs.Sources.{words_of};
 ghost use Rattle.scr_nodes.specs.Table.{first_of, second_of};
@@ -15,19 +14,19 @@ ghost use Rattle.scr_figures.specs.Families.{name_of, table_of};
 ghost use Rattle.scr_figures.specs.Numbers.{IsNumbered, StandsAt, names_in};
 ghost use Rattle.scr_figures.specs.Gathered.{AreMembersOf};
 ghost use Rattle.scr_figures.specs.Places.{places_where};
-ghost use Rattle.scr_figures.specs.SourceNumbers.{AreAllPushed, AreHeldBy, AreOwedBy, ArePushed, IsGathered, are_live, numbers_at, selected_family, selected_numbers, selected_rows, selected_table};
+ghost use Rattle.scr_figures.specs.SourceNumbers.{AreAllPushed, ArePushed, are_live, numbers_at, selected_family, selected_numbers, selected_rows, selected_table};
 
 use crate::families::{currency_family, family, group_family, liability_family, security_family};
 use crate::finding::find;
-use crate::gathered::{Members, class_place, projection_place};
+use crate::gathered::Members;
 use scr_names::Name;
 use scr_nodes::selections::{
     Counterparties, Currencies, Holders, Holdings, Obligations, Selection, is_counted,
     is_counterparty, is_currency, is_holder, is_obligation,
 };
-use scr_nodes::{Biometric, Node, Nth, OfFund, OfSecurity, first_of, nth_word, second_of};
+use scr_nodes::{Node, Nth, OfFund, OfSecurity, first_of, nth_word, second_of};
 use scr_numbers::{Places, Table};
-use scr_sheet::{BalanceSheet, Projection};
+use scr_sheet::BalanceSheet;
 use std::alloc::AllocError as NoMemory;
 
 /// No figure is reckoned from more by name.
@@ -49,8 +48,8 @@ struct Rows<'a> {
 }
 
 /// Pushes the numbers of all sources of a figure of the row at a place, in the order of `scr_nodes::sources`, behind what the list
-/// has. The rows that sums are read off are those gathered of this very sheet. Only want of memory is refused. The cost is that of
-/// the sources alone, but for all currencies and all groups where those are its sources.
+/// has. The rows that are gathered are those of this very sheet. Only want of memory is refused. The cost is that of the sources alone
+/// where they are totals of funds or losses of a class of groups or come from no table; else each row of their table is looked at.
 pub fn push_gathered(
     list: &mut Vec<u32>,
     view: View<'_>,
@@ -149,67 +148,12 @@ fn holding_rows<'a>(from: Rows<'a>, name: &Name, what: OfSecurity) -> Option<&'a
 
 /// The places of the rows that are read off a table, where they are gathered.
 fn gathered_rows<'a>(from: Rows<'a>, selection: &Selection) -> Option<&'a [usize]>
-    requires members { AreMembersOf from.sheet.now from.members.now }
-    requires row { IsGathered from.sheet.now selection.now from.row }
+    requires { AreMembersOf from.sheet.now from.members.now }
     ensures { IfSome result (λ rows. rows.now ≡ selected_rows from.entry.sheet.now selection.now) }
 {
     match selection {
-        Selection::Funds(holders, _) => fund_rows(from, holders),
-        Selection::Securities(holdings, _) => security_rows(from, holdings),
-        Selection::Liabilities(obligations, _) => liability_rows(from, obligations),
         Selection::Groups(counterparties, _) => group_rows(from, *counterparties),
         _ => None,
-    }
-}
-
-fn fund_rows<'a>(from: Rows<'a>, holders: &Holders) -> Option<&'a [usize]>
-    requires { AreMembersOf from.sheet.now from.members.now }
-    ensures { IfSome result (λ rows. rows.now ≡ places_where (is_holder holders.now) 0 from.entry.sheet.now.funds) }
-{
-    match holders {
-        Holders::Closed => Some(from.members.funds.closed.as_slice()),
-        Holders::Of(_) => None,
-    }
-}
-
-fn security_rows<'a>(from: Rows<'a>, holdings: &Holdings) -> Option<&'a [usize]>
-    requires members { AreMembersOf from.sheet.now from.members.now }
-    requires row { AreHeldBy from.sheet.now holdings.now from.row }
-    ensures { IfSome result (λ rows. rows.now ≡ places_where (is_counted holdings.now) 0 from.entry.sheet.now.securities) }
-{
-    let lists = &from.members.securities;
-    match holdings {
-        Holdings::OfClass(class) => Some(lists.of_class.at(class_place(*class))),
-        Holdings::In(_) => Some(lists.held_in.at(from.row)),
-        Holdings::PayingIn(_) => Some(lists.paying_in.at(from.row)),
-        Holdings::OfGroup(_) => Some(lists.of_group.at(from.row)),
-        Holdings::Grouped => Some(lists.grouped.as_slice()),
-        Holdings::Paying => None,
-    }
-}
-
-fn liability_rows<'a>(from: Rows<'a>, obligations: &Obligations) -> Option<&'a [usize]>
-    requires members { AreMembersOf from.sheet.now from.members.now }
-    requires row { AreOwedBy from.sheet.now obligations.now from.row }
-    ensures { IfSome result (λ rows. rows.now ≡ places_where (is_obligation obligations.now) 0 from.entry.sheet.now.liabilities) }
-{
-    match obligations {
-        Obligations::In(_) => Some(from.members.liabilities.owed_in.at(from.row)),
-        Obligations::Stressed(biometric, projection) => {
-            Some(stressed_rows(from, *biometric, *projection))
-        }
-        _ => None,
-    }
-}
-
-fn stressed_rows<'a>(from: Rows<'a>, biometric: Biometric, projection: Projection) -> &'a [usize]
-    requires { AreMembersOf from.sheet.now from.members.now }
-    ensures { result.now ≡ places_where (is_stressed biometric projection) 0 from.entry.sheet.now.liabilities }
-{
-    let place = projection_place(projection);
-    match biometric {
-        Biometric::Life => from.members.liabilities.life.at(place),
-        Biometric::Health => from.members.liabilities.health.at(place),
     }
 }
 

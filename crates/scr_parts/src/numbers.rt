@@ -90,12 +90,27 @@ impl Numbers {
             ≡ slice_set (self.old.items ++ replicate (place + 1 - length self.old.items) 0) place number) }
     {
         let size = self.numbers.len();
+        // Rows that come in the order of their places stand behind one another.
+        if place as usize == size {
+            return self.push(number);
+        }
         let most = size.max(place as usize + 1);
         if most > MOST {
             return Err(NoMemory);
         }
         self.numbers.resize(most, 0)?;
         self.numbers[place as usize] = number;
+        Ok(())
+    }
+
+    /// One comes, and goes last.
+    fn push(&mut self, number: u32) -> Result<(), NoMemory>
+        ensures { OnOk result (self.new.items ≡ self.old.items ++ number ∷ []) }
+    {
+        if self.numbers.len() == MOST {
+            return Err(NoMemory);
+        }
+        self.numbers.push(number)?;
         Ok(())
     }
 
@@ -208,6 +223,8 @@ pub(crate) fn write(
         ≡ slice_set ((list_at key lists.old.items).items ++ replicate (place + 1 - length (list_at key lists.old.items).items) 0) place number) }
     ensures others { OnOk result ((other : ℕ) → other ≢ key → (list_at other lists.new.items).items ≡ (list_at other lists.old.items).items) }
 {
-    reach(lists, alloc, key)?;
+    if key >= lists.len() {
+        reach(lists, alloc, key)?;
+    }
     lists[key].write(place, number)
 }

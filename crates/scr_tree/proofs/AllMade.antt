@@ -1,6 +1,6 @@
 -- The beginning and the end of the first reckoning: at last each figure and each Block of the book is there, and figures are linked that
 -- neither rows nor lists give.
-use Rattle.std.proofs.Common.{◌≡◌, inl, ℕ, ◌+◌, ◌++◌, Bool, true, false, is_some, if◌then◌else◌, List, [], ◌∷◌, map, length, Some, slice_get, refl, sym, ap, subst, ◌∙◌, arith}
+use Rattle.std.proofs.Common.{◌≡◌, inl, ℕ, ◌+◌, ◌≤◌, ◌++◌, Bool, true, false, is_some, if◌then◌else◌, List, [], ◌∷◌, map, length, Some, slice_get, refl, sym, ap, subst, ◌∙◌, arith}
 use Rattle.std.specs.Option.{option_map}
 use Rattle.std.specs.Prelude.{not}
 use Rattle.std.proofs.lemmas.Bool.{and_parts}
@@ -46,7 +46,7 @@ module _ (ground : Ground) (g : IsGround ground) where
   abbrev At : Point → ℕ → Type 0
   At = StandsIn ground.inputs.book.now ground.places.now ground.lists.now
 
-  pub nothing-made : (made : Made) → length made.figures.items ≡ ground.places.now.size → made.links.size ≡ ground.places.now.size
+  pub nothing-made : (made : Made) → length made.figures.items ≡ ground.places.now.size → made.links.size ≤ ground.places.now.size
       → made.links.edges ≡ [] → IsDone ground made (turn 0 0 0)
   nothing-made made count size none = record {
     figures = made-none ground.inputs.factors.now ground.inputs.book.now.sheet g.valid ground.places.now g.numbered g.numbers made count size none;

@@ -1,5 +1,5 @@
 -- What is marked as reached so far, and that in the end just the points in reach are marked.
-use Rattle.std.proofs.Common.{◌≡◌, ◌⊎◌, inl, inr, ℕ, ◌+◌, ◌<◌, ◌≤◌, true, nat_eq, List, [], length, Option, Some, None, slice_get, Contains, refl, sym, subst, ◌∙◌, arith}
+use Rattle.std.proofs.Common.{◌≡◌, ◌⊎◌, inl, inr, ℕ, ◌+◌, ◌<◌, ◌≤◌, Bool, true, nat_eq, List, [], length, Option, Some, None, slice_get, Contains, refl, sym, subst, ◌∙◌, arith}
 use Rattle.std.specs.List.{IsDistinct}
 use Rattle.std.proofs.lemmas.Bool.{cases_lt}
 use Rattle.std.proofs.lemmas.Option.{slice_get_within}
@@ -10,7 +10,6 @@ use Rattle.scr_lists.specs.declared.lists.Lists.{Lists}
 use Rattle.scr_reach.specs.Graph.{Graph}
 use Rattle.scr_reach.specs.Leading.{IsCountOf, IsInReach, Leads}
 use Rattle.scr_reach.specs.Leading.Leads.{touched, above}
-use Rattle.scr_reach.specs.Linked.{AreNumbers}
 use Rattle.scr_reach.proofs.Counting.{counted}
 use Rattle.scr_reach.proofs.Placed.{get-contains, placed-get}
 use Rattle.scr_subtotals.specs.declared.figure.Figure.{Figure}
@@ -18,12 +17,14 @@ use Rattle.scr_sums.specs.Books.{rolled_of}
 use Rattle.scr_sums.specs.declared.point.Point.{Point}
 use Rattle.scr_tree.specs.Changed.{AreReachedMarks}
 use Rattle.scr_tree.specs.Figures.{AreKnownOf, Reckoning}
-use Rattle.scr_tree.specs.Marking.{AreMarkedFrom, IsAboveAt, IsDependantAt, IsLeftToAssets, IsSquare, assets}
+use Rattle.scr_tree.specs.Marking.{AreAssetsMarked, AreMarkedFrom, AreReached, IsAboveAt, IsAboveSquares, IsDependantAt, IsLeftToAssets, IsSquareOfAssets, IsSquaresAt, assets, is_of_squares}
 use Rattle.scr_tree.specs.Order.{IsOrder}
-use Rattle.scr_tree.specs.Points.{StandsIn, book_graph}
+use Rattle.scr_tree.specs.Points.{AreNumbersOf, StandsIn, book_graph}
 use Rattle.scr_tree.specs.Ready.{IsNoneOf}
 use Rattle.scr_tree.specs.Starts.{AreMarked}
 use Rattle.scr_tree.proofs.TakenUp.{past}
+use Rattle.scr_tree.proofs.SquareReaders.{above-squares, as-any, of-square}
+use Rattle.scr_tree.proofs.Squares.{squares-above}
 
 -- ---- what leads to what leads to a touched one
 
@@ -60,15 +61,15 @@ module _ (book : RolledSheet) (places : Numbered) (lists : Lists) (listed : List
   abbrev Reached : Point → Type 0
   Reached = IsInReach graph (Contains listed)
 
-  -- Marked are the touched points and others in reach, and of what stands before the place all dependants but those that are left to the
-  -- assets.
+  -- Marked are the touched points and others in reach, and of what stands before the place all dependants but squares and what is left to the
+  -- assets, with which all is marked that is reckoned from all squares.
   pub record IsClimbed (marks : List ℕ) (place : ℕ) : Type 0 where
     pub each : (number : ℕ) → Contains marks number → (point : Point) × At point number × Reached point
     pub starts : (point : Point) (number : ℕ) → Contains listed point → graph.live point ≡ true → At point number → Contains marks number
     pub done : (k number other : ℕ) → k < place → slice_get marks k ≡ Some number → IsDependantAt book places lists number other
-        → Contains marks other ⊎ IsLeftToAssets book places lists marks number
-    pub squares : (k number : ℕ) → k < place → slice_get marks k ≡ Some number → At assets number → (square : Point) (at other : ℕ)
-        → IsSquare square → At square at → IsDependantAt book places lists at other → Contains marks other
+        → Contains marks other ⊎ (IsLeftToAssets book places lists marks number ⊎ IsSquareOfAssets book places lists number other)
+    pub squares : (k number : ℕ) → k < place → slice_get marks k ≡ Some number → At assets number → (other : ℕ)
+        → IsAboveSquares book places lists other → Contains marks other
 
   pub climbed-none : (marks : List ℕ) → AreMarked graph At listed [] marks → IsClimbed marks 0
   climbed-none marks are = record {
@@ -122,28 +123,32 @@ module _ (book : RolledSheet) (places : Numbered) (lists : Lists) (listed : List
         let same : k ≡ place = omega (arith, from, to) in
         let both : Some number ≡ Some other = sym (marked.kept place number here) ∙ subst (λ n. slice_get new n ≡ Some other) same at in cc
 
+    abbrev Done : ℕ → ℕ → Type 0
+    Done other dependant =
+        Contains new dependant ⊎ (IsLeftToAssets book places lists new other ⊎ IsSquareOfAssets book places lists other dependant)
+
     done-next : (k other dependant : ℕ) → (k < place) ⊎ (place ≤ k) → k < place + 1 → slice_get new k ≡ Some other
-        → IsDependantAt book places lists other dependant → Contains new dependant ⊎ IsLeftToAssets book places lists new other
+        → IsDependantAt book places lists other dependant → Done other dependant
     done-next k other dependant (inl l) to at d = by (is.done k other dependant l (front k other l at) d)
       where
-        by : Contains marks dependant ⊎ IsLeftToAssets book places lists marks other → Contains new dependant ⊎ IsLeftToAssets book places lists new other
+        by : Contains marks dependant ⊎ (IsLeftToAssets book places lists marks other ⊎ IsSquareOfAssets book places lists other dependant) → Done other dependant
         by (inl h) = inl (stays dependant h)
-        by (inr left) = inr (left-yet other left)
+        by (inr (inl left)) = inr (inl (left-yet other left))
+        by (inr (inr square)) = inr (inr square)
     done-next k other dependant (inr from) to at d =
         let one = this k other from to at in
-        by one (marked.all dependant (subst (λ n. IsDependantAt book places lists n dependant) (sym one) d))
+        subst (λ n. Done n dependant) one (by (marked.all dependant (subst (λ n. IsDependantAt book places lists n dependant) (sym one) d)))
       where
-        by : number ≡ other → Contains new dependant ⊎ IsLeftToAssets book places lists marks number → Contains new dependant ⊎ IsLeftToAssets book places lists new other
-        by one (inl h) = inl h
-        by one (inr left) = inr (subst (IsLeftToAssets book places lists new) one (left-yet number left))
+        by : Contains new dependant ⊎ (IsLeftToAssets book places lists marks number ⊎ IsSquareOfAssets book places lists number dependant) → Done number dependant
+        by (inl h) = inl h
+        by (inr (inl left)) = inr (inl (left-yet number left))
+        by (inr (inr square)) = inr (inr square)
 
     squares-next : (k other : ℕ) → (k < place) ⊎ (place ≤ k) → k < place + 1 → slice_get new k ≡ Some other → At assets other
-        → (square : Point) (at dependant : ℕ) → IsSquare square → At square at → IsDependantAt book places lists at dependant
-        → Contains new dependant
-    squares-next k other (inl l) to found there square at dependant is_square stands d =
-        stays dependant (is.squares k other l (front k other l found) there square at dependant is_square stands d)
-    squares-next k other (inr from) to found there square at dependant is_square stands d =
-        marked.squares (subst (At assets) (sym (this k other from to found)) there) square at dependant is_square stands d
+        → (reader : ℕ) → IsAboveSquares book places lists reader → Contains new reader
+    squares-next k other (inl l) to found there reader a = stays reader (is.squares k other l (front k other l found) there reader a)
+    squares-next k other (inr from) to found there reader a =
+        marked.squares (subst (At assets) (sym (this k other from to found)) there) reader a
 
     pub climbed-next : IsClimbed new (place + 1)
     climbed-next = record {
@@ -154,54 +159,95 @@ module _ (book : RolledSheet) (places : Numbered) (lists : Lists) (listed : List
     }
 
   -- in the end
-  module _ (size : ℕ) (numbers : AreNumbers graph At size)
+  module _ (of : AreNumbersOf book places lists)
       (closed : (point source : Point) → graph.live point ≡ true → Contains (graph.sources point) source → graph.live source ≡ true)
       (marks : List ℕ) (place : ℕ) (is : IsClimbed marks place) (past_all : length marks ≤ place) (once : IsDistinct nat_eq marks) where
     low : (number : ℕ) (h : Contains marks number) → h.0 < place
     low number h =
         let l = slice_get_within marks h.0 number (placed-get marks number h) in omega (arith, l, past_all)
 
-    dependants : (number other : ℕ) → Contains marks number → IsDependantAt book places lists number other → Contains marks other
-    dependants number other h d = by (is.done h.0 number other (low number h) (placed-get marks number h) d)
-      where
-        by : Contains marks other ⊎ IsLeftToAssets book places lists marks number → Contains marks other
-        by (inl m) = m
-        by (inr left) =
-            is.squares (left.marked).0 left.assets_at (low left.assets_at left.marked) (placed-get marks left.assets_at left.marked) left.there
-            left.square number other left.is left.at d
+    -- marked, or left with the squares
+    abbrev Held : Point → ℕ → Type 0
+    Held point number = Contains marks number ⊎ ((is_of_squares point ≡ true) × AreAssetsMarked book places lists marks)
 
-    reached-marked : (point : Point) → Leads graph (Contains listed) point → graph.live point ≡ true → (number : ℕ) → At point number
-        → Contains marks number
-    reached-marked _ (touched point h) live number at = is.starts point number h live at
-    reached-marked _ (above point source has rest) live number at =
+    above-left : (source : Point) (own number : ℕ) → is_of_squares source ≡ true → At source own → graph.live source ≡ true
+        → AreAssetsMarked book places lists marks → (d : IsDependantAt book places lists own number) → Held d.point number
+    above-left source own number squares at live left d = by (above-squares book places lists of source own number squares at live d)
+      where
+        by : (is_of_squares d.point ≡ true) ⊎ IsAboveSquares book places lists number → Held d.point number
+        by (inl s) = inr (s, left)
+        by (inr a) = inl (is.squares (left.2).0 left.0 (low left.0 left.2) (placed-get marks left.0 left.2) left.1 number a)
+
+    dependant-held : (source : Point) (own number : ℕ) → At source own → graph.live source ≡ true → Held source own
+        → (d : IsDependantAt book places lists own number) → Held d.point number
+    dependant-held source own number at live (inr (squares, left)) d = above-left source own number squares at live left d
+    dependant-held source own number at live (inl h) d = by (is.done h.0 own number (low own h) (placed-get marks own h) d)
+      where
+        by : Contains marks number ⊎ (IsLeftToAssets book places lists marks own ⊎ IsSquareOfAssets book places lists own number) → Held d.point number
+        by (inl m) = inl m
+        by (inr (inl left)) =
+            above-left left.square own number (of-square left.square left.is) left.at
+            (subst (λ p. graph.live p ≡ true) (of.numbers.exact own source left.square at left.at) live) (left.assets_at, left.there, left.marked) d
+        by (inr (inr (there, (square, is_square, stands)))) =
+            inr (subst (λ p. is_of_squares p ≡ true) (of.numbers.exact number square d.point stands d.at) (of-square square is_square), (own, there, h))
+
+    reached-held : (point : Point) → Leads graph (Contains listed) point → graph.live point ≡ true → (number : ℕ) → At point number → Held point number
+    reached-held _ (touched point h) live number at = inl (is.starts point number h live at)
+    reached-held _ (above point source has rest) live number at =
         let alive = closed point source live has in
-        let own = numbers.live source alive in
-        dependants own.0 number (reached-marked source rest alive own.0 own.1)
+        let own = of.numbers.live source alive in
+        dependant-held source own.0 number own.1 alive (reached-held source rest alive own.0 own.1)
         (record { point = point; below = source; at = at; live = live; from = own.1; reads = has })
 
     pub climbed-all : AreReachedMarks book places lists listed marks
     climbed-all = record {
       once = once;
       each = is.each;
-      all = λ point number at reach. reached-marked point reach.leads reach.live number at;
+      all = λ point number at reach. reached-held point reach.leads reach.live number at;
     }
 
-  -- ---- what is marked, in an order
+  -- ---- what is reached, in an order
 
-  module _ (size : ℕ) (are : AreNumbers graph At size) (marks numbers ends : List ℕ) (marked : AreReachedMarks book places lists listed marks)
-      (order : IsOrder graph At marks numbers ends) where
+  module _ (of : AreNumbersOf book places lists) (marks : List ℕ) (marked : AreReachedMarks book places lists listed marks) (squares : Bool)
+      (yes : squares ≡ true → AreAssetsMarked book places lists marks) (only : AreAssetsMarked book places lists marks → squares ≡ true)
+      (all numbers ends : List ℕ) (are : AreReached book places lists squares marks all) (order : IsOrder graph At all numbers ends) where
+    each-reached : (number : ℕ) → Contains all number → (point : Point) × At point number × Reached point
+    each-reached number h = by (are.each number h)
+      where
+        by : Contains marks number ⊎ ((squares ≡ true) × IsSquaresAt book places lists number) → (point : Point) × At point number × Reached point
+        by (inl m) = marked.each number m
+        by (inr (e, s)) =
+            let left = yes e in
+            let below = marked.each left.0 left.2 in
+            let up = squares-above book places lists of left.0 left.1 number (as-any book places lists of number s) in (
+              up.point,
+              up.at,
+              record {
+                live = up.live;
+                leads = through graph (λ point. At point left.0) (Contains listed)
+                    (λ point at. subst (Leads graph (Contains listed)) (of.numbers.exact left.0 below.0 point below.1 at) (below.2).leads) up.point up.leads;
+              },
+            )
+
+    all-reached : (point : Point) (number : ℕ) → At point number → Reached point → Contains all number
+    all-reached point number at reach = by (marked.all point number at reach)
+      where
+        by : Contains marks number ⊎ ((is_of_squares point ≡ true) × AreAssetsMarked book places lists marks) → Contains all number
+        by (inl m) = are.marked number m
+        by (inr (s, left)) = are.all (only left) number (record { point = point; at = at; live = reach.live; is = s })
+
     pub reach-counted : IsCountOf Reached (length numbers)
-    reach-counted = counted At size graph are Reached numbers order.once each all
+    reach-counted = counted At places.size graph of.numbers Reached numbers order.once each there
       where
         each : (number : ℕ) → IsMember number numbers → (point : Point) × At point number × Reached point
-        each number h = marked.each number (order.each number (Contains-from_IsMember numbers number h)).0
+        each number h = each-reached number (order.each number (Contains-from_IsMember numbers number h)).0
 
-        all : (point : Point) → Reached point → (number : ℕ) × At point number × IsMember number numbers
-        all point reach =
-            let own = are.live point reach.live in (
+        there : (point : Point) → Reached point → (number : ℕ) × At point number × IsMember number numbers
+        there point reach =
+            let own = of.numbers.live point reach.live in (
               own.0,
               own.1,
-              IsMember-from_Contains numbers own.0 (order.all own.0 (marked.all point own.0 own.1 reach) (point, own.1, reach.live)),
+              IsMember-from_Contains numbers own.0 (order.all own.0 (all-reached point own.0 own.1 reach) (point, own.1, reach.live)),
             )
 
     -- the figures of all others are known
@@ -209,4 +255,4 @@ module _ (book : RolledSheet) (places : Numbered) (lists : Lists) (listed : List
         → AreKnownOf reckoning At figures (λ point. Reached point → ⊥) → AreKnownOf reckoning At figures (IsNoneOf At numbers)
     unfolding AreKnownOf
     others-known reckoning figures known = λ point number at live none.
-        known point number at live (λ reach. none number at (order.all number (marked.all point number at reach) (point, at, reach.live)))
+        known point number at live (λ reach. none number at (order.all number (all-reached point number at reach) (point, at, reach.live)))

@@ -1,5 +1,5 @@
 -- The Blocks under the totals of groups in the first reckoning.
-use Rattle.std.proofs.Common.{◌≡◌, ◌⊎◌, inl, inr, ℕ, ◌+◌, ◌<◌, true, List, [], Some, length, slice_get, refl, sym, ap, subst, ◌∙◌, arith}
+use Rattle.std.proofs.Common.{◌≡◌, ◌⊎◌, inl, inr, ℕ, ◌+◌, ◌<◌, ◌≤◌, true, List, [], Some, length, slice_get, refl, sym, ap, subst, ◌∙◌, arith}
 use Rattle.std.proofs.lemmas.Bool.{cases_eq}
 use Rattle.scr_figures.specs.Families.{family_of, table_of}
 use Rattle.scr_figures.specs.Numbers.{names_in, StandsAt}
@@ -91,7 +91,7 @@ module _ (ground : Ground) (g : IsGround ground) where
     group-made a b now is kept blocks figures_are links_are = record {
       figures = record {
         count = ap length figures_are ∙ kept.count ∙ is.figures.count;
-        size = ap (λ (l : Linked). l.size) links_are ∙ is.figures.size;
+        size = subst (λ (l : Linked). l.size ≤ ground.places.now.size) (sym links_are) is.figures.size;
         known = subst (λ fs. AreKnownOf (reckoning_of ground.inputs.factors.now ground.inputs.book.now.sheet)
             (StandsAt ground.inputs.book.now.sheet ground.places.now) fs (IsBefore ground.inputs.book.now.sheet (turn 6 0 0))) (sym figures_are)
             (figures-off ground g a.figures.items now IsIts (IsBefore ground.inputs.book.now.sheet (turn 6 0 0)) kept is.figures.known);

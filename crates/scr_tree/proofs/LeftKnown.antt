@@ -1,5 +1,5 @@
 -- What is left of the first reckoning once the rows are reckoned: it is linked, and all else is known.
-use Rattle.std.proofs.Common.{◌≡◌, inl, ℕ, ◌<◌, true, false, List, length, ◌∙◌, arith}
+use Rattle.std.proofs.Common.{◌≡◌, inl, ℕ, ◌<◌, true, false, Contains, List, length, ◌∙◌, arith}
 use Rattle.scr_figures.specs.Numbers.{StandsAt}
 use Rattle.scr_links.specs.Edges.{Linked}
 use Rattle.scr_names.proofs.TableRows.{passes_or_fails}
@@ -51,18 +51,19 @@ module _ (ground : Ground) (g : IsGround ground) where
   left-graph links is = record { numbers_of = g.points; linked = points-linked ground g links.edges is.linked }
 
   -- a point that stands at none of the numbers of what is left is known
-  pub left-known : (figures : List Figure) (list numbers ends : List ℕ)
+  pub left-known : (figures : List Figure) (list reached numbers ends : List ℕ)
       → AreKnownOf (reckoning_of ground.inputs.factors.now ground.inputs.book.now.sheet) (StandsAt ground.inputs.book.now.sheet ground.places.now)
       figures (IsBefore ground.inputs.book.now.sheet (turn 6 0 0))
       → AreKnownOf (book_reckoning ground.inputs.factors.now (rolled_of ground.inputs.book.now)) At figures
       (IsBlockBefore ground.inputs.book.now.sheet (turn 5 0 0))
-      → AreLeft (numbers_of ground) list → IsOrder (book_graph (rolled_of ground.inputs.book.now)) At list numbers ends
+      → AreLeft (numbers_of ground) list → ((number : ℕ) → Contains list number → Contains reached number)
+      → IsOrder (book_graph (rolled_of ground.inputs.book.now)) At reached numbers ends
       → AreKnownOf (book_reckoning ground.inputs.factors.now (rolled_of ground.inputs.book.now)) At figures (IsNoneOf At numbers)
   unfolding AreKnownOf
-  left-known figures list numbers ends known blocks left order = λ point number at live none.
+  left-known figures list reached numbers ends known blocks left marked order = λ point number at live none.
       by point number at live
       (passes_or_fails (is_left point)
-      (λ its. absurd (none number at (order.all number (left.all point number at live its) (point, at, live)))) (λ apart. apart))
+      (λ its. absurd (none number at (order.all number (marked number (left.all point number at live its)) (point, at, live)))) (λ apart. apart))
     where
       by : (point : Point) (number : ℕ) → At point number → is_live_in (rolled_of ground.inputs.book.now) point ≡ true → is_left point ≡ false
           → HasFigure (book_reckoning ground.inputs.factors.now (rolled_of ground.inputs.book.now)) figures number point

@@ -8,25 +8,25 @@ use Rattle.scr_reach.specs.Dues.{IsLiveAt}
 use Rattle.scr_sums.specs.Books.{rolled_of}
 use Rattle.scr_sums.specs.Graph.{is_live_in}
 use Rattle.scr_sums.specs.declared.point.Point.{Point}
-use Rattle.scr_tree.specs.Left.{AreLeft, is_left}
+use Rattle.scr_tree.specs.Left.{AreLeft, IsLeftAt, is_left}
 use Rattle.scr_tree.specs.Points.{AreNumbersOf, StandsIn, book_graph}
 use Rattle.scr_tree.specs.declared.graph.Numbers.{Numbers}
 use Rattle.scr_tree.proofs.Sorting.{distinct-last, none-distinct}
 
--- the book has a point at the number
-abbrev HasPoint : Numbers → ℕ → Type 0
-HasPoint numbers number =
-    IsLiveAt (book_graph (rolled_of numbers.book.now)) (StandsIn numbers.book.now numbers.places.now numbers.lists.now) number
+-- what is left lives
+pub live-left : (numbers : Numbers) (number : ℕ) → IsLeftAt numbers number
+    → IsLiveAt (book_graph (rolled_of numbers.book.now)) (StandsIn numbers.book.now numbers.places.now numbers.lists.now) number
+live-left numbers number left = (left.0, left.1, left.2)
 
 -- none that it has there is left
 abbrev HasNoneLeft : Numbers → ℕ → Type 0
 HasNoneLeft numbers number = (point : Point) → StandsIn numbers.book.now numbers.places.now numbers.lists.now point number
     → is_live_in (rolled_of numbers.book.now) point ≡ true → is_left point ≡ false
 
--- Listed are numbers below the end at which the book has a point, each once, and of those that are left all.
+-- just the numbers below the end of what is left are listed, each once
 pub record AreLeftBelow (numbers : Numbers) (end : ℕ) (list : List ℕ) : Type 0 where
   pub once : IsDistinct nat_eq list
-  pub each : (number : ℕ) → Contains list number → (number < end) × HasPoint numbers number
+  pub each : (number : ℕ) → Contains list number → (number < end) × IsLeftAt numbers number
   pub all : (point : Point) (number : ℕ) → number < end → StandsIn numbers.book.now numbers.places.now numbers.lists.now point number
       → is_live_in (rolled_of numbers.book.now) point ≡ true → is_left point ≡ true → Contains list number
 
@@ -81,8 +81,8 @@ module _ (numbers : Numbers) where
             let clash : true ≡ false = sym left ∙ none in absurd (cc)
 
     -- one is
-    pub below-live : (new : List ℕ) → HasPoint numbers number → new ≡ list ++ number ∷ [] → AreLeftBelow numbers (number + 1) new
-    below-live new has_point more = record {
+    pub below-live : (new : List ℕ) → IsLeftAt numbers number → new ≡ list ++ number ∷ [] → AreLeftBelow numbers (number + 1) new
+    below-live new its more = record {
       once = subst (IsDistinct nat_eq) (sym more) (distinct-last list number so.once fresh);
       each = λ m has. each m (IsMember-cases list (number ∷ []) m (subst (IsMember m) more (IsMember-from_Contains new m has)));
       all = λ point m low at live left. all point m at live left (below-or m number low);
@@ -96,9 +96,9 @@ module _ (numbers : Numbers) where
         in-now : (m : ℕ) → IsMember m (list ++ number ∷ []) → Contains new m
         in-now m has = Contains-from_IsMember new m (subst (IsMember m) (sym more) has)
 
-        each : (m : ℕ) → IsMember m list ⊎ IsMember m (number ∷ []) → (m < number + 1) × HasPoint numbers m
+        each : (m : ℕ) → IsMember m list ⊎ IsMember m (number ∷ []) → (m < number + 1) × IsLeftAt numbers m
         each m (inl has) = let e = so.each m (Contains-from_IsMember list m has) in let low = e.0 in (omega (arith, low), e.1)
-        each m (inr (inl same)) = (omega (arith, same), subst (HasPoint numbers) (sym same) has_point)
+        each m (inr (inl same)) = (omega (arith, same), subst (IsLeftAt numbers) (sym same) its)
         each m (inr (inr has)) = absurd has
 
         all : (point : Point) (m : ℕ) → StandsIn numbers.book.now numbers.places.now numbers.lists.now point m
@@ -112,7 +112,7 @@ module _ (numbers : Numbers) where
       → (list : List ℕ) → AreLeftBelow numbers end list → AreLeft numbers list
   below-all are end size list so = record {
     once = so.once;
-    live = λ number has. (so.each number has).1;
+    each = λ number has. (so.each number has).1;
     all = λ point number at live left.
         let within = are.numbers.within point number at in
         let low : number < end = omega (arith, within, size) in

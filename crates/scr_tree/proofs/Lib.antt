@@ -20,9 +20,10 @@ pub mod Grounds
 pub mod ByRow
 pub mod RowsMade
 pub mod Linking
+pub mod LinkRoom
+pub mod Unheld
 pub mod Writing
 pub mod RowParts
-pub mod GroupSums
 pub mod Ending
 pub mod PointEquations
 pub mod Upright
@@ -33,6 +34,7 @@ pub mod PointSources
 pub mod SumWorth
 pub mod BlockValues
 pub mod SumNumbers
+pub mod GroupSums
 pub mod SumsRead
 pub mod SumsMade
 pub mod GroupsMade
@@ -58,6 +60,7 @@ pub mod OfRows
 pub mod SumReaders
 pub mod NoSquares
 pub mod Squares
+pub mod SquareReaders
 pub mod MarkedFrom
 pub mod LinkedMarks
 pub mod AtNumbers
@@ -69,3 +72,8 @@ pub mod PointNumbers
 pub mod LeftNumbers
 pub mod StateStill
 pub mod Standings
+pub mod Entered
+pub mod SquaresEntered
+pub mod AssetsMarked
+pub mod SquareRow
+pub mod AddedUp

@@ -1,5 +1,6 @@
 -- The links of all figures, table by table: what is linked after each.
-use Rattle.std.proofs.Common.{◌≡◌, ℕ, ◌+◌, true, false, List, length, Some, slice_get, refl, sym, subst, ◌∙◌}
+use Rattle.std.proofs.Common.{◌≡◌, ℕ, ◌+◌, ◌<◌, true, false, List, length, Some, slice_get, refl, sym, subst, ◌∙◌}
+use Rattle.std.proofs.lemmas.List.Elements.{All-from_recursion}
 use Rattle.scr_names.proofs.TableRows.{passes_or_fails}
 use Rattle.scr_figures.specs.Families.{family_of, name_of, table_of}
 use Rattle.scr_figures.specs.Numbers.{StandsAt, names_in}
@@ -13,7 +14,7 @@ use Rattle.scr_tree.specs.First.{AreLinkedTo, IsLinkGround, IsLinkedNext}
 use Rattle.scr_tree.specs.Points.{is_linked}
 use Rattle.scr_tree.specs.Turns.{Turn, next, turn, turn_of}
 use Rattle.scr_tree.specs.declared.making.LinkGround.{LinkGround}
-use Rattle.scr_tree.proofs.Grounds.{its-number}
+use Rattle.scr_tree.proofs.Grounds.{at-within, its-number}
 use Rattle.scr_tree.proofs.Made.{linked-next, linked-still}
 use Rattle.scr_tree.proofs.Turns.{IsAsGood, IsTurnOf, dead-skipped, of-table, row-ended, table-ended, table_at, total-last}
 
@@ -37,7 +38,9 @@ module _ (ground : LinkGround) (g : IsLinkGround ground) where
       → AreAt At sources (sources_of ground.book.now.sheet node) → IsLinkedNext number sources old now
       → AreLinkedTo ground now (next t)
   linked-one old now t node number sources is turn_is live own at are joined = record {
-    size = joined.size ∙ is.size;
+    size = joined.size ground.places.now.size (g.numbers.within node number at)
+        (All-from_recursion (λ n. n < ground.places.now.size) sources
+        (at-within ground g sources (sources_of ground.book.now.sheet node) are)) is.size;
     linked = linked-next ground.book.now.sheet g.valid ground.places.now g.numbered g.numbers
         old.edges now.edges t node number sources is.linked turn_is live own at are joined.made joined.kept;
   }

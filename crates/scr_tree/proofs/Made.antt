@@ -205,7 +205,7 @@ module _ (factors : FactorValues) (sheet : BalanceSheet) (valid : Valid sheet) (
       → IsEntered number sources figure old now → IsMade factors sheet places now (next t) (next t)
   made-entered old now t node number sources figure is turn live links at are right entered = record {
     count = entered.count ∙ is.count;
-    size = entered.size ∙ is.size;
+    size = subst (λ n. now.links.size ≤ n) is.count (entered.size (subst (λ n. old.links.size ≤ n) (sym is.count) is.size));
     known = reckoned-next old.figures.items now.figures.items t node number is.known turn (record {
       at = at;
       there = ap (option_map worth_of) entered.there ∙ ap Some right;
@@ -237,7 +237,7 @@ module _ (factors : FactorValues) (sheet : BalanceSheet) (valid : Valid sheet) (
   unfolding AreKnownOf
   none-reckoned figures = λ n m stands live before. absurd (none-done sheet n before)
 
-  pub made-none : (made : Made) → length made.figures.items ≡ places.size → made.links.size ≡ places.size → made.links.edges ≡ []
+  pub made-none : (made : Made) → length made.figures.items ≡ places.size → made.links.size ≤ places.size → made.links.edges ≡ []
       → IsMade factors sheet places made (turn 0 0 0) (turn 0 0 0)
   made-none made count size none = record {
     count = count;

@@ -1,53 +1,24 @@
 -- All that is marked as reckoned from a point: what is linked to it, and then what rows and lists give.
-use Rattle.std.proofs.Common.{◌≡◌, ◌⊎◌, inl, inr, ℕ, ◌<◌, Bool, true, false, cond, ◌++◌, nat_eq, Contains, List, length, map, refl, sym, ap, subst, ◌∙◌, arith}
+use Rattle.std.proofs.Common.{◌≡◌, ◌⊎◌, inl, inr, ℕ, Bool, true, false, nat_eq, Contains, List, refl, sym, ap, subst, ◌∙◌}
 use Rattle.std.specs.List.{list_any}
-use Rattle.scr_funds.proofs.Members.{IsMember, IsMember-from_Contains, IsMember-map}
-use Rattle.scr_blocks.specs.Readers.{reader_of_member}
-use Rattle.scr_blocks.specs.declared.readers.Reader.{Reader}
 use Rattle.scr_rounds.proofs.Members as numbers_in
 use Rattle.scr_figures.specs.Numbers.{StandsAt}
 use Rattle.scr_lists.specs.declared.lists.Lists.{Lists}
 use Rattle.scr_numbers.specs.Ranges.{Numbered}
 use Rattle.scr_book.specs.RolledSheets.{RolledSheet}
-use Rattle.scr_sheet.specs.Validity.{Valid}
-use Rattle.scr_nodes.specs.Live.{is_live}
-use Rattle.scr_nodes.specs.Sources.{sources_of}
-use Rattle.scr_nodes.specs.declared.node.Node.{Node}
 use Rattle.scr_nodes.specs.declared.node.Node.TheVariants as nodes
 use Rattle.scr_nodes.specs.declared.node.OfGroup.{OfGroup}
 use Rattle.scr_nodes.specs.declared.node.OfGroup.TheVariants as of_groups
 use Rattle.scr_nodes.specs.declared.node.Whole.TheVariants as wholes
 use Rattle.scr_reach.specs.Leading.Leads.{above, touched}
-use Rattle.scr_sums.specs.Books.{rolled_of}
-use Rattle.scr_sums.specs.Graph.{roll_in, sources_in, tops_of}
-use Rattle.scr_sums.specs.Reading.{IsReading}
-use Rattle.scr_sums.specs.Sums.{first_sum, second_sum}
 use Rattle.scr_sums.specs.declared.point.Point.{Point}
 use Rattle.scr_sums.specs.declared.point.Point.TheVariants as points
-use Rattle.scr_sums.specs.declared.sum.Sum.TheVariants as sums
-use Rattle.scr_tree.specs.Marking.{AreMarkedFrom, AreMarkedMore, IsAboveAt, IsDependantAt, IsLeftToAssets, IsLinkedDependantAt, IsPlainDependantAt, IsSquare, IsSquareOrAbove, assets}
-use Rattle.scr_tree.specs.Points.{AreNumbersOf, IsLinkedPoint, StandsIn, is_linked}
-use Rattle.scr_tree.proofs.Dependants.{ByMember, ByRow, member-as, plain-cases}
-use Rattle.scr_tree.proofs.MemberSeats.{is-member}
-use Rattle.scr_tree.proofs.NoSquares.{square-apart}
-use Rattle.scr_tree.proofs.PlainReaders.{not-summed}
+use Rattle.scr_tree.specs.Marking.{AreMarkedFrom, AreMarkedMore, IsAboveAt, IsAboveSquares, IsDependantAt, IsLeftToAssets, IsLinkedDependantAt, IsPlainDependantAt, IsSquare, IsSquareOfAssets, assets}
+use Rattle.scr_tree.specs.Points.{AreNumbersOf, IsLinkedPoint, StandsIn}
+use Rattle.scr_tree.proofs.Dependants.{ByMember, ByRow, plain-cases}
 use Rattle.scr_tree.proofs.OfRows.{assets-only, assets-stand}
+use Rattle.scr_tree.proofs.SquareReaders.{as-above, linked-or}
 use Rattle.scr_tree.proofs.Squares.{squares-above}
-
--- the figures of a list of figures as points
-figures-of : (node : Node) (list : List Node) → Contains (map points.Figure list) (points.Figure node) → IsMember node list
-figures-of node list h =
-    let m = IsMember-map points.Figure list (points.Figure node) (IsMember-from_Contains (map points.Figure list) (points.Figure node) h) in
-    subst (λ n. IsMember n list) (let same : m.0 ≡ node = cc in same) m.1
-
--- a point is linked or not
-linked-or : (point : Point) → IsLinkedPoint point ⊎ (IsLinkedPoint point → ⊥)
-linked-or (points.Block block) = inr (λ h. h)
-linked-or (points.Figure node) = by (is_linked node) refl
-  where
-    by : (t : Bool) → is_linked node ≡ t → (is_linked node ≡ true) ⊎ (is_linked node ≡ true → ⊥)
-    by true e = inl e
-    by false e = inr (λ h. let clash : true ≡ false = sym h ∙ e in absurd (cc))
 
 -- a number is marked or not
 marked-or : (number : ℕ) (list : List ℕ) → Contains list number ⊎ (Contains list number → ⊥)
@@ -177,92 +148,34 @@ module _ (book : RolledSheet) (places : Numbered) (lists : Lists) (numbers : Are
             absurd (cc);
       }
         where
-          by : (other : ℕ) → Linked other ⊎ Plain other → Left m1 ⊎ (Left m1 → ⊥) → Contains m2 other ⊎ Left m0
+          by : (other : ℕ) → Linked other ⊎ Plain other → Left m1 ⊎ (Left m1 → ⊥)
+              → Contains m2 other ⊎ (Left m0 ⊎ IsSquareOfAssets book places lists number other)
           by other (inl l) left = inl (linked-first (λ other. Plain other × (Left m1 → ⊥)) more other l)
-          by other (inr p) (inl left) = inr (left-before left)
+          by other (inr p) (inl left) = inr (inl (left-before left))
           by other (inr p) (inr not) = inl ((more.marked other).1 (inr (p, not)))
 
-    -- ---- all squares are marked with the assets, and what they lead to
+    -- ---- what all squares lead to is marked with the assets
 
-    module _ (valid : Valid book.sheet) (at : StandsIn book places lists assets number) where
-      some-square : (name : List ℕ) → is_live book.sheet (nodes.Group name of_groups.ConcentrationSquare) ≡ true → 0 < length (roll_in (rolled_of book) sums.Squares)
-      some-square name live = let h = is-member book numbers.rolls sums.Squares name live in let low = h.1 in omega (arith, low)
-
+    module _ (at : StandsIn book places lists assets number) where
       -- what is reckoned from the assets, but for what is linked, are squares
-      square-of : (other : ℕ) → Plain other → IsSquareOrAbove book places lists other
+      square-of : (other : ℕ) → Plain other → (square : Point) × IsSquare square × StandsIn book places lists square other
       square-of other p = by (plain-cases book places lists numbers (nodes.Whole wholes.Assets) number at other p)
         where
           by : ByMember book places lists numbers (nodes.Whole wholes.Assets) other ⊎ ByRow book places lists numbers (nodes.Whole wholes.Assets) other
-              → IsSquareOrAbove book places lists other
+              → (square : Point) × IsSquare square × StandsIn book places lists square other
           by (inl m) = absurd m.adds
-          by (inr r) = record {
-            point = points.Figure r.node;
-            at = r.at;
-            live = r.live;
-            some = some-square r.reads.0 (subst (λ n. is_live book.sheet n ≡ true) r.reads.1 r.live);
-            is = inl (r.reads.0, ap points.Figure r.reads.1);
-          }
+          by (inr r) = (points.Figure r.node, (r.reads.0, ap points.Figure r.reads.1), r.at)
 
-      -- what is reckoned from a square adds up squares
-      above-square : (square : Point) (place other : ℕ) → IsSquare square → StandsIn book places lists square place → IsDependantAt book places lists place other
-          → IsSquareOrAbove book places lists other
-      above-square square place other (name, e) there d = by (linked-or d.point)
-        where
-          from : StandsAt book.sheet places (nodes.Group name of_groups.ConcentrationSquare) place
-          from = subst (λ p. StandsIn book places lists p place) e there
-
-          below : d.below ≡ points.Figure (nodes.Group name of_groups.ConcentrationSquare)
-          below = numbers.numbers.exact place d.below (points.Figure (nodes.Group name of_groups.ConcentrationSquare)) d.from from
-
-          Square : Node
-          Square = nodes.Group name of_groups.ConcentrationSquare
-
-          shown : Node → Bool → List Point
-          shown node t = cond t (tops_of (rolled_of book) (first_sum node) ++ tops_of (rolled_of book) (second_sum node)) (map points.Figure (sources_of book.sheet node))
-
-          by-member : ByMember book places lists numbers Square other → 0 < length (roll_in (rolled_of book) sums.Squares)
-          by-member m =
-              let h = member-as book places lists numbers m.sum sums.Squares m.name name m.adds.1 m.adds.0 m.member in
-              let low = h.1 in
-              omega (arith, low)
-
-          by-reader : (m : ByMember book places lists numbers Square other) → (reader : Reader) × IsReading sums.Squares reader m.reader.point
-          by-reader m = (
-            reader_of_member (length (roll_in (rolled_of book) m.sum)) m.reader.reads.place,
-            subst (λ s. IsReading s (reader_of_member (length (roll_in (rolled_of book) m.sum)) m.reader.reads.place) m.reader.point) m.adds.1 m.reader.reads.reads,
-          )
-
-          by : IsLinkedPoint d.point ⊎ (IsLinkedPoint d.point → ⊥) → IsSquareOrAbove book places lists other
-          by (inl linked) = absurd (never d.point linked (subst (Contains (sources_in (rolled_of book) d.point)) below d.reads))
-            where
-              never : (point : Point) → IsLinkedPoint point → Contains (sources_in (rolled_of book) point) (points.Figure (nodes.Group name of_groups.ConcentrationSquare)) → ⊥
-              never (points.Block block) linked h = linked
-              never (points.Figure node) linked h =
-                  square-apart book.sheet name node linked
-                  (figures-of (nodes.Group name of_groups.ConcentrationSquare) (sources_of book.sheet node)
-                  (subst (λ t. Contains (shown node t) (points.Figure (nodes.Group name of_groups.ConcentrationSquare))) (not-summed node linked) h))
-          by (inr plain) = of-plain (plain-cases book places lists numbers (nodes.Group name of_groups.ConcentrationSquare) place from other (d, plain))
-            where
-              of-plain : ByMember book places lists numbers (nodes.Group name of_groups.ConcentrationSquare) other
-                  ⊎ ByRow book places lists numbers (nodes.Group name of_groups.ConcentrationSquare) other → IsSquareOrAbove book places lists other
-              of-plain (inl m) = record {
-                point = m.reader.point;
-                at = m.reader.at;
-                live = m.reader.live;
-                some = by-member m;
-                is = inr (by-reader m);
-              }
-              of-plain (inr r) = absurd r.reads
-
-      pub from-squares : AreMarkedMore (IsSquareOrAbove book places lists) m1 m2 → AreMarkedFrom book places lists number m0 m2
+      pub from-squares : AreMarkedMore (IsAboveSquares book places lists) m1 m2 → AreMarkedFrom book places lists number m0 m2
       from-squares more = record {
         once = λ h. more.once (linked.once h);
         kept = λ place other e. more.kept place other (linked.kept place other e);
-        each = come (IsSquareOrAbove book places lists) more (squares-above book places lists numbers number at);
-        all = λ other d. inl (by other (kind-of other d));
-        squares = λ _ square place other is there d. (more.marked other).1 (inr (above-square square place other is there d));
+        each = come (IsAboveSquares book places lists) more (λ other a. squares-above book places lists numbers number at other (as-above book places lists numbers other a));
+        all = λ other d. by other (kind-of other d);
+        squares = λ _ other a. (more.marked other).1 (inr a);
       }
         where
-          by : (other : ℕ) → Linked other ⊎ Plain other → Contains m2 other
-          by other (inl l) = linked-first (IsSquareOrAbove book places lists) more other l
-          by other (inr p) = (more.marked other).1 (inr (square-of other p))
+          by : (other : ℕ) → Linked other ⊎ Plain other
+              → Contains m2 other ⊎ (IsLeftToAssets book places lists m0 number ⊎ IsSquareOfAssets book places lists number other)
+          by other (inl l) = inl (linked-first (IsAboveSquares book places lists) more other l)
+          by other (inr p) = inr (inr (at, square-of other p))

@@ -1,7 +1,7 @@
 -- The numbers of what a point is reckoned from: of members, of Blocks and of linked figures.
-use Rattle.std.proofs.Common.{◌≡◌, ◌⊎◌, inl, inr, ℕ, ◌+◌, ◌-◌, ◌*◌, ◌^◌, ◌<◌, ◌≤◌, max, min, Bool, true, false, cond, not, ltb, leb, All, Contains, List, [], ◌∷◌, ◌++◌, length, map, get_or, Option, Some, None, IfSome, IsNone, is_some, slice_get, refl, sym, ap, subst, ◌∙◌, arith, append-nil, append_assoc}
+use Rattle.std.proofs.Common.{◌≡◌, ◌⊎◌, inl, inr, ℕ, ◌+◌, ◌-◌, ◌*◌, ◌^◌, ◌<◌, ◌≤◌, max, min, Bool, true, false, cond, not, ltb, leb, All, Contains, List, [], ◌∷◌, ◌++◌, length, map, get_or, Option, Some, IfSome, is_some, slice_get, refl, sym, ap, subst, ◌∙◌, arith, append-nil, append_assoc}
 use Rattle.std.specs.List.{position_or_len, range_with_len}
-use Rattle.std.proofs.lemmas.Bool.{and_from, and_parts, le-leb, lt-leb, lt-ltb, ltb-false, ltb-true}
+use Rattle.std.proofs.lemmas.Bool.{and_parts, le-leb, lt-leb, ltb-false, ltb-true}
 use Rattle.std.proofs.lemmas.List.{length-map, same_lists}
 use Rattle.std.proofs.lemmas.List.FromFn.{get_or-map-range_with_len, length-map-range_with_len, map-range_with_len_more}
 use Rattle.std.proofs.lemmas.Option.{get_or_from_slice_get, slice_get_within}
@@ -13,7 +13,6 @@ use Rattle.scr_blocks.specs.declared.blocks.Level.{Level}
 use Rattle.scr_blocks.specs.declared.blocks.Level.TheVariants as levels
 use Rattle.scr_blocks.proofs.BlockTests.{over-many}
 use Rattle.scr_blocks.proofs.PartLemmas.{get_or-part, length-part, part-map}
-use Rattle.scr_blocks.proofs.Partition.{is_block-numbered}
 use Rattle.scr_sheet.specs.Validity.{Valid}
 use Rattle.scr_sheet.specs.Members.{table_of}
 use Rattle.scr_sheet.specs.declared.rows.Class.TheVariants as classes
@@ -54,7 +53,6 @@ use Rattle.scr_sums.proofs.Counts.{few_members}
 use Rattle.scr_sums.proofs.Lives.{own-sum, sources-live-in, summed-reader}
 use Rattle.scr_sums.proofs.Small.{blocks-small}
 use Rattle.scr_tree.specs.Points.{AreNumbersOf, IsGraphOf, IsLinkedPoint, StandsIn, is_beside, is_linked}
-use Rattle.scr_tree.specs.Reading.{pushed}
 use Rattle.scr_tree.proofs.Known.{zip-next}
 use Rattle.scr_tree.proofs.Upright.{rolls-are}
 
@@ -296,23 +294,11 @@ module _ (book : RolledSheet) (places : Numbered) (lists : Lists) (are : AreNumb
   -- ---- Blocks, one after another
 
   module _ (sum : Sum) (level : Level) where
-    pub block-live : (index : ℕ) → reads book.sheet sum ≡ true → index < blocks_at (length (roll_in (rolled_of book) sum)) level
-        → is_live_in (rolled_of book) (block_point sum level index) ≡ true
-    block-live index there low =
-        let count : ℕ = length (roll_in (rolled_of book) sum) in
-        and_from (reads book.sheet sum) (is_block count level index) there
-        (is_block-numbered count level index ∙ lt-ltb index (blocks_at count level) low)
-
-    pub block-pushed : (start index : ℕ) (old items after : List ℕ) (found : Option ℕ) → start ≤ index
-        → is_live_in (rolled_of book) (block_point sum level index) ≡ true
-        → IfSome found (λ number. StandsIn book places lists (block_point sum level index) number)
-        → (IsNone found → (number : ℕ) → StandsIn book places lists (block_point sum level index) number → ⊥)
-        → after ≡ pushed items found
+    pub block-pushed : (start index : ℕ) (old items after : List ℕ) (number : ℕ) → start ≤ index
+        → StandsIn book places lists (block_point sum level index) number → after ≡ items ++ number ∷ []
         → ArePushed book places lists (map (block_point sum level) (range_with_len start (index - start))) old items
         → ArePushed book places lists (map (block_point sum level) (range_with_len start (index + 1 - start))) old after
-    block-pushed start index old items after None from live there absent is so =
-        let stands = are.numbers.live (block_point sum level index) live in absurd (absent refl stands.0 stands.1)
-    block-pushed start index old items after (Some number) from live there absent is so = record {
+    block-pushed start index old items after number from there is so = record {
       more = so.more ++ number ∷ [];
       list = is ∙ ap (λ xs. xs ++ number ∷ []) so.list ∙ append_assoc old so.more (number ∷ []);
       at = subst (AreAt (StandsIn book places lists) (so.more ++ number ∷ [])) (sym longer)
@@ -354,18 +340,15 @@ module _ (book : RolledSheet) (places : Numbered) (lists : Lists) (sum : Sum) (l
       subst (λ n. Pushed book places lists old now (map (block_point sum level) (range_with_len start n))) same
       (so.so_far.more, so.so_far.list, so.so_far.at)
 
-  pub next-block : AreNumbersOf book places lists → (index : ℕ) (items after : List ℕ) (found : Option ℕ) → index < end
-      → is_live_in (rolled_of book) (block_point sum level index) ≡ true
-      → IfSome found (λ number. StandsIn book places lists (block_point sum level index) number)
-      → (IsNone found → (number : ℕ) → StandsIn book places lists (block_point sum level index) number → ⊥)
-      → after ≡ pushed items found → AreBlocksSoFar book places lists sum level start end old index items
+  pub next-block : AreNumbersOf book places lists → (index : ℕ) (items after : List ℕ) (number : ℕ) → index < end
+      → StandsIn book places lists (block_point sum level index) number → after ≡ items ++ number ∷ [] → AreBlocksSoFar book places lists sum level start end old index items
       → AreBlocksSoFar book places lists sum level start end old (index + 1) after
-  next-block are index items after found low live there absent is so =
+  next-block are index items after number low there is so =
       let from = so.from in
       record {
         from = omega (arith, from);
         until = omega (arith, low);
-        so_far = block-pushed book places lists are sum level start index old items after found from live there absent is so.so_far;
+        so_far = block-pushed book places lists are sum level start index old items after number from there is so.so_far;
       }
 
 -- what a Block adds up

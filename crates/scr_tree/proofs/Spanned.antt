@@ -25,7 +25,6 @@ use Rattle.scr_figures.specs.Numbers.{names_in}
 use Rattle.scr_figures.proofs.Live.{named-once}
 use Rattle.scr_figures.proofs.RowNames.{placed-at}
 use Rattle.scr_parts.specs.Parts.{slot_of}
-use Rattle.scr_rules.specs.Worked.{worked}
 use Rattle.scr_reach.specs.Dues.{IsDue, IsLiveAt, numbers_of}
 use Rattle.scr_reach.specs.Graph.{IsLive}
 use Rattle.scr_reach.specs.Linked.{AreAt}

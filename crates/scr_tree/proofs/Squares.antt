@@ -1,7 +1,7 @@
--- What squares are added up by: marked all at once with the assets.
+-- Squares and what adds them up: all leads to the assets.
 use Rattle.std.proofs.Common.{◌≡◌, ◌⊎◌, inl, inr, ℕ, ◌+◌, ◌*◌, ◌/◌, ◌<◌, ◌≤◌, true, false, List, [], ◌∷◌, length, map, Some, refl, sym, ap, subst, ◌∙◌, arith}
 use Rattle.std.specs.Prelude.{if◌then◌else◌, is_some, nat_le}
-use Rattle.std.proofs.lemmas.Bool.{cases_lt, le-leb, lt-leb, lt-ltb, ltb-true}
+use Rattle.std.proofs.lemmas.Bool.{cases_lt, le-leb, lt-leb, lt-ltb}
 use Rattle.std.proofs.lemmas.List.{length-map}
 use Rattle.scr_blocks.specs.Blocks.{blocks_at, is_block, parts}
 use Rattle.scr_blocks.specs.Readers.{reader_of_block, reader_of_member}
@@ -36,11 +36,11 @@ use Rattle.scr_sums.specs.declared.point.Point.{Point}
 use Rattle.scr_sums.specs.declared.point.Point.TheVariants as points
 use Rattle.scr_sums.specs.declared.sum.Sum.TheVariants as sums
 use Rattle.scr_sums.proofs.Members.{listed-members, once-groups}
-use Rattle.scr_tree.specs.Marking.{AreMarkedMore, IsAboveAt, IsReaderAt, IsSquare, IsSquareOrAbove, assets}
+use Rattle.scr_tree.specs.Marking.{AreMarkedMore, IsAboveAt, IsAboveSquares, IsReaderAt, IsSquare, IsSquareOrAbove, assets}
 use Rattle.scr_tree.specs.Points.{AreNumbersOf, StandsIn, book_graph}
 use Rattle.scr_tree.proofs.Dependants.{rolls-of}
 use Rattle.scr_tree.proofs.FirstRows.{each-get, got-map, got-row}
-use Rattle.scr_tree.proofs.MarkedMore.{marked-as, marked-none, marked-then, marked-then_as}
+use Rattle.scr_tree.proofs.MarkedMore.{marked-as, marked-none}
 use Rattle.scr_tree.proofs.PlainReaders.{block-read, member-read}
 
 -- ---- how many squares there are
@@ -104,16 +104,6 @@ top count some = by (cases_lt 32 count)
     by : (32 < count) ⊎ (count ≤ 32) → Top count
     by (inl more) = over more (cases_lt 32 (parts count))
     by (inr few) = inl (ap (λ t. if t then readers.Whole else readers.Block levels.First (0 / 32)) (le-leb count 32 few))
-
--- ---- what is marked, one after another
-
--- the square of one of the first groups has the number
-abbrev pub IsSquareBefore : Numbered → ℕ → ℕ → Type 0
-IsSquareBefore places k other = (j : ℕ) × (j < k) × (first places ranged.Group j + 1 ≡ other)
-
--- so has one of the first Blocks of a level
-abbrev pub IsBlockBefore : RolledSheet → Numbered → Lists → Level → ℕ → ℕ → Type 0
-IsBlockBefore book places lists level k other = (i : ℕ) × (i < k) × StandsIn book places lists (block_point sums.Squares level i) other
 
 module _ (book : RolledSheet) (places : Numbered) (lists : Lists) (numbers : AreNumbersOf book places lists) where
   abbrev names : List (List ℕ)
@@ -195,49 +185,6 @@ module _ (book : RolledSheet) (places : Numbered) (lists : Lists) (numbers : Are
             subst (λ (b : Block). is_live_in (rolled_of book) (points.Block b) ≡ true) reads live in
             subst (λ (b : Block). Leading (points.Block b)) (sym reads) (any-leads level i there)
 
-  -- ---- what is marked
-
-  pub no-square : (list : List ℕ) → AreMarkedMore (IsSquareBefore places 0) list list
-  no-square list = marked-none (IsSquareBefore places 0) list (λ other s. let low = s.1 in omega (arith, low))
-
-  pub no-block : (level : Level) (list : List ℕ) → AreMarkedMore (IsBlockBefore book places lists level 0) list list
-  no-block level list = marked-none (IsBlockBefore book places lists level 0) list (λ other s. let low = s.1 in omega (arith, low))
-
-  pub next-square : (k number : ℕ) (old mid new : List ℕ) → number ≡ first places ranged.Group k + 1 → AreMarkedMore (IsSquareBefore places k) old mid
-      → AreMarkedMore (λ other. number ≡ other) mid new → AreMarkedMore (IsSquareBefore places (k + 1)) old new
-  next-square k number old mid new own one two = marked-then_as (IsSquareBefore places k) (λ other. number ≡ other) (IsSquareBefore places (k + 1)) old mid new one two to from
-    where
-      to : (other : ℕ) → IsSquareBefore places k other ⊎ (number ≡ other) → IsSquareBefore places (k + 1) other
-      to other (inl (j, low, e)) = (j, omega (arith, low), e)
-      to other (inr e) = (k, omega arith, sym own ∙ e)
-
-      from : (other : ℕ) → IsSquareBefore places (k + 1) other → IsSquareBefore places k other ⊎ (number ≡ other)
-      from other (j, low, e) = by (cases_lt j k)
-        where
-          by : (j < k) ⊎ (k ≤ j) → IsSquareBefore places k other ⊎ (number ≡ other)
-          by (inl less) = inl (j, less, e)
-          by (inr not) =
-              let last : k ≡ j = omega (arith, low, not) in
-              inr (own ∙ ap (λ n. first places ranged.Group n + 1) last ∙ e)
-
-  pub next-block : (level : Level) (k : ℕ) (old mid new : List ℕ) → AreMarkedMore (IsBlockBefore book places lists level k) old mid
-      → AreMarkedMore (StandsIn book places lists (block_point sums.Squares level k)) mid new → AreMarkedMore (IsBlockBefore book places lists level (k + 1)) old new
-  next-block level k old mid new one two =
-      marked-then_as (IsBlockBefore book places lists level k) (StandsIn book places lists (block_point sums.Squares level k)) (IsBlockBefore book places lists level (k + 1)) old mid new one two to from
-    where
-      to : (other : ℕ) → IsBlockBefore book places lists level k other ⊎ StandsIn book places lists (block_point sums.Squares level k) other → IsBlockBefore book places lists level (k + 1) other
-      to other (inl (i, low, s)) = (i, omega (arith, low), s)
-      to other (inr s) = (k, omega arith, s)
-
-      from : (other : ℕ) → IsBlockBefore book places lists level (k + 1) other → IsBlockBefore book places lists level k other ⊎ StandsIn book places lists (block_point sums.Squares level k) other
-      from other (i, low, s) = by (cases_lt i k)
-        where
-          by : (i < k) ⊎ (k ≤ i) → IsBlockBefore book places lists level k other ⊎ StandsIn book places lists (block_point sums.Squares level k) other
-          by (inl less) = inl (i, less, s)
-          by (inr not) =
-              let last : i ≡ k = omega (arith, low, not) in
-              inr (subst (λ n. StandsIn book places lists (block_point sums.Squares level n) other) last s)
-
   -- a Block of the level
   pub is-block : (level : Level) (count i : ℕ) → count ≡ blocks_at (length (roll_in (rolled_of book) sums.Squares)) level → i < count
       → is_block (length (roll_in (rolled_of book) sums.Squares)) level i ≡ true
@@ -245,12 +192,12 @@ module _ (book : RolledSheet) (places : Numbered) (lists : Lists) (numbers : Are
       is_block-numbered (length names) level i ∙ lt-ltb i (blocks_at (length names) level) (subst (λ n. i < n) own low)
 
   module _ (valid : Valid book.sheet) where
-    record SquareStands (k : ℕ) : Type 0 where
+    pub record SquareStands (k : ℕ) : Type 0 where
       pub name : List ℕ
       pub at : StandsAt book.sheet places (nodes.Group name of_groups.ConcentrationSquare) (first places ranged.Group k + 1)
       pub live : is_live book.sheet (nodes.Group name of_groups.ConcentrationSquare) ≡ true
 
-    square-number : (k : ℕ) → k < length book.sheet.groups → SquareStands k
+    pub square-number : (k : ℕ) → k < length book.sheet.groups → SquareStands k
     square-number k low =
         let group = got-row book.sheet.groups k low in
         let rows : count_of places ranged.Group ≡ length (map group_name book.sheet.groups) = numbers.numbered.rows ranged.Group refl in
@@ -265,80 +212,20 @@ module _ (book : RolledSheet) (places : Numbered) (lists : Lists) (numbers : Are
           live = ap is_some (each-get (λ g. group_of (group_name g) book.sheet.groups ≡ Some g) book.sheet.groups k group.0 (own-groups book.sheet valid) group.1);
         }
 
-    pub square-within : (k size : ℕ) → k < length book.sheet.groups → places.size ≤ size → first places ranged.Group k + 1 < size
-    square-within k size low room =
-        let own = square-number k low in
-        let inside = numbers.numbers.within (points.Figure (nodes.Group own.name of_groups.ConcentrationSquare)) (first places ranged.Group k + 1) own.at in
-        omega (arith, inside, room)
-
     -- where there are no groups there are no squares
-    pub none-marked : length book.sheet.groups ≡ 0 → (list : List ℕ) → AreMarkedMore (IsSquareOrAbove book places lists) list list
+    pub none-marked : length book.sheet.groups ≡ 0 → (list : List ℕ) → AreMarkedMore (IsAboveSquares book places lists) list list
     none-marked none list =
-        marked-none (IsSquareOrAbove book places lists) list (λ other s. let some = s.some in let all = groups-counted valid in omega (arith, some, all, none))
+        marked-none (IsAboveSquares book places lists) list (λ other s. let some = s.some in let all = groups-counted valid in omega (arith, some, all, none))
 
-    abbrev AllBefore : ℕ → ℕ → Type 0
-    AllBefore count other =
-        ((IsSquareBefore places count other ⊎ IsBlockBefore book places lists levels.First (blocks_at count levels.First) other)
-        ⊎ IsBlockBefore book places lists levels.Second (blocks_at count levels.Second) other) ⊎ IsReaderAt book places lists sums.Squares readers.Whole other
-
-    pub squares-marked : (count : ℕ) → count ≡ length book.sheet.groups → 0 < count → (m0 m1 m2 m3 m4 : List ℕ) → AreMarkedMore (IsSquareBefore places count) m0 m1
-        → AreMarkedMore (IsBlockBefore book places lists levels.First (blocks_at count levels.First)) m1 m2
-        → AreMarkedMore (IsBlockBefore book places lists levels.Second (blocks_at count levels.Second)) m2 m3
-        → AreMarkedMore (IsReaderAt book places lists sums.Squares readers.Whole) m3 m4 → AreMarkedMore (IsSquareOrAbove book places lists) m0 m4
-    squares-marked count own some m0 m1 m2 m3 m4 one two three four =
-        marked-as (AllBefore count) (IsSquareOrAbove book places lists) m0 m4 to from
-        (marked-then _ _ m0 m3 m4 (marked-then _ _ m0 m2 m3 (marked-then _ _ m0 m1 m2 one two) three) four)
+    -- and where there are some, what adds all up is reckoned from them
+    pub above-marked : 0 < length book.sheet.groups → (old new : List ℕ) → AreMarkedMore (IsReaderAt book places lists sums.Squares readers.Whole) old new
+        → AreMarkedMore (IsAboveSquares book places lists) old new
+    above-marked some old new = marked-as (IsReaderAt book places lists sums.Squares readers.Whole) (IsAboveSquares book places lists) old new to from
       where
-        long : count ≡ length names
-        long = own ∙ sym (groups-counted valid)
+        to : (other : ℕ) → IsReaderAt book places lists sums.Squares readers.Whole other → IsAboveSquares book places lists other
+        to other r =
+            let all = groups-counted valid in
+            record { point = r.point; at = r.at; live = r.live; some = omega (arith, some, all); reads = r.reads }
 
-        any : 0 < length names
-        any = omega (arith, some, long)
-
-        of-block : (level : Level) (other : ℕ) → IsBlockBefore book places lists level (blocks_at count level) other → IsSquareOrAbove book places lists other
-        of-block level other (i, low, s) = record {
-          point = block_point sums.Squares level i;
-          at = s;
-          live = is-block level (blocks_at count level) i (ap (λ n. blocks_at n level) long) low;
-          some = any;
-          is = inr (readers.Block level i, refl);
-        }
-
-        to : (other : ℕ) → AllBefore count other → IsSquareOrAbove book places lists other
-        to other (inl (inl (inl (j, low, e)))) =
-            let square = square-number j (omega (arith, low, own)) in
-            record {
-              point = points.Figure (nodes.Group square.name of_groups.ConcentrationSquare);
-              at = subst (λ n. StandsAt book.sheet places (nodes.Group square.name of_groups.ConcentrationSquare) n) e square.at;
-              live = square.live;
-              some = any;
-              is = inl (square.name, refl);
-            }
-        to other (inl (inl (inr b))) = of-block levels.First other b
-        to other (inl (inr b)) = of-block levels.Second other b
-        to other (inr r) = record { point = r.point; at = r.at; live = r.live; some = any; is = inr (readers.Whole, r.reads) }
-
-        before : (level : Level) (i other : ℕ) → is_block (length names) level i ≡ true → StandsIn book places lists (block_point sums.Squares level i) other → AllBefore count other
-        before levels.First i other there s =
-            inl (inl (inr (i, subst (λ n. i < blocks_at n levels.First) (sym long) (ltb-true i (blocks_at (length names) levels.First) (sym (is_block-numbered (length names) levels.First i) ∙ there)), s)))
-        before levels.Second i other there s =
-            inl (inr (i, subst (λ n. i < blocks_at n levels.Second) (sym long) (ltb-true i (blocks_at (length names) levels.Second) (sym (is_block-numbered (length names) levels.Second i) ∙ there)), s))
-
-        square-before : (name : List ℕ) (other : ℕ) → StandsAt book.sheet places (nodes.Group name of_groups.ConcentrationSquare) other → AllBefore count other
-        square-before name other s =
-            let low : s.k < count_of places ranged.Group = s.at.row in
-            let rows : count_of places ranged.Group ≡ length (map group_name book.sheet.groups) = numbers.numbered.rows ranged.Group refl in
-            let called : length (map group_name book.sheet.groups) ≡ length book.sheet.groups = length-map book.sheet.groups group_name in
-            inl (inl (inl (s.k, omega (arith, low, rows, called, own), s.at.is)))
-
-        from : (other : ℕ) → IsSquareOrAbove book places lists other → AllBefore count other
-        from other s = by s.point s.at s.live s.is
-          where
-            by : (point : Point) → StandsIn book places lists point other → is_live_in (rolled_of book) point ≡ true
-                → IsSquare point ⊎ ((reader : Reader) × IsReading sums.Squares reader point) → AllBefore count other
-            by point at live (inl (name, e)) = square-before name other (subst (λ p. StandsIn book places lists p other) e at)
-            by point at live (inr (readers.Whole, reads)) = inr (record { point = point; at = at; live = live; reads = reads })
-            by (points.Figure node) at live (inr (readers.Block level i, reads)) = absurd reads
-            by (points.Block block) at live (inr (readers.Block level i, reads)) =
-                before level i other (subst (λ (b : Block). is_live_in (rolled_of book) (points.Block b) ≡ true) reads live)
-                (subst (λ (b : Block). StandsIn book places lists (points.Block b) other) reads at)
+        from : (other : ℕ) → IsAboveSquares book places lists other → IsReaderAt book places lists sums.Squares readers.Whole other
+        from other a = record { point = a.point; at = a.at; live = a.live; reads = a.reads }

@@ -21,7 +21,7 @@ use Rattle.scr_num.specs.Sums.{sum_ends}
 use Rattle.scr_numbers.specs.Ranges.{IsApart, IsAt, IsOne, IsWithin, Numbered, count, first}
 use Rattle.scr_numbers.specs.declared.table.Table.TheVariants as ranged
 use Rattle.scr_parts.specs.PartNumbers.{PartAt}
-use Rattle.scr_parts.specs.Parts.{AreOwn, Parted, count_of, key_of, part_at, size_of, slot_at, slot_of, slots_of}
+use Rattle.scr_parts.specs.Parts.{AreOwn, Parted, count_of, key_of, part_at, slot_at, slot_of, slots_of}
 use Rattle.scr_parts.specs.declared.parts.Part.{Part}
 use Rattle.scr_parts.proofs.Views.{no-some, one-some}
 use Rattle.scr_sheet.specs.Members.{table_of as roll_table}
@@ -412,7 +412,7 @@ module _ (numbers : Numbers) (are : AreNumbersOf numbers.book.now numbers.places
     low-on : (level : Level) (i : ℕ) → i < blocks_at (length firsts) level → i < blocks_at (count_on numbers sum) level
     low-on level i low = subst (λ n. i < blocks_at n level) count-is low
 
-    low-here : (level : Level) (i : ℕ) → i < blocks_at (count_on numbers sum) level → i < blocks_at (length firsts) level
+    pub low-here : (level : Level) (i : ℕ) → i < blocks_at (count_on numbers sum) level → i < blocks_at (length firsts) level
     low-here level i low = subst (λ n. i < blocks_at n level) (sym count-is) low
 
     pub members-off : All (λ start. AreOffBlocks blocks (length firsts) (member_number family start)) firsts

@@ -306,7 +306,7 @@ module _ (book : RolledSheet) (places : Numbered) (lists : Lists) (numbers : Are
     }
 
     -- whatever reads a Block reads it for its sum
-    reads-block : (point : Point) → is_live_in (rolled_of book) point ≡ true → Contains (sources_in (rolled_of book) point) (points.Block block)
+    pub reads-block : (point : Point) → is_live_in (rolled_of book) point ≡ true → Contains (sources_in (rolled_of book) point) (points.Block block)
         → IsReading block.sum Above point
     reads-block point lives h = by point lives h
       where

@@ -39,7 +39,6 @@ use Rattle.scr_sums.specs.Books.{rolled_of}
 use Rattle.scr_sums.specs.Graph.{AreRolls, Rolled, block_point, is_live_in, listed, member_point, reads, roll_in, worth_in}
 use Rattle.scr_sums.specs.Sums.{first_sum, member_of, names_listed, reader_of, roll_of, second_sum}
 use Rattle.scr_sums.specs.Told.{is_reader}
-use Rattle.scr_sums.specs.declared.point.Block.{Block}
 use Rattle.scr_sums.specs.declared.point.Point.{Point}
 use Rattle.scr_sums.specs.declared.point.Point.TheVariants as points
 use Rattle.scr_sums.specs.declared.sum.Sum.{Sum}
@@ -57,7 +56,7 @@ use Rattle.scr_numbers.specs.Ranges.{first}
 use Rattle.scr_reach.specs.Linked.{AreLinkedOf}
 use Rattle.scr_tree.specs.Points.{StandsIn, book_reckoning, is_linked, point_worth}
 use Rattle.scr_tree.specs.Summed.{AreBlocksOn, AreMembersOn, KeepsOffBlocksOn, family_in, firsts_on, spanned_ends}
-use Rattle.scr_tree.specs.Turns.{IsBefore, Turn, next, stage_of, turn, turn_of}
+use Rattle.scr_tree.specs.Turns.{IsBefore, Turn, next, stage_of, turn_of}
 use Rattle.scr_tree.specs.declared.making.Ground.{Ground}
 use Rattle.scr_tree.specs.declared.making.Made.{Made}
 use Rattle.scr_tree.proofs.BlockValues.{block-low, block-there, map-range}
@@ -549,7 +548,7 @@ module _ (ground : Ground) (g : IsGround ground) where
       summed-made = record {
         figures = record {
           count = ap length figures_are ∙ count ∙ kept.count ∙ is.figures.count;
-          size = ap (λ (l : Linked). l.size) links_are ∙ is.figures.size;
+          size = subst (λ (l : Linked). l.size ≤ ground.places.now.size) (sym links_are) is.figures.size;
           known = subst (λ fs. AreKnownOf (reckoning_of ground.inputs.factors.now ground.inputs.book.now.sheet)
               (StandsAt ground.inputs.book.now.sheet ground.places.now) fs (IsBefore ground.inputs.book.now.sheet (next t))) (sym figures_are)
               (reckoned-next ground.inputs.factors.now ground.inputs.book.now.sheet g.valid ground.places.now g.numbered g.numbers

@@ -408,7 +408,7 @@ module _ (ground : Ground) (g : IsGround ground) where
       record {
         figures = record {
           count = reckoned.count;
-          size = ap (λ (l : Linked). l.size) links ∙ is.figures.size;
+          size = subst (λ (l : Linked). l.size ≤ ground.places.now.size) (sym links) is.figures.size;
           known = reckoned.known;
           links = subst
               (λ (l : Linked). AreLinkedOf (graph_of ground.inputs.book.now.sheet) At l.edges (IsLinkedBefore ground.inputs.book.now.sheet (turn 6 0 0)))

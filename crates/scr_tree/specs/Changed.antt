@@ -1,5 +1,5 @@
 -- A record that the book has taken, and what it changes beside the book (this project's own).
-use Rattle.std.specs.Prelude.{◌≡◌, ◌↔◌, ℕ, ◌+◌, ◌<◌, ◌≤◌, true, List, [], Contains, IfSome, Option, Some, None, Vec, length, nat_eq, slice_get}
+use Rattle.std.specs.Prelude.{◌≡◌, ◌↔◌, ◌⊎◌, ℕ, ◌+◌, ◌<◌, ◌≤◌, true, List, [], Contains, IfSome, Option, Some, None, Vec, length, nat_eq, slice_get}
 use Rattle.std.specs.Global.{Global}
 use Rattle.std.specs.List.{IsDistinct}
 use Rattle.std.specs.Option.{option_map_or}
@@ -40,6 +40,7 @@ use Rattle.scr_sums.specs.Touched.{IsTouchedIn}
 use Rattle.scr_sums.specs.declared.point.Point.{Point}
 use Rattle.scr_tree.specs.Figures.{AreKnownOf, AreSettled}
 use Rattle.scr_tree.specs.KeptRates.{keeps_rates}
+use Rattle.scr_tree.specs.Marking.{AreAssetsMarked, is_of_squares}
 use Rattle.scr_tree.specs.Points.{AreNumbersOf, IsGraphOf, StandsIn, book_graph, book_reckoning}
 use Rattle.scr_tree.specs.Starts.{relinked}
 use Rattle.scr_tree.specs.declared.edits.State.{State}
@@ -200,13 +201,15 @@ pub record IsRelinkedFor (factors : FactorValues) (after : RolledSheet) (touched
   pub marks : state.marks.list ≡ []
   pub marked : state.places.size ≤ state.marks.size
 
--- just the numbers of the points are marked that the book has and that are touched or reckoned from such
+-- Just the numbers of points are marked that the book has and that are touched or reckoned from such. Where the assets are marked squares and
+-- the Blocks over them are reached without a mark.
 pub record AreReachedMarks (book : RolledSheet) (places : Numbered) (lists : Lists) (touched : List Point) (marks : List ℕ) : Type 0 where
   pub once : IsDistinct nat_eq marks
   pub each : (number : ℕ) → Contains marks number → (point : Point) × StandsIn book places lists point number
       × IsInReach (book_graph (rolled_of book)) (Contains touched) point
   pub all : (point : Point) (number : ℕ) → StandsIn book places lists point number
-      → IsInReach (book_graph (rolled_of book)) (Contains touched) point → Contains marks number
+      → IsInReach (book_graph (rolled_of book)) (Contains touched) point
+      → Contains marks number ⊎ ((is_of_squares point ≡ true) × AreAssetsMarked book places lists marks)
 
 -- ---- steps
 

@@ -1,5 +1,5 @@
 -- What the first reckoning of all figures has made (this project's own).
-use Rattle.std.specs.Prelude.{◌≡◌, ◌⊎◌, ℕ, ◌++◌, true, false, Contains, List, Some, length, map, nat_eq, slice_get}
+use Rattle.std.specs.Prelude.{◌≡◌, ◌⊎◌, ℕ, ◌<◌, ◌≤◌, ◌++◌, true, false, All, Contains, List, Some, length, map, nat_eq, slice_get}
 use Rattle.scr_factors.specs.Values.{FactorValues, IsInForm}
 use Rattle.scr_figures.specs.Numbers.{IsNumbered, StandsAt}
 use Rattle.scr_figures.specs.Gathered.{AreMembersOf}
@@ -38,10 +38,11 @@ use Rattle.scr_tree.specs.Points.{AreNumbersOf, IsLinkedPoint, StandsIn, book_gr
 
 -- ---- what is made
 
--- A figure is written at the number, and these sources are linked to it. To all other numbers all is as before.
+-- A figure is written at the number, and these sources are linked to it. To all other numbers all is as before. Links have room for no
+-- number that figures have no place for.
 pub record IsEntered (number : ℕ) (sources : List ℕ) (figure : Figure) (before now : Made) : Type 0 where
   pub count : length now.figures.items ≡ length before.figures.items
-  pub size : now.links.size ≡ before.links.size
+  pub size : before.links.size ≤ length before.figures.items → now.links.size ≤ length before.figures.items
   pub there : slice_get now.figures.items number ≡ Some figure
   pub others : (other : ℕ) → (other ≡ number → ⊥)
       → slice_get now.figures.items other ≡ slice_get before.figures.items other
@@ -65,18 +66,18 @@ abbrev pub IsBlockBefore : BalanceSheet → Turn → Point → Type 0
 IsBlockBefore sheet t (points.Figure node) = ⊥
 IsBlockBefore sheet t (points.Block block) = IsBefore sheet t (reader_of block.sum)
 
--- There is a place for each figure and for its links. All figures before a turn are reckoned, and figures before a turn are linked that
+-- There is a place for each figure. All figures before a turn are reckoned, and figures before a turn are linked that
 -- neither rows nor lists give.
 pub record IsMade (factors : FactorValues) (sheet : BalanceSheet) (places : Numbered) (made : Made) (reckoned linked : Turn) : Type 0 where
   pub count : length made.figures.items ≡ places.size
-  pub size : made.links.size ≡ places.size
+  pub size : made.links.size ≤ places.size
   pub known : AreKnownOf (reckoning_of factors sheet) (StandsAt sheet places) made.figures.items (IsBefore sheet reckoned)
   pub links : AreLinkedOf (graph_of sheet) (StandsAt sheet places) made.links.edges (IsLinkedBefore sheet linked)
 
 -- Each figure and each Block is at its number, and figures are linked that neither rows nor lists give.
 pub record IsAllMade (factors : FactorValues) (book : RolledSheet) (places : Numbered) (lists : Lists) (made : Made) : Type 0 where
   pub count : length made.figures.items ≡ places.size
-  pub size : made.links.size ≡ places.size
+  pub size : made.links.size ≤ places.size
   pub figures : AreSettled (book_reckoning factors (rolled_of book)) (StandsIn book places lists) made.figures.items
   pub links : AreLinkedOf (book_graph (rolled_of book)) (StandsIn book places lists) made.links.edges IsLinkedPoint
 
@@ -117,15 +118,15 @@ pub record AreReckonedTo (ground : Ground) (figures : List Figure) (t : Turn) : 
   pub known : AreKnownOf (reckoning_of ground.inputs.factors.now ground.inputs.book.now.sheet) (StandsAt ground.inputs.book.now.sheet ground.places.now) figures
       (IsBefore ground.inputs.book.now.sheet t)
 
--- There is a place for the links of each number, and figures before a turn are linked that neither rows nor lists give.
+-- Figures before a turn are linked that neither rows nor lists give.
 pub record AreLinkedTo (ground : LinkGround) (links : Linked) (t : Turn) : Type 0 where
-  pub size : links.size ≡ ground.places.now.size
+  pub size : links.size ≤ ground.places.now.size
   pub linked : AreLinkedOf (graph_of ground.book.now.sheet) (StandsAt ground.book.now.sheet ground.places.now) links.edges
       (IsLinkedBefore ground.book.now.sheet t)
 
 -- these sources are linked to the number, and to all others the same as before
 pub record IsLinkedNext (number : ℕ) (sources : List ℕ) (before now : Linked) : Type 0 where
-  pub size : now.size ≡ before.size
+  pub size : (size : ℕ) → number < size → All (λ source. source < size) sources → before.size ≤ size → now.size ≤ size
   pub made : sources_in now.edges number ≡ sources_in before.edges number ++ sources
   pub kept : (other : ℕ) → nat_eq number other ≡ false → edges_to now.edges other ≡ edges_to before.edges other
 

@@ -4,14 +4,13 @@ use Rattle.std.specs.List.{IsDistinct}
 use Rattle.scr_nodes.specs.declared.node.Node.TheVariants as nodes
 use Rattle.scr_nodes.specs.declared.node.Whole.{Whole}
 use Rattle.scr_nodes.specs.declared.node.Whole.TheVariants as wholes
-use Rattle.scr_reach.specs.Dues.{IsLiveAt}
 use Rattle.scr_sums.specs.Books.{rolled_of}
 use Rattle.scr_sums.specs.Graph.{is_live_in}
 use Rattle.scr_sums.specs.declared.point.Point.{Point}
 use Rattle.scr_sums.specs.declared.point.Point.TheVariants as points
 use Rattle.scr_sums.specs.declared.sum.Sum.{Sum}
 use Rattle.scr_sums.specs.declared.sum.Sum.TheVariants as sums
-use Rattle.scr_tree.specs.Points.{StandsIn, book_graph}
+use Rattle.scr_tree.specs.Points.{StandsIn}
 use Rattle.scr_tree.specs.declared.graph.Numbers.{Numbers}
 
 abbrev pub is_after_rows : Whole → Bool
@@ -30,10 +29,14 @@ is_left (points.Figure (nodes.Whole what)) = is_after_rows what
 is_left (points.Figure (nodes.Currency currency what)) = true
 is_left (points.Figure node) = false
 
--- Each of the numbers is that of a point that the book has, and comes once; each point that is left and that the book has is at one of them.
+-- a point that is left, and that the book has, stands at the number
+abbrev pub IsLeftAt : Numbers → ℕ → Type 0
+IsLeftAt numbers number = (point : Point) × StandsIn numbers.book.now numbers.places.now numbers.lists.now point number
+    × (is_live_in (rolled_of numbers.book.now) point ≡ true) × (is_left point ≡ true)
+
+-- just the numbers of the points that are left and that the book has, each once
 pub record AreLeft (numbers : Numbers) (list : List ℕ) : Type 0 where
   pub once : IsDistinct nat_eq list
-  pub live : (number : ℕ) → Contains list number
-      → IsLiveAt (book_graph (rolled_of numbers.book.now)) (StandsIn numbers.book.now numbers.places.now numbers.lists.now) number
+  pub each : (number : ℕ) → Contains list number → IsLeftAt numbers number
   pub all : (point : Point) (number : ℕ) → StandsIn numbers.book.now numbers.places.now numbers.lists.now point number
       → is_live_in (rolled_of numbers.book.now) point ≡ true → is_left point ≡ true → Contains list number

@@ -20,4 +20,5 @@ pub mod Sorted
 pub mod Opening
 pub mod Summed
 pub mod Marking
+pub mod Entered
 pub mod Reading

@@ -1,7 +1,8 @@
 -- What is marked as reckoned from a point (this project's own).
-use Rattle.std.specs.Prelude.{◌≡◌, ◌↔◌, ◌⊎◌, ◌<◌, ℕ, true, List, Contains, Some, nat_eq, length, slice_get}
+use Rattle.std.specs.Prelude.{◌≡◌, ◌↔◌, ◌⊎◌, ◌<◌, ℕ, Bool, true, false, List, Contains, Some, nat_eq, length, slice_get}
 use Rattle.std.specs.List.{IsDistinct}
 use Rattle.scr_blocks.specs.declared.readers.Reader.{Reader}
+use Rattle.scr_blocks.specs.declared.readers.Reader.TheVariants as readers
 use Rattle.scr_book.specs.RolledSheets.{RolledSheet}
 use Rattle.scr_numbers.specs.Ranges.{Numbered}
 use Rattle.scr_nodes.specs.declared.node.Node.TheVariants as nodes
@@ -70,6 +71,40 @@ IsSquare point = (name : List ℕ) × (point ≡ points.Figure (nodes.Group name
 abbrev pub assets : Point
 assets = points.Figure (nodes.Whole wholes.Assets)
 
+-- the point is the square of a group, or a Block over squares
+abbrev pub is_squares : Sum → Bool
+is_squares sums.Squares = true
+is_squares sum = false
+
+abbrev pub is_of_squares : Point → Bool
+is_of_squares (points.Figure (nodes.Group name of_groups.ConcentrationSquare)) = true
+is_of_squares (points.Figure node) = false
+is_of_squares (points.Block block) = is_squares block.sum
+
+-- such a point stands at the number and lives
+pub record IsSquaresAt (book : RolledSheet) (places : Numbered) (lists : Lists) (number : ℕ) : Type 0 where
+  pub point : Point
+  pub at : StandsIn book places lists point number
+  pub live : is_live_in (rolled_of book) point ≡ true
+  pub is : is_of_squares point ≡ true
+
+-- the assets are marked, with which all squares are reached
+abbrev pub AreAssetsMarked : RolledSheet → Numbered → Lists → List ℕ → Type 0
+AreAssetsMarked book places lists marks = (number : ℕ) × StandsIn book places lists assets number × Contains marks number
+
+-- a live point at the number is reckoned from all squares together, where there are any
+pub record IsAboveSquares (book : RolledSheet) (places : Numbered) (lists : Lists) (number : ℕ) : Type 0 where
+  pub point : Point
+  pub at : StandsIn book places lists point number
+  pub live : is_live_in (rolled_of book) point ≡ true
+  pub some : 0 < length (roll_in (rolled_of book) sums.Squares)
+  pub reads : IsReading sums.Squares readers.Whole point
+
+-- the assets stand at the number, and the square of a group at the other
+abbrev pub IsSquareOfAssets : RolledSheet → Numbered → Lists → ℕ → ℕ → Type 0
+IsSquareOfAssets book places lists number other =
+    StandsIn book places lists assets number × ((square : Point) × IsSquare square × StandsIn book places lists square other)
+
 -- the square of a group stands at the number, and the assets are marked
 pub record IsLeftToAssets (book : RolledSheet) (places : Numbered) (lists : Lists) (marks : List ℕ) (number : ℕ) : Type 0 where
   pub square : Point
@@ -79,15 +114,15 @@ pub record IsLeftToAssets (book : RolledSheet) (places : Numbered) (lists : List
   pub there : StandsIn book places lists assets assets_at
   pub marked : Contains marks assets_at
 
--- All that is reckoned from the point at the number is marked, and nothing but what leads to it. What squares lead to is left to the assets
--- where these are marked, and is marked with these.
+-- All that is reckoned from the point at the number is marked, and nothing but what leads to it. Squares and what adds them up are left to the
+-- assets where these are marked, with which just what is reckoned from all squares together is marked.
 pub record AreMarkedFrom (book : RolledSheet) (places : Numbered) (lists : Lists) (number : ℕ) (old new : List ℕ) : Type 0 where
   pub once : IsDistinct nat_eq old → IsDistinct nat_eq new
   pub kept : (place other : ℕ) → slice_get old place ≡ Some other → slice_get new place ≡ Some other
   pub each : (other : ℕ) → Contains new other → Contains old other ⊎ IsAboveAt book places lists number other
-  pub all : (other : ℕ) → IsDependantAt book places lists number other → Contains new other ⊎ IsLeftToAssets book places lists old number
-  pub squares : StandsIn book places lists assets number → (square : Point) (at other : ℕ) → IsSquare square → StandsIn book places lists square at
-      → IsDependantAt book places lists at other → Contains new other
+  pub all : (other : ℕ) → IsDependantAt book places lists number other
+      → Contains new other ⊎ (IsLeftToAssets book places lists old number ⊎ IsSquareOfAssets book places lists number other)
+  pub squares : StandsIn book places lists assets number → (other : ℕ) → IsAboveSquares book places lists other → Contains new other
 
 -- the same of a point whose sources are linked, and of one whose sources are not
 abbrev pub IsLinkedDependantAt : RolledSheet → Numbered → Lists → ℕ → ℕ → Type 0
@@ -108,3 +143,16 @@ pub record IsSquareOrAbove (book : RolledSheet) (places : Numbered) (lists : Lis
   pub live : is_live_in (rolled_of book) point ≡ true
   pub some : 0 < length (roll_in (rolled_of book) sums.Squares)
   pub is : IsSquare point ⊎ ((reader : Reader) × IsReading sums.Squares reader point)
+
+-- ---- what is reached
+
+-- just the marked numbers are reached, and where all squares are, those of squares and of the Blocks over them
+pub record AreReached (book : RolledSheet) (places : Numbered) (lists : Lists) (squares : Bool) (marks reached : List ℕ) : Type 0 where
+  pub each : (number : ℕ) → Contains reached number → Contains marks number ⊎ ((squares ≡ true) × IsSquaresAt book places lists number)
+  pub marked : (number : ℕ) → Contains marks number → Contains reached number
+  pub all : squares ≡ true → (number : ℕ) → IsSquaresAt book places lists number → Contains reached number
+
+-- so many of the marked numbers that those of squares alone are missing, where all squares are reached
+pub record AreMarksLeft (book : RolledSheet) (places : Numbered) (lists : Lists) (squares : Bool) (marks left : List ℕ) : Type 0 where
+  pub each : (number : ℕ) → Contains left number → Contains marks number × (squares ≡ true → IsSquaresAt book places lists number → ⊥)
+  pub all : (number : ℕ) → Contains marks number → Contains left number ⊎ ((squares ≡ true) × IsSquaresAt book places lists number)

@@ -1,5 +1,5 @@
 -- Points read off numbers (this project's own).
-use Rattle.std.specs.Prelude.{◌≡◌, ℕ, true, Some, List, [], ◌∷◌, ◌++◌, Option, None}
+use Rattle.std.specs.Prelude.{◌≡◌, ℕ, true, Some}
 use Rattle.scr_sheet.specs.Members.{is_member, table_of}
 use Rattle.scr_nodes.specs.declared.node.Direction.TheVariants as directions
 use Rattle.scr_nodes.specs.declared.node.Measure.TheVariants as measures
@@ -34,11 +34,6 @@ pub record IsRollOf (kept : KeptRolls) (list : ℕ) (roll : Roll) : Type 0 where
   pub number : ℕ
   pub numbered : number_of_roll roll kept ≡ Some number
   pub is : list_number roll number ≡ list
-
--- the number stands last, where there is one
-abbrev pub pushed : List ℕ → Option ℕ → List ℕ
-pushed list None = list
-pushed list (Some number) = list ++ number ∷ []
 
 -- of a foreign currency the fall beside the rise, which both are reckoned from one sum; of every other sum the one figure that there is
 abbrev pub fall_of : Sum → Node

@@ -1,7 +1,9 @@
 -- When figures can be reckoned from those that are known, and are right (this project's own).
-use Rattle.std.specs.Prelude.{◌≡◌, ℕ, ◌<◌, true, List, Contains, Some, nat_eq, slice_get}
+use Rattle.std.specs.Prelude.{◌≡◌, ℕ, ◌+◌, ◌<◌, true, List, Contains, Some, length, nat_eq, slice_get}
 use Rattle.std.specs.List.{IsDistinct}
 use Rattle.scr_sheet.specs.Validity.{Valid}
+use Rattle.scr_numbers.specs.Ranges.{first}
+use Rattle.scr_numbers.specs.declared.table.Table.TheVariants as ranged
 use Rattle.scr_reach.specs.Dues.{IsLiveAt}
 use Rattle.scr_reach.specs.Graph.{Graph, IsClosed}
 use Rattle.scr_reach.specs.Linked.{AreAt, AreNumbers}
@@ -82,3 +84,12 @@ AreKnownBut b figures numbers = AreKnownOf (reckoning_on b) (StandsOn b) figures
 
 abbrev pub AreSettledOn : Basis → List Figure → Type 0
 AreSettledOn b figures = AreSettled (reckoning_on b) (StandsOn b) figures
+
+-- ---- squares by row
+
+-- the number of the square of the group in a row
+abbrev pub square_number : Basis → ℕ → ℕ
+square_number b row = first b.places.now ranged.Group row + 1
+
+abbrev pub IsSquareOn : Basis → ℕ → ℕ → Type 0
+IsSquareOn b row number = (row < length b.inputs.book.now.sheet.groups) × (square_number b row ≡ number)

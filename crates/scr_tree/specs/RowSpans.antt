@@ -1,10 +1,11 @@
 -- The figures of rows, each row by itself (this project's own).
 use Rattle.std.specs.Prelude.{◌≡◌, ℕ, ◌+◌, ◌<◌, true, List, Some, length, map, slice_get}
+use Rattle.std.specs.List.{AllZip}
 use Rattle.std.specs.Option.{option_map}
 use Rattle.scr_num.specs.Rounding.{ends}
 use Rattle.scr_num.specs.declared.span.Span.{Span}
 use Rattle.scr_factors.specs.Values.{FactorValues}
-use Rattle.scr_numbers.specs.Ranges.{stride}
+use Rattle.scr_numbers.specs.Ranges.{IsAt, Numbered, stride}
 use Rattle.scr_numbers.specs.declared.table.Table.{Table}
 use Rattle.scr_numbers.specs.declared.table.Table.TheVariants as tables
 use Rattle.scr_figures.specs.Families.{family_of, name_of, table_of}
@@ -45,6 +46,13 @@ pub record IsRowGround (b : RowGround) : Type 0 where
   pub ground : IsGround b.ground
   pub totals : b.totals.now ≡ map (λ p. total_of b.ground.inputs.book.now.sheet (position_name p)) b.ground.inputs.book.now.sheet.securities
   pub assets : ends b.assets ≡ worked b.ground.inputs.factors.now b.ground.inputs.book.now.sheet (nodes.Whole wholes.Assets)
+
+-- the numbers of the security at a place begin with this one; so of some securities
+abbrev pub BeginsAt : Numbered → ℕ → ℕ → Type 0
+BeginsAt places number row = IsAt places tables.Security row 0 number
+
+abbrev pub BeginAt : Numbered → List ℕ → List ℕ → Type 0
+BeginAt places numbers rows = AllZip (BeginsAt places) numbers rows
 
 -- the figure is one of the row at a place
 pub record IsOfRow (sheet : BalanceSheet) (sort : Sort) (k : ℕ) (node : Node) : Type 0 where

@@ -22,6 +22,7 @@ ghost use Rattle.scr_tree.specs.KeptRates.{AreKeptFor, keeps_rates};
 
 use crate::basis::{Basis, Crew};
 use crate::figures::{Below, Figure, Inputs, NO_FIGURE};
+use crate::first_links::ASSETS;
 use crate::graph::{Graph, Numbers};
 use crate::order::ordered;
 use crate::reckoning::{Scratch, reckon_in_place};
@@ -290,7 +291,8 @@ fn reckon_reached<R: Threads + Sync, G: Gate + Sync, L: Ledger>(
     };
     mark_starts(&mut state.marks, graph.numbers, touched)?;
     climb(graph, &mut state.marks, touched)?;
-    let order = ordered(crew.alloc, graph, state.marks.as_slice())?;
+    let squares = state.marks.place(ASSETS).is_some();
+    let order = ordered(crew.alloc, graph, state.marks.as_slice(), squares)?;
     let basis = Basis {
         inputs: Inputs {
             factors: footing.factors,
@@ -311,15 +313,16 @@ fn reckon_reached<R: Threads + Sync, G: Gate + Sync, L: Ledger>(
     )
 }
 
-/// Marks all that is reckoned from what is marked.
+/// Marks all that is reckoned from what is marked. Where the assets are marked squares and the Blocks over them need no mark.
 fn climb(graph: Graph<'_>, marks: &mut Marked, touched: &[Point]) -> Result<(), NoMemory>
     requires graph { IsGraphOf graph.numbers.book.now graph.numbers.places.now graph.numbers.lists.now graph.links.now.edges }
     requires valid { Valid graph.numbers.book.now.sheet }
     requires room { graph.numbers.places.now.size ≤ marks.old.size }
     requires starts { AreMarked (book_graph (rolled_of graph.numbers.book.now))
         (StandsIn graph.numbers.book.now graph.numbers.places.now graph.numbers.lists.now) touched.now [] marks.old.list }
-    ensures { OnOk result (AreReachedMarks graph.entry.numbers.book.now graph.entry.numbers.places.now graph.entry.numbers.lists.now touched.now
+    ensures marked { OnOk result (AreReachedMarks graph.entry.numbers.book.now graph.entry.numbers.places.now graph.entry.numbers.lists.now touched.now
         marks.new.list) }
+    ensures size { marks.new.size ≡ marks.old.size }
 {
     let mut place = 0;
     while place < marks.as_slice().len() {

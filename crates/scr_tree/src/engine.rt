@@ -181,6 +181,16 @@ impl Engine {
         self.figure(node).close
     }
 
+    /// Both of a node: what it comes to, and whether it rests on a choice that is open.
+    pub fn told(&self, node: &Node) -> (Span, bool)
+        requires { is_live self.now.sheet node.now ≡ true }
+        ensures span { ends result.0 ≡ worked self.now.factors self.now.sheet node.now }
+        ensures close { result.1 ≡ close_under self.now.factors self.now.sheet node.now }
+    {
+        let Figure { span, close } = self.figure(node);
+        (span, close)
+    }
+
     fn figure(&self, node: &Node) -> Figure
         requires { is_live self.now.sheet node.now ≡ true }
         ensures span { ends result.span ≡ worked self.now.factors self.now.sheet node.now }

@@ -1,8 +1,11 @@
 //! The links between the numbers of the totals of funds and securities.
-ghost use Rattle.std.specs.Prelude.{◌≡◌, ◌+◌, ◌<◌, [], true, All, Some, length, slice_get, IfOk, OnOk};
+ghost use Rattle.std.specs.Prelude.{◌≡◌, ◌+◌, ◌<◌, [], true, Some, length, slice_get, IfOk, OnOk};
+ghost use Rattle.std.specs.List.{list_any};
 ghost use Rattle.scr_figures.specs.Families.{name_of, table_of};
 ghost use Rattle.scr_figures.specs.Numbers.{names_in};
 ghost use Rattle.scr_nodes.specs.Live.{is_live};
+ghost use Rattle.scr_nodes.specs.Rows.{holds};
+ghost use Rattle.scr_sheet.specs.declared.rows.Position.{Position};
 ghost use Rattle.scr_tree.specs.First.{AreLinkedTo, IsLinkGround, IsLinkedNext};
 ghost use Rattle.scr_tree.specs.Points.{is_linked};
 ghost use Rattle.scr_tree.specs.Turns.{next, turn, turn_of};
@@ -14,7 +17,7 @@ use scr_links::Links;
 use scr_nodes::{Node, OfFund, OfSecurity, is_live};
 use scr_reach::link;
 use scr_sheet::BalanceSheet;
-use std::alloc::AllocError as NoMemory;
+use std::alloc::{AllocError as NoMemory, Global};
 
 /// The number of the assets of which concentrations are measured.
 pub(crate) const ASSETS: u32 = 153;
@@ -25,14 +28,14 @@ pub(crate) const OF_CURRENCY: u32 = 9;
 /// How many figures of the whole sheet come after all rows: all but the assets of which concentrations are measured.
 pub(crate) const WHOLES: u32 = 153;
 
-/// No link, with room for those of all figures.
+/// No link, with room for those of figures of currencies and of the whole sheet.
 pub(crate) fn no_links(ground: LinkGround<'_>) -> Result<Links, NoMemory>
     ensures links { IfOk result (λ links. links.edges ≡ []) }
-    ensures size { IfOk result (λ links. links.size ≡ ground.entry.places.now.size) }
+    ensures size { IfOk result (λ links. links.size ≡ 0) }
 {
     let count = expected_links(ground.book.sheet());
     let mut links = Links::new(ground.alloc)?;
-    links.reserve(ground.alloc, count, ground.places.len())?;
+    links.reserve(ground.alloc, count, 0)?;
     Ok(links)
 }
 
@@ -81,10 +84,23 @@ pub(crate) fn link_securities(
 {
     let sheet = ground.book.sheet();
     for k in 0..sheet.securities.len() {
-        let node = Node::Security(sheet.securities.at(k).security.name, OfSecurity::Total);
-        link_gathered(ground, links, sources, &node, k)?;
+        if is_held(ground, k) {
+            let node = Node::Security(sheet.securities.at(k).security.name, OfSecurity::Total);
+            link_gathered(ground, links, sources, &node, k)?;
+        }
     }
     Ok(())
+}
+
+/// Whether a fund holds the security at a place.
+fn is_held(ground: LinkGround<'_>, k: usize) -> bool
+    requires ground { IsLinkGround ground }
+    requires row { k < length ground.book.now.sheet.securities }
+    ensures { (position : Position) → slice_get ground.entry.book.now.sheet.securities k ≡ Some position
+        → result ≡ list_any (holds position.security.name) ground.entry.book.now.sheet.funds }
+{
+    let holders = ground.members.funds.holding_securities.at(k);
+    !holders.is_empty()
 }
 
 /// Links to all figures of currencies and of the whole sheet their sources, but to those that are reckoned from a large sum.
@@ -176,22 +192,14 @@ fn link_gathered(
 {
     gather_linked(ground, sources, node, row)?;
     let number = number_at(ground.places, node, row);
-    link_next(ground, links, number, sources.as_slice())
+    link_next(ground.alloc, links, number, sources.as_slice())
 }
 
 /// Links these sources to a number.
-fn link_next(
-    ground: LinkGround<'_>,
-    links: &mut Links,
-    number: u32,
-    sources: &[u32],
-) -> Result<(), NoMemory>
-    requires number { number < ground.places.now.size }
-    requires sources { All (λ source. source < ground.places.now.size) sources.now }
-    requires size { links.old.size ≡ ground.places.now.size }
+fn link_next(alloc: Global, links: &mut Links, number: u32, sources: &[u32]) -> Result<(), NoMemory>
     ensures { OnOk result (IsLinkedNext number sources.now links.old links.new) }
 {
-    make_room(ground.alloc, links, sources.len())?;
+    make_room(alloc, links, number, sources)?;
     link(links, number, sources);
     Ok(())
 }

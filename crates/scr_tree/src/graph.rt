@@ -1,6 +1,6 @@
 //! The graph of a book by numbers: which point has a number, from which others it is reckoned, and which are reckoned from it. All but
 //! the links of funds, currencies and the whole sheet is read off rows and member lists.
-ghost use Rattle.std.specs.Prelude.{◌≡◌, ◌≢◌, ◌++◌, ◌+◌, ◌-◌, ◌<◌, ◌≤◌, ◌^◌, ℕ, List, [], true, All, IfSome, IsNone, OnOk, Some, length, map};
+ghost use Rattle.std.specs.Prelude.{◌≡◌, ◌≢◌, ◌++◌, ◌+◌, ◌-◌, ◌<◌, ◌≤◌, ◌^◌, ℕ, List, [], true, All, IfSome, IsNone, OnOk, Some, length, map, false};
 ghost use Rattle.std.specs.List.{range_with_len};
 ghost use Rattle.scr_blocks.specs.Blocks.{blocks_at, is_block};
 ghost use Rattle.scr_figures.specs.Families.{family_of};
@@ -19,7 +19,6 @@ ghost use Rattle.scr_sums.specs.Books.{rolled_of};
 ghost use Rattle.scr_sums.specs.Graph.{block_point, is_live_in, reads, roll_in, sources_in, tops_of};
 ghost use Rattle.scr_sums.specs.Levels.{level_in};
 ghost use Rattle.scr_sums.specs.Sums.{member_of, roll_of as sum_roll};
-ghost use Rattle.scr_sums.specs.declared.sum.Sum.TheVariants as sums;
 ghost use Rattle.scr_blocks.specs.Readers.{IsReader};
 ghost use Rattle.scr_blocks.specs.declared.readers.Reader.TheVariants as readers;
 ghost use Rattle.scr_numbers.specs.declared.table.Table.{Table as TheTable};
@@ -28,13 +27,15 @@ ghost use Rattle.scr_reach.specs.Dues.{IsLiveAt};
 ghost use Rattle.scr_sums.specs.declared.point.Block.{Block as TheBlock};
 ghost use Rattle.scr_sums.specs.declared.point.Point.{Point as ThePoint};
 ghost use Rattle.scr_sums.specs.declared.point.Point.TheVariants as points;
-ghost use Rattle.scr_tree.specs.Marking.{AreMarkedFrom, AreMarkedMore, AreRowMarked, IsDependantAt, IsLeftToAssets, IsLinkedDependantAt, IsMemberAt, IsPlainDependantAt, IsReaderAt, IsSquareOrAbove};
+ghost use Rattle.scr_tree.specs.Marking as marking;
+ghost use Rattle.scr_tree.specs.Marking.{AreMarkedFrom, AreMarkedMore, AreRowMarked, IsAboveSquares, IsDependantAt, IsLeftToAssets, IsLinkedDependantAt, IsMemberAt, IsPlainDependantAt, IsReaderAt, IsSquaresAt};
 ghost use Rattle.scr_tree.specs.Points.{AreNumbersOf, IsGraphOf, StandsIn, book_graph};
 ghost use Rattle.scr_tree.specs.Points as spec;
 ghost use Rattle.scr_tree.specs.Reading as reading;
-ghost use Rattle.scr_tree.specs.Reading.{IsRollAt, IsRollOf, pushed};
+ghost use Rattle.scr_tree.specs.Reading.{IsRollAt, IsRollOf};
 
 use crate::first_links::ASSETS;
+use crate::sums::blocks_of;
 use scr_blocks::{Level, Reader, blocks_at, part, places, reader_of_block, reader_of_member};
 use scr_book::{Book, Table as RowTable};
 use scr_figures::{find, group_family, level, liability_family, node_at, security_family};
@@ -235,6 +236,34 @@ impl<'a> Numbers<'a> {
     }
 }
 
+// ---- squares
+
+impl<'a> Numbers<'a> {
+    /// The square of a group stands at the number, or a Block over squares.
+    pub(crate) fn is_of_squares(&self, number: u32) -> bool
+        requires numbers { AreNumbersOf self.now.book.now self.now.places.now self.now.lists.now }
+        requires live { IsLiveAt (book_graph (rolled_of self.now.book.now)) (StandsIn self.now.book.now self.now.places.now self.now.lists.now) number }
+        ensures yes { result ≡ true → IsSquaresAt self.now.book.now self.now.places.now self.now.lists.now number }
+        ensures not { result ≡ false → IsSquaresAt self.now.book.now self.now.places.now self.now.lists.now number → ⊥ }
+    {
+        match self.point_at(number) {
+            Some(point) => is_of_squares(&point),
+            None => false,
+        }
+    }
+}
+
+/// The point is the square of a group, or a Block over squares.
+fn is_of_squares(point: &Point) -> bool
+    ensures { result ≡ marking.is_of_squares point.now }
+{
+    match point {
+        Point::Figure(Node::Group(_, OfGroup::ConcentrationSquare)) => true,
+        Point::Figure(_) => false,
+        Point::Block(block) => matches!(block.sum, Sum::Squares),
+    }
+}
+
 // ---- sources
 
 /// Whether the sources of the figure are linked to it: the totals of funds and securities, and figures of currencies and of the whole
@@ -415,13 +444,12 @@ impl<'a> Graph<'a> {
         ensures { OnOk result ((more : List ℕ) × (list.new.items ≡ list.old.items ++ more)
             × AreAt (StandsIn self.now.numbers.book.now self.now.numbers.places.now self.now.numbers.lists.now) more (map (block_point sum.now level) (range_with_len start (end - start)))) }
     {
+        let Some(blocks) = blocks_of(self.numbers, sum) else {
+            return Ok(());
+        };
+        let members = self.numbers.lists.members(self.numbers.book, sum.roll());
         for index in start..end {
-            let block = Block {
-                sum: *sum,
-                level,
-                index: index as u32,
-            };
-            push_some(list, self.numbers.number_of(&Point::Block(block)))?;
+            list.push(blocks.number(members.len(), level, index))?;
         }
         Ok(())
     }
@@ -435,15 +463,6 @@ fn push_members(list: &mut Vec<u32>, firsts: &[u32], family: u32) -> Result<(), 
         list.push(*first + family)?;
     }
     Ok(())
-}
-
-fn push_some(list: &mut Vec<u32>, number: Option<u32>) -> Result<(), NoMemory>
-    ensures { OnOk result (list.new.items ≡ pushed list.old.items number) }
-{
-    match number {
-        Some(number) => Ok(list.push(number)?),
-        None => Ok(()),
-    }
 }
 
 /// The seats of the row at a place of a table whose rows are members of lists.
@@ -659,38 +678,19 @@ impl<'a> Graph<'a> {
         }
     }
 
-    /// All squares, and all that lies between them and their sum.
+    /// What is reckoned from the squares of all groups. They and the Blocks over them are reached with the assets, without a mark.
     fn mark_squares(&self, marks: &mut Marked) -> Result<(), NoMemory>
         requires numbers { AreNumbersOf self.now.numbers.book.now self.now.numbers.places.now self.now.numbers.lists.now }
         requires valid { Valid self.now.numbers.book.now.sheet }
         requires room { self.now.numbers.places.now.size ≤ marks.old.size }
-        ensures marked { OnOk result (AreMarkedMore (IsSquareOrAbove self.now.numbers.book.now self.now.numbers.places.now self.now.numbers.lists.now) marks.old.list marks.new.list) }
+        ensures marked { OnOk result (AreMarkedMore (IsAboveSquares self.now.numbers.book.now self.now.numbers.places.now self.now.numbers.lists.now) marks.old.list marks.new.list) }
         ensures size { marks.new.size ≡ marks.old.size }
     {
         let count = self.numbers.book.sheet().groups.len();
         if count == 0 {
             return Ok(());
         }
-        for k in 0..count {
-            marks.insert(self.numbers.places.first(Table::Group, k) + 1)?;
-        }
-        self.mark_level(marks, Level::First, blocks_at(count, Level::First))?;
-        self.mark_level(marks, Level::Second, blocks_at(count, Level::Second))?;
         self.mark_whole(marks, &Sum::Squares)
-    }
-
-    fn mark_level(&self, marks: &mut Marked, level: Level, count: usize) -> Result<(), NoMemory>
-        requires numbers { AreNumbersOf self.now.numbers.book.now self.now.numbers.places.now self.now.numbers.lists.now }
-        requires valid { Valid self.now.numbers.book.now.sheet }
-        requires room { self.now.numbers.places.now.size ≤ marks.old.size }
-        requires count { count ≡ blocks_at (length (roll_in (rolled_of self.now.numbers.book.now) sums.Squares)) level }
-        ensures marked { OnOk result (AreMarkedMore (λ other. (i : ℕ) × (i < count) × StandsIn self.now.numbers.book.now self.now.numbers.places.now self.now.numbers.lists.now (block_point sums.Squares level i) other) marks.old.list marks.new.list) }
-        ensures size { marks.new.size ≡ marks.old.size }
-    {
-        for index in 0..count {
-            self.mark_block(marks, &Sum::Squares, level, index)?;
-        }
-        Ok(())
     }
 
     /// Marks what adds up the member in a row of the sum's list, which it has in a seat.

@@ -1,12 +1,11 @@
 //! What is left of the first reckoning once the rows are reckoned, by several workers at once.
 ghost use Rattle.std.specs.Prelude.{◌≡◌, IfOk, OnOk, true, false};
-ghost use Rattle.scr_reach.specs.Dues.{IsLiveAt};
 ghost use Rattle.scr_sums.specs.Books.{rolled_of};
 ghost use Rattle.scr_sums.specs.Graph.{is_live_in};
 ghost use Rattle.scr_sums.specs.declared.point.Point.{Point as ThePoint};
 ghost use Rattle.scr_tree.specs.First.{AreGroupsDone, IsGround, IsWhole};
-ghost use Rattle.scr_tree.specs.Left.{AreLeft, is_left};
-ghost use Rattle.scr_tree.specs.Points.{AreNumbersOf, StandsIn, book_graph};
+ghost use Rattle.scr_tree.specs.Left.{AreLeft, IsLeftAt, is_left};
+ghost use Rattle.scr_tree.specs.Points.{AreNumbersOf, StandsIn};
 
 use crate::basis::{Basis, Crew};
 use crate::first_links::link_left;
@@ -40,7 +39,7 @@ pub(crate) fn put_left<R: Threads + Sync, G: Gate + Sync>(
         lists: ground.lists,
         links: &made.links,
     };
-    let order = ordered(ground.alloc, basis.graph(), left.as_slice())?;
+    let order = ordered(ground.alloc, basis.graph(), left.as_slice(), false)?;
     reckon_together(crew, basis, order, &mut made.figures)
 }
 
@@ -61,8 +60,7 @@ fn left_numbers(alloc: Global, numbers: Numbers<'_>) -> Result<Vec<u32>, NoMemor
 /// The number is that of a point that is left and that the book has.
 fn is_left_at(numbers: Numbers<'_>, number: u32) -> bool
     requires numbers { AreNumbersOf numbers.book.now numbers.places.now numbers.lists.now }
-    ensures there { result ≡ true → IsLiveAt (book_graph (rolled_of numbers.entry.book.now))
-        (StandsIn numbers.entry.book.now numbers.entry.places.now numbers.entry.lists.now) number }
+    ensures there { result ≡ true → IsLeftAt numbers.entry number }
     ensures absent { result ≡ false → (point : ThePoint)
         → StandsIn numbers.entry.book.now numbers.entry.places.now numbers.entry.lists.now point number
         → is_live_in (rolled_of numbers.entry.book.now) point ≡ true → is_left point ≡ false }

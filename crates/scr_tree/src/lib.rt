@@ -1,6 +1,7 @@
 //! The engine: a book with all its figures.
 #![tactic(auto)]
 
+mod added;
 mod basis;
 mod edits;
 mod engine;

@@ -1,5 +1,5 @@
 //! The figures and links that are made when all are reckoned for the first time.
-ghost use Rattle.std.specs.Prelude.{◌≡◌, ◌⊎◌, ◌+◌, ◌<◌, ◌≤◌, ℕ, true, All, Some, is_some, length, slice_get, OnOk};
+ghost use Rattle.std.specs.Prelude.{◌≡◌, ◌⊎◌, ◌+◌, ◌<◌, ◌≤◌, ℕ, true, All, Some, is_some, length, max, slice_get, IfOk, IfSome, OnOk};
 ghost use Rattle.scr_figures.specs.Families.{family_of, name_of, table_of};
 ghost use Rattle.scr_figures.specs.Numbers.{StandsAt, names_in};
 ghost use Rattle.scr_numbers.specs.Ranges.{count, first, stride};
@@ -47,7 +47,7 @@ pub(crate) struct Ground<'a> {
     pub(crate) losses: &'a GroupLosses,
 }
 
-/// What figures are linked by: the book, the numbers of all its figures, and the rows that the large sums are of.
+/// What figures are linked by: the book, the numbers of all its figures, and the rows that totals and the losses of classes rest on.
 #[derive(Clone, Copy)]
 pub(crate) struct LinkGround<'a> {
     pub(crate) alloc: Global,
@@ -112,10 +112,9 @@ pub(crate) fn enter(
 ) -> Result<(), NoMemory>
     requires number { number < length made.old.figures.items }
     requires sources { All (λ source. source < length made.old.figures.items) sources.now }
-    requires size { made.old.links.size ≡ length made.old.figures.items }
     ensures { OnOk result (IsEntered number sources.now figure made.old made.new) }
 {
-    make_room(alloc, &mut made.links, sources.len())?;
+    make_room(alloc, &mut made.links, number, sources)?;
     link(&mut made.links, number, sources);
     write(&mut made.figures, number, figure);
     Ok(())
@@ -132,19 +131,50 @@ fn write(figures: &mut Vec<Figure>, number: u32, figure: Figure)
     figures[number as usize] = figure;
 }
 
-/// Room for so many links more.
-pub(crate) fn make_room(alloc: Global, links: &mut Links, wanted: usize) -> Result<(), NoMemory>
+/// Room for links from these sources to a number.
+pub(crate) fn make_room(
+    alloc: Global,
+    links: &mut Links,
+    number: u32,
+    sources: &[u32],
+) -> Result<(), NoMemory>
     ensures edges { links.new.edges ≡ links.old.edges }
-    ensures size { links.new.size ≡ links.old.size }
-    ensures ok { OnOk result (wanted ≤ links.new.spare) }
+    ensures size { (size : ℕ) → number < size → All (λ source. source < size) sources.now → links.old.size ≤ size → links.new.size ≤ size }
+    ensures number { OnOk result (number < links.new.size) }
+    ensures sources { OnOk result (All (λ source. source < links.new.size) sources.now) }
+    ensures spare { OnOk result (length sources.now ≤ links.new.spare) }
+{
+    let Some(size) = past(number, sources) else {
+        return Err(NoMemory);
+    };
+    let more = more_links(links.spare(), sources.len())?;
+    links.reserve(alloc, more, size)
+}
+
+/// For how many links to make room where there is room for some and so many are wanted.
+fn more_links(spare: u32, wanted: usize) -> Result<u32, NoMemory>
+    ensures { IfOk result (λ more. wanted ≤ max spare more) }
 {
     let Ok(wanted) = u32::try_from(wanted) else {
         return Err(NoMemory);
     };
-    if links.spare() >= wanted {
-        return Ok(());
+    if spare >= wanted {
+        return Ok(0);
     }
-    links.reserve(alloc, wanted.saturating_add(MORE_LINKS), 0)
+    Ok(wanted.saturating_add(MORE_LINKS))
+}
+
+/// The least number above this one and all of these.
+fn past(number: u32, sources: &[u32]) -> Option<u32>
+    ensures number { IfSome result (λ past. number < past) }
+    ensures sources { IfSome result (λ past. All (λ source. source < past) sources.now) }
+    ensures least { IfSome result (λ past. (size : ℕ) → number < size → All (λ source. source < size) sources.now → past ≤ size) }
+{
+    let mut last = number;
+    for source in sources {
+        last = last.max(*source);
+    }
+    last.checked_add(1)
 }
 
 /// The numbers of all sources of a figure of the row at a place.
@@ -207,7 +237,6 @@ pub(crate) fn put<G: Gate, L: Ledger>(
     requires ground { IsGround ground }
     requires live { is_live ground.inputs.book.now.sheet node.now ≡ true }
     requires number { number < length making.old.made.figures.items }
-    requires size { making.old.made.links.size ≡ length making.old.made.figures.items }
     requires sources { HaveFigures (reckoning_of ground.inputs.factors.now ground.inputs.book.now.sheet) making.old.made.figures.items
         making.old.sources.items (sources_of ground.inputs.book.now.sheet node.now) }
     ensures { OnOk result (IsPut ground.entry.inputs.factors.now ground.entry.inputs.book.now.sheet node.now number

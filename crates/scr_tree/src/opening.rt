@@ -14,7 +14,7 @@ use scr_rounds::Marked;
 use std::alloc::AllocError as NoMemory;
 use std::thread::Threads;
 
-/// All figures of a book with their numbers and links, and room for the marks of all. The gate is passed before each
+/// All figures of a book with their numbers and links; the first edit makes room for marks. The gate is passed before each
 /// evaluation. Only want of memory is refused.
 pub(crate) fn opened<R: Threads + Sync, G: Gate + Sync>(
     crew: &Crew<'_, R, G>,
@@ -32,15 +32,13 @@ pub(crate) fn opened<R: Threads + Sync, G: Gate + Sync>(
         figures,
         links,
     } = reckon_all(crew, factors, book)?;
-    let mut marks = Marked::new(crew.alloc);
-    marks.grow(places.len() as usize)?;
     Ok(State {
         rates,
         places,
         lists,
         figures,
         links,
-        marks,
+        marks: Marked::new(crew.alloc),
         scratch: Scratch::new(crew.alloc),
     })
 }

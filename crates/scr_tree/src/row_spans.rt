@@ -1,5 +1,6 @@
 //! The figures of rows, each row by itself: of a security, a liability or a group of counterparties.
-ghost use Rattle.std.specs.Prelude.{◌≡◌, ◌||◌, ◌+◌, ◌<◌, ◌^◌, not, true, All, Some, pos, length, slice_get, slice_index_or, sum_by, OnOk};
+ghost use Rattle.std.specs.Prelude.{◌≡◌, ◌||◌, ◌+◌, ◌<◌, ◌^◌, not, ℕ, List, true, Some, pos, length, slice_get, slice_index_or, sum_by, OnOk};
+ghost use Rattle.std.specs.List.{AllByRecursion};
 ghost use Rattle.scr_num.specs.Rounding.{ends, exact_ends};
 ghost use Rattle.scr_sheet.specs.BalanceSheet.{position_of};
 ghost use Rattle.scr_sheet.specs.declared.{rows.Group.Group, rows.Liability.Liability};
@@ -10,20 +11,20 @@ ghost use Rattle.scr_pieces.specs.Rows.{IsPushed};
 ghost use Rattle.scr_pieces.specs.declared.rows.Sort.TheVariants as sorts;
 ghost use Rattle.scr_rules.specs.Worked.{worked};
 ghost use Rattle.scr_tree.specs.First.{IsEstimated, IsGround};
-ghost use Rattle.scr_tree.specs.RowSpans.{AreLosses, IsEstimateAt, IsRowGround, IsRowOf};
+ghost use Rattle.scr_tree.specs.RowSpans.{AreLosses, BeginAt, BeginsAt, IsEstimateAt, IsRowGround, IsRowOf};
 
 use crate::making::{Ground, number_at};
 use scr_io::{Gate, Steps};
 use scr_nodes::rows::{has_class, has_flows, is_paying};
 use scr_nodes::{Node, OfGroup, OfLiability};
 use scr_num::{Span, exact};
-use scr_numbers::Table;
+use scr_numbers::{Places, Table};
 use scr_pieces::{RowPlan, Sort};
 use scr_rules::{
     Estimate, SecurityLosses, bond_spread, evaluate_by, group_loss, liability_estimate,
     liability_loss, security_losses,
 };
-use scr_sheet::{Class, Position, Projection};
+use scr_sheet::{Class, Position, Projection, Roll};
 use std::alloc::AllocError as NoMemory;
 use std::marker::Brand;
 use std::sync::ledger::{Blank, Ledger};
@@ -138,8 +139,10 @@ impl<'a> RowGround<'a> {
         ensures { (group : Group) → slice_get self.now.ground.inputs.book.now.sheet.groups k ≡ Some group
             → ends result ≡ worked self.now.ground.inputs.factors.now self.now.ground.inputs.book.now.sheet (group_total group) }
     {
-        let rows = self.ground.members.securities.of_group.at(k);
-        exact(sum_at(self.totals, rows))
+        let ground = self.ground;
+        let group = ground.inputs.book.sheet().groups.at(k).name;
+        let firsts = ground.lists.members(ground.inputs.book, Roll::Group(group));
+        exact(sum_of(ground.places, self.totals, firsts))
     }
 
     /// The square of the concentration of a group that has this total.
@@ -306,16 +309,29 @@ fn amount(cents: u64) -> Span
     exact(i128::from(cents))
 }
 
-/// What stands at these places, in all.
-fn sum_at(cents: &[u64], places: &[usize]) -> i128
-    requires { All (λ place. place < length cents.now) places.now }
-    ensures { result ≡ pos (sum_by (λ place. slice_index_or cents.now place 0) places.now) }
+/// What is held of the securities whose numbers begin with these, in all.
+fn sum_of(places: &Places, cents: &[u64], firsts: &[u32]) -> i128
+    requires { (rows : List ℕ) × BeginAt places.now firsts.now rows × AllByRecursion (λ row. row < length cents.now) rows }
+    ensures { (rows : List ℕ) → BeginAt places.now firsts.now rows → result ≡ pos (sum_by (λ row. slice_index_or cents.now row 0) rows) }
 {
     let mut sum: i128 = 0;
-    for place in places {
-        sum += i128::from(cents[*place]);
+    for first in firsts {
+        sum += i128::from(cents_of(places, cents, *first));
     }
     sum
+}
+
+/// What is held of the security whose numbers begin with this one.
+fn cents_of(places: &Places, cents: &[u64], first: u32) -> u64
+    requires { (row : ℕ) × BeginsAt places.now first row × (row < length cents.now) }
+    ensures { (row : ℕ) → BeginsAt places.now first row → result ≡ slice_index_or cents.now row 0 }
+{
+    // No number is of two rows.
+    let _numbers = places.len();
+    match places.at(first) {
+        Some(place) => cents[place.row],
+        None => unreachable!(),
+    }
 }
 
 /// Passes the gate before the figures with these numbers are evaluated.

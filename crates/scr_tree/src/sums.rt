@@ -31,7 +31,7 @@ use scr_sums::{Block, Point, Sum, block_number, first_sum};
 use std::sync::ledger::Ledger;
 
 /// The Blocks of a sum by number, where its list falls into Blocks: the part of its first Block tells the list, and the place of the sum.
-fn blocks_of<'a>(numbers: Numbers<'a>, sum: &Sum) -> Option<Subtotals<'a>>
+pub(crate) fn blocks_of<'a>(numbers: Numbers<'a>, sum: &Sum) -> Option<Subtotals<'a>>
     requires numbers { AreNumbersOf numbers.book.now numbers.places.now numbers.lists.now }
     requires valid { Valid numbers.book.now.sheet }
     ensures there { IfSome result (λ blocks. AreOwnBlocks numbers.entry sum.now blocks) }
@@ -68,6 +68,11 @@ pub(crate) fn put_blocks<G: Gate>(numbers: Numbers<'_>, figures: &mut [Figure], 
     ensures others { KeepsOffBlocksOn numbers.entry sum.now figures.old figures.new }
 {
     let firsts = numbers.lists.members(numbers.book, sum.roll());
+    let count = blocks_at(firsts.len(), Level::First);
+    // Most lists are too short for Blocks.
+    if count == 0 {
+        return;
+    }
     pass_blocks(numbers, sum, gate);
     match blocks_of(numbers, sum) {
         Some(blocks) => blocks.put_all(figures, firsts, member_family(sum)),

@@ -1,9 +1,9 @@
-use Rattle.std.proofs.Common.{◌++◌, ◌∷◌, [], ap, cond, map, take, ◌∙◌}
+use Rattle.std.proofs.Common.{map, take, ◌∙◌}
 use Rattle.std.proofs.lemmas.List.{length-map}
 use Rattle.scr_sheet.specs.BalanceSheet.{position_name, stake_name}
 use Rattle.scr_sheet.specs.Validity.{IsStake}
-use Rattle.scr_nodes.specs.Rows.{holds, is_closed}
-use Rattle.scr_figures.proofs.GatheredRows.{at-place, keys-entered, long, on_both, place-entered}
+use Rattle.scr_nodes.specs.Rows.{holds}
+use Rattle.scr_figures.proofs.GatheredRows.{at-place, keys-entered, long, on_both}
 use Rattle.scr_figures.proofs.gathered.enter_fund.Goals as goal
 
 pub enter_holder-requires-clause-securities : goal.enter_holder-requires-clause-securities
@@ -32,8 +32,6 @@ returns c =
     let at = c.at-stake.ensures in
     on_both c.enter_holder.result _ _ _
     (λ securities funds. record {
-      closed = place-entered is_closed sheet.funds k stake lists.closed.items c.push_if.new.list.items at before.closed
-          (c.in_ok-push_if.ensures ∙ ap (λ t. lists.closed.items ++ cond t (k ∷ []) []) c.is_closed.ensures);
       holding_securities = keys-entered holds (map position_name sheet.securities) sheet.funds k stake lists.holding_securities
           c.enter_holder.new.securities at before.holding_securities securities;
       holding_funds = keys-entered holds (map stake_name sheet.funds) sheet.funds k stake lists.holding_funds

@@ -8,7 +8,6 @@ use Rattle.scr_figures.proofs.gathered.fund_lists.Goals as goal
 
 pub loop-k-init : goal.loop-k-init
 loop-k-init c = record {
-  closed = c.new-closed.ensures.items;
   holding_securities = none-named holds position_name c.args.sheet.now.securities c.len.result c.in_ok-holding_securities.holding_securities
       c.len.ensures.count c.in_ok-holding_securities.ensures;
   holding_funds = none-named holds stake_name c.args.sheet.now.funds c.len-2.result c.in_ok-holding_funds.holding_funds

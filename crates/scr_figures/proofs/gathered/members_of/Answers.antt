@@ -3,7 +3,5 @@ use Rattle.scr_figures.proofs.gathered.members_of.Goals as goal
 pub returns : goal.returns
 returns c = record {
   funds = c.in_ok-fund_lists.ensures;
-  securities = c.in_ok-security_lists.ensures;
-  liabilities = c.in_ok-liability_lists.ensures;
   groups = c.in_ok-group_lists.ensures;
 }

@@ -14,17 +14,17 @@ returns c =
     })
     (record {
       others = c.fill-2.ensures.others;
-      more = c.in_ok-fill-2.ensures.ok ∙ ap (λ (n : ℕ). count c.fill.new.places tables.Security + n) c.len-2.ensures.count;
+      more = c.in_ok-fill-2.ensures.ok ∙ ap (λ (n : ℕ). count c.fill.new.places tables.Currency + n) c.len-2.ensures.count;
     })
     (record {
       others = c.fill-3.ensures.others;
-      more = c.in_ok-fill-3.ensures.ok ∙ ap (λ (n : ℕ). count c.fill-2.new.places tables.Liability + n) c.len-3.ensures.count;
+      more = c.in_ok-fill-3.ensures.ok ∙ ap (λ (n : ℕ). count c.fill-2.new.places tables.Group + n) c.len-3.ensures.count;
     })
     (record {
       others = c.fill-4.ensures.others;
-      more = c.in_ok-fill-4.ensures.ok ∙ ap (λ (n : ℕ). count c.fill-3.new.places tables.Group + n) c.len-4.ensures.count;
+      more = c.in_ok-fill-4.ensures.ok ∙ ap (λ (n : ℕ). count c.fill-3.new.places tables.Security + n) c.len-4.ensures.count;
     })
     (record {
       others = c.fill-5.ensures.others;
-      more = c.in_ok-fill-5.ensures.ok ∙ ap (λ (n : ℕ). count c.fill-4.new.places tables.Currency + n) c.len-5.ensures.count;
+      more = c.in_ok-fill-5.ensures.ok ∙ ap (λ (n : ℕ). count c.fill-4.new.places tables.Liability + n) c.len-5.ensures.count;
     })

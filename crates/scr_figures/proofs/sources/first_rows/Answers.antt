@@ -4,8 +4,8 @@ use Rattle.scr_nodes.specs.Rows.{holds}
 use Rattle.scr_nodes.specs.Table.{first_of}
 use Rattle.scr_figures.specs.Families.{name_of, table_of}
 use Rattle.scr_figures.specs.Numbers.{names_in}
-use Rattle.scr_figures.specs.SourceNumbers.{IsGathered, selected_rows}
-use Rattle.scr_figures.proofs.SourceRows.{first-gathered, fund-first, key-found, key-within}
+use Rattle.scr_figures.specs.SourceNumbers.{selected_rows}
+use Rattle.scr_figures.proofs.SourceRows.{fund-first, key-found, key-within}
 use Rattle.scr_figures.proofs.sources.first_rows.Goals as goal
 
 pub at-requires : goal.at-requires
@@ -32,11 +32,6 @@ pub returns-in-Security : goal.returns-in-Security
 returns-in-Security c =
     subst (λ n. IfSome c.holding_rows.result (λ rows. rows.now ≡ selected_rows c.args.from.sheet.now (first_of n))) (sym c.in-Security.is)
     c.holding_rows.ensures
-
-pub gathered_rows-requires-clause-row : goal.gathered_rows-requires-clause-row
-gathered_rows-requires-clause-row c =
-    subst (λ s. IsGathered c.args.from.sheet.now s c.args.from.row) (sym c.first_of.ensures)
-    (first-gathered c.args.from.sheet.now c.args.node.now c.args.from.row c.requires.row)
 
 pub returns-in_default : goal.returns-in_default
 returns-in_default c =

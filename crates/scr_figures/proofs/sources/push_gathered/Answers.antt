@@ -1,7 +1,6 @@
 use Rattle.std.proofs.Common.{◌≡◌, ◌++◌, IfSome, ap, sym, subst, ◌∙◌}
 use Rattle.scr_nodes.proofs.Walks.{on_ok}
-use Rattle.scr_figures.specs.SourceNumbers.{IsGathered, selected_numbers, selected_rows}
-use Rattle.scr_figures.proofs.SourceRows.{second-gathered}
+use Rattle.scr_figures.specs.SourceNumbers.{selected_numbers, selected_rows}
 use Rattle.scr_figures.proofs.Zipped.{pieces-pushed, words-live}
 use Rattle.scr_figures.proofs.sources.push_gathered.Goals as goal
 
@@ -9,11 +8,6 @@ pub push_places-requires-clause-rows : goal.push_places-requires-clause-rows
 push_places-requires-clause-rows c =
     subst (λ s. IfSome c.first_rows.result (λ rows. rows.now ≡ selected_rows c.args.view.sheet.now s)) (sym c.first_of-first.ensures)
     c.first_rows.ensures
-
-pub gathered_rows-requires-clause-row : goal.gathered_rows-requires-clause-row
-gathered_rows-requires-clause-row c =
-    subst (λ s. IsGathered c.args.view.sheet.now s c.args.row) (sym c.second_of-second.ensures)
-    (second-gathered c.args.view.sheet.now c.args.node.now c.args.row c.requires.row)
 
 pub push_words-requires-clause-live : goal.push_words-requires-clause-live
 push_words-requires-clause-live c =

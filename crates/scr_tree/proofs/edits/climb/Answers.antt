@@ -38,11 +38,10 @@ loop-place-preserved c =
       size = c.mark_dependants.ensures.size ∙ c.loop-place.invariant.size;
     }
 
-pub returns : goal.returns
-returns c =
+pub returns-clause-marked : goal.returns-clause-marked
+returns-clause-marked c =
     let book = c.args.graph.numbers.book.now in
     let past : length c.loop-place.marks.list ≤ c.loop-place.place = omega (arith, ap length c.as_slice.ensures.list, c.loop-place-test.false) in
-    climbed-all book c.args.graph.numbers.places.now c.args.graph.numbers.lists.now c.args.touched.now c.args.graph.numbers.places.now.size
-    c.requires.graph.numbers_of.numbers
+    climbed-all book c.args.graph.numbers.places.now c.args.graph.numbers.lists.now c.args.touched.now c.requires.graph.numbers_of
     (λ point source live has. sources-live-in (rolled_of book) c.requires.valid (rolls-are book c.requires.graph.numbers_of.rolls) point source live has)
     c.loop-place.marks.list c.loop-place.place c.loop-place.invariant.climbed past c.as_slice.ensures.once

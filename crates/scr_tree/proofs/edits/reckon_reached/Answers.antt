@@ -1,10 +1,12 @@
-use Rattle.std.proofs.Common.{nat_eq, ◌≤◌, Contains, List, ℕ, sym, subst, ◌∙◌, length}
+use Rattle.std.proofs.Common.{nat_eq, ◌≤◌, Contains, List, ℕ, sym, subst, ◌∙◌, length, arith}
 use Rattle.std.specs.List.{IsDistinct}
 use Rattle.scr_sums.specs.Books.{rolled_of}
-use Rattle.scr_tree.specs.Order.{IsOrder}
+use Rattle.scr_tree.specs.Marking.{AreReached, assets}
 use Rattle.scr_tree.specs.Points.{StandsIn, book_graph, book_reckoning}
 use Rattle.scr_tree.specs.Starts.{AreMarked}
+use Rattle.scr_tree.proofs.AssetsMarked.{assets-found, found-assets}
 use Rattle.scr_tree.proofs.Climbed.{others-known, reach-counted}
+use Rattle.scr_tree.proofs.OfRows.{assets-stand}
 use Rattle.scr_tree.proofs.TakenUp.{on-ok}
 use Rattle.scr_tree.proofs.edits.reckon_reached.Goals as goal
 
@@ -41,7 +43,7 @@ ordered-requires-clause-once g c = subst (IsDistinct nat_eq) (sym c.as_slice.ens
 
 pub ordered-requires-clause-live : goal.ordered-requires-clause-live
 ordered-requires-clause-live g c = λ number h.
-    let n = c.in_ok-climb.ensures.each number (subst (λ (list : List ℕ). Contains list number) c.as_slice.ensures.list h) in
+    let n = c.in_ok-climb.ensures.marked.each number (subst (λ (list : List ℕ). Contains list number) c.as_slice.ensures.list h) in
     (n.0, n.1, (n.2).live)
 
 pub reckon_in_place-requires-clause-basis : goal.reckon_in_place-requires-clause-basis
@@ -52,27 +54,44 @@ reckon_in_place-requires-clause-basis g c κs within = record {
 }
 
 pub reckon_in_place-requires-clause-order : goal.reckon_in_place-requires-clause-order
-reckon_in_place-requires-clause-order g c κs within = (c.as_slice.result.now, c.in_ok-order.ensures)
+reckon_in_place-requires-clause-order g c κs within = (c.in_ok-order.ensures.0, c.in_ok-order.ensures.2)
+
+pub place-requires : goal.place-requires
+place-requires g c =
+    let book = c.args.footing.book.now in
+    let state = c.args.state.now in
+    let of = c.requires.graph.numbers_of in
+    let low = of.numbers.within assets 153 (assets-stand book state.places state.lists of) in
+    let room = c.requires.marked in
+    omega (arith, low, room, c.mark_starts.ensures.size, c.climb.ensures.size)
 
 pub reckon_in_place-requires-clause-known : goal.reckon_in_place-requires-clause-known
 reckon_in_place-requires-clause-known g c κs within =
     let book = c.args.footing.book.now in
     let state = c.args.state.now in
-    others-known book state.places state.lists c.args.touched.now state.places.size c.requires.graph.numbers_of.numbers
-    c.climb.new.marks.list c.in_ok-order.order.numbers.items c.in_ok-order.order.ends.items c.in_ok-climb.ensures
-    (subst (λ (list : List ℕ). IsOrder (book_graph (rolled_of book)) (StandsIn book state.places state.lists) list c.in_ok-order.order.numbers.items
-    c.in_ok-order.order.ends.items) c.as_slice.ensures.list c.in_ok-order.ensures)
+    let of = c.requires.graph.numbers_of in
+    let marks = c.climb.new.marks.list in
+    let reached = c.in_ok-order.ensures in
+    others-known book state.places state.lists c.args.touched.now of marks c.in_ok-climb.ensures.marked c.is_some-squares.result
+    (λ yes. assets-found book state.places state.lists of marks c.place.result c.place.ensures.there (sym c.is_some-squares.ensures ∙ yes))
+    (λ left. c.is_some-squares.ensures ∙ found-assets book state.places state.lists of marks c.place.result c.place.ensures.only left)
+    reached.0 c.in_ok-order.order.numbers.items c.in_ok-order.order.ends.items
+    (subst (λ (list : List ℕ). AreReached book state.places state.lists c.is_some-squares.result list reached.0) c.as_slice.ensures.list reached.1) reached.2
     (book_reckoning c.args.footing.factors.now (rolled_of book)) state.figures.items c.requires.others
 
 pub returns-clause-steps : goal.returns-clause-steps
 returns-clause-steps g c =
     let book = c.args.footing.book.now in
     let state = c.args.state.now in
+    let of = c.requires.graph.numbers_of in
+    let marks = c.climb.new.marks.list in
+    let reached = c.in_ok-order.ensures in
     on-ok c.reckon_in_place.result _ _ (λ counted one. (
       length c.in_ok-order.order.numbers.items,
-      reach-counted book state.places state.lists c.args.touched.now state.places.size c.requires.graph.numbers_of.numbers
-          c.climb.new.marks.list c.in_ok-order.order.numbers.items c.in_ok-order.order.ends.items c.in_ok-climb.ensures
-          (subst (λ (list : List ℕ). IsOrder (book_graph (rolled_of book)) (StandsIn book state.places state.lists) list c.in_ok-order.order.numbers.items
-          c.in_ok-order.order.ends.items) c.as_slice.ensures.list c.in_ok-order.ensures),
+      reach-counted book state.places state.lists c.args.touched.now of marks c.in_ok-climb.ensures.marked c.is_some-squares.result
+          (λ yes. assets-found book state.places state.lists of marks c.place.result c.place.ensures.there (sym c.is_some-squares.ensures ∙ yes))
+          (λ left. c.is_some-squares.ensures ∙ found-assets book state.places state.lists of marks c.place.result c.place.ensures.only left)
+          reached.0 c.in_ok-order.order.numbers.items c.in_ok-order.order.ends.items
+          (subst (λ (list : List ℕ). AreReached book state.places state.lists c.is_some-squares.result list reached.0) c.as_slice.ensures.list reached.1) reached.2,
       counted one,
     )) c.reckon_in_place.ensures.steps

@@ -1,12 +1,10 @@
-use Rattle.std.proofs.Common.{◌<◌, ◌+◌, All, refl, sym, subst}
-use Rattle.std.proofs.lemmas.List.Elements.{All-from_recursion}
+use Rattle.std.proofs.Common.{◌+◌, refl, subst}
 use Rattle.scr_figures.specs.Families.{family_of, table_of}
-use Rattle.scr_nodes.specs.Sources.{sources_of}
 use Rattle.scr_numbers.specs.Ranges.{first}
 use Rattle.scr_tree.specs.First.{AreLinkedTo, IsLinkedNext}
 use Rattle.scr_tree.specs.Turns.{next, turn_of}
 use Rattle.scr_tree.proofs.FirstRows.{on-ok}
-use Rattle.scr_tree.proofs.Grounds.{at-within, family-few, number-within, row-few}
+use Rattle.scr_tree.proofs.Grounds.{family-few, row-few}
 use Rattle.scr_tree.proofs.Linking.{linked-gathered}
 use Rattle.scr_tree.proofs.first_links.link_gathered.Goals as goal
 
@@ -19,22 +17,6 @@ pub number_at-number-requires-clause-family : goal.number_at-number-requires-cla
 number_at-number-requires-clause-family c =
     family-few c.args.ground c.requires.ground c.args.node.now c.args.row
     (first c.args.ground.places.now (table_of c.args.node.now) c.args.row + family_of c.args.node.now) c.requires.row refl c.requires.live
-
-pub link_next-requires-clause-number : goal.link_next-requires-clause-number
-link_next-requires-clause-number c =
-    number-within c.args.ground c.requires.ground c.args.node.now c.args.row c.number_at-number.result c.requires.row
-    c.number_at-number.ensures c.requires.live
-
-pub link_next-requires-clause-sources : goal.link_next-requires-clause-sources
-link_next-requires-clause-sources c =
-    let sources = c.gather_linked.new.sources.items in
-    let size = c.args.ground.places.now.size in
-    subst (λ ns. All (λ n. n < size) ns) (sym c.as_slice.ensures.value)
-    (All-from_recursion (λ n. n < size) sources
-    (at-within c.args.ground c.requires.ground sources (sources_of c.args.ground.book.now.sheet c.args.node.now) c.in_ok-gather_linked.ensures))
-
-pub link_next-requires-clause-size : goal.link_next-requires-clause-size
-link_next-requires-clause-size c = c.requires.linked.size
 
 pub returns : goal.returns
 returns c =

@@ -3,7 +3,7 @@ use Rattle.scr_tree.proofs.LeftNumbers.{not-left, not-live}
 use Rattle.scr_tree.proofs.left.is_left_at.Goals as goal
 
 pub returns-then-is_left-clause-there : goal.returns-then-is_left-clause-there
-returns-then-is_left-clause-there c = λ yes. (c.in-Some.point, c.in-Some.ensures.there, sym c.is_live_in.ensures ∙ yes)
+returns-then-is_left-clause-there c = λ yes. (c.in-Some.point, c.in-Some.ensures.there, sym c.is_live_in.ensures ∙ yes, sym c.is_left.ensures ∙ c.if-is_left.true)
 
 pub returns-then-is_left-clause-absent : goal.returns-then-is_left-clause-absent
 returns-then-is_left-clause-absent c = λ no.

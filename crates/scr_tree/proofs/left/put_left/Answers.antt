@@ -4,7 +4,7 @@ use Rattle.scr_reach.specs.Dues.{IsLiveAt}
 use Rattle.scr_sheet.specs.Validity.{Valid}
 use Rattle.scr_sums.specs.Books.{rolled_of}
 use Rattle.scr_tree.specs.Figures.{AreSettled}
-use Rattle.scr_tree.specs.First.{AreLinkedTo, IsLinkGround, IsWhole}
+use Rattle.scr_tree.specs.First.{AreLinkedTo, IsLinkGround, IsWhole, numbers_of}
 use Rattle.scr_tree.specs.Left.{AreLeft}
 use Rattle.scr_tree.specs.Order.{IsOrder}
 use Rattle.scr_tree.specs.Points.{AreNumbersOf, IsGraphOf, StandsIn, book_graph, book_reckoning}
@@ -14,6 +14,7 @@ use Rattle.scr_tree.specs.declared.making.{LinkGround.LinkGround, Made.Made}
 use Rattle.scr_tree.proofs.FirstRows.{on-ok}
 use Rattle.scr_tree.proofs.Grounds.{for-links}
 use Rattle.scr_tree.proofs.LeftKnown.{left-graph, left-known, left-made}
+use Rattle.scr_tree.proofs.LeftNumbers.{live-left}
 use Rattle.scr_tree.proofs.left.put_left.Goals as goal
 
 pub link_left-requires-clause-ground : goal.link_left-requires-clause-ground
@@ -45,8 +46,8 @@ pub ordered-requires-clause-live : goal.ordered-requires-clause-live
 ordered-requires-clause-live g c = λ number h.
     subst (λ (h : Graph). IsLiveAt (book_graph (rolled_of h.numbers.book.now)) (StandsIn h.numbers.book.now h.numbers.places.now h.numbers.lists.now) number)
     (sym c.graph.ensures)
-    ((subst (λ (n : Numbers). AreLeft n c.in_ok-left.left.items) c.numbers.ensures c.in_ok-left.ensures).live number
-    (subst (λ (xs : List ℕ). Contains xs number) c.as_slice.ensures.value h))
+    (live-left (numbers_of c.args.ground) number ((subst (λ (n : Numbers). AreLeft n c.in_ok-left.left.items) c.numbers.ensures c.in_ok-left.ensures).each number
+    (subst (λ (xs : List ℕ). Contains xs number) c.as_slice.ensures.value h)))
 
 pub reckon_together-requires-clause-basis : goal.reckon_together-requires-clause-basis
 reckon_together-requires-clause-basis g c κs within = record {
@@ -58,9 +59,9 @@ reckon_together-requires-clause-basis g c κs within = record {
 
 pub reckon_together-requires-clause-order : goal.reckon_together-requires-clause-order
 reckon_together-requires-clause-order g c κs within = (
-  c.as_slice.result.now,
+  c.in_ok-order.ensures.0,
   subst (λ (h : Graph). IsOrder (book_graph (rolled_of h.numbers.book.now)) (StandsIn h.numbers.book.now h.numbers.places.now h.numbers.lists.now)
-      c.as_slice.result.now c.in_ok-order.order.numbers.items c.in_ok-order.order.ends.items) c.graph.ensures c.in_ok-order.ensures,
+      c.in_ok-order.ensures.0 c.in_ok-order.order.numbers.items c.in_ok-order.order.ends.items) c.graph.ensures c.in_ok-order.ensures.2,
 )
 
 pub reckon_together-requires-clause-known : goal.reckon_together-requires-clause-known
@@ -68,13 +69,12 @@ reckon_together-requires-clause-known g c κs within =
     let ground = c.args.ground in
     let numbers = c.in_ok-order.order.numbers.items in
     let ends = c.in_ok-order.order.ends.items in
-    left-known ground c.requires.ground c.args.made.now.figures.items c.in_ok-left.left.items numbers ends
+    left-known ground c.requires.ground c.args.made.now.figures.items c.in_ok-left.left.items c.in_ok-order.ensures.0 numbers ends
     c.requires.done.figures.known c.requires.done.blocks_there
     (subst (λ (n : Numbers). AreLeft n c.in_ok-left.left.items) c.numbers.ensures c.in_ok-left.ensures)
-    (subst (λ (xs : List ℕ). IsOrder (book_graph (rolled_of ground.inputs.book.now))
-    (StandsIn ground.inputs.book.now ground.places.now ground.lists.now) xs numbers ends) c.as_slice.ensures.value
+    (λ number h. (c.in_ok-order.ensures.1).marked number (subst (λ (xs : List ℕ). Contains xs number) (sym c.as_slice.ensures.value) h))
     (subst (λ (h : Graph). IsOrder (book_graph (rolled_of h.numbers.book.now)) (StandsIn h.numbers.book.now h.numbers.places.now h.numbers.lists.now)
-    c.as_slice.result.now numbers ends) c.graph.ensures c.in_ok-order.ensures))
+    c.in_ok-order.ensures.0 numbers ends) c.graph.ensures c.in_ok-order.ensures.2)
 
 pub reckon_together-requires-clause-room : goal.reckon_together-requires-clause-room
 reckon_together-requires-clause-room g c κs within = let count = c.requires.done.figures.count in omega (arith, count)

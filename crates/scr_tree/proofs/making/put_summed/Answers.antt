@@ -2,7 +2,6 @@ use Rattle.std.proofs.Common.{◌≡◌, Bool, ◌<◌, ◌+◌, ◌∙◌, fals
 use Rattle.scr_num.specs.Rounding.{Ends}
 use Rattle.scr_figures.specs.Families.{family_of, table_of}
 use Rattle.scr_numbers.specs.Ranges.{first}
-use Rattle.scr_rules.specs.Worked.{worked}
 use Rattle.scr_subtotals.specs.declared.figure.Figure.{Figure}
 use Rattle.scr_sums.specs.Sums.{reader_of}
 use Rattle.scr_tree.specs.Figures.{worth_of, worth_at}

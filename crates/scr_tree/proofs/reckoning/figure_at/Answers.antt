@@ -1,10 +1,10 @@
-use Rattle.std.proofs.Common.{◌≡◌, ◌||◌, ◌<◌, ℕ, Bool, All, List, length, map, refl, sym, ap, subst, ◌∙◌}
+use Rattle.std.proofs.Common.{◌≡◌, ◌||◌, ◌<◌, ℕ, Bool, true, All, List, length, map, refl, sym, ap, subst, ◌∙◌}
 use Rattle.scr_num.specs.Rounding.{ends}
 use Rattle.scr_num.specs.declared.span.Span.{Span}
 use Rattle.scr_reach.specs.Linked.{AreAt}
 use Rattle.scr_subtotals.specs.declared.figure.Figure.{Figure}
 use Rattle.scr_sums.specs.Books.{rolled_of}
-use Rattle.scr_sums.specs.Graph.{sources_in}
+use Rattle.scr_sums.specs.Graph.{is_live_in, sources_in}
 use Rattle.scr_sums.specs.declared.point.Point.{Point}
 use Rattle.scr_tree.specs.Figures.{AreReadAt, AreSpansOf, worth_of}
 use Rattle.scr_tree.specs.Opening.{opens_in}
@@ -113,3 +113,27 @@ returns-else-opens-clause-figure g c = λ point at.
     c.span_of-span.ensures.span c.read.new.below.close
     (sym (ap (λ t. t || c.read.new.below.close) (sym c.opens.ensures ∙ c.if-opens.false)))
     ∙ ap (reckoning_on b).worth (c.requires.basis.graph.numbers_of.numbers.exact c.args.number here point own at)
+
+-- ---- of a Block of the first level
+
+pub added_up-requires-clause-at : goal.added_up-requires-clause-at
+added_up-requires-clause-at g c =
+    let b = c.args.basis in
+    subst (λ p. StandsOn b p c.args.number) c.in-Block.is
+    (stands-here b c.requires.basis c.numbers.result c.numbers.ensures c.in-Some.point c.args.number c.in-Some.ensures.there)
+
+pub added_up-requires-clause-live : goal.added_up-requires-clause-live
+added_up-requires-clause-live g c =
+    let b = c.args.basis in
+    let ready = c.requires.ready in
+    subst (λ p. is_live_in (rolled_of b.inputs.book.now) p ≡ true) c.in-Block.is
+    (lives-here b c.requires.basis c.numbers.result c.numbers.ensures c.args.number (ready.node, ready.at, ready.live) c.in-Some.point
+    c.in-Some.ensures.there)
+
+pub returns-in-First-clause-figure : goal.returns-in-First-clause-figure
+returns-in-First-clause-figure g c = λ point at.
+    let b = c.args.basis in
+    let here = c.in-Some.point in
+    let own = stands-here b c.requires.basis c.numbers.result c.numbers.ensures here c.args.number c.in-Some.ensures.there in
+    subst (λ p. worth_of c.added_up.result ≡ (reckoning_on b).worth p)
+    (sym c.in-Block.is ∙ c.requires.basis.graph.numbers_of.numbers.exact c.args.number here point own at) c.added_up.ensures

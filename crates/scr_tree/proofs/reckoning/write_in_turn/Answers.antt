@@ -14,8 +14,8 @@ number-at : (now numbers : List ℕ) (k end number : ℕ) → now ≡ numbers �
 number-at now numbers k end number same long low is =
     slice_get-get_or numbers k number (omega (arith, long, low)) ∙ ap Some (sym (is ∙ ap (λ xs. get_or xs k number) same))
 
-pub figure_at-requires-clause-ready : goal.figure_at-requires-clause-ready
-figure_at-requires-clause-ready g c =
+pub next_figure-requires-clause-ready : goal.next_figure-requires-clause-ready
+next_figure-requires-clause-ready g c =
     let basis = c.args.basis in
     let numbers = c.args.journal.now.numbers.items in
     let number = c.index-number.result.now in

@@ -1,8 +1,28 @@
-use Rattle.std.proofs.Common.{◌≡◌, [], ◌∙◌, ap, refl}
+use Rattle.std.proofs.Common.{◌≡◌, [], length, ◌∙◌, ap, refl, sym}
+use Rattle.scr_blocks.specs.Blocks.{blocks_at}
+use Rattle.scr_blocks.specs.declared.blocks.Level.TheVariants as levels
 use Rattle.scr_lists.specs.Lists.{members_of}
-use Rattle.scr_tree.specs.Summed.{family_in, firsts_on}
-use Rattle.scr_tree.proofs.SumNumbers.{as-counted, members-few, members-off, members-within, none-off, none-on, room-is, written-off, written-on}
+use Rattle.scr_tree.specs.Summed.{count_on, family_in, firsts_on}
+use Rattle.scr_tree.proofs.SumNumbers.{as-counted, as-many, members-few, members-off, members-within, none-off, none-on, room-is, written-off, written-on}
 use Rattle.scr_tree.proofs.sums.put_blocks.Goals as goal
+
+-- of a list that is too short for Blocks
+pub returns-then-count-eq0-clause-blocks : goal.returns-then-count-eq0-clause-blocks
+returns-then-count-eq0-clause-blocks g c =
+    let numbers = c.args.numbers in
+    let firsts : c.members-firsts.result.now ≡ firsts_on numbers c.args.sum.now =
+    c.members-firsts.ensures ∙ ap (λ roll. members_of roll numbers.book.now.rolls numbers.lists.now) c.roll.ensures in
+    let none : blocks_at (count_on numbers c.args.sum.now) levels.First ≡ 0 =
+    ap (λ n. blocks_at n levels.First) (sym (ap length firsts ∙ as-many numbers c.requires.numbers c.requires.valid c.args.sum.now))
+    ∙ sym c.blocks_at-count.ensures ∙ c.if-count-eq0.true in
+    none-on numbers c.requires.numbers c.requires.valid c.args.sum.now c.requires.reads (firsts_on numbers c.args.sum.now) refl
+    (family_in c.args.sum.now) refl c.args.figures.now none
+
+pub returns-then-count-eq0-clause-others : goal.returns-then-count-eq0-clause-others
+returns-then-count-eq0-clause-others g c =
+    let numbers = c.args.numbers in
+    none-off numbers c.requires.numbers c.requires.valid c.args.sum.now c.requires.reads (firsts_on numbers c.args.sum.now) refl
+    (family_in c.args.sum.now) refl c.args.figures.now
 
 -- the first numbers and the family of the members
 pub put_all-requires-clause-numbered : goal.put_all-requires-clause-numbered

@@ -65,7 +65,7 @@ returns-in-Whole-clause-marked c =
     let numbers = c.args.self.now.numbers in
     let at : StandsIn numbers.book.now numbers.places.now numbers.lists.now assets c.args.number = subst (StandsIn numbers.book.now numbers.places.now numbers.lists.now assets) (sym c.if-number-eq-ASSETS.true) (assets-stand numbers.book.now numbers.places.now numbers.lists.now c.requires.graph.numbers_of) in
     ok-then c.mark_squares.result c.mark_squares.ensures.marked
-    (from-squares numbers.book.now numbers.places.now numbers.lists.now c.requires.graph.numbers_of c.args.number c.args.marks.now.list c.mark_linked.new.marks.list c.mark_squares.new.marks.list c.in_ok-mark_linked.ensures.marked c.requires.valid at)
+    (from-squares numbers.book.now numbers.places.now numbers.lists.now c.requires.graph.numbers_of c.args.number c.args.marks.now.list c.mark_linked.new.marks.list c.mark_squares.new.marks.list c.in_ok-mark_linked.ensures.marked at)
 
 pub returns-in-Part-clause-marked : goal.returns-in-Part-clause-marked
 returns-in-Part-clause-marked c =

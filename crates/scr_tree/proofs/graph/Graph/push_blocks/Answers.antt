@@ -1,5 +1,11 @@
-use Rattle.std.proofs.Common.{◌<◌, arith}
-use Rattle.scr_tree.proofs.PointSources.{all-blocks, block-live, blocks-few, next-block, no-blocks}
+use Rattle.std.proofs.Common.{◌≡◌, ◌<◌, ◌∙◌, refl, ap, subst, sym, arith}
+use Rattle.scr_blocks.specs.Blocks.{blocks_at}
+use Rattle.scr_lists.specs.Lists.{members_of}
+use Rattle.scr_sums.specs.Graph.{block_point}
+use Rattle.scr_tree.specs.Points.{StandsIn}
+use Rattle.scr_tree.specs.Summed.{count_on, family_in, firsts_on}
+use Rattle.scr_tree.proofs.PointSources.{all-blocks, next-block, no-blocks}
+use Rattle.scr_tree.proofs.SumNumbers.{as-counted, low-here}
 use Rattle.scr_tree.proofs.graph.Graph.push_blocks.Goals as goal
 
 pub loop-index-init : goal.loop-index-init
@@ -7,25 +13,37 @@ loop-index-init c =
     let numbers = c.args.self.now.numbers in
     no-blocks numbers.book.now numbers.places.now numbers.lists.now c.args.sum.now c.args.level c.args.start c.args.end c.args.list.now.items
 
+pub number-requires-clause-numbered : goal.number-requires-clause-numbered
+number-requires-clause-numbered c =
+    let numbers = c.args.self.now.numbers in
+    let firsts : c.members-members.result.now ≡ firsts_on numbers c.args.sum.now =
+    c.members-members.ensures ∙ ap (λ roll. members_of roll numbers.book.now.rolls numbers.lists.now) c.roll.ensures in
+    as-counted numbers c.requires.numbers c.requires.valid c.args.sum.now c.requires.reads c.members-members.result.now firsts
+    (family_in c.args.sum.now) refl c.in-Some.blocks c.in-Some.ensures.there.numbered
+
+pub number-requires-clause-there : goal.number-requires-clause-there
+number-requires-clause-there c =
+    let numbers = c.args.self.now.numbers in
+    let firsts : c.members-members.result.now ≡ firsts_on numbers c.args.sum.now =
+    c.members-members.ensures ∙ ap (λ roll. members_of roll numbers.book.now.rolls numbers.lists.now) c.roll.ensures in
+    let there = c.requires.there in
+    let low : c.loop-index.index < blocks_at (count_on numbers c.args.sum.now) c.args.level = omega (arith, there, c.loop-index-test.true) in
+    low-here numbers c.requires.numbers c.requires.valid c.args.sum.now c.requires.reads c.members-members.result.now firsts
+    (family_in c.args.sum.now) refl c.in-Some.blocks c.in-Some.ensures.there c.args.level c.loop-index.index low
+
 pub loop-index-preserved : goal.loop-index-preserved
 loop-index-preserved c =
     let numbers = c.args.self.now.numbers in
     let sum = c.args.sum.now in
     let level = c.args.level in
-    let low : c.loop-index.index < c.args.end = c.loop-index-test.true in
+    let index = c.loop-index.index in
     let there = c.requires.there in
+    let stands : StandsIn numbers.book.now numbers.places.now numbers.lists.now (block_point sum level index) c.number.result =
+    subst (StandsIn numbers.book.now numbers.places.now numbers.lists.now (block_point sum level index)) (sym c.number.ensures.number)
+    (c.in-Some.ensures.there.at level index (omega (arith, there, c.loop-index-test.true))) in
     next-block numbers.book.now numbers.places.now numbers.lists.now sum level c.args.start c.args.end c.args.list.now.items c.requires.numbers
-    c.loop-index.index c.loop-index.list.items c.push_some.new.list.items c.number_of.result low
-    (block-live numbers.book.now numbers.places.now numbers.lists.now c.requires.numbers sum level c.loop-index.index c.requires.reads
-    (omega (arith, low, there)))
-    c.number_of.ensures.there c.number_of.ensures.absent c.in_ok-push_some.ensures c.loop-index.invariant
-
-pub overflow_cast-block : goal.overflow_cast-block
-overflow_cast-block c =
-    let numbers = c.args.self.now.numbers in
-    let few = blocks-few numbers.book.now numbers.places.now numbers.lists.now c.requires.numbers c.requires.valid c.args.sum.now c.args.level in
-    let there = c.requires.there in
-    omega (arith, few, there, c.loop-index-test.true)
+    index c.loop-index.list.items c.push.new.self.items c.number.result c.loop-index-test.true stands c.in_ok-push.ensures.items
+    c.loop-index.invariant
 
 pub returns : goal.returns
 returns c =

@@ -1,0 +1,102 @@
+-- The square of the group in a row, from the figures of the assets and of the group's total.
+use Rattle.std.proofs.Common.{◌≡◌, ◌||◌, ℕ, ◌-◌, ◌<◌, Bool, true, false, All, List, [], ◌∷◌, length, map, Some, slice_get, refl, sym, ap, ap₂, subst, ◌∙◌, arith}
+use Rattle.std.specs.Option.{option_map}
+use Rattle.scr_num.specs.Rounding.{ends}
+use Rattle.scr_num.specs.declared.span.Span.{Span}
+use Rattle.scr_factors.specs.Values.{IsInForm}
+use Rattle.scr_sheet.specs.BalanceSheet.{group_name}
+use Rattle.scr_sheet.specs.declared.rows.Group.{Group}
+use Rattle.scr_numbers.specs.Ranges.{count}
+use Rattle.scr_numbers.specs.declared.table.Table.TheVariants as ranged
+use Rattle.scr_nodes.specs.Live.{is_live}
+use Rattle.scr_nodes.specs.OwnOf.{own_of}
+use Rattle.scr_nodes.specs.Rows.{group_of}
+use Rattle.scr_nodes.specs.Sources.{concentration_square, sources_of}
+use Rattle.scr_nodes.specs.declared.node.Node.{Node}
+use Rattle.scr_nodes.proofs.OwnRows.{own-groups}
+use Rattle.scr_discounts.specs.Kept.{all_discounts}
+use Rattle.scr_rules.specs.ByRow.{by_rule}
+use Rattle.scr_rules.specs.Fits.{Fits}
+use Rattle.scr_rules.specs.Worked.{worked}
+use Rattle.scr_rules.proofs.Ranges.{node-fits}
+use Rattle.scr_reach.specs.Linked.{AreAt}
+use Rattle.scr_subtotals.specs.declared.figure.Figure.{Figure}
+use Rattle.scr_sums.specs.Books.{rolled_of}
+use Rattle.scr_sums.specs.Graph.{sources_in}
+use Rattle.scr_sums.specs.declared.point.Point.TheVariants as points
+use Rattle.scr_tree.specs.Figures.{HaveFigures, Worth, worth_of}
+use Rattle.scr_tree.specs.Ready.{IsBasis, IsReadyOn, IsSquareOn, StandsOn, reckoning_on}
+use Rattle.scr_tree.specs.declared.basis.Basis.{Basis}
+use Rattle.scr_tree.proofs.ByRow.{by-rule-worked}
+use Rattle.scr_tree.proofs.FirstRows.{each-get, got-map, group-live}
+use Rattle.scr_tree.proofs.Here.{have-here, within-here}
+use Rattle.scr_tree.proofs.PointSources.{square-sources}
+use Rattle.scr_tree.proofs.Spanned.{point-right}
+use Rattle.scr_tree.proofs.SquaresEntered.{rows}
+
+or-false : (t : Bool) → (t || false) ≡ t
+or-false true = refl
+or-false false = refl
+
+-- the figure that is read is that of the point
+read-is : (worth : Worth) (figures : List Figure) (number : ℕ) (figure : Figure) → option_map worth_of (slice_get figures number) ≡ Some worth
+    → slice_get figures number ≡ Some figure → worth_of figure ≡ worth
+read-is worth figures number figure has here =
+    let both : Some (worth_of figure) ≡ Some worth = sym (ap (option_map worth_of) here) ∙ has in cc
+
+module _ (b : Basis) (is : IsBasis b) (row : ℕ) (group : Group) (got : slice_get b.inputs.book.now.sheet.groups row ≡ Some group)
+    (number : ℕ) (one : IsSquareOn b row number) where
+  abbrev Square : Node
+  Square = concentration_square group
+
+  pub square-row : group_of group.name b.inputs.book.now.sheet.groups ≡ Some group
+  square-row = each-get (λ g. group_of (group_name g) b.inputs.book.now.sheet.groups ≡ Some g) b.inputs.book.now.sheet.groups row group
+      (own-groups b.inputs.book.now.sheet is.valid) got
+
+  pub square-stands : StandsOn b (points.Figure (concentration_square group)) number
+  square-stands =
+      let there = rows b.inputs.book.now b.places.now b.lists.now is.graph.numbers_of in
+      let low : row < count b.places.now ranged.Group = omega (arith, one.0, there) in
+      record {
+        k = row;
+        row = got-map group_name b.inputs.book.now.sheet.groups row group got;
+        at = record { row = low; family = omega arith; is = one.1 };
+      }
+
+  pub square-lives : is_live b.inputs.book.now.sheet (concentration_square group) ≡ true
+  square-lives = group-live b.inputs.book.now.sheet is.valid row group got
+
+  below-at : AreAt (StandsOn b) (153 ∷ (number - 1) ∷ []) (sources_in (rolled_of b.inputs.book.now) (points.Figure Square))
+  below-at = square-sources b.inputs.book.now b.places.now b.lists.now is.graph.numbers_of Square number refl square-stands
+
+  module _ (figures : List Figure) (ready : IsReadyOn b figures number) where
+    have : HaveFigures (reckoning_on b) figures (153 ∷ (number - 1) ∷ []) (sources_in (rolled_of b.inputs.book.now) (points.Figure Square))
+    have = have-here b is figures number ready (points.Figure Square) square-stands (153 ∷ (number - 1) ∷ []) below-at
+
+    pub square-within : All (λ source. source < length figures) (153 ∷ (number - 1) ∷ [])
+    square-within = within-here b is figures number ready (points.Figure Square) square-stands (153 ∷ (number - 1) ∷ []) below-at
+
+    module _ (assets total : Figure) (first_is : slice_get figures 153 ≡ Some assets)
+        (second_is : slice_get figures (number - 1) ≡ Some total) where
+      below-worked : ends assets.span ∷ ends total.span ∷ [] ≡ map (worked b.inputs.factors.now b.inputs.book.now.sheet) (sources_of b.inputs.book.now.sheet Square)
+      below-worked = ap₂ (λ (x : Worth) (y : Worth). x.worked ∷ y.worked ∷ [])
+          (read-is _ figures 153 assets have.0 first_is) (read-is _ figures (number - 1) total have.1.0 second_is)
+
+      pub square-fits : IsInForm b.inputs.factors.now
+          → Fits (own_of b.inputs.factors.now b.inputs.book.now.sheet (concentration_square group)) (ends assets.span ∷ ends total.span ∷ [])
+      square-fits form =
+          subst (Fits (own_of b.inputs.factors.now b.inputs.book.now.sheet Square)) (sym below-worked)
+          (node-fits b.inputs.factors.now form b.inputs.book.now.sheet is.valid Square square-lives)
+
+      pub square-right : IsInForm b.inputs.factors.now → (span : Span) (close : Bool)
+          → ends span ≡ by_rule b.inputs.factors.now b.inputs.book.now.sheet [] (concentration_square group) (ends assets.span ∷ ends total.span ∷ [])
+          → close ≡ (assets.close || total.close)
+          → worth_of (record { span = span; close = close }) ≡ (reckoning_on b).worth (points.Figure (concentration_square group))
+      square-right form span close worked_is rests =
+          point-right b is (points.Figure Square) span close (assets.close || (total.close || false))
+          (worked_is
+          ∙ by-rule-worked b.inputs.factors.now b.inputs.book.now.sheet is.valid form Square square-lives (all_discounts b.inputs.book.now.sheet) refl
+          (ends assets.span ∷ ends total.span ∷ []) below-worked)
+          (ap₂ (λ (x : Worth) (y : Worth). x.close || (y.close || false))
+          (read-is _ figures 153 assets have.0 first_is) (read-is _ figures (number - 1) total have.1.0 second_is))
+          (rests ∙ ap (λ t. assets.close || t) (sym (or-false total.close)))
