@@ -1,27 +1,37 @@
 //! How an amount is printed.
-ghost use Rattle.std.specs.Prelude.{◌≡◌, ◌++◌, OnOk};
+ghost use Rattle.std.specs.Prelude.{◌≡◌, ◌<◌, ◌++◌, OnOk, codes, decimal};
 ghost use Rattle.scr_amounts.specs.Amounts.{amount, euros};
 
+use itoa::Buffer;
 use std::alloc::{AllocError as NoMemory, Global};
 
 /// Appends so many cents, in euros with two decimals.
 #[tactic(auto, unfolding(crate::specs::Amounts::amount))]
-pub fn push_amount(alloc: Global, out: &mut Vec<u8>, cents: i128) -> Result<(), NoMemory>
+pub fn push_amount(_alloc: Global, out: &mut Vec<u8>, cents: i128) -> Result<(), NoMemory>
     ensures { OnOk result (out.new.items ≡ out.old.items ++ amount cents) }
 {
     if cents < 0 {
         push(out, "-")?;
     }
-    push_euros(alloc, out, cents.unsigned_abs())
+    push_euros(out, cents.unsigned_abs())
 }
 
 #[tactic(auto, unfolding(crate::specs::Amounts::euros))]
-fn push_euros(alloc: Global, out: &mut Vec<u8>, cents: u128) -> Result<(), NoMemory>
+fn push_euros(out: &mut Vec<u8>, cents: u128) -> Result<(), NoMemory>
     ensures { OnOk result (out.new.items ≡ out.old.items ++ euros cents) }
 {
-    let (whole, tens, units) = (cents / 100, cents / 10 % 10, cents % 10);
-    let text = format!(in alloc; "{whole}.{tens}{units}")?;
-    push(out, text.as_str())
+    let mut digits = Buffer::new();
+    push(out, digits.format(cents / 100))?;
+    push_decimals(out, (cents / 10 % 10) as u8, (cents % 10) as u8)
+}
+
+/// Appends a point and two digits.
+fn push_decimals(out: &mut Vec<u8>, tens: u8, units: u8) -> Result<(), NoMemory>
+    requires tens { tens < 10 }
+    requires units { units < 10 }
+    ensures { OnOk result (out.new.items ≡ ((out.old.items ++ codes ".") ++ decimal tens) ++ decimal units) }
+{
+    out.extend_from_slice(&[b'.', b'0' + tens, b'0' + units])
 }
 
 fn push(out: &mut Vec<u8>, text: &str) -> Result<(), NoMemory>

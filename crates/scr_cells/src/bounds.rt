@@ -6,7 +6,7 @@ ghost use Rattle.scr_cells.specs.Block.{bounds_at, bounds_of};
 
 use scr_nodes::Node;
 use scr_num::Span;
-use scr_tree::{Engine, Point};
+use scr_tree::Engine;
 
 /// So many grains are a cent.
 const GRAINS: u64 = 1_000;
@@ -24,7 +24,8 @@ pub(crate) fn bounds_at(engine: &Engine, node: &Node) -> Bounds
     requires { is_live engine.now.sheet node.now ≡ true }
     ensures { result ≡ bounds_at engine.now.factors engine.now.sheet node.now }
 {
-    bounds_of(engine.span(Point::Figure(*node)), engine.is_close(node))
+    let (grains, close) = engine.told(node);
+    bounds_of(grains, close)
 }
 
 /// The bounds of a figure in grains, with what is told of its choices.

@@ -10,9 +10,14 @@ use crate::printing::push_bounds;
 use crate::table::{CELL_COUNT, Entry, entry_of};
 use scr_nodes::Node;
 use scr_num::Span;
-use scr_tree::{Engine, Point};
+use scr_tree::Engine;
 use std::alloc::{AllocError as NoMemory, Global};
 use std::marker::Model;
+
+/// As many bytes as a line mostly has at the most, and a block.
+const LINE: usize = 80;
+
+const BLOCK: usize = 6_000;
 
 /// A cell's line, with the figure in grains that it tells.
 #[derive(Drop)]
@@ -60,7 +65,7 @@ impl Lines {
             then out.old.items ++ block_text engine.now.factors engine.now.sheet
             else out.old.items) }
     {
-        let mut block = Vec::new(alloc);
+        let mut block = Vec::with_capacity(alloc, BLOCK)?;
         self.push_all(alloc, engine, &mut block)?;
         out.extend_from_slice(block.as_slice())
     }
@@ -94,8 +99,7 @@ impl Lines {
         ensures line { OnOk result (out.new.items ≡ out.old.items ++ cell_line engine.now.factors engine.now.sheet (seen entry.now)) }
         ensures formed { OnOk result (k + 1 ≤ length self.new) }
     {
-        let node = Node::Whole(entry.shown);
-        let (span, close) = (engine.span(Point::Figure(node)), engine.is_close(&node));
+        let (span, close) = engine.told(&Node::Whole(entry.shown));
         self.form(alloc, k, entry, span, close)?;
         push(out, self.formed[k as usize].text.as_slice())
     }
@@ -143,7 +147,7 @@ fn push(out: &mut Vec<u8>, text: &[u8]) -> Result<(), NoMemory>
 fn line_of(alloc: Global, entry: &Entry, span: Span, close: bool) -> Result<Line, NoMemory>
     ensures { IfOk result (λ line. IsLineOf (seen entry.now) line × (ends line.span ≡ ends span) × (line.close ≡ close)) }
 {
-    let mut text = Vec::new(alloc);
+    let mut text = Vec::with_capacity(alloc, LINE)?;
     push_bounds(alloc, &mut text, entry.name, &bounds_of(span, close))?;
     Ok(Line { span, close, text })
 }

@@ -9,11 +9,8 @@ use Rattle.scr_cells.specs.declared.lines.Line.{Line}
 use Rattle.scr_cells.proofs.LiveCells.{live_at}
 use Rattle.scr_cells.proofs.lines.Lines.push_cell.Goals as goal
 
-pub span-span-requires : goal.span-span-requires
-span-span-requires c = live_at c.args.engine.now.sheet c.args.k _ c.requires.cell
-
-pub is_close-close-requires : goal.is_close-close-requires
-is_close-close-requires c = live_at c.args.engine.now.sheet c.args.k _ c.requires.cell
+pub told-close-requires : goal.told-close-requires
+told-close-requires c = live_at c.args.engine.now.sheet c.args.k _ c.requires.cell
 
 pub returns-clause-line : goal.returns-clause-line
 unfolding cell_line
@@ -25,6 +22,6 @@ returns-clause-line c =
     c.index.ensures ∙ get_or_from_slice_get c.self.inside.formed.items c.args.k told.line c.index.result.now at in
     let text = c.self.invariant c.args.k told.line cell at c.requires.cell in
     let figure = ap₂ (λ (worked : Ends) (close : Bool). bounds_line cell.name (bounds_of worked close))
-    (told.span_is ∙ c.span-span.ensures) (told.close_is ∙ c.is_close-close.ensures) in
+    (told.span_is ∙ c.told-close.ensures.span) (told.close_is ∙ c.told-close.ensures.close) in
     subst (λ (line : List ℕ). OnOk c.push.result (c.push.new.out.items ≡ c.args.out.now.items ++ line))
     (c.as_slice.ensures.value ∙ ap (λ (l : Line). l.text.items) line ∙ text ∙ figure) c.push.ensures
