@@ -27,4 +27,6 @@ mod statuses;
 #[cfg(test)]
 mod threads;
 #[cfg(test)]
+mod widths;
+#[cfg(test)]
 mod workers;
