@@ -1,5 +1,6 @@
 pub mod NetAmounts
 pub mod Sums
+pub mod PartSums
 pub mod Bounded
 pub mod Signs
 pub mod Roots

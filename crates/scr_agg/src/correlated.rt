@@ -9,7 +9,7 @@ ghost use Rattle.scr_num.specs.Rounding.{ends, or_zero, quad_ends};
 ghost use Rattle.scr_agg.specs.Correlated.{table_of, CellsWithin, NotNegative, total_high};
 ghost use Rattle.scr_agg.specs.Correlated.{all_ends};
 
-use crate::form::{Side, Sign, form};
+use crate::form::{Sign, forms};
 use scr_num::{Span, root_of, scale};
 use scr_profile::Matrix;
 
@@ -34,14 +34,10 @@ pub fn quad(parts: &[Span], m: &Matrix) -> Span
     ensures at_most_the_sum { result.high ≤ℤ pos (total_high parts.now) }
     ensures size { IsAmount (total_high parts.now) (ends result) }
 {
-    let low = less(
-        form(parts, m, Side::Low, Sign::Positive),
-        form(parts, m, Side::High, Sign::Negative),
-    );
-    let high = less(
-        form(parts, m, Side::High, Sign::Positive),
-        form(parts, m, Side::Low, Sign::Negative),
-    );
+    let positive = forms(parts, m, Sign::Positive);
+    let negative = forms(parts, m, Sign::Negative);
+    let low = less(positive.low, negative.high);
+    let high = less(positive.high, negative.low);
     root_of(scale(between(low, high), 1, denominator(m)))
 }
 

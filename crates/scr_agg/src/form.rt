@@ -1,6 +1,7 @@
 //! Sums over the cells of a matrix of correlation coefficients, in whole numbers of at least 0.
 
-ghost use Rattle.std.specs.Prelude.{◌≡◌, ℕ, ◌*◌, ◌^◌, ◌<◌, ◌≤◌, length};
+ghost use Rattle.std.specs.Prelude.{◌≡◌, ◌^◌, ◌<◌, ◌≤◌, pos, ◌<ℤ◌, ◌≤ℤ◌, length};
+ghost use Rattle.scr_agg.specs.Correlated.{NotNegative, total_high};
 ghost use Rattle.scr_agg.specs.Forms.{end_of, weight_of, row_of, form_of};
 
 use scr_num::Span;
@@ -20,43 +21,62 @@ pub(crate) enum Sign {
     Negative,
 }
 
-/// The sum, over the cells of that sign, of the cell's magnitude times the ends of both its parts.
-pub(crate) fn form(parts: &[Span], m: &Matrix, side: Side, sign: Sign) -> u128
+/// A sum over the low ends of the parts, and the same over the high ones.
+#[derive(Clone, Copy)]
+pub(crate) struct Sums {
+    pub low: u128,
+    pub high: u128,
+}
+
+/// The sums, over the cells of that sign, of the cell's magnitude times the ends of both its parts.
+pub(crate) fn forms(parts: &[Span], m: &Matrix, sign: Sign) -> Sums
     requires count { length parts.now ≤ 16 }
-    requires fits { form_of side sign m.now.cells parts.now < 2 ^ 127 }
-    ensures { result ≡ form_of side sign m.now.cells parts.now }
+    requires lows { NotNegative parts.now }
+    requires highs { total_high parts.now < 2 ^ 64 }
+    requires low_fits { form_of Side.Low sign m.now.cells parts.now < 2 ^ 127 }
+    requires high_fits { form_of Side.High sign m.now.cells parts.now < 2 ^ 127 }
+    ensures low { result.low ≡ form_of Side.Low sign m.now.cells parts.now }
+    ensures high { result.high ≡ form_of Side.High sign m.now.cells parts.now }
 {
-    let mut sum = 0;
+    let mut low = 0;
+    let mut high = 0;
     for i in 0..parts.len() {
-        sum += row(end(parts[i], side), &m.cells[i], parts, side, sign);
+        let part = parts[i];
+        let x = end(part, Side::High);
+        if x != 0 {
+            let row = row(&m.cells[i], parts, sign);
+            low += row.low * end(part, Side::Low);
+            high += row.high * x;
+        }
     }
-    sum
+    Sums { low, high }
 }
 
-// The same along one row, whose part has the end `x`.
-fn row(x: u128, cells: &[i16; 16], parts: &[Span], side: Side, sign: Sign) -> u128
+// The same along one row, for each one of its own part.
+fn row(cells: &[i16; 16], parts: &[Span], sign: Sign) -> Sums
     requires count { length parts.now ≤ 16 }
-    requires fits { row_of side sign x cells.now parts.now < 2 ^ 127 }
-    ensures { result ≡ row_of side sign x cells.now parts.now }
+    requires lows { NotNegative parts.now }
+    requires highs { total_high parts.now < 2 ^ 64 }
+    ensures low { result.low ≡ row_of Side.Low sign 1 cells.now parts.now }
+    ensures high { result.high ≡ row_of Side.High sign 1 cells.now parts.now }
 {
-    let mut sum = 0;
+    let mut low = 0;
+    let mut high = 0;
     for j in 0..parts.len() {
-        sum += term(weight(cells[j], sign), x, end(parts[j], side));
+        let weight = weight(cells[j], sign);
+        if weight != 0 {
+            let part = parts[j];
+            low += weight * end(part, Side::Low);
+            high += weight * end(part, Side::High);
+        }
     }
-    sum
-}
-
-// The product with two ends, which by themselves need not fit where the weight is 0.
-fn term(weight: u128, x: u128, y: u128) -> u128
-    requires { weight * (x * y) < 2 ^ 127 }
-    ensures { result ≡ weight * (x * y) }
-{
-    if weight == 0 { 0 } else { weight * (x * y) }
+    Sums { low, high }
 }
 
 // The magnitude of a cell of that sign, and 0 of another.
 fn weight(cell: i16, sign: Sign) -> u128
-    ensures { result ≡ weight_of sign cell }
+    ensures value { result ≡ weight_of sign cell }
+    ensures bound { result < 2 ^ 16 }
 {
     let counts = match sign {
         Sign::Positive => cell > 0,
@@ -69,11 +89,16 @@ fn weight(cell: i16, sign: Sign) -> u128
     }
 }
 
+// An end that fits a word, so that a product with it is one multiplication of words.
 fn end(part: Span, side: Side) -> u128
-    ensures { result ≡ end_of side part }
+    requires not_negative { pos 0 ≤ℤ part.low }
+    requires small { part.high <ℤ pos (2 ^ 64) }
+    ensures value { result ≡ end_of side part }
+    ensures bound { result < 2 ^ 64 }
 {
-    match side {
-        Side::Low => part.low.unsigned_abs(),
-        Side::High => part.high.unsigned_abs(),
-    }
+    let end = match side {
+        Side::Low => part.low as u64,
+        Side::High => part.high as u64,
+    };
+    u128::from(end)
 }

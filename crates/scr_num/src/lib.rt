@@ -2,7 +2,7 @@
 #![tactic(auto)]
 
 ghost use Rattle.std.specs.Prelude.{◌≡◌, ℕ, ◌*◌, ◌^◌, ◌<◌, ◌≤◌, ◌+◌, pos, ◌+ℤ◌, ◌-ℤ◌, ◌*ℤ◌, ◌≤ℤ◌};
-ghost use Rattle.std.specs.Prelude.{unsigned_abs, map, List};
+ghost use Rattle.std.specs.Prelude.{unsigned_abs, map, List, ◌==◌};
 ghost use Rattle.std.specs.Int.{int_max, int_min};
 ghost use Rattle.scr_num.specs.Fraction.{Fraction, Share};
 ghost use Rattle.scr_num.specs.Figure.{Figure, Frac, Sum, Diff, Times, Max, Min, RootOf};
@@ -21,6 +21,9 @@ mod span;
 pub use amounts::cents;
 pub use quotient::ratio;
 pub use span::Span;
+
+/// How many numbers of 64 bits there are.
+const WORD: u128 = 0x1_0000_0000_0000_0000;
 
 /// The span of one number, which both ends are.
 pub fn exact(v: i128) -> Span
@@ -190,15 +193,55 @@ pub fn floor_root(v: u128) -> u128
     ensures value { result ≡ floor_root v }
     ensures bound { result < 2 ^ 64 }
 {
-    v.isqrt()
+    floor_root_near(front_root(v), v)
 }
 
-/// The least whole number whose square is at least `v`.
-fn ceil_root(v: u128) -> u128
+/// A number near the root of `v`: that of its first 63 or 64 binary digits, with a nought for every two of the others.
+/// Nothing is asked of it.
+fn front_root(v: u128) -> u128 {
+    let pairs = v.leading_zeros() / 2;
+    if pairs == 64 {
+        return 0;
+    }
+    let front = (v << (2 * pairs)) / WORD;
+    let root = (front as u64).isqrt();
+    u128::from(root) << 32 >> pairs
+}
+
+/// The greatest whole number whose square is at most `v`, by one step of Newton's method from a guess, which mostly leads to it or to
+/// the number above it. Nothing is asked of the guess: where it leads elsewhere, the root is sought without it.
+fn floor_root_near(guess: u128, v: u128) -> u128
+    ensures value { result ≡ floor_root v }
+    ensures bound { result < 2 ^ 64 }
+{
+    let guess = guess.max(1);
+    let root = (guess.saturating_add(v / guess) / 2).min(WORD - 1);
+    if is_floor_root(root, v) {
+        return root;
+    }
+    let below = root.saturating_sub(1);
+    if is_floor_root(below, v) {
+        below
+    } else {
+        v.isqrt()
+    }
+}
+
+/// Whether `root` is the greatest whole number whose square is at most `v`.
+fn is_floor_root(root: u128, v: u128) -> bool
+    requires { root < 2 ^ 64 }
+    ensures { result ≡ (root == floor_root v) }
+{
+    let square = root * root;
+    square <= v && v - square <= 2 * root
+}
+
+/// The least whole number whose square is at least `v`, from a guess of which nothing is asked.
+fn ceil_root_near(guess: u128, v: u128) -> u128
     ensures value { result ≡ ceil_root v }
     ensures bound { result ≤ 2 ^ 64 }
 {
-    let root = v.isqrt();
+    let root = floor_root_near(guess, v);
     if root * root == v { root } else { root + 1 }
 }
 
@@ -214,8 +257,10 @@ pub fn root_of(a: Span) -> Span
     ensures low_size { unsigned_abs result.low < 2 ^ 64 }
     ensures high_size { unsigned_abs result.high ≤ 2 ^ 64 }
 {
+    let low = floor_root(a.low as u128);
+    let high = ceil_root_near(low, a.high as u128);
     Span {
-        low: floor_root(a.low as u128) as i128,
-        high: ceil_root(a.high as u128) as i128,
+        low: low as i128,
+        high: high as i128,
     }
 }

@@ -6,8 +6,8 @@ use Rattle.scr_num.proofs.root_of.Goals as goal
 
 pub invariant_of-result : goal.invariant_of-result
 invariant_of-result c =
-    let in_order : c.floor_root.result ≤ c.ceil_root.result =
-    rw (c.floor_root.ensures.value, c.ceil_root.ensures.value) (floor_root-le-ceil_root _ _ (search rules)) in
+    let in_order : c.floor_root-low.result ≤ c.ceil_root_near-high.result =
+    rw (c.floor_root-low.ensures.value, c.ceil_root_near-high.ensures.value) (floor_root-le-ceil_root _ _ (search rules)) in
     record { ordered = omega (arith, ints) }
 
 pub returns-clause-encloses : goal.returns-clause-encloses

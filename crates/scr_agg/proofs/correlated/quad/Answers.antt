@@ -1,9 +1,11 @@
-use Rattle.std.proofs.Common.{◌≡◌, ◌*◌, ◌-◌, ◌<◌, ◌≤◌, ℤ, pos, negsuc, ◌*ℤ◌, ◌<ℤ◌, ap, ap₂, ◌∙◌, sym, subst, arith}
+use Rattle.std.proofs.Common.{◌≡◌, ℕ, ◌*◌, ◌^◌, ◌-◌, ◌<◌, ◌≤◌, ℤ, pos, negsuc, ◌*ℤ◌, ◌<ℤ◌, ap, ap₂, ◌∙◌, sym, subst, arith}
 use Rattle.std.proofs.lemmas.Int.{ints}
 use Rattle.std.proofs.lemmas.List.{length-map}
+use Rattle.std.proofs.lemmas.Nat.{mul-le}
 use Rattle.scr_num.specs.Rounding.{Ends, or_zero, ceil_div, root_ends}
 use Rattle.scr_num.proofs.Enclosing.{Encloses-same}
 use Rattle.scr_num.proofs.Quadratic.{Encloses-quad}
+use Rattle.scr_num.proofs.Roots.{root_above}
 use Rattle.scr_agg.specs.Correlated.{table_of, all_ends, total_high}
 use Rattle.scr_agg.specs.declared.form.Side.TheVariants.{Low, High}
 use Rattle.scr_agg.specs.declared.form.Sign.TheVariants.{Positive, Negative}
@@ -13,35 +15,53 @@ use Rattle.scr_num.specs.Amounts.{IsAmount}
 use Rattle.scr_agg.proofs.RootSizes.{root-size}
 use Rattle.scr_agg.proofs.correlated.quad.Goals as goal
 
-pub form-requires-clause-fits : goal.form-requires-clause-fits
-form-requires-clause-fits c =
+positive : (den : ℤ) → pos 0 <ℤ den → 0 < or_zero den
+positive (pos n) h = omega (arith, ints)
+positive (negsuc n) h = absurd (omega (arith, ints))
+
+total_below : (den : ℤ) (total : ℕ) → pos 0 <ℤ den → or_zero den * (total * total) < 2 ^ 127 → total < 2 ^ 64
+total_below den total h small =
+    let some : 1 ≤ or_zero den = positive den h in
+    let square = mul-le 1 (total * total) (or_zero den) (total * total) some (omega arith) in
+    root_above total 18_446_744_073_709_551_616 (omega (arith, square))
+
+pub forms-positive-requires-clause-highs : goal.forms-positive-requires-clause-highs
+forms-positive-requires-clause-highs c =
+    total_below c.args.m.now.den (total_high c.args.parts.now) c.requires.denominator c.requires.small
+
+pub forms-positive-requires-clause-low_fits : goal.forms-positive-requires-clause-low_fits
+forms-positive-requires-clause-low_fits c =
     omega (
       arith,
       form_bound Low Positive c.args.m.now.den c.args.m.now.n c.args.m.now.cells c.args.parts.now
           c.requires.count c.requires.lows (omega (arith, ints)) c.requires.cells,
     )
 
-pub form-requires-2-clause-fits : goal.form-requires-2-clause-fits
-form-requires-2-clause-fits c =
-    omega (
-      arith,
-      form_bound High Negative c.args.m.now.den c.args.m.now.n c.args.m.now.cells c.args.parts.now
-          c.requires.count c.requires.lows (omega (arith, ints)) c.requires.cells,
-    )
-
-pub form-requires-3-clause-fits : goal.form-requires-3-clause-fits
-form-requires-3-clause-fits c =
+pub forms-positive-requires-clause-high_fits : goal.forms-positive-requires-clause-high_fits
+forms-positive-requires-clause-high_fits c =
     omega (
       arith,
       form_bound High Positive c.args.m.now.den c.args.m.now.n c.args.m.now.cells c.args.parts.now
           c.requires.count c.requires.lows (omega (arith, ints)) c.requires.cells,
     )
 
-pub form-requires-4-clause-fits : goal.form-requires-4-clause-fits
-form-requires-4-clause-fits c =
+pub forms-negative-requires-clause-highs : goal.forms-negative-requires-clause-highs
+forms-negative-requires-clause-highs c =
+    total_below c.args.m.now.den (total_high c.args.parts.now) c.requires.denominator c.requires.small
+
+pub forms-negative-requires-clause-low_fits : goal.forms-negative-requires-clause-low_fits
+forms-negative-requires-clause-low_fits c =
     omega (
       arith,
       form_bound Low Negative c.args.m.now.den c.args.m.now.n c.args.m.now.cells c.args.parts.now
+          c.requires.count c.requires.lows (omega (arith, ints)) c.requires.cells,
+    )
+
+pub forms-negative-requires-clause-high_fits : goal.forms-negative-requires-clause-high_fits
+forms-negative-requires-clause-high_fits c =
+    omega (
+      arith,
+      form_bound High Negative c.args.m.now.den c.args.m.now.n c.args.m.now.cells c.args.parts.now
           c.requires.count c.requires.lows (omega (arith, ints)) c.requires.cells,
     )
 
@@ -63,15 +83,11 @@ between-requires-clause-fits c =
 
 low_is : (c : goal.After-root_of) → c.less-low.result
     ≡ sum_of Low Positive c.args.m.now c.args.parts.now - sum_of High Negative c.args.m.now c.args.parts.now
-low_is c = c.less-low.ensures ∙ ap₂ ◌-◌ c.form.ensures c.form-2.ensures
+low_is c = c.less-low.ensures ∙ ap₂ ◌-◌ c.forms-positive.ensures.low c.forms-negative.ensures.high
 
 high_is : (c : goal.After-root_of) → c.less-high.result
     ≡ sum_of High Positive c.args.m.now c.args.parts.now - sum_of Low Negative c.args.m.now c.args.parts.now
-high_is c = c.less-high.ensures ∙ ap₂ ◌-◌ c.form-3.ensures c.form-4.ensures
-
-positive : (den : ℤ) → pos 0 <ℤ den → 0 < or_zero den
-positive (pos n) h = omega (arith, ints)
-positive (negsuc n) h = absurd (omega (arith, ints))
+high_is c = c.less-high.ensures ∙ ap₂ ◌-◌ c.forms-positive.ensures.high c.forms-negative.ensures.low
 
 pub returns-clause-ends : goal.returns-clause-ends
 returns-clause-ends c =
