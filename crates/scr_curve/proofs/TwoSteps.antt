@@ -1,5 +1,5 @@
 -- A product divided in two steps, by the front and the back digits of its first factor.
-use Rattle.std.proofs.Common.{◌≡◌, refl, ℕ, ◌+◌, ◌*◌, ◌/◌, ◌%◌, ◌^◌, min, ◌<◌, ◌≤◌, ap, sym, ◌∙◌, ℤ, pos, negsuc, ◌*ℤ◌, ◌≤ℤ◌, unsigned_abs, arith}
+use Rattle.std.proofs.Common.{◌≡◌, ℕ, ◌+◌, ◌*◌, ◌/◌, ◌%◌, ◌^◌, min, ◌<◌, ◌≤◌, ap, sym, ◌∙◌, ℤ, pos, negsuc, ◌-ℤ◌, ◌*ℤ◌, ◌≤ℤ◌, unsigned_abs, arith}
 use Rattle.std.proofs.lemmas.Nat.{div-mul-add, mod-mul-add, div-add-mod', mul-le, mod_below}
 use Rattle.std.proofs.lemmas.Int.{ints}
 use Rattle.std.specs.Int.{div_ceil}
@@ -57,14 +57,26 @@ module _ (discount growth : ℕ) (small : discount ≤ MAX_DISCOUNT) (least : 6_
         size = omega (arith, first, second);
       }
 
--- ---- the quotient rounded down, and up
+-- ---- the quotient rounded down
 pub down : (v : ℤ) (g q : ℕ) (x : ℤ) → pos 0 ≤ℤ v → x ≡ pos q → q ≡ unsigned_abs v * parts / g → x ≡ floor_div (v *ℤ pos parts) g
 down (pos n) g q x h is whole = is ∙ ap (λ (k : ℕ). pos k) whole
 down (negsuc n) g q x h is whole = absurd (omega (arith, ints, h))
 
-pub up : (v : ℤ) (g q r m : ℕ) (x : ℤ) → pos 0 ≤ℤ v → 0 < g → x ≡ pos (q + m) → m ≡ min r 1 → q ≡ unsigned_abs v * parts / g → r ≡ unsigned_abs v * parts % g
-    → x ≡ ceil_div (v *ℤ pos parts) g
-up v g q r m x h some is one whole left =
-    let more : m ≡ min 1 (unsigned_abs v * parts % g) = omega (arith, one, left) in
-    let sum : q + m ≡ div_ceil (unsigned_abs v * parts) g = rw (whole, more) refl in
-    is ∙ sym (ceil_div-positive v parts g (q + m) h some sum)
+-- ---- the quotient of a number so much larger, rounded up, by the quotient and the rest of the smaller one
+more-shares : (n w g q r more : ℕ) → 0 < g → q ≡ n * parts / g → r ≡ n * parts % g → more ≡ div_ceil (r + w * parts) g → q + more ≡ div_ceil ((n + w) * parts) g
+more-shares n w g q r more some whole left by =
+    let rest = r + w * parts in
+    let first : n * parts ≡ q * g + r = rw (whole, left) (sym (div-add-mod' (n * parts) g)) in
+    let all : (n + w) * parts ≡ (q + rest / g) * g + rest % g = omega (arith, first, div-add-mod' rest g) in
+    let less = mod_below rest g some in
+    let quotient : (n + w) * parts / g ≡ q + rest / g = rw all (div-mul-add (q + rest / g) g (rest % g) less) in
+    let remainder : (n + w) * parts % g ≡ rest % g = rw all (mod-mul-add (q + rest / g) g (rest % g) less) in
+    let shares : more ≡ rest / g + min 1 (rest % g) = by in
+    rw (quotient, remainder) (omega (arith, shares))
+
+pub up-by-width : (low high : ℤ) (w g q r more : ℕ) (x : ℤ) → pos 0 ≤ℤ low → 0 < g → pos w ≡ high -ℤ low → x ≡ pos (q + more) → q ≡ unsigned_abs low * parts / g → r ≡ unsigned_abs low * parts % g
+    → more ≡ div_ceil (r + w * parts) g → x ≡ ceil_div (high *ℤ pos parts) g
+up-by-width low high w g q r more x h some width is whole left by =
+    let size : unsigned_abs high ≡ unsigned_abs low + w = omega (arith, ints, h, width) in
+    let sum : q + more ≡ div_ceil (unsigned_abs high * parts) g = rw size (more-shares (unsigned_abs low) w g q r more some whole left by) in
+    is ∙ sym (ceil_div-positive high parts g (q + more) (omega (arith, ints, h, width)) some sum)

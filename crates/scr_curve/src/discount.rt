@@ -1,11 +1,12 @@
 //! The discounts that rates give.
 
-ghost use Rattle.std.specs.Prelude.{◌≡◌, ℕ, ℤ, ◌<◌, ◌≤◌, ◌+◌, ◌*◌, ◌/◌, ◌%◌, pos, ◌+ℤ◌, map, slice_index_or, All};
+ghost use Rattle.std.specs.Prelude.{◌≡◌, ℕ, ℤ, ◌<◌, ◌≤◌, ◌+◌, ◌*◌, ◌/◌, ◌%◌, pos, ◌+ℤ◌, ◌-ℤ◌, map, slice_index_or, All};
 ghost use Rattle.scr_num.specs.Fraction.{Fraction};
 ghost use Rattle.scr_num.specs.Rounding.{ends, or_zero, scale_ends};
+ghost use Rattle.scr_num.specs.Narrow.{IsNarrow};
 ghost use Rattle.scr_num.specs.declared.span.Span.{Span};
 ghost use Rattle.scr_curve.specs.Parts.{parts, IsRateInParts, AreRates};
-ghost use Rattle.scr_curve.specs.DiscountEnds.{discount_ends, table_ends, IsDiscount, EncloseDiscounts, AreAboutPowers};
+ghost use Rattle.scr_curve.specs.DiscountEnds.{discount_ends, discount_width, table_ends, IsDiscount, EncloseDiscounts, AreAboutPowers};
 ghost use Rattle.scr_curve.specs.declared.table.TheConstants.{MAX_DISCOUNT};
 
 use crate::Discounts;
@@ -88,19 +89,31 @@ fn growth_of(rate: i64) -> u64
     (PARTS + rate) as u64
 }
 
-/// A discount divided by one plus the rate, the low end rounded down and the high one up.
+/// A discount divided by one plus the rate, the low end rounded down and the high one up. Only the low end is divided in full:
+/// the high one is more than it by what the rest and the width come to.
 fn lessened(span: Span, growth: u64) -> Span
     requires discount { IsDiscount (ends span) }
+    requires narrow { IsNarrow discount_width (ends span) }
     requires least { 6_930_000_000 ≤ growth }
     requires most { growth ≤ 9_800_000_000 }
     ensures { ends result ≡ scale_ends (ends span) parts growth }
 {
-    let (low, _) = divided(span.low as u64, growth);
-    let (high, rest) = divided(span.high as u64, growth);
+    let (low, rest) = divided(span.low as u64, growth);
+    let more = (rest + width(span) * PARTS_IN_ONE).div_ceil(growth);
     Span {
         low: i128::from(low),
-        high: i128::from(high + rest.min(1)),
+        high: i128::from(low + more),
     }
+}
+
+/// By how much the ends of a discount are apart.
+fn width(span: Span) -> u64
+    requires discount { IsDiscount (ends span) }
+    requires narrow { IsNarrow discount_width (ends span) }
+    ensures value { pos result ≡ span.high -ℤ span.low }
+    ensures few { result ≤ 548 }
+{
+    (span.high - span.low) as u64
 }
 
 /// So many parts of a discount divided by one plus the rate, and what is left. In two steps, so that each product fits 64
@@ -111,6 +124,7 @@ fn divided(discount: u64, growth: u64) -> (u64, u64)
     requires most { growth ≤ 9_800_000_000 }
     ensures quotient { result.0 ≡ discount * parts / growth }
     ensures rest { result.1 ≡ discount * parts % growth }
+    ensures less { result.1 < growth }
     ensures size { result.0 ≤ 2_800_000_000_000_000_000 }
 {
     let front = discount / STEP * PARTS_IN_ONE;

@@ -1,6 +1,5 @@
 -- The share of so many cents of a unit, of which only the low end is divided.
-use Rattle.std.proofs.Common.{◌≡◌, ℕ, ◌+◌, ◌*◌, ◌/◌, ◌%◌, ◌<◌, ◌≤◌, min, ℤ, pos, ◌+ℤ◌, ◌*ℤ◌, unsigned_abs, arith, lit<}
-use Rattle.std.specs.Int.{div_ceil}
+use Rattle.std.proofs.Common.{◌≡◌, ℕ, ◌+◌, ◌*◌, ◌/◌, ◌<◌, ◌≤◌, ℤ, pos, ◌+ℤ◌, ◌*ℤ◌, unsigned_abs, arith, lit<}
 use Rattle.std.proofs.lemmas.Int.{ints, unsigned_abs-mul}
 use Rattle.std.proofs.lemmas.Nat.{mul-le}
 use Rattle.scr_num.specs.Rounding.{floor_div, ceil_div}
@@ -13,14 +12,13 @@ floor-is z q r is less =
     let next = floor_div-next z 1_000_000 (lit< tt) in
     omega (arith, ints, below, next, is, less)
 
-pub ceil-is : (low q : ℤ) (width cents r m : ℕ) → low *ℤ pos cents ≡ q *ℤ pos 1_000_000 +ℤ pos r → m ≡ div_ceil (r + width * cents) 1_000_000
+pub ceil-is : (low q : ℤ) (width cents r m : ℕ) → low *ℤ pos cents ≡ q *ℤ pos 1_000_000 +ℤ pos r → m ≡ (r + width * cents + 999_999) / 1_000_000
     → q +ℤ pos m ≡ ceil_div ((low +ℤ pos width) *ℤ pos cents) 1_000_000
 ceil-is low q width cents r m is more =
-    let whole : m ≡ (r + width * cents) / 1_000_000 + min 1 ((r + width * cents) % 1_000_000) = more in
     let all : (low +ℤ pos width) *ℤ pos cents ≡ low *ℤ pos cents +ℤ pos (width * cents) = sum-times low (pos width) (pos cents) in
     let above = ceil_div-times ((low +ℤ pos width) *ℤ pos cents) 1_000_000 (lit< tt) in
     let next = ceil_div-next ((low +ℤ pos width) *ℤ pos cents) 1_000_000 (lit< tt) in
-    omega (arith, ints, whole, all, is, above, next)
+    omega (arith, ints, more, all, is, above, next)
 
 -- a product with few cents, and the same lifted
 pub small-product : (unit : ℤ) (cents : ℕ) → unsigned_abs unit ≤ 13_700_000_000_000_000_000_000_000 → cents ≤ 4_294_967_295

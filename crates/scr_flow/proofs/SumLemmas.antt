@@ -1,5 +1,5 @@
 -- Sums of payments times spans: what they enclose, how a loop makes them, and how large they are.
-use Rattle.std.proofs.Common.{◌≡◌, ℕ, zero, suc, ◌+◌, ◌*◌, ◌<◌, ◌≤◌, refl, ap, sym, subst, ◌∙◌, List, [], ◌∷◌, length, get_or, drop, drop-cons, add-zero, add-one, mul-le-mul_right, ℤ, pos, negsuc, ◌+ℤ◌, ◌-ℤ◌, ◌*ℤ◌, ◌≤ℤ◌, ◌<ℤ◌, unsigned_abs, arith}
+use Rattle.std.proofs.Common.{◌≡◌, ℕ, zero, suc, ◌+◌, ◌-◌, ◌*◌, ◌<◌, ◌≤◌, refl, ap, sym, subst, ◌∙◌, List, [], ◌∷◌, length, get_or, drop, drop-cons, add-zero, add-one, mul-le-mul_right, ℤ, pos, negsuc, ◌+ℤ◌, ◌-ℤ◌, ◌*ℤ◌, ◌≤ℤ◌, ◌<ℤ◌, unsigned_abs, arith}
 use Rattle.std.specs.Prelude.{sum_by}
 use Rattle.std.proofs.lemmas.Int.{ints, unsigned_abs-mul}
 use Rattle.std.proofs.lemmas.List.{drop_all}
@@ -118,6 +118,11 @@ pub natural_ends : (flow : ℤ) (e : Ends) → pos 0 ≤ℤ flow → flow_ends f
 natural_ends (pos n) e h = refl
 natural_ends (negsuc n) e h = absurd (omega (arith, ints))
 
+-- a negative one exchanges them
+pub negative_ends : (flow : ℤ) (e : Ends) → flow <ℤ pos 0 → flow_ends flow e ≡ record { low = flow *ℤ e.high; high = flow *ℤ e.low }
+negative_ends (pos n) e h = absurd (omega (arith, ints))
+negative_ends (negsuc n) e h = refl
+
 -- ---- a loop over all places
 -- the most that one is worth
 abbrev pub most : ℕ
@@ -162,3 +167,20 @@ sum_kept i flows es sum z a same none h =
     let d = exact_ends (pos 0) in
     let term : d ≡ flow_ends (get_or flows i z) (get_or es i d) = rw none (sym (flow_zero (get_or es i d))) in
     subst (IsSumBefore (i + 1) flows es) (add_ends-zero sum) (sum_more i flows es sum d z d a same term (omega arith) (omega arith) h)
+
+-- the same over all places before another one
+sum_skipped : (n i : ℕ) (flows : List ℤ) (es : List Ends) (sum : Ends) → i + n ≤ length flows → length flows ≡ length es
+    → ((k : ℕ) → i ≤ k → k < i + n → get_or flows k (pos 0) ≡ pos 0) → IsSumBefore i flows es sum → IsSumBefore (i + n) flows es sum
+sum_skipped zero i flows es sum within same none h = let here : i ≡ i + zero = omega arith in subst (λ (k : ℕ). IsSumBefore k flows es sum) here h
+sum_skipped (suc n) i flows es sum within same none h =
+    let next = sum_kept i flows es sum (pos 0) (omega (arith, within)) same (none i (omega arith) (omega arith)) h in
+    let here : i + 1 + n ≡ i + suc n = omega arith in
+    subst (λ (k : ℕ). IsSumBefore k flows es sum) here
+    (sum_skipped n (i + 1) flows es sum (omega (arith, within)) same (λ k a b. none k (omega (arith, a)) (omega (arith, b))) next)
+
+pub sum_passed : (i j : ℕ) (flows : List ℤ) (es : List Ends) (sum : Ends) → i ≤ j → j ≤ length flows → length flows ≡ length es
+    → ((k : ℕ) → i ≤ k → k < j → get_or flows k (pos 0) ≡ pos 0) → IsSumBefore i flows es sum → IsSumBefore j flows es sum
+sum_passed i j flows es sum later within same none h =
+    let here : i + (j - i) ≡ j = omega (arith, later) in
+    subst (λ (k : ℕ). IsSumBefore k flows es sum) here
+    (sum_skipped (j - i) i flows es sum (omega (arith, later, within)) same (λ k a b. none k a (omega (arith, b, later))) h)

@@ -112,11 +112,8 @@ pub fn per_million(unit: Span, cents: u64) -> Span
     ensures ends { ends result ≡ scaled_ends (ends unit) cents }
     ensures size { IsWithin (13_700_000_000_000_000_000 * cents) (ends result) }
 {
-    if cents > FEW {
-        return by_millions(unit, cents);
-    }
     let width = width(unit);
-    if width > u128::from(FEW) {
+    if cents > FEW || width > u128::from(FEW) {
         return by_millions(unit, cents);
     }
     few_per_million(unit.low, width as u64, cents)
@@ -151,7 +148,7 @@ fn few_per_million(low: i128, width: u64, cents: u64) -> Span
     ensures { ends result ≡ scaled_ends (record { low = low; high = low +ℤ pos width }) cents }
 {
     let (floor, rest) = shared(low, cents);
-    let more = (rest + width * cents).div_ceil(1_000_000);
+    let more = (rest + width * cents + 999_999) / 1_000_000;
     Span {
         low: floor,
         high: floor + i128::from(more),

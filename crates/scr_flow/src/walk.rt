@@ -8,10 +8,10 @@ ghost use Rattle.scr_dates.specs.Payments.{total};
 ghost use Rattle.scr_flow.specs.Due.{dues, AreNear};
 ghost use Rattle.scr_flow.specs.Sums.{weighted_ends};
 
-use crate::falls::lost_at;
+use crate::falls::with_lost;
 use scr_curve::Falls;
 use scr_dates::Day;
-use scr_num::{Span, add, exact};
+use scr_num::{Span, exact};
 use scr_years::Years;
 
 /// What payments of at least 0 lose by two lists of falls, found in one walk along the payments. They need not be summed by
@@ -41,8 +41,8 @@ pub fn both_losses(
         let maturity = usize::from(years.until_after(last, *day));
         last = maturity;
         if maturity > 0 {
-            left = add(left, lost_at(first, maturity - 1, *amount));
-            right = add(right, lost_at(second, maturity - 1, *amount));
+            left = with_lost(left, first, maturity - 1, *amount);
+            right = with_lost(right, second, maturity - 1, *amount);
         }
     }
     (left, right)

@@ -38,3 +38,4 @@ pub mod GroupSums
 pub mod FallRows
 pub mod RowFigures
 pub mod GroupRows
+pub mod FirstCurve

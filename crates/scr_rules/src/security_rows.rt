@@ -1,11 +1,13 @@
 //! The figures of a security, from its row.
-ghost use Rattle.std.specs.Prelude.{◌≡◌, Some, [], ◌∷◌};
+ghost use Rattle.std.specs.Prelude.{◌≡◌, Some, [], ◌∷◌, is_some, slice_get, IfSome};
+ghost use Rattle.std.specs.Option.{option_map};
+ghost use Rattle.scr_names.specs.Tables.{has_row};
 ghost use Rattle.scr_num.specs.Amounts.{IsAmount};
 ghost use Rattle.scr_num.specs.Rounding.{ends};
 ghost use Rattle.scr_num.specs.Sizes.{IsWithin};
 ghost use Rattle.scr_factors.specs.Values.{FactorValues};
 ghost use Rattle.scr_profile.specs.declared.limits.TheConstants.{MAX_HELD};
-ghost use Rattle.scr_sheet.specs.BalanceSheet.{position_of};
+ghost use Rattle.scr_sheet.specs.BalanceSheet.{position_of, curve_name};
 ghost use Rattle.scr_sheet.specs.Validity.{Valid};
 ghost use Rattle.scr_nodes.specs.OwnOf.{own_of};
 ghost use Rattle.scr_nodes.specs.declared.node.Direction.TheVariants as directions;
@@ -20,11 +22,11 @@ ghost use Rattle.scr_rules.specs.Rules.{paid_ends};
 
 use crate::known::falls_of;
 use crate::market_rules::bond_loss;
-use crate::rules::scaled;
-use scr_book::{BalanceSheet, Book, Position};
+use crate::spans::amount;
+use scr_book::{BalanceSheet, Book, Name, Position};
 use scr_discounts::Rates;
 use scr_factors::Factors;
-use scr_flow::both_losses;
+use scr_flow::{both_losses, per_million};
 use scr_nodes::Direction;
 use scr_num::Span;
 
@@ -62,8 +64,9 @@ pub fn security_losses(
         (ends total ∷ ends result.unit_down ∷ []) }
 {
     let (unit_up, unit_down) = unit_losses(book.sheet(), rates, position);
-    let rate_up = scaled(&[total, unit_up]);
-    let rate_down = scaled(&[total, unit_down]);
+    let cents = amount(total);
+    let rate_up = per_million(unit_up, cents);
+    let rate_down = per_million(unit_down, cents);
     SecurityLosses {
         unit_up,
         unit_down,
@@ -87,12 +90,24 @@ pub(crate) fn unit_losses(sheet: &BalanceSheet, rates: &Rates, position: &Positi
     ensures up_within { IsWithin 13_700_000_000_000_000_000_000_000 (ends result.0) }
     ensures down_within { IsWithin 13_700_000_000_000_000_000_000_000 (ends result.1) }
 {
-    let Some(place) = sheet.curves.place(&position.security.currency) else {
+    let Some(place) = curve_place(sheet, &position.security.currency) else {
         unreachable!()
     };
     let up = falls_of(rates, place, Direction::Up);
     let down = falls_of(rates, place, Direction::Down);
     both_losses(&rates.years, position.security.flows.as_slice(), up, down)
+}
+
+/// The place of the curve of a currency. The first curve is tried before a name is looked up, since most securities are in its
+/// currency.
+fn curve_place(sheet: &BalanceSheet, currency: &Name) -> Option<usize>
+    ensures there { is_some result ≡ has_row curve_name currency.now sheet.now.curves }
+    ensures place { IfSome result (λ k. option_map curve_name (slice_get sheet.now.curves k) ≡ Some currency.now) }
+{
+    if !sheet.curves.is_empty() && sheet.curves.at(0).currency == *currency {
+        return Some(0);
+    }
+    sheet.curves.place(currency)
 }
 
 /// What the bond in a row loses, of which so much is held in all, in grains. The row is that of its name.

@@ -1,3 +1,6 @@
+use Rattle.std.proofs.Common.{◌*◌, arith}
+use Rattle.std.proofs.lemmas.Nat.{mod_below}
+use Rattle.scr_curve.specs.Parts.{parts}
 use Rattle.scr_curve.proofs.TwoSteps.{two-steps}
 use Rattle.scr_curve.proofs.discount.divided.Goals as goal
 
@@ -9,3 +12,8 @@ returns-clause-rest c = (two-steps c.args.discount c.args.growth c.requires.smal
 
 pub returns-clause-size : goal.returns-clause-size
 returns-clause-size c = (two-steps c.args.discount c.args.growth c.requires.small c.requires.least c.requires.most).size
+
+pub returns-clause-less : goal.returns-clause-less
+returns-clause-less c =
+    let rest = (two-steps c.args.discount c.args.growth c.requires.small c.requires.least c.requires.most).rest in
+    rw rest (mod_below (c.args.discount * parts) c.args.growth (omega (arith, c.requires.least)))

@@ -1,10 +1,11 @@
-use Rattle.std.proofs.Common.{◌≡◌, ◌-◌, ◌+◌, ◌<◌, ◌≤◌, ℕ, ℤ, pos, FitsSigned, w64, length, get_or, to_z-of_z, arith, rules, sym, ◌∙◌}
+use Rattle.std.proofs.Common.{◌≡◌, ◌-◌, ◌+◌, ◌<◌, ◌≤◌, ℕ, ℤ, pos, FitsSigned, w64, length, get_or, to_z-of_z, arith, rules, refl, sym, ◌∙◌}
 use Rattle.scr_num.specs.Rounding.{ends, exact_ends}
 use Rattle.scr_dates.specs.declared.day.Day.{Day}
 use Rattle.scr_dates.specs.Years.{maturity_of}
 use Rattle.scr_dates.specs.declared.term.Maturity.TheVariants.{TooFar}
 use Rattle.scr_flow.proofs.OneValue.{years-within}
 use Rattle.scr_flow.proofs.DueLemmas.{past-of, due-of}
+use Rattle.scr_flow.specs.Sums.{flow_ends}
 use Rattle.scr_flow.proofs.WalkLemmas.{IsLostBefore, lost-begun, lost-past, lost-due, lost-ended, amount-small}
 use Rattle.scr_flow.proofs.walk.both_losses.Goals as goal
 use Rattle.scr_flow.proofs.walk.both_losses.Goals.{then-maturity-gt0, else-maturity-gt0}
@@ -24,23 +25,23 @@ loop-day-init c =
 pub until_after-requires-clause-near : goal.until_after-requires-clause-near
 until_after-requires-clause-near c = λ years. c.requires.near c.loop-day.day-index nobody (omega arith) years
 
-pub lost_at-requires-clause-flow_in : goal.lost_at-requires-clause-flow_in
-lost_at-requires-clause-flow_in c =
+pub with_lost-left-requires-clause-flow_in : goal.with_lost-left-requires-clause-flow_in
+with_lost-left-requires-clause-flow_in c =
     let amount : FitsSigned w64 (get_or c.args.pairs.now c.loop-day.day-index nobody).1 = search rules in
     simp to_z-of_z (omega (arith, amount-small c.loop-day.day-index c.args.pairs.now nobody (omega arith), c.requires.small))
 
-pub lost_at-requires-then-maturity-gt0-clause-flow_in : goal.lost_at-requires-then-maturity-gt0-clause-flow_in
-lost_at-requires-then-maturity-gt0-clause-flow_in c =
-    let amount : FitsSigned w64 (get_or c.args.pairs.now c.loop-day.day-index nobody).1 = search rules in
-    simp to_z-of_z (omega (arith, amount-small c.loop-day.day-index c.args.pairs.now nobody (omega arith), c.requires.small))
-
-pub lost_at-requires-clause-not_negative : goal.lost_at-requires-clause-not_negative
-lost_at-requires-clause-not_negative c =
+pub with_lost-left-requires-clause-not_negative : goal.with_lost-left-requires-clause-not_negative
+with_lost-left-requires-clause-not_negative c =
     let amount : FitsSigned w64 (get_or c.args.pairs.now c.loop-day.day-index nobody).1 = search rules in
     simp to_z-of_z (c.requires.none_owed c.loop-day.day-index nobody (omega arith))
 
-pub lost_at-requires-then-maturity-gt0-clause-not_negative : goal.lost_at-requires-then-maturity-gt0-clause-not_negative
-lost_at-requires-then-maturity-gt0-clause-not_negative c =
+pub with_lost-right-requires-clause-flow_in : goal.with_lost-right-requires-clause-flow_in
+with_lost-right-requires-clause-flow_in c =
+    let amount : FitsSigned w64 (get_or c.args.pairs.now c.loop-day.day-index nobody).1 = search rules in
+    simp to_z-of_z (omega (arith, amount-small c.loop-day.day-index c.args.pairs.now nobody (omega arith), c.requires.small))
+
+pub with_lost-right-requires-clause-not_negative : goal.with_lost-right-requires-clause-not_negative
+with_lost-right-requires-clause-not_negative c =
     let amount : FitsSigned w64 (get_or c.args.pairs.now c.loop-day.day-index nobody).1 = search rules in
     simp to_z-of_z (c.requires.none_owed c.loop-day.day-index nobody (omega arith))
 
@@ -60,13 +61,14 @@ loop-day-preserved c =
           let place = c.from-maturity.result - 1 in
           let few : place < 100 = omega (arith, some, most) in
           let due = due-of (maturity_of asof (get_or pairs i nobody).0.number) (1 + place) near (omega arith) (sym years ∙ omega (arith, some)) in
-          let e = exact_ends (pos 0) in (
-            rw (w.left-is, w.add-left.ensures.ends)
-                (lost-due i asof pairs c.args.first.now (ends c.loop-day.left) nobody inside c.requires.none_owed c.loop-day.invariant.0 place (ends w.lost_at.result) e due few w.lost_at.ensures.count
-                (simp to_z-of_z at (w.lost_at.ensures.ends e)) (simp to_z-of_z at w.lost_at.ensures.low_size) (simp to_z-of_z at w.lost_at.ensures.high_size)),
-            rw (w.right-is, w.add-right.ensures.ends)
-                (lost-due i asof pairs c.args.second.now (ends c.loop-day.right) nobody inside c.requires.none_owed c.loop-day.invariant.1 place (ends w.lost_at-then-maturity-gt0.result) e due few w.lost_at-then-maturity-gt0.ensures.count
-                (simp to_z-of_z at (w.lost_at-then-maturity-gt0.ensures.ends e)) (simp to_z-of_z at w.lost_at-then-maturity-gt0.ensures.low_size) (simp to_z-of_z at w.lost_at-then-maturity-gt0.ensures.high_size)),
+          let e = exact_ends (pos 0) in
+          let flow = (get_or pairs i nobody).1 in (
+            rw (w.left-is, simp to_z-of_z at (w.with_lost-left.ensures.ends e))
+                (lost-due i asof pairs c.args.first.now (ends c.loop-day.left) nobody inside c.requires.none_owed c.loop-day.invariant.0 place (flow_ends flow (get_or c.args.first.now place e)) e due few w.with_lost-left.ensures.count
+                refl (simp to_z-of_z at (w.with_lost-left.ensures.low_size e)) (simp to_z-of_z at (w.with_lost-left.ensures.high_size e))),
+            rw (w.right-is, simp to_z-of_z at (w.with_lost-right.ensures.ends e))
+                (lost-due i asof pairs c.args.second.now (ends c.loop-day.right) nobody inside c.requires.none_owed c.loop-day.invariant.1 place (flow_ends flow (get_or c.args.second.now place e)) e due few w.with_lost-right.ensures.count
+                refl (simp to_z-of_z at (w.with_lost-right.ensures.low_size e)) (simp to_z-of_z at (w.with_lost-right.ensures.high_size e))),
           )
       | else-maturity-gt0 w ↦
           let none : c.from-maturity.result ≡ 0 = omega (arith, w.if-maturity-gt0.false) in
