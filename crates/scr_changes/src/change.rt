@@ -1,7 +1,7 @@
 //! What a record exchanges.
 
 use scr_dates::Day;
-use scr_sheet::{Bank, Curve, Group, Liability, Name, Numbers, Position, Rein, Stake};
+use scr_sheet::{Bank, BoxedNumbers, Curve, Group, Liability, Name, Position, Rein, Stake};
 
 /// One row of one table, under its name, with the row that takes its place, if one does; or the
 /// reference date with the reporting currency; or the other single numbers.
@@ -24,5 +24,5 @@ pub enum Change {
     /// The reference date and the reporting currency.
     Asof(Day, Name),
     /// The other single numbers.
-    Numbers(Numbers),
+    Numbers(BoxedNumbers),
 }

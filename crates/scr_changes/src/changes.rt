@@ -13,8 +13,8 @@ ghost use Rattle.scr_changes.specs.Changes.{change_of, hold_change, absorb_chang
 use crate::change::Change;
 use scr_profile::GroupKind;
 use scr_sheet::{
-    AbsorbKey, BalanceSheet, Bank, Class, Components, Copied, Curve, Edit, Flows, Fund, Group,
-    Liability, LiabilityFlows, LiabilityKind, Name, Numbers, Position, Projection, Rates, Rein,
+    AbsorbKey, BalanceSheet, Bank, BoxedNumbers, Class, Components, Copied, Curve, Edit, Flows,
+    Fund, Group, Liability, LiabilityFlows, LiabilityKind, Name, Position, Projection, Rates, Rein,
     Security, Stake, Table, natural,
 };
 use std::alloc::{AllocError as NoMemory, Global};
@@ -60,7 +60,7 @@ pub fn change_of(alloc: Global, sheet: &BalanceSheet, edit: &Edit) -> Result<Cha
         } => Ok(of_rein(name, group, *recoverables, *mitigation, *collateral)),
         Edit::Bank { name, group, cents } => Ok(of_bank(name, group, *cents)),
         Edit::Remove { table, name } => Ok(of_drop(*table, name)),
-        _ => Ok(of_numbers(sheet, edit)),
+        _ => of_numbers(alloc, sheet, edit),
     }
 }
 
@@ -118,14 +118,14 @@ fn of_drop(table: Table, name: &Name) -> Change
     }
 }
 
-fn of_numbers(sheet: &BalanceSheet, edit: &Edit) -> Change
+fn of_numbers(alloc: Global, sheet: &BalanceSheet, edit: &Edit) -> Result<Change, NoMemory>
     requires formed { Formed edit.now }
     requires within { fields_outside edit.now ≡ None }
-    ensures { result ≡ changes.Numbers (applied edit.now sheet.now).numbers }
+    ensures { IfOk result (λ change. change ≡ changes.Numbers (applied edit.now sheet.now).numbers) }
 {
     let mut numbers = sheet.numbers;
     numbers.put(edit);
-    Change::Numbers(numbers)
+    Ok(Change::Numbers(BoxedNumbers::new(alloc, &numbers)?))
 }
 
 fn of_curve(
@@ -343,7 +343,7 @@ fn of_absorb(
         _ => {
             let mut numbers = sheet.numbers;
             numbers.put_absorb(key, cents);
-            Ok(Change::Numbers(numbers))
+            Ok(Change::Numbers(BoxedNumbers::new(alloc, &numbers)?))
         }
     }
 }

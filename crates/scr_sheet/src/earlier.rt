@@ -5,8 +5,8 @@ ghost use Rattle.scr_sheet.specs.Verbs.{changes_numbers_alone};
 ghost use Rattle.scr_sheet.specs.Validity.{Valid};
 
 use crate::{
-    AbsorbKey, BalanceSheet, Bank, Curve, Edit, Group, Liability, Name, Numbers, Past, Position,
-    Rein, Stake, Table,
+    AbsorbKey, BalanceSheet, Bank, BoxedNumbers, Curve, Edit, Group, Liability, Name, Past,
+    Position, Rein, Stake, Table,
 };
 use std::alloc::{AllocError as NoMemory, Global};
 
@@ -20,7 +20,7 @@ pub enum Earlier {
     Banks(Past<Bank>),
     Reinsurers(Past<Rein>),
     Curves(Past<Curve>),
-    Numbers(Numbers),
+    Numbers(BoxedNumbers),
 }
 
 impl BalanceSheet {
@@ -37,7 +37,7 @@ impl BalanceSheet {
             Earlier::Banks(past) => self.banks.put_back(past),
             Earlier::Reinsurers(past) => self.reinsurers.put_back(past),
             Earlier::Curves(past) => self.curves.put_back(past),
-            Earlier::Numbers(numbers) => self.numbers = numbers,
+            Earlier::Numbers(numbers) => self.numbers = numbers.into_inner(),
         }
     }
 
@@ -71,7 +71,7 @@ impl BalanceSheet {
             Edit::Hold { name, .. } => self.before_hold(alloc, name),
             Edit::Absorb { key, .. } => self.before_absorb(alloc, *key),
             Edit::Remove { table, name } => self.before_remove(alloc, *table, name),
-            _ => Ok(self.before_numbers(edit)),
+            _ => self.before_numbers(alloc, edit),
         }
     }
 
@@ -97,15 +97,15 @@ impl BalanceSheet {
             AbsorbKey::CurrencyDown(currency) => {
                 Ok(Earlier::Curves(self.curves.before_put(alloc, &currency)?))
             }
-            _ => Ok(Earlier::Numbers(self.numbers)),
+            _ => Ok(Earlier::Numbers(BoxedNumbers::new(alloc, &self.numbers)?)),
         }
     }
 
-    fn before_numbers(&self, edit: &Edit) -> Earlier
+    fn before_numbers(&self, alloc: Global, edit: &Edit) -> Result<Earlier, NoMemory>
         requires { changes_numbers_alone edit.now ≡ true }
-        ensures { LeadsBack result edit.now self.now }
+        ensures { IfOk result (λ earlier. LeadsBack earlier edit.now self.now) }
     {
-        Earlier::Numbers(self.numbers)
+        Ok(Earlier::Numbers(BoxedNumbers::new(alloc, &self.numbers)?))
     }
 
     fn before_remove(&self, alloc: Global, table: Table, name: &Name) -> Result<Earlier, NoMemory>

@@ -1,6 +1,7 @@
 //! An insurer's balance sheet: its rows and numbers, the records that change it, and what each record makes of it.
 #![tactic(auto)]
 
+mod boxed;
 mod checks;
 mod copies;
 mod earlier;
@@ -19,6 +20,7 @@ mod sheet;
 mod users;
 mod writes;
 
+pub use boxed::BoxedNumbers;
 pub use checks::{check_kinds, check_lists, check_names, check_uses};
 pub use earlier::Earlier;
 pub use edit::Edit;

@@ -166,7 +166,7 @@ fn touches(sheet: &BalanceSheet, change: &Change, shares: &Shares, node: &Node) 
             curve_touches(sheet, name, sheet.curves.get(name), new.as_ref(), node)
         }
         Change::Asof(date, currency) => date_touches(sheet, *date, currency, node),
-        Change::Numbers(numbers) => numbers_touch(&sheet.numbers, numbers, node),
+        Change::Numbers(numbers) => numbers_touch(&sheet.numbers, numbers.get(), node),
     }
 }
 
