@@ -1,13 +1,13 @@
 -- What a place that joins the end of a list changes, and one that leaves it.
-use Rattle.std.proofs.Common.{◌≡◌, ℕ, ◌+◌, ◌<◌, ◌≤◌, true, false, cond, List, [], ◌∷◌, ◌++◌, length, get_or, set, eqb, refl, ap, sym, ◌∙◌, ⊎_elim, subst, arith, eqb-true, eq-eqb, ne_eqb}
+use Rattle.std.proofs.Common.{◌≡◌, ℕ, ◌+◌, ◌<◌, ◌≤◌, true, false, cond, List, [], ◌∷◌, ◌++◌, length, get_or, eqb, refl, ap, sym, ◌∙◌, ⊎_elim, subst, arith, eqb-true, eq-eqb, ne_eqb}
 use Rattle.std.proofs.lemmas.Bool.{cases_Bool, both_ways, false_from_ne_true}
 use Rattle.scr_links.specs.Places.{has, AreApart, without}
-use Rattle.scr_links.specs.Chains.{Chained, none, unlinked, empty, link_at, ends_at, list_of, next_in, previous_in, IsChain, AreChains, SetsNext, SetsPrevious}
+use Rattle.scr_links.specs.Chains.{Chained, none, unlinked, link_at, ends_at, list_of, next_in, previous_in, IsChain, AreChains, SetsNext, SetsPrevious}
 use Rattle.scr_links.specs.declared.{chains.Link.Link, chains.Ends.Ends}
 use Rattle.scr_links.proofs.Lists.{has-first, has-self, has-later, has-cases, differ, push-cases, AreApart-push, has-without, has-without_self, length-without, AreApart-without}
 use Rattle.scr_links.proofs.Rings.{joined_ring, left_ring, before_end, before_inside, after_inside}
-use Rattle.std.proofs.lemmas.List.{get_or_default, get_or-set_same, get_or-set_other}
-use Rattle.scr_links.proofs.Linked.{Kept, kept, listed_below, previous_in-none, previous_in-place, next_in-place, none_outside, chain_apart, Changes}
+use Rattle.std.proofs.lemmas.List.{get_or_default}
+use Rattle.scr_links.proofs.Linked.{Kept, kept, previous_in-none, previous_in-place, next_in-place, none_outside, chain_apart, Changes}
 
 differ_back : (one other : ℕ) (places : List ℕ) → has one places ≡ true → has other places ≡ false
     → eqb other one ≡ false
@@ -247,63 +247,45 @@ module _ (before : Chained) (list place : ℕ) (chains : AreChains before) where
 
 -- ---- the same, of what contracts see of the lists
 
-abbrev rewritten : Chained → ℕ → List Link → Ends → Chained
-rewritten before list links ends = record { links = links; ends = set before.ends list ends }
-
 module _ (value before : Chained) (list place : ℕ) (same : before ≡ value) (chains : AreChains before)
-    (first : Ends) (found : first ≡ get_or before.ends list first) where
-  module _ (low : list < length value.ends) where
-    low_before : list < length before.ends
-    low_before = let long = ap (λ (v : Chained). length v.ends) same in omega arith
+    (first : Ends) (first_is : first ≡ ends_at before.ends list) where
+  ring_place : (x : ℕ) → has x (none ∷ list_of before list) ≡ true → eqb x none ≡ false → x < length before.links
+  ring_place x h f = linked_place before.links (ends_at before.ends list) (list_of before list) x
+      (chains.each list) h f
 
-    first_is : first ≡ ends_at before.ends list
-    first_is = found ∙ get_or_default before.ends list first empty low_before
+  pub last_linked : eqb first.last none ≡ false → first.last < length before.links
+  last_linked f =
+      let P : Ends → Type 0 = λ e. eqb e.last none ≡ false → e.last < length before.links in
+      subst P (sym first_is) (ring_place _
+      (last_in_ring before.links (ends_at before.ends list) (list_of before list) (chains.each list))) f
 
-    here : (links : List Link) (ends : Ends) → ends ≡ ends_at (rewritten before list links ends).ends list
-    here links ends = sym (get_or-set_same before.ends list ends empty low_before)
-
-    there : (ends : Ends) (number : ℕ) → eqb number list ≡ false
-        → ends_at (set before.ends list ends) number ≡ ends_at before.ends number
-    there ends number f =
-        get_or-set_other before.ends list number ends empty (λ e. both_ways _ f (eq-eqb number list e))
-
-    ring_place : (x : ℕ) → has x (none ∷ list_of before list) ≡ true → eqb x none ≡ false → x < length before.links
-    ring_place x h f = linked_place before.links (ends_at before.ends list) (list_of before list) x
-        (chains.each list) h f
-
-    pub last_linked : eqb first.last none ≡ false → first.last < length before.links
-    last_linked f =
-        let P : Ends → Type 0 = λ e. eqb e.last none ≡ false → e.last < length before.links in
-        subst P (sym first_is) (ring_place _
-        (last_in_ring before.links (ends_at before.ends list) (list_of before list) (chains.each list))) f
-
+  -- the ends of this list are other ones now
+  module _ (now : Chained) (last : Ends) (here : last ≡ ends_at now.ends list)
+      (there : (number : ℕ) → eqb number list ≡ false → ends_at now.ends number ≡ ends_at before.ends number) where
     pub appended : ((number : ℕ) → has place (list_of value number) ≡ false) → place < length value.links
-        → (one two three four : List Link) (second third fourth last : Ends)
+        → (one two three : List Link) (second third fourth : Ends)
         → SetsNext first.last place before.links first one second → SetsPrevious none place one second two third
-        → SetsNext place none two third three fourth → SetsPrevious place first.last three fourth four last
-        → Kept value (rewritten before list four last) list (list_of value list ++ place ∷ [])
-    appended free linked one two three four second third fourth last step_one step_two step_three step_four =
+        → SetsNext place none two third three fourth → SetsPrevious place first.last three fourth now.links last
+        → Kept value now list (list_of value list ++ place ∷ [])
+    appended free linked one two three second third fourth step_one step_two step_three step_four =
         let long = ap (λ (v : Chained). length v.links) same in
         let there_is : place < length before.links = omega (arith, long) in
-        let P : List ℕ → Type 0 = λ these. Kept value (rewritten before list four last) list (these ++ place ∷ []) in
+        let P : List ℕ → Type 0 = λ these. Kept value now list (these ++ place ∷ []) in
         let Q : Ends → Type 0 = λ e. SetsNext e.last place before.links e one second in
-        let R : Ends → Type 0 = λ e. SetsPrevious place (ends_at before.ends list).last three fourth four e in
-        let S : Ends → Type 0 = λ e. SetsPrevious place e.last three fourth four last in
+        let R : Ends → Type 0 = λ e. SetsPrevious place (ends_at before.ends list).last three fourth now.links e in
+        let S : Ends → Type 0 = λ e. SetsPrevious place e.last three fourth now.links last in
         subst P (ap (λ (v : Chained). list_of v list) same)
-        (kept value before (rewritten before list four last) list _ same chains
+        (kept value before now list _ same chains
         (joined before list place chains
         (λ number. ap (λ (v : Chained). has place (list_of v number)) same ∙ free number) there_is
-        one two three second third fourth (rewritten before list four last)
+        one two three second third fourth now
         (subst Q first_is step_one) step_two step_three
-        (subst R (here four last) (subst S first_is step_four)) (there last)))
+        (subst R here (subst S first_is step_four)) there))
 
   module _ (inside : has place (list_of value list) ≡ true) (link : Link)
       (is_link : link ≡ get_or before.links place link) where
     inside_before : has place (list_of before list) ≡ true
     inside_before = ap (λ (v : Chained). has place (list_of v list)) same ∙ inside
-
-    pub list_there : list < length value.ends
-    list_there = listed_below value list place inside
 
     link_is : link ≡ link_at before.links place
     link_is = is_link ∙ get_or_default before.links place link unlinked ((chains.each list).within place inside_before)
@@ -311,31 +293,33 @@ module _ (value before : Chained) (list place : ℕ) (same : before ≡ value) (
     pub previous_linked : eqb link.previous none ≡ false → link.previous < length before.links
     previous_linked f =
         let P : Link → Type 0 = λ l. eqb l.previous none ≡ false → l.previous < length before.links in
-        subst P (sym link_is) (ring_place list_there _
+        subst P (sym link_is) (ring_place _
         (previous_in_ring before.links (ends_at before.ends list) chains.few (list_of before list)
         (chains.each list) place inside_before)) f
 
     pub next_linked : eqb link.next none ≡ false → link.next < length before.links
     next_linked f =
         let P : Link → Type 0 = λ l. eqb l.next none ≡ false → l.next < length before.links in
-        subst P (sym link_is) (ring_place list_there _
+        subst P (sym link_is) (ring_place _
         (next_in_ring before.links (ends_at before.ends list) chains.few (list_of before list)
         (chains.each list) place inside_before)) f
 
-    pub removed : (one two : List Link) (second last : Ends)
+    pub removed : (now : Chained) (last : Ends) → last ≡ ends_at now.ends list
+        → ((number : ℕ) → eqb number list ≡ false → ends_at now.ends number ≡ ends_at before.ends number)
+        → (one : List Link) (second : Ends)
         → SetsNext link.previous link.next before.links first one second
-        → SetsPrevious link.next link.previous one second two last
-        → Kept value (rewritten before list two last) list (without place (list_of value list))
-    removed one two second last step_one step_two =
-        let P : List ℕ → Type 0 = λ these. Kept value (rewritten before list two last) list (without place these) in
+        → SetsPrevious link.next link.previous one second now.links last
+        → Kept value now list (without place (list_of value list))
+    removed now last here there one second step_one step_two =
+        let P : List ℕ → Type 0 = λ these. Kept value now list (without place these) in
         let Q : Ends → Type 0 = λ e. SetsNext link.previous link.next before.links e one second in
-        let R : Ends → Type 0 = λ e. SetsPrevious link.next link.previous one second two e in
+        let R : Ends → Type 0 = λ e. SetsPrevious link.next link.previous one second now.links e in
         subst P (ap (λ (v : Chained). list_of v list) same)
-        (kept value before (rewritten before list two last) list _ same chains
-        (left before list place chains inside_before one second (rewritten before list two last)
+        (kept value before now list _ same chains
+        (left before list place chains inside_before one second now
         link.previous link.next (ap (λ (l : Link). l.previous) link_is) (ap (λ (l : Link). l.next) link_is)
-        (subst Q (first_is list_there) step_one)
-        (subst R (here list_there two last) step_two) (there list_there last)))
+        (subst Q first_is step_one)
+        (subst R here step_two) there))
 
 -- what leaves its list is in none
 pub gone : (value before now : Chained) (list place : ℕ) → before ≡ value → AreChains before

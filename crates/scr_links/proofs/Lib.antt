@@ -1,3 +1,4 @@
+pub mod Seats
 pub mod Lists
 pub mod Rings
 pub mod Linked

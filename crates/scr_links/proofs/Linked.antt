@@ -1,7 +1,7 @@
 -- Lists of places that are linked both ways: their places, one after the other, and a change to one of the lists.
 use Rattle.std.proofs.Common.{◌≡◌, ℕ, zero, suc, ◌<◌, ◌≤◌, true, false, cond, List, [], ◌∷◌, length, set, eqb, refl, ap, sym, ◌∙◌, ⊎_elim, subst, arith, eqb-true, eq-eqb, ne_eqb}
 use Rattle.std.proofs.lemmas.Bool.{cases_Bool, cases_lt, both_ways, cond-true, cond-false}
-use Rattle.std.proofs.lemmas.List.{get_or_past, get_or-set_same, get_or-set_other, length-set}
+use Rattle.std.proofs.lemmas.List.{get_or-set_same, get_or-set_other, length-set}
 use Rattle.scr_links.specs.Places.{has, AreApart}
 use Rattle.scr_links.specs.Chains.{Chained, none, empty, link_at, ends_at, places_from, list_of, next_in, previous_in, Path, IsChain, Leads, AreChains, unlinked, SetsNext, SetsPrevious}
 use Rattle.scr_links.specs.declared.{chains.Link.Link, chains.Ends.Ends}
@@ -295,14 +295,13 @@ lists_without chains few ends = record {
   few = few;
 }
 
--- a list of which a place is known has a number below the count of the lists
-pub listed_below : (chains : Chained) (number place : ℕ) → has place (list_of chains number) ≡ true
-    → number < length chains.ends
-listed_below chains number place h = ⊎_elim
+-- a list of which a place is known has ends
+pub listed_below : (chains : Chained) (number place room : ℕ) → has place (list_of chains number) ≡ true
+    → (room ≤ number → ends_at chains.ends number ≡ empty) → number < room
+listed_below chains number place room h past = ⊎_elim
     (λ low. low)
-    (λ high. absurd (both_ways _
-    (ap (has place) (list_without chains number (get_or_past chains.ends number empty high)) ∙ has-none place) h))
-    (cases_lt number (length chains.ends))
+    (λ high. absurd (both_ways _ (ap (has place) (list_without chains number (past high)) ∙ has-none place) h))
+    (cases_lt number room)
 
 module _ (before now : Chained) (chains : AreChains before) (few : length now.links ≤ none)
     (links : (place : ℕ) → link_at now.links place ≡ link_at before.links place)

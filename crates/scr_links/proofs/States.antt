@@ -410,7 +410,7 @@ module _ (now : Inside) (order : (number : ℕ) → list_of now.tables.order num
     (sources : (number : ℕ) → list_of now.tables.by_source number ≡ [])
     (dependants : (number : ℕ) → list_of now.tables.by_dependant number ≡ [])
     (no_places : now.places ≡ 0) (no_spare : now.spare ≡ 0) (no_size : now.size ≡ 0)
-    (two_lists : 2 ≤ length now.tables.order.ends) where
+    (two_lists : 2 ≤ now.tables.order.room) where
   nothing : (number x : ℕ) → has x (list_of now.tables.order number) ≡ true → ⊥
   nothing number x h = both_ways _ (ap (has x) (order number) ∙ has-none x) h
 
@@ -452,7 +452,7 @@ one_freed before order now from place freed joins = record {
       (λ f. let low = freed.placed number x (sym (ap (has x) (joins.others number f)) ∙ h) in omega (arith, low))
       (cases_Bool (eqb number 1));
   places = joins.places ∙ freed.places;
-  numbers = joins.numbers ∙ freed.numbers;
+  numbers = omega (arith, joins.numbers, freed.numbers);
 }
 
 -- ---- what is read

@@ -1,16 +1,24 @@
 -- Lists of places that are linked both ways (this project's own): a link to each place's neighbours, and the ends of
 -- each list. What no place follows or precedes links to `none`.
-use Rattle.std.specs.Prelude.{◌≡◌, ℕ, zero, suc, ◌+◌, ◌==◌, ◌++◌, ◌<◌, ◌≤◌, true, false, List, [], ◌∷◌, length}
+use Rattle.std.specs.Prelude.{◌≡◌, ℕ, zero, suc, ◌+◌, ◌*◌, ◌/◌, ◌%◌, ◌==◌, ◌++◌, ◌<◌, ◌≤◌, true, false, List, [], ◌∷◌, length}
 use Rattle.std.specs.Prelude.{slice_index_or}
 use Rattle.std.specs.Prelude.{if◌then◌else◌}
 use Rattle.scr_links.specs.declared.chains.Link.{Link}
 use Rattle.scr_links.specs.declared.chains.Ends.{Ends}
 use Rattle.scr_links.specs.Places.{has, without, AreApart}
 
--- the links by place, and the ends by the number of the list
+-- the ends of lists, by blocks of four neighbours: of each block its place among those that are written, none of one that is not, the
+-- ends of those written, one block behind another, and for how many lists there is room
+pub record EndsByList : Type 0 where
+  pub seats : List ℕ
+  pub written : List Ends
+  pub room : ℕ
+
+-- the links by place, the ends by the number of the list, and for how many lists there is room
 pub record Chained : Type 0 where
   pub links : List Link
-  pub ends : List Ends
+  pub ends : EndsByList
+  pub room : ℕ
 
 abbrev pub none : ℕ
 none = 4294967295
@@ -24,8 +32,18 @@ empty = record { first = none; last = none }
 abbrev pub link_at : List Link → ℕ → Link
 link_at links place = slice_index_or links place unlinked
 
-abbrev pub ends_at : List Ends → ℕ → Ends
-ends_at ends number = slice_index_or ends number empty
+abbrev pub seat_at : List ℕ → ℕ → ℕ
+seat_at seats block = slice_index_or seats block none
+
+abbrev pub written_at : List Ends → ℕ → Ends
+written_at ends place = slice_index_or ends place empty
+
+-- the ends of a list in its block, behind the last one written if that is not
+abbrev pub ends_in : List ℕ → List Ends → ℕ → Ends
+ends_in seats written number = written_at written (seat_at seats (number / 4) * 4 + number % 4)
+
+abbrev pub ends_at : EndsByList → ℕ → Ends
+ends_at ends number = ends_in ends.seats ends.written number
 
 -- the places from this one on, at most so many
 abbrev pub places_from : List Link → ℕ → ℕ → List ℕ
@@ -89,7 +107,7 @@ pub record Appended (before now : Chained) (list place : ℕ) : Type 0 where
   pub listed : list_of now list ≡ list_of before list ++ place ∷ []
   pub others : (number : ℕ) → (number == list) ≡ false → list_of now number ≡ list_of before number
   pub places : length now.links ≡ length before.links
-  pub numbers : length now.ends ≡ length before.ends
+  pub numbers : before.room ≤ now.room
   pub few : length (list_of now list) ≤ none
 
 -- the place is in no list now, and what else was in the lists stays
@@ -99,4 +117,4 @@ pub record Removed (before now : Chained) (list place : ℕ) : Type 0 where
   pub gone : (number : ℕ) → has place (list_of now number) ≡ false
   pub others : (number : ℕ) → (number == list) ≡ false → list_of now number ≡ list_of before number
   pub places : length now.links ≡ length before.links
-  pub numbers : length now.ends ≡ length before.ends
+  pub numbers : before.room ≤ now.room

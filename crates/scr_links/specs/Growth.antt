@@ -9,7 +9,7 @@ use Rattle.scr_links.specs.declared.links.Tables.{Tables}
 pub record HaveGrown (before now : Chained) : Type 0 where
   pub lists : (number : ℕ) → list_of now number ≡ list_of before number
   pub places : length before.links ≤ length now.links
-  pub numbers : length before.ends ≤ length now.ends
+  pub numbers : before.room ≤ now.room
 
 pub record HasGrown (before now : Tables) : Type 0 where
   pub order : HaveGrown before.order now.order
@@ -25,9 +25,9 @@ pub record HasRoom (tables : Tables) (places size : ℕ) : Type 0 where
   pub sources : places ≤ length tables.by_source.links
   pub dependants : places ≤ length tables.by_dependant.links
   pub pairs : places ≤ length tables.pairs.items
-  pub two_lists : 2 ≤ length tables.order.ends
-  pub source_lists : size ≤ length tables.by_source.ends
-  pub dependant_lists : size ≤ length tables.by_dependant.ends
+  pub two_lists : 2 ≤ tables.order.room
+  pub source_lists : size ≤ tables.by_source.room
+  pub dependant_lists : size ≤ tables.by_dependant.room
 
 -- the places from one number up to another are free now, in list 1, and the other lists stay
 pub record Freed (before now : Chained) (from to : ℕ) : Type 0 where
@@ -35,4 +35,4 @@ pub record Freed (before now : Chained) (from to : ℕ) : Type 0 where
   pub others : (number : ℕ) → (number == 1) ≡ false → list_of now number ≡ list_of before number
   pub placed : (number place : ℕ) → has place (list_of now number) ≡ true → place < to
   pub places : length now.links ≡ length before.links
-  pub numbers : length now.ends ≡ length before.ends
+  pub numbers : before.room ≤ now.room

@@ -43,6 +43,6 @@ pub record AreKept (links : Inside) : Type 0 where
   pub in_sources : links.places ≤ length links.tables.by_source.links
   pub in_dependants : links.places ≤ length links.tables.by_dependant.links
   pub in_pairs : links.places ≤ length links.tables.pairs.items
-  pub two_lists : 2 ≤ length links.tables.order.ends
-  pub source_lists : links.size ≤ length links.tables.by_source.ends
-  pub dependant_lists : links.size ≤ length links.tables.by_dependant.ends
+  pub two_lists : 2 ≤ links.tables.order.room
+  pub source_lists : links.size ≤ links.tables.by_source.room
+  pub dependant_lists : links.size ≤ links.tables.by_dependant.room

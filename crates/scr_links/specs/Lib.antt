@@ -6,3 +6,5 @@ pub mod Ends
 pub mod Growth
 pub mod Kept
 pub mod Left
+pub mod ListEnds
+pub mod ListEndsInside

@@ -4,6 +4,7 @@ ghost use Rattle.scr_links.specs.Places.{has};
 ghost use Rattle.scr_links.specs.Chains.{none, link_at, ends_at, list_of, places_from};
 ghost use Rattle.scr_links.specs.Chains.{Leads, Appended, Removed, SetsNext, SetsPrevious};
 
+use crate::list_ends::ListEnds;
 use std::alloc::{AllocError as NoMemory, Global};
 use std::marker::Model;
 
@@ -28,7 +29,7 @@ pub(crate) struct Ends {
 #[derive(Drop)]
 pub(crate) struct Chains {
     links: Vec<Link>,
-    ends: Vec<Ends>,
+    ends: ListEnds,
 }
 
 impl Model for Chains {
@@ -51,36 +52,37 @@ impl Chains {
     {
         Chains {
             links: Vec::new(alloc),
-            ends: Vec::new(alloc),
+            ends: ListEnds::new(alloc),
         }
     }
 
     /// Room for so many places and so many lists. Every list stays.
-    pub(crate) fn grow(&mut self, places: usize, lists: usize) -> Result<(), NoMemory>
+    pub(crate) fn grow(&mut self, places: usize, lists: u32) -> Result<(), NoMemory>
         requires { places ≤ none }
         ensures lists { (number : ℕ) → list_of self.new number ≡ list_of self.old number }
         ensures places { length self.old.links ≤ length self.new.links }
-        ensures numbers { length self.old.ends ≤ length self.new.ends }
+        ensures numbers { self.old.room ≤ self.new.room }
         ensures ok { OnOk result
-            ((places ≤ length self.new.links) × (lists ≤ length self.new.ends)) }
+            ((places ≤ length self.new.links) × (lists ≤ self.new.room)) }
     {
         grow_links(&mut self.links, places)?;
-        grow_ends(&mut self.ends, lists)
+        self.ends.reserve(lists)
     }
 
     /// Puts a place that is in no list at the end of one.
     pub(crate) fn append(&mut self, list: u32, place: u32)
-        requires list { list < length self.old.ends }
+        requires list { list < self.old.room }
         requires place { place < length self.old.links }
         requires free { (number : ℕ) → has place (list_of self.old number) ≡ false }
         ensures { Appended self.old self.new list place }
     {
-        let ends = &mut self.ends[list as usize];
+        let mut ends = self.ends.at(list);
         let last = ends.last;
-        set_next(&mut self.links, ends, last, place);
-        set_previous(&mut self.links, ends, NONE, place);
-        set_next(&mut self.links, ends, place, NONE);
-        set_previous(&mut self.links, ends, place, last);
+        set_next(&mut self.links, &mut ends, last, place);
+        set_previous(&mut self.links, &mut ends, NONE, place);
+        set_next(&mut self.links, &mut ends, place, NONE);
+        set_previous(&mut self.links, &mut ends, place, last);
+        self.ends.set(list, ends);
     }
 
     /// Takes a place out of its list.
@@ -88,10 +90,11 @@ impl Chains {
         requires { has place (list_of self.old list) ≡ true }
         ensures { Removed self.old self.new list place }
     {
-        let ends = &mut self.ends[list as usize];
+        let mut ends = self.ends.at(list);
         let Link { next, previous } = self.links[place as usize];
-        set_next(&mut self.links, ends, previous, next);
-        set_previous(&mut self.links, ends, next, previous);
+        set_next(&mut self.links, &mut ends, previous, next);
+        set_previous(&mut self.links, &mut ends, next, previous);
+        self.ends.set(list, ends);
     }
 
     /// The first place of a list, and `NONE` where it has none.
@@ -101,7 +104,7 @@ impl Chains {
             ≡ list_of self.now list }
         ensures leads { Leads self.now.links result (list_of self.now list) }
     {
-        ends_of(&self.ends, list).first
+        self.ends.at(list).first
     }
 
     /// What follows a place in its list, and `NONE` after the last.
@@ -129,35 +132,6 @@ fn grow_links(links: &mut Vec<Link>, places: usize) -> Result<(), NoMemory>
         previous: NONE,
     };
     links.resize(places, alone)
-}
-
-/// Ends for each of so many lists. Those that are new have no places.
-fn grow_ends(ends: &mut Vec<Ends>, lists: usize) -> Result<(), NoMemory>
-    ensures same { (list : ℕ) → ends_at ends.new.items list ≡ ends_at ends.old.items list }
-    ensures longer { length ends.old.items ≤ length ends.new.items }
-    ensures ok { OnOk result (lists ≤ length ends.new.items) }
-{
-    if lists <= ends.len() {
-        return Ok(());
-    }
-    let empty = Ends {
-        first: NONE,
-        last: NONE,
-    };
-    ends.resize(lists, empty)
-}
-
-/// The ends of a list. One that there is not has no places.
-fn ends_of(ends: &[Ends], list: u32) -> Ends
-    ensures { result ≡ ends_at ends.now list }
-{
-    match ends.get(list as usize) {
-        Some(ends) => *ends,
-        None => Ends {
-            first: NONE,
-            last: NONE,
-        },
-    }
 }
 
 /// Links a place, or at `NONE` the list, to what follows.

@@ -6,6 +6,7 @@
 mod chains;
 pub mod laws;
 mod links;
+mod list_ends;
 mod walk;
 
 pub use links::{EdgeId, Links};

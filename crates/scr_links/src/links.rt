@@ -76,7 +76,6 @@ impl Tables {
         ensures ok { OnOk result (HasRoom self.new places size) }
     {
         let places = places as usize;
-        let size = size as usize;
         self.order.grow(places, 2)?;
         self.by_source.grow(places, size)?;
         self.by_dependant.grow(places, size)?;
@@ -248,7 +247,7 @@ fn places_with(places: u32, spare: u32, wanted: u32) -> Result<u32, NoMemory>
 fn free(order: &mut Chains, from: u32, to: u32)
     requires range { from ≤ to }
     requires places { to ≤ length order.old.links }
-    requires numbers { 2 ≤ length order.old.ends }
+    requires numbers { 2 ≤ order.old.room }
     requires placed { (number place : ℕ)
         → has place (list_of order.old number) ≡ true → place < from }
     ensures { Freed order.old order.new from to }

@@ -12,6 +12,12 @@ use crate::table::Table;
 use std::alloc::{AllocError as NoMemory, Global};
 use std::marker::Model;
 
+/// So many ranges have their room from the start, so that few books need more. Room that is not written takes no page of memory.
+const RANGES: usize = 65_536;
+
+/// So many numbers have theirs.
+const NUMBERS: usize = 262_144;
+
 /// How many tables there are.
 const TABLES: usize = 7;
 
@@ -60,10 +66,12 @@ impl Places {
         ensures { IfOk result IsNew }
     {
         let rolls = no_rolls(alloc)?;
+        let ranges = Vec::with_capacity(alloc, RANGES)?;
+        let owner = Vec::with_capacity(alloc, NUMBERS)?;
         let mut places = Places {
             rolls,
-            ranges: Vec::new(alloc),
-            owner: Vec::new(alloc),
+            ranges,
+            owner,
         };
         places.make(Table::Whole)?;
         places.revive(Table::Whole);

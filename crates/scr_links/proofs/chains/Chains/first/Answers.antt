@@ -1,15 +1,15 @@
 -- The first place of a list leads over it.
-use Rattle.std.proofs.Common.{◌≡◌, List, length, ap, sym, subst, ◌∙◌}
+use Rattle.std.proofs.Common.{◌≡◌, length, ap, sym, subst, ◌∙◌}
 use Rattle.scr_links.specs.Chains.{Chained, AreChains, Leads, ends_at, list_of, places_from}
 use Rattle.scr_links.specs.declared.chains.Ends.{Ends}
 use Rattle.scr_links.proofs.Linked.{list_leads}
 use Rattle.scr_links.proofs.chains.Chains.first.Goals as goal
 
-ends_are : (c : goal.After-ends_of) → c.ends_of.result ≡ ends_at c.args.self.now.ends c.args.list
-ends_are c =
-    c.ends_of.ensures
-    ∙ ap (λ (ends : List Ends). ends_at ends c.args.list) c.deref.ensures.value
-    ∙ ap (λ (v : Chained). ends_at v.ends c.args.list) c.self.view_is
+ends_are : (c : goal.After-at) → c.at.result ≡ ends_at c.args.self.now.ends c.args.list
+ends_are c = c.at.ensures.at ∙ ap (λ (v : Chained). ends_at v.ends c.args.list) c.self.view_is
+
+pub returns-clause-value : goal.returns-clause-value
+returns-clause-value c = ap (λ (ends : Ends). ends.first) (ends_are c)
 
 pub returns-clause-listed : goal.returns-clause-listed
 unfolding list_of

@@ -19,10 +19,10 @@ returns-in_err-grow_links-clause-lists c = λ number.
 pub invariant_of-self-2 : goal.invariant_of-self-2
 invariant_of-self-2 c =
     grown_chains (chained c.self.inside) _ c.self.invariant (c.grow_links.ensures.few c.self.invariant.few)
-    c.grow_links.ensures.same c.grow_ends.ensures.same c.grow_links.ensures.longer
+    c.grow_links.ensures.same c.reserve.ensures.at c.grow_links.ensures.longer
 
 pub returns-clause-lists : goal.returns-clause-lists
 returns-clause-lists c = λ number.
     grown_list (chained c.self.inside) _ c.self.invariant (c.grow_links.ensures.few c.self.invariant.few)
-    c.grow_links.ensures.same c.grow_ends.ensures.same c.grow_links.ensures.longer number
+    c.grow_links.ensures.same c.reserve.ensures.at c.grow_links.ensures.longer number
     ∙ ap (λ (v : Chained). list_of v number) c.self.view_is
