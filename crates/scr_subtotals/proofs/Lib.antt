@@ -1,4 +1,5 @@
 pub mod Added
+pub mod KeptSpans
 pub mod Members
 pub mod Numbered
 pub mod Parted

@@ -1,2 +1,4 @@
 pub mod Figures
+pub mod KeptEnds
+pub mod KeptFigures
 pub mod Written

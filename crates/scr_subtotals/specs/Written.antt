@@ -1,6 +1,6 @@
 -- The blocks of one sum over a list, at their numbers (this project's own).
 use Rattle.std.specs.Prelude.{◌≡◌, ℕ, ◌+◌, ◌<◌, ◌≤◌, Bool, false, List, Some, length, map, slice_get}
-use Rattle.std.specs.List.{range_with_len}
+use Rattle.std.specs.List.{list_any, range_with_len}
 use Rattle.std.specs.Option.{option_map_or}
 use Rattle.scr_blocks.specs.Blocks.{blocks_at, part}
 use Rattle.scr_blocks.specs.declared.blocks.Level.{Level}
@@ -12,7 +12,7 @@ use Rattle.scr_numbers.specs.Ranges.{IsApart, IsWithin, count, first}
 use Rattle.scr_numbers.specs.declared.table.Table.TheVariants as tables
 use Rattle.scr_parts.specs.Parts.{AreOwn, count_of, key_of, slot_at, slot_of}
 use Rattle.scr_parts.specs.declared.parts.Part.{Part}
-use Rattle.scr_subtotals.specs.Figures.{ends_at, members_ends}
+use Rattle.scr_subtotals.specs.Figures.{ends_at, member_number, members_ends}
 use Rattle.scr_subtotals.specs.declared.figure.Figure.{Figure}
 use Rattle.scr_subtotals.specs.declared.writing.Subtotals.{Subtotals}
 
@@ -41,6 +41,10 @@ block_figure span = record { span = span; close = false }
 
 abbrev pub is_open_at : List Figure → ℕ → Bool
 is_open_at figures number = option_map_or (λ (figure : Figure). figure.close) (slice_get figures number) false
+
+-- one of the figures of members rests on an open choice, whose rows have these first numbers
+abbrev pub any_open : List Figure → ℕ → List ℕ → Bool
+any_open figures family firsts = list_any (λ first. is_open_at figures (member_number family first)) firsts
 
 -- what the members of a part come to
 abbrev pub part_ends : List Figure → ℕ → List ℕ → ℕ → Ends

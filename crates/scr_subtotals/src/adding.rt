@@ -4,21 +4,37 @@ ghost use Rattle.scr_num.specs.Rounding.{ends};
 ghost use Rattle.scr_num.specs.Sizes.{AreTogether};
 ghost use Rattle.scr_num.specs.Sums.{sum_ends};
 ghost use Rattle.scr_subtotals.specs.Figures.{members_ends};
+ghost use Rattle.scr_subtotals.specs.Written.{any_open};
 
-use crate::Figure;
+use crate::{Figure, KeptFigure};
 use scr_num::{Span, add, exact};
 
 /// What the figures of one family of the rows with these first numbers come to.
-pub fn add_members(figures: &[Figure], firsts: &[u32], family: u32) -> Span
+pub fn add_members(figures: &[KeptFigure], firsts: &[u32], family: u32) -> Span
     requires within { All (λ first. first + family < length figures.now) firsts.now }
     requires few { length figures.now ≤ 2 ^ 32 }
     requires together { AreTogether (2 ^ 124) (members_ends figures.now family firsts.now) }
     ensures { ends result ≡ sum_ends (members_ends figures.now family firsts.now) }
 {
-    let mut sum = exact(0);
+    add_figures(figures, firsts, family).span
+}
+
+/// What the figures of one family of the rows with these first numbers come to together, as one figure, which rests on an open choice
+/// where one of theirs does.
+pub fn add_figures(figures: &[KeptFigure], firsts: &[u32], family: u32) -> Figure
+    requires within { All (λ first. first + family < length figures.now) firsts.now }
+    requires low { All (λ first. first + family < 2 ^ 32) firsts.now }
+    requires together { AreTogether (2 ^ 124) (members_ends figures.now family firsts.now) }
+    ensures span { ends result.span ≡ sum_ends (members_ends figures.now family firsts.now) }
+    ensures close { result.close ≡ any_open figures.now family firsts.now }
+{
+    let mut span = exact(0);
+    let mut close = false;
     for first in firsts {
         let number = *first + family;
-        sum = add(sum, figures[number as usize].span);
+        let figure = &figures[number as usize];
+        span = add(span, figure.span());
+        close |= figure.close();
     }
-    sum
+    Figure { span, close }
 }

@@ -3,9 +3,12 @@
 #![tactic(auto)]
 
 mod adding;
+mod end;
 mod figure;
+mod kept;
 mod writing;
 
-pub use adding::add_members;
+pub use adding::{add_figures, add_members};
 pub use figure::Figure;
+pub use kept::KeptFigure;
 pub use writing::Subtotals;

@@ -1,5 +1,5 @@
 -- A Block of the first level, from the figures of its members.
-use Rattle.std.proofs.Common.{◌≡◌, ℕ, zero, suc, ◌+◌, ◌<◌, ◌^◌, Bool, true, All, List, [], ◌∷◌, Option, Some, None, get_or, length, map, pos, slice_get, refl, sym, ap, ap₂, subst, ◌∙◌, arith}
+use Rattle.std.proofs.Common.{◌≡◌, ℕ, zero, suc, ◌+◌, ◌<◌, ◌^◌, ◌||◌, Bool, true, All, List, [], ◌∷◌, Option, Some, None, get_or, length, map, pos, slice_get, refl, sym, ap, ap₂, subst, ◌∙◌, arith}
 use Rattle.std.specs.Option.{option_map, option_map_or}
 use Rattle.scr_num.specs.Rounding.{Ends, ends, exact_ends}
 use Rattle.scr_num.specs.Sizes.{AreTogether}
@@ -13,6 +13,7 @@ use Rattle.scr_lists.specs.Lists.{first_of}
 use Rattle.scr_sheet.specs.Members.{table_of}
 use Rattle.scr_reach.specs.Linked.{AreAt}
 use Rattle.scr_subtotals.specs.Figures.{ends_at, members_ends}
+use Rattle.scr_subtotals.specs.Written.{any_open}
 use Rattle.scr_subtotals.specs.declared.figure.Figure.{Figure}
 use Rattle.scr_sums.specs.Books.{rolled_of}
 use Rattle.scr_sums.specs.Graph.{is_live_in, roll_in, sources_in}
@@ -22,7 +23,7 @@ use Rattle.scr_sums.specs.declared.point.Point.{Point}
 use Rattle.scr_sums.specs.declared.point.Point.TheVariants as points
 use Rattle.scr_tree.specs.Figures.{HasFigure, HaveFigures, Reckoning, Worth, worth_of}
 use Rattle.scr_tree.specs.Ready.{IsBasis, IsReadyOn, StandsOn, graph_on, reckoning_on}
-use Rattle.scr_tree.specs.Together.{any_close}
+use Rattle.scr_tree.specs.Together.{any_close, close_at}
 use Rattle.scr_tree.specs.declared.basis.Basis.{Basis}
 use Rattle.scr_tree.proofs.Here.{have-here, pushed-here, within-here}
 use Rattle.scr_tree.proofs.PointSources.{below-live, first-sources, members-few, members-pushed}
@@ -42,6 +43,11 @@ length-shifted family (x ∷ list) = ap suc (length-shifted family list)
 each-shifted : (family many : ℕ) (list : List ℕ) → All (λ n. n < many) (map (λ n. n + family) list) → All (λ n. n + family < many) list
 each-shifted family many list all = λ i d low.
     subst (λ n. n < many) (map-at family list i d low) (all i (d + family) (subst (λ n. i < n) (sym (length-shifted family list)) low))
+
+-- what rests on an open choice of the figures of members, by their numbers
+open-shifted : (figures : List Figure) (family : ℕ) (list : List ℕ) → any_open figures family list ≡ any_close figures (map (λ n. n + family) list)
+open-shifted figures family [] = refl
+open-shifted figures family (x ∷ list) = ap (λ b. close_at figures (x + family) || b) (open-shifted figures family list)
 
 -- the ends of figures that are those of points
 ends-one : {Node : Type 0} (reckoning : Reckoning Node) (figures : List Figure) (number : ℕ) (node : Node) → HasFigure reckoning figures number node
@@ -101,10 +107,10 @@ module _ (b : Basis) (is : IsBasis b) (block : Block) (live : is_live_in (rolled
         (block-small b.inputs.factors.now b.inputs.book.now is.valid (rolls-are b.inputs.book.now is.graph.numbers_of.rolls) form block live)
 
     pub added-right : (span : Span) (close : Bool) → ends span ≡ sum_ends (members_ends figures family own)
-        → close ≡ any_close figures (map (λ n. n + family) own)
+        → close ≡ any_open figures family own
         → worth_of (record { span = span; close = close }) ≡ (reckoning_on b).worth (points.Block block)
     added-right span close sum any =
         point-right b is (points.Block block) span close (any_close figures (map (λ n. n + family) own))
         (sum ∙ ap sum_ends same
         ∙ block-sum b.inputs.factors.now b.inputs.book.now is.valid (rolls-are b.inputs.book.now is.graph.numbers_of.rolls) block)
-        (close-all b is figures (map (λ n. n + family) own) below have) any
+        (close-all b is figures (map (λ n. n + family) own) below have) (any ∙ open-shifted figures family own)

@@ -35,24 +35,13 @@ use Rattle.scr_sums.specs.declared.point.Point.TheVariants as points
 use Rattle.scr_sums.specs.declared.sum.Sum.{Sum}
 use Rattle.scr_sums.proofs.ListNumbers.{lists-apart}
 use Rattle.scr_sums.proofs.SumsAt.{at-own, only-own}
+use Rattle.scr_tree.specs.Marking.{is_of_squares}
 use Rattle.scr_tree.specs.Points.{AreNumbersOf, StandsIn}
 use Rattle.scr_tree.specs.Reading.{IsRollOf}
-use Rattle.scr_tree.proofs.FirstMembers.{IsListOf, list-same, one-list}
+use Rattle.scr_tree.proofs.FirstMembers.{IsListOf, list-same, one-list, sole-list}
 use Rattle.scr_tree.proofs.RollSeats.{sole-number}
 
 -- ---- the bonds have one list with their class
-
-sole-list : (roll : Roll) (number : ℕ) → list_number (sole roll) number ≡ list_number roll number
-sole-list (rolls.Class class) number = refl
-sole-list rolls.Closed number = refl
-sole-list rolls.Bonds number = refl
-sole-list rolls.Grouped number = refl
-sole-list (rolls.Group group) number = refl
-sole-list (rolls.Assets currency) number = refl
-sole-list (rolls.Flows currency) number = refl
-sole-list (rolls.Lines currency) number = refl
-sole-list (rolls.Losses kind projection) number = refl
-sole-list rolls.Groups number = refl
 
 sole-sum : (roll : Roll) (place : ℕ) → sum_at (sole roll) place ≡ sum_at roll place
 sole-sum (rolls.Class class) place = refl
@@ -173,3 +162,11 @@ module _ (book : RolledSheet) (places : Numbered) (lists : Lists) (are : AreNumb
         let one = apart number (table_of_figure node) at.k (family_of node) table row family at.at is in
         ap (λ n. 3 * n) (sym (told node one.tables one.families))
     level-told ne low told (points.Block block) at = absurd (block-off ne block at)
+
+    pub squares-told : table ≢ ranged.Part → (own : Bool)
+        → ((node : Node) → table_of_figure node ≡ table → family_of node ≡ family → own ≡ is_of_squares (points.Figure node))
+        → (point : Point) → StandsIn book places lists point number → own ≡ is_of_squares point
+    squares-told ne own told (points.Figure node) at =
+        let one = apart number (table_of_figure node) at.k (family_of node) table row family at.at is in
+        told node one.tables one.families
+    squares-told ne own told (points.Block block) at = absurd (block-off ne block at)

@@ -1,5 +1,5 @@
 -- The first member of a list tells which list it is.
-use Rattle.std.proofs.Common.{◌≡◌, ◌≢◌, ◌⊎◌, inl, inr, ℕ, ◌+◌, ◌*◌, ◌<◌, ◌≤◌, true, List, [], ◌∷◌, Some, None, length, map, slice_get, refl, sym, ap, ◌∙◌, arith}
+use Rattle.std.proofs.Common.{◌≡◌, ◌≢◌, ◌⊎◌, inl, inr, ℕ, ◌+◌, ◌*◌, ◌<◌, ◌≤◌, true, List, [], ◌∷◌, Option, Some, None, length, map, slice_get, refl, sym, ap, ◌∙◌, arith}
 use Rattle.std.specs.Prelude.{if◌then◌else◌, nat_lt}
 use Rattle.std.specs.List.{position_or_len}
 use Rattle.std.specs.Option.{option_map_or}
@@ -17,6 +17,7 @@ use Rattle.scr_rolls.proofs.SeatMoves.{nowhere}
 use Rattle.scr_sheet.specs.Members.{is_member, table_of}
 use Rattle.scr_sheet.specs.declared.{keys.Table.Table, roll.Roll.Roll, sheet.BalanceSheet.BalanceSheet}
 use Rattle.scr_sheet.specs.declared.keys.Table.TheVariants as tables
+use Rattle.scr_sheet.specs.declared.roll.Roll.TheVariants as rolls
 use Rattle.scr_book.specs.Places.{names_in}
 use Rattle.scr_book.specs.RolledSheets.{RolledSheet}
 use Rattle.scr_book.specs.Rolls.{listed, number_of_roll, roll_of, same_table, seat_of_roll, seated_in}
@@ -66,6 +67,19 @@ table-back tables.Group has = refl
 table-back tables.Bank has = absurd (cc)
 table-back tables.Rein has = absurd (cc)
 table-back tables.Curve has = absurd (cc)
+
+-- the bonds have one list with their class
+pub sole-list : (roll : Roll) (number : ℕ) → list_number (sole roll) number ≡ list_number roll number
+sole-list (rolls.Class class) number = refl
+sole-list rolls.Closed number = refl
+sole-list rolls.Bonds number = refl
+sole-list rolls.Grouped number = refl
+sole-list (rolls.Group group) number = refl
+sole-list (rolls.Assets currency) number = refl
+sole-list (rolls.Flows currency) number = refl
+sole-list (rolls.Lines currency) number = refl
+sole-list (rolls.Losses kind projection) number = refl
+sole-list rolls.Groups number = refl
 
 -- the list of a roll is one of its table
 pub record IsListOf (roll : Roll) (n : ℕ) (table : Table) (number : ℕ) : Type 0 where
@@ -162,13 +176,6 @@ module _ (book : RolledSheet) (places : Ranges) (lists : Lists) (are : AreNumber
       roll-members list is roll of
       ∙ none-of-map (first_of book.sheet places table) members (ap (λ ns. slice_get ns 0) (sym beside) ∙ none)
 
-  -- and the roll of the list, as it is found, has the number
-  pub found-number : (list : ℕ) → list_in table number ≡ list → (roll : Roll) → IsRollOf book.rolls list roll → (found : Roll) → Some found ≡ Some (sole roll)
-      → number_of_roll found book.rolls ≡ Some number
-  found-number list is roll of found same =
-      ap (λ r. number_of_roll r book.rolls) (same_Some found (sole roll) same) ∙ sole-number book.rolls roll ∙ of.numbered
-      ∙ ap Some (one-list roll table has_lists of.number number (of.is ∙ sym is)).number_is
-
   module _ (apart : IsApart places) (beside_first : ℕ) (at : slice_get (firsts_in number (firsts_at table lists)) 0 ≡ Some beside_first) where
     abbrev name : List ℕ
     name = name_at 0 members
@@ -250,3 +257,23 @@ module _ (book : RolledSheet) (places : Ranges) (lists : Lists) (are : AreNumber
           member =
               ap (λ x. is_member roll x book.sheet) (name-there names name row (sym row-is) row-within)
               ∙ sym (are.rolls.members roll name) ∙ ap (has name) (roll-members list is roll of) ∙ first-has members head.0
+
+      -- so that it tells the roll, whose list is no other's
+      pub roll-told : (s : ℕ) → roll_in s (seat_at row seated.seats) ≡ number → (list : ℕ) → list_in table number ≡ list → (told : Option Roll)
+          → ((roll : Roll) → IsRollAt table row s book.sheet roll → told ≡ Some (sole roll))
+          → (roll : Roll) × (told ≡ Some roll) × IsRollOf book.rolls list roll
+      roll-told s taken list is told by =
+          let owner = are.rolls.numbered.owned table number name (first-has members head.0) in
+          let of : IsRollOf book.rolls list owner.roll = record {
+            number = number;
+            numbered = owner.numbered;
+            is = list-same owner.roll number ∙ ap (λ t. list_in t number) owner.of ∙ is;
+          } in (
+            sole owner.roll,
+            by owner.roll (row-roll s taken list is owner.roll of),
+            record {
+              number = number;
+              numbered = sole-number book.rolls owner.roll ∙ owner.numbered;
+              is = sole-list owner.roll number ∙ of.is;
+            },
+          )

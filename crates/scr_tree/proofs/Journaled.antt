@@ -1,94 +1,15 @@
 -- Figures that are written one after another, of which the former ones are kept.
-use Rattle.std.proofs.Common.{◌≡◌, ◌⊎◌, inl, inr, ℕ, zero, suc, ◌+◌, ◌<◌, ◌≤◌, ◌++◌, nat_eq, List, [], ◌∷◌, length, set, take, Some, None, slice_get, Contains, refl, sym, ap, ap₂, ◌∙◌, arith}
-use Rattle.std.specs.List.{IsDistinct}
-use Rattle.std.proofs.lemmas.Bool.{cases_lt}
-use Rattle.std.proofs.lemmas.List.{length-append, length-set}
-use Rattle.std.proofs.lemmas.Option.{slice_get_within}
-use Rattle.scr_funds.proofs.Members.{IsMember, IsMember-from_Contains, Contains-from_IsMember}
-use Rattle.scr_reach.proofs.Counting.{once-number}
-use Rattle.scr_reach.proofs.Placed.{number-or}
-use Rattle.scr_tree.specs.Order.{IsJournaled, IsWritten}
+use Rattle.std.proofs.Common.{◌≡◌, ℕ, zero, suc, ◌+◌, ◌<◌, ◌++◌, List, [], ◌∷◌, length, set, MatchOption, Option, Some, None, slice_get, refl, sym, ap, ap₂, subst, ◌∙◌, arith}
+use Rattle.std.proofs.lemmas.List.{length-set, set-get_or, set-set}
+use Rattle.std.proofs.lemmas.Option.{get_or_from_slice_get, slice_get_within}
+use Rattle.scr_num.specs.Rounding.{Ends, ends}
+use Rattle.scr_num.specs.declared.span.Span.{Span}
 use Rattle.scr_subtotals.specs.declared.figure.Figure.{Figure}
+use Rattle.scr_subtotals.proofs.KeptSpans.{one_span}
+use Rattle.scr_tree.specs.Order.{AreWithin, IsJournalKept, IsJournaled, undone}
+use Rattle.scr_tree.specs.declared.journal.Former.{Former}
 
 -- ---- places of a list
-
--- a number in front of a place stands at an earlier one
-front-place : (xs : List ℕ) (k x : ℕ) → IsMember x (take k xs) → (i : ℕ) × (i < k) × (slice_get xs i ≡ Some x)
-front-place [] zero x h = absurd h
-front-place [] (suc k) x h = absurd h
-front-place (y ∷ xs) zero x h = absurd h
-front-place (y ∷ xs) (suc k) x (inl e) = (0, omega arith, ap Some (sym e))
-front-place (y ∷ xs) (suc k) x (inr h) =
-    let r = front-place xs k x h in let l : r.0 < k = r.1 in (suc r.0, omega (arith, l), r.2)
-
--- and the other way round
-place-front : (xs : List ℕ) (k i x : ℕ) → i < k → slice_get xs i ≡ Some x → IsMember x (take k xs)
-place-front [] k zero x l is = let clash : None ≡ Some x = is in absurd (cc)
-place-front [] k (suc i) x l is = let clash : None ≡ Some x = is in absurd (cc)
-place-front (y ∷ xs) zero i x l is = absurd (omega (arith, l))
-place-front (y ∷ xs) (suc k) zero x l is = let e : y ≡ x = cc in inl (sym e)
-place-front (y ∷ xs) (suc k) (suc i) x l is = inr (place-front xs k i x (omega (arith, l)) is)
-
-module _ {A : Type 0} where
-  got-front : (xs : List A) (y : A) (k : ℕ) → k < length xs → slice_get (xs ++ y ∷ []) k ≡ slice_get xs k
-  got-front [] y k l = absurd (omega (arith, l))
-  got-front (x ∷ xs) y zero l = refl
-  got-front (x ∷ xs) y (suc k) l = got-front xs y k (omega (arith, l))
-
-  got-last : (xs : List A) (y : A) → slice_get (xs ++ y ∷ []) (length xs) ≡ Some y
-  got-last [] y = refl
-  got-last (x ∷ xs) y = got-last xs y
-
--- ---- one figure more
-
-pub journaled-next : (numbers : List ℕ) (figure : Figure) (former before now former_next next : List Figure)
-    → IsDistinct nat_eq numbers → IsJournaled numbers former before now
-    → IsWritten numbers figure former now former_next next → IsJournaled numbers former_next before next
-journaled-next numbers figure former before now former_next next once is w = record {
-  few = let low = slice_get_within numbers (length former) w.number w.at in omega (arith, low, more);
-  others = λ number none.
-      w.others number (λ same. none (Contains-from_IsMember (take (length former_next) numbers) number
-      (place-front numbers (length former_next) (length former) number (omega (arith, more)) (w.at ∙ ap Some (sym same)))))
-      ∙ is.others number (λ h. none (Contains-from_IsMember (take (length former_next) numbers) number (front number h)));
-  each = λ k number l at. by k number l at (cases_lt k (length former));
-  long = w.long ∙ is.long;
-}
-  where
-    more : length former_next ≡ length former + 1
-    more = ap length w.kept ∙ length-append former (w.was ∷ [])
-
-    front : (number : ℕ) → Contains (take (length former) numbers) number → IsMember number (take (length former_next) numbers)
-    front number h =
-        let r = front-place numbers (length former) number (IsMember-from_Contains (take (length former) numbers) number h) in
-        let low = r.1 in
-        place-front numbers (length former_next) r.0 number (omega (arith, low, more)) r.2
-
-    fresh : Contains (take (length former) numbers) w.number → ⊥
-    fresh h =
-        let r = front-place numbers (length former) w.number (IsMember-from_Contains (take (length former) numbers) w.number h) in
-        let one = once-number numbers once r.0 (length former) w.number r.2 w.at in
-        let low = r.1 in
-        let no : ⊥ = omega (arith, low, one) in no
-
-    by : (k number : ℕ) → k < length former_next → slice_get numbers k ≡ Some number
-        → (k < length former) ⊎ (length former ≤ k) → slice_get before number ≡ slice_get former_next k
-    by k number l at (inl low) =
-        is.each k number low at ∙ sym (ap (λ xs. slice_get xs k) w.kept ∙ got-front former w.was k low)
-    by k number l at (inr high) =
-        let last : k ≡ length former = omega (arith, l, high, more) in
-        let own : number ≡ w.number =
-        (let both : Some number ≡ Some w.number = sym at ∙ ap (slice_get numbers) last ∙ w.at in cc) in
-        ap (slice_get before) own ∙ sym (is.others w.number fresh) ∙ w.here
-        ∙ sym (ap (λ xs. slice_get xs k) w.kept ∙ ap (slice_get (former ++ w.was ∷ [])) last ∙ got-last former w.was)
-
--- ---- written back
-
--- so many of the former figures stand at their numbers again
-pub record IsUndoing (numbers : List ℕ) (former before now : List Figure) (k : ℕ) : Type 0 where
-  pub back : (i number : ℕ) → i < k → slice_get numbers i ≡ Some number → slice_get now number ≡ slice_get former i
-  pub others : (number : ℕ) → (Contains (take (length former) numbers) number → ⊥)
-      → slice_get now number ≡ slice_get before number
-  pub long : length now ≡ length before
 
 module _ {A : Type 0} where
   pub set-here : (xs : List A) (i : ℕ) (y : A) → i < length xs → slice_get (set xs i y) i ≡ Some y
@@ -103,60 +24,64 @@ module _ {A : Type 0} where
   set-other (x ∷ xs) (suc i) zero y other = refl
   set-other (x ∷ xs) (suc i) (suc j) y other = set-other xs i j y (λ e. other (ap suc e))
 
-  same-lists : (xs ys : List A) → ((n : ℕ) → slice_get xs n ≡ slice_get ys n) → xs ≡ ys
-  same-lists [] [] same = refl
-  same-lists [] (y ∷ ys) same = let clash : None ≡ Some y = same 0 in absurd (cc)
-  same-lists (x ∷ xs) [] same = let clash : Some x ≡ None = same 0 in absurd (cc)
-  same-lists (x ∷ xs) (y ∷ ys) same =
-      let head : x ≡ y = (let both : Some x ≡ Some y = same 0 in cc) in
-      ap₂ (λ z zs. z ∷ zs) head (same-lists xs ys (λ n. same (suc n)))
+  -- where the value is what stands there nothing is written
+  pub same-written : (xs : List A) (i : ℕ) (x : A) → slice_get xs i ≡ Some x → set xs i x ≡ xs
+  same-written xs i x is = ap (set xs i) (sym (get_or_from_slice_get xs i x x is)) ∙ set-get_or xs i x
 
-pub written-set : (numbers : List ℕ) (figure : Figure) (former before : List Figure) (number : ℕ) (was : Figure)
-    → slice_get numbers (length former) ≡ Some number → slice_get before number ≡ Some was
-    → IsWritten numbers figure former before (former ++ was ∷ []) (set before number figure)
-written-set numbers figure former before number was at here = record {
-  number = number;
-  at = at;
-  was = was;
-  here = here;
-  kept = refl;
-  there = set-here before number figure (slice_get_within before number was here);
-  others = λ other apart. set-other before number other figure apart;
-  long = length-set before number figure;
+-- ---- two figures
+
+-- of the same ends, of which both or none rests on a choice
+pub one-figure : (one other : Figure) → ends one.span ≡ ends other.span → one.close ≡ other.close → one ≡ other
+one-figure one other same close =
+    ap₂ (λ (span : Span) close. record { span = span; close = close })
+    (one_span one.span.low one.span.high other.span (ap (λ (e : Ends). e.low) same) (ap (λ (e : Ends). e.high) same) one.span.ordered) close
+
+-- ---- below so many
+
+pub within-and : (former : List Former) (last : Former) (many : ℕ) → AreWithin many former → last.number < many
+    → AreWithin many (former ++ last ∷ [])
+within-and [] last many all low = (low, tt)
+within-and (was ∷ former) last many all low = (all.0, within-and former last many all.1 low)
+
+pub within-front : (former : List Former) (last : Former) (many : ℕ) → AreWithin many (former ++ last ∷ []) → AreWithin many former
+within-front [] last many all = tt
+within-front (was ∷ former) last many all = (all.0, within-front former last many all.1)
+
+-- ---- written back
+
+-- the last one first
+pub undone-last : (former : List Former) (last : Former) (figures : List Figure)
+    → undone (former ++ last ∷ []) figures ≡ undone former (set figures last.number last.figure)
+undone-last [] last figures = refl
+undone-last (was ∷ former) last figures = ap (λ now. set now was.number was.figure) (undone-last former last figures)
+
+pub undone-long : (former : List Former) (figures : List Figure) → length (undone former figures) ≡ length figures
+undone-long [] figures = refl
+undone-long (was ∷ former) figures = length-set (undone former figures) was.number was.figure ∙ undone-long former figures
+
+pub journaled-none : (figures : List Figure) → IsJournaled [] figures figures
+journaled-none figures = record { within = tt; back = refl }
+
+pub journaled-long : (former : List Former) (before now : List Figure) → IsJournaled former before now → length now ≡ length before
+journaled-long former before now is = sym (undone-long former now) ∙ ap length is.back
+
+-- none is left
+pub none-kept : (former : List Former) → length former ≡ 0 → former ≡ []
+none-kept [] none = refl
+none-kept (was ∷ former) none = absurd (omega (arith, none))
+
+pub popped-none : (popped : Option Former) (old now : ℕ) → popped ≡ None
+    → MatchOption popped ((old ≡ 0) × (now ≡ 0)) (λ _. now + 1 ≡ old) → old ≡ 0
+popped-none popped old now is cases = (subst (λ o. MatchOption o ((old ≡ 0) × (now ≡ 0)) (λ _. now + 1 ≡ old)) is cases).0
+
+-- ---- one figure more
+
+pub kept-written : (former : List Former) (old : List Figure) (number : ℕ) (was figure : Figure) → slice_get old number ≡ Some was
+    → IsJournalKept former old (former ++ record { number = number; figure = was } ∷ []) (set old number figure)
+kept-written former old number was figure here = λ before is. record {
+  within = within-and former (record { number = number; figure = was }) (length (set old number figure))
+      (subst (λ many. AreWithin many former) (sym (length-set old number figure)) is.within)
+      (subst (λ many. number < many) (sym (length-set old number figure)) (slice_get_within old number was here));
+  back = undone-last former (record { number = number; figure = was }) (set old number figure)
+      ∙ ap (undone former) (set-set old number figure was ∙ same-written old number was here) ∙ is.back;
 }
-
-pub undoing-next : (numbers : List ℕ) (former start now : List Figure) (k number : ℕ) (was : Figure) → IsDistinct nat_eq numbers
-    → slice_get numbers k ≡ Some number → slice_get former k ≡ Some was → number < length now
-    → IsUndoing numbers former start now k → IsUndoing numbers former start (set now number was) (k + 1)
-undoing-next numbers former start now k number was once at kept within so = record {
-  back = λ i other l there. by i other l there (cases_lt i k);
-  others = λ other none.
-      set-other now number other was (λ same. none (Contains-from_IsMember (take (length former) numbers) other
-      (place-front numbers (length former) k other (slice_get_within former k was kept) (at ∙ ap Some (sym same)))))
-      ∙ so.others other none;
-  long = length-set now number was ∙ so.long;
-}
-  where
-    by : (i other : ℕ) → i < k + 1 → slice_get numbers i ≡ Some other → (i < k) ⊎ (k ≤ i)
-        → slice_get (set now number was) other ≡ slice_get former i
-    by i other l there (inl low) =
-        set-other now number other was
-        (λ same. let one = once-number numbers once i k number (there ∙ ap Some same) at in
-        let no : ⊥ = omega (arith, low, one) in no)
-        ∙ so.back i other low there
-    by i other l there (inr high) =
-        let last : i ≡ k = omega (arith, l, high) in
-        let own : other ≡ number = (let both : Some other ≡ Some number = sym there ∙ ap (slice_get numbers) last ∙ at in cc) in
-        ap (slice_get (set now number was)) own ∙ set-here now number was within ∙ sym (ap (slice_get former) last ∙ kept)
-
-pub undone : (numbers : List ℕ) (former before start now : List Figure) (k : ℕ) → length former ≤ k
-    → IsJournaled numbers former before start → IsUndoing numbers former start now k → now ≡ before
-undone numbers former before start now k end is so = same-lists now before (λ n. by n (number-or (take (length former) numbers) n))
-  where
-    by : (n : ℕ) → Contains (take (length former) numbers) n ⊎ (Contains (take (length former) numbers) n → ⊥)
-        → slice_get now n ≡ slice_get before n
-    by n (inl h) =
-        let r = front-place numbers (length former) n (IsMember-from_Contains (take (length former) numbers) n h) in
-        let low = r.1 in
-        so.back r.0 n (omega (arith, low, end)) r.2 ∙ sym (is.each r.0 n low r.2)
-    by n (inr none) = so.others n none ∙ is.others n none

@@ -8,7 +8,6 @@ pub mod Ranked
 pub mod Slices
 pub mod Ordering
 pub mod StartRows
-pub mod Reckoned
 pub mod Plain
 pub mod Turns
 pub mod FirstSources
@@ -76,4 +75,8 @@ pub mod Entered
 pub mod SquaresEntered
 pub mod AssetsMarked
 pub mod SquareRow
+pub mod SquareRun
+pub mod SquareBlocks
+pub mod Roomy
 pub mod AddedUp
+pub mod SquareTurns

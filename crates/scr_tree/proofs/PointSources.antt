@@ -236,12 +236,15 @@ module _ (book : RolledSheet) (places : Numbered) (lists : Lists) (are : AreNumb
     firsts-are roll firsts is own =
         is ∙ ap (λ r. members_of r book.rolls lists) own ∙ members-own book places lists are.lists_of (roll_of sum)
 
-    -- so there are as many Blocks over it
+    -- so there are as many, and as many Blocks over it
+    pub counted-are : (roll : Roll) (firsts : List ℕ) → firsts ≡ members_of roll book.rolls lists → roll ≡ roll_of sum
+        → length firsts ≡ length (roll_in (rolled_of book) sum)
+    counted-are roll firsts is own =
+        ap length (firsts-are roll firsts is own) ∙ length-map (roll_in (rolled_of book) sum) (first_of book.sheet places (table_of (roll_of sum)))
+
     pub blocks-are : (roll : Roll) (firsts : List ℕ) → firsts ≡ members_of roll book.rolls lists → roll ≡ roll_of sum → (level : Level)
         → blocks_at (length firsts) level ≡ blocks_at (length (roll_in (rolled_of book) sum)) level
-    blocks-are roll firsts is own level =
-        ap (λ n. blocks_at n level)
-        (ap length (firsts-are roll firsts is own) ∙ length-map (roll_in (rolled_of book) sum) (first_of book.sheet places (table_of (roll_of sum))))
+    blocks-are roll firsts is own level = ap (λ n. blocks_at n level) (counted-are roll firsts is own)
 
     -- the numbers of members are those of the points
     pub members-pushed : (family : ℕ) → ((name : List ℕ) → family ≡ family_of (member_of sum name)) → (names : List (List ℕ)) (nodes : List Point)

@@ -1,11 +1,11 @@
 -- Figures that are reckoned one after another, each after all that it is reckoned from.
-use Rattle.std.proofs.Common.{◌≡◌, ◌⊎◌, inl, inr, ℕ, zero, suc, ◌+◌, ◌<◌, ◌≤◌, true, false, nat_eq, All, List, [], ◌∷◌, drop, length, Option, Some, None, slice_get, Contains, refl, sym, ap, subst, ◌∙◌, arith}
+use Rattle.std.proofs.Common.{◌≡◌, ◌⊎◌, inl, inr, ℕ, zero, suc, ◌+◌, ◌<◌, ◌≤◌, true, false, nat_eq, List, [], ◌∷◌, drop, length, Option, Some, None, slice_get, Contains, refl, sym, ap, subst, ◌∙◌, arith}
 use Rattle.std.specs.List.{AllByRecursion}
 use Rattle.std.specs.Option.{option_map}
 use Rattle.std.proofs.lemmas.Bool.{cases_Bool, cases_lt, eq-eqb, eqb-true}
 use Rattle.std.proofs.lemmas.List.{drop_all, drop_more}
 use Rattle.std.proofs.lemmas.Option.{get_or_from_slice_get, slice_get_within}
-use Rattle.scr_funds.proofs.Members.{All-from_members, IsMember, IsMember-from_Contains, Contains-from_IsMember, at_member, each-from_members}
+use Rattle.scr_funds.proofs.Members.{IsMember, IsMember-from_Contains, Contains-from_IsMember, at_member, each-from_members}
 use Rattle.scr_reach.specs.Dues.{IsLiveAt}
 use Rattle.scr_reach.specs.Graph.{Graph, IsLive}
 use Rattle.scr_reach.specs.Linked.{AreAt}
@@ -120,14 +120,6 @@ module _ {Node : Type 0} (reckoning : Reckoning Node) (At : Node → ℕ → Typ
       → AllByRecursion (λ source. source < length figures) list
   ready-within figures number is list at =
       have-within figures list (reckoning.graph.sources is.node) (is.sources list (at is.node is.at))
-
-  -- all numbers in turn are below the size
-  pub turn-within : (numbers : List ℕ) (many : ℕ) → size ≤ many → AreInTurn reckoning.graph At numbers
-      → All (λ number. number < many) numbers
-  turn-within numbers many room turn =
-      All-from_members (λ number. number < many) numbers
-      (λ number h. let live = turn.each number (Contains-from_IsMember numbers number h) in
-      let low = up.numbers.within live.0 number live.1 in omega (arith, low, room))
 
   -- once the right figure is written at the next number, one figure more is known
   pub known-next : (numbers : List ℕ) (k number : ℕ) (figure : Figure) (old now : List Figure) → AreInTurn reckoning.graph At numbers

@@ -17,6 +17,8 @@ pub mod Opened
 pub mod Standing
 pub mod Kept
 pub mod Sorted
+pub mod SquareRun
+pub mod Room
 pub mod Opening
 pub mod Summed
 pub mod Marking

@@ -1,9 +1,10 @@
 -- The order in which an edit reckons figures anew, and the old figures of those that it has (this project's own).
-use Rattle.std.specs.Prelude.{◌≡◌, ℕ, zero, suc, ◌<◌, ◌≤◌, ◌++◌, List, [], ◌∷◌, Contains, Some, length, nat_eq, slice_get, slice_index_or, take}
-use Rattle.std.specs.List.{IsDistinct}
+use Rattle.std.specs.Prelude.{◌≡◌, ℕ, zero, suc, ◌<◌, ◌≤◌, List, [], ◌∷◌, Contains, Some, length, nat_eq, slice_get, slice_index_or, slice_set}
+use Rattle.std.specs.List.{AllByRecursion, IsDistinct}
 use Rattle.scr_reach.specs.Dues.{IsLiveAt}
 use Rattle.scr_reach.specs.Graph.{Graph}
 use Rattle.scr_subtotals.specs.declared.figure.Figure.{Figure}
+use Rattle.scr_tree.specs.declared.journal.Former.{Former}
 
 -- the numbers are cut into slices, each of which begins where the one before ends
 abbrev pub start_of : List ℕ → ℕ → ℕ
@@ -23,22 +24,20 @@ pub record IsOrder {Node : Type 0} (graph : Graph Node) (At : Node → ℕ → T
       → Contains (graph.sources node) source → At source source_number → slice_get numbers i ≡ Some source_number
       → i < start_of ends j
 
--- The figures now are those before, but for the numbers that were written: of these the former figures are kept.
-pub record IsJournaled (numbers : List ℕ) (former before now : List Figure) : Type 0 where
-  pub few : length former ≤ length numbers
-  pub others : (number : ℕ) → (Contains (take (length former) numbers) number → ⊥)
-      → slice_get now number ≡ slice_get before number
-  pub each : (k number : ℕ) → k < length former → slice_get numbers k ≡ Some number
-      → slice_get before number ≡ slice_get former k
-  pub long : length now ≡ length before
+-- the numbers of former figures are below so many
+abbrev pub AreWithin : ℕ → List Former → Type 0
+AreWithin many former = AllByRecursion (λ (was : Former). was.number < many) former
 
--- a figure is written at the next of the numbers, and the former one is kept
-pub record IsWritten (numbers : List ℕ) (figure : Figure) (former before former_now now : List Figure) : Type 0 where
-  pub number : ℕ
-  pub at : slice_get numbers (length former) ≡ Some number
-  pub was : Figure
-  pub here : slice_get before number ≡ Some was
-  pub kept : former_now ≡ former ++ was ∷ []
-  pub there : slice_get now number ≡ Some figure
-  pub others : (other : ℕ) → (other ≡ number → ⊥) → slice_get now other ≡ slice_get before other
-  pub long : length now ≡ length before
+-- the figures, once the former ones are written back at their numbers, the last one first
+abbrev pub undone : List Former → List Figure → List Figure
+undone [] figures = figures
+undone (was ∷ later) figures = slice_set (undone later figures) was.number was.figure
+
+-- The former figures of what was written since are kept.
+pub record IsJournaled (former : List Former) (before now : List Figure) : Type 0 where
+  pub within : AreWithin (length now) former
+  pub back : undone former now ≡ before
+
+-- wherever the former figures were kept they are kept still
+abbrev pub IsJournalKept : List Former → List Figure → List Former → List Figure → Type 0
+IsJournalKept former old former_next now = (before : List Figure) → IsJournaled former before old → IsJournaled former_next before now

@@ -21,7 +21,7 @@ ghost use Rattle.std.specs.Prelude.{nat_eq};
 ghost use Rattle.scr_tree.specs.KeptRates.{AreKeptFor, keeps_rates};
 
 use crate::basis::{Basis, Crew};
-use crate::figures::{Below, Figure, Inputs, NO_FIGURE};
+use crate::figures::{Below, Inputs, KeptFigure, NO_FIGURE};
 use crate::first_links::ASSETS;
 use crate::graph::{Graph, Numbers};
 use crate::order::ordered;
@@ -50,7 +50,7 @@ pub(crate) struct State {
     pub(crate) rates: Rates,
     pub(crate) places: Places,
     pub(crate) lists: Lists,
-    pub(crate) figures: Vec<Figure>,
+    pub(crate) figures: Vec<KeptFigure>,
     pub(crate) links: Links,
     pub(crate) marks: Marked,
     pub(crate) scratch: Scratch,
@@ -334,7 +334,7 @@ fn climb(graph: Graph<'_>, marks: &mut Marked, touched: &[Point]) -> Result<(), 
 }
 
 /// Room for figures and marks of all numbers below the size.
-fn make_room(figures: &mut Vec<Figure>, marks: &mut Marked, size: u32) -> Result<(), NoMemory>
+fn make_room(figures: &mut Vec<KeptFigure>, marks: &mut Marked, size: u32) -> Result<(), NoMemory>
     ensures figures { OnOk result (size ≤ length figures.new.items) }
     ensures kept { (number : ℕ) → number < length figures.old.items
         → slice_get figures.new.items number ≡ slice_get figures.old.items number }
@@ -343,8 +343,8 @@ fn make_room(figures: &mut Vec<Figure>, marks: &mut Marked, size: u32) -> Result
 {
     let size = size as usize;
     marks.grow(size)?;
-    if figures.len() < size {
-        figures.resize(size, NO_FIGURE)?;
+    while figures.len() < size {
+        figures.push(KeptFigure::new(NO_FIGURE))?;
     }
     Ok(())
 }

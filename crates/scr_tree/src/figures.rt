@@ -13,7 +13,7 @@ use scr_io::{Gate, Steps};
 use scr_nodes::{Node, OfCurrency, Whole};
 use scr_num::Span;
 use scr_rules::{Rates, evaluate_by};
-pub(crate) use scr_subtotals::Figure;
+pub(crate) use scr_subtotals::{Figure, KeptFigure};
 use std::alloc::{AllocError as NoMemory, Global};
 use std::sync::ledger::Ledger;
 
@@ -24,10 +24,10 @@ pub(crate) const NO_FIGURE: Figure = Figure {
 };
 
 /// No figure, with room for so many.
-pub(crate) fn no_figures(alloc: Global, size: u32) -> Result<Vec<Figure>, NoMemory>
+pub(crate) fn no_figures(alloc: Global, size: u32) -> Result<Vec<KeptFigure>, NoMemory>
     ensures { IfOk result (λ figures. length figures.items ≡ size) }
 {
-    let figures = vec![in alloc; NO_FIGURE; size as usize]?;
+    let figures = vec![in alloc; KeptFigure::new(NO_FIGURE); size as usize]?;
     Ok(figures)
 }
 
@@ -59,18 +59,22 @@ impl Below {
     }
 
     /// Of one figure more.
-    pub(crate) fn push(&mut self, figure: &Figure) -> Result<(), NoMemory>
+    pub(crate) fn push(&mut self, figure: &KeptFigure) -> Result<(), NoMemory>
         ensures spans { OnOk result (self.new.spans.items ≡ self.old.spans.items ++ figure.now.span ∷ []) }
         ensures close { OnOk result (self.new.close ≡ (self.old.close || figure.now.close)) }
     {
-        self.spans.push(figure.span)?;
-        self.close = self.close || figure.close;
+        self.spans.push(figure.span())?;
+        self.close = self.close || figure.close();
         Ok(())
     }
 }
 
 /// Reads the figures at these numbers, in their order.
-pub(crate) fn read(figures: &[Figure], numbers: &[u32], below: &mut Below) -> Result<(), NoMemory>
+pub(crate) fn read(
+    figures: &[KeptFigure],
+    numbers: &[u32],
+    below: &mut Below,
+) -> Result<(), NoMemory>
     requires { All (λ number. number < length figures.now) numbers.now }
     ensures { OnOk result (AreReadAt figures.now numbers.now below.new) }
 {

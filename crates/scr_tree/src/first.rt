@@ -11,7 +11,7 @@ ghost use Rattle.scr_tree.specs.Turns.{turn};
 ghost use Rattle.scr_tree.specs.Written.{IsWrittenOf};
 
 use crate::basis::Crew;
-use crate::figures::{Below, Figure, Inputs, no_figures};
+use crate::figures::{Below, Inputs, KeptFigure, no_figures};
 use crate::first_links::{ASSETS, OF_CURRENCY, WHOLES, no_links};
 use crate::first_parts::{write_parts, write_row};
 use crate::first_totals::{pass_totals, put_totals};
@@ -44,7 +44,7 @@ pub(crate) struct Opened {
     pub(crate) rates: Rates,
     pub(crate) places: Places,
     pub(crate) lists: Lists,
-    pub(crate) figures: Vec<Figure>,
+    pub(crate) figures: Vec<KeptFigure>,
     pub(crate) links: Links,
 }
 
@@ -236,7 +236,7 @@ fn pass_assets<G: Gate>(ground: Ground<'_>, gate: &G)
     gate.pass(ASSETS);
 }
 
-fn row_ground<'a>(ground: Ground<'a>, totals: &'a [u64], figures: &[Figure]) -> RowGround<'a>
+fn row_ground<'a>(ground: Ground<'a>, totals: &'a [u64], figures: &[KeptFigure]) -> RowGround<'a>
     requires ground { IsGround ground }
     requires totals { totals.now ≡ totals_of ground.inputs.book.now.sheet }
     requires done { AreReckonedTo ground figures.now (turn 3 0 0) }
@@ -246,7 +246,7 @@ fn row_ground<'a>(ground: Ground<'a>, totals: &'a [u64], figures: &[Figure]) -> 
     RowGround {
         ground,
         totals: &totals[ground.inputs.book.sheet().funds.len()..],
-        assets: figures[ASSETS as usize].span,
+        assets: figures[ASSETS as usize].span(),
     }
 }
 
@@ -274,7 +274,7 @@ fn put_rows<G: Gate>(
 fn put_sort<G: Gate>(
     rows: &RowGround<'_>,
     sort: Sort,
-    figures: &mut [Figure],
+    figures: &mut [KeptFigure],
     room: &mut Vec<Span>,
     gate: &G,
 ) -> Result<(), NoMemory>

@@ -1,5 +1,5 @@
 //! The links between the numbers of the totals of funds and securities.
-ghost use Rattle.std.specs.Prelude.{◌≡◌, ◌+◌, ◌<◌, [], true, Some, length, slice_get, IfOk, OnOk};
+ghost use Rattle.std.specs.Prelude.{◌≡◌, ◌+◌, ◌<◌, ◌≤◌, [], true, Some, length, slice_get, IfOk, OnOk};
 ghost use Rattle.std.specs.List.{list_any};
 ghost use Rattle.scr_figures.specs.Families.{name_of, table_of};
 ghost use Rattle.scr_figures.specs.Numbers.{names_in};
@@ -28,14 +28,14 @@ pub(crate) const OF_CURRENCY: u32 = 9;
 /// How many figures of the whole sheet come after all rows: all but the assets of which concentrations are measured.
 pub(crate) const WHOLES: u32 = 153;
 
-/// No link, with room for those of figures of currencies and of the whole sheet.
+/// No link, with room for those of figures of currencies and of the whole sheet, between any numbers.
 pub(crate) fn no_links(ground: LinkGround<'_>) -> Result<Links, NoMemory>
     ensures links { IfOk result (λ links. links.edges ≡ []) }
-    ensures size { IfOk result (λ links. links.size ≡ 0) }
+    ensures size { IfOk result (λ links. links.size ≤ ground.entry.places.now.size) }
 {
     let count = expected_links(ground.book.sheet());
     let mut links = Links::new(ground.alloc)?;
-    links.reserve(ground.alloc, count, 0)?;
+    links.reserve(ground.alloc, count, ground.places.len())?;
     Ok(links)
 }
 

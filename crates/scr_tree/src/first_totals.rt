@@ -8,7 +8,7 @@ ghost use Rattle.scr_tree.specs.Figures.{total_worth, worth_of};
 ghost use Rattle.scr_tree.specs.First.{AreReckonedTo, IsDone, IsGround, totals_of};
 ghost use Rattle.scr_tree.specs.Turns.{turn};
 
-use crate::figures::Figure;
+use crate::figures::{Figure, KeptFigure};
 use crate::first_links::{link_funds, link_securities};
 use crate::making::{Ground, Making};
 use crate::row_spans::stands_alone;
@@ -40,7 +40,7 @@ pub(crate) fn put_totals<G: Gate>(
 pub(crate) fn enter_totals<G: Gate>(
     ground: Ground<'_>,
     totals: &[u64],
-    figures: &mut Vec<Figure>,
+    figures: &mut Vec<KeptFigure>,
     gate: &G,
 )
     requires ground { IsGround ground }
@@ -53,7 +53,7 @@ pub(crate) fn enter_totals<G: Gate>(
     put_securities(ground, figures, &totals[funds..], gate);
 }
 
-fn put_funds<G: Gate>(ground: Ground<'_>, figures: &mut Vec<Figure>, totals: &[u64], gate: &G)
+fn put_funds<G: Gate>(ground: Ground<'_>, figures: &mut Vec<KeptFigure>, totals: &[u64], gate: &G)
     requires ground { IsGround ground }
     requires totals { totals.now ≡ map (λ s. total_of ground.inputs.book.now.sheet (stake_name s)) ground.inputs.book.now.sheet.funds }
     requires nothing { AreReckonedTo ground figures.old.items (turn 0 0 0) }
@@ -67,7 +67,12 @@ fn put_funds<G: Gate>(ground: Ground<'_>, figures: &mut Vec<Figure>, totals: &[u
 }
 
 /// Puts those of the securities, where those of the funds are there.
-fn put_securities<G: Gate>(ground: Ground<'_>, figures: &mut Vec<Figure>, totals: &[u64], gate: &G)
+fn put_securities<G: Gate>(
+    ground: Ground<'_>,
+    figures: &mut Vec<KeptFigure>,
+    totals: &[u64],
+    gate: &G,
+)
     requires ground { IsGround ground }
     requires totals { totals.now
         ≡ map (λ p. total_of ground.inputs.book.now.sheet (position_name p)) ground.inputs.book.now.sheet.securities }
@@ -104,17 +109,17 @@ fn pass_alone<G: Gate>(ground: Ground<'_>, k: usize, number: u32, gate: &G)
 }
 
 /// Writes a total of so many cents, which rests on no choice.
-fn write_total(figures: &mut Vec<Figure>, number: u32, cents: u64)
+fn write_total(figures: &mut Vec<KeptFigure>, number: u32, cents: u64)
     requires { number < length figures.old.items }
     ensures count { length figures.new.items ≡ length figures.old.items }
     ensures there { option_map worth_of (slice_get figures.new.items number) ≡ Some (total_worth cents) }
     ensures others { (other : ℕ) → (other ≡ number → ⊥)
         → slice_get figures.new.items other ≡ slice_get figures.old.items other }
 {
-    figures[number as usize] = Figure {
+    figures[number as usize] = KeptFigure::new(Figure {
         span: amount(cents),
         close: false,
-    };
+    });
 }
 
 fn amount(cents: u64) -> Span

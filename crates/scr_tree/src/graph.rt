@@ -3,7 +3,8 @@
 ghost use Rattle.std.specs.Prelude.{◌≡◌, ◌≢◌, ◌++◌, ◌+◌, ◌-◌, ◌<◌, ◌≤◌, ◌^◌, ℕ, List, [], true, All, IfSome, IsNone, OnOk, Some, length, map, false};
 ghost use Rattle.std.specs.List.{range_with_len};
 ghost use Rattle.scr_blocks.specs.Blocks.{blocks_at, is_block};
-ghost use Rattle.scr_figures.specs.Families.{family_of};
+ghost use Rattle.scr_figures.specs.Families.{family_of, table_of as table_of_figure};
+ghost use Rattle.scr_nodes.specs.declared.node.Node.{Node as TheNode};
 ghost use Rattle.scr_numbers.specs.Ranges.{IsAt};
 ghost use Rattle.scr_rolls.specs.Seatings.{roll_in as roll_at};
 ghost use Rattle.scr_sheet.specs.Members.{table_of};
@@ -28,7 +29,7 @@ ghost use Rattle.scr_sums.specs.declared.point.Block.{Block as TheBlock};
 ghost use Rattle.scr_sums.specs.declared.point.Point.{Point as ThePoint};
 ghost use Rattle.scr_sums.specs.declared.point.Point.TheVariants as points;
 ghost use Rattle.scr_tree.specs.Marking as marking;
-ghost use Rattle.scr_tree.specs.Marking.{AreMarkedFrom, AreMarkedMore, AreRowMarked, IsAboveSquares, IsDependantAt, IsLeftToAssets, IsLinkedDependantAt, IsMemberAt, IsPlainDependantAt, IsReaderAt, IsSquaresAt};
+ghost use Rattle.scr_tree.specs.Marking.{AreMarkedFrom, AreMarkedMore, AreRowMarked, IsAboveSquares, IsDependantAt, IsLeftToAssets, IsLinkedDependantAt, IsMemberAt, IsPlainDependantAt, IsReaderAt};
 ghost use Rattle.scr_tree.specs.Points.{AreNumbersOf, IsGraphOf, StandsIn, book_graph};
 ghost use Rattle.scr_tree.specs.Points as spec;
 ghost use Rattle.scr_tree.specs.Reading as reading;
@@ -52,6 +53,7 @@ use scr_rounds::Marked;
 use scr_sheet::{Class, LiabilityKind, Projection, Roll};
 use scr_sums::{Block, Point, Sum, block_level, block_number, sum_at, sums_of};
 use std::alloc::AllocError as NoMemory;
+use std::ops::Range;
 
 /// What numbers are read off: the book, and the numbers of its rows, of its lists and of their parts.
 #[derive(Clone, Copy)]
@@ -162,12 +164,7 @@ impl<'a> Numbers<'a> {
         let first = self.lists.of(table).list(number).first()?;
         let row = self.places.at(*first)?.row;
         let seat = seat_in(&seats_at(self.book, table, row), number)?;
-        let roll = self.roll_in(table, row, seat)?;
-        if self.book.roll_number(roll)? == number {
-            Some(roll)
-        } else {
-            None
-        }
+        self.roll_in(table, row, seat)
     }
 
     /// The list of which the row at a place is a member, and which has its members in a seat.
@@ -218,49 +215,40 @@ fn seat_in(seats: &Seats, number: u32) -> Option<usize>
 // ---- levels
 
 impl<'a> Numbers<'a> {
-    /// The level of the point at a place: each source stands lower.
-    pub(crate) fn level_at(&self, number: u32, place: &Place) -> u32
+    /// The level of the point at a place: each source stands lower. And whether the point is of squares: the square of a group, or a
+    /// Block over squares.
+    pub(crate) fn level_at(&self, number: u32, place: &Place) -> (u32, bool)
         requires numbers { AreNumbersOf self.now.book.now self.now.places.now self.now.lists.now }
         requires at { IsAt self.now.places.now place.now.table place.now.row place.now.family number }
-        ensures { (point : ThePoint) → StandsIn self.now.book.now self.now.places.now self.now.lists.now point number → is_live_in (rolled_of self.now.book.now) point ≡ true → result ≡ level_in point }
+        ensures level { (point : ThePoint) → StandsIn self.now.book.now self.now.places.now self.now.lists.now point number → is_live_in (rolled_of self.now.book.now) point ≡ true → result.0 ≡ level_in point }
+        ensures squares { (point : ThePoint) → StandsIn self.now.book.now self.now.places.now self.now.lists.now point number → is_live_in (rolled_of self.now.book.now) point ≡ true → result.1 ≡ marking.is_of_squares point }
     {
         // No number is of two rows.
         let _numbers = self.places.len();
         match place.table {
             Table::Part => match self.block_at(number) {
-                Some(block) => block_level(&block),
-                None => 0,
+                Some(block) => (block_level(&block), is_squares(&block.sum)),
+                None => (0, false),
             },
-            _ => 3 * level(place.table, place.family),
+            _ => (3 * level(place.table, place.family), is_square(place)),
         }
     }
 }
 
-// ---- squares
-
-impl<'a> Numbers<'a> {
-    /// The square of a group stands at the number, or a Block over squares.
-    pub(crate) fn is_of_squares(&self, number: u32) -> bool
-        requires numbers { AreNumbersOf self.now.book.now self.now.places.now self.now.lists.now }
-        requires live { IsLiveAt (book_graph (rolled_of self.now.book.now)) (StandsIn self.now.book.now self.now.places.now self.now.lists.now) number }
-        ensures yes { result ≡ true → IsSquaresAt self.now.book.now self.now.places.now self.now.lists.now number }
-        ensures not { result ≡ false → IsSquaresAt self.now.book.now self.now.places.now self.now.lists.now number → ⊥ }
-    {
-        match self.point_at(number) {
-            Some(point) => is_of_squares(&point),
-            None => false,
-        }
-    }
-}
-
-/// The point is the square of a group, or a Block over squares.
-fn is_of_squares(point: &Point) -> bool
-    ensures { result ≡ marking.is_of_squares point.now }
+/// Its Blocks are over squares.
+fn is_squares(sum: &Sum) -> bool
+    ensures { result ≡ marking.is_squares sum.now }
 {
-    match point {
-        Point::Figure(Node::Group(_, OfGroup::ConcentrationSquare)) => true,
-        Point::Figure(_) => false,
-        Point::Block(block) => matches!(block.sum, Sum::Squares),
+    matches!(sum, Sum::Squares)
+}
+
+/// A figure at the place is the square of a group.
+fn is_square(place: &Place) -> bool
+    ensures { (node : TheNode) → table_of_figure node ≡ place.now.table → family_of node ≡ place.now.family → result ≡ marking.is_of_squares (points.Figure node) }
+{
+    match place.table {
+        Table::Group => place.family == group_family(OfGroup::ConcentrationSquare),
+        _ => false,
     }
 }
 
@@ -396,9 +384,9 @@ impl<'a> Graph<'a> {
         if firsts == 0 {
             push_members(list, members, member_family(sum))
         } else if seconds == 0 {
-            self.push_blocks(list, sum, Level::First, 0, firsts)
+            self.push_blocks(list, sum, count, Level::First, 0..firsts)
         } else {
-            self.push_blocks(list, sum, Level::Second, 0, seconds)
+            self.push_blocks(list, sum, count, Level::Second, 0..seconds)
         }
     }
 
@@ -422,34 +410,35 @@ impl<'a> Graph<'a> {
                 push_members(list, own, member_family(&block.sum))
             }
             Level::Second => {
-                let firsts = blocks_at(members.len(), Level::First);
+                let count = members.len();
+                let firsts = blocks_at(count, Level::First);
                 let among = places(firsts, Level::First, block.index as usize);
-                self.push_blocks(list, &block.sum, Level::First, among.start, among.end)
+                self.push_blocks(list, &block.sum, count, Level::First, among)
             }
         }
     }
 
+    /// The Blocks of a level that are among these, of a sum over so many members.
     fn push_blocks(
         &self,
         list: &mut Vec<u32>,
         sum: &Sum,
+        count: usize,
         level: Level,
-        start: usize,
-        end: usize,
+        among: Range<usize>,
     ) -> Result<(), NoMemory>
         requires numbers { AreNumbersOf self.now.numbers.book.now self.now.numbers.places.now self.now.numbers.lists.now }
         requires valid { Valid self.now.numbers.book.now.sheet }
-        requires reads { reads self.now.numbers.book.now.sheet sum.now ≡ true }
-        requires there { end ≤ blocks_at (length (roll_in (rolled_of self.now.numbers.book.now) sum.now)) level }
+        requires count { count ≡ length (roll_in (rolled_of self.now.numbers.book.now) sum.now) }
+        requires there { among.end ≤ blocks_at (length (roll_in (rolled_of self.now.numbers.book.now) sum.now)) level }
         ensures { OnOk result ((more : List ℕ) × (list.new.items ≡ list.old.items ++ more)
-            × AreAt (StandsIn self.now.numbers.book.now self.now.numbers.places.now self.now.numbers.lists.now) more (map (block_point sum.now level) (range_with_len start (end - start)))) }
+            × AreAt (StandsIn self.now.numbers.book.now self.now.numbers.places.now self.now.numbers.lists.now) more (map (block_point sum.now level) (range_with_len among.start (among.end - among.start)))) }
     {
         let Some(blocks) = blocks_of(self.numbers, sum) else {
             return Ok(());
         };
-        let members = self.numbers.lists.members(self.numbers.book, sum.roll());
-        for index in start..end {
-            list.push(blocks.number(members.len(), level, index))?;
+        for index in among.start..among.end {
+            list.push(blocks.number(count, level, index))?;
         }
         Ok(())
     }

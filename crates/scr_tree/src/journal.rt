@@ -1,57 +1,99 @@
 //! The former figures of what an edit reckons anew.
-ghost use Rattle.std.specs.Prelude.{◌≡◌, ◌<◌, ◌≤◌, [], All, length, nat_eq, IfOk, OnOk, OnErr};
-ghost use Rattle.std.specs.List.{IsDistinct};
-ghost use Rattle.scr_tree.specs.Order.{IsJournaled, IsWritten};
+ghost use Rattle.std.specs.Prelude.{◌≡◌, ◌+◌, ◌<◌, ◌≤◌, true, false, [], Some, length, slice_get, slice_set, vec_capacity, IfOk};
+ghost use Rattle.scr_num.specs.Rounding.{ends};
+ghost use Rattle.scr_tree.specs.Order.{AreWithin, IsJournalKept, undone};
 
-use crate::figures::Figure;
+use crate::figures::{Figure, KeptFigure};
 use std::alloc::{AllocError as NoMemory, Global};
 
-/// Numbers in the order in which their figures are written, and the former figures of those that have been.
+/// A figure that was written over, and its number.
+#[derive(Clone, Copy)]
+pub(crate) struct Former {
+    number: u32,
+    figure: Figure,
+}
+
+/// Numbers in the order in which their figures are written, and how many have been. Of each figure that became another the former
+/// one is kept, in the same order. There is room for those of all that are left.
 #[derive(Drop)]
 pub(crate) struct Journal {
-    pub(crate) numbers: Vec<u32>,
-    former: Vec<Figure>,
+    numbers: Vec<u32>,
+    next: usize,
+    former: Vec<Former>,
+    ghost left: { next ≤ length numbers.items },
+    ghost room: { length former.items + length numbers.items ≤ vec_capacity former + next },
 }
 
 impl Journal {
-    ghost use Rattle.std.specs.Prelude.{List};
-    ghost use Rattle.scr_subtotals.specs.declared.figure.Figure.{Figure};
-
     /// No figure is written yet.
     pub(crate) fn new(alloc: Global, numbers: Vec<u32>) -> Result<Journal, NoMemory>
         ensures numbers { IfOk result (λ journal. journal.numbers.items ≡ numbers.items) }
+        ensures first { IfOk result (λ journal. journal.next ≡ 0) }
         ensures none { IfOk result (λ journal. journal.former.items ≡ []) }
     {
         let former = Vec::with_capacity(alloc, numbers.len())?;
-        Ok(Journal { numbers, former })
+        Ok(Journal {
+            numbers,
+            next: 0,
+            former,
+        })
     }
 
-    /// Writes the figure of the next number. Where memory is refused, all is as before.
-    pub(crate) fn write(&mut self, figures: &mut [Figure], figure: Figure) -> Result<(), NoMemory>
-        requires next { length self.old.former.items < length self.old.numbers.items }
-        requires within { All (λ number. number < length figures.old) self.old.numbers.items }
+    /// The number whose figure is written next, if one is left.
+    pub(crate) fn next_number(&self) -> Option<u32>
+        ensures { result ≡ slice_get self.now.numbers.items self.now.next }
+    {
+        self.numbers.as_slice().get(self.next).copied()
+    }
+
+    /// The figure that is written next is that of this number.
+    pub(crate) fn is_next(&self, number: u32) -> bool
+        ensures yes { result ≡ true → slice_get self.now.numbers.items self.now.next ≡ Some number }
+        ensures not { result ≡ false → slice_get self.now.numbers.items self.now.next ≡ Some number → ⊥ }
+    {
+        self.next < self.numbers.len() && self.numbers[self.next] == number
+    }
+
+    /// Writes the figure of the next number, and keeps the one that stood there. Where that is the same, neither is done. It takes no
+    /// memory.
+    pub(crate) fn write(&mut self, figures: &mut [KeptFigure], number: u32, figure: Figure)
+        requires next { slice_get self.old.numbers.items self.old.next ≡ Some number }
+        requires within { number < length figures.old }
         ensures numbers { self.new.numbers.items ≡ self.old.numbers.items }
-        ensures ok { OnOk result (IsWritten self.old.numbers.items figure self.old.former.items figures.old
-            self.new.former.items figures.new) }
-        ensures former { OnErr result (self.new.former.items ≡ self.old.former.items) }
-        ensures figures { OnErr result (figures.new ≡ figures.old) }
+        ensures next { self.new.next ≡ self.old.next + 1 }
+        ensures written { figures.new ≡ slice_set figures.old number figure }
+        ensures journaled { IsJournalKept self.old.former.items figures.old self.new.former.items figures.new }
+        ensures short { slice_get figures.old number ≡ Some figure → self.new.former.items ≡ self.old.former.items }
     {
-        let number = self.numbers[self.former.len()] as usize;
-        self.former.push(figures[number])?;
-        figures[number] = figure;
-        Ok(())
+        self.next += 1;
+        let place = number as usize;
+        let was = figures[place].figure();
+        if is_same(was, figure) {
+            return;
+        }
+        self.former.push_reserved(Former {
+            number,
+            figure: was,
+        });
+        figures[place] = KeptFigure::new(figure);
     }
 
-    /// Writes the former figures back.
-    pub(crate) fn undo(&self, figures: &mut [Figure])
-        requires few { length self.now.former.items ≤ length self.now.numbers.items }
-        requires once { IsDistinct nat_eq self.now.numbers.items }
-        requires within { All (λ number. number < length figures.old) self.now.numbers.items }
-        ensures { (before : List Figure) → IsJournaled self.now.numbers.items self.now.former.items before figures.old
-            → figures.new ≡ before }
+    /// Writes the former figures back, the last one first.
+    pub(crate) fn undo(self, figures: &mut [KeptFigure])
+        requires { AreWithin (length figures.old) self.former.items }
+        ensures { figures.new ≡ undone self.former.items figures.old }
     {
-        for (k, former) in self.former.iter().enumerate() {
-            figures[self.numbers[k] as usize] = *former;
+        let Journal { mut former, .. } = self;
+        while let Some(was) = former.pop() {
+            figures[was.number as usize] = KeptFigure::new(was.figure);
         }
     }
+}
+
+/// The two figures are the same.
+fn is_same(one: Figure, other: Figure) -> bool
+    ensures yes { result ≡ true → (ends one.span ≡ ends other.span) × (one.close ≡ other.close) }
+    ensures not { result ≡ false → one ≡ other → ⊥ }
+{
+    one.span.low == other.span.low && one.span.high == other.span.high && one.close == other.close
 }

@@ -17,7 +17,7 @@ ghost use Rattle.scr_tree.specs.Points.{is_linked};
 ghost use Rattle.scr_tree.specs.Summed.{summed_in};
 ghost use Rattle.scr_tree.specs.Turns.{next, stage_of, turn_of};
 
-use crate::figures::{Below, Figure, Inputs, read, reckoned};
+use crate::figures::{Below, Figure, Inputs, KeptFigure, read, reckoned};
 use crate::graph::Numbers;
 use crate::sums::{by_sums, put_blocks, sum_there};
 use scr_book::Book;
@@ -87,7 +87,7 @@ impl<'a> Ground<'a> {
 /// The figures by number, and the links from the numbers of their sources.
 #[derive(Drop)]
 pub(crate) struct Made {
-    pub(crate) figures: Vec<Figure>,
+    pub(crate) figures: Vec<KeptFigure>,
     pub(crate) links: Links,
 }
 
@@ -121,14 +121,14 @@ pub(crate) fn enter(
 }
 
 /// Writes a figure at its number.
-fn write(figures: &mut Vec<Figure>, number: u32, figure: Figure)
+fn write(figures: &mut Vec<KeptFigure>, number: u32, figure: Figure)
     requires { number < length figures.old.items }
     ensures count { length figures.new.items ≡ length figures.old.items }
     ensures there { slice_get figures.new.items number ≡ Some figure }
     ensures others { (other : ℕ) → (other ≡ number → ⊥)
         → slice_get figures.new.items other ≡ slice_get figures.old.items other }
 {
-    figures[number as usize] = figure;
+    figures[number as usize] = KeptFigure::new(figure);
 }
 
 /// Room for links from these sources to a number.
@@ -314,7 +314,7 @@ fn put_summed<G: Gate, L: Ledger>(
 }
 
 /// Writes all Blocks under the sums of a figure. A currency's fall has those of its rise, with which they are written.
-fn put_under<G: Gate>(ground: Ground<'_>, figures: &mut Vec<Figure>, node: &Node, gate: &G)
+fn put_under<G: Gate>(ground: Ground<'_>, figures: &mut Vec<KeptFigure>, node: &Node, gate: &G)
     requires ground { IsGround ground }
     requires live { is_live ground.inputs.book.now.sheet node.now ≡ true }
     requires count { length figures.old.items ≡ ground.places.now.size }
@@ -345,7 +345,7 @@ fn is_reader(node: &Node) -> bool
 /// Writes all Blocks under a sum, if there is one.
 pub(crate) fn put_found<G: Gate>(
     ground: Ground<'_>,
-    figures: &mut Vec<Figure>,
+    figures: &mut Vec<KeptFigure>,
     found: &Option<Sum>,
     gate: &G,
 )
@@ -365,7 +365,7 @@ pub(crate) fn put_found<G: Gate>(
 }
 
 /// What a sum comes to whose Blocks are there; one that is not there comes to nothing.
-fn sum_under(ground: Ground<'_>, figures: &[Figure], found: &Option<Sum>) -> Span
+fn sum_under(ground: Ground<'_>, figures: &[KeptFigure], found: &Option<Sum>) -> Span
     requires ground { IsGround ground }
     requires reads { (sum : TheSum) → found.now ≡ Some sum → reads ground.inputs.book.now.sheet sum ≡ true }
     requires count { length figures.now ≡ ground.places.now.size }

@@ -1,26 +1,30 @@
 //! The points that an edit reaches, reckoned in place, each once and after all that it is reckoned from.
-ghost use Rattle.std.specs.Prelude.{◌≡◌, ◌+◌, ◌<◌, ◌≤◌, ◌||◌, [], true, Some, length, slice_get, IfOk, OnOk, OnErr};
+ghost use Rattle.std.specs.Prelude.{◌≡◌, ◌+◌, ◌<◌, ◌≤◌, ◌||◌, [], true, false, Some, drop, length, slice_get, IfOk, OnOk, OnErr};
 ghost use Rattle.scr_num.specs.Rounding.{ends};
 ghost use Rattle.scr_numbers.specs.Ranges.{first};
 ghost use Rattle.scr_numbers.specs.declared.table.Table.TheVariants as ranged;
+ghost use Rattle.scr_blocks.specs.declared.blocks.Level.TheVariants as levels;
+ghost use Rattle.scr_sums.specs.Graph.{block_point};
+ghost use Rattle.scr_sums.specs.declared.sum.Sum.TheVariants as sums;
 ghost use Rattle.scr_tree.specs.Opening.{opens_in};
-ghost use Rattle.scr_tree.specs.Order.{IsJournaled};
-ghost use Rattle.scr_tree.specs.Ready.{AreInTurnOn, AreKnownBut, AreSettledOn, IsBasis, IsOrderOn, IsReadyOn, IsRightOn, IsSquareOn};
+ghost use Rattle.scr_tree.specs.Order.{IsJournalKept, IsJournaled};
+ghost use Rattle.scr_tree.specs.Ready.{AreInTurnOn, AreKnownBut, AreSettledOn, IsBasis, IsOrderOn, IsReadyOn, IsRightOn, IsSquareOn, StandsOn};
+ghost use Rattle.scr_tree.specs.SquareRun.{IsBlockRunOn, IsSquareAtOn, IsSquareRunOn};
 
 use crate::added::added_up;
 use crate::basis::{Basis, Crew};
-use crate::figures::{Below, Figure, Inputs, is_open_choice, read};
+use crate::figures::{Below, Figure, Inputs, KeptFigure, is_open_choice, read};
 use crate::first_links::ASSETS;
 use crate::journal::Journal;
 use crate::order::Order;
-use crate::sums::span_of;
+use crate::sums::{blocks_of, span_of};
 use crate::together::reckon_together;
-use scr_blocks::Level;
+use scr_blocks::{Level, blocks_at};
 use scr_io::{Gate, Steps};
 use scr_num::Span;
 use scr_numbers::{Places, Table};
 use scr_rules::concentration_square;
-use scr_sums::Point;
+use scr_sums::{Block, Point, Sum};
 use std::alloc::{AllocError as NoMemory, Global};
 use std::sync::ledger::Ledger;
 use std::thread::Threads;
@@ -28,13 +32,11 @@ use std::thread::Threads;
 /// So many figures that are reckoned from payments are worth several workers.
 const SHARED: u32 = 256;
 
-/// Room for what one point is reckoned from: the numbers of its sources, and their spans. And the row of the group whose square comes
-/// next, where the squares of all groups come.
+/// Room for what one point is reckoned from: the numbers of its sources, and their spans.
 #[derive(Drop)]
 pub(crate) struct Scratch {
     pub(crate) sources: Vec<u32>,
     pub(crate) below: Below,
-    row: usize,
 }
 
 impl Scratch {
@@ -45,7 +47,6 @@ impl Scratch {
                 spans: Vec::new(alloc),
                 close: false,
             },
-            row: 0,
         }
     }
 }
@@ -56,7 +57,7 @@ pub(crate) fn reckon_in_place<R: Threads + Sync, G: Gate + Sync, L: Ledger>(
     crew: &Crew<'_, R, G>,
     basis: Basis<'_>,
     order: Order,
-    figures: &mut Vec<Figure>,
+    figures: &mut Vec<KeptFigure>,
     scratch: &mut Scratch,
     steps: &mut Steps<L>,
 ) -> Result<(), NoMemory>
@@ -105,7 +106,7 @@ fn reckon_in_turn<R: Threads + Sync, G: Gate + Sync, L: Ledger>(
     crew: &Crew<'_, R, G>,
     basis: Basis<'_>,
     order: Order,
-    figures: &mut Vec<Figure>,
+    figures: &mut Vec<KeptFigure>,
     scratch: &mut Scratch,
     steps: &mut Steps<L>,
 ) -> Result<(), NoMemory>
@@ -132,68 +133,106 @@ fn reckon_in_turn<R: Threads + Sync, G: Gate + Sync, L: Ledger>(
 fn write_in_turn<G: Gate, L: Ledger>(
     basis: Basis<'_>,
     journal: &mut Journal,
-    figures: &mut Vec<Figure>,
+    figures: &mut Vec<KeptFigure>,
     scratch: &mut Scratch,
     gate: &G,
     steps: &mut Steps<L>,
 ) -> Result<(), NoMemory>
     requires basis { IsBasis basis }
+    requires first { journal.old.next ≡ 0 }
     requires none { journal.old.former.items ≡ [] }
     requires turn { AreInTurnOn basis journal.old.numbers.items }
     requires known { AreKnownBut basis figures.old.items journal.old.numbers.items }
     requires room { basis.places.now.size ≤ length figures.old.items }
     ensures settled { OnOk result (AreSettledOn basis.entry figures.new.items) }
     ensures steps { OnOk result (steps.new ≡ steps.old + length journal.old.numbers.items) }
-    ensures numbers { journal.new.numbers.items ≡ journal.old.numbers.items }
-    ensures journaled { IsJournaled journal.old.numbers.items journal.new.former.items figures.old.items figures.new.items }
+    ensures journaled { IsJournaled journal.new.former.items figures.old.items figures.new.items }
 {
-    scratch.row = 0;
-    for k in 0..journal.numbers.len() {
-        let number = journal.numbers[k];
-        let figure = next_figure(basis, figures.as_slice(), number, scratch, gate, steps)?;
-        journal.write(figures.as_mut_slice(), figure)?;
+    while let Some(number) = journal.next_number() {
+        if is_first_square(basis, number) {
+            write_square_sum(basis, journal, figures.as_mut_slice(), gate, steps);
+        } else {
+            let figure = figure_at(basis, figures.as_slice(), number, scratch, gate, steps)?;
+            journal.write(figures.as_mut_slice(), number, figure);
+        }
     }
     Ok(())
 }
 
-/// The figure at a number, reckoned from those of its sources. Where the squares of all groups come they come row by row.
-fn next_figure<G: Gate, L: Ledger>(
-    basis: Basis<'_>,
-    figures: &[Figure],
-    number: u32,
-    scratch: &mut Scratch,
-    gate: &G,
-    steps: &mut Steps<L>,
-) -> Result<Figure, NoMemory>
-    requires basis { IsBasis basis }
-    requires ready { IsReadyOn basis figures.now number }
-    ensures figure { IfOk result (IsRightOn basis.entry number) }
-    ensures step { OnOk result (steps.new ≡ steps.old + 1) }
-{
-    let row = scratch.row;
-    if is_square_of(basis, row, number) {
-        scratch.row = row + 1;
-        return Ok(square_at(basis, figures, row, number, gate, steps));
-    }
-    figure_at(basis, figures, number, scratch, gate, steps)
-}
-
-/// The number is that of the square of the group in a row.
-fn is_square_of(basis: Basis<'_>, row: usize, number: u32) -> bool
+/// The number is that of the square of the first group.
+fn is_first_square(basis: Basis<'_>, number: u32) -> bool
     requires { IsBasis basis }
-    ensures { result ≡ true → IsSquareOn basis.entry row number }
+    ensures yes { result ≡ true → IsSquareOn basis.entry 0 number }
+    ensures not { result ≡ false → IsSquareOn basis.entry 0 number → ⊥ }
 {
     let count = basis.inputs.book.sheet().groups.len();
-    if row >= count {
+    if count == 0 {
         return false;
     }
-    basis.places.first(Table::Group, row) + 1 == number
+    basis.places.first(Table::Group, 0) + 1 == number
+}
+
+/// Writes the squares of all groups, of which that of the first comes next, and the Blocks of the first level over them: as many of
+/// either as come in their order.
+#[inline(never)]
+fn write_square_sum<G: Gate, L: Ledger>(
+    basis: Basis<'_>,
+    journal: &mut Journal,
+    figures: &mut [KeptFigure],
+    gate: &G,
+    steps: &mut Steps<L>,
+)
+    requires basis { IsBasis basis }
+    requires turn { AreInTurnOn basis journal.old.numbers.items }
+    requires first { IsSquareAtOn basis 0 journal.old.numbers.items journal.old.next }
+    requires known { AreKnownBut basis figures.old (drop journal.old.next journal.old.numbers.items) }
+    requires room { basis.places.now.size ≤ length figures.old }
+    ensures some { journal.old.next < journal.new.next }
+    ensures known { AreKnownBut basis.entry figures.new (drop journal.new.next journal.old.numbers.items) }
+    ensures numbers { journal.new.numbers.items ≡ journal.old.numbers.items }
+    ensures journaled { IsJournalKept journal.old.former.items figures.old journal.new.former.items figures.new }
+    ensures steps { steps.new + journal.old.next ≡ steps.old + journal.new.next }
+{
+    write_squares(basis, journal, figures, gate, steps);
+    write_blocks(basis, journal, figures, gate, steps);
+}
+
+/// Writes the squares of the groups in the first rows, of which that of the first comes next: as many as come in the order of the rows.
+#[inline(never)]
+fn write_squares<G: Gate, L: Ledger>(
+    basis: Basis<'_>,
+    journal: &mut Journal,
+    figures: &mut [KeptFigure],
+    gate: &G,
+    steps: &mut Steps<L>,
+)
+    requires basis { IsBasis basis }
+    requires turn { AreInTurnOn basis journal.old.numbers.items }
+    requires first { IsSquareAtOn basis 0 journal.old.numbers.items journal.old.next }
+    requires known { AreKnownBut basis figures.old (drop journal.old.next journal.old.numbers.items) }
+    requires room { basis.places.now.size ≤ length figures.old }
+    ensures run { IsSquareRunOn basis.entry journal.old.numbers.items journal.old.next journal.new.next }
+    ensures long { length figures.new ≡ length figures.old }
+    ensures known { AreKnownBut basis.entry figures.new (drop journal.new.next journal.old.numbers.items) }
+    ensures numbers { journal.new.numbers.items ≡ journal.old.numbers.items }
+    ensures journaled { IsJournalKept journal.old.former.items figures.old journal.new.former.items figures.new }
+    ensures steps { steps.new + journal.old.next ≡ steps.old + journal.new.next }
+{
+    let count = basis.inputs.book.sheet().groups.len();
+    for row in 0..count {
+        let number = basis.places.first(Table::Group, row) + 1;
+        if !journal.is_next(number) {
+            return;
+        }
+        let figure = square_at(basis, figures, row, number, gate, steps);
+        journal.write(figures, number, figure);
+    }
 }
 
 /// The square of the concentration of the group in a row, which has the number, from the assets and the group's total.
 fn square_at<G: Gate, L: Ledger>(
     basis: Basis<'_>,
-    figures: &[Figure],
+    figures: &[KeptFigure],
     row: usize,
     number: u32,
     gate: &G,
@@ -218,11 +257,71 @@ fn square_at<G: Gate, L: Ledger>(
     Figure { span, close }
 }
 
-fn figure_of(figures: &[Figure], number: u32) -> Figure
+/// Writes the Blocks of the first level over the squares of all groups: as many as come next in their order.
+fn write_blocks<G: Gate, L: Ledger>(
+    basis: Basis<'_>,
+    journal: &mut Journal,
+    figures: &mut [KeptFigure],
+    gate: &G,
+    steps: &mut Steps<L>,
+)
+    requires basis { IsBasis basis }
+    requires turn { AreInTurnOn basis journal.old.numbers.items }
+    requires known { AreKnownBut basis figures.old (drop journal.old.next journal.old.numbers.items) }
+    requires room { basis.places.now.size ≤ length figures.old }
+    ensures run { IsBlockRunOn basis.entry journal.old.numbers.items journal.old.next journal.new.next }
+    ensures known { AreKnownBut basis.entry figures.new (drop journal.new.next journal.old.numbers.items) }
+    ensures numbers { journal.new.numbers.items ≡ journal.old.numbers.items }
+    ensures journaled { IsJournalKept journal.old.former.items figures.old journal.new.former.items figures.new }
+    ensures steps { steps.new + journal.old.next ≡ steps.old + journal.new.next }
+{
+    let numbers = basis.numbers();
+    let sum = Sum::Squares;
+    let members = numbers.lists.members(numbers.book, sum.roll());
+    let count = members.len();
+    let Some(blocks) = blocks_of(numbers, &sum) else {
+        return;
+    };
+    for index in 0..blocks_at(count, Level::First) {
+        let number = blocks.number(count, Level::First, index);
+        if !journal.is_next(number) {
+            return;
+        }
+        let figure = block_at(basis, figures, index as u32, number, gate, steps);
+        journal.write(figures, number, figure);
+    }
+}
+
+/// What a Block of the first level over the squares of all groups comes to, which has the number.
+fn block_at<G: Gate, L: Ledger>(
+    basis: Basis<'_>,
+    figures: &[KeptFigure],
+    index: u32,
+    number: u32,
+    gate: &G,
+    steps: &mut Steps<L>,
+) -> Figure
+    requires basis { IsBasis basis }
+    requires own { StandsOn basis (block_point sums.Squares levels.First index) number }
+    requires ready { IsReadyOn basis figures.now number }
+    ensures figure { IsRightOn basis.entry number result }
+    ensures step { steps.new ≡ steps.old + 1 }
+{
+    let block = Block {
+        sum: Sum::Squares,
+        level: Level::First,
+        index,
+    };
+    gate.pass(number);
+    steps.tick();
+    added_up(basis, figures, number, &block)
+}
+
+fn figure_of(figures: &[KeptFigure], number: u32) -> Figure
     requires { number < length figures.now }
     ensures { slice_get figures.now number ≡ Some result }
 {
-    figures[number as usize]
+    figures[number as usize].figure()
 }
 
 /// One of two figures rests on an open choice.
@@ -235,7 +334,7 @@ fn rests_on_either(one: Figure, other: Figure) -> bool
 /// The figure at a number, reckoned from those of its sources.
 pub(crate) fn figure_at<G: Gate, L: Ledger>(
     basis: Basis<'_>,
-    figures: &[Figure],
+    figures: &[KeptFigure],
     number: u32,
     scratch: &mut Scratch,
     gate: &G,

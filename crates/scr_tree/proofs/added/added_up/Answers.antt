@@ -3,8 +3,8 @@ use Rattle.scr_tree.proofs.AddedUp.{added-low, added-right, added-together, adde
 use Rattle.scr_tree.proofs.PointSources.{first-firsts, firsts-are}
 use Rattle.scr_tree.proofs.added.added_up.Goals as goal
 
-pub add_all-span-requires-clause-within : goal.add_all-span-requires-clause-within
-add_all-span-requires-clause-within c =
+pub add_figures-requires-clause-within : goal.add_figures-requires-clause-within
+add_figures-requires-clause-within c =
     let b = c.args.basis in
     let block = c.args.block.now in
     let of = c.requires.basis.graph.numbers_of in
@@ -13,8 +13,8 @@ add_all-span-requires-clause-within c =
     (first-firsts b.inputs.book.now b.places.now b.lists.now of c.requires.basis.valid block c.requires.live c.members-members.result.now c.part-own.result.now c.part-own.ensures all)
     c.args.figures.now c.args.number c.requires.ready c.requires.at
 
-pub add_all-span-requires-clause-low : goal.add_all-span-requires-clause-low
-add_all-span-requires-clause-low c =
+pub add_figures-requires-clause-low : goal.add_figures-requires-clause-low
+add_figures-requires-clause-low c =
     let b = c.args.basis in
     let block = c.args.block.now in
     let of = c.requires.basis.graph.numbers_of in
@@ -23,8 +23,8 @@ add_all-span-requires-clause-low c =
     (first-firsts b.inputs.book.now b.places.now b.lists.now of c.requires.basis.valid block c.requires.live c.members-members.result.now c.part-own.result.now c.part-own.ensures all)
     (omega (arith, c.len-size.ensures.size))
 
-pub add_all-span-requires-clause-together : goal.add_all-span-requires-clause-together
-add_all-span-requires-clause-together c =
+pub add_figures-requires-clause-together : goal.add_figures-requires-clause-together
+add_figures-requires-clause-together c =
     let b = c.args.basis in
     let block = c.args.block.now in
     let of = c.requires.basis.graph.numbers_of in
@@ -32,26 +32,6 @@ add_all-span-requires-clause-together c =
     added-together b c.requires.basis block c.requires.live c.requires.first c.member_family-family.result c.member_family-family.ensures c.part-own.result.now
     (first-firsts b.inputs.book.now b.places.now b.lists.now of c.requires.basis.valid block c.requires.live c.members-members.result.now c.part-own.result.now c.part-own.ensures all)
     c.args.figures.now c.args.number c.requires.ready c.requires.at c.known.ensures
-
-pub is_any_close-close-requires-clause-within : goal.is_any_close-close-requires-clause-within
-is_any_close-close-requires-clause-within c =
-    let b = c.args.basis in
-    let block = c.args.block.now in
-    let of = c.requires.basis.graph.numbers_of in
-    let all = firsts-are b.inputs.book.now b.places.now b.lists.now of c.requires.basis.valid block.sum c.roll.result c.members-members.result.now c.members-members.ensures c.roll.ensures in
-    added-within b c.requires.basis block c.requires.live c.requires.first c.member_family-family.result c.member_family-family.ensures c.part-own.result.now
-    (first-firsts b.inputs.book.now b.places.now b.lists.now of c.requires.basis.valid block c.requires.live c.members-members.result.now c.part-own.result.now c.part-own.ensures all)
-    c.args.figures.now c.args.number c.requires.ready c.requires.at
-
-pub is_any_close-close-requires-clause-low : goal.is_any_close-close-requires-clause-low
-is_any_close-close-requires-clause-low c =
-    let b = c.args.basis in
-    let block = c.args.block.now in
-    let of = c.requires.basis.graph.numbers_of in
-    let all = firsts-are b.inputs.book.now b.places.now b.lists.now of c.requires.basis.valid block.sum c.roll.result c.members-members.result.now c.members-members.ensures c.roll.ensures in
-    added-low b c.requires.basis block c.requires.live c.requires.first c.member_family-family.result c.member_family-family.ensures c.part-own.result.now
-    (first-firsts b.inputs.book.now b.places.now b.lists.now of c.requires.basis.valid block c.requires.live c.members-members.result.now c.part-own.result.now c.part-own.ensures all)
-    (omega (arith, c.len-size.ensures.size))
 
 pub returns : goal.returns
 returns c =
@@ -61,4 +41,4 @@ returns c =
     let all = firsts-are b.inputs.book.now b.places.now b.lists.now of c.requires.basis.valid block.sum c.roll.result c.members-members.result.now c.members-members.ensures c.roll.ensures in
     added-right b c.requires.basis block c.requires.live c.requires.first c.member_family-family.result c.member_family-family.ensures c.part-own.result.now
     (first-firsts b.inputs.book.now b.places.now b.lists.now of c.requires.basis.valid block c.requires.live c.members-members.result.now c.part-own.result.now c.part-own.ensures all)
-    c.args.figures.now c.args.number c.requires.ready c.requires.at c.add_all-span.result c.is_any_close-close.result c.add_all-span.ensures c.is_any_close-close.ensures
+    c.args.figures.now c.args.number c.requires.ready c.requires.at c.add_figures.result.span c.add_figures.result.close c.add_figures.ensures.span c.add_figures.ensures.close

@@ -1,6 +1,7 @@
-use Rattle.std.proofs.Common.{sym, subst, ◌∙◌, arith}
+use Rattle.std.proofs.Common.{sym, ap, subst, ◌∙◌, arith}
 use Rattle.scr_tree.specs.First.{IsDone, IsWhole}
 use Rattle.scr_tree.specs.Turns.{turn}
+use Rattle.scr_tree.specs.declared.making.LinkGround.{LinkGround}
 use Rattle.scr_tree.specs.declared.making.Making.{Making}
 use Rattle.scr_tree.proofs.AllMade.{nothing-made}
 use Rattle.scr_tree.proofs.first.make_all.Goals as goal
@@ -12,7 +13,8 @@ put_in_turn-requires-clause-nothing g c =
     subst (λ made. IsDone ground made (turn 0 0 0)) (sym c.making_of-making.ensures)
     (nothing-made ground c.requires.ground (record { figures = c.in_ok-figures.figures; links = c.in_ok-links.links })
     (c.in_ok-figures.ensures ∙ c.len.ensures.size)
-    (let none = c.in_ok-links.ensures.size in omega (arith, none)) c.in_ok-links.ensures.links)
+    (let few = c.in_ok-links.ensures.size in let same = ap (λ (linked : LinkGround). linked.places.now.size) c.for_links.ensures in
+    omega (arith, few, same)) c.in_ok-links.ensures.links)
 
 pub put_together-requires-clause-nothing : goal.put_together-requires-clause-nothing
 put_together-requires-clause-nothing g c κs within =
@@ -20,7 +22,8 @@ put_together-requires-clause-nothing g c κs within =
     subst (λ made. IsDone ground made (turn 0 0 0)) (sym c.making_of-making.ensures)
     (nothing-made ground c.requires.ground (record { figures = c.in_ok-figures.figures; links = c.in_ok-links.links })
     (c.in_ok-figures.ensures ∙ c.len.ensures.size)
-    (let none = c.in_ok-links.ensures.size in omega (arith, none)) c.in_ok-links.ensures.links)
+    (let few = c.in_ok-links.ensures.size in let same = ap (λ (linked : LinkGround). linked.places.now.size) c.for_links.ensures in
+    omega (arith, few, same)) c.in_ok-links.ensures.links)
 
 pub returns : goal.returns
 returns g c =

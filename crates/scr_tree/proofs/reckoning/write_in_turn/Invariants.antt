@@ -1,14 +1,16 @@
-use Rattle.std.proofs.Common.{◌≡◌, ◌+◌, drop, length}
+use Rattle.std.proofs.Common.{◌≡◌, ◌+◌, ◌-◌, drop, length}
 use Rattle.scr_tree.specs.Order.{IsJournaled}
 use Rattle.scr_tree.specs.Ready.{AreKnownBut}
 use Rattle.scr_tree.proofs.reckoning.write_in_turn.Given as goal
 
 -- the figures so far are known, each by a step, and the former ones are kept
-abbrev pub invariant-loop-k : goal.invariant-loop-k
-invariant-loop-k g l = record {
-  count : length l.journal.former.items ≡ l.k;
+abbrev pub invariant-loop-number : goal.invariant-loop-number
+invariant-loop-number g l = record {
   numbers : l.journal.numbers.items ≡ l.fn.journal.numbers.items;
-  known : AreKnownBut l.basis l.figures.items (drop l.k l.fn.journal.numbers.items);
-  journaled : IsJournaled l.fn.journal.numbers.items l.journal.former.items l.fn.figures.items l.figures.items;
-  steps : l.steps ≡ l.fn.steps + l.k;
+  known : AreKnownBut l.basis l.figures.items (drop l.journal.next l.fn.journal.numbers.items);
+  journaled : IsJournaled l.journal.former.items l.fn.figures.items l.figures.items;
+  steps : l.steps ≡ l.fn.steps + l.journal.next;
 }
+
+abbrev pub decreases-loop-number : goal.decreases-loop-number
+decreases-loop-number g l = length l.fn.journal.numbers.items - l.journal.next

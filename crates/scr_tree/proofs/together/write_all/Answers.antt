@@ -89,7 +89,7 @@ loop-k-preserved c =
     let dues = c.args.dues.now in
     let k = c.loop-k.k in
     let figures = c.loop-k.figures in
-    let figure = c.figure_with-figure.result in
+    let figure = c.new.result in
     let due = c.index-dues-k.result in
     let number = (get_or dues k c.index-dues-k-in-loop-k.result).number in
     let there : slice_get (numbers_of dues) k ≡ Some number =
@@ -97,7 +97,8 @@ loop-k-preserved c =
     let same : due.number ≡ number =
     (let both : Some due.number ≡ Some number =
     sym (number-there b dues c.args.spans.now c.requires.spans k c.loop-k-test.true due c.index-dues-k.is) ∙ there in cc) in
-    let right : IsRightOn b number figure = subst (λ n. IsRightOn b n figure) same c.figure_with-figure.ensures in
+    let right : IsRightOn b number figure = subst (IsRightOn b number) (sym c.new.ensures)
+    (subst (λ n. IsRightOn b n c.figure_with-figure.result) same c.figure_with-figure.ensures) in
     let low : number < length figures =
     within b c.requires.basis dues c.requires.turn k number there c.args.figures.now figures c.requires.room c.loop-k.invariant.long in
     record {

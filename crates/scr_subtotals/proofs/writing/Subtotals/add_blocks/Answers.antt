@@ -1,5 +1,8 @@
-use Rattle.std.proofs.Common.{ℕ, ◌-◌, get_or, subst, arith}
-use Rattle.scr_num.specs.Rounding.{ends}
+use Rattle.std.proofs.Common.{◌≡◌, ℕ, ◌-◌, get_or, ap, subst, ◌∙◌, arith}
+use Rattle.std.specs.Prelude.{nat_abs}
+use Rattle.scr_num.specs.Rounding.{add_ends, ends}
+use Rattle.scr_num.specs.declared.span.Span.{Span}
+use Rattle.scr_subtotals.specs.declared.figure.Figure.{Figure}
 use Rattle.scr_subtotals.specs.Written.{blocks_ends}
 use Rattle.scr_subtotals.proofs.Added.{AddedTo, added-end, added-next, next-high, next-low}
 use Rattle.scr_subtotals.proofs.Seconds.{block-at, blocks-length}
@@ -22,7 +25,9 @@ add-sum-requires-clause-b_low c =
     (omega (arith, low, from, blocks-length figures s c.args.level c.args.start many))
     (block-at figures s c.args.level c.args.start many i n d from (omega (arith, low, from)) is (omega (arith, within, is, room)))
     c.requires.together.lows c.loop-index.invariant.added in
-    omega (arith, few)
+    let span : c.span.result ≡ (get_or figures n d).span = c.span.ensures ∙ ap (λ (f : Figure). f.span) c.index-figures-number.is in
+    let same = ap (λ (s : Span). nat_abs s.low) span in
+    omega (arith, few, same)
 
 pub add-sum-requires-clause-b_high : goal.add-sum-requires-clause-b_high
 add-sum-requires-clause-b_high c =
@@ -41,7 +46,9 @@ add-sum-requires-clause-b_high c =
     (omega (arith, low, from, blocks-length figures s c.args.level c.args.start many))
     (block-at figures s c.args.level c.args.start many i n d from (omega (arith, low, from)) is (omega (arith, within, is, room)))
     c.requires.together.highs c.loop-index.invariant.added in
-    omega (arith, few)
+    let span : c.span.result ≡ (get_or figures n d).span = c.span.ensures ∙ ap (λ (f : Figure). f.span) c.index-figures-number.is in
+    let same = ap (λ (s : Span). nat_abs s.high) span in
+    omega (arith, few, same)
 
 pub loop-index-preserved : goal.loop-index-preserved
 loop-index-preserved c =
@@ -55,12 +62,13 @@ loop-index-preserved c =
     let is = c.number-number.ensures.number in
     let room = c.requires.room in
     let from = c.loop-index.invariant.from in
+    let span : c.span.result ≡ (get_or figures n d).span = c.span.ensures ∙ ap (λ (f : Figure). f.span) c.index-figures-number.is in
     let low = c.loop-index-test.true in
     let all = blocks_ends figures s c.args.level c.args.start many in
     let next = added-next all (ends c.loop-index.sum) (ends (get_or figures n d).span) (ends c.add-sum.result) (i - c.args.start)
     (omega (arith, low, from, blocks-length figures s c.args.level c.args.start many))
     (block-at figures s c.args.level c.args.start many i n d from (omega (arith, low, from)) is (omega (arith, within, is, room)))
-    c.add-sum.ensures.ends c.loop-index.invariant.added in
+    (c.add-sum.ensures.ends ∙ ap (λ (s : Span). add_ends (ends c.loop-index.sum) (ends s)) span) c.loop-index.invariant.added in
     record {
       from = omega (arith, from);
       added = subst (λ (k : ℕ). AddedTo all (ends c.add-sum.result) k) (omega (arith, from)) next;

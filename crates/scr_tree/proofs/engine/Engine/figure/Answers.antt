@@ -1,8 +1,10 @@
-use Rattle.std.proofs.Common.{◌≡◌, true, subst, sym, ap, refl, arith}
+use Rattle.std.proofs.Common.{◌≡◌, true, subst, sym, ap, refl, ◌∙◌, arith}
+use Rattle.scr_num.specs.Rounding.{ends}
 use Rattle.scr_figures.specs.Numbers.{IsNumbered, StandsAt}
 use Rattle.scr_figures.proofs.Live.{live-stands}
 use Rattle.scr_nodes.specs.Live.{is_live}
 use Rattle.scr_sums.specs.declared.point.Point.TheVariants as points
+use Rattle.scr_subtotals.specs.declared.figure.Figure.{Figure}
 use Rattle.scr_tree.specs.Figures.{Worth, worth_at}
 use Rattle.scr_tree.specs.Standing.{Standing}
 use Rattle.scr_tree.proofs.FigureRead.{known-read, known-within}
@@ -32,7 +34,8 @@ index-requires c =
 pub returns-clause-span : goal.returns-clause-span
 returns-clause-span c =
     let state = c.self.inside.state in
-    ap (λ (w : Worth). w.worked)
+    ap (λ (f : Figure). ends f.span) c.figure.ensures
+    ∙ ap (λ (w : Worth). w.worked)
     (known-read state.figures.items c.in-Some.number (worth_at c.args.self.now.factors c.args.self.now.sheet c.args.node.now) c.index.result.now
     (settled-point c.self.inside.factors c.self.inside.book state.places state.lists state.figures.items c.args.self.now c.self.view_is
     c.self.invariant.state.figures (points.Figure c.args.node.now) c.in-Some.number
@@ -42,7 +45,8 @@ returns-clause-span c =
 pub returns-clause-close : goal.returns-clause-close
 returns-clause-close c =
     let state = c.self.inside.state in
-    ap (λ (w : Worth). w.close)
+    ap (λ (f : Figure). f.close) c.figure.ensures
+    ∙ ap (λ (w : Worth). w.close)
     (known-read state.figures.items c.in-Some.number (worth_at c.args.self.now.factors c.args.self.now.sheet c.args.node.now) c.index.result.now
     (settled-point c.self.inside.factors c.self.inside.book state.places state.lists state.figures.items c.args.self.now c.self.view_is
     c.self.invariant.state.figures (points.Figure c.args.node.now) c.in-Some.number

@@ -1,4 +1,5 @@
-use Rattle.std.proofs.Common.{◌≡◌, true, subst, sym, ap, refl, arith}
+use Rattle.std.proofs.Common.{◌≡◌, true, subst, sym, ap, refl, ◌∙◌, arith}
+use Rattle.scr_num.specs.Rounding.{ends}
 use Rattle.scr_sums.specs.Graph.{is_live_in}
 use Rattle.scr_tree.specs.Figures.{Worth}
 use Rattle.scr_tree.specs.Points.{point_worth}
@@ -27,7 +28,8 @@ index-requires c =
 pub returns : goal.returns
 returns c =
     let state = c.self.inside.state in
-    ap (λ (w : Worth). w.worked)
+    ap ends c.span.ensures
+    ∙ ap (λ (w : Worth). w.worked)
     (known-read state.figures.items c.in-Some.number (point_worth c.args.self.now.factors (book_of c.args.self.now) c.args.point) c.index.result.now
     (settled-point c.self.inside.factors c.self.inside.book state.places state.lists state.figures.items c.args.self.now c.self.view_is
     c.self.invariant.state.figures c.args.point c.in-Some.number c.in-Some.ensures.there c.requires)

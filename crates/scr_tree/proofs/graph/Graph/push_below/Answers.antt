@@ -5,7 +5,7 @@ use Rattle.scr_nodes.proofs.Walks.{on_ok}
 use Rattle.scr_sums.specs.Books.{rolled_of}
 use Rattle.scr_sums.specs.Graph.{roll_in, sources_in}
 use Rattle.scr_sums.specs.declared.point.Point.TheVariants as points
-use Rattle.scr_tree.proofs.PointSources.{Pushed, below-live, blocks-are, first-firsts, first-sources, firsts-are, members-few, members-pushed, read-and-there, second-sources}
+use Rattle.scr_tree.proofs.PointSources.{Pushed, below-live, blocks-are, counted-are, first-firsts, first-sources, firsts-are, members-few, members-pushed, second-sources}
 use Rattle.scr_tree.proofs.graph.Graph.push_below.Goals as goal
 
 pub push_members-requires : goal.push_members-requires
@@ -41,10 +41,11 @@ returns-in-First c =
     (first-firsts book places lists are c.requires.valid block c.requires.live c.members-members.result.now c.part-own.result.now c.part-own.ensures all))
     c.push_members.ensures
 
-pub push_blocks-requires-clause-reads : goal.push_blocks-requires-clause-reads
-push_blocks-requires-clause-reads c =
+pub push_blocks-requires-clause-count : goal.push_blocks-requires-clause-count
+push_blocks-requires-clause-count c =
     let numbers = c.args.self.now.numbers in
-    (read-and-there numbers.book.now numbers.places.now numbers.lists.now c.requires.numbers c.requires.valid c.args.block.now c.requires.live).0
+    counted-are numbers.book.now numbers.places.now numbers.lists.now c.requires.numbers c.requires.valid c.args.block.now.sum c.roll.result c.members-members.result.now
+    c.members-members.ensures c.roll.ensures
 
 pub push_blocks-requires-clause-there : goal.push_blocks-requires-clause-there
 push_blocks-requires-clause-there c =

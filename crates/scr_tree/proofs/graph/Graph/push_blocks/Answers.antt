@@ -1,35 +1,24 @@
-use Rattle.std.proofs.Common.{◌≡◌, ◌<◌, ◌∙◌, refl, ap, subst, sym, arith}
+use Rattle.std.proofs.Common.{ap, subst, sym, arith}
 use Rattle.scr_blocks.specs.Blocks.{blocks_at}
-use Rattle.scr_lists.specs.Lists.{members_of}
+use Rattle.scr_subtotals.specs.Written.{AreNumbered}
 use Rattle.scr_sums.specs.Graph.{block_point}
 use Rattle.scr_tree.specs.Points.{StandsIn}
-use Rattle.scr_tree.specs.Summed.{count_on, family_in, firsts_on}
 use Rattle.scr_tree.proofs.PointSources.{all-blocks, next-block, no-blocks}
-use Rattle.scr_tree.proofs.SumNumbers.{as-counted, low-here}
 use Rattle.scr_tree.proofs.graph.Graph.push_blocks.Goals as goal
 
 pub loop-index-init : goal.loop-index-init
 loop-index-init c =
     let numbers = c.args.self.now.numbers in
-    no-blocks numbers.book.now numbers.places.now numbers.lists.now c.args.sum.now c.args.level c.args.start c.args.end c.args.list.now.items
+    no-blocks numbers.book.now numbers.places.now numbers.lists.now c.args.sum.now c.args.level c.args.among.start c.args.among.end c.args.list.now.items
 
 pub number-requires-clause-numbered : goal.number-requires-clause-numbered
-number-requires-clause-numbered c =
-    let numbers = c.args.self.now.numbers in
-    let firsts : c.members-members.result.now ≡ firsts_on numbers c.args.sum.now =
-    c.members-members.ensures ∙ ap (λ roll. members_of roll numbers.book.now.rolls numbers.lists.now) c.roll.ensures in
-    as-counted numbers c.requires.numbers c.requires.valid c.args.sum.now c.requires.reads c.members-members.result.now firsts
-    (family_in c.args.sum.now) refl c.in-Some.blocks c.in-Some.ensures.there.numbered
+number-requires-clause-numbered c = subst (AreNumbered c.in-Some.blocks) (sym c.requires.count) c.in-Some.ensures.there.numbered
 
 pub number-requires-clause-there : goal.number-requires-clause-there
 number-requires-clause-there c =
-    let numbers = c.args.self.now.numbers in
-    let firsts : c.members-members.result.now ≡ firsts_on numbers c.args.sum.now =
-    c.members-members.ensures ∙ ap (λ roll. members_of roll numbers.book.now.rolls numbers.lists.now) c.roll.ensures in
     let there = c.requires.there in
-    let low : c.loop-index.index < blocks_at (count_on numbers c.args.sum.now) c.args.level = omega (arith, there, c.loop-index-test.true) in
-    low-here numbers c.requires.numbers c.requires.valid c.args.sum.now c.requires.reads c.members-members.result.now firsts
-    (family_in c.args.sum.now) refl c.in-Some.blocks c.in-Some.ensures.there c.args.level c.loop-index.index low
+    let count = ap (λ n. blocks_at n c.args.level) c.requires.count in
+    omega (arith, there, count, c.loop-index-test.true)
 
 pub loop-index-preserved : goal.loop-index-preserved
 loop-index-preserved c =
@@ -41,12 +30,12 @@ loop-index-preserved c =
     let stands : StandsIn numbers.book.now numbers.places.now numbers.lists.now (block_point sum level index) c.number.result =
     subst (StandsIn numbers.book.now numbers.places.now numbers.lists.now (block_point sum level index)) (sym c.number.ensures.number)
     (c.in-Some.ensures.there.at level index (omega (arith, there, c.loop-index-test.true))) in
-    next-block numbers.book.now numbers.places.now numbers.lists.now sum level c.args.start c.args.end c.args.list.now.items c.requires.numbers
+    next-block numbers.book.now numbers.places.now numbers.lists.now sum level c.args.among.start c.args.among.end c.args.list.now.items c.requires.numbers
     index c.loop-index.list.items c.push.new.self.items c.number.result c.loop-index-test.true stands c.in_ok-push.ensures.items
     c.loop-index.invariant
 
 pub returns : goal.returns
 returns c =
     let numbers = c.args.self.now.numbers in
-    all-blocks numbers.book.now numbers.places.now numbers.lists.now c.args.sum.now c.args.level c.args.start c.args.end c.args.list.now.items
+    all-blocks numbers.book.now numbers.places.now numbers.lists.now c.args.sum.now c.args.level c.args.among.start c.args.among.end c.args.list.now.items
     c.loop-index.index c.loop-index.list.items (omega (arith, c.loop-index-test.false)) c.loop-index.invariant

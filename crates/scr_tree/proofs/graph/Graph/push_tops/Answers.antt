@@ -8,7 +8,7 @@ use Rattle.scr_sums.specs.Books.{rolled_of}
 use Rattle.scr_sums.specs.Graph.{block_point, member_point, reads, roll_in, tops_of}
 use Rattle.scr_sums.specs.declared.sum.Sum.{Sum}
 use Rattle.scr_tree.specs.Points.{StandsIn}
-use Rattle.scr_tree.proofs.PointSources.{Pushed, blocks-are, firsts-are, members-few, members-pushed, tops-firsts, tops-live, tops-members, tops-seconds}
+use Rattle.scr_tree.proofs.PointSources.{Pushed, blocks-are, counted-are, firsts-are, members-few, members-pushed, tops-firsts, tops-live, tops-members, tops-seconds}
 use Rattle.scr_tree.proofs.graph.Graph.push_tops.Goals as goal
 
 pub returns-in_default : goal.returns-in_default
@@ -61,9 +61,11 @@ returns-then-firsts-eq0 c =
 
 -- ---- the Blocks of the first level
 
-pub push_blocks-requires-clause-reads : goal.push_blocks-requires-clause-reads
-push_blocks-requires-clause-reads c =
-    subst (λ o. IfSome o (λ (s : Sum). reads c.args.self.now.numbers.book.now.sheet s ≡ true)) c.in-Some.is c.requires.reads
+pub push_blocks-requires-clause-count : goal.push_blocks-requires-clause-count
+push_blocks-requires-clause-count c =
+    let numbers = c.args.self.now.numbers in
+    counted-are numbers.book.now numbers.places.now numbers.lists.now c.requires.numbers c.requires.valid c.in-Some.sum c.roll.result c.members-members.result.now
+    c.members-members.ensures c.roll.ensures
 
 pub push_blocks-requires-clause-there : goal.push_blocks-requires-clause-there
 push_blocks-requires-clause-there c =
@@ -99,9 +101,11 @@ returns-then-seconds-eq0 c =
 
 -- ---- those of the second
 
-pub push_blocks-requires-else-seconds-eq0-clause-reads : goal.push_blocks-requires-else-seconds-eq0-clause-reads
-push_blocks-requires-else-seconds-eq0-clause-reads c =
-    subst (λ o. IfSome o (λ (s : Sum). reads c.args.self.now.numbers.book.now.sheet s ≡ true)) c.in-Some.is c.requires.reads
+pub push_blocks-requires-else-seconds-eq0-clause-count : goal.push_blocks-requires-else-seconds-eq0-clause-count
+push_blocks-requires-else-seconds-eq0-clause-count c =
+    let numbers = c.args.self.now.numbers in
+    counted-are numbers.book.now numbers.places.now numbers.lists.now c.requires.numbers c.requires.valid c.in-Some.sum c.roll.result c.members-members.result.now
+    c.members-members.ensures c.roll.ensures
 
 pub push_blocks-requires-else-seconds-eq0-clause-there : goal.push_blocks-requires-else-seconds-eq0-clause-there
 push_blocks-requires-else-seconds-eq0-clause-there c =

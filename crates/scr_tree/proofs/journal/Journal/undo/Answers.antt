@@ -1,49 +1,26 @@
-use Rattle.std.proofs.Common.{◌≡◌, ◌<◌, Some, get_or, length, slice_get, sym, ap, ◌∙◌, arith}
-use Rattle.std.proofs.lemmas.Option.{slice_get-get_or}
-use Rattle.scr_tree.proofs.Journaled.{undoing-next, undone}
+use Rattle.std.proofs.Common.{◌≡◌, ◌++◌, [], ◌∷◌, length, set, sym, ap, subst, ◌∙◌}
+use Rattle.std.specs.Option.{option_to_list}
+use Rattle.std.proofs.lemmas.List.{length-set}
+use Rattle.scr_tree.specs.Order.{AreWithin, undone}
+use Rattle.scr_tree.proofs.Journaled.{none-kept, popped-none, undone-last, within-front}
 use Rattle.scr_tree.proofs.journal.Journal.undo.Goals as goal
 
-pub index-requires : goal.index-requires
-index-requires c =
-    let same = ap length c.deref-former-items.ensures.value in
-    let few = c.requires.few in
-    omega (arith, same, few, c.loop-k-test.true)
-
-pub bounds-figures-index : goal.bounds-figures-index
-bounds-figures-index c =
-    let numbers = c.args.self.now.numbers.items in
-    let k = c.loop-k.k in
-    let number = c.index.result.now in
-    let same = ap length c.deref-former-items.ensures.value in
-    let few = c.requires.few in
-    let low : get_or numbers k number < length c.args.figures.now =
-    c.requires.within k number (omega (arith, same, few, c.loop-k-test.true)) in
-    let is = c.index.ensures in
-    let long = c.loop-k.invariant.long in
-    omega (arith, low, is, long)
-
-pub loop-k-preserved : goal.loop-k-preserved
-loop-k-preserved c =
-    let numbers = c.args.self.now.numbers.items in
-    let former = c.args.self.now.former.items in
-    let k = c.loop-k.k in
-    let number = c.index.result.now in
-    let was = c.former-item.result in
-    let same = ap length c.deref-former-items.ensures.value in
-    let few = c.requires.few in
-    let inside : k < length numbers = omega (arith, same, few, c.loop-k-test.true) in
-    let at : slice_get numbers k ≡ Some number = slice_get-get_or numbers k number inside ∙ ap Some (sym c.index.ensures) in
-    let kept : slice_get former k ≡ Some was =
-    ap (λ xs. slice_get xs k) (sym c.deref-former-items.ensures.value)
-    ∙ slice_get-get_or c.deref-former-items.result.now k was c.loop-k-test.true ∙ ap Some (sym c.former-item.is) in
-    let low : get_or numbers k number < length c.args.figures.now = c.requires.within k number inside in
-    let is = c.index.ensures in
-    let long = c.loop-k.invariant.long in
-    undoing-next numbers former c.args.figures.now c.loop-k.figures k number was c.requires.once at kept
-    (omega (arith, low, is, long)) c.loop-k.invariant
+pub loop-was-preserved : goal.loop-was-preserved
+loop-was-preserved c =
+    let figures = c.loop-was.figures in
+    let left = c.pop.new.self.items in
+    let was = c.in-Some.was in
+    let items : c.loop-was.former.items ≡ left ++ was ∷ [] = c.pop.ensures.items ∙ ap (λ o. left ++ option_to_list o) c.in-Some.is in
+    let all : AreWithin (length figures) (left ++ was ∷ []) = subst (AreWithin (length figures)) items c.loop-was.invariant.within in
+    record {
+      within = subst (λ many. AreWithin many left) (sym (length-set figures was.number c.new.result)) (within-front left was (length figures) all);
+      back = ap (λ figure. undone left (set figures was.number figure)) c.new.ensures ∙ sym (undone-last left was figures)
+          ∙ ap (λ former. undone former figures) (sym items) ∙ c.loop-was.invariant.back;
+    }
 
 pub returns : goal.returns
-returns c = λ before is.
-    let same = ap length c.deref-former-items.ensures.value in
-    undone c.args.self.now.numbers.items c.args.self.now.former.items before c.args.figures.now c.loop-k.figures c.loop-k.k
-    (omega (arith, same, c.loop-k-test.false)) is c.loop-k.invariant
+returns c =
+    let figures = c.loop-was.figures in
+    let long = popped-none c.pop.result _ _ c.in_default.is c.pop.ensures.cases in
+    let none : c.loop-was.former.items ≡ [] = none-kept c.loop-was.former.items (sym c.loop-was.former.ok.0 ∙ long) in
+    sym (ap (λ former. undone former figures) none) ∙ c.loop-was.invariant.back

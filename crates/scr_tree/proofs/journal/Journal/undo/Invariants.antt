@@ -1,6 +1,13 @@
-use Rattle.scr_tree.proofs.Journaled.{IsUndoing}
+use Rattle.std.proofs.Common.{◌≡◌, length}
+use Rattle.scr_tree.specs.Order.{AreWithin, undone}
 use Rattle.scr_tree.proofs.journal.Journal.undo.Given as goal
 
--- those of the figures so far
-abbrev pub invariant-loop-k : goal.invariant-loop-k
-invariant-loop-k l = IsUndoing l.self.numbers.items l.self.former.items l.fn.figures l.figures l.k
+-- those that are left are still to be written back
+abbrev pub invariant-loop-was : goal.invariant-loop-was
+invariant-loop-was l = record {
+  within : AreWithin (length l.figures) l.former.items;
+  back : undone l.former.items l.figures ≡ undone l.fn.self.former.items l.fn.figures;
+}
+
+abbrev pub decreases-loop-was : goal.decreases-loop-was
+decreases-loop-was l = length l.former.items

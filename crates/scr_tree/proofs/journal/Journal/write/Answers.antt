@@ -1,26 +1,38 @@
-use Rattle.std.proofs.Common.{◌≡◌, ◌<◌, List, Some, get_or, length, set, slice_get, sym, ap, subst, ◌∙◌, arith}
+use Rattle.std.proofs.Common.{◌≡◌, List, Some, set, slice_get, sym, ap, subst, ◌∙◌}
 use Rattle.std.proofs.lemmas.Option.{slice_get-get_or}
-use Rattle.scr_tree.specs.Order.{IsWritten}
-use Rattle.scr_subtotals.specs.declared.figure.Figure.{Figure}
-use Rattle.scr_tree.proofs.Journaled.{written-set}
+use Rattle.scr_tree.specs.Order.{IsJournaled}
+use Rattle.scr_tree.specs.declared.journal.Former.{Former}
+use Rattle.scr_tree.proofs.Journaled.{kept-written, one-figure, same-written}
 use Rattle.scr_tree.proofs.journal.Journal.write.Goals as goal
 
-pub returns-clause-ok : goal.returns-clause-ok
-returns-clause-ok c =
-    let numbers = c.args.self.now.numbers.items in
-    let former = c.args.self.now.former.items in
+pub returns-then-is_same-clause-written : goal.returns-then-is_same-clause-written
+returns-then-is_same-clause-written c =
     let figures = c.args.figures.now in
-    let number = c.index.result.now in
-    let was = c.index-figures-number.result in
-    let k = c.len.result in
-    let here_is : k ≡ length former = c.len.ensures ∙ c.args.self.now.former.ok.0 in
-    let next = c.requires.next in
-    let inside : k < length numbers = omega (arith, here_is, next) in
-    let at : slice_get numbers (length former) ≡ Some number =
-    ap (slice_get numbers) (sym here_is) ∙ slice_get-get_or numbers k number inside ∙ ap Some (sym c.index.ensures) in
-    let low : get_or numbers k number < length figures = c.requires.within k number inside in
-    let is = c.index.ensures in
+    let number = c.args.number in
+    let was = c.figure-was.result in
     let here : slice_get figures number ≡ Some was =
-    slice_get-get_or figures number was (omega (arith, low, is)) ∙ ap Some (sym c.index-figures-number.is) in
-    subst (λ now. IsWritten numbers c.args.figure former figures now (set figures number c.args.figure))
-    (sym {A = List Figure} c.in_ok-push.ensures.items) (written-set numbers c.args.figure former figures number was at here)
+    slice_get-get_or figures number c.index-figures-place.result c.requires.within ∙ ap Some (sym c.figure-was.ensures) in
+    let same = c.is_same.ensures.yes c.if-is_same.true in
+    let one : was ≡ c.args.figure = one-figure was c.args.figure same.0 same.1 in
+    sym (same-written figures number c.args.figure (here ∙ ap Some one))
+
+pub returns-clause-journaled : goal.returns-clause-journaled
+returns-clause-journaled c = λ before is.
+    let figures = c.args.figures.now in
+    let number = c.args.number in
+    let was = c.figure-was.result in
+    let here : slice_get figures number ≡ Some was =
+    slice_get-get_or figures number c.index-figures-place.result c.requires.within ∙ ap Some (sym c.figure-was.ensures) in
+    subst (λ former. IsJournaled former before (set figures number c.new.result)) (sym {A = List Former} c.push_reserved.ensures.items)
+    (kept-written c.args.self.now.former.items figures number was c.new.result here before is)
+
+pub returns-clause-short : goal.returns-clause-short
+returns-clause-short c = λ there.
+    let figures = c.args.figures.now in
+    let number = c.args.number in
+    let was = c.figure-was.result in
+    let here : slice_get figures number ≡ Some was =
+    slice_get-get_or figures number c.index-figures-place.result c.requires.within ∙ ap Some (sym c.figure-was.ensures) in
+    let both : Some was ≡ Some c.args.figure = sym here ∙ there in
+    let one : was ≡ c.args.figure = cc in
+    absurd {A = c.push_reserved.new.self.items ≡ c.args.self.now.former.items} (c.is_same.ensures.not c.if-is_same.false one)

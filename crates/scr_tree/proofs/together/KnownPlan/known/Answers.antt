@@ -1,5 +1,6 @@
-use Rattle.std.proofs.Common.{get_or}
+use Rattle.std.proofs.Common.{get_or, ap, ◌∙◌}
 use Rattle.std.proofs.lemmas.Option.{slice_get-get_or}
+use Rattle.scr_num.specs.Rounding.{ends}
 use Rattle.scr_tree.proofs.Spanned.{known-ends, known-within}
 use Rattle.scr_tree.proofs.together.KnownPlan.known.Goals as goal
 
@@ -10,5 +11,6 @@ pub returns : goal.returns
 returns c =
     let b = c.args.self.now.basis in
     let figures = c.args.self.now.figures.now in
-    known-ends b figures c.args.number (get_or figures c.args.number c.index-self-number.result) c.requires
+    ap ends c.span.ensures
+    ∙ known-ends b figures c.args.number (get_or figures c.args.number c.index-self-number.result) c.requires
     (slice_get-get_or figures c.args.number c.index-self-number.result (known-within b figures c.args.number c.requires))

@@ -1,8 +1,0 @@
-use Rattle.scr_num.specs.Rounding.{ends}
-use Rattle.scr_subtotals.specs.Figures.{members_ends}
-use Rattle.scr_subtotals.proofs.Added.{AddedTo}
-use Rattle.scr_subtotals.proofs.adding.add_members.Given as goal
-
--- what those so far come to
-abbrev pub invariant-loop-first : goal.invariant-loop-first
-invariant-loop-first l = AddedTo (members_ends l.figures l.family l.firsts) (ends l.sum) l.first-index

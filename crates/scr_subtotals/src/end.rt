@@ -1,0 +1,52 @@
+//! An end of a span as the table keeps it.
+ghost use Rattle.std.specs.Prelude.{◌≡◌};
+
+use std::marker::Model;
+
+/// How many numbers a word tells apart.
+const WORD: u128 = 1 << 32;
+
+/// An end of a span in four words of 32 bits, the lowest first, which may stand at each fourth byte. Contracts see the number.
+#[derive(Clone, Drop)]
+pub(crate) struct End {
+    first: u32,
+    second: u32,
+    third: u32,
+    fourth: u32,
+}
+
+impl Model for End {
+    ghost use Rattle.std.specs.Prelude.{ℤ};
+
+    ghost Value = { ℤ };
+
+    ghost use Rattle.scr_subtotals.specs.KeptEnds.{number_in};
+
+    ghost view = { number_in };
+}
+
+impl End {
+    /// The words of a number.
+    pub(crate) fn new(number: i128) -> End
+        ensures { result ≡ number }
+    {
+        let bits = number.cast_unsigned();
+        let upper = bits / WORD;
+        let high = upper / WORD;
+        End {
+            first: (bits % WORD) as u32,
+            second: (upper % WORD) as u32,
+            third: (high % WORD) as u32,
+            fourth: (high / WORD) as u32,
+        }
+    }
+
+    /// The number.
+    pub(crate) fn number(&self) -> i128
+        ensures { result ≡ self.now }
+    {
+        let high = self.third as u128 + self.fourth as u128 * WORD;
+        let upper = self.second as u128 + high * WORD;
+        (self.first as u128 + upper * WORD).cast_signed()
+    }
+}

@@ -1,0 +1,79 @@
+//! A figure as the table keeps it.
+ghost use Rattle.std.specs.Prelude.{◌≡◌, ◌≤ℤ◌, ⊤};
+
+use crate::Figure;
+use crate::end::End;
+use scr_num::Span;
+use std::alloc::AllocError as NoMemory;
+use std::marker::Model;
+
+/// A figure as the table keeps it: in 36 bytes, where one to reckon with takes 48, since there are many. Contracts see the figure.
+#[derive(Drop)]
+pub struct KeptFigure {
+    low: End,
+    high: End,
+    close: bool,
+    ghost ordered: { low ≤ℤ high },
+}
+
+impl Model for KeptFigure {
+    ghost use Rattle.scr_subtotals.specs.declared.figure.Figure.{Figure};
+
+    ghost Value = { Figure };
+
+    ghost use Rattle.scr_subtotals.specs.KeptFigures.{figure_in};
+
+    ghost view = { figure_in };
+}
+
+impl Clone for KeptFigure {
+    ghost is_clone = { λ x y. y ≡ x };
+
+    ghost is_infallible = { λ _. ⊤ };
+
+    fn clone(&self) -> Result<KeptFigure, NoMemory> {
+        Ok(KeptFigure::new(self.figure()))
+    }
+}
+
+impl KeptFigure {
+    /// What is kept of a figure.
+    pub fn new(figure: Figure) -> KeptFigure
+        ensures { result ≡ figure }
+    {
+        let low = End::new(figure.span.low);
+        let high = End::new(figure.span.high);
+        KeptFigure {
+            low,
+            high,
+            close: figure.close,
+        }
+    }
+
+    /// The figure.
+    pub fn figure(&self) -> Figure
+        ensures { result ≡ self.now }
+    {
+        let span = self.span();
+        Figure {
+            span,
+            close: self.close,
+        }
+    }
+
+    /// What the figure comes to.
+    pub fn span(&self) -> Span
+        ensures { result ≡ self.now.span }
+    {
+        let low = self.low.number();
+        let high = self.high.number();
+        Span { low, high }
+    }
+
+    /// The figure rests on a choice that is open.
+    pub fn close(&self) -> bool
+        ensures { result ≡ self.now.close }
+    {
+        self.close
+    }
+}
