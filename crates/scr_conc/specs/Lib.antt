@@ -1,3 +1,4 @@
 pub mod Thresholds
 pub mod Concentration
 pub mod ConcentrationEnds
+pub mod Scales

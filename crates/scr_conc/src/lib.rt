@@ -1,7 +1,7 @@
 //! The market risk concentrations sub-module of the standard formula.
 #![tactic(auto)]
 
-ghost use Rattle.std.specs.Prelude.{◌≡◌, ◌+◌, ◌*◌, ◌^◌, ◌<◌, ◌≤◌, pos};
+ghost use Rattle.std.specs.Prelude.{◌≡◌, ◌+◌, ◌-◌, ◌*◌, ◌^◌, ◌<◌, ◌≤◌, pos};
 ghost use Rattle.scr_num.specs.Fraction.{Fraction, whole, square as squared};
 ghost use Rattle.scr_num.specs.Figure.{Figure, RootOf};
 ghost use Rattle.scr_num.specs.Amounts.{IsAmount};
@@ -14,7 +14,9 @@ ghost use Rattle.scr_conc.specs.Concentration.{requirement_exact};
 ghost use Rattle.scr_conc.specs.ConcentrationEnds.{requirement_units, square_units, concentration_ends};
 
 pub mod laws;
+mod scale;
 
+pub use scale::Scale;
 use scr_num::{Span, exact, root_of, scale};
 use scr_profile::{CT, G, GroupKind};
 
@@ -88,8 +90,17 @@ fn requirement(base: u64, exposure: u64, ct: u32, g: u32) -> u64
     ensures value { result ≡ requirement_units base exposure ct g }
     ensures size { result ≤ 73_000 * exposure }
 {
-    let excess = (1000 * exposure).saturating_sub(u64::from(ct) * base);
-    excess * u64::from(g)
+    excess_charge(exposure, u64::from(ct) * base, u64::from(g))
+}
+
+/// The charge on what an exposure, in cents, has above a share of the assets, in thousandths of a cent: in hundred-thousandths of one.
+pub(crate) fn excess_charge(exposure: u64, share: u64, g: u64) -> u64
+    requires exposed { exposure ≤ MAX_HELD }
+    requires factor { g ≤ 73 }
+    ensures value { result ≡ (1000 * exposure - share) * g }
+    ensures size { result ≤ 73_000 * exposure }
+{
+    (1000 * exposure).saturating_sub(share) * g
 }
 
 /// The capital requirement for market risk concentrations in grains, thousandths of a cent: Article 183(1), over

@@ -24,7 +24,7 @@ pub use all_losses::{GroupLosses, group_loss, group_losses};
 pub use discounting::{curves, rates, rates_after};
 pub use evaluation::{evaluate, evaluate_by, evaluate_with};
 pub use liability_rows::{Estimate, liability_estimate, liability_loss};
-pub use market_rules::{concentration_square, foreign_by_sums};
+pub use market_rules::{concentration_scale, concentration_square, foreign_by_sums};
 pub use scr_discounts::{CurrencyFalls, Curves, Rates};
 pub use scr_nodes::{
     Alternatives, Biometric, Direction, Equities, Measure, Node, OfCurrency, OfFund, OfGroup,

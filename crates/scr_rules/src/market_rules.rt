@@ -1,7 +1,7 @@
 //! The rules of market risk besides interest rate and equity risk.
 ghost use Rattle.std.specs.Prelude.{◌≡◌, ◌*◌, ◌^◌, ◌<◌, ◌≤◌, pos, ◌≤ℤ◌, All, map, sum_by, unsigned_abs, IfSome, Some, [], ◌∷◌};
 ghost use Rattle.scr_num.specs.Amounts.{IsAmount};
-ghost use Rattle.scr_num.specs.Rounding.{ends, exact_ends};
+ghost use Rattle.scr_num.specs.Rounding.{Ends, ends, exact_ends};
 ghost use Rattle.scr_num.specs.Sizes.{AreTogether, IsWithin};
 ghost use Rattle.scr_num.specs.Sums.{sum_ends};
 ghost use Rattle.scr_curve.specs.DiscountEnds.{IsDiscount};
@@ -35,7 +35,7 @@ ghost use Rattle.scr_rules.specs.Rules.{amount_of, amount_at, first_sum, other_s
 use crate::known::bucketed;
 use crate::spans::{amount, at};
 use scr_book::{BalanceSheet, Book, Group, GroupKind, Name, Position};
-use scr_conc::{charge_of, root, threshold_of};
+use scr_conc::{Scale, charge_of, root, threshold_of};
 use scr_curve::Discounts;
 use scr_dates::Day;
 use scr_discounts::{Curves, Rates};
@@ -250,22 +250,31 @@ pub(crate) fn square(factors: &Factors, sheet: &BalanceSheet, name: &Name, spans
     }
 }
 
+/// What the squares of the requirements for all groups are reckoned by, from the assets of which concentrations are measured.
+pub fn concentration_scale(assets: Span) -> Scale
+    requires { IsAmount MAX_HELD (ends assets) }
+    ensures { result ≡ amount_of (ends assets) }
+{
+    Scale::new(amount(assets))
+}
+
 /// The square of the requirement for the group in a row, from the assets of which concentrations are measured and what is held of the group
 /// (Articles 182 to 185). The row is that of its name.
 pub fn concentration_square(
     factors: &Factors,
     book: &Book,
+    scale: &Scale,
     group: &Group,
-    assets: Span,
     exposure: Span,
 ) -> Span
     requires row { group_of group.now.name book.now.sheet.groups ≡ Some group.now }
-    requires fits { Fits (own_of factors.now book.now.sheet (nodes.Group group.now.name of_groups.ConcentrationSquare))
-        (ends assets ∷ ends exposure ∷ []) }
-    ensures { ends result ≡ by_rule factors.now book.now.sheet [] (nodes.Group group.now.name of_groups.ConcentrationSquare)
-        (ends assets ∷ ends exposure ∷ []) }
+    requires fits { (assets : Ends) × (amount_of assets ≡ scale.now)
+        × Fits (own_of factors.now book.now.sheet (nodes.Group group.now.name of_groups.ConcentrationSquare)) (assets ∷ ends exposure ∷ []) }
+    ensures { (assets : Ends) → amount_of assets ≡ scale.now
+        → ends result ≡ by_rule factors.now book.now.sheet [] (nodes.Group group.now.name of_groups.ConcentrationSquare)
+        (assets ∷ ends exposure ∷ []) }
 {
-    group_square(group.kind, group.step, assets, exposure)
+    whole(scale.square(group.kind, group.step, amount(exposure)))
 }
 
 fn group_square(kind: GroupKind, step: Option<u8>, assets: Span, exposure: Span) -> Span
