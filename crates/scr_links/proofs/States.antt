@@ -1,5 +1,5 @@
 -- What always holds of the edges, after each of what changes them.
-use Rattle.std.proofs.Common.{◌≡◌, ℕ, zero, suc, All, ◌==◌, ◌+◌, ◌-◌, ◌<◌, ◌≤◌, ◌⊎◌, true, false, List, [], ◌∷◌, ◌++◌, length, map, set, eqb, refl, ap, sym, length-append, ◌∙◌, ⊎_elim, subst, arith, eqb-true}
+use Rattle.std.proofs.Common.{◌≡◌, ℕ, zero, suc, All, ◌==◌, ◌+◌, ◌-◌, ◌<◌, ◌≤◌, ◌⊎◌, true, false, List, [], ◌∷◌, ◌++◌, length, map, max, set, eqb, refl, ap, sym, length-append, ◌∙◌, ⊎_elim, subst, arith, eqb-true}
 use Rattle.std.proofs.lemmas.Bool.{cases_Bool, both_ways}
 use Rattle.std.proofs.lemmas.List.{length-set}
 use Rattle.scr_links.specs.Edges.{Edge, Linked, edge, linked, is_edge, edges_without, sources_of, dependants_of, ids_of}
@@ -510,3 +510,14 @@ module _ (before : Inside) (kept : AreKept before) (value : Linked) (same : link
   edges_low =
       let P : Linked → Type 0 = λ v. All (λ (e : Edge). (e.source < v.size) × (e.dependant < v.size)) v.edges in
       subst P same (low_edges (standing before) (λ x h. h))
+
+-- where there is room enough, the room stays
+pub enough : (links : Linked) (n size : ℕ) → n ≤ links.spare → size ≤ links.size → links ≡ linked links.edges (max links.spare n) (max links.size size)
+enough links n size spare below =
+    ap (λ m. linked links.edges m links.size) more ∙ ap (linked links.edges (max links.spare n)) wider
+  where
+    more : links.spare ≡ max links.spare n
+    more = omega (arith, spare)
+
+    wider : links.size ≡ max links.size size
+    wider = omega (arith, below)

@@ -144,6 +144,9 @@ impl Links {
             ≡ linked self.old.edges (max self.old.spare n) (max self.old.size size)) }
         ensures err { OnErr result (self.new ≡ self.old) }
     {
+        if n <= self.spare && size <= self.size {
+            return Ok(());
+        }
         let places = places_with(self.places, self.spare, n)?;
         let size = self.size.max(size);
         self.tables.grow(places, size)?;

@@ -11,7 +11,7 @@ use Rattle.scr_rolls.specs.Seatings.{NOWHERE, AreSeated, Seated, free, names_of,
 use Rattle.scr_rolls.specs.declared.seats.Seats.{Seats}
 use Rattle.scr_rolls.proofs.SeatLists.{place-of}
 use Rattle.scr_rolls.specs.declared.seating.Numbered.{Numbered}
-use Rattle.scr_parts.specs.Firsts.{FirstLists, first_at, firsts_in}
+use Rattle.scr_parts.specs.Firsts.{FirstLists, first_at, firsts_in, room_beside}
 use Rattle.scr_parts.specs.Filling.{AreFirsts, IsEntered, IsWritten}
 use Rattle.scr_parts.proofs.Views.{one-some}
 
@@ -159,6 +159,38 @@ module _ (seats : Seats) (first s : ℕ) (before mid now : FirstLists) (entered 
               let was_long = ap (λ x. length (firsts_in x mid)) e in
               omega (arith, old, room, top, long, was_long, written.no_longer)
           by (inr ne) = let same = written.lengths l ne in omega (arith, old, same)
+
+-- a row stands nowhere in the seats beyond those that are kept
+pub entered-all : (seats : Seats) (first width : ℕ) (before now : FirstLists) → width ≤ 11
+    → ((seat : ℕ) → width ≤ seat → roll_in seat seats ≡ NOWHERE) → IsEntered seats first width before now → IsEntered seats first 11 before now
+entered-all seats first width before now few beyond entered = record {
+  there = λ seat low some. by seat some (cases_lt seat width);
+  others = λ list place none. entered.others list place (λ seat low. none seat (omega (arith, low, few)));
+  longer = entered.longer;
+  within = λ most was each. entered.within most was (λ seat low. each seat (omega (arith, low, few)));
+}
+  where
+    by : (seat : ℕ) → roll_in seat seats ≢ NOWHERE → (seat < width) ⊎ (width ≤ seat)
+        → (place_in seat seats < length (firsts_in (roll_in seat seats) now)) × (first_at (place_in seat seats) (firsts_in (roll_in seat seats) now) ≡ first)
+    by seat some (inl low) = entered.there seat low some
+    by seat some (inr past) = absurd (some (beyond seat past))
+
+-- ---- room
+
+-- beside one list more there is room for the numbers of its members
+pub room-more : (rolls : List Numbered) (k more : ℕ) (before now : FirstLists)
+    → ((number : ℕ) → number < k → length (names_of number rolls) ≤ room_beside number before)
+    → ((other : ℕ) → room_beside other before ≤ room_beside other now)
+    → more ≡ length (names_of k rolls) → more ≤ room_beside k now
+    → (number : ℕ) → number < k + 1 → length (names_of number rolls) ≤ room_beside number now
+room-more rolls k more before now was wider size room number low = by (cases_eq number k)
+  where
+    by : (number ≡ k) ⊎ (number ≢ k) → length (names_of number rolls) ≤ room_beside number now
+    by (inl e) = subst (λ n. length (names_of n rolls) ≤ room_beside n now) (sym e) (omega (arith, size, room))
+    by (inr ne) =
+        let old = was number (omega (arith, low, ne)) in
+        let same = wider number in
+        omega (arith, old, same)
 
 -- ---- one row more
 

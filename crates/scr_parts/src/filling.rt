@@ -1,14 +1,15 @@
 //! The first numbers of all members of a table's lists, made at once.
-ghost use Rattle.std.specs.Prelude.{◌≡◌, ℕ, List, length, IfOk, OnOk};
+ghost use Rattle.std.specs.Prelude.{◌≡◌, ◌<◌, ◌≤◌, ℕ, List, [], length, IfOk, OnOk};
 ghost use Rattle.std.specs.List.{IsDistinct, position_or_len};
 ghost use Rattle.scr_names.specs.Names.{same_name};
 ghost use Rattle.scr_numbers.specs.Ranges.{count, first};
-ghost use Rattle.scr_rolls.specs.Seatings.{AreSeated};
+ghost use Rattle.scr_rolls.specs.Seatings.{AreSeated, names_of};
 ghost use Rattle.scr_parts.specs.Filling.{AreFirsts, IsEntered, IsWritten};
+ghost use Rattle.scr_parts.specs.Firsts.{firsts_in, room_beside};
 
 use crate::Firsts;
 use scr_numbers::{Places, Table};
-use scr_rolls::{NOWHERE, SEATS, Seating, Seats};
+use scr_rolls::{Bench, NOWHERE, SEATS, Seating};
 use std::alloc::{AllocError as NoMemory, Global};
 
 impl Firsts {
@@ -24,18 +25,44 @@ impl Firsts {
         ensures { IfOk result (λ firsts. (names : List (List ℕ)) → AreSeated names seating.now → IsDistinct same_name names
             → AreFirsts (λ name. first places.now table (position_or_len (same_name name) names)) seating.now.rolls firsts) }
     {
-        let mut firsts = Firsts::new(alloc);
+        // No seating has more seats to a row.
+        if N > SEATS {
+            return Err(NoMemory);
+        }
+        let mut firsts = Firsts::with_room(alloc, seating)?;
         for k in 0..seating.rows() {
-            firsts.enter(alloc, &seating.seats(k), places.first(table, k))?;
+            firsts.enter(alloc, seating.bench(k), places.first(table, k))?;
+        }
+        Ok(firsts)
+    }
+
+    // No number yet, and room beside each list for those of its members.
+    fn with_room<const N: usize>(alloc: Global, seating: &Seating<N>) -> Result<Firsts, NoMemory>
+        ensures none { IfOk result (λ firsts. (list : ℕ) → firsts_in list firsts ≡ []) }
+        ensures room { IfOk result (λ firsts. (number : ℕ) → number < length seating.now.rolls
+            → length (names_of number seating.now.rolls) ≤ room_beside number firsts) }
+    {
+        let count = seating.len();
+        if count > u32::MAX as usize {
+            return Err(NoMemory);
+        }
+        let mut firsts = Firsts::with_capacity(alloc, count)?;
+        for number in 0..count as u32 {
+            firsts.reserve_many(alloc, number, seating.roll(number).len())?;
         }
         Ok(firsts)
     }
 
     // The first number of a row stands wherever its seats say.
-    fn enter(&mut self, alloc: Global, seats: &Seats, first: u32) -> Result<(), NoMemory>
+    fn enter<const N: usize>(
+        &mut self,
+        alloc: Global,
+        seats: &Bench<N>,
+        first: u32,
+    ) -> Result<(), NoMemory>
         ensures { OnOk result (IsEntered seats.now first 11 self.old self.new) }
     {
-        for seat in 0..SEATS {
+        for seat in 0..seats.width() {
             if seats.roll(seat) != NOWHERE {
                 self.write(alloc, seats.roll(seat), seats.place(seat), first)?;
             }

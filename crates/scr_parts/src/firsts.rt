@@ -1,5 +1,5 @@
 //! The first numbers of members, beside the lists.
-ghost use Rattle.std.specs.Prelude.{◌≡◌, ℕ, ◌<◌, ◌≤◌, [], length, OnOk};
+ghost use Rattle.std.specs.Prelude.{◌≡◌, ℕ, ◌<◌, ◌≤◌, [], length, IfOk, OnOk};
 ghost use Rattle.scr_parts.specs.Filling.{IsWritten};
 ghost use Rattle.scr_parts.specs.Firsts.{Becomes, back_at, firsts_in, joined, left, room_beside};
 
@@ -32,6 +32,14 @@ impl Firsts {
         }
     }
 
+    /// No list has a member, and there is room for so many lists.
+    pub(crate) fn with_capacity(alloc: Global, lists: usize) -> Result<Firsts, NoMemory>
+        ensures { IfOk result (λ firsts. (list : ℕ) → firsts_in list firsts ≡ []) }
+    {
+        let lists = Vec::with_capacity(alloc, lists)?;
+        Ok(Firsts { lists })
+    }
+
     /// How many lists there are. No list beyond them has a member.
     pub fn len(&self) -> usize
         ensures { result ≡ length self.now.lists }
@@ -54,7 +62,21 @@ impl Firsts {
         ensures ok { OnOk result (0 < room_beside list self.new) }
         ensures still { Becomes list (firsts_in list self.old) self.old self.new }
     {
-        make_room(&mut self.lists, alloc, list as usize)
+        make_room(&mut self.lists, alloc, list as usize, 1)
+    }
+
+    /// Makes room for so many members more. The members stay, whether there is memory or not.
+    pub(crate) fn reserve_many(
+        &mut self,
+        alloc: Global,
+        list: u32,
+        members: usize,
+    ) -> Result<(), NoMemory>
+        ensures ok { OnOk result (members ≤ room_beside list self.new) }
+        ensures still { (other : ℕ) → firsts_in other self.new ≡ firsts_in other self.old }
+        ensures room { (other : ℕ) → room_beside other self.old ≤ room_beside other self.new }
+    {
+        make_room(&mut self.lists, alloc, list as usize, members)
     }
 
     /// A member comes, last of its list, without memory.

@@ -136,13 +136,18 @@ impl Numbers {
     }
 }
 
-/// There is such a list, with room for a number more.
-pub(crate) fn make_room(lists: &mut Vec<Numbers>, alloc: Global, key: usize) -> Result<(), NoMemory>
-    ensures ok { OnOk result (0 < (list_at key lists.new.items).room) }
+/// There is such a list, with room for so many numbers more.
+pub(crate) fn make_room(
+    lists: &mut Vec<Numbers>,
+    alloc: Global,
+    key: usize,
+    more: usize,
+) -> Result<(), NoMemory>
+    ensures ok { OnOk result (more ≤ (list_at key lists.new.items).room) }
     ensures roomier { Roomier lists.old.items lists.new.items }
 {
     reach(lists, alloc, key)?;
-    room_for(lists, key, 1)
+    room_for(lists, key, more)
 }
 
 /// There is such a list.

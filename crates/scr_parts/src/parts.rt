@@ -253,7 +253,7 @@ impl Parts {
         ensures ok { OnOk result (0 < room_in key self.new) }
         ensures same { AreSame self.old self.new }
     {
-        make_room(&mut self.lists, alloc, key)
+        make_room(&mut self.lists, alloc, key, 1)
     }
 
     // A slot more, which is free.

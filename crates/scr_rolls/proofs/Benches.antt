@@ -27,6 +27,14 @@ module _ (none : ℕ) (kept : List ℕ) where
   pub widened-past : (s : ℕ) → 11 ≤ s → get_or (widened none kept) s none ≡ none
   widened-past s h = get_or_past (widened none kept) s none (omega (arith, long, h))
 
+  -- one beyond those that are kept is free
+  pub widened-free : (s : ℕ) → (s < 11 → length kept ≤ s) → get_or (widened none kept) s none ≡ none
+  widened-free s beyond = by (cases_lt s 11)
+    where
+      by : ((s < 11) ⊎ (11 ≤ s)) → get_or (widened none kept) s none ≡ none
+      by (inl h) = widened-in s h ∙ get_or_past kept s none (beyond h)
+      by (inr past) = widened-past s past
+
 -- one of them is written
 module _ (none : ℕ) (kept : List ℕ) where
   pub widened-set : (k value : ℕ) → k < length kept → k < 11 → (s : ℕ)

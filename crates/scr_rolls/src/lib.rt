@@ -9,4 +9,4 @@ mod seats;
 
 pub use owners::Owners;
 pub use seating::Seating;
-pub use seats::{NOWHERE, SEATS, Seats};
+pub use seats::{Bench, NOWHERE, SEATS, Seats};

@@ -118,11 +118,26 @@ impl<const N: usize> Seating<N> {
         self.rolls[number as usize].roster.as_slice()
     }
 
+    /// How many rolls there are.
+    pub fn len(&self) -> usize
+        ensures { result ≡ length self.now.rolls }
+    {
+        self.rolls.len()
+    }
+
     /// How many rows have seats.
     pub fn rows(&self) -> usize
         ensures { result ≡ length self.now.seats }
     {
         self.seats.len()
+    }
+
+    /// The seats of the row at a place, as they are kept.
+    pub fn bench(&self, place: usize) -> &Bench<N>
+        requires { place < length self.now.seats }
+        ensures { result.now ≡ seat_at place self.now.seats }
+    {
+        &self.seats[place]
     }
 
     /// The seats of the row at a place.

@@ -1,5 +1,5 @@
 //! Where a row stands.
-ghost use Rattle.std.specs.Prelude.{◌≡◌, ℕ, ◌<◌, ◌==◌, if◌then◌else◌};
+ghost use Rattle.std.specs.Prelude.{◌≡◌, ℕ, ◌<◌, ◌≤◌, ◌==◌, if◌then◌else◌};
 ghost use Rattle.scr_rolls.specs.Seatings.{NOWHERE, free, place_in, roll_in};
 
 use std::marker::Model;
@@ -55,7 +55,7 @@ impl Seats {
 /// The seats of a row as they are kept: as many as the rows of its table use, the first ones. Contracts see eleven, of which those
 /// beyond are free.
 #[derive(Drop)]
-pub(crate) struct Bench<const N: usize> {
+pub struct Bench<const N: usize> {
     rolls: [u32; N],
     places: [u32; N],
 }
@@ -84,8 +84,18 @@ impl<const N: usize> Bench<N> {
         }
     }
 
+    /// How many of the eleven are kept: the row stands nowhere in those beyond.
+    pub fn width(&self) -> usize
+        ensures few { result ≤ 11 }
+        ensures beyond { (seat : ℕ) → result ≤ seat → roll_in seat self.now ≡ NOWHERE }
+    {
+        // What contracts see has eleven seats.
+        let _ = &self.rolls;
+        N.min(SEATS)
+    }
+
     /// The number of the roll in which the row stands in a seat.
-    pub(crate) fn roll(&self, seat: usize) -> u32
+    pub fn roll(&self, seat: usize) -> u32
         requires { seat < 11 }
         ensures { result ≡ roll_in seat self.now }
     {
@@ -93,7 +103,7 @@ impl<const N: usize> Bench<N> {
     }
 
     /// Its place there.
-    pub(crate) fn place(&self, seat: usize) -> u32
+    pub fn place(&self, seat: usize) -> u32
         requires { seat < 11 }
         ensures { result ≡ place_in seat self.now }
     {

@@ -28,7 +28,8 @@ fn held_by_number(alloc: Global, sheet: &BalanceSheet) -> Result<Vec<u64>, NoMem
     requires { Valid sheet.now }
     ensures { IfOk result (λ held. held.items ≡ map (held_of sheet.now) (names_by_number sheet.now)) }
 {
-    let mut held = Vec::new(alloc);
+    let numbers = sheet.funds.len().saturating_add(sheet.securities.len());
+    let mut held = Vec::with_capacity(alloc, numbers)?;
     for k in 0..sheet.funds.len() {
         held.push(sheet.funds.at(k).held)?;
     }

@@ -1,8 +1,14 @@
 -- More room leaves the edges as they are.
-use Rattle.std.proofs.Common.{◌≡◌, ℕ, ◌≤◌, ◌+◌, ◌-◌, max, ap, ◌∙◌, arith, Result, Ok, Err, OnErr}
+use Rattle.std.proofs.Common.{◌≡◌, ℕ, ◌≤◌, ◌+◌, ◌-◌, max, ap, subst, ◌∙◌, arith, Result, Ok, Err, OnErr}
 use Rattle.scr_links.specs.Edges.{Linked, linked}
-use Rattle.scr_links.proofs.States.{grown_kept, grown_view, reserved_kept, reserved_view}
+use Rattle.scr_links.specs.Kept.{linked_of}
+use Rattle.scr_links.proofs.States.{enough, grown_kept, grown_view, reserved_kept, reserved_view}
 use Rattle.scr_links.proofs.links.Links.reserve.Goals as goal
+
+pub returns-then-size-self-clause-ok : goal.returns-then-size-self-clause-ok
+returns-then-size-self-clause-ok c =
+    subst (λ (v : Linked). v ≡ linked v.edges (max v.spare c.args.n) (max v.size c.args.size)) c.self.view_is
+    (enough (linked_of c.self.inside) c.args.n c.args.size c.if-n-self.true c.if-size-self.true)
 
 pub invariant_of-self : goal.invariant_of-self
 invariant_of-self c = grown_kept c.self.inside c.self.invariant c.grow.new.self c.grow.ensures.grown

@@ -1,13 +1,13 @@
-use Rattle.std.proofs.Common.{ℕ, subst, sym, ◌∙◌}
+use Rattle.std.proofs.Common.{ℕ, subst, sym, ◌∙◌, arith}
 use Rattle.scr_rolls.specs.Seatings.{place_in, roll_in}
 use Rattle.scr_parts.specs.Filling.{IsWritten}
 use Rattle.scr_parts.specs.Firsts.{FirstLists}
-use Rattle.scr_parts.proofs.Filled.{seat-free, seat-written}
+use Rattle.scr_parts.proofs.Filled.{entered-all, seat-free, seat-written}
 use Rattle.scr_parts.proofs.firsts.Firsts.enter.Goals.{then-roll+in_ok-write, else-roll}
 use Rattle.scr_parts.proofs.firsts.Firsts.enter.Goals as goal
 
 pub loop-seat-preserved : goal.loop-seat-preserved
-loop-seat-preserved c =
+loop-seat-preserved g c =
     let seats = c.args.seats.now in
     let seat = c.loop-seat.seat in
     elim c.if-roll.branch [
@@ -21,3 +21,11 @@ loop-seat-preserved c =
           seat-free seats c.args.first seat c.args.self.now c.loop-seat.self c.if-roll.self c.loop-seat.invariant
           (sym c.roll.ensures ∙ w.if-roll.false) w.self-is
     ]
+
+pub returns : goal.returns
+returns g c =
+    let few = c.width-seat-end.ensures.few in
+    entered-all c.args.seats.now c.args.first c.loop-seat.seat c.args.self.now c.loop-seat.self
+    (omega (arith, few, c.loop-seat.auto.seat-end))
+    (λ seat past. c.width-seat-end.ensures.beyond seat (omega (arith, past, c.loop-seat-test.false)))
+    c.loop-seat.invariant

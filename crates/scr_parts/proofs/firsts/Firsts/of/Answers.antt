@@ -8,15 +8,21 @@ use Rattle.scr_parts.proofs.Filled.{AreFilled, all-firsts, filled-more, none-fil
 use Rattle.scr_parts.proofs.firsts.Firsts.of.Goals as goal
 
 pub loop-k-init : goal.loop-k-init
-loop-k-init g c = λ names seated once. none-filled names c.args.seating.now (λ name. first c.args.places.now c.args.table (position_or_len (same_name name) names)) c.new-firsts.result c.new-firsts.ensures
+loop-k-init g c = λ names seated once. none-filled names c.args.seating.now (λ name. first c.args.places.now c.args.table (position_or_len (same_name name) names)) c.in_ok-firsts.firsts c.in_ok-firsts.ensures.none
+
+pub bench-requires : goal.bench-requires
+bench-requires g c = let few = c.if-this-gt-SEATS.false in omega (arith, few, c.loop-k-test.true, c.rows-k-end.ensures)
+
+pub enter-requires : goal.enter-requires
+enter-requires g c = let few = c.if-this-gt-SEATS.false in omega (arith, few)
 
 pub loop-k-preserved : goal.loop-k-preserved
 loop-k-preserved g c = λ names seated once.
     let low : c.loop-k.k < length names = omega (arith, c.loop-k-test.true, c.rows-k-end.ensures, seated.beside) in
     filled-more names c.args.seating.now seated once (first c.args.places.now c.args.table) c.loop-k.k low c.loop-k.firsts c.enter.new.self
     (c.loop-k.invariant names seated once)
-    (subst (λ (seats : Seats). IsEntered seats (first c.args.places.now c.args.table c.loop-k.k) 11 c.loop-k.firsts c.enter.new.self) c.seats.ensures
-    (subst (λ (number : ℕ). IsEntered c.seats.result number 11 c.loop-k.firsts c.enter.new.self) c.first.ensures.first c.in_ok-enter.ensures))
+    (subst (λ (seats : Seats). IsEntered seats (first c.args.places.now c.args.table c.loop-k.k) 11 c.loop-k.firsts c.enter.new.self) c.bench.ensures
+    (subst (λ (number : ℕ). IsEntered c.bench.result.now number 11 c.loop-k.firsts c.enter.new.self) c.first.ensures.first c.in_ok-enter.ensures))
 
 pub returns : goal.returns
 returns g c = λ names seated once.
