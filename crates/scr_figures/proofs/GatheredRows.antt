@@ -1,5 +1,5 @@
 -- Under which keys each row is entered.
-use Rattle.std.proofs.Common.{◌≡◌, ℕ, zero, suc, ◌+◌, ◌<◌, ◌==◌, Bool, true, false, ◌||◌, List, [], ◌∷◌, length, map, take, get_or, replicate, slice_get, Option, Some, None, IfSome, is_some, option_map, Result, Ok, Err, OnOk, refl, sym, ap, subst, ◌∙◌, arith}
+use Rattle.std.proofs.Common.{◌≡◌, ℕ, zero, suc, ◌+◌, ◌<◌, ◌==◌, Bool, true, false, ◌||◌, List, [], ◌∷◌, length, map, take, get_or, replicate, slice_get, Option, Some, None, IfSome, is_some, option_map, refl, sym, ap, subst, ◌∙◌, arith}
 use Rattle.std.specs.List.{AllByRecursion, IsDistinct, list_any}
 use Rattle.std.proofs.lemmas.List.{length-map}
 use Rattle.std.proofs.lemmas.Option.{slice_get-get_or, slice_get-map, slice_get_within}
@@ -187,11 +187,6 @@ pub at-place : {Row : Type 0} (P : Row → Type 0) (rows : List Row) (k : ℕ) (
 at-place P [] k row all at = absurd (cc)
 at-place P (first ∷ rows) zero row all at = let same : first ≡ row = cc in subst P same all.0
 at-place P (first ∷ rows) (suc k) row all at = at-place P rows k row all.1 at
-
--- what follows of two facts where a call succeeds
-pub on_both : {A E : Type 0} (result : Result A E) (P Q R : Type 0) → (P → Q → R) → OnOk result P → OnOk result Q → OnOk result R
-on_both (Ok a) P Q R f p q = f p q
-on_both (Err e) P Q R f p q = tt
 
 -- the element at a place
 pub element-at : {A : Type 0} (xs : List A) (i : ℕ) (x : A) → i < length xs → x ≡ get_or xs i x → slice_get xs i ≡ Some x

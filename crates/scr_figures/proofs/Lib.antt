@@ -9,5 +9,6 @@ pub mod WholeOrder
 pub mod Leveled
 pub mod Entering
 pub mod GatheredRows
+pub mod Entries
 pub mod Zipped
 pub mod SourceRows

@@ -15,6 +15,7 @@ use Rattle.scr_nodes.specs.Sources.{words_of}
 use Rattle.scr_nodes.specs.Table.{first_of, second_of}
 use Rattle.scr_nodes.specs.declared.{node.Node.Node, node.Whole.Whole, selections.Selection.Selection}
 use Rattle.scr_nodes.specs.declared.node.Node.TheVariants as nodes
+use Rattle.scr_nodes.specs.declared.node.OfSecurity.TheVariants as of_securities
 use Rattle.scr_nodes.specs.declared.selections.Selection.TheVariants as selections
 use Rattle.scr_nodes.proofs.LiveSources.{sources-live}
 use Rattle.scr_nodes.proofs.Selected.{selected-currencies, selected-groups, selected-liabilities, sources-selected}
@@ -23,7 +24,7 @@ use Rattle.scr_figures.specs.Numbers.{IsNumbered, StandsAt, names_in}
 use Rattle.scr_figures.proofs.Live.{live-stands}
 use Rattle.scr_figures.proofs.Standing.{stands}
 use Rattle.scr_figures.specs.Places.{places_where}
-use Rattle.scr_figures.specs.SourceNumbers.{AreAllPushed, ArePushed, are_live, selected_numbers}
+use Rattle.scr_figures.specs.SourceNumbers.{AreAllPushed, ArePushed, are_live, is_total, selected_numbers}
 
 -- ---- lists side by side
 
@@ -206,3 +207,15 @@ whole-stands sheet places numbered node what is live =
   where
     from : first places tables.Whole 0 + family_of (nodes.Whole what) ≡ family_of (nodes.Whole what)
     from = let zero-first = numbered.whole in omega (arith, zero-first)
+
+-- no figure by name is a source of a total
+pub no-words : (node : Node) → is_total node ≡ true → words_of node ≡ []
+no-words (nodes.Fund name what) is = refl
+no-words (nodes.Security name of_securities.Total) is = refl
+no-words (nodes.Security name (of_securities.UnitLoss direction)) is = refl
+no-words (nodes.Security name (of_securities.Rate direction)) is = absurd (cc)
+no-words (nodes.Security name of_securities.Spread) is = absurd (cc)
+no-words (nodes.Liability name what) is = absurd (cc)
+no-words (nodes.Currency name what) is = absurd (cc)
+no-words (nodes.Group name what) is = absurd (cc)
+no-words (nodes.Whole what) is = absurd (cc)

@@ -1,5 +1,5 @@
 -- The numbers of the sources of figures (this project's own).
-use Rattle.std.specs.Prelude.{◌≡◌, ℕ, ◌+◌, ◌++◌, true, List, [], map}
+use Rattle.std.specs.Prelude.{◌≡◌, ℕ, ◌+◌, ◌++◌, Bool, true, false, List, [], map}
 use Rattle.std.specs.List.{AllByRecursion, AllZip}
 use Rattle.scr_numbers.specs.Ranges.{Numbered, first}
 use Rattle.scr_numbers.specs.declared.table.Table.{Table}
@@ -9,6 +9,8 @@ use Rattle.scr_nodes.specs.Live.{is_live}
 use Rattle.scr_nodes.specs.Selections.{is_counted, is_counterparty, is_currency, is_holder, is_obligation}
 use Rattle.scr_nodes.specs.Sources.{sources_of}
 use Rattle.scr_nodes.specs.declared.{node.Node.Node, selections.Selection.Selection}
+use Rattle.scr_nodes.specs.declared.node.Node.TheVariants as nodes
+use Rattle.scr_nodes.specs.declared.node.OfSecurity.TheVariants as of_securities
 use Rattle.scr_nodes.specs.declared.selections.Selection.TheVariants as selections
 use Rattle.scr_figures.specs.Families.{currency_family, fund_family, group_family, liability_family, security_family}
 use Rattle.scr_figures.specs.Numbers.{StandsAt}
@@ -23,6 +25,12 @@ pub record AreAllPushed (sheet : BalanceSheet) (places : Numbered) (nodes : List
   pub more : List ℕ
   pub list : now ≡ before ++ more
   pub at : AllZip (λ number node. StandsAt sheet places node number) more nodes
+
+-- the total of a fund or of a security, which is reckoned from no figure by name
+abbrev pub is_total : Node → Bool
+is_total (nodes.Fund name what) = true
+is_total (nodes.Security name of_securities.Total) = true
+is_total node = false
 
 -- those of all sources of a figure do
 abbrev pub ArePushed : BalanceSheet → Numbered → Node → List ℕ → List ℕ → Type 0

@@ -9,7 +9,7 @@ ghost use Rattle.scr_nodes.specs.Rows.{holds, is_of_default_class};
 ghost use Rattle.scr_figures.specs.Gathered.{AreFundLists, AreMembersOf};
 ghost use Rattle.scr_figures.specs.Places.{entered_where, places_by};
 
-use crate::lists::Lists;
+use crate::lists::{Entries, Lists};
 use scr_profile::DefaultClass;
 use scr_sheet::{BalanceSheet, Stake};
 use std::alloc::{AllocError as NoMemory, Global};
@@ -32,8 +32,8 @@ pub struct FundLists {
     pub holding_funds: Lists,
 }
 
-/// The rows of the balance sheet. Only want of memory is refused. The cost is that of all components of funds and of all groups, and
-/// an empty list for each fund and security.
+/// The rows of the balance sheet. Only want of memory is refused, and as if for want of it more rows than there are numbers of 32
+/// bits. The cost is that of all components of funds and of all groups, and a place for each fund and security.
 pub fn members_of(alloc: Global, sheet: &BalanceSheet) -> Result<Members, NoMemory>
     requires { Valid sheet.now }
     ensures { IfOk result (λ members. AreMembersOf sheet.now members) }
@@ -48,39 +48,42 @@ fn fund_lists(alloc: Global, sheet: &BalanceSheet) -> Result<FundLists, NoMemory
     requires { Valid sheet.now }
     ensures { IfOk result (λ lists. AreFundLists sheet.now sheet.now.funds lists) }
 {
-    let holding_securities = Lists::new(alloc, sheet.securities.len())?;
-    let holding_funds = Lists::new(alloc, sheet.funds.len())?;
-    let mut lists = FundLists {
+    let mut securities = Entries::new(alloc, sheet.securities.len())?;
+    let mut funds = Entries::new(alloc, sheet.funds.len())?;
+    for k in 0..sheet.funds.len() {
+        enter_fund(&mut securities, &mut funds, sheet, k)?;
+    }
+    let holding_securities = securities.lists(alloc)?;
+    let holding_funds = funds.lists(alloc)?;
+    Ok(FundLists {
         holding_securities,
         holding_funds,
-    };
-    for k in 0..sheet.funds.len() {
-        enter_fund(&mut lists, sheet, k)?;
-    }
-    Ok(lists)
+    })
 }
 
 /// Enters the fund at place `k` after those before it.
-fn enter_fund(lists: &mut FundLists, sheet: &BalanceSheet, k: usize) -> Result<(), NoMemory>
+fn enter_fund(
+    securities: &mut Entries,
+    funds: &mut Entries,
+    sheet: &BalanceSheet,
+    k: usize,
+) -> Result<(), NoMemory>
     requires valid { Valid sheet.now }
     requires place { k < length sheet.now.funds }
-    requires before { AreFundLists sheet.now (take k sheet.now.funds) lists.old }
-    ensures { OnOk result (AreFundLists sheet.now (take (k + 1) sheet.now.funds) lists.new) }
+    requires securities { securities.old ≡ places_by holds (map position_name sheet.now.securities) (take k sheet.now.funds) }
+    requires funds { funds.old ≡ places_by holds (map stake_name sheet.now.funds) (take k sheet.now.funds) }
+    ensures securities { OnOk result (securities.new
+        ≡ places_by holds (map position_name sheet.now.securities) (take (k + 1) sheet.now.funds)) }
+    ensures funds { OnOk result (funds.new ≡ places_by holds (map stake_name sheet.now.funds) (take (k + 1) sheet.now.funds)) }
 {
     let stake = sheet.funds.at(k);
-    enter_holder(
-        &mut lists.holding_securities,
-        &mut lists.holding_funds,
-        sheet,
-        stake,
-        k,
-    )
+    enter_holder(securities, funds, sheet, stake, k)
 }
 
 /// Enters a fund under each security and each fund that it holds as a component.
 fn enter_holder(
-    securities: &mut Lists,
-    funds: &mut Lists,
+    securities: &mut Entries,
+    funds: &mut Entries,
     sheet: &BalanceSheet,
     stake: &Stake,
     k: usize,
@@ -108,10 +111,11 @@ fn enter_holder(
 fn group_lists(alloc: Global, sheet: &BalanceSheet) -> Result<Lists, NoMemory>
     ensures { IfOk result (λ lists. lists ≡ places_by is_of_default_class default_classes sheet.now.groups) }
 {
-    let mut lists = Lists::new(alloc, 6)?;
+    let mut entries = Entries::new(alloc, 6)?;
     for k in 0..sheet.groups.len() {
         let class = DefaultClass::of_step(sheet.groups.at(k).step);
-        lists.enter(Some(class.first_step() as usize), k)?;
+        entries.enter(Some(class.first_step() as usize), k)?;
     }
+    let lists = entries.lists(alloc)?;
     Ok(lists)
 }

@@ -14,7 +14,7 @@ ghost use Rattle.scr_figures.specs.Families.{name_of, table_of};
 ghost use Rattle.scr_figures.specs.Numbers.{IsNumbered, StandsAt, names_in};
 ghost use Rattle.scr_figures.specs.Gathered.{AreMembersOf};
 ghost use Rattle.scr_figures.specs.Places.{places_where};
-ghost use Rattle.scr_figures.specs.SourceNumbers.{AreAllPushed, ArePushed, are_live, numbers_at, selected_family, selected_numbers, selected_rows, selected_table};
+ghost use Rattle.scr_figures.specs.SourceNumbers.{AreAllPushed, ArePushed, are_live, is_total, numbers_at, selected_family, selected_numbers, selected_rows, selected_table};
 
 use crate::families::{currency_family, family, group_family, liability_family, security_family};
 use crate::finding::find;
@@ -111,6 +111,9 @@ fn push_words(list: &mut Vec<u32>, view: View<'_>, node: &Node) -> Result<(), No
     ensures { OnOk result (AreAllPushed view.entry.sheet.now view.entry.places.now (words_of node.now) list.old.items
         list.new.items) }
 {
+    if is_total(node) {
+        return Ok(());
+    }
     for place in 0..MOST_WORDS {
         match nth_word(node, place) {
             Nth::There(word) => list.push(number_of(view, &word))?,
@@ -120,9 +123,19 @@ fn push_words(list: &mut Vec<u32>, view: View<'_>, node: &Node) -> Result<(), No
     Ok(())
 }
 
+/// Whether a figure is the total of a fund or a security, which is reckoned from no figure by name.
+fn is_total(node: &Node) -> bool
+    ensures { result ≡ is_total node.now }
+{
+    matches!(
+        node,
+        Node::Fund(_, _) | Node::Security(_, OfSecurity::Total)
+    )
+}
+
 /// The places of the rows that a figure is reckoned from first, the holders of a fund or a security among them, where they are
 /// gathered.
-fn first_rows<'a>(from: Rows<'a>, node: &Node) -> Option<&'a [usize]>
+fn first_rows<'a>(from: Rows<'a>, node: &Node) -> Option<&'a [u32]>
     requires members { AreMembersOf from.sheet.now from.members.now }
     requires row { slice_get (names_in from.sheet.now (table_of node.now)) from.row ≡ Some (name_of node.now) }
     ensures { IfSome result (λ rows. rows.now ≡ selected_rows from.entry.sheet.now (first_of node.now)) }
@@ -135,7 +148,7 @@ fn first_rows<'a>(from: Rows<'a>, node: &Node) -> Option<&'a [usize]>
 }
 
 /// The funds that hold a security are the sources of its total.
-fn holding_rows<'a>(from: Rows<'a>, name: &Name, what: OfSecurity) -> Option<&'a [usize]>
+fn holding_rows<'a>(from: Rows<'a>, name: &Name, what: OfSecurity) -> Option<&'a [u32]>
     requires members { AreMembersOf from.sheet.now from.members.now }
     requires row { slice_get (map position_name from.sheet.now.securities) from.row ≡ Some name.now }
     ensures { IfSome result (λ rows. rows.now ≡ selected_rows from.entry.sheet.now (first_of (nodes.Security name.now what))) }
@@ -147,7 +160,7 @@ fn holding_rows<'a>(from: Rows<'a>, name: &Name, what: OfSecurity) -> Option<&'a
 }
 
 /// The places of the rows that are read off a table, where they are gathered.
-fn gathered_rows<'a>(from: Rows<'a>, selection: &Selection) -> Option<&'a [usize]>
+fn gathered_rows<'a>(from: Rows<'a>, selection: &Selection) -> Option<&'a [u32]>
     requires { AreMembersOf from.sheet.now from.members.now }
     ensures { IfSome result (λ rows. rows.now ≡ selected_rows from.entry.sheet.now selection.now) }
 {
@@ -157,7 +170,7 @@ fn gathered_rows<'a>(from: Rows<'a>, selection: &Selection) -> Option<&'a [usize
     }
 }
 
-fn group_rows<'a>(from: Rows<'a>, counterparties: Counterparties) -> Option<&'a [usize]>
+fn group_rows<'a>(from: Rows<'a>, counterparties: Counterparties) -> Option<&'a [u32]>
     requires { AreMembersOf from.sheet.now from.members.now }
     ensures { IfSome result (λ rows. rows.now ≡ places_where (is_counterparty counterparties) 0 from.entry.sheet.now.groups) }
 {
@@ -171,7 +184,7 @@ fn group_rows<'a>(from: Rows<'a>, counterparties: Counterparties) -> Option<&'a 
 fn push_places(
     list: &mut Vec<u32>,
     view: View<'_>,
-    rows: Option<&[usize]>,
+    rows: Option<&[u32]>,
     selection: &Selection,
 ) -> Result<(), NoMemory>
     requires numbered { IsNumbered view.sheet.now view.places.now }
@@ -221,7 +234,7 @@ fn push_rows(
     list: &mut Vec<u32>,
     places: &Places,
     table: Table,
-    rows: &[usize],
+    rows: &[u32],
     own: u32,
 ) -> Result<(), NoMemory>
     requires rows { AllByRecursion (λ row. row < count places.now table) rows.now }
@@ -229,7 +242,7 @@ fn push_rows(
     ensures { OnOk result (list.new.items ≡ list.old.items ++ numbers_at places.now table own rows.now) }
 {
     for row in rows {
-        list.push(places.first(table, *row) + own)?;
+        list.push(places.first(table, *row as usize) + own)?;
     }
     Ok(())
 }

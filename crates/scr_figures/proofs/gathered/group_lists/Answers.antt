@@ -9,20 +9,20 @@ use Rattle.scr_figures.proofs.gathered.group_lists.Goals as goal
 pub enter-requires : goal.enter-requires
 enter-requires c =
     only-within (λ class. false) (λ class. is_of_default_class class c.at.result.now) (Some c.first_step.result)
-    default_classes c.loop-k.lists
-    (long is_of_default_class default_classes (take c.loop-k.k c.args.sheet.now.groups) c.loop-k.lists c.loop-k.invariant)
+    default_classes c.loop-k.entries
+    (long is_of_default_class default_classes (take c.loop-k.k c.args.sheet.now.groups) c.loop-k.entries c.loop-k.invariant)
     (subst (λ (n : ℕ). IsOnly (λ class. is_of_default_class class c.at.result.now) (Some n) default_classes)
     (sym (c.first_step.ensures.value ∙ ap first_step c.of_step-class.ensures)) (default-only c.at.result.now))
 
 pub loop-k-preserved : goal.loop-k-preserved
 loop-k-preserved c =
     key-entered is_of_default_class default_classes c.args.sheet.now.groups c.loop-k.k c.at.result.now
-    (Some c.first_step.result) c.loop-k.lists c.enter.new.self c.at.ensures
+    (Some c.first_step.result) c.loop-k.entries c.enter.new.self c.at.ensures
     (subst (λ (n : ℕ). IsOnly (λ class. is_of_default_class class c.at.result.now) (Some n) default_classes)
     (sym (c.first_step.ensures.value ∙ ap first_step c.of_step-class.ensures)) (default-only c.at.result.now)) c.loop-k.invariant c.in_ok-enter.ensures
 
 pub returns : goal.returns
 returns c =
-    c.loop-k.invariant
+    c.in_ok-lists.ensures ∙ c.loop-k.invariant
     ∙ ap (places_by is_of_default_class default_classes)
     (take_all c.loop-k.k c.args.sheet.now.groups (omega (arith, c.loop-k-test.false, c.len-k-end.ensures.count)))

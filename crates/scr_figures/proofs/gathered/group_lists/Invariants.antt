@@ -4,6 +4,6 @@ use Rattle.scr_nodes.specs.Rows.{is_of_default_class}
 use Rattle.scr_figures.specs.Places.{places_by}
 use Rattle.scr_figures.proofs.gathered.group_lists.Given as goal
 
--- the groups so far are listed
+-- the groups so far are entered
 abbrev pub invariant-loop-k : goal.invariant-loop-k
-invariant-loop-k l = l.lists ≡ places_by is_of_default_class default_classes (take l.k l.sheet.groups)
+invariant-loop-k l = l.entries ≡ places_by is_of_default_class default_classes (take l.k l.sheet.groups)

@@ -1,4 +1,4 @@
-use Rattle.std.proofs.Common.{◌≡◌, true, [], subst, sym, arith, append-nil}
+use Rattle.std.proofs.Common.{◌≡◌, true, [], subst, sym, ◌∙◌, arith, append-nil}
 use Rattle.std.proofs.lemmas.List.{take_all}
 use Rattle.scr_nodes.specs.Live.{is_live}
 use Rattle.scr_nodes.specs.Nth.{IsNth}
@@ -6,8 +6,14 @@ use Rattle.scr_nodes.specs.Sources.{words_of}
 use Rattle.scr_nodes.proofs.Selected.{few-words}
 use Rattle.scr_figures.proofs.GatheredRows.{at-place}
 use Rattle.scr_figures.specs.SourceNumbers.{AreAllPushed}
-use Rattle.scr_figures.proofs.Zipped.{next-pushed}
+use Rattle.scr_figures.proofs.Zipped.{next-pushed, no-words}
 use Rattle.scr_figures.proofs.sources.push_words.Goals as goal
+
+pub returns-then-is_total : goal.returns-then-is_total
+returns-then-is_total c =
+    subst (λ nodes. AreAllPushed c.args.view.sheet.now c.args.view.places.now nodes c.args.list.now.items c.args.list.now.items)
+    (sym (no-words c.args.node.now (sym c.is_total.ensures ∙ c.if-is_total.true)))
+    (record { more = []; list = sym (append-nil c.args.list.now.items); at = tt })
 
 pub loop-place-init : goal.loop-place-init
 loop-place-init c = record { more = []; list = sym (append-nil c.args.list.now.items); at = tt }
