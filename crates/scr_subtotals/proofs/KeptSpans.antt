@@ -8,7 +8,7 @@ one_proof : (b : Bool) (p q : T b) → p ≡ q
 one_proof true p q = refl
 one_proof false p q = absurd p
 
-one_order : (low high : ℤ) (p q : low ≤ℤ high) → p ≡ q
+pub one_order : (low high : ℤ) (p q : low ≤ℤ high) → p ≡ q
 one_order low high p q = ap (λ (t : T (le_z low high)). record { le = t }) (one_proof (le_z low high) p.le q.le)
 
 pub one_span : (low high : ℤ) (span : Span) → low ≡ span.low → high ≡ span.high → (ordered : low ≤ℤ high)

@@ -1,4 +1,6 @@
 pub mod Added
+pub mod Apart
+pub mod Cells
 pub mod KeptSpans
 pub mod Members
 pub mod Numbered
@@ -6,3 +8,4 @@ pub mod Parted
 pub mod Putting
 pub mod Seconds
 pub mod Summed
+pub mod Tables

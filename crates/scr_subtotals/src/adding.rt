@@ -6,11 +6,11 @@ ghost use Rattle.scr_num.specs.Sums.{sum_ends};
 ghost use Rattle.scr_subtotals.specs.Figures.{members_ends};
 ghost use Rattle.scr_subtotals.specs.Written.{any_open};
 
-use crate::{Figure, KeptFigure};
+use crate::{Figure, Figures};
 use scr_num::{Span, add, exact};
 
 /// What the figures of one family of the rows with these first numbers come to.
-pub fn add_members(figures: &[KeptFigure], firsts: &[u32], family: u32) -> Span
+pub fn add_members(figures: &Figures, firsts: &[u32], family: u32) -> Span
     requires within { All (λ first. first + family < length figures.now) firsts.now }
     requires few { length figures.now ≤ 2 ^ 32 }
     requires together { AreTogether (2 ^ 124) (members_ends figures.now family firsts.now) }
@@ -21,7 +21,7 @@ pub fn add_members(figures: &[KeptFigure], firsts: &[u32], family: u32) -> Span
 
 /// What the figures of one family of the rows with these first numbers come to together, as one figure, which rests on an open choice
 /// where one of theirs does.
-pub fn add_figures(figures: &[KeptFigure], firsts: &[u32], family: u32) -> Figure
+pub fn add_figures(figures: &Figures, firsts: &[u32], family: u32) -> Figure
     requires within { All (λ first. first + family < length figures.now) firsts.now }
     requires low { All (λ first. first + family < 2 ^ 32) firsts.now }
     requires together { AreTogether (2 ^ 124) (members_ends figures.now family firsts.now) }
@@ -31,10 +31,13 @@ pub fn add_figures(figures: &[KeptFigure], firsts: &[u32], family: u32) -> Figur
     let mut span = exact(0);
     let mut close = false;
     for first in firsts {
-        let number = *first + family;
-        let figure = &figures[number as usize];
-        span = add(span, figure.span());
-        close |= figure.close();
+        let number = (*first + family) as usize;
+        // Most members of a long list come to nothing.
+        if !figures.is_nothing(number) {
+            let figure = figures.figure(number);
+            span = add(span, figure.span);
+            close |= figure.close;
+        }
     }
     Figure { span, close }
 }

@@ -9,7 +9,7 @@ use std::marker::Model;
 
 /// A figure as the table keeps it: in 36 bytes, where one to reckon with takes 48, since there are many. Contracts see the figure.
 #[derive(Drop)]
-pub struct KeptFigure {
+pub(crate) struct KeptFigure {
     low: End,
     high: End,
     close: bool,
@@ -38,7 +38,7 @@ impl Clone for KeptFigure {
 
 impl KeptFigure {
     /// What is kept of a figure.
-    pub fn new(figure: Figure) -> KeptFigure
+    pub(crate) fn new(figure: Figure) -> KeptFigure
         ensures { result ≡ figure }
     {
         let low = End::new(figure.span.low);
@@ -51,7 +51,7 @@ impl KeptFigure {
     }
 
     /// The figure.
-    pub fn figure(&self) -> Figure
+    pub(crate) fn figure(&self) -> Figure
         ensures { result ≡ self.now }
     {
         let span = self.span();
@@ -62,7 +62,7 @@ impl KeptFigure {
     }
 
     /// What the figure comes to.
-    pub fn span(&self) -> Span
+    pub(crate) fn span(&self) -> Span
         ensures { result ≡ self.now.span }
     {
         let low = self.low.number();
@@ -71,7 +71,7 @@ impl KeptFigure {
     }
 
     /// The figure rests on a choice that is open.
-    pub fn close(&self) -> bool
+    pub(crate) fn close(&self) -> bool
         ensures { result ≡ self.now.close }
     {
         self.close

@@ -3,12 +3,14 @@
 #![tactic(auto)]
 
 mod adding;
+mod cell;
 mod end;
 mod figure;
+mod figures;
 mod kept;
 mod writing;
 
 pub use adding::{add_figures, add_members};
-pub use figure::Figure;
-pub use kept::KeptFigure;
+pub use figure::{Figure, is_nothing};
+pub use figures::Figures;
 pub use writing::Subtotals;

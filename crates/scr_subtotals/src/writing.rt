@@ -10,7 +10,7 @@ ghost use Rattle.scr_num.specs.Sums.{sum_ends};
 ghost use Rattle.scr_subtotals.specs.Figures.{ends_at, member_number, members_ends};
 ghost use Rattle.scr_subtotals.specs.Written.{AreNumbered, AreOffBlocks, IsPut, block_figure, blocks_ends, is_open_at, number_of, part_ends, second_ends};
 
-use crate::{Figure, KeptFigure, add_members};
+use crate::{Figure, Figures, add_members};
 use scr_blocks::{Level, blocks_at, part, places};
 use scr_num::{Span, add, exact};
 use scr_numbers::{Places, Table};
@@ -46,18 +46,18 @@ impl<'a> Subtotals<'a> {
     }
 
     /// Writes a block.
-    fn put(&self, figures: &mut [KeptFigure], count: usize, level: Level, index: usize, span: Span)
+    fn put(&self, figures: &mut Figures, count: usize, level: Level, index: usize, span: Span)
         requires numbered { AreNumbered self.now count }
         requires there { index < blocks_at count level }
         requires room { self.now.places.now.size ≤ length figures.old }
         ensures { figures.new ≡ slice_set figures.old (number_of self.now level index) (block_figure span) }
     {
         let number = self.number(count, level, index);
-        figures[number as usize] = KeptFigure::new(Figure { span, close: false });
+        figures.set(number as usize, Figure { span, close: false });
     }
 
     /// Writes the blocks of the first level over members of which the rows have these first numbers.
-    pub fn put_firsts(&self, figures: &mut [KeptFigure], firsts: &[u32], family: u32)
+    pub fn put_firsts(&self, figures: &mut Figures, firsts: &[u32], family: u32)
         requires numbered { AreNumbered self.now (length firsts.now) }
         requires room { self.now.places.now.size ≤ length figures.old }
         requires few { length figures.old ≤ 2 ^ 32 }
@@ -76,7 +76,7 @@ impl<'a> Subtotals<'a> {
     /// What blocks of a level come to together, from one up to another.
     fn add_blocks(
         &self,
-        figures: &[KeptFigure],
+        figures: &Figures,
         count: usize,
         level: Level,
         start: usize,
@@ -91,13 +91,13 @@ impl<'a> Subtotals<'a> {
         let mut sum = exact(0);
         for index in start..end {
             let number = self.number(count, level, index);
-            sum = add(sum, figures[number as usize].span());
+            sum = add(sum, figures.span(number as usize));
         }
         sum
     }
 
     /// Writes the blocks of the second level over a list of so many members, where those of the first are there.
-    pub fn put_seconds(&self, figures: &mut [KeptFigure], count: usize)
+    pub fn put_seconds(&self, figures: &mut Figures, count: usize)
         requires numbered { AreNumbered self.now count }
         requires room { self.now.places.now.size ≤ length figures.old }
         requires together { AreTogether (2 ^ 124) (blocks_ends figures.old self.now levels.First 0 (blocks_at count levels.First)) }
@@ -112,7 +112,7 @@ impl<'a> Subtotals<'a> {
     }
 
     /// Writes all blocks over members of which the rows have these first numbers. No other figure changes.
-    pub fn put_all(&self, figures: &mut [KeptFigure], firsts: &[u32], family: u32)
+    pub fn put_all(&self, figures: &mut Figures, firsts: &[u32], family: u32)
         requires numbered { AreNumbered self.now (length firsts.now) }
         requires room { self.now.places.now.size ≤ length figures.old }
         requires few { length figures.old ≤ 2 ^ 32 }
@@ -131,7 +131,7 @@ impl<'a> Subtotals<'a> {
 
     /// What a sum over members comes to of which the rows have these first numbers, where all its blocks are there. It adds up what is left
     /// at the top.
-    pub fn sum(&self, figures: &[KeptFigure], firsts: &[u32], family: u32) -> Span
+    pub fn sum(&self, figures: &Figures, firsts: &[u32], family: u32) -> Span
         requires numbered { AreNumbered self.now (length firsts.now) }
         requires room { self.now.places.now.size ≤ length figures.now }
         requires few { length figures.now ≤ 2 ^ 32 }

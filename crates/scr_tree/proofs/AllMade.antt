@@ -46,11 +46,11 @@ module _ (ground : Ground) (g : IsGround ground) where
   abbrev At : Point → ℕ → Type 0
   At = StandsIn ground.inputs.book.now ground.places.now ground.lists.now
 
-  pub nothing-made : (made : Made) → length made.figures.items ≡ ground.places.now.size → made.links.size ≤ ground.places.now.size
+  pub nothing-made : (made : Made) → length made.figures ≡ ground.places.now.size → made.links.size ≤ ground.places.now.size
       → made.links.edges ≡ [] → IsDone ground made (turn 0 0 0)
   nothing-made made count size none = record {
     figures = made-none ground.inputs.factors.now ground.inputs.book.now.sheet g.valid ground.places.now g.numbered g.numbers made count size none;
-    blocks_there = blocks-none ground g made.figures.items 0 (omega arith);
+    blocks_there = blocks-none ground g made.figures 0 (omega arith);
   }
 
   -- ---- the assets of which concentrations are measured
@@ -84,12 +84,12 @@ module _ (ground : Ground) (g : IsGround ground) where
       (points-at numbers (sources_of ground.inputs.book.now.sheet node) at)
 
   settled : (made : Made) → IsDone ground made (turn 7 0 153)
-      → AreSettled (book_reckoning ground.inputs.factors.now (rolled_of ground.inputs.book.now)) At made.figures.items
+      → AreSettled (book_reckoning ground.inputs.factors.now (rolled_of ground.inputs.book.now)) At made.figures
   unfolding AreKnownOf
   settled made is = λ point number at live all. by point number at live
     where
       by : (point : Point) (number : ℕ) → At point number → is_live_in (rolled_of ground.inputs.book.now) point ≡ true
-          → HasFigure (book_reckoning ground.inputs.factors.now (rolled_of ground.inputs.book.now)) made.figures.items number point
+          → HasFigure (book_reckoning ground.inputs.factors.now (rolled_of ground.inputs.book.now)) made.figures number point
       by (points.Figure node) number at live =
           is.figures.known node number at live (all-done ground.inputs.book.now.sheet ground.places.now g.numbered node live)
       by (points.Block block) number at live =

@@ -1,7 +1,7 @@
 -- A figure that is read at a number at which one is known.
 use Rattle.std.proofs.Common.{◌≡◌, ℕ, ◌<◌, List, Option, Some, None, get_or, length, slice_get, refl, sym, ap, ◌∙◌}
 use Rattle.std.specs.Option.{option_map}
-use Rattle.std.proofs.lemmas.Option.{slice_get-get_or, slice_get_read, slice_get_within}
+use Rattle.std.proofs.lemmas.Option.{slice_get-get_or, slice_get_within}
 use Rattle.scr_subtotals.specs.declared.figure.Figure.{Figure}
 use Rattle.scr_tree.specs.Figures.{Worth, worth_of}
 
@@ -16,10 +16,9 @@ known-within figures number worth has = by (slice_get figures number) refl
 
 -- and what is read there is worth what is known
 pub known-read : (figures : List Figure) (number : ℕ) (worth : Worth) (figure : Figure)
-    → option_map worth_of (slice_get figures number) ≡ Some worth → figure ≡ get_or figures number figure
+    → option_map worth_of (slice_get figures number) ≡ Some worth → slice_get figures number ≡ Some figure
     → worth_of figure ≡ worth
-known-read figures number worth figure has is =
-    let here = slice_get_read figures (length figures) number figure refl (known-within figures number worth has) is in
+known-read figures number worth figure has here =
     let both : Some (worth_of figure) ≡ Some worth = ap (option_map worth_of) (sym here) ∙ has in cc
 
 -- where only a part of it is read

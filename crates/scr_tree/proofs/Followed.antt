@@ -280,8 +280,8 @@ module _ (factors : FactorValues) (after : RolledSheet) (taken : Taken) (gone : 
       grown = let rows = takes-grown taken.step fo.old state.places fo.takes in let more = has.places.size in omega (arith, rows, more);
       rates = ap known_of has.rates ∙ fo.rates;
       graph = subst (λ (links : Linked). IsGraphOf fo.before fo.old state.lists links.edges) (sym has.links) fo.graph;
-      figures = subst (λ (figures : Vec Figure Global). AreSettled (book_reckoning factors (rolled_of fo.before))
-          (StandsIn fo.before fo.old state.lists) figures.items) (sym has.figures) fo.figures;
+      figures = subst (λ (figures : List Figure). AreSettled (book_reckoning factors (rolled_of fo.before))
+          (StandsIn fo.before fo.old state.lists) figures) (sym has.figures) fo.figures;
       size = subst (λ (links : Linked). links.size ≤ fo.old.size) (sym has.links) fo.size;
       marks = ap (λ (m : MarkedNumbers). m.list) has.marks ∙ fo.marks;
     }
@@ -297,9 +297,9 @@ undone-lists after stood moved state new mid back has un keeps still = record {
   places = subst (HasMoreParts state.places) (sym (keeps.places ∙ un.places)) has.places;
   lists = still;
   figures = λ n l.
-      ap (λ (figures : Vec Figure Global). slice_get figures.items n) keeps.figures
-      ∙ un.figures n (subst (λ (figures : Vec Figure Global). n < length figures.items) (sym has.figures) l)
-      ∙ ap (λ (figures : Vec Figure Global). slice_get figures.items n) has.figures;
+      ap (λ (figures : List Figure). slice_get figures n) keeps.figures
+      ∙ un.figures n (subst (λ (figures : List Figure). n < length figures) (sym has.figures) l)
+      ∙ ap (λ (figures : List Figure). slice_get figures n) has.figures;
   links = λ n.
       ap (λ (links : Linked). linked_in links.edges n) keeps.links ∙ un.links n
       ∙ ap (λ (links : Linked). linked_in links.edges n) has.links;
@@ -363,9 +363,9 @@ kept-back factors before after taken by state is places takes now un back return
         is.graph.linked un.links;
   };
   figures = settled-yet before state.places back state.lists now.lists was un.lists is.graph.numbers_of (book_reckoning factors (rolled_of before))
-      now.figures.items
-      (known-kept (book_reckoning factors (rolled_of before)) (StandsIn before state.places state.lists) (λ point. Unit {0}) state.figures.items
-      now.figures.items un.figures is.figures);
+      now.figures
+      (known-kept (book_reckoning factors (rolled_of before)) (StandsIn before state.places state.lists) (λ point. Unit {0}) state.figures
+      now.figures un.figures is.figures);
   size =
       let small = is.size in
       let more = takes-grown taken.step state.places places takes in

@@ -130,7 +130,7 @@ module _ (ground : Ground) (g : IsGround ground) where
   pub done-on : (a : Made) (t u : Turn) → IsAsGood ground.inputs.book.now.sheet t u → IsDone ground a t → IsDone ground a u
   done-on a t u good is = record {
     figures = made-on ground.inputs.factors.now ground.inputs.book.now.sheet g.valid ground.places.now g.numbered g.numbers a t u good is.figures;
-    blocks_there = blocks-on a.figures.items t u good is.blocks_there;
+    blocks_there = blocks-on a.figures t u good is.blocks_there;
   }
 
   -- a table has no more rows
@@ -164,7 +164,7 @@ module _ (ground : Ground) (g : IsGround ground) where
       (live : is_live ground.inputs.book.now.sheet node ≡ true) where
     pub sources-known : (a : Made) → 2 ≤ stage_of node → IsDone ground a (turn_of node row) → (sources : List ℕ)
         → AllZip (λ m source. StandsAt ground.inputs.book.now.sheet ground.places.now source m) sources (sources_of ground.inputs.book.now.sheet node)
-        → HaveFigures (reckoning_of ground.inputs.factors.now ground.inputs.book.now.sheet) a.figures.items sources (sources_of ground.inputs.book.now.sheet node)
+        → HaveFigures (reckoning_of ground.inputs.factors.now ground.inputs.book.now.sheet) a.figures sources (sources_of ground.inputs.book.now.sheet node)
     sources-known a high is sources are =
         known-sources ground.inputs.factors.now ground.inputs.book.now.sheet g.valid ground.places.now g.numbered g.numbers a
         node row live named high is.figures sources are
@@ -176,9 +176,9 @@ module _ (ground : Ground) (g : IsGround ground) where
     gathered-made a b sources links is are put = record {
       figures = made-entered ground.inputs.factors.now ground.inputs.book.now.sheet g.valid ground.places.now g.numbered g.numbers a b
           (turn_of node row) node number sources put.figure is.figures turn_is live links stood are put.right put.entered;
-      blocks_there = blocks-next ground g b.figures.items (turn_of node row) node turn_is live
+      blocks_there = blocks-next ground g b.figures (turn_of node row) node turn_is live
           (λ sum reads. let clash : true ≡ false = sym links ∙ (ap is_linked (sym reads) ∙ reader-unlinked sum) in absurd (cc))
-          (blocks-beside ground g a.figures.items b.figures.items node number (IsBlockBefore ground.inputs.book.now.sheet (turn_of node row))
+          (blocks-beside ground g a.figures b.figures node number (IsBlockBefore ground.inputs.book.now.sheet (turn_of node row))
           (λ n before. before) stood put.entered.others is.blocks_there);
     }
       where

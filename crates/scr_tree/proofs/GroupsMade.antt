@@ -66,7 +66,7 @@ module _ (ground : Ground) (g : IsGround ground) where
       → (a : Made) → AreGroupsDone ground a count → IsDone ground a (turn 6 0 0)
   groups-ended count long a is = record {
     figures = is.figures;
-    blocks_there = blocks-on ground g a.figures.items (turn 5 count 0) (turn 6 0 0)
+    blocks_there = blocks-on ground g a.figures (turn 5 count 0) (turn 6 0 0)
         (table-ended ground.inputs.book.now.sheet ground.places.now g.numbered 5 count long) is.blocks_there;
   }
 
@@ -78,23 +78,23 @@ module _ (ground : Ground) (g : IsGround ground) where
     group-read sum e =
         subst (λ s. reads ground.inputs.book.now.sheet s ≡ true) (one-some e) (group-live ground.inputs.book.now.sheet g.valid k h at)
 
-    pub group-members : (a : Made) → AreGroupsDone ground a k → AreMembersThere ground a.figures.items IsIts
+    pub group-members : (a : Made) → AreGroupsDone ground a k → AreMembersThere ground a.figures IsIts
     group-members a is =
-        members-early ground g a.figures.items (turn 6 0 0) IsIts
+        members-early ground g a.figures (turn 6 0 0) IsIts
         (λ sum name e. subst (λ s. stage_of (member_of s name) < 6) (one-some e) (omega arith)) is.figures.known
 
     its_turn : IsTurnOf ground.inputs.book.now.sheet (turn 5 k 0) (group_total h)
     its_turn = record { at = refl; row = group-named ground.inputs.book.now.sheet g.valid k h at; family = refl }
 
-    pub group-made : (a b : Made) (now : List Figure) → AreGroupsDone ground a k → KeepsOffBlocks ground IsIts a.figures.items now
-        → AreBlocksThere ground now IsIts → b.figures.items ≡ now → b.links ≡ a.links → AreGroupsDone ground b (k + 1)
+    pub group-made : (a b : Made) (now : List Figure) → AreGroupsDone ground a k → KeepsOffBlocks ground IsIts a.figures now
+        → AreBlocksThere ground now IsIts → b.figures ≡ now → b.links ≡ a.links → AreGroupsDone ground b (k + 1)
     group-made a b now is kept blocks figures_are links_are = record {
       figures = record {
         count = ap length figures_are ∙ kept.count ∙ is.figures.count;
         size = subst (λ (l : Linked). l.size ≤ ground.places.now.size) (sym links_are) is.figures.size;
         known = subst (λ fs. AreKnownOf (reckoning_of ground.inputs.factors.now ground.inputs.book.now.sheet)
             (StandsAt ground.inputs.book.now.sheet ground.places.now) fs (IsBefore ground.inputs.book.now.sheet (turn 6 0 0))) (sym figures_are)
-            (figures-off ground g a.figures.items now IsIts (IsBefore ground.inputs.book.now.sheet (turn 6 0 0)) kept is.figures.known);
+            (figures-off ground g a.figures now IsIts (IsBefore ground.inputs.book.now.sheet (turn 6 0 0)) kept is.figures.known);
         links = subst (λ (l : Linked). AreLinkedOf (graph_of ground.inputs.book.now.sheet) (StandsAt ground.inputs.book.now.sheet ground.places.now)
             l.edges (IsLinkedBefore ground.inputs.book.now.sheet (turn 6 0 0))) (sym links_are) is.figures.links;
       };
@@ -102,7 +102,7 @@ module _ (ground : Ground) (g : IsGround ground) where
           (known-weaker reckoning At now (IsBlockBefore ground.inputs.book.now.sheet (turn 5 k 1)) (IsBlockBefore ground.inputs.book.now.sheet (turn 5 (k + 1) 0))
           (λ point live before. back point before)
           (blocks-next ground g now (turn 5 k 0) (group_total h) its_turn (group-live ground.inputs.book.now.sheet g.valid k h at) own
-          (known-off ground g a.figures.items now IsIts (IsBlockBefore ground.inputs.book.now.sheet (turn 5 k 0))
+          (known-off ground g a.figures now IsIts (IsBlockBefore ground.inputs.book.now.sheet (turn 5 k 0))
           (λ block e before. not-before ground.inputs.book.now.sheet g.valid (turn 5 k 0) (group_total h) its_turn
           (subst (λ s. IsBefore ground.inputs.book.now.sheet (turn 5 k 0) (reader_of s)) (sym (one-some e)) before))
           kept is.blocks_there)));

@@ -71,9 +71,9 @@ module _ (ground : Ground) (g : IsGround ground) where
       by (points.Block block) number at live apart = blocks (points.Block block) number at live (inl (early-sum block.sum apart))
 
   -- when it is reckoned too, all is there
-  pub left-made : (made now : Made) → AreGroupsDone ground made 0 → length now.figures.items ≡ length made.figures.items
+  pub left-made : (made now : Made) → AreGroupsDone ground made 0 → length now.figures ≡ length made.figures
       → AreLinkedTo (link_ground ground) now.links (turn 7 0 153)
-      → AreSettled (book_reckoning ground.inputs.factors.now (rolled_of ground.inputs.book.now)) At now.figures.items → IsWhole ground now
+      → AreSettled (book_reckoning ground.inputs.factors.now (rolled_of ground.inputs.book.now)) At now.figures → IsWhole ground now
   left-made made now is count linked settled = record {
     count = count ∙ is.figures.count;
     size = linked.size;

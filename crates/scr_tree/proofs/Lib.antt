@@ -37,6 +37,7 @@ pub mod GroupSums
 pub mod SumsRead
 pub mod SumsMade
 pub mod GroupsMade
+pub mod Growing
 pub mod FollowedLists
 pub mod TakenUp
 pub mod Climbed

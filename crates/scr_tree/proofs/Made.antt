@@ -189,7 +189,7 @@ module _ (factors : FactorValues) (sheet : BalanceSheet) (valid : Valid sheet) (
   made-good made t u v w a b is = record {
     count = is.count;
     size = is.size;
-    known = known-weaker (reckoning_of factors sheet) (StandsAt sheet places) made.figures.items (IsBefore sheet t) (IsBefore sheet u)
+    known = known-weaker (reckoning_of factors sheet) (StandsAt sheet places) made.figures (IsBefore sheet t) (IsBefore sheet u)
         (λ n live before. a.back n live before) is.known;
     links = record {
       done = λ n m stands live before. is.links.done n m stands live (b.back n live before.0, before.1);
@@ -206,7 +206,7 @@ module _ (factors : FactorValues) (sheet : BalanceSheet) (valid : Valid sheet) (
   made-entered old now t node number sources figure is turn live links at are right entered = record {
     count = entered.count ∙ is.count;
     size = subst (λ n. now.links.size ≤ n) is.count (entered.size (subst (λ n. old.links.size ≤ n) (sym is.count) is.size));
-    known = reckoned-next old.figures.items now.figures.items t node number is.known turn (record {
+    known = reckoned-next old.figures now.figures t node number is.known turn (record {
       at = at;
       there = ap (option_map worth_of) entered.there ∙ ap Some right;
       others = entered.others;
@@ -220,9 +220,9 @@ module _ (factors : FactorValues) (sheet : BalanceSheet) (valid : Valid sheet) (
       → slice_get (names_in sheet (table_of node)) row ≡ Some (name_of node) → 2 ≤ stage_of node
       → IsMade factors sheet places made (turn_of node row) (turn_of node row) → (sources : List ℕ)
       → AreAt (StandsAt sheet places) sources (sources_of sheet node)
-      → HaveFigures (reckoning_of factors sheet) made.figures.items sources (sources_of sheet node)
+      → HaveFigures (reckoning_of factors sheet) made.figures sources (sources_of sheet node)
   known-sources made node row live named high is sources are =
-      known-have (reckoning_of factors sheet) (StandsAt sheet places) made.figures.items (IsBefore sheet (turn_of node row)) is.known sources
+      known-have (reckoning_of factors sheet) (StandsAt sheet places) made.figures (IsBefore sheet (turn_of node row)) is.known sources
       (sources_of sheet node) are
       (both (sources_of sheet node) (sources-live sheet valid node live) (sources-before sheet valid node live row named high))
     where
@@ -237,20 +237,20 @@ module _ (factors : FactorValues) (sheet : BalanceSheet) (valid : Valid sheet) (
   unfolding AreKnownOf
   none-reckoned figures = λ n m stands live before. absurd (none-done sheet n before)
 
-  pub made-none : (made : Made) → length made.figures.items ≡ places.size → made.links.size ≤ places.size → made.links.edges ≡ []
+  pub made-none : (made : Made) → length made.figures ≡ places.size → made.links.size ≤ places.size → made.links.edges ≡ []
       → IsMade factors sheet places made (turn 0 0 0) (turn 0 0 0)
   made-none made count size none = record {
     count = count;
     size = size;
-    known = none-reckoned made.figures.items;
+    known = none-reckoned made.figures;
     links = links-none sheet valid places numbered numbers made.links.edges none;
   }
 
   pub made-all : (made : Made) → IsMade factors sheet places made (turn 7 0 153) (turn 7 0 153)
-      → AreSettled (reckoning_of factors sheet) (StandsAt sheet places) made.figures.items
+      → AreSettled (reckoning_of factors sheet) (StandsAt sheet places) made.figures
       × AreLinkedOf (graph_of sheet) (StandsAt sheet places) made.links.edges (λ n. is_linked n ≡ true)
   made-all made is = (
-    known-weaker (reckoning_of factors sheet) (StandsAt sheet places) made.figures.items (IsBefore sheet (turn 7 0 153)) (λ n. Unit {0})
+    known-weaker (reckoning_of factors sheet) (StandsAt sheet places) made.figures (IsBefore sheet (turn 7 0 153)) (λ n. Unit {0})
         (λ n live all. all-done sheet places numbered n live) is.known,
     links-all sheet valid places numbered numbers made.links.edges is.links,
   )

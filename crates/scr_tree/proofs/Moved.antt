@@ -469,7 +469,7 @@ module _ (factors : FactorValues) (after : RolledSheet) (taken : Taken) (gone : 
       same-untouched point (λ has. left.1 (record { live = left.0; leads = touched point has }))
       (or-right (is_live_in was point) (is_live_in now point) left.0)
 
-  pub left-known : AreKnownOf (book_reckoning factors now) Now state.figures.items
+  pub left-known : AreKnownOf (book_reckoning factors now) Now state.figures
       (λ point. IsInReach (book_graph now) (Contains taken.touched.now) point → ⊥)
   unfolding AreKnownOf
   left-known = λ point number at live none.
@@ -485,9 +485,9 @@ module _ (factors : FactorValues) (after : RolledSheet) (taken : Taken) (gone : 
   rates-after None keeps = mo.rates ∙ sym (rates-kept edit mo.before.sheet keeps) ∙ ap all_rates (sym mo.by.sheet)
   rates-after (Some rows) are = are
 
-  pub relinked-for : (figures : Vec Figure Global) (marks : MarkedNumbers) (links : Linked) (rates : Option Rates)
-      → ((n : ℕ) → n < length state.figures.items → slice_get figures.items n ≡ slice_get state.figures.items n)
-      → state.places.size ≤ length figures.items → marks.list ≡ [] → state.places.size ≤ marks.size
+  pub relinked-for : (figures : List Figure) (marks : MarkedNumbers) (links : Linked) (rates : Option Rates)
+      → ((n : ℕ) → n < length state.figures → slice_get figures n ≡ slice_get state.figures n)
+      → state.places.size ≤ length figures → marks.list ≡ [] → state.places.size ≤ marks.size
       → IsGraphOf after state.places state.lists links.edges → AreRowsFor edit after.sheet rates
       → IsRelinkedFor factors after taken.touched.now rates (record state { figures = figures; marks = marks; links = links })
   relinked-for figures marks links rates kept room none marked graph rows = record {
@@ -495,7 +495,7 @@ module _ (factors : FactorValues) (after : RolledSheet) (taken : Taken) (gone : 
     graph = graph;
     rates_after = rates-after rates rows;
     others = known-kept (book_reckoning factors now) Now (λ point. IsInReach (book_graph now) (Contains taken.touched.now) point → ⊥)
-        state.figures.items figures.items kept left-known;
+        state.figures figures kept left-known;
     room = room;
     marks = none;
     marked = marked;

@@ -1,9 +1,11 @@
 -- The square of the group in a row, from the figures of the assets and of the group's total.
 use Rattle.std.proofs.Common.{◌≡◌, ◌||◌, ℕ, ◌-◌, ◌<◌, Bool, true, false, All, List, [], ◌∷◌, length, map, Some, slice_get, refl, sym, ap, ap₂, subst, ◌∙◌, arith}
 use Rattle.std.specs.Option.{option_map}
+use Rattle.scr_num.specs.Amounts.{IsAmount}
 use Rattle.scr_num.specs.Rounding.{ends}
 use Rattle.scr_num.specs.declared.span.Span.{Span}
 use Rattle.scr_factors.specs.Values.{IsInForm}
+use Rattle.scr_profile.specs.declared.limits.TheConstants.{MAX_HELD}
 use Rattle.scr_sheet.specs.BalanceSheet.{group_name}
 use Rattle.scr_sheet.specs.declared.rows.Group.{Group}
 use Rattle.scr_numbers.specs.Ranges.{count}
@@ -13,11 +15,15 @@ use Rattle.scr_nodes.specs.OwnOf.{own_of}
 use Rattle.scr_nodes.specs.Rows.{group_of}
 use Rattle.scr_nodes.specs.Sources.{concentration_square, sources_of}
 use Rattle.scr_nodes.specs.declared.node.Node.{Node}
+use Rattle.scr_nodes.specs.declared.node.Node.TheVariants as nodes
+use Rattle.scr_nodes.specs.declared.node.Whole.TheVariants as wholes
 use Rattle.scr_nodes.proofs.OwnRows.{own-groups}
 use Rattle.scr_discounts.specs.Kept.{all_discounts}
 use Rattle.scr_rules.specs.ByRow.{by_rule}
 use Rattle.scr_rules.specs.Fits.{Fits}
+use Rattle.scr_rules.specs.Rules.{amount_of}
 use Rattle.scr_rules.specs.Worked.{worked}
+use Rattle.scr_rules.proofs.GroupRows.{square-fits as group-fits}
 use Rattle.scr_rules.proofs.Ranges.{node-fits}
 use Rattle.scr_reach.specs.Linked.{AreAt}
 use Rattle.scr_subtotals.specs.declared.figure.Figure.{Figure}
@@ -25,6 +31,7 @@ use Rattle.scr_sums.specs.Books.{rolled_of}
 use Rattle.scr_sums.specs.Graph.{sources_in}
 use Rattle.scr_sums.specs.declared.point.Point.TheVariants as points
 use Rattle.scr_tree.specs.Figures.{HaveFigures, Worth, worth_of}
+use Rattle.scr_tree.specs.AssetScales.{IsScaleOn}
 use Rattle.scr_tree.specs.Ready.{IsBasis, IsReadyOn, IsSquareOn, StandsOn, reckoning_on}
 use Rattle.scr_tree.specs.declared.basis.Basis.{Basis}
 use Rattle.scr_tree.proofs.ByRow.{by-rule-worked}
@@ -76,11 +83,21 @@ module _ (b : Basis) (is : IsBasis b) (row : ℕ) (group : Group) (got : slice_g
     pub square-within : All (λ source. source < length figures) (153 ∷ (number - 1) ∷ [])
     square-within = within-here b is figures number ready (points.Figure Square) square-stands (153 ∷ (number - 1) ∷ []) below-at
 
-    module _ (assets total : Figure) (first_is : slice_get figures 153 ≡ Some assets)
+    pub assets-worth : (assets : Figure) → slice_get figures 153 ≡ Some assets
+        → worth_of assets ≡ (reckoning_on b).worth (points.Figure (nodes.Whole wholes.Assets))
+    assets-worth assets here = read-is _ figures 153 assets have.0 here
+
+    pub assets-amount : IsInForm b.inputs.factors.now → (assets : Figure) → slice_get figures 153 ≡ Some assets → IsAmount MAX_HELD (ends assets.span)
+    assets-amount form assets here =
+        subst (IsAmount MAX_HELD) (sym (ap (λ (w : Worth). w.worked) (assets-worth assets here)))
+        (group-fits b.inputs.book.now.sheet group square-row b.inputs.factors.now (map (worked b.inputs.factors.now b.inputs.book.now.sheet) (sources_of b.inputs.book.now.sheet Square))
+        (node-fits b.inputs.factors.now form b.inputs.book.now.sheet is.valid Square square-lives)).assets
+
+    module _ (assets total : Figure) (first_is : worth_of assets ≡ (reckoning_on b).worth (points.Figure (nodes.Whole wholes.Assets)))
         (second_is : slice_get figures (number - 1) ≡ Some total) where
       below-worked : ends assets.span ∷ ends total.span ∷ [] ≡ map (worked b.inputs.factors.now b.inputs.book.now.sheet) (sources_of b.inputs.book.now.sheet Square)
       below-worked = ap₂ (λ (x : Worth) (y : Worth). x.worked ∷ y.worked ∷ [])
-          (read-is _ figures 153 assets have.0 first_is) (read-is _ figures (number - 1) total have.1.0 second_is)
+          first_is (read-is _ figures (number - 1) total have.1.0 second_is)
 
       pub square-fits : IsInForm b.inputs.factors.now
           → Fits (own_of b.inputs.factors.now b.inputs.book.now.sheet (concentration_square group)) (ends assets.span ∷ ends total.span ∷ [])
@@ -98,5 +115,30 @@ module _ (b : Basis) (is : IsBasis b) (row : ℕ) (group : Group) (got : slice_g
           ∙ by-rule-worked b.inputs.factors.now b.inputs.book.now.sheet is.valid form Square square-lives (all_discounts b.inputs.book.now.sheet) refl
           (ends assets.span ∷ ends total.span ∷ []) below-worked)
           (ap₂ (λ (x : Worth) (y : Worth). x.close || (y.close || false))
-          (read-is _ figures 153 assets have.0 first_is) (read-is _ figures (number - 1) total have.1.0 second_is))
+          first_is (read-is _ figures (number - 1) total have.1.0 second_is))
           (rests ∙ ap (λ t. assets.close || t) (sym (or-false total.close)))
+
+-- ---- what all squares are measured by, known where that of the first can be reckoned
+
+first-group : (groups : List Group) → 0 < length groups → (group : Group) × (slice_get groups 0 ≡ Some group)
+first-group [] some = absurd (omega (arith, some))
+first-group (group ∷ rest) some = (group, refl)
+
+module _ (b : Basis) (is : IsBasis b) (number : ℕ) (one : IsSquareOn b 0 number) (figures : List Figure) (ready : IsReadyOn b figures number) where
+  first : (group : Group) × (slice_get b.inputs.book.now.sheet.groups 0 ≡ Some group)
+  first = first-group b.inputs.book.now.sheet.groups one.0
+
+  pub scale-within : 153 < length figures
+  scale-within = square-within b is 0 first.0 first.1 number one figures ready 0 0 (omega arith)
+
+  pub scale-amount : IsInForm b.inputs.factors.now → (assets : Figure) → slice_get figures 153 ≡ Some assets → IsAmount MAX_HELD (ends assets.span)
+  scale-amount = assets-amount b is 0 first.0 first.1 number one figures ready
+
+  pub scale-right : (assets : Figure) (scale : ℕ) → slice_get figures 153 ≡ Some assets → scale ≡ amount_of (ends assets.span)
+      → IsScaleOn b (record { scale = scale; close = assets.close })
+  scale-right assets scale here cents = record {
+    assets = assets;
+    worth = assets-worth b is 0 first.0 first.1 number one figures ready assets here;
+    cents = sym cents;
+    close = refl;
+  }

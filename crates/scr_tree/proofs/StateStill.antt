@@ -165,6 +165,6 @@ state-still factors old new state same is = record {
     numbers_of = numbers-still old new state.places state.lists same is.graph.numbers_of;
     linked = links-still old new state.places state.lists same is.graph.numbers_of state.links.edges is.graph.linked;
   };
-  figures = figures-still old new state.places state.lists same is.graph.numbers_of factors state.figures.items is.figures;
+  figures = figures-still old new state.places state.lists same is.graph.numbers_of factors state.figures is.figures;
   size = is.size;
 }

@@ -497,9 +497,9 @@ module _ (ground : Ground) (g : IsGround ground) where
   -- the Blocks of sums that another figure has read before
   pub earlier-there : (node : Node) (row : ℕ) (a : Made) → IsDone ground a (turn_of node row)
       → ((sum : Sum) → IsSumOf node sum → (reader_of sum ≡ node → ⊥) → IsBefore ground.inputs.book.now.sheet (turn_of node row) (reader_of sum))
-      → AreBlocksThere ground a.figures.items (λ sum. IsSumOf node sum × (reader_of sum ≡ node → ⊥))
+      → AreBlocksThere ground a.figures (λ sum. IsSumOf node sum × (reader_of sum ≡ node → ⊥))
   earlier-there node row a is earlier =
-      known-weaker (book_reckoning ground.inputs.factors.now (rolled_of ground.inputs.book.now)) At a.figures.items
+      known-weaker (book_reckoning ground.inputs.factors.now (rolled_of ground.inputs.book.now)) At a.figures
       (IsBlockBefore ground.inputs.book.now.sheet (turn_of node row)) (IsBlockOf (λ sum. IsSumOf node sum × (reader_of sum ≡ node → ⊥)))
       (λ point alive q. by point q) is.blocks_there
     where
@@ -521,23 +521,23 @@ module _ (ground : Ground) (g : IsGround ground) where
     its_turn = record { at = refl; row = named; family = refl }
 
     module _ (a : Made) (is : IsDone ground a t) (between now : List Figure) (b : Made)
-        (kept : KeepsOffBlocks ground (λ sum. reader_of sum ≡ node) a.figures.items between)
+        (kept : KeepsOffBlocks ground (λ sum. reader_of sum ≡ node) a.figures between)
         (blocks : AreBlocksThere ground between (IsSumOf node)) (figure : Figure)
         (right : worth_of figure ≡ worth_at ground.inputs.factors.now ground.inputs.book.now.sheet node)
         (count : length now ≡ length between) (put : slice_get now number ≡ Some figure)
         (others : (other : ℕ) → (other ≡ number → ⊥) → slice_get now other ≡ slice_get between other)
-        (figures_are : b.figures.items ≡ now) (links_are : b.links ≡ a.links) where
+        (figures_are : b.figures ≡ now) (links_are : b.links ≡ a.links) where
       stood : StandsAt ground.inputs.book.now.sheet ground.places.now node number
       stood = its-number (link_ground ground) (for-links ground g) node row number named own live
 
       still-known : AreKnownOf (reckoning_of ground.inputs.factors.now ground.inputs.book.now.sheet)
           (StandsAt ground.inputs.book.now.sheet ground.places.now) between (IsBefore ground.inputs.book.now.sheet t)
       still-known =
-          figures-off a.figures.items between (λ sum. reader_of sum ≡ node) (IsBefore ground.inputs.book.now.sheet t) kept is.figures.known
+          figures-off a.figures between (λ sum. reader_of sum ≡ node) (IsBefore ground.inputs.book.now.sheet t) kept is.figures.known
 
       still-blocks : Known between (IsBlockBefore ground.inputs.book.now.sheet t)
       still-blocks =
-          known-off ground g a.figures.items between (λ sum. reader_of sum ≡ node) (IsBlockBefore ground.inputs.book.now.sheet t)
+          known-off ground g a.figures between (λ sum. reader_of sum ≡ node) (IsBlockBefore ground.inputs.book.now.sheet t)
           (λ block reads before. not-before ground.inputs.book.now.sheet g.valid t node its_turn (subst (IsBefore ground.inputs.book.now.sheet t) reads before))
           kept is.blocks_there
 

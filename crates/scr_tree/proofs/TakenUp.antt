@@ -1,5 +1,5 @@
 -- What is kept while a record is taken up, and what stays where memory is refused.
-use Rattle.std.proofs.Common.{◌≡◌, ℕ, zero, suc, ◌<◌, ◌≤◌, List, [], ◌∷◌, length, Option, Some, None, Vec, Global, slice_get, refl, sym, ap, subst, ◌∙◌, arith}
+use Rattle.std.proofs.Common.{◌≡◌, ℕ, zero, suc, ◌<◌, ◌≤◌, List, [], ◌∷◌, length, Option, Some, None, slice_get, refl, sym, ap, subst, ◌∙◌, arith}
 use Rattle.std.specs.Prelude.{Result, Ok, Err, OnOk, OnErr}
 use Rattle.std.specs.Option.{option_map}
 use Rattle.std.proofs.lemmas.Option.{slice_get_within}
@@ -66,7 +66,7 @@ kept-twice old mid now first second n l = by (slice_get old n) refl
 -- with the new links the kept state is that of the book after
 pub state-anew : (factors : FactorValues) (after : RolledSheet) (places : Numbered) (lists : Lists) (rates : Rates) (now : State)
     → IsGraphOf after places lists now.links.edges → known_of rates ≡ all_rates after.sheet
-    → AreSettled (book_reckoning factors (rolled_of after)) (StandsIn after places lists) now.figures.items → now.links.size ≤ places.size
+    → AreSettled (book_reckoning factors (rolled_of after)) (StandsIn after places lists) now.figures → now.links.size ≤ places.size
     → now.places ≡ places → now.lists ≡ lists → (marks : MarkedNumbers) → IsStateOf factors after (record now { rates = rates; marks = marks })
 state-anew factors after places lists rates now graph known settled size same same_lists marks =
     by now.places now.lists same same_lists
@@ -85,8 +85,8 @@ state-anew factors after places lists rates now graph known settled size same sa
 -- ---- where memory is refused
 
 -- nothing but room, marks and room for links has changed
-pub unchanged-at-once : (state : State) (figures : Vec Figure Global) (marks : MarkedNumbers) (links : Linked)
-    → ((n : ℕ) → n < length state.figures.items → slice_get figures.items n ≡ slice_get state.figures.items n) → links ≡ state.links
+pub unchanged-at-once : (state : State) (figures : List Figure) (marks : MarkedNumbers) (links : Linked)
+    → ((n : ℕ) → n < length state.figures → slice_get figures n ≡ slice_get state.figures n) → links ≡ state.links
     → IsUnchanged state (record state { figures = figures; marks = marks; links = links })
 unchanged-at-once state figures marks links kept same = record {
   rates = refl;
@@ -99,7 +99,7 @@ unchanged-at-once state figures marks links kept same = record {
 
 -- the links are made as they were
 pub unchanged-back : (state mid : State) (marks : MarkedNumbers) (links : Linked) → mid.rates ≡ state.rates → mid.places ≡ state.places → mid.lists ≡ state.lists
-    → ((n : ℕ) → n < length state.figures.items → slice_get mid.figures.items n ≡ slice_get state.figures.items n)
+    → ((n : ℕ) → n < length state.figures → slice_get mid.figures n ≡ slice_get state.figures n)
     → ((number : ℕ) → sources_in links.edges number ≡ sources_in state.links.edges number)
     → (state.links.size ≤ state.places.size → links.size ≤ state.places.size)
     → IsUnchanged state (record mid { marks = marks; links = links })

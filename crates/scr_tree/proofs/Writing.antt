@@ -401,10 +401,10 @@ module _ (ground : Ground) (g : IsGround ground) where
 
   -- all rows are written, and nothing but their figures
   pub rows-done : (rows : List Row) → ((sort : Sort) (k : ℕ) → k < row_count ground.inputs.book.now.sheet sort → 0 < times_row (row sort k) rows)
-      → (a b : Made) → b.links ≡ a.links → IsDone ground a (turn 3 0 0) → IsWrittenOf ground rows a.figures.items b.figures.items
+      → (a b : Made) → b.links ≡ a.links → IsDone ground a (turn 3 0 0) → IsWrittenOf ground rows a.figures b.figures
       → AreGroupsDone ground b 0
   rows-done rows all a b links is written =
-      let reckoned = rows-reckoned rows all a.figures.items b.figures.items (record { count = is.figures.count; known = is.figures.known }) written in
+      let reckoned = rows-reckoned rows all a.figures b.figures (record { count = is.figures.count; known = is.figures.known }) written in
       record {
         figures = record {
           count = reckoned.count;
@@ -414,8 +414,8 @@ module _ (ground : Ground) (g : IsGround ground) where
               (λ (l : Linked). AreLinkedOf (graph_of ground.inputs.book.now.sheet) At l.edges (IsLinkedBefore ground.inputs.book.now.sheet (turn 6 0 0)))
               (sym links) (rows-linked a.links.edges is.figures.links);
         };
-        blocks_there = blocks-rows ground g b.figures.items
-            (blocks-kept ground g a.figures.items b.figures.items (turn 3 0 0) written.parts is.blocks_there);
+        blocks_there = blocks-rows ground g b.figures
+            (blocks-kept ground g a.figures b.figures (turn 3 0 0) written.parts is.blocks_there);
       }
 
 -- ---- spans of rows

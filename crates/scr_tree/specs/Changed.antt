@@ -52,7 +52,7 @@ use Rattle.scr_tree.specs.declared.edits.Taken.{Taken}
 pub record IsStateOf (factors : FactorValues) (book : RolledSheet) (state : State) : Type 0 where
   pub rates : known_of state.rates ≡ all_rates book.sheet
   pub graph : IsGraphOf book state.places state.lists state.links.edges
-  pub figures : AreSettled (book_reckoning factors (rolled_of book)) (StandsIn book state.places state.lists) state.figures.items
+  pub figures : AreSettled (book_reckoning factors (rolled_of book)) (StandsIn book state.places state.lists) state.figures
   pub size : state.links.size ≤ state.places.size
 
 -- rates, figures, lists and links are as they were, and all rows have their numbers: those of parts may be more
@@ -60,8 +60,8 @@ pub record IsUndone (old now : State) : Type 0 where
   pub rates : now.rates ≡ old.rates
   pub places : HasMoreParts old.places now.places
   pub lists : AreStill old.lists now.lists
-  pub figures : (number : ℕ) → number < length old.figures.items
-      → slice_get now.figures.items number ≡ slice_get old.figures.items number
+  pub figures : (number : ℕ) → number < length old.figures
+      → slice_get now.figures number ≡ slice_get old.figures number
   pub links : (number : ℕ) → sources_in now.links.edges number ≡ sources_in old.links.edges number
   pub size : old.links.size ≤ old.places.size → now.links.size ≤ now.places.size
 
@@ -70,8 +70,8 @@ pub record IsUnchanged (old now : State) : Type 0 where
   pub rates : now.rates ≡ old.rates
   pub places : now.places ≡ old.places
   pub lists : now.lists ≡ old.lists
-  pub figures : (number : ℕ) → number < length old.figures.items
-      → slice_get now.figures.items number ≡ slice_get old.figures.items number
+  pub figures : (number : ℕ) → number < length old.figures
+      → slice_get now.figures number ≡ slice_get old.figures number
   pub links : (number : ℕ) → sources_in now.links.edges number ≡ sources_in old.links.edges number
   pub size : old.links.size ≤ old.places.size → now.links.size ≤ old.places.size
 
@@ -122,7 +122,7 @@ pub record IsFollowed (factors : FactorValues) (after : RolledSheet) (taken : Ta
   pub takes : Takes taken.step old state.places
   pub rates : known_of state.rates ≡ all_rates before.sheet
   pub graph : IsGraphOf before old state.lists state.links.edges
-  pub figures : AreSettled (book_reckoning factors (rolled_of before)) (StandsIn before old state.lists) state.figures.items
+  pub figures : AreSettled (book_reckoning factors (rolled_of before)) (StandsIn before old state.lists) state.figures
   pub size : state.links.size ≤ old.size
   pub marks : state.marks.list ≡ []
 
@@ -178,7 +178,7 @@ pub record IsMoved (factors : FactorValues) (after : RolledSheet) (taken : Taken
   pub grown : old.size ≤ state.places.size
   pub rates : known_of state.rates ≡ all_rates before.sheet
   pub graph : IsGraphOf before old former state.links.edges
-  pub figures : AreSettled (book_reckoning factors (rolled_of before)) (StandsIn before old former) state.figures.items
+  pub figures : AreSettled (book_reckoning factors (rolled_of before)) (StandsIn before old former) state.figures
   pub size : state.links.size ≤ old.size
   pub marks : state.marks.list ≡ []
 
@@ -195,9 +195,9 @@ pub record IsRelinkedFor (factors : FactorValues) (after : RolledSheet) (touched
   pub valid : Valid after.sheet
   pub graph : IsGraphOf after state.places state.lists state.links.edges
   pub rates_after : option_map_or known_of rates (known_of state.rates) ≡ all_rates after.sheet
-  pub others : AreKnownOf (book_reckoning factors (rolled_of after)) (StandsIn after state.places state.lists) state.figures.items
+  pub others : AreKnownOf (book_reckoning factors (rolled_of after)) (StandsIn after state.places state.lists) state.figures
       (λ point. IsInReach (book_graph (rolled_of after)) (Contains touched) point → ⊥)
-  pub room : state.places.size ≤ length state.figures.items
+  pub room : state.places.size ≤ length state.figures
   pub marks : state.marks.list ≡ []
   pub marked : state.places.size ≤ state.marks.size
 

@@ -41,11 +41,11 @@ use Rattle.scr_tree.specs.Points.{AreNumbersOf, IsLinkedPoint, StandsIn, book_gr
 -- A figure is written at the number, and these sources are linked to it. To all other numbers all is as before. Links have room for no
 -- number that figures have no place for.
 pub record IsEntered (number : ℕ) (sources : List ℕ) (figure : Figure) (before now : Made) : Type 0 where
-  pub count : length now.figures.items ≡ length before.figures.items
-  pub size : before.links.size ≤ length before.figures.items → now.links.size ≤ length before.figures.items
-  pub there : slice_get now.figures.items number ≡ Some figure
+  pub count : length now.figures ≡ length before.figures
+  pub size : before.links.size ≤ length before.figures → now.links.size ≤ length before.figures
+  pub there : slice_get now.figures number ≡ Some figure
   pub others : (other : ℕ) → (other ≡ number → ⊥)
-      → slice_get now.figures.items other ≡ slice_get before.figures.items other
+      → slice_get now.figures other ≡ slice_get before.figures other
   pub made : sources_in now.links.edges number ≡ sources_in before.links.edges number ++ sources
   pub kept : (other : ℕ) → nat_eq number other ≡ false
       → edges_to now.links.edges other ≡ edges_to before.links.edges other
@@ -69,16 +69,16 @@ IsBlockBefore sheet t (points.Block block) = IsBefore sheet t (reader_of block.s
 -- There is a place for each figure. All figures before a turn are reckoned, and figures before a turn are linked that
 -- neither rows nor lists give.
 pub record IsMade (factors : FactorValues) (sheet : BalanceSheet) (places : Numbered) (made : Made) (reckoned linked : Turn) : Type 0 where
-  pub count : length made.figures.items ≡ places.size
+  pub count : length made.figures ≡ places.size
   pub size : made.links.size ≤ places.size
-  pub known : AreKnownOf (reckoning_of factors sheet) (StandsAt sheet places) made.figures.items (IsBefore sheet reckoned)
+  pub known : AreKnownOf (reckoning_of factors sheet) (StandsAt sheet places) made.figures (IsBefore sheet reckoned)
   pub links : AreLinkedOf (graph_of sheet) (StandsAt sheet places) made.links.edges (IsLinkedBefore sheet linked)
 
 -- Each figure and each Block is at its number, and figures are linked that neither rows nor lists give.
 pub record IsAllMade (factors : FactorValues) (book : RolledSheet) (places : Numbered) (lists : Lists) (made : Made) : Type 0 where
-  pub count : length made.figures.items ≡ places.size
+  pub count : length made.figures ≡ places.size
   pub size : made.links.size ≤ places.size
-  pub figures : AreSettled (book_reckoning factors (rolled_of book)) (StandsIn book places lists) made.figures.items
+  pub figures : AreSettled (book_reckoning factors (rolled_of book)) (StandsIn book places lists) made.figures
   pub links : AreLinkedOf (book_graph (rolled_of book)) (StandsIn book places lists) made.links.edges IsLinkedPoint
 
 -- the rows are those of a valid balance sheet, and so are the numbers, the lists, the rates, the gathered rows and the losses
@@ -139,7 +139,7 @@ IsEstimated sheet k estimate =
 pub record IsMadeTo (ground : Ground) (made : Made) (reckoned linked blocks : Turn) : Type 0 where
   pub figures : IsMade ground.inputs.factors.now ground.inputs.book.now.sheet ground.places.now made reckoned linked
   pub blocks_there : AreKnownOf (book_reckoning ground.inputs.factors.now (rolled_of ground.inputs.book.now))
-      (StandsIn ground.inputs.book.now ground.places.now ground.lists.now) made.figures.items (IsBlockBefore ground.inputs.book.now.sheet blocks)
+      (StandsIn ground.inputs.book.now ground.places.now ground.lists.now) made.figures (IsBlockBefore ground.inputs.book.now.sheet blocks)
 
 abbrev pub IsDone : Ground → Made → Turn → Type 0
 IsDone ground made t = IsMadeTo ground made t t t

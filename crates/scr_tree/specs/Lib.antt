@@ -18,6 +18,7 @@ pub mod Standing
 pub mod Kept
 pub mod Sorted
 pub mod SquareRun
+pub mod AssetScales
 pub mod Room
 pub mod Opening
 pub mod Summed

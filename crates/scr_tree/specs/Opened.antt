@@ -15,6 +15,6 @@ pub record IsOpened (factors : FactorValues) (book : RolledSheet) (opened : Open
   pub valid : Valid book.sheet
   pub rates : known_of opened.rates ≡ all_rates book.sheet
   pub graph : IsGraphOf book opened.places opened.lists opened.links.edges
-  pub room : opened.places.size ≤ length opened.figures.items
+  pub room : opened.places.size ≤ length opened.figures
   pub size : opened.links.size ≤ opened.places.size
-  pub figures : AreSettled (book_reckoning factors (rolled_of book)) (StandsIn book opened.places opened.lists) opened.figures.items
+  pub figures : AreSettled (book_reckoning factors (rolled_of book)) (StandsIn book opened.places opened.lists) opened.figures

@@ -21,7 +21,7 @@ ghost use Rattle.std.specs.Prelude.{nat_eq};
 ghost use Rattle.scr_tree.specs.KeptRates.{AreKeptFor, keeps_rates};
 
 use crate::basis::{Basis, Crew};
-use crate::figures::{Below, Inputs, KeptFigure, NO_FIGURE};
+use crate::figures::{Below, Figures, Inputs};
 use crate::first_links::ASSETS;
 use crate::graph::{Graph, Numbers};
 use crate::order::ordered;
@@ -50,7 +50,7 @@ pub(crate) struct State {
     pub(crate) rates: Rates,
     pub(crate) places: Places,
     pub(crate) lists: Lists,
-    pub(crate) figures: Vec<KeptFigure>,
+    pub(crate) figures: Figures,
     pub(crate) links: Links,
     pub(crate) marks: Marked,
     pub(crate) scratch: Scratch,
@@ -271,11 +271,11 @@ fn reckon_reached<R: Threads + Sync, G: Gate + Sync, L: Ledger>(
 ) -> Result<(), NoMemory>
     requires { IsRelinkedFor footing.factors.now footing.book.now touched.now rates.now state.old }
     ensures settled { OnOk result (AreSettled (book_reckoning footing.entry.factors.now (rolled_of footing.entry.book.now))
-        (StandsIn footing.entry.book.now state.old.places state.old.lists) state.new.figures.items) }
+        (StandsIn footing.entry.book.now state.old.places state.old.lists) state.new.figures) }
     ensures steps { OnOk result (crew.now.workers ≡ 1
         → StepsReach (rolled_of footing.entry.book.now) touched.now steps.old steps.new) }
-    ensures figures { OnErr result (state.new.figures.items ≡ state.old.figures.items) }
-    ensures count { length state.new.figures.items ≡ length state.old.figures.items }
+    ensures figures { OnErr result (state.new.figures ≡ state.old.figures) }
+    ensures count { length state.new.figures ≡ length state.old.figures }
     ensures rates { state.new.rates ≡ state.old.rates }
     ensures places { state.new.places ≡ state.old.places }
     ensures lists { state.new.lists ≡ state.old.lists }
@@ -334,17 +334,17 @@ fn climb(graph: Graph<'_>, marks: &mut Marked, touched: &[Point]) -> Result<(), 
 }
 
 /// Room for figures and marks of all numbers below the size.
-fn make_room(figures: &mut Vec<KeptFigure>, marks: &mut Marked, size: u32) -> Result<(), NoMemory>
-    ensures figures { OnOk result (size ≤ length figures.new.items) }
-    ensures kept { (number : ℕ) → number < length figures.old.items
-        → slice_get figures.new.items number ≡ slice_get figures.old.items number }
+fn make_room(figures: &mut Figures, marks: &mut Marked, size: u32) -> Result<(), NoMemory>
+    ensures figures { OnOk result (size ≤ length figures.new) }
+    ensures kept { (number : ℕ) → number < length figures.old
+        → slice_get figures.new number ≡ slice_get figures.old number }
     ensures marks { OnOk result (size ≤ marks.new.size) }
     ensures list { marks.new.list ≡ marks.old.list }
 {
     let size = size as usize;
     marks.grow(size)?;
     while figures.len() < size {
-        figures.push(KeptFigure::new(NO_FIGURE))?;
+        figures.push()?;
     }
     Ok(())
 }

@@ -168,7 +168,7 @@ impl Engine {
             lists: &self.state.lists,
         };
         match numbers.number_of(&point) {
-            Some(number) => self.state.figures[number as usize].span(),
+            Some(number) => self.state.figures.span(number as usize),
             None => unreachable!(),
         }
     }
@@ -197,7 +197,7 @@ impl Engine {
         ensures close { result.close ≡ close_under self.now.factors self.now.sheet node.now }
     {
         match find(&self.state.places, self.book.sheet(), node) {
-            Some(number) => self.state.figures[number as usize].figure(),
+            Some(number) => self.state.figures.figure(number as usize),
             None => unreachable!(),
         }
     }

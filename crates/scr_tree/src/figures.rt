@@ -13,22 +13,15 @@ use scr_io::{Gate, Steps};
 use scr_nodes::{Node, OfCurrency, Whole};
 use scr_num::Span;
 use scr_rules::{Rates, evaluate_by};
-pub(crate) use scr_subtotals::{Figure, KeptFigure};
+pub(crate) use scr_subtotals::{Figure, Figures};
 use std::alloc::{AllocError as NoMemory, Global};
 use std::sync::ledger::Ledger;
 
-/// What stands at a number of which no figure is known.
-pub(crate) const NO_FIGURE: Figure = Figure {
-    span: Span { low: 0, high: 0 },
-    close: false,
-};
-
-/// No figure, with room for so many.
-pub(crate) fn no_figures(alloc: Global, size: u32) -> Result<Vec<KeptFigure>, NoMemory>
-    ensures { IfOk result (λ figures. length figures.items ≡ size) }
+/// No figure is known of so many numbers.
+pub(crate) fn no_figures(alloc: Global, size: u32) -> Result<Figures, NoMemory>
+    ensures { IfOk result (λ figures. length figures ≡ size) }
 {
-    let figures = vec![in alloc; KeptFigure::new(NO_FIGURE); size as usize]?;
-    Ok(figures)
+    Figures::new(alloc, size as usize)
 }
 
 /// What figures are reckoned from beside those of their sources.
@@ -59,28 +52,24 @@ impl Below {
     }
 
     /// Of one figure more.
-    pub(crate) fn push(&mut self, figure: &KeptFigure) -> Result<(), NoMemory>
+    pub(crate) fn push(&mut self, figure: &Figure) -> Result<(), NoMemory>
         ensures spans { OnOk result (self.new.spans.items ≡ self.old.spans.items ++ figure.now.span ∷ []) }
         ensures close { OnOk result (self.new.close ≡ (self.old.close || figure.now.close)) }
     {
-        self.spans.push(figure.span())?;
-        self.close = self.close || figure.close();
+        self.spans.push(figure.span)?;
+        self.close = self.close || figure.close;
         Ok(())
     }
 }
 
 /// Reads the figures at these numbers, in their order.
-pub(crate) fn read(
-    figures: &[KeptFigure],
-    numbers: &[u32],
-    below: &mut Below,
-) -> Result<(), NoMemory>
+pub(crate) fn read(figures: &Figures, numbers: &[u32], below: &mut Below) -> Result<(), NoMemory>
     requires { All (λ number. number < length figures.now) numbers.now }
     ensures { OnOk result (AreReadAt figures.now numbers.now below.new) }
 {
     below.clear();
     for number in numbers {
-        below.push(&figures[*number as usize])?;
+        below.push(&figures.figure(*number as usize))?;
     }
     Ok(())
 }

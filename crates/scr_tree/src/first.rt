@@ -11,7 +11,7 @@ ghost use Rattle.scr_tree.specs.Turns.{turn};
 ghost use Rattle.scr_tree.specs.Written.{IsWrittenOf};
 
 use crate::basis::Crew;
-use crate::figures::{Below, Inputs, KeptFigure, no_figures};
+use crate::figures::{Below, Figures, Inputs, no_figures};
 use crate::first_links::{ASSETS, OF_CURRENCY, WHOLES, no_links};
 use crate::first_parts::{write_parts, write_row};
 use crate::first_totals::{pass_totals, put_totals};
@@ -44,7 +44,7 @@ pub(crate) struct Opened {
     pub(crate) rates: Rates,
     pub(crate) places: Places,
     pub(crate) lists: Lists,
-    pub(crate) figures: Vec<KeptFigure>,
+    pub(crate) figures: Figures,
     pub(crate) links: Links,
 }
 
@@ -236,7 +236,7 @@ fn pass_assets<G: Gate>(ground: Ground<'_>, gate: &G)
     gate.pass(ASSETS);
 }
 
-fn row_ground<'a>(ground: Ground<'a>, totals: &'a [u64], figures: &[KeptFigure]) -> RowGround<'a>
+fn row_ground<'a>(ground: Ground<'a>, totals: &'a [u64], figures: &Figures) -> RowGround<'a>
     requires ground { IsGround ground }
     requires totals { totals.now ≡ totals_of ground.inputs.book.now.sheet }
     requires done { AreReckonedTo ground figures.now (turn 3 0 0) }
@@ -246,7 +246,7 @@ fn row_ground<'a>(ground: Ground<'a>, totals: &'a [u64], figures: &[KeptFigure])
     RowGround {
         ground,
         totals: &totals[ground.inputs.book.sheet().funds.len()..],
-        assets: figures[ASSETS as usize].span(),
+        assets: figures.span(ASSETS as usize),
     }
 }
 
@@ -262,8 +262,8 @@ fn put_rows<G: Gate>(
     requires done { IsDone ground making.old.made (turn 3 0 0) }
     ensures { OnOk result (AreGroupsDone ground.entry making.new.made 0) }
 {
-    let rows = row_ground(ground, totals, making.made.figures.as_slice());
-    let figures = making.made.figures.as_mut_slice();
+    let rows = row_ground(ground, totals, &making.made.figures);
+    let figures = &mut making.made.figures;
     let room = &mut making.below.spans;
     put_sort(&rows, Sort::Liability, figures, room, gate)?;
     put_sort(&rows, Sort::Security, figures, room, gate)?;
@@ -274,7 +274,7 @@ fn put_rows<G: Gate>(
 fn put_sort<G: Gate>(
     rows: &RowGround<'_>,
     sort: Sort,
-    figures: &mut [KeptFigure],
+    figures: &mut Figures,
     room: &mut Vec<Span>,
     gate: &G,
 ) -> Result<(), NoMemory>
@@ -304,9 +304,9 @@ fn put_by_pieces<R: Threads + Sync, G: Gate + Sync>(
     requires done { IsDone ground made.old (turn 3 0 0) }
     ensures { OnOk result (AreGroupsDone ground.entry made.new 0) }
 {
-    let rows = row_ground(ground, totals, made.figures.as_slice());
+    let rows = row_ground(ground, totals, &made.figures);
     let parts = reckon_rows(crew.rt, crew.alloc, crew.workers, &rows, crew.gate)?;
-    write_parts(ground, made.figures.as_mut_slice(), parts.as_slice());
+    write_parts(ground, &mut made.figures, parts.as_slice());
     Ok(())
 }
 

@@ -28,7 +28,10 @@ pub(crate) const OF_CURRENCY: u32 = 9;
 /// How many figures of the whole sheet come after all rows: all but the assets of which concentrations are measured.
 pub(crate) const WHOLES: u32 = 153;
 
-/// No link, with room for those of figures of currencies and of the whole sheet, between any numbers.
+/// How many links figures of the whole sheet have to others of it, or some more.
+const OF_WHOLES: usize = 1024;
+
+/// No link, with room for those that are expected, between any numbers.
 pub(crate) fn no_links(ground: LinkGround<'_>) -> Result<Links, NoMemory>
     ensures links { IfOk result (λ links. links.edges ≡ []) }
     ensures size { IfOk result (λ links. links.size ≤ ground.entry.places.now.size) }
@@ -39,15 +42,18 @@ pub(crate) fn no_links(ground: LinkGround<'_>) -> Result<Links, NoMemory>
     Ok(links)
 }
 
-/// How many links figures of currencies and of the whole sheet have at most to their sources, or nearly so: of a currency twenty, and
-/// to each group two.
+/// For how many links there is room at first: of funds as many as they have components, of a currency twenty, of the whole sheet
+/// `OF_WHOLES`, and of a group two. Where there are more, more room is made.
 fn expected_links(sheet: &BalanceSheet) -> u32 {
-    let count = sheet
+    let mut count = sheet
         .groups
         .len()
         .saturating_mul(2)
         .saturating_add(sheet.curves.len().saturating_mul(20))
-        .saturating_add(4096);
+        .saturating_add(OF_WHOLES);
+    for k in 0..sheet.funds.len() {
+        count = count.saturating_add(sheet.funds.at(k).fund.components.as_slice().len());
+    }
     match u32::try_from(count) {
         Ok(count) => count,
         Err(_) => u32::MAX,

@@ -6,14 +6,14 @@ ghost use Rattle.scr_tree.specs.First.{IsGround};
 ghost use Rattle.scr_tree.specs.RowSpans.{IsRowOf, row_count, sort_table};
 ghost use Rattle.scr_tree.specs.Written.{IsWrittenAt, IsWrittenOf, rows_among};
 
-use crate::figures::{Figure, KeptFigure};
+use crate::figures::{Figure, Figures};
 use crate::making::Ground;
 use scr_num::Span;
 use scr_numbers::Table;
 use scr_pieces::{Part, Piece, Sort};
 
 /// Writes the figures of all rows, as workers have reckoned them by parts.
-pub(crate) fn write_parts(ground: Ground<'_>, figures: &mut [KeptFigure], parts: &[Part])
+pub(crate) fn write_parts(ground: Ground<'_>, figures: &mut Figures, parts: &[Part])
     requires ground { IsGround ground }
     requires count { length figures.old ≡ ground.places.now.size }
     requires rows { AreAllRows (row_count ground.inputs.book.now.sheet) (IsRowOf ground.inputs.factors.now ground.inputs.book.now.sheet) parts.now }
@@ -24,7 +24,7 @@ pub(crate) fn write_parts(ground: Ground<'_>, figures: &mut [KeptFigure], parts:
     }
 }
 
-fn write_part(ground: Ground<'_>, figures: &mut [KeptFigure], part: &Part)
+fn write_part(ground: Ground<'_>, figures: &mut Figures, part: &Part)
     requires ground { IsGround ground }
     requires count { length figures.old ≡ ground.places.now.size }
     requires within { ArePiecesWithin (row_count ground.inputs.book.now.sheet) part.now }
@@ -40,7 +40,7 @@ fn write_part(ground: Ground<'_>, figures: &mut [KeptFigure], part: &Part)
 /// Writes the rows of a piece, whose spans come first, and tells which come next.
 fn write_piece<'a>(
     ground: Ground<'_>,
-    figures: &mut [KeptFigure],
+    figures: &mut Figures,
     piece: &Piece,
     spans: &'a [Span],
 ) -> &'a [Span]
@@ -64,7 +64,7 @@ fn write_piece<'a>(
 /// Writes the figures of the row at a place, whose spans come first, and tells which come next.
 pub(crate) fn write_row<'a>(
     ground: Ground<'_>,
-    figures: &mut [KeptFigure],
+    figures: &mut Figures,
     sort: Sort,
     k: usize,
     spans: &'a [Span],
@@ -98,14 +98,17 @@ fn table_of(sort: Sort) -> Table
 }
 
 /// Writes figures that rest on no choice at the numbers from one on.
-fn write_spans(figures: &mut [KeptFigure], first: u32, spans: &[Span])
+fn write_spans(figures: &mut Figures, first: u32, spans: &[Span])
     requires { first + length spans.now ≤ length figures.old }
     ensures { IsWrittenAt first spans.now figures.old figures.new }
 {
     for j in 0..spans.len() {
-        figures[first as usize + j] = KeptFigure::new(Figure {
-            span: spans[j],
-            close: false,
-        });
+        figures.set(
+            first as usize + j,
+            Figure {
+                span: spans[j],
+                close: false,
+            },
+        );
     }
 }

@@ -8,7 +8,7 @@ ghost use Rattle.scr_tree.specs.Figures.{total_worth, worth_of};
 ghost use Rattle.scr_tree.specs.First.{AreReckonedTo, IsDone, IsGround, totals_of};
 ghost use Rattle.scr_tree.specs.Turns.{turn};
 
-use crate::figures::{Figure, KeptFigure};
+use crate::figures::{Figure, Figures};
 use crate::first_links::{link_funds, link_securities};
 use crate::making::{Ground, Making};
 use crate::row_spans::stands_alone;
@@ -40,24 +40,24 @@ pub(crate) fn put_totals<G: Gate>(
 pub(crate) fn enter_totals<G: Gate>(
     ground: Ground<'_>,
     totals: &[u64],
-    figures: &mut Vec<KeptFigure>,
+    figures: &mut Figures,
     gate: &G,
 )
     requires ground { IsGround ground }
     requires totals { totals.now ≡ totals_of ground.inputs.book.now.sheet }
-    requires nothing { AreReckonedTo ground figures.old.items (turn 0 0 0) }
-    ensures { AreReckonedTo ground.entry figures.new.items (turn 2 0 0) }
+    requires nothing { AreReckonedTo ground figures.old (turn 0 0 0) }
+    ensures { AreReckonedTo ground.entry figures.new (turn 2 0 0) }
 {
     let funds = ground.inputs.book.sheet().funds.len();
     put_funds(ground, figures, &totals[..funds], gate);
     put_securities(ground, figures, &totals[funds..], gate);
 }
 
-fn put_funds<G: Gate>(ground: Ground<'_>, figures: &mut Vec<KeptFigure>, totals: &[u64], gate: &G)
+fn put_funds<G: Gate>(ground: Ground<'_>, figures: &mut Figures, totals: &[u64], gate: &G)
     requires ground { IsGround ground }
     requires totals { totals.now ≡ map (λ s. total_of ground.inputs.book.now.sheet (stake_name s)) ground.inputs.book.now.sheet.funds }
-    requires nothing { AreReckonedTo ground figures.old.items (turn 0 0 0) }
-    ensures { AreReckonedTo ground.entry figures.new.items (turn 1 0 0) }
+    requires nothing { AreReckonedTo ground figures.old (turn 0 0 0) }
+    ensures { AreReckonedTo ground.entry figures.new (turn 1 0 0) }
 {
     for k in 0..ground.inputs.book.sheet().funds.len() {
         let number = ground.places.first(Table::Fund, k);
@@ -67,17 +67,12 @@ fn put_funds<G: Gate>(ground: Ground<'_>, figures: &mut Vec<KeptFigure>, totals:
 }
 
 /// Puts those of the securities, where those of the funds are there.
-fn put_securities<G: Gate>(
-    ground: Ground<'_>,
-    figures: &mut Vec<KeptFigure>,
-    totals: &[u64],
-    gate: &G,
-)
+fn put_securities<G: Gate>(ground: Ground<'_>, figures: &mut Figures, totals: &[u64], gate: &G)
     requires ground { IsGround ground }
     requires totals { totals.now
         ≡ map (λ p. total_of ground.inputs.book.now.sheet (position_name p)) ground.inputs.book.now.sheet.securities }
-    requires funds { AreReckonedTo ground figures.old.items (turn 1 0 0) }
-    ensures { AreReckonedTo ground.entry figures.new.items (turn 2 0 0) }
+    requires funds { AreReckonedTo ground figures.old (turn 1 0 0) }
+    ensures { AreReckonedTo ground.entry figures.new (turn 2 0 0) }
 {
     for k in 0..ground.inputs.book.sheet().securities.len() {
         let number = ground.places.first(Table::Security, k);
@@ -109,17 +104,20 @@ fn pass_alone<G: Gate>(ground: Ground<'_>, k: usize, number: u32, gate: &G)
 }
 
 /// Writes a total of so many cents, which rests on no choice.
-fn write_total(figures: &mut Vec<KeptFigure>, number: u32, cents: u64)
-    requires { number < length figures.old.items }
-    ensures count { length figures.new.items ≡ length figures.old.items }
-    ensures there { option_map worth_of (slice_get figures.new.items number) ≡ Some (total_worth cents) }
+fn write_total(figures: &mut Figures, number: u32, cents: u64)
+    requires { number < length figures.old }
+    ensures count { length figures.new ≡ length figures.old }
+    ensures there { option_map worth_of (slice_get figures.new number) ≡ Some (total_worth cents) }
     ensures others { (other : ℕ) → (other ≡ number → ⊥)
-        → slice_get figures.new.items other ≡ slice_get figures.old.items other }
+        → slice_get figures.new other ≡ slice_get figures.old other }
 {
-    figures[number as usize] = KeptFigure::new(Figure {
-        span: amount(cents),
-        close: false,
-    });
+    figures.set(
+        number as usize,
+        Figure {
+            span: amount(cents),
+            close: false,
+        },
+    );
 }
 
 fn amount(cents: u64) -> Span

@@ -3,7 +3,8 @@ ghost use Rattle.std.specs.Prelude.{◌≡◌, ◌+◌, ◌<◌, ◌≤◌, true
 ghost use Rattle.scr_num.specs.Rounding.{ends};
 ghost use Rattle.scr_tree.specs.Order.{AreWithin, IsJournalKept, undone};
 
-use crate::figures::{Figure, KeptFigure};
+use crate::figures::{Figure, Figures};
+use scr_subtotals::is_nothing;
 use std::alloc::{AllocError as NoMemory, Global};
 
 /// A figure that was written over, and its number.
@@ -56,7 +57,7 @@ impl Journal {
 
     /// Writes the figure of the next number, and keeps the one that stood there. Where that is the same, neither is done. It takes no
     /// memory.
-    pub(crate) fn write(&mut self, figures: &mut [KeptFigure], number: u32, figure: Figure)
+    pub(crate) fn write(&mut self, figures: &mut Figures, number: u32, figure: Figure)
         requires next { slice_get self.old.numbers.items self.old.next ≡ Some number }
         requires within { number < length figures.old }
         ensures numbers { self.new.numbers.items ≡ self.old.numbers.items }
@@ -67,7 +68,10 @@ impl Journal {
     {
         self.next += 1;
         let place = number as usize;
-        let was = figures[place].figure();
+        if both_nothing(figures, place, &figure) {
+            return;
+        }
+        let was = figures.figure(place);
         if is_same(was, figure) {
             return;
         }
@@ -75,19 +79,27 @@ impl Journal {
             number,
             figure: was,
         });
-        figures[place] = KeptFigure::new(figure);
+        figures.set(place, figure);
     }
 
     /// Writes the former figures back, the last one first.
-    pub(crate) fn undo(self, figures: &mut [KeptFigure])
+    pub(crate) fn undo(self, figures: &mut Figures)
         requires { AreWithin (length figures.old) self.former.items }
         ensures { figures.new ≡ undone self.former.items figures.old }
     {
         let Journal { mut former, .. } = self;
         while let Some(was) = former.pop() {
-            figures[was.number as usize] = KeptFigure::new(was.figure);
+            figures.set(was.number as usize, was.figure);
         }
     }
+}
+
+/// The figure comes to nothing, and the one that stands at the place does: so it is of most squares, and told by a glance.
+fn both_nothing(figures: &Figures, place: usize, figure: &Figure) -> bool
+    requires { place < length figures.now }
+    ensures { result ≡ true → slice_get figures.now place ≡ Some figure.now }
+{
+    is_nothing(figure) && figures.is_nothing(place)
 }
 
 /// The two figures are the same.

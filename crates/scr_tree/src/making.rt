@@ -17,7 +17,7 @@ ghost use Rattle.scr_tree.specs.Points.{is_linked};
 ghost use Rattle.scr_tree.specs.Summed.{summed_in};
 ghost use Rattle.scr_tree.specs.Turns.{next, stage_of, turn_of};
 
-use crate::figures::{Below, Figure, Inputs, KeptFigure, read, reckoned};
+use crate::figures::{Below, Figure, Figures, Inputs, read, reckoned};
 use crate::graph::Numbers;
 use crate::sums::{by_sums, put_blocks, sum_there};
 use scr_book::Book;
@@ -87,7 +87,7 @@ impl<'a> Ground<'a> {
 /// The figures by number, and the links from the numbers of their sources.
 #[derive(Drop)]
 pub(crate) struct Made {
-    pub(crate) figures: Vec<KeptFigure>,
+    pub(crate) figures: Figures,
     pub(crate) links: Links,
 }
 
@@ -110,8 +110,8 @@ pub(crate) fn enter(
     sources: &[u32],
     figure: Figure,
 ) -> Result<(), NoMemory>
-    requires number { number < length made.old.figures.items }
-    requires sources { All (λ source. source < length made.old.figures.items) sources.now }
+    requires number { number < length made.old.figures }
+    requires sources { All (λ source. source < length made.old.figures) sources.now }
     ensures { OnOk result (IsEntered number sources.now figure made.old made.new) }
 {
     make_room(alloc, &mut made.links, number, sources)?;
@@ -121,14 +121,14 @@ pub(crate) fn enter(
 }
 
 /// Writes a figure at its number.
-fn write(figures: &mut Vec<KeptFigure>, number: u32, figure: Figure)
-    requires { number < length figures.old.items }
-    ensures count { length figures.new.items ≡ length figures.old.items }
-    ensures there { slice_get figures.new.items number ≡ Some figure }
+fn write(figures: &mut Figures, number: u32, figure: Figure)
+    requires { number < length figures.old }
+    ensures count { length figures.new ≡ length figures.old }
+    ensures there { slice_get figures.new number ≡ Some figure }
     ensures others { (other : ℕ) → (other ≡ number → ⊥)
-        → slice_get figures.new.items other ≡ slice_get figures.old.items other }
+        → slice_get figures.new other ≡ slice_get figures.old other }
 {
-    figures[number as usize] = KeptFigure::new(figure);
+    figures.set(number as usize, figure);
 }
 
 /// Room for links from these sources to a number.
@@ -236,14 +236,14 @@ pub(crate) fn put<G: Gate, L: Ledger>(
 ) -> Result<(), NoMemory>
     requires ground { IsGround ground }
     requires live { is_live ground.inputs.book.now.sheet node.now ≡ true }
-    requires number { number < length making.old.made.figures.items }
-    requires sources { HaveFigures (reckoning_of ground.inputs.factors.now ground.inputs.book.now.sheet) making.old.made.figures.items
+    requires number { number < length making.old.made.figures }
+    requires sources { HaveFigures (reckoning_of ground.inputs.factors.now ground.inputs.book.now.sheet) making.old.made.figures
         making.old.sources.items (sources_of ground.inputs.book.now.sheet node.now) }
     ensures { OnOk result (IsPut ground.entry.inputs.factors.now ground.entry.inputs.book.now.sheet node.now number
         making.old.sources.items making.old.made making.new.made) }
 {
     read(
-        making.made.figures.as_slice(),
+        &making.made.figures,
         making.sources.as_slice(),
         &mut making.below,
     )?;
@@ -305,8 +305,8 @@ fn put_summed<G: Gate, L: Ledger>(
     put_under(ground, &mut made.figures, node, gate);
     let first = first_sum(node);
     let second = second_sum(node);
-    let held = sum_under(ground, made.figures.as_slice(), &first);
-    let owed = sum_under(ground, made.figures.as_slice(), &second);
+    let held = sum_under(ground, &made.figures, &first);
+    let owed = sum_under(ground, &made.figures, &second);
     let number = number_at(ground.places, node, row);
     gate.pass(number);
     let span = by_sums(ground.inputs, node, held, owed, steps);
@@ -314,14 +314,14 @@ fn put_summed<G: Gate, L: Ledger>(
 }
 
 /// Writes all Blocks under the sums of a figure. A currency's fall has those of its rise, with which they are written.
-fn put_under<G: Gate>(ground: Ground<'_>, figures: &mut Vec<KeptFigure>, node: &Node, gate: &G)
+fn put_under<G: Gate>(ground: Ground<'_>, figures: &mut Figures, node: &Node, gate: &G)
     requires ground { IsGround ground }
     requires live { is_live ground.inputs.book.now.sheet node.now ≡ true }
-    requires count { length figures.old.items ≡ ground.places.now.size }
-    requires members { AreMembersThere ground figures.old.items (IsSumOf node.now) }
-    requires there { AreBlocksThere ground figures.old.items (λ sum. IsSumOf node.now sum × (reader_of sum ≡ node.now → ⊥)) }
-    ensures blocks { AreBlocksThere ground.entry figures.new.items (IsSumOf node.now) }
-    ensures others { KeepsOffBlocks ground.entry (λ sum. reader_of sum ≡ node.now) figures.old.items figures.new.items }
+    requires count { length figures.old ≡ ground.places.now.size }
+    requires members { AreMembersThere ground figures.old (IsSumOf node.now) }
+    requires there { AreBlocksThere ground figures.old (λ sum. IsSumOf node.now sum × (reader_of sum ≡ node.now → ⊥)) }
+    ensures blocks { AreBlocksThere ground.entry figures.new (IsSumOf node.now) }
+    ensures others { KeepsOffBlocks ground.entry (λ sum. reader_of sum ≡ node.now) figures.old figures.new }
 {
     if !is_reader(node) {
         return;
@@ -345,27 +345,27 @@ fn is_reader(node: &Node) -> bool
 /// Writes all Blocks under a sum, if there is one.
 pub(crate) fn put_found<G: Gate>(
     ground: Ground<'_>,
-    figures: &mut Vec<KeptFigure>,
+    figures: &mut Figures,
     found: &Option<Sum>,
     gate: &G,
 )
     requires ground { IsGround ground }
     requires reads { (sum : TheSum) → found.now ≡ Some sum → reads ground.inputs.book.now.sheet sum ≡ true }
-    requires count { length figures.old.items ≡ ground.places.now.size }
-    requires members { AreMembersThere ground figures.old.items (λ sum. found.now ≡ Some sum) }
-    ensures blocks { AreBlocksThere ground.entry figures.new.items (λ sum. found.now ≡ Some sum) }
-    ensures others { KeepsOffBlocks ground.entry (λ sum. found.now ≡ Some sum) figures.old.items figures.new.items }
+    requires count { length figures.old ≡ ground.places.now.size }
+    requires members { AreMembersThere ground figures.old (λ sum. found.now ≡ Some sum) }
+    ensures blocks { AreBlocksThere ground.entry figures.new (λ sum. found.now ≡ Some sum) }
+    ensures others { KeepsOffBlocks ground.entry (λ sum. found.now ≡ Some sum) figures.old figures.new }
 {
     // There are no more figures than numbers.
     let _size = ground.places.len();
     match found {
-        Some(sum) => put_blocks(ground.numbers(), figures.as_mut_slice(), sum, gate),
+        Some(sum) => put_blocks(ground.numbers(), figures, sum, gate),
         None => (),
     }
 }
 
 /// What a sum comes to whose Blocks are there; one that is not there comes to nothing.
-fn sum_under(ground: Ground<'_>, figures: &[KeptFigure], found: &Option<Sum>) -> Span
+fn sum_under(ground: Ground<'_>, figures: &Figures, found: &Option<Sum>) -> Span
     requires ground { IsGround ground }
     requires reads { (sum : TheSum) → found.now ≡ Some sum → reads ground.inputs.book.now.sheet sum ≡ true }
     requires count { length figures.now ≡ ground.places.now.size }

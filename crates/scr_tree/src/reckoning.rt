@@ -1,5 +1,5 @@
 //! The points that an edit reaches, reckoned in place, each once and after all that it is reckoned from.
-ghost use Rattle.std.specs.Prelude.{◌≡◌, ◌+◌, ◌<◌, ◌≤◌, ◌||◌, [], true, false, Some, drop, length, slice_get, IfOk, OnOk, OnErr};
+ghost use Rattle.std.specs.Prelude.{◌≡◌, ℕ, ◌+◌, ◌<◌, ◌≤◌, ◌||◌, [], true, false, Some, drop, length, slice_get, IfOk, OnOk, OnErr};
 ghost use Rattle.scr_num.specs.Rounding.{ends};
 ghost use Rattle.scr_numbers.specs.Ranges.{first};
 ghost use Rattle.scr_numbers.specs.declared.table.Table.TheVariants as ranged;
@@ -8,22 +8,25 @@ ghost use Rattle.scr_sums.specs.Graph.{block_point};
 ghost use Rattle.scr_sums.specs.declared.sum.Sum.TheVariants as sums;
 ghost use Rattle.scr_tree.specs.Opening.{opens_in};
 ghost use Rattle.scr_tree.specs.Order.{IsJournalKept, IsJournaled};
-ghost use Rattle.scr_tree.specs.Ready.{AreInTurnOn, AreKnownBut, AreSettledOn, IsBasis, IsOrderOn, IsReadyOn, IsRightOn, IsSquareOn, StandsOn};
+ghost use Rattle.scr_tree.specs.Ready.{AreInTurnOn, AreKnownBut, AreSettledOn, IsBasis, IsOrderOn, IsReadyOn, IsRightOn, IsSquareOn, StandsOn, numbers_on};
+ghost use Rattle.scr_tree.specs.AssetScales.{IsScaleOn};
+ghost use Rattle.scr_tree.specs.Summed.{firsts_on};
 ghost use Rattle.scr_tree.specs.SquareRun.{IsBlockRunOn, IsSquareAtOn, IsSquareRunOn};
 
-use crate::added::added_up;
+use crate::added::{added_over, added_up};
 use crate::basis::{Basis, Crew};
-use crate::figures::{Below, Figure, Inputs, KeptFigure, is_open_choice, read};
+use crate::figures::{Below, Figure, Figures, Inputs, is_open_choice, read};
 use crate::first_links::ASSETS;
 use crate::journal::Journal;
 use crate::order::Order;
 use crate::sums::{blocks_of, span_of};
 use crate::together::reckon_together;
 use scr_blocks::{Level, blocks_at};
+use scr_conc::Scale;
 use scr_io::{Gate, Steps};
 use scr_num::Span;
 use scr_numbers::{Places, Table};
-use scr_rules::concentration_square;
+use scr_rules::{concentration_scale, concentration_square};
 use scr_sums::{Block, Point, Sum};
 use std::alloc::{AllocError as NoMemory, Global};
 use std::sync::ledger::Ledger;
@@ -31,6 +34,13 @@ use std::thread::Threads;
 
 /// So many figures that are reckoned from payments are worth several workers.
 const SHARED: u32 = 256;
+
+/// What the concentrations of all groups are measured by: the assets, and whether their figure rests on an open choice.
+#[derive(Drop)]
+pub(crate) struct AssetScale {
+    scale: Scale,
+    close: bool,
+}
 
 /// Room for what one point is reckoned from: the numbers of its sources, and their spans.
 #[derive(Drop)]
@@ -57,18 +67,18 @@ pub(crate) fn reckon_in_place<R: Threads + Sync, G: Gate + Sync, L: Ledger>(
     crew: &Crew<'_, R, G>,
     basis: Basis<'_>,
     order: Order,
-    figures: &mut Vec<KeptFigure>,
+    figures: &mut Figures,
     scratch: &mut Scratch,
     steps: &mut Steps<L>,
 ) -> Result<(), NoMemory>
     requires basis { IsBasis basis }
     requires order { IsOrderOn basis order.numbers.items order.ends.items }
-    requires known { AreKnownBut basis figures.old.items order.numbers.items }
-    requires room { basis.places.now.size ≤ length figures.old.items }
-    ensures settled { OnOk result (AreSettledOn basis.entry figures.new.items) }
-    ensures count { length figures.new.items ≡ length figures.old.items }
+    requires known { AreKnownBut basis figures.old order.numbers.items }
+    requires room { basis.places.now.size ≤ length figures.old }
+    ensures settled { OnOk result (AreSettledOn basis.entry figures.new) }
+    ensures count { length figures.new ≡ length figures.old }
     ensures steps { OnOk result (crew.now.workers ≡ 1 → steps.new ≡ steps.old + length order.numbers.items) }
-    ensures err { OnErr result (figures.new.items ≡ figures.old.items) }
+    ensures err { OnErr result (figures.new ≡ figures.old) }
 {
     if crew.workers == 1 || !are_many(basis.places, order.numbers.as_slice()) {
         return reckon_in_turn(crew, basis, order, figures, scratch, steps);
@@ -106,25 +116,25 @@ fn reckon_in_turn<R: Threads + Sync, G: Gate + Sync, L: Ledger>(
     crew: &Crew<'_, R, G>,
     basis: Basis<'_>,
     order: Order,
-    figures: &mut Vec<KeptFigure>,
+    figures: &mut Figures,
     scratch: &mut Scratch,
     steps: &mut Steps<L>,
 ) -> Result<(), NoMemory>
     requires basis { IsBasis basis }
     requires order { IsOrderOn basis order.numbers.items order.ends.items }
-    requires known { AreKnownBut basis figures.old.items order.numbers.items }
-    requires room { basis.places.now.size ≤ length figures.old.items }
-    ensures settled { OnOk result (AreSettledOn basis.entry figures.new.items) }
-    ensures count { length figures.new.items ≡ length figures.old.items }
+    requires known { AreKnownBut basis figures.old order.numbers.items }
+    requires room { basis.places.now.size ≤ length figures.old }
+    ensures settled { OnOk result (AreSettledOn basis.entry figures.new) }
+    ensures count { length figures.new ≡ length figures.old }
     ensures steps { OnOk result (steps.new ≡ steps.old + length order.numbers.items) }
-    ensures err { OnErr result (figures.new.items ≡ figures.old.items) }
+    ensures err { OnErr result (figures.new ≡ figures.old) }
 {
     let Order { numbers, .. } = order;
     let mut journal = Journal::new(crew.alloc, numbers)?;
     match write_in_turn(basis, &mut journal, figures, scratch, crew.gate, steps) {
         Ok(()) => Ok(()),
         Err(NoMemory) => {
-            journal.undo(figures.as_mut_slice());
+            journal.undo(figures);
             Err(NoMemory)
         }
     }
@@ -133,7 +143,7 @@ fn reckon_in_turn<R: Threads + Sync, G: Gate + Sync, L: Ledger>(
 fn write_in_turn<G: Gate, L: Ledger>(
     basis: Basis<'_>,
     journal: &mut Journal,
-    figures: &mut Vec<KeptFigure>,
+    figures: &mut Figures,
     scratch: &mut Scratch,
     gate: &G,
     steps: &mut Steps<L>,
@@ -142,18 +152,18 @@ fn write_in_turn<G: Gate, L: Ledger>(
     requires first { journal.old.next ≡ 0 }
     requires none { journal.old.former.items ≡ [] }
     requires turn { AreInTurnOn basis journal.old.numbers.items }
-    requires known { AreKnownBut basis figures.old.items journal.old.numbers.items }
-    requires room { basis.places.now.size ≤ length figures.old.items }
-    ensures settled { OnOk result (AreSettledOn basis.entry figures.new.items) }
+    requires known { AreKnownBut basis figures.old journal.old.numbers.items }
+    requires room { basis.places.now.size ≤ length figures.old }
+    ensures settled { OnOk result (AreSettledOn basis.entry figures.new) }
     ensures steps { OnOk result (steps.new ≡ steps.old + length journal.old.numbers.items) }
-    ensures journaled { IsJournaled journal.new.former.items figures.old.items figures.new.items }
+    ensures journaled { IsJournaled journal.new.former.items figures.old figures.new }
 {
     while let Some(number) = journal.next_number() {
         if is_first_square(basis, number) {
-            write_square_sum(basis, journal, figures.as_mut_slice(), gate, steps);
+            write_square_sum(basis, journal, figures, gate, steps);
         } else {
-            let figure = figure_at(basis, figures.as_slice(), number, scratch, gate, steps)?;
-            journal.write(figures.as_mut_slice(), number, figure);
+            let figure = figure_at(basis, figures, number, scratch, gate, steps)?;
+            journal.write(figures, number, figure);
         }
     }
     Ok(())
@@ -178,7 +188,7 @@ fn is_first_square(basis: Basis<'_>, number: u32) -> bool
 fn write_square_sum<G: Gate, L: Ledger>(
     basis: Basis<'_>,
     journal: &mut Journal,
-    figures: &mut [KeptFigure],
+    figures: &mut Figures,
     gate: &G,
     steps: &mut Steps<L>,
 )
@@ -202,7 +212,7 @@ fn write_square_sum<G: Gate, L: Ledger>(
 fn write_squares<G: Gate, L: Ledger>(
     basis: Basis<'_>,
     journal: &mut Journal,
-    figures: &mut [KeptFigure],
+    figures: &mut Figures,
     gate: &G,
     steps: &mut Steps<L>,
 )
@@ -218,42 +228,55 @@ fn write_squares<G: Gate, L: Ledger>(
     ensures journaled { IsJournalKept journal.old.former.items figures.old journal.new.former.items figures.new }
     ensures steps { steps.new + journal.old.next ≡ steps.old + journal.new.next }
 {
+    let assets = scale_on(basis, figures);
     let count = basis.inputs.book.sheet().groups.len();
     for row in 0..count {
         let number = basis.places.first(Table::Group, row) + 1;
         if !journal.is_next(number) {
             return;
         }
-        let figure = square_at(basis, figures, row, number, gate, steps);
+        gate.pass(number);
+        steps.tick();
+        let figure = square_at(basis, &assets, figures, row, number);
         journal.write(figures, number, figure);
     }
 }
 
-/// The square of the concentration of the group in a row, which has the number, from the assets and the group's total.
-fn square_at<G: Gate, L: Ledger>(
+/// What the concentrations of all groups are measured by, where the assets are known.
+fn scale_on(basis: Basis<'_>, figures: &Figures) -> AssetScale
+    requires basis { IsBasis basis }
+    requires ready { (number : ℕ) × IsSquareOn basis 0 number × IsReadyOn basis figures.now number }
+    ensures { IsScaleOn basis.entry result }
+{
+    basis.inputs.factors.known();
+    let assets = figure_of(figures, ASSETS);
+    AssetScale {
+        scale: concentration_scale(assets.span),
+        close: assets.close,
+    }
+}
+
+/// The square of the concentration of the group in a row, which has the number, from the group's total.
+fn square_at(
     basis: Basis<'_>,
-    figures: &[KeptFigure],
+    assets: &AssetScale,
+    figures: &Figures,
     row: usize,
     number: u32,
-    gate: &G,
-    steps: &mut Steps<L>,
 ) -> Figure
     requires basis { IsBasis basis }
+    requires scale { IsScaleOn basis assets.now }
     requires row { row < length basis.inputs.book.now.sheet.groups }
     requires own { first basis.places.now ranged.Group row + 1 ≡ number }
     requires ready { IsReadyOn basis figures.now number }
-    ensures figure { IsRightOn basis.entry number result }
-    ensures step { steps.new ≡ steps.old + 1 }
+    ensures { IsRightOn basis.entry number result }
 {
     basis.inputs.factors.known();
     let Inputs { factors, book, .. } = basis.inputs;
     let group = book.sheet().groups.at(row);
-    let assets = figure_of(figures, ASSETS);
     let total = figure_of(figures, number - 1);
-    gate.pass(number);
-    steps.tick();
-    let span = concentration_square(factors, book, group, assets.span, total.span);
-    let close = rests_on_either(assets, total);
+    let span = concentration_square(factors, book, &assets.scale, group, total.span);
+    let close = rests_on_either(assets.close, total.close);
     Figure { span, close }
 }
 
@@ -261,7 +284,7 @@ fn square_at<G: Gate, L: Ledger>(
 fn write_blocks<G: Gate, L: Ledger>(
     basis: Basis<'_>,
     journal: &mut Journal,
-    figures: &mut [KeptFigure],
+    figures: &mut Figures,
     gate: &G,
     steps: &mut Steps<L>,
 )
@@ -287,54 +310,47 @@ fn write_blocks<G: Gate, L: Ledger>(
         if !journal.is_next(number) {
             return;
         }
-        let figure = block_at(basis, figures, index as u32, number, gate, steps);
+        gate.pass(number);
+        steps.tick();
+        let figure = block_at(basis, figures, members, index as u32, number);
         journal.write(figures, number, figure);
     }
 }
 
-/// What a Block of the first level over the squares of all groups comes to, which has the number.
-fn block_at<G: Gate, L: Ledger>(
-    basis: Basis<'_>,
-    figures: &[KeptFigure],
-    index: u32,
-    number: u32,
-    gate: &G,
-    steps: &mut Steps<L>,
-) -> Figure
+/// What a Block of the first level over the squares of all groups comes to, which has the number, from the first numbers of all groups.
+fn block_at(basis: Basis<'_>, figures: &Figures, members: &[u32], index: u32, number: u32) -> Figure
     requires basis { IsBasis basis }
+    requires members { members.now ≡ firsts_on (numbers_on basis) sums.Squares }
     requires own { StandsOn basis (block_point sums.Squares levels.First index) number }
     requires ready { IsReadyOn basis figures.now number }
-    ensures figure { IsRightOn basis.entry number result }
-    ensures step { steps.new ≡ steps.old + 1 }
+    ensures { IsRightOn basis.entry number result }
 {
     let block = Block {
         sum: Sum::Squares,
         level: Level::First,
         index,
     };
-    gate.pass(number);
-    steps.tick();
-    added_up(basis, figures, number, &block)
+    added_over(basis, figures, number, &block, members)
 }
 
-fn figure_of(figures: &[KeptFigure], number: u32) -> Figure
+fn figure_of(figures: &Figures, number: u32) -> Figure
     requires { number < length figures.now }
     ensures { slice_get figures.now number ≡ Some result }
 {
-    figures[number as usize].figure()
+    figures.figure(number as usize)
 }
 
-/// One of two figures rests on an open choice.
-fn rests_on_either(one: Figure, other: Figure) -> bool
-    ensures { result ≡ (one.close || other.close) }
+/// One of two rests on an open choice.
+fn rests_on_either(one: bool, other: bool) -> bool
+    ensures { result ≡ (one || other) }
 {
-    one.close || other.close
+    one | other
 }
 
 /// The figure at a number, reckoned from those of its sources.
 pub(crate) fn figure_at<G: Gate, L: Ledger>(
     basis: Basis<'_>,
-    figures: &[KeptFigure],
+    figures: &Figures,
     number: u32,
     scratch: &mut Scratch,
     gate: &G,

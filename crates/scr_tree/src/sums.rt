@@ -18,7 +18,7 @@ ghost use Rattle.scr_tree.specs.Inputs.{AreOfBook};
 ghost use Rattle.scr_tree.specs.Points.{AreNumbersOf};
 ghost use Rattle.scr_tree.specs.Summed.{AreBlocksOn, AreMembersOn, AreOwnBlocks, KeepsOffBlocksOn, foreign_of, sum_on, summed_in};
 
-use crate::figures::{Inputs, KeptFigure};
+use crate::figures::{Figures, Inputs};
 use crate::graph::{Numbers, member_family};
 use scr_blocks::{Level, blocks_at, top_count};
 use scr_book::Roll;
@@ -57,12 +57,7 @@ pub(crate) fn blocks_of<'a>(numbers: Numbers<'a>, sum: &Sum) -> Option<Subtotals
 }
 
 /// Writes all Blocks under a sum. The gate is passed before each.
-pub(crate) fn put_blocks<G: Gate>(
-    numbers: Numbers<'_>,
-    figures: &mut [KeptFigure],
-    sum: &Sum,
-    gate: &G,
-)
+pub(crate) fn put_blocks<G: Gate>(numbers: Numbers<'_>, figures: &mut Figures, sum: &Sum, gate: &G)
     requires numbers { AreNumbersOf numbers.book.now numbers.places.now numbers.lists.now }
     requires valid { Valid numbers.book.now.sheet }
     requires reads { reads numbers.book.now.sheet sum.now ≡ true }
@@ -110,7 +105,7 @@ fn pass_level<G: Gate>(blocks: &Subtotals<'_>, count: usize, level: Level, gate:
 }
 
 /// What a sum comes to whose Blocks are there.
-pub(crate) fn sum_there(numbers: Numbers<'_>, figures: &[KeptFigure], sum: &Sum) -> Span
+pub(crate) fn sum_there(numbers: Numbers<'_>, figures: &Figures, sum: &Sum) -> Span
     requires numbers { AreNumbersOf numbers.book.now numbers.places.now numbers.lists.now }
     requires valid { Valid numbers.book.now.sheet }
     requires reads { reads numbers.book.now.sheet sum.now ≡ true }

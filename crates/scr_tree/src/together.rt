@@ -11,7 +11,7 @@ ghost use Rattle.scr_reach.specs.Dues.{IsLiveAt};
 ghost use Rattle.scr_tree.specs.Points.{book_graph};
 
 use crate::basis::{Basis, Crew};
-use crate::figures::{Figure, KeptFigure};
+use crate::figures::{Figure, Figures};
 use crate::order::Order;
 use crate::reckoning::opens;
 use crate::sums::span_of;
@@ -29,25 +29,20 @@ pub(crate) fn reckon_together<R: Threads + Sync, G: Gate + Sync>(
     crew: &Crew<'_, R, G>,
     basis: Basis<'_>,
     order: Order,
-    figures: &mut Vec<KeptFigure>,
+    figures: &mut Figures,
 ) -> Result<(), NoMemory>
     requires basis { IsBasis basis }
     requires order { IsOrderOn basis order.numbers.items order.ends.items }
-    requires known { AreKnownBut basis figures.old.items order.numbers.items }
-    requires room { basis.places.now.size ≤ length figures.old.items }
-    ensures settled { OnOk result (AreSettledOn basis.entry figures.new.items) }
-    ensures count { length figures.new.items ≡ length figures.old.items }
-    ensures err { OnErr result (figures.new.items ≡ figures.old.items) }
+    requires known { AreKnownBut basis figures.old order.numbers.items }
+    requires room { basis.places.now.size ≤ length figures.old }
+    ensures settled { OnOk result (AreSettledOn basis.entry figures.new) }
+    ensures count { length figures.new ≡ length figures.old }
+    ensures err { OnErr result (figures.new ≡ figures.old) }
 {
     let numbers = order.numbers.as_slice();
     let dues = dues_on(crew.alloc, basis, numbers)?;
-    let spans = spans_of(crew, basis, figures.as_slice(), dues.as_slice())?;
-    write_all(
-        basis,
-        figures.as_mut_slice(),
-        dues.as_slice(),
-        spans.as_slice(),
-    );
+    let spans = spans_of(crew, basis, figures, dues.as_slice())?;
+    write_all(basis, figures, dues.as_slice(), spans.as_slice());
     Ok(())
 }
 
@@ -86,7 +81,7 @@ fn sources_at(alloc: Global, basis: Basis<'_>, number: u32) -> Result<Vec<u32>, 
 fn spans_of<R: Threads + Sync, G: Gate + Sync>(
     crew: &Crew<'_, R, G>,
     basis: Basis<'_>,
-    figures: &[KeptFigure],
+    figures: &Figures,
     dues: &[Due],
 ) -> Result<Vec<Span>, NoMemory>
     requires basis { IsBasis basis }
@@ -103,7 +98,7 @@ fn spans_of<R: Threads + Sync, G: Gate + Sync>(
 #[derive(Clone, Copy)]
 pub(crate) struct Known<'a> {
     basis: Basis<'a>,
-    figures: &'a [KeptFigure],
+    figures: &'a Figures,
 }
 
 impl<'a> Plan for Known<'a> {
@@ -116,7 +111,7 @@ impl<'a> Plan for Known<'a> {
     ghost is_due = { λ known due. IsDueOn known.basis due };
 
     fn known(&self, number: u32) -> Span {
-        self.figures[number as usize].span()
+        self.figures.span(number as usize)
     }
 
     fn rule<L: Ledger>(&self, due: &Due, below: &[Span], steps: &mut Steps<L>) -> Span {
@@ -128,7 +123,7 @@ impl<'a> Plan for Known<'a> {
 }
 
 /// Writes the figures that have these spans, each after those of its sources.
-fn write_all(basis: Basis<'_>, figures: &mut [KeptFigure], dues: &[Due], spans: &[Span])
+fn write_all(basis: Basis<'_>, figures: &mut Figures, dues: &[Due], spans: &[Span])
     requires basis { IsBasis basis }
     requires turn { AreInTurnOn basis (numbers_of dues.now) }
     requires dues { AreDuesOn basis (numbers_of dues.now) dues.now }
@@ -140,12 +135,12 @@ fn write_all(basis: Basis<'_>, figures: &mut [KeptFigure], dues: &[Due], spans: 
 {
     for k in 0..spans.len() {
         let figure = figure_with(basis, figures, &dues[k], spans[k]);
-        figures[dues[k].number as usize] = KeptFigure::new(figure);
+        figures.set(dues[k].number as usize, figure);
     }
 }
 
 /// The figure that is due and has this span. It rests on an open choice where it is one, or where one of its sources does.
-fn figure_with(basis: Basis<'_>, figures: &[KeptFigure], due: &Due, span: Span) -> Figure
+fn figure_with(basis: Basis<'_>, figures: &Figures, due: &Due, span: Span) -> Figure
     requires basis { IsBasis basis }
     requires ready { IsReadyOn basis figures.now due.now.number }
     requires due { IsDueOn basis due.now }
@@ -163,12 +158,12 @@ fn figure_with(basis: Basis<'_>, figures: &[KeptFigure], due: &Due, span: Span) 
 }
 
 /// One of the figures at these numbers rests on an open choice.
-fn rests_on_choice(figures: &[KeptFigure], sources: &[u32]) -> bool
+fn rests_on_choice(figures: &Figures, sources: &[u32]) -> bool
     requires { All (λ source. source < length figures.now) sources.now }
     ensures { result ≡ any_close figures.now sources.now }
 {
     for source in sources {
-        if figures[*source as usize].close() {
+        if figures.is_close(*source as usize) {
             return true;
         }
     }

@@ -1,44 +1,8 @@
-use Rattle.std.proofs.Common.{arith}
-use Rattle.scr_tree.proofs.AddedUp.{added-low, added-right, added-together, added-within}
-use Rattle.scr_tree.proofs.PointSources.{first-firsts, firsts-are}
+use Rattle.std.proofs.Common.{ap, ◌∙◌}
+use Rattle.scr_lists.specs.Lists.{members_of}
 use Rattle.scr_tree.proofs.added.added_up.Goals as goal
 
-pub add_figures-requires-clause-within : goal.add_figures-requires-clause-within
-add_figures-requires-clause-within c =
+pub added_over-requires-clause-members : goal.added_over-requires-clause-members
+added_over-requires-clause-members c =
     let b = c.args.basis in
-    let block = c.args.block.now in
-    let of = c.requires.basis.graph.numbers_of in
-    let all = firsts-are b.inputs.book.now b.places.now b.lists.now of c.requires.basis.valid block.sum c.roll.result c.members-members.result.now c.members-members.ensures c.roll.ensures in
-    added-within b c.requires.basis block c.requires.live c.requires.first c.member_family-family.result c.member_family-family.ensures c.part-own.result.now
-    (first-firsts b.inputs.book.now b.places.now b.lists.now of c.requires.basis.valid block c.requires.live c.members-members.result.now c.part-own.result.now c.part-own.ensures all)
-    c.args.figures.now c.args.number c.requires.ready c.requires.at
-
-pub add_figures-requires-clause-low : goal.add_figures-requires-clause-low
-add_figures-requires-clause-low c =
-    let b = c.args.basis in
-    let block = c.args.block.now in
-    let of = c.requires.basis.graph.numbers_of in
-    let all = firsts-are b.inputs.book.now b.places.now b.lists.now of c.requires.basis.valid block.sum c.roll.result c.members-members.result.now c.members-members.ensures c.roll.ensures in
-    added-low b c.requires.basis block c.requires.live c.requires.first c.member_family-family.result c.member_family-family.ensures c.part-own.result.now
-    (first-firsts b.inputs.book.now b.places.now b.lists.now of c.requires.basis.valid block c.requires.live c.members-members.result.now c.part-own.result.now c.part-own.ensures all)
-    (omega (arith, c.len-size.ensures.size))
-
-pub add_figures-requires-clause-together : goal.add_figures-requires-clause-together
-add_figures-requires-clause-together c =
-    let b = c.args.basis in
-    let block = c.args.block.now in
-    let of = c.requires.basis.graph.numbers_of in
-    let all = firsts-are b.inputs.book.now b.places.now b.lists.now of c.requires.basis.valid block.sum c.roll.result c.members-members.result.now c.members-members.ensures c.roll.ensures in
-    added-together b c.requires.basis block c.requires.live c.requires.first c.member_family-family.result c.member_family-family.ensures c.part-own.result.now
-    (first-firsts b.inputs.book.now b.places.now b.lists.now of c.requires.basis.valid block c.requires.live c.members-members.result.now c.part-own.result.now c.part-own.ensures all)
-    c.args.figures.now c.args.number c.requires.ready c.requires.at c.known.ensures
-
-pub returns : goal.returns
-returns c =
-    let b = c.args.basis in
-    let block = c.args.block.now in
-    let of = c.requires.basis.graph.numbers_of in
-    let all = firsts-are b.inputs.book.now b.places.now b.lists.now of c.requires.basis.valid block.sum c.roll.result c.members-members.result.now c.members-members.ensures c.roll.ensures in
-    added-right b c.requires.basis block c.requires.live c.requires.first c.member_family-family.result c.member_family-family.ensures c.part-own.result.now
-    (first-firsts b.inputs.book.now b.places.now b.lists.now of c.requires.basis.valid block c.requires.live c.members-members.result.now c.part-own.result.now c.part-own.ensures all)
-    c.args.figures.now c.args.number c.requires.ready c.requires.at c.add_figures.result.span c.add_figures.result.close c.add_figures.ensures.span c.add_figures.ensures.close
+    c.members-members.ensures ∙ ap (λ roll. members_of roll b.inputs.book.now.rolls b.lists.now) c.roll.ensures

@@ -129,7 +129,7 @@ reckon_reached-changed-requires-after_bounds g c κs within =
     c.in_ok-dues.dues.items c.in_ok-former.former.items all c.relink.new.links.edges anew in
     relinked-for c.args.footing.factors.now book c.args.taken c.args.gone state c.requires c.sheet.ensures.valid c.make_room.new.figures
     c.make_room.new.marks c.relink.new.links c.in_ok-rates.rates c.make_room.ensures.kept
-    (subst (λ n. n ≤ length c.make_room.new.figures.items) c.len-size.ensures.size c.in_ok-make_room.ensures.figures)
+    (subst (λ n. n ≤ length c.make_room.new.figures) c.len-size.ensures.size c.in_ok-make_room.ensures.figures)
     (c.make_room.ensures.list ∙ c.requires.marks)
     (subst (λ n. n ≤ c.make_room.new.marks.size) c.len-size.ensures.size c.in_ok-make_room.ensures.marks) graph c.in_ok-rates.ensures
 
@@ -166,7 +166,7 @@ returns-clause-err g c =
     (subst (λ es. AreRelinked c.as_slice-5.result.now es c.relink.new.links.edges) c.reserve.ensures.edges c.relink.ensures.links) in
     unchanged-back state c.reckon_reached-changed.new.state c.clear.new.self c.relink-in-Err.new.links c.reckon_reached-changed.ensures.rates
     c.reckon_reached-changed.ensures.places c.reckon_reached-changed.ensures.lists
-    (kept-twice state.figures.items c.make_room.new.figures.items c.reckon_reached-changed.new.state.figures.items c.make_room.ensures.kept
+    (kept-twice state.figures c.make_room.new.figures c.reckon_reached-changed.new.state.figures c.make_room.ensures.kept
     (λ n l. ap (λ xs. slice_get xs n) c.in-Err.ensures.figures))
     (linked-again c.args.footing.factors.now book c.args.taken c.args.gone state c.requires c.sheet.ensures.valid c.in_ok-numbers.numbers.items
     c.in_ok-dues.dues.items c.in_ok-former.former.items all c.relink.new.links.edges c.relink-in-Err.new.links.edges anew

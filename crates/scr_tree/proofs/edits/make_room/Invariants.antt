@@ -4,9 +4,9 @@ use Rattle.scr_tree.proofs.edits.make_room.Given as goal
 
 abbrev pub invariant-loop-figures : goal.invariant-loop-figures
 invariant-loop-figures l = record {
-  long : length l.fn.figures.items ≤ length l.figures.items;
-  kept : (number : ℕ) → number < length l.fn.figures.items → slice_get l.figures.items number ≡ slice_get l.fn.figures.items number;
+  long : length l.fn.figures ≤ length l.figures;
+  kept : (number : ℕ) → number < length l.fn.figures → slice_get l.figures number ≡ slice_get l.fn.figures number;
 }
 
 abbrev pub decreases-loop-figures : goal.decreases-loop-figures
-decreases-loop-figures l = l.size - length l.figures.items
+decreases-loop-figures l = l.size - length l.figures

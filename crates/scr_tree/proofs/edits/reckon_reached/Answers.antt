@@ -77,7 +77,7 @@ reckon_in_place-requires-clause-known g c κs within =
     (λ left. c.is_some-squares.ensures ∙ found-assets book state.places state.lists of marks c.place.result c.place.ensures.only left)
     reached.0 c.in_ok-order.order.numbers.items c.in_ok-order.order.ends.items
     (subst (λ (list : List ℕ). AreReached book state.places state.lists c.is_some-squares.result list reached.0) c.as_slice.ensures.list reached.1) reached.2
-    (book_reckoning c.args.footing.factors.now (rolled_of book)) state.figures.items c.requires.others
+    (book_reckoning c.args.footing.factors.now (rolled_of book)) state.figures c.requires.others
 
 pub returns-clause-steps : goal.returns-clause-steps
 returns-clause-steps g c =

@@ -1,4 +1,4 @@
-use Rattle.std.proofs.Common.{Some, get_or, sym, ap, subst, ◌∙◌, take}
+use Rattle.std.proofs.Common.{get_or, sym, subst, take}
 use Rattle.std.proofs.lemmas.Option.{slice_get-get_or}
 use Rattle.scr_tree.specs.Figures.{AreReadAt}
 use Rattle.scr_tree.proofs.Known.{read-next, take-next}
@@ -9,9 +9,8 @@ loop-number-preserved c =
     let figures = c.args.figures.now in
     let numbers = c.args.numbers.now in
     let k = c.loop-number.number-index in
-    let figure = c.index-figures-number.result in
-    let within = c.requires k 0 c.loop-number-test.true in
-    let got = slice_get-get_or figures (get_or numbers k 0) figure within ∙ ap Some (sym c.index-figures-number.is) in
+    let figure = c.figure.result in
+    let got = c.figure.ensures in
     subst (λ ns. AreReadAt figures ns c.push.new.self)
     (sym (take-next numbers k (get_or numbers k 0) (slice_get-get_or numbers k 0 c.loop-number-test.true)))
     (read-next figures (take k numbers) (get_or numbers k 0) figure c.loop-number.below c.push.new.self

@@ -21,5 +21,5 @@ pub returns : goal.returns
 returns g c =
     group-made c.args.ground c.requires.ground c.args.k c.at-group.result.now
     (subst (λ (s : BalanceSheet). slice_get s.groups c.args.k ≡ Some c.at-group.result.now) c.sheet.ensures.sheet c.at-group.ensures)
-    c.args.made.now (record { figures = c.put_found.new.figures; links = c.args.made.now.links }) c.put_found.new.figures.items c.requires.done
+    c.args.made.now (record { figures = c.put_found.new.figures; links = c.args.made.now.links }) c.put_found.new.figures c.requires.done
     c.put_found.ensures.others c.put_found.ensures.blocks refl refl

@@ -1,12 +1,8 @@
-use Rattle.std.proofs.Common.{◌≡◌, ◌++◌, List, length, refl, sym, ap, subst, ◌∙◌}
-use Rattle.std.specs.Vec.{with_items}
-use Rattle.std.proofs.lemmas.List.{with_items_is}
+use Rattle.std.proofs.Common.{◌≡◌, ◌++◌, refl, sym, ap, subst, ◌∙◌}
 use Rattle.scr_pieces.specs.Rows.{all_rows, rows_from}
 use Rattle.scr_pieces.specs.declared.rows.Sort.TheVariants as sorts
-use Rattle.scr_subtotals.specs.declared.figure.Figure.{Figure}
-use Rattle.scr_tree.specs.First.{AreGroupsDone, AreReckonedTo}
+use Rattle.scr_tree.specs.First.{AreGroupsDone}
 use Rattle.scr_tree.specs.RowSpans.{row_count}
-use Rattle.scr_tree.specs.Turns.{turn}
 use Rattle.scr_tree.specs.Written.{IsWrittenOf}
 use Rattle.scr_tree.specs.declared.making.Ground.{Ground}
 use Rattle.scr_tree.proofs.FirstRows.{on-ok}
@@ -15,26 +11,22 @@ use Rattle.scr_tree.proofs.first.put_rows.Goals as goal
 
 pub row_ground-rows-requires-clause-done : goal.row_ground-rows-requires-clause-done
 row_ground-rows-requires-clause-done g c =
-    subst (λ fs. AreReckonedTo c.args.ground fs (turn 3 0 0)) (sym c.as_slice.ensures.value)
-    (record { count = c.requires.done.figures.count; known = c.requires.done.figures.known })
+    record { count = c.requires.done.figures.count; known = c.requires.done.figures.known }
 
 pub put_sort-requires-clause-count : goal.put_sort-requires-clause-count
 put_sort-requires-clause-count g c =
-    ap length c.as_mut_slice-figures.ensures.value
-    ∙ (c.requires.done.figures.count ∙ ap (λ (b : Ground). b.places.now.size) (sym c.row_ground-rows.ensures.ground))
+    c.requires.done.figures.count ∙ ap (λ (b : Ground). b.places.now.size) (sym c.row_ground-rows.ensures.ground)
 
 pub put_sort-requires-2-clause-count : goal.put_sort-requires-2-clause-count
 put_sort-requires-2-clause-count g c =
     c.put_sort.ensures.count
-    ∙ (ap length c.as_mut_slice-figures.ensures.value
-    ∙ (c.requires.done.figures.count ∙ ap (λ (b : Ground). b.places.now.size) (sym c.row_ground-rows.ensures.ground)))
+    ∙ (c.requires.done.figures.count ∙ ap (λ (b : Ground). b.places.now.size) (sym c.row_ground-rows.ensures.ground))
 
 pub put_sort-requires-3-clause-count : goal.put_sort-requires-3-clause-count
 put_sort-requires-3-clause-count g c =
     c.put_sort-2.ensures.count
     ∙ (c.put_sort.ensures.count
-    ∙ (ap length c.as_mut_slice-figures.ensures.value
-    ∙ (c.requires.done.figures.count ∙ ap (λ (b : Ground). b.places.now.size) (sym c.row_ground-rows.ensures.ground))))
+    ∙ (c.requires.done.figures.count ∙ ap (λ (b : Ground). b.places.now.size) (sym c.row_ground-rows.ensures.ground)))
 
 pub returns : goal.returns
 returns g c =
@@ -43,7 +35,7 @@ returns g c =
     let is : other ≡ ground = c.row_ground-rows.ensures.ground in
     let count = row_count ground.inputs.book.now.sheet in
     let made = c.args.making.now.made in
-    let begun = c.as_mut_slice-figures.result.now in
+    let begun = made.figures in
     let one = c.put_sort.new.figures in
     let two = c.put_sort-2.new.figures in
     let three = c.put_sort-3.new.figures in
@@ -57,7 +49,7 @@ returns g c =
     subst (λ (b : Ground). IsWrittenOf b (rows_from sorts.Security 0 (row_count b.inputs.book.now.sheet sorts.Security)) one two) is
     c.in_ok-put_sort-2.ensures.written in
     on-ok (IsWrittenOf other (rows_from sorts.Group 0 (row_count other.inputs.book.now.sheet sorts.Group)) two three)
-    (AreGroupsDone ground (record { figures = with_items made.figures three; links = made.links }) 0)
+    (AreGroupsDone ground (record { figures = three; links = made.links }) 0)
     c.put_sort-3.result
     (λ last.
     let third : IsWrittenOf ground groups two three =
@@ -66,8 +58,6 @@ returns g c =
     written-and ground c.requires.ground debts (securities ++ groups) begun one three first
     (written-and ground c.requires.ground securities groups one two three second third) in
     rows-done ground c.requires.ground (all_rows count) (all-sorts count) made
-    (record { figures = with_items made.figures three; links = made.links }) refl c.requires.done
-    (subst (λ (fs : List Figure). IsWrittenOf ground (all_rows count) made.figures.items fs)
-    (sym (with_items_is made.figures three (all.count ∙ c.as_mut_slice-figures.ensures.len)))
-    (subst (λ (fs : List Figure). IsWrittenOf ground (all_rows count) fs three) c.as_mut_slice-figures.ensures.value all)))
+    (record { figures = three; links = made.links }) refl c.requires.done
+    all)
     c.put_sort-3.ensures.written

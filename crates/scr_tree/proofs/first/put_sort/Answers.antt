@@ -9,6 +9,9 @@ use Rattle.scr_tree.proofs.first.put_sort.Goals as goal
 pub loop-k-init : goal.loop-k-init
 loop-k-init g c = written-none c.args.rows.now.ground c.requires.rows.ground c.args.figures.now
 
+pub write_row-requires-clause-count : goal.write_row-requires-clause-count
+write_row-requires-clause-count g c = c.loop-k.invariant.count ∙ c.requires.count
+
 pub write_row-requires-clause-spans : goal.write_row-requires-clause-spans
 write_row-requires-clause-spans g c =
     let pushed = c.in_ok-reckon.ensures in (

@@ -1,4 +1,4 @@
-use Rattle.std.proofs.Common.{◌≡◌, ◌+◌, ◌++◌, Some, drop, take, length, get_or, slice_get, sym, ap, subst, arith}
+use Rattle.std.proofs.Common.{◌≡◌, ◌+◌, ◌++◌, Some, drop, take, length, get_or, slice_get, sym, ap, subst, ◌∙◌, arith}
 use Rattle.std.proofs.lemmas.List.{take_all}
 use Rattle.std.proofs.lemmas.Option.{slice_get-get_or}
 use Rattle.scr_pieces.specs.Rows.{AreOfRows, IsWithin, rows_in, rows_of}
@@ -16,6 +16,9 @@ loop-piece-init c = record {
       (sym c.as_slice-rest.ensures.value) c.requires.rows;
   written = written-none c.args.ground c.requires.ground c.args.figures.now;
 }
+
+pub write_piece-rest-requires-clause-count : goal.write_piece-rest-requires-clause-count
+write_piece-rest-requires-clause-count c = c.loop-piece.invariant.written.count ∙ c.requires.count
 
 pub write_piece-rest-requires-clause-within : goal.write_piece-rest-requires-clause-within
 write_piece-rest-requires-clause-within c =

@@ -11,6 +11,9 @@ use Rattle.scr_tree.proofs.first_parts.write_parts.Goals as goal
 pub loop-part-init : goal.loop-part-init
 loop-part-init c = written-none c.args.ground c.requires.ground c.args.figures.now
 
+pub write_part-requires-clause-count : goal.write_part-requires-clause-count
+write_part-requires-clause-count c = c.loop-part.invariant.count ∙ c.requires.count
+
 pub write_part-requires-clause-within : goal.write_part-requires-clause-within
 write_part-requires-clause-within c =
     let parts = c.args.parts.now in

@@ -21,7 +21,7 @@ write_row-rest-requires-clause-row c =
 
 pub write_row-rest-requires-clause-count : goal.write_row-rest-requires-clause-count
 write_row-rest-requires-clause-count c =
-    let long = c.loop-k.auto.figures in let count = c.requires.count in omega (arith, long, count)
+    let long = c.loop-k.invariant.written.count in let count = c.requires.count in omega (arith, long, count)
 
 pub write_row-rest-requires-clause-spans : goal.write_row-rest-requires-clause-spans
 write_row-rest-requires-clause-spans c =

@@ -1,6 +1,5 @@
-use Rattle.std.proofs.Common.{◌+◌, Some, set, sym, ap, subst, ◌∙◌, arith}
+use Rattle.std.proofs.Common.{◌+◌, Some, sym, ap, subst, ◌∙◌, arith}
 use Rattle.std.proofs.lemmas.Option.{slice_get-get_or}
-use Rattle.scr_subtotals.specs.declared.figure.Figure.{Figure}
 use Rattle.scr_tree.proofs.Writing.{AreWrittenYet, all-yet, none-yet, one-yet}
 use Rattle.scr_tree.proofs.first_parts.write_spans.Goals as goal
 
@@ -15,8 +14,7 @@ loop-j-preserved c =
     let low = c.loop-j-test.true in
     let room = c.requires in
     let count = c.loop-j.invariant.count in
-    subst (λ (figure : Figure). AreWrittenYet c.args.first (j + 1) spans c.args.figures.now (set c.loop-j.figures (c.args.first + j) figure))
-    (sym c.new.ensures)
+    subst (AreWrittenYet c.args.first (j + 1) spans c.args.figures.now) (sym c.set.ensures)
     (one-yet c.args.first j spans c.args.figures.now c.loop-j.figures span
     (slice_get-get_or spans j span low ∙ ap Some (sym c.index-spans-j.is)) (omega (arith, room, count, low)) c.loop-j.invariant)
 

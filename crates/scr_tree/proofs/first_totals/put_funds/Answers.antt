@@ -19,14 +19,14 @@ write_total-requires g c =
     let rows = ap (λ (s : BalanceSheet). length s.funds) c.sheet.ensures.sheet in
     fund-within c.args.ground c.requires.ground c.loop-k.k c.first-number.result
     (omega (arith, rows, c.loop-k-test.true, c.loop-k.auto.k-end, c.len-k-end.ensures.count)) c.first-number.ensures.first
-    c.loop-k.figures.items (turn 0 c.loop-k.k 0) c.loop-k.invariant
+    c.loop-k.figures (turn 0 c.loop-k.k 0) c.loop-k.invariant
 
 pub loop-k-preserved : goal.loop-k-preserved
 loop-k-preserved g c =
     let rows = ap (λ (s : BalanceSheet). length s.funds) c.sheet.ensures.sheet in
     fund-written c.args.ground c.requires.ground c.loop-k.k c.first-number.result
     (omega (arith, rows, c.loop-k-test.true, c.loop-k.auto.k-end, c.len-k-end.ensures.count)) c.first-number.ensures.first
-    c.args.totals.now c.requires.totals c.loop-k.figures.items c.write_total.new.figures.items
+    c.args.totals.now c.requires.totals c.loop-k.figures c.write_total.new.figures
     c.loop-k.invariant c.write_total.ensures.count c.write_total.ensures.there c.write_total.ensures.others
 
 pub returns : goal.returns
@@ -35,4 +35,4 @@ returns g c =
     reckoned-over c.args.ground c.requires.ground 0 c.loop-k.k
     (as-long stake_name c.args.ground.inputs.book.now.sheet.funds c.loop-k.k
     (omega (arith, rows, c.loop-k-test.false, c.loop-k.auto.k-end, c.len-k-end.ensures.count)))
-    c.loop-k.figures.items c.loop-k.invariant
+    c.loop-k.figures c.loop-k.invariant

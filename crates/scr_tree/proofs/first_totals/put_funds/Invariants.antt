@@ -4,4 +4,4 @@ use Rattle.scr_tree.proofs.first_totals.put_funds.Given as goal
 
 -- the totals of the funds so far
 abbrev pub invariant-loop-k : goal.invariant-loop-k
-invariant-loop-k g l = AreReckonedTo l.ground l.figures.items (turn 0 l.k 0)
+invariant-loop-k g l = AreReckonedTo l.ground l.figures (turn 0 l.k 0)

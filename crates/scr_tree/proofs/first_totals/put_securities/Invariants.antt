@@ -4,4 +4,4 @@ use Rattle.scr_tree.proofs.first_totals.put_securities.Given as goal
 
 -- those of the funds, and of the securities so far
 abbrev pub invariant-loop-k : goal.invariant-loop-k
-invariant-loop-k g l = AreReckonedTo l.ground l.figures.items (turn 1 l.k 0)
+invariant-loop-k g l = AreReckonedTo l.ground l.figures (turn 1 l.k 0)

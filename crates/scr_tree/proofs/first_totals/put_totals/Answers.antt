@@ -37,5 +37,5 @@ returns g c =
         known = c.enter_totals.ensures.known;
         links = all.linked;
       };
-      blocks_there = blocks-none c.args.ground c.requires.ground c.enter_totals.new.figures.items;
+      blocks_there = blocks-none c.args.ground c.requires.ground c.enter_totals.new.figures;
     }) c.link_securities.ensures

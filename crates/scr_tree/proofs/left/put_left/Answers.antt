@@ -69,7 +69,7 @@ reckon_together-requires-clause-known g c κs within =
     let ground = c.args.ground in
     let numbers = c.in_ok-order.order.numbers.items in
     let ends = c.in_ok-order.order.ends.items in
-    left-known ground c.requires.ground c.args.made.now.figures.items c.in_ok-left.left.items c.in_ok-order.ensures.0 numbers ends
+    left-known ground c.requires.ground c.args.made.now.figures c.in_ok-left.left.items c.in_ok-order.ensures.0 numbers ends
     c.requires.done.figures.known c.requires.done.blocks_there
     (subst (λ (n : Numbers). AreLeft n c.in_ok-left.left.items) c.numbers.ensures c.in_ok-left.ensures)
     (λ number h. (c.in_ok-order.ensures.1).marked number (subst (λ (xs : List ℕ). Contains xs number) (sym c.as_slice.ensures.value) h))
@@ -84,7 +84,7 @@ returns g c =
     let ground = c.args.ground in
     let now : Made = record { figures = c.reckon_together.new.figures; links = c.link_left.new.links } in
     on-ok (AreSettled (book_reckoning ground.inputs.factors.now (rolled_of ground.inputs.book.now))
-    (StandsIn ground.inputs.book.now ground.places.now ground.lists.now) c.reckon_together.new.figures.items)
+    (StandsIn ground.inputs.book.now ground.places.now ground.lists.now) c.reckon_together.new.figures)
     (IsWhole ground now) c.reckon_together.result
     (left-made ground c.requires.ground c.args.made.now now c.requires.done c.reckon_together.ensures.count
     (subst (λ (l : LinkGround). AreLinkedTo l c.link_left.new.links (turn 7 0 153)) c.for_links.ensures c.in_ok-link_left.ensures))

@@ -1,10 +1,8 @@
-use Rattle.std.proofs.Common.{◌≡◌, ◌≤◌, ◌∙◌, true, sym, ap, subst, length, List, Some, arith}
-use Rattle.std.proofs.lemmas.List.{with_items_is}
-use Rattle.scr_tree.specs.First.{AreBlocksThere, KeepsOffBlocks, numbers_of}
+use Rattle.std.proofs.Common.{◌≡◌, ◌≤◌, ◌∙◌, true, sym, ap, subst, length, Some, arith}
+use Rattle.scr_tree.specs.First.{numbers_of}
 use Rattle.scr_tree.specs.Summed.{AreBlocksOn, AreMembersOn, KeepsOffBlocksOn}
 use Rattle.scr_tree.specs.Points.{AreNumbersOf}
 use Rattle.scr_tree.specs.declared.graph.Numbers.{Numbers}
-use Rattle.scr_subtotals.specs.declared.figure.Figure.{Figure}
 use Rattle.scr_sums.specs.Graph.{reads}
 use Rattle.scr_sheet.specs.Validity.{Valid}
 use Rattle.scr_tree.proofs.SumsMade.{members-on, members-weaker, none-there, off-found, off-none, some-there}
@@ -23,51 +21,45 @@ put_blocks-requires-clause-reads g c =
 
 pub put_blocks-requires-clause-count : goal.put_blocks-requires-clause-count
 put_blocks-requires-clause-count g c =
-    subst (λ (n : Numbers). n.places.now.size ≤ length c.as_mut_slice.result.now) (sym c.numbers.ensures)
-    (let same = ap length c.as_mut_slice.ensures.value in let long = c.requires.count in omega (arith, same, long))
+    subst (λ (n : Numbers). n.places.now.size ≤ length c.args.figures.now) (sym c.numbers.ensures)
+    (let long = c.requires.count in omega (arith, long))
 
 pub put_blocks-requires-clause-few : goal.put_blocks-requires-clause-few
 put_blocks-requires-clause-few g c =
-    let same = ap length c.as_mut_slice.ensures.value in
     let long = c.requires.count in
     let size = c.len-size.ensures.size in
     let low = c.len-size.type_inv in
-    omega (arith, same, long, size, low)
+    omega (arith, long, size, low)
 
 pub put_blocks-requires-clause-members : goal.put_blocks-requires-clause-members
 put_blocks-requires-clause-members g c =
-    subst (λ (n : Numbers). AreMembersOn n c.in-Some.sum c.as_mut_slice.result.now) (sym c.numbers.ensures)
-    (subst (AreMembersOn (numbers_of c.args.ground) c.in-Some.sum) (sym c.as_mut_slice.ensures.value)
-    (members-on c.args.ground c.requires.ground c.in-Some.sum (c.requires.reads c.in-Some.sum c.in-Some.is) c.args.figures.now.items
-    (members-weaker c.args.ground c.requires.ground c.args.figures.now.items (λ s. c.args.found.now ≡ Some s) (λ s. s ≡ c.in-Some.sum)
-    (λ s e. c.in-Some.is ∙ ap Some (sym e)) c.requires.members)))
+    subst (λ (n : Numbers). AreMembersOn n c.in-Some.sum c.args.figures.now) (sym c.numbers.ensures)
+    (members-on c.args.ground c.requires.ground c.in-Some.sum (c.requires.reads c.in-Some.sum c.in-Some.is) c.args.figures.now
+    (members-weaker c.args.ground c.requires.ground c.args.figures.now (λ s. c.args.found.now ≡ Some s) (λ s. s ≡ c.in-Some.sum)
+    (λ s e. c.in-Some.is ∙ ap Some (sym e)) c.requires.members))
 
 pub returns-in-Some-clause-blocks : goal.returns-in-Some-clause-blocks
 returns-in-Some-clause-blocks g c =
-    let old = c.args.figures.now.items in
+    let old = c.args.figures.now in
     let now = c.put_blocks.new.figures in
     let written : AreBlocksOn (numbers_of c.args.ground) c.in-Some.sum old now =
-    subst (λ (fs : List Figure). AreBlocksOn (numbers_of c.args.ground) c.in-Some.sum fs now) c.as_mut_slice.ensures.value
-    (subst (λ (n : Numbers). AreBlocksOn n c.in-Some.sum c.as_mut_slice.result.now now) c.numbers.ensures c.put_blocks.ensures.blocks) in
-    let long : length now ≡ length old = c.put_blocks.ensures.others.count ∙ ap length c.as_mut_slice.ensures.value in
-    subst (λ (fs : List Figure). AreBlocksThere c.args.ground fs (λ s. c.args.found.now ≡ Some s)) (sym (with_items_is c.args.figures.now now (c.put_blocks.ensures.others.count ∙ c.as_mut_slice.ensures.len)))
-    (some-there c.args.ground c.requires.ground old now c.args.found.now c.in-Some.sum c.in-Some.is
-    (c.requires.reads c.in-Some.sum c.in-Some.is) c.requires.members (long ∙ c.requires.count) written)
+    subst (λ (n : Numbers). AreBlocksOn n c.in-Some.sum old now) c.numbers.ensures c.put_blocks.ensures.blocks in
+    let long : length now ≡ length old = c.put_blocks.ensures.others.count in
+    some-there c.args.ground c.requires.ground old now c.args.found.now c.in-Some.sum c.in-Some.is
+    (c.requires.reads c.in-Some.sum c.in-Some.is) c.requires.members (long ∙ c.requires.count) written
 
 pub returns-in-Some-clause-others : goal.returns-in-Some-clause-others
 returns-in-Some-clause-others g c =
-    let old = c.args.figures.now.items in
+    let old = c.args.figures.now in
     let now = c.put_blocks.new.figures in
     let kept : KeepsOffBlocksOn (numbers_of c.args.ground) c.in-Some.sum old now =
-    subst (λ (fs : List Figure). KeepsOffBlocksOn (numbers_of c.args.ground) c.in-Some.sum fs now) c.as_mut_slice.ensures.value
-    (subst (λ (n : Numbers). KeepsOffBlocksOn n c.in-Some.sum c.as_mut_slice.result.now now) c.numbers.ensures c.put_blocks.ensures.others) in
-    subst (λ (fs : List Figure). KeepsOffBlocks c.args.ground (λ s. c.args.found.now ≡ Some s) old fs) (sym (with_items_is c.args.figures.now now (c.put_blocks.ensures.others.count ∙ c.as_mut_slice.ensures.len)))
-    (off-found c.args.ground c.requires.ground old now c.args.found.now c.in-Some.sum c.in-Some.is kept)
+    subst (λ (n : Numbers). KeepsOffBlocksOn n c.in-Some.sum old now) c.numbers.ensures c.put_blocks.ensures.others in
+    off-found c.args.ground c.requires.ground old now c.args.found.now c.in-Some.sum c.in-Some.is kept
 
 pub returns-in-None-clause-blocks : goal.returns-in-None-clause-blocks
 returns-in-None-clause-blocks g c =
-    none-there c.args.ground c.requires.ground c.args.figures.now.items c.args.found.now c.in-None.is
+    none-there c.args.ground c.requires.ground c.args.figures.now c.args.found.now c.in-None.is
 
 pub returns-in-None-clause-others : goal.returns-in-None-clause-others
 returns-in-None-clause-others g c =
-    off-none c.args.ground c.requires.ground c.args.figures.now.items (λ s. c.args.found.now ≡ Some s)
+    off-none c.args.ground c.requires.ground c.args.figures.now (λ s. c.args.found.now ≡ Some s)

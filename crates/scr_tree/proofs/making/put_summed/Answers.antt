@@ -1,11 +1,11 @@
-use Rattle.std.proofs.Common.{◌≡◌, Bool, ◌<◌, ◌+◌, ◌∙◌, false, inl, inr, refl, sym, ap, ap₂, subst, length, List, Some}
+use Rattle.std.proofs.Common.{◌≡◌, Bool, ◌<◌, ◌+◌, ◌∙◌, false, inl, inr, refl, sym, ap, ap₂, subst, Some}
 use Rattle.scr_num.specs.Rounding.{Ends}
 use Rattle.scr_figures.specs.Families.{family_of, table_of}
 use Rattle.scr_numbers.specs.Ranges.{first}
 use Rattle.scr_subtotals.specs.declared.figure.Figure.{Figure}
 use Rattle.scr_sums.specs.Sums.{reader_of}
 use Rattle.scr_tree.specs.Figures.{worth_of, worth_at}
-use Rattle.scr_tree.specs.First.{AreBlocksThere, AreMembersThere, IsSumOf, link_ground}
+use Rattle.scr_tree.specs.First.{IsSumOf, link_ground}
 use Rattle.scr_tree.specs.Summed.{summed_in}
 use Rattle.scr_tree.proofs.Grounds.{family-few, for-links, number-within, row-few}
 use Rattle.scr_tree.proofs.SumsMade.{are-read, blocks-weaker, earlier-reader, earlier-there, members-kept, members-there, members-weaker, summed-made, summed-shut}
@@ -17,7 +17,7 @@ put_under-requires-clause-count g c = c.requires.done.figures.count
 pub put_under-requires-clause-members : goal.put_under-requires-clause-members
 put_under-requires-clause-members g c =
     members-there c.args.ground c.requires.ground c.args.node.now c.args.row c.requires.row c.requires.live c.requires.summed c.requires.later
-    c.args.made.now.figures.items c.requires.done.figures.known
+    c.args.made.now.figures c.requires.done.figures.known
 
 pub put_under-requires-clause-there : goal.put_under-requires-clause-there
 put_under-requires-clause-there g c =
@@ -30,23 +30,21 @@ sum_under-held-requires-clause-reads g c = λ sum e.
 
 pub sum_under-held-requires-clause-count : goal.sum_under-held-requires-clause-count
 sum_under-held-requires-clause-count g c =
-    ap length c.as_slice.ensures.value ∙ c.put_under.ensures.others.count ∙ c.requires.done.figures.count
+    c.put_under.ensures.others.count ∙ c.requires.done.figures.count
 
 pub sum_under-held-requires-clause-members : goal.sum_under-held-requires-clause-members
 sum_under-held-requires-clause-members g c =
-    subst (λ (fs : List Figure). AreMembersThere c.args.ground fs (λ sum. c.first_sum-first.result ≡ Some sum)) (sym c.as_slice.ensures.value)
-    (members-kept c.args.ground c.requires.ground c.args.made.now.figures.items c.put_under.new.figures.items (λ sum. c.first_sum-first.result ≡ Some sum)
+    members-kept c.args.ground c.requires.ground c.args.made.now.figures c.put_under.new.figures (λ sum. c.first_sum-first.result ≡ Some sum)
     (λ sum. reader_of sum ≡ c.args.node.now) c.put_under.ensures.others
-    (members-weaker c.args.ground c.requires.ground c.args.made.now.figures.items (IsSumOf c.args.node.now) (λ sum. c.first_sum-first.result ≡ Some sum)
+    (members-weaker c.args.ground c.requires.ground c.args.made.now.figures (IsSumOf c.args.node.now) (λ sum. c.first_sum-first.result ≡ Some sum)
     (λ sum e. inl (sym c.first_sum-first.ensures ∙ e))
     (members-there c.args.ground c.requires.ground c.args.node.now c.args.row c.requires.row c.requires.live c.requires.summed c.requires.later
-    c.args.made.now.figures.items c.requires.done.figures.known)))
+    c.args.made.now.figures c.requires.done.figures.known))
 
 pub sum_under-held-requires-clause-blocks : goal.sum_under-held-requires-clause-blocks
 sum_under-held-requires-clause-blocks g c =
-    subst (λ (fs : List Figure). AreBlocksThere c.args.ground fs (λ sum. c.first_sum-first.result ≡ Some sum)) (sym c.as_slice.ensures.value)
-    (blocks-weaker c.args.ground c.requires.ground c.put_under.new.figures.items (IsSumOf c.args.node.now) (λ sum. c.first_sum-first.result ≡ Some sum)
-    (λ sum e. inl (sym c.first_sum-first.ensures ∙ e)) c.put_under.ensures.blocks)
+    blocks-weaker c.args.ground c.requires.ground c.put_under.new.figures (IsSumOf c.args.node.now) (λ sum. c.first_sum-first.result ≡ Some sum)
+    (λ sum e. inl (sym c.first_sum-first.ensures ∙ e)) c.put_under.ensures.blocks
 
 pub sum_under-owed-requires-clause-reads : goal.sum_under-owed-requires-clause-reads
 sum_under-owed-requires-clause-reads g c = λ sum e.
@@ -54,23 +52,21 @@ sum_under-owed-requires-clause-reads g c = λ sum e.
 
 pub sum_under-owed-requires-clause-count : goal.sum_under-owed-requires-clause-count
 sum_under-owed-requires-clause-count g c =
-    ap length c.as_slice-2.ensures.value ∙ c.put_under.ensures.others.count ∙ c.requires.done.figures.count
+    c.put_under.ensures.others.count ∙ c.requires.done.figures.count
 
 pub sum_under-owed-requires-clause-members : goal.sum_under-owed-requires-clause-members
 sum_under-owed-requires-clause-members g c =
-    subst (λ (fs : List Figure). AreMembersThere c.args.ground fs (λ sum. c.second_sum-second.result ≡ Some sum)) (sym c.as_slice-2.ensures.value)
-    (members-kept c.args.ground c.requires.ground c.args.made.now.figures.items c.put_under.new.figures.items (λ sum. c.second_sum-second.result ≡ Some sum)
+    members-kept c.args.ground c.requires.ground c.args.made.now.figures c.put_under.new.figures (λ sum. c.second_sum-second.result ≡ Some sum)
     (λ sum. reader_of sum ≡ c.args.node.now) c.put_under.ensures.others
-    (members-weaker c.args.ground c.requires.ground c.args.made.now.figures.items (IsSumOf c.args.node.now) (λ sum. c.second_sum-second.result ≡ Some sum)
+    (members-weaker c.args.ground c.requires.ground c.args.made.now.figures (IsSumOf c.args.node.now) (λ sum. c.second_sum-second.result ≡ Some sum)
     (λ sum e. inr (sym c.second_sum-second.ensures ∙ e))
     (members-there c.args.ground c.requires.ground c.args.node.now c.args.row c.requires.row c.requires.live c.requires.summed c.requires.later
-    c.args.made.now.figures.items c.requires.done.figures.known)))
+    c.args.made.now.figures c.requires.done.figures.known))
 
 pub sum_under-owed-requires-clause-blocks : goal.sum_under-owed-requires-clause-blocks
 sum_under-owed-requires-clause-blocks g c =
-    subst (λ (fs : List Figure). AreBlocksThere c.args.ground fs (λ sum. c.second_sum-second.result ≡ Some sum)) (sym c.as_slice-2.ensures.value)
-    (blocks-weaker c.args.ground c.requires.ground c.put_under.new.figures.items (IsSumOf c.args.node.now) (λ sum. c.second_sum-second.result ≡ Some sum)
-    (λ sum e. inr (sym c.second_sum-second.ensures ∙ e)) c.put_under.ensures.blocks)
+    blocks-weaker c.args.ground c.requires.ground c.put_under.new.figures (IsSumOf c.args.node.now) (λ sum. c.second_sum-second.result ≡ Some sum)
+    (λ sum e. inr (sym c.second_sum-second.ensures ∙ e)) c.put_under.ensures.blocks
 
 pub number_at-number-requires-clause-row : goal.number_at-number-requires-clause-row
 number_at-number-requires-clause-row g c =
@@ -108,6 +104,6 @@ returns g c =
     ap₂ (λ (a : Ends) (b : Bool). record { worked = a; close = b }) c.by_sums-span.ensures.span
     (sym (summed-shut ground.inputs.factors.now ground.inputs.book.now.sheet c.requires.ground.valid node c.requires.summed)) in
     summed-made ground c.requires.ground node c.args.row c.number_at-number.result c.requires.row c.number_at-number.ensures c.requires.live
-    c.requires.summed c.args.made.now c.requires.done c.put_under.new.figures.items c.write.new.figures.items
+    c.requires.summed c.args.made.now c.requires.done c.put_under.new.figures c.write.new.figures
     (record { figures = c.write.new.figures; links = c.args.made.now.links })
     c.put_under.ensures.others c.put_under.ensures.blocks figure right c.write.ensures.count c.write.ensures.there c.write.ensures.others refl refl

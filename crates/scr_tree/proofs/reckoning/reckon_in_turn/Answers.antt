@@ -1,5 +1,4 @@
-use Rattle.std.proofs.Common.{length, sym, subst}
-use Rattle.scr_tree.specs.Order.{AreWithin}
+use Rattle.std.proofs.Common.{sym, subst}
 use Rattle.scr_tree.specs.Ready.{AreInTurnOn, StandsOn}
 use Rattle.scr_tree.proofs.Journaled.{journaled-long}
 use Rattle.scr_tree.proofs.Turning.{in-turn}
@@ -15,11 +14,9 @@ write_in_turn-requires-clause-turn g c =
     (in-turn (book_graph (rolled_of basis.inputs.book.now)) (StandsOn basis) order.0 c.args.order.numbers.items c.args.order.ends.items order.1)
 
 pub undo-requires : goal.undo-requires
-undo-requires g c =
-    subst (λ figures. AreWithin (length figures) c.write_in_turn.new.journal.former.items) (sym c.as_mut_slice.ensures.value)
-    c.write_in_turn.ensures.journaled.within
+undo-requires g c = c.write_in_turn.ensures.journaled.within
 
 pub returns-in-Ok-clause-count : goal.returns-in-Ok-clause-count
 returns-in-Ok-clause-count g c =
-    journaled-long c.write_in_turn.new.journal.former.items c.args.figures.now.items c.write_in_turn.new.figures.items
+    journaled-long c.write_in_turn.new.journal.former.items c.args.figures.now c.write_in_turn.new.figures
     c.write_in_turn.ensures.journaled

@@ -6,6 +6,7 @@ use Rattle.scr_sums.specs.declared.sum.Sum.TheVariants as sums
 use Rattle.scr_tree.specs.Ready.{AreKnownBut}
 use Rattle.scr_tree.specs.SquareRun.{IsBlockAtOn}
 use Rattle.scr_tree.specs.Summed.{firsts_on}
+use Rattle.scr_tree.specs.declared.graph.Numbers.{Numbers}
 use Rattle.scr_tree.proofs.Here.{numbers-here}
 use Rattle.scr_tree.proofs.SquareBlocks.{block-comes, block-not, block-own, blocks-over, none-over, past-blocks, squares-few, squares-numbered, valid-numbers}
 use Rattle.scr_tree.proofs.SquareRun.{known-more, next-ready, next-within}
@@ -46,6 +47,13 @@ overflow_cast-index g c =
     c.members-members.ensures ∙ ap (λ roll. members_of roll numbers.book.now.rolls numbers.lists.now) c.roll.ensures in
     let few = squares-few c.args.basis c.requires.basis numbers c.numbers-numbers.ensures c.members-members.result.now all in
     omega (arith, few, c.blocks_at-index-end.ensures, c.loop-index-test.true)
+
+pub block_at-figure-requires-clause-members : goal.block_at-figure-requires-clause-members
+block_at-figure-requires-clause-members g c =
+    let numbers = c.numbers-numbers.result in
+    let all : c.members-members.result.now ≡ firsts_on numbers sums.Squares =
+    c.members-members.ensures ∙ ap (λ roll. members_of roll numbers.book.now.rolls numbers.lists.now) c.roll.ensures in
+    all ∙ ap (λ (n : Numbers). firsts_on n sums.Squares) c.numbers-numbers.ensures
 
 pub block_at-figure-requires-clause-own : goal.block_at-figure-requires-clause-own
 block_at-figure-requires-clause-own g c =
@@ -103,7 +111,7 @@ loop-index-preserved g c =
     let room = c.requires.room in
     let written : now ≡ set old number figure = c.write.ensures.written in
     let known : AreKnownBut b (set old number figure) (drop (k + 1) numbers) =
-    known-more b c.requires.basis numbers c.requires.turn k old number at figure c.block_at-figure.ensures.figure (omega (arith, long, room))
+    known-more b c.requires.basis numbers c.requires.turn k old number at figure c.block_at-figure.ensures (omega (arith, long, room))
     c.loop-index.invariant.known in
     record {
       count = omega (arith, more, far);
@@ -116,7 +124,7 @@ loop-index-preserved g c =
       known = subst (λ figures. AreKnownBut b figures (drop c.write.new.self.next numbers)) (sym written)
           (subst (λ place. AreKnownBut b (set old number figure) (drop place numbers)) (sym more) known);
       kept = λ before is. c.write.ensures.journaled before (c.loop-index.invariant.kept before is);
-      steps = let step = c.block_at-figure.ensures.step in let so_far = c.loop-index.invariant.steps in omega (arith, step, so_far);
+      steps = let step = c.tick.ensures in let so_far = c.loop-index.invariant.steps in omega (arith, step, so_far);
     }
 
 -- ---- none comes, or none more

@@ -7,8 +7,8 @@ use Rattle.scr_tree.proofs.reckoning.write_in_turn.Given as goal
 abbrev pub invariant-loop-number : goal.invariant-loop-number
 invariant-loop-number g l = record {
   numbers : l.journal.numbers.items ≡ l.fn.journal.numbers.items;
-  known : AreKnownBut l.basis l.figures.items (drop l.journal.next l.fn.journal.numbers.items);
-  journaled : IsJournaled l.journal.former.items l.fn.figures.items l.figures.items;
+  known : AreKnownBut l.basis l.figures (drop l.journal.next l.fn.journal.numbers.items);
+  journaled : IsJournaled l.journal.former.items l.fn.figures l.figures;
   steps : l.steps ≡ l.fn.steps + l.journal.next;
 }
 

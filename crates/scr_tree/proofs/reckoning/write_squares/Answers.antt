@@ -2,7 +2,7 @@ use Rattle.std.proofs.Common.{◌≡◌, inl, inr, ◌+◌, ◌<◌, Some, drop,
 use Rattle.std.proofs.lemmas.Bool.{cases_lt}
 use Rattle.std.proofs.lemmas.List.{length-set}
 use Rattle.scr_sheet.specs.declared.sheet.BalanceSheet.{BalanceSheet}
-use Rattle.scr_tree.specs.Ready.{AreKnownBut}
+use Rattle.scr_tree.specs.Ready.{AreKnownBut, square_number}
 use Rattle.scr_tree.specs.SquareRun.{IsSquareAtOn}
 use Rattle.scr_tree.proofs.SquareRun.{known-more, next-ready, next-within, run-over}
 use Rattle.scr_tree.proofs.SquaresEntered.{rows}
@@ -18,6 +18,16 @@ loop-row-init g c = record {
   kept = λ before is. is;
   steps = omega arith;
 }
+
+pub scale_on-assets-requires-clause-ready : goal.scale_on-assets-requires-clause-ready
+scale_on-assets-requires-clause-ready g c =
+    let b = c.args.basis in
+    let number = square_number b 0 in (
+      number,
+      (c.requires.first.0, refl),
+      next-ready b c.requires.basis c.args.journal.now.numbers.items c.requires.turn c.args.journal.now.next c.args.figures.now number c.requires.first.1
+          c.requires.known,
+    )
 
 pub first-number-requires : goal.first-number-requires
 first-number-requires g c =
@@ -83,7 +93,7 @@ loop-row-preserved g c =
       subst (λ place. slice_get numbers place ≡ Some number) far at ∙ ap Some (ap (λ n. n + 1) c.first-number.ensures.first),
     ) in
     let known : AreKnownBut b (set old number figure) (drop (k + 1) numbers) =
-    known-more b c.requires.basis numbers c.requires.turn k old number at figure c.square_at-figure.ensures.figure (omega (arith, long, room))
+    known-more b c.requires.basis numbers c.requires.turn k old number at figure c.square_at-figure.ensures (omega (arith, long, room))
     c.loop-row.invariant.known in
     record {
       count = omega (arith, more, far);
@@ -96,7 +106,7 @@ loop-row-preserved g c =
       known = subst (λ figures. AreKnownBut b figures (drop c.write.new.self.next numbers)) (sym written)
           (subst (λ place. AreKnownBut b (set old number figure) (drop place numbers)) (sym more) known);
       kept = λ before is. c.write.ensures.journaled before (c.loop-row.invariant.kept before is);
-      steps = let step = c.square_at-figure.ensures.step in let so_far = c.loop-row.invariant.steps in omega (arith, step, so_far);
+      steps = let step = c.tick.ensures in let so_far = c.loop-row.invariant.steps in omega (arith, step, so_far);
     }
 
 pub returns-then-not-is_next-clause-run : goal.returns-then-not-is_next-clause-run

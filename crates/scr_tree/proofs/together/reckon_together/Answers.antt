@@ -20,10 +20,9 @@ dues-own : (b : Basis) (numbers : List ℕ) (dues given : List Due) → AreDuesO
 dues-own b numbers dues given are same =
     subst (λ (ds : List Due). AreDuesOn b (numbers_of ds) ds) (sym same) (record { numbers_are = refl; each = are.each })
 
-known-of : (b : Basis) (figures lent : List Figure) (numbers given : List ℕ) → AreKnownBut b figures numbers → lent ≡ figures → given ≡ numbers
-    → AreKnownBut b lent given
-known-of b figures lent numbers given known same also =
-    subst (λ fs. AreKnownBut b fs given) (sym same) (subst (AreKnownBut b figures) (sym also) known)
+known-of : (b : Basis) (figures : List Figure) (numbers given : List ℕ) → AreKnownBut b figures numbers → given ≡ numbers
+    → AreKnownBut b figures given
+known-of b figures numbers given known same = subst (AreKnownBut b figures) (sym same) known
 
 pub dues_on-requires-clause-turn : goal.dues_on-requires-clause-turn
 dues_on-requires-clause-turn g c =
@@ -31,36 +30,36 @@ dues_on-requires-clause-turn g c =
 
 pub spans_of-requires-clause-turn : goal.spans_of-requires-clause-turn
 spans_of-requires-clause-turn g c κs within =
-    turn-of c.args.basis c.args.order.numbers.items c.args.order.ends.items (numbers_of c.as_slice-2.result.now) c.requires.order
-    (ap numbers_of c.as_slice-2.ensures.value ∙ c.in_ok-dues.ensures.numbers_are ∙ c.as_slice-numbers.ensures.value)
+    turn-of c.args.basis c.args.order.numbers.items c.args.order.ends.items (numbers_of c.as_slice.result.now) c.requires.order
+    (ap numbers_of c.as_slice.ensures.value ∙ c.in_ok-dues.ensures.numbers_are ∙ c.as_slice-numbers.ensures.value)
 
 pub spans_of-requires-clause-dues : goal.spans_of-requires-clause-dues
 spans_of-requires-clause-dues g c κs within =
-    dues-own c.args.basis c.as_slice-numbers.result.now c.in_ok-dues.dues.items c.as_slice-2.result.now c.in_ok-dues.ensures c.as_slice-2.ensures.value
+    dues-own c.args.basis c.as_slice-numbers.result.now c.in_ok-dues.dues.items c.as_slice.result.now c.in_ok-dues.ensures c.as_slice.ensures.value
 
 pub spans_of-requires-clause-known : goal.spans_of-requires-clause-known
 spans_of-requires-clause-known g c κs within =
-    known-of c.args.basis c.args.figures.now.items c.as_slice.result.now c.args.order.numbers.items (numbers_of c.as_slice-2.result.now)
-    c.requires.known c.as_slice.ensures.value
-    (ap numbers_of c.as_slice-2.ensures.value ∙ c.in_ok-dues.ensures.numbers_are ∙ c.as_slice-numbers.ensures.value)
+    known-of c.args.basis c.args.figures.now c.args.order.numbers.items (numbers_of c.as_slice.result.now)
+    c.requires.known
+    (ap numbers_of c.as_slice.ensures.value ∙ c.in_ok-dues.ensures.numbers_are ∙ c.as_slice-numbers.ensures.value)
 
 pub write_all-requires-clause-turn : goal.write_all-requires-clause-turn
 write_all-requires-clause-turn g c =
-    turn-of c.args.basis c.args.order.numbers.items c.args.order.ends.items (numbers_of c.as_slice-3.result.now) c.requires.order
-    (ap numbers_of c.as_slice-3.ensures.value ∙ c.in_ok-dues.ensures.numbers_are ∙ c.as_slice-numbers.ensures.value)
+    turn-of c.args.basis c.args.order.numbers.items c.args.order.ends.items (numbers_of c.as_slice-2.result.now) c.requires.order
+    (ap numbers_of c.as_slice-2.ensures.value ∙ c.in_ok-dues.ensures.numbers_are ∙ c.as_slice-numbers.ensures.value)
 
 pub write_all-requires-clause-dues : goal.write_all-requires-clause-dues
 write_all-requires-clause-dues g c =
-    dues-own c.args.basis c.as_slice-numbers.result.now c.in_ok-dues.dues.items c.as_slice-3.result.now c.in_ok-dues.ensures c.as_slice-3.ensures.value
+    dues-own c.args.basis c.as_slice-numbers.result.now c.in_ok-dues.dues.items c.as_slice-2.result.now c.in_ok-dues.ensures c.as_slice-2.ensures.value
 
 pub write_all-requires-clause-known : goal.write_all-requires-clause-known
 write_all-requires-clause-known g c =
-    known-of c.args.basis c.args.figures.now.items c.as_mut_slice.result.now c.args.order.numbers.items (numbers_of c.as_slice-3.result.now)
-    c.requires.known c.as_mut_slice.ensures.value
-    (ap numbers_of c.as_slice-3.ensures.value ∙ c.in_ok-dues.ensures.numbers_are ∙ c.as_slice-numbers.ensures.value)
+    known-of c.args.basis c.args.figures.now c.args.order.numbers.items (numbers_of c.as_slice-2.result.now)
+    c.requires.known
+    (ap numbers_of c.as_slice-2.ensures.value ∙ c.in_ok-dues.ensures.numbers_are ∙ c.as_slice-numbers.ensures.value)
 
 pub write_all-requires-clause-spans : goal.write_all-requires-clause-spans
 write_all-requires-clause-spans g c =
     let b = c.args.basis in
-    subst (λ (ds : List Due). AreSpansOn b (numbers_of ds) c.as_slice-4.result.now) (c.as_slice-2.ensures.value ∙ sym c.as_slice-3.ensures.value)
-    (subst (λ (ss : List Span). AreSpansOn b (numbers_of c.as_slice-2.result.now) ss) (sym c.as_slice-4.ensures.value) c.in_ok-spans.ensures)
+    subst (λ (ds : List Due). AreSpansOn b (numbers_of ds) c.as_slice-3.result.now) (c.as_slice.ensures.value ∙ sym c.as_slice-2.ensures.value)
+    (subst (λ (ss : List Span). AreSpansOn b (numbers_of c.as_slice.result.now) ss) (sym c.as_slice-3.ensures.value) c.in_ok-spans.ensures)

@@ -1,4 +1,4 @@
-use Rattle.std.proofs.Common.{◌≡◌, ◌<◌, ◌≤◌, ℕ, List, Some, get_or, set, slice_get, length, sym, ap, subst, ◌∙◌, arith}
+use Rattle.std.proofs.Common.{◌≡◌, ◌+◌, ◌<◌, ◌≤◌, ℕ, List, Some, drop, get_or, set, slice_get, length, sym, ap, subst, ◌∙◌, arith}
 use Rattle.std.proofs.lemmas.List.{length-map, length-set}
 use Rattle.std.proofs.lemmas.Option.{slice_get-get_or, slice_get-map}
 use Rattle.std.specs.Option.{option_map}
@@ -8,7 +8,7 @@ use Rattle.scr_reach.specs.Dues.{numbers_of}
 use Rattle.scr_reach.proofs.Placed.{get-contains, get-member}
 use Rattle.scr_rounds.specs.declared.ranks.Due.{Due}
 use Rattle.scr_subtotals.specs.declared.figure.Figure.{Figure}
-use Rattle.scr_tree.specs.Ready.{AreInTurnOn, IsBasis, IsRightOn, StandsOn, reckoning_on}
+use Rattle.scr_tree.specs.Ready.{AreInTurnOn, AreKnownBut, IsBasis, IsRightOn, StandsOn, reckoning_on}
 use Rattle.scr_tree.specs.Together.{AreSpansOn, IsDueOn}
 use Rattle.scr_tree.specs.declared.basis.Basis.{Basis}
 use Rattle.scr_tree.proofs.Journaled.{set-here, set-other}
@@ -73,8 +73,8 @@ figure_with-figure-requires-clause-span c =
     (number-there b dues spans c.requires.spans k c.loop-k-test.true due c.index-dues-k.is)
     (slice_get-get_or spans k span c.loop-k-test.true ∙ ap Some (sym c.index-spans-k.is))
 
-pub bounds-figures-dues : goal.bounds-figures-dues
-bounds-figures-dues c =
+pub set-requires : goal.set-requires
+set-requires c =
     let b = c.args.basis in
     let dues = c.args.dues.now in
     let k = c.loop-k.k in
@@ -89,7 +89,7 @@ loop-k-preserved c =
     let dues = c.args.dues.now in
     let k = c.loop-k.k in
     let figures = c.loop-k.figures in
-    let figure = c.new.result in
+    let figure = c.figure_with-figure.result in
     let due = c.index-dues-k.result in
     let number = (get_or dues k c.index-dues-k-in-loop-k.result).number in
     let there : slice_get (numbers_of dues) k ≡ Some number =
@@ -97,15 +97,15 @@ loop-k-preserved c =
     let same : due.number ≡ number =
     (let both : Some due.number ≡ Some number =
     sym (number-there b dues c.args.spans.now c.requires.spans k c.loop-k-test.true due c.index-dues-k.is) ∙ there in cc) in
-    let right : IsRightOn b number figure = subst (IsRightOn b number) (sym c.new.ensures)
-    (subst (λ n. IsRightOn b n c.figure_with-figure.result) same c.figure_with-figure.ensures) in
+    let right : IsRightOn b number figure = subst (λ n. IsRightOn b n figure) same c.figure_with-figure.ensures in
     let low : number < length figures =
     within b c.requires.basis dues c.requires.turn k number there c.args.figures.now figures c.requires.room c.loop-k.invariant.long in
     record {
-      known = known-next (reckoning_on b) (StandsOn b) b.places.now.size (book-up b c.requires.basis) (numbers_of dues) k number figure
+      known = subst (λ (now : List Figure). AreKnownBut b now (drop (k + 1) (numbers_of dues))) (sym c.set.ensures)
+          (known-next (reckoning_on b) (StandsOn b) b.places.now.size (book-up b c.requires.basis) (numbers_of dues) k number figure
           figures (set figures number figure) c.requires.turn there right (set-here figures number figure low)
-          (λ other apart. set-other figures number other figure apart) c.loop-k.invariant.known;
-      long = length-set figures number figure ∙ c.loop-k.invariant.long;
+          (λ other apart. set-other figures number other figure apart) c.loop-k.invariant.known);
+      long = ap length c.set.ensures ∙ length-set figures number figure ∙ c.loop-k.invariant.long;
     }
 
 pub returns-clause-settled : goal.returns-clause-settled

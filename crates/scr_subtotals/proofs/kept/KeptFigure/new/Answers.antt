@@ -3,7 +3,6 @@ use Rattle.std.proofs.lemmas.Int.{ints}
 use mir.Syntax.{w128}
 use mir.Val.{of_z, to_z}
 use Rattle.scr_num.specs.declared.span.Span.{Span}
-use Rattle.scr_subtotals.specs.declared.figure.Figure.{Figure}
 use Rattle.scr_subtotals.proofs.KeptSpans.{one_span}
 use Rattle.scr_subtotals.proofs.kept.KeptFigure.new.Goals as goal
 

@@ -1,10 +1,8 @@
 use Rattle.std.proofs.Common.{◌≡◌, true, subst, sym, ap, refl, ◌∙◌, arith}
-use Rattle.scr_num.specs.Rounding.{ends}
 use Rattle.scr_figures.specs.Numbers.{IsNumbered, StandsAt}
 use Rattle.scr_figures.proofs.Live.{live-stands}
 use Rattle.scr_nodes.specs.Live.{is_live}
 use Rattle.scr_sums.specs.declared.point.Point.TheVariants as points
-use Rattle.scr_subtotals.specs.declared.figure.Figure.{Figure}
 use Rattle.scr_tree.specs.Figures.{Worth, worth_at}
 use Rattle.scr_tree.specs.Standing.{Standing}
 use Rattle.scr_tree.proofs.FigureRead.{known-read, known-within}
@@ -22,33 +20,31 @@ unreachable-requires c =
     c.in-None.ensures.absent refl own.0
     (subst (λ sheet. StandsAt sheet c.self.inside.state.places c.args.node.now own.0) (sym c.sheet.ensures.sheet) own.1)
 
-pub index-requires : goal.index-requires
-index-requires c =
+pub figure-requires : goal.figure-requires
+figure-requires c =
     let state = c.self.inside.state in
-    let low = known-within state.figures.items c.in-Some.number (worth_at c.args.self.now.factors c.args.self.now.sheet c.args.node.now)
-    (settled-point c.self.inside.factors c.self.inside.book state.places state.lists state.figures.items c.args.self.now c.self.view_is
+    let low = known-within state.figures c.in-Some.number (worth_at c.args.self.now.factors c.args.self.now.sheet c.args.node.now)
+    (settled-point c.self.inside.factors c.self.inside.book state.places state.lists state.figures c.args.self.now c.self.view_is
     c.self.invariant.state.figures (points.Figure c.args.node.now) c.in-Some.number
     (subst (λ sheet. StandsAt sheet state.places c.args.node.now c.in-Some.number) c.sheet.ensures.sheet c.in-Some.ensures.there) c.requires) in
-    omega (arith, low, state.figures.ok.0)
+    omega (arith, low)
 
 pub returns-clause-span : goal.returns-clause-span
 returns-clause-span c =
     let state = c.self.inside.state in
-    ap (λ (f : Figure). ends f.span) c.figure.ensures
-    ∙ ap (λ (w : Worth). w.worked)
-    (known-read state.figures.items c.in-Some.number (worth_at c.args.self.now.factors c.args.self.now.sheet c.args.node.now) c.index.result.now
-    (settled-point c.self.inside.factors c.self.inside.book state.places state.lists state.figures.items c.args.self.now c.self.view_is
+    ap (λ (w : Worth). w.worked)
+    (known-read state.figures c.in-Some.number (worth_at c.args.self.now.factors c.args.self.now.sheet c.args.node.now) c.figure.result
+    (settled-point c.self.inside.factors c.self.inside.book state.places state.lists state.figures c.args.self.now c.self.view_is
     c.self.invariant.state.figures (points.Figure c.args.node.now) c.in-Some.number
     (subst (λ sheet. StandsAt sheet state.places c.args.node.now c.in-Some.number) c.sheet.ensures.sheet c.in-Some.ensures.there) c.requires)
-    c.index.ensures)
+    c.figure.ensures)
 
 pub returns-clause-close : goal.returns-clause-close
 returns-clause-close c =
     let state = c.self.inside.state in
-    ap (λ (f : Figure). f.close) c.figure.ensures
-    ∙ ap (λ (w : Worth). w.close)
-    (known-read state.figures.items c.in-Some.number (worth_at c.args.self.now.factors c.args.self.now.sheet c.args.node.now) c.index.result.now
-    (settled-point c.self.inside.factors c.self.inside.book state.places state.lists state.figures.items c.args.self.now c.self.view_is
+    ap (λ (w : Worth). w.close)
+    (known-read state.figures c.in-Some.number (worth_at c.args.self.now.factors c.args.self.now.sheet c.args.node.now) c.figure.result
+    (settled-point c.self.inside.factors c.self.inside.book state.places state.lists state.figures c.args.self.now c.self.view_is
     c.self.invariant.state.figures (points.Figure c.args.node.now) c.in-Some.number
     (subst (λ sheet. StandsAt sheet state.places c.args.node.now c.in-Some.number) c.sheet.ensures.sheet c.in-Some.ensures.there) c.requires)
-    c.index.ensures)
+    c.figure.ensures)

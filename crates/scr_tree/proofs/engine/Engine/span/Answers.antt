@@ -1,10 +1,12 @@
-use Rattle.std.proofs.Common.{◌≡◌, true, subst, sym, ap, refl, ◌∙◌, arith}
+use Rattle.std.proofs.Common.{◌≡◌, true, get_or, subst, sym, ap, refl, ◌∙◌, arith}
+use Rattle.std.proofs.lemmas.Option.{slice_get-get_or}
 use Rattle.scr_num.specs.Rounding.{ends}
+use Rattle.scr_subtotals.specs.Tables.{nothing}
 use Rattle.scr_sums.specs.Graph.{is_live_in}
 use Rattle.scr_tree.specs.Figures.{Worth}
 use Rattle.scr_tree.specs.Points.{point_worth}
 use Rattle.scr_tree.specs.Standing.{Standing, book_of}
-use Rattle.scr_tree.proofs.FigureRead.{known-read, known-within}
+use Rattle.scr_tree.proofs.FigureRead.{known-there, known-within}
 use Rattle.scr_tree.proofs.Standings.{settled-point}
 use Rattle.scr_tree.proofs.engine.Engine.span.Goals as goal
 
@@ -17,20 +19,21 @@ unreachable-requires c =
     let own = c.self.invariant.state.graph.numbers_of.numbers.live c.args.point live in
     c.in-None.ensures.absent refl own.0 own.1
 
-pub index-requires : goal.index-requires
-index-requires c =
+pub span-requires : goal.span-requires
+span-requires c =
     let state = c.self.inside.state in
-    let low = known-within state.figures.items c.in-Some.number (point_worth c.args.self.now.factors (book_of c.args.self.now) c.args.point)
-    (settled-point c.self.inside.factors c.self.inside.book state.places state.lists state.figures.items c.args.self.now c.self.view_is
+    let low = known-within state.figures c.in-Some.number (point_worth c.args.self.now.factors (book_of c.args.self.now) c.args.point)
+    (settled-point c.self.inside.factors c.self.inside.book state.places state.lists state.figures c.args.self.now c.self.view_is
     c.self.invariant.state.figures c.args.point c.in-Some.number c.in-Some.ensures.there c.requires) in
-    omega (arith, low, state.figures.ok.0)
+    omega (arith, low)
 
 pub returns : goal.returns
 returns c =
     let state = c.self.inside.state in
-    ap ends c.span.ensures
-    ∙ ap (λ (w : Worth). w.worked)
-    (known-read state.figures.items c.in-Some.number (point_worth c.args.self.now.factors (book_of c.args.self.now) c.args.point) c.index.result.now
-    (settled-point c.self.inside.factors c.self.inside.book state.places state.lists state.figures.items c.args.self.now c.self.view_is
-    c.self.invariant.state.figures c.args.point c.in-Some.number c.in-Some.ensures.there c.requires)
-    c.index.ensures)
+    let number = c.in-Some.number in
+    let worth = point_worth c.args.self.now.factors (book_of c.args.self.now) c.args.point in
+    let known = settled-point c.self.inside.factors c.self.inside.book state.places state.lists state.figures c.args.self.now c.self.view_is
+    c.self.invariant.state.figures c.args.point number c.in-Some.ensures.there c.requires in
+    ap ends (c.span.ensures (get_or state.figures number nothing)
+    (slice_get-get_or state.figures number nothing (known-within state.figures number worth known)))
+    ∙ ap (λ (w : Worth). w.worked) (known-there state.figures number worth nothing known)

@@ -1,4 +1,4 @@
-use Rattle.std.proofs.Common.{◌≡◌, ◌++◌, [], ◌∷◌, length, set, sym, ap, subst, ◌∙◌}
+use Rattle.std.proofs.Common.{◌≡◌, ◌++◌, [], ◌∷◌, length, sym, ap, subst, ◌∙◌}
 use Rattle.std.specs.Option.{option_to_list}
 use Rattle.std.proofs.lemmas.List.{length-set}
 use Rattle.scr_tree.specs.Order.{AreWithin, undone}
@@ -13,8 +13,8 @@ loop-was-preserved c =
     let items : c.loop-was.former.items ≡ left ++ was ∷ [] = c.pop.ensures.items ∙ ap (λ o. left ++ option_to_list o) c.in-Some.is in
     let all : AreWithin (length figures) (left ++ was ∷ []) = subst (AreWithin (length figures)) items c.loop-was.invariant.within in
     record {
-      within = subst (λ many. AreWithin many left) (sym (length-set figures was.number c.new.result)) (within-front left was (length figures) all);
-      back = ap (λ figure. undone left (set figures was.number figure)) c.new.ensures ∙ sym (undone-last left was figures)
+      within = subst (λ many. AreWithin many left) (sym (ap length c.set.ensures ∙ length-set figures was.number was.figure)) (within-front left was (length figures) all);
+      back = ap (undone left) c.set.ensures ∙ sym (undone-last left was figures)
           ∙ ap (λ former. undone former figures) (sym items) ∙ c.loop-was.invariant.back;
     }
 

@@ -1,0 +1,16 @@
+use Rattle.std.proofs.Common.{◌≡◌, ◌/◌, ◌%◌, ◌^◌, refl, sym, ◌∙◌, arith}
+use Rattle.std.specs.Prelude.{pos, ◌+ℤ◌, ◌-ℤ◌}
+use Rattle.std.proofs.lemmas.Int.{ints}
+use mir.Syntax.{w128}
+use mir.Val.{of_z, to_z}
+use Rattle.scr_subtotals.specs.Cells.{high_in, low_in}
+use Rattle.scr_subtotals.proofs.Cells.{narrow-is}
+use Rattle.scr_subtotals.proofs.cell.Cell.kept.Goals as goal
+
+pub returns : goal.returns
+returns c =
+    let bits = c.self.inside.bits in
+    let low : low_in bits ≡ to_z w128 (of_z w128 (to_z w128 (bits % 2 ^ 90) -ℤ pos (2 ^ 89))) = omega (arith, ints) in
+    let high : high_in bits ≡ to_z w128 (of_z w128 (to_z w128 (of_z w128 (to_z w128 (bits % 2 ^ 90) -ℤ pos (2 ^ 89)))
+    +ℤ to_z w128 (bits / 2 ^ 90 % 2 ^ 36))) = omega (arith, ints) in
+    sym (narrow-is bits c.self.inside.ordered _ _ c.if-self-ge-APART.false low high refl) ∙ c.self.view_is
