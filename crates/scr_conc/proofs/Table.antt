@@ -64,6 +64,20 @@ factor-exact Covered step = any_factor (step_of step)
 factor-exact Property step = record { positive = lit< tt; equal = refl }
 factor-exact State step = record { positive = lit< tt; equal = refl }
 
+-- no threshold is below 15 thousandths
+any_least : (step : ℕ) → step ≤ 6 → 15 ≤ slice_index CT step
+any_least step few = leb-true _ _ (all-range (λ k. nat_le 15 (slice_index CT k)) 0 7 step refl (omega arith) (omega (arith, few)))
+
+pub threshold-least : (kind : GroupKind) (step : Option ℕ) → step_of step ≤ 6 → 15 ≤ threshold_units kind step
+threshold-least Name step few = any_least (step_of step) few
+threshold-least Covered step few = covered (nat_lt (step_of step) 2)
+  where
+    covered : (early : Bool) → 15 ≤ cond early 150 (slice_index CT (step_of step))
+    covered true = lit≤ tt
+    covered false = any_least (step_of step) few
+threshold-least Property step few = lit≤ tt
+threshold-least State step few = any_least (step_of step) few
+
 -- no factor is above 73 percent, and no threshold above 150 thousandths
 any_charge : (step : ℕ) → slice_index G step ≤ 73
 any_charge step =

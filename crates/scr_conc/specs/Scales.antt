@@ -4,7 +4,7 @@ use Rattle.std.specs.Prelude.{◌≡◌, ℕ, ◌*◌, ◌≤◌, List, [], ◌�
 use Rattle.scr_profile.specs.declared.group_kind.GroupKind.{GroupKind}
 use Rattle.scr_profile.specs.declared.group_kind.GroupKind.TheVariants.{Name, Covered, Property, State}
 use Rattle.scr_profile.specs.declared.limits.TheConstants.{MAX_HELD}
-use Rattle.scr_conc.specs.Thresholds.{threshold_units, factor_units}
+use Rattle.scr_conc.specs.Thresholds.{step_of, threshold_units, factor_units}
 use Rattle.scr_conc.specs.declared.scale.Scale.TheInside.{Inside}
 
 abbrev pub kinds : List GroupKind
@@ -31,7 +31,17 @@ shares_of assets kind = map (λ step. threshold_units kind step * assets) steps
 abbrev pub charges_of : GroupKind → List ℕ
 charges_of kind = map (factor_units kind) steps
 
+-- so many cents are above no threshold over the assets
+abbrev pub IsFree : (assets cents : ℕ) → Type 0
+IsFree assets cents = (kind : GroupKind) (step : Option ℕ) → step_of step ≤ 6 → 1000 * cents ≤ threshold_units kind step * assets
+
+-- and no more are above none
+pub record IsMostFree (assets cents : ℕ) : Type 0 where
+  pub free : IsFree assets cents
+  pub most : (other : ℕ) → IsFree assets other → other ≤ cents
+
 pub record IsScale (s : Inside) : Type 0 where
   pub held : s.assets ≤ MAX_HELD
+  pub free : IsMostFree s.assets s.free
   pub shares : s.shares ≡ map (shares_of s.assets) kinds
   pub charges : s.charges ≡ map charges_of kinds

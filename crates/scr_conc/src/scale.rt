@@ -9,12 +9,16 @@ use crate::{charge_of, excess_charge, threshold_of};
 use scr_profile::GroupKind;
 use std::marker::Model;
 
+/// The least threshold of all kinds and steps, in thousandths.
+const LEAST: u64 = 15;
+
 /// What the capital requirements of all exposures over the same assets are worked out by: of each kind of group and each credit quality
-/// step, or none, the threshold over the assets, in thousandths of a cent, and the risk factor, in hundredths (Articles 185 to 187).
-/// Contracts see the assets, in cents.
+/// step, or none, the threshold over the assets, in thousandths of a cent, and the risk factor, in hundredths (Articles 185 to 187); and the
+/// most cents that are above no threshold. Contracts see the assets, in cents.
 #[derive(Drop)]
 pub struct Scale {
     assets: u64,
+    free: u64,
     shares: [[u64; 8]; 4],
     charges: [[u64; 8]; 4],
 }
@@ -39,6 +43,7 @@ impl Scale {
     {
         Scale {
             assets,
+            free: free(assets),
             shares: [
                 shares(GroupKind::Name, assets),
                 shares(GroupKind::Covered, assets),
@@ -63,9 +68,20 @@ impl Scale {
         ensures value { result ≡ exposure_square_units self.now (record { cents = exposure; kind = kind; step = step }) }
         ensures size { result ≤ (73_000 * exposure) * (73_000 * exposure) }
     {
+        // Most exposures are below every threshold.
+        if exposure <= self.free {
+            return 0;
+        }
         let share = self.share(kind, step);
         let required = u128::from(excess_charge(exposure, share, self.charge(kind, step)));
         required * required
+    }
+
+    /// The most cents that are above no threshold: an exposure of at most so many has no requirement, whatever its kind and its step.
+    pub fn free(&self) -> u64
+        ensures { scales.IsMostFree self.now result }
+    {
+        self.free
     }
 
     /// The threshold over the assets, in thousandths of a cent.
@@ -86,6 +102,14 @@ impl Scale {
         let charges = &self.charges[row(kind)];
         charges[column(step)]
     }
+}
+
+/// The most cents that are above no threshold over the assets.
+fn free(assets: u64) -> u64
+    requires { assets ≤ MAX_HELD }
+    ensures { scales.IsMostFree assets result }
+{
+    LEAST * assets / 1000
 }
 
 /// The thresholds of a kind over so many cents of assets, step by step and without one, in thousandths of a cent.

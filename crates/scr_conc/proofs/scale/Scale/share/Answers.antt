@@ -1,4 +1,4 @@
-use Rattle.std.proofs.Common.{◌≡◌, ℕ, ◌*◌, List, [], map, sym, ap, ap₂, ◌∙◌}
+use Rattle.std.proofs.Common.{ℕ, ◌*◌, List, [], map, ap, ap₂, ◌∙◌}
 use Rattle.std.specs.Prelude.{slice_index, slice_index_or}
 use Rattle.scr_conc.specs.Thresholds.{threshold_units}
 use Rattle.scr_conc.specs.Scales.{kinds, shares_of}
