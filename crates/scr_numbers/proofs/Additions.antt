@@ -1,16 +1,17 @@
 -- One more range, of the numbers after all others.
-use Rattle.std.proofs.Common.{◌≡◌, ℕ, ◌+◌, ◌-◌, ◌<◌, ◌≤◌, ◌⊎◌, inl, inr, ⊎_elim, false, List, [], ◌∷◌, ◌++◌, length, replicate, refl, sym, ap, subst, ◌∙◌, arith}
+use Rattle.std.proofs.Common.{◌≡◌, ℕ, ◌+◌, ◌-◌, ◌/◌, ◌<◌, ◌≤◌, ◌⊎◌, inl, inr, ⊎_elim, false, List, [], ◌∷◌, ◌++◌, length, replicate, refl, sym, ap, subst, ◌∙◌, arith}
 use Rattle.std.proofs.lemmas.Bool.{cases_lt, cases_Bool}
 use Rattle.std.proofs.lemmas.List.{length_push, length-append, length-replicate, get_or_push, get_or_append_left, get_or-append_right, get_or-replicate}
 use Rattle.scr_numbers.specs.Ranges.{Numbered, RangeList, count, first, made, no_ranges, roll_at, same_table, stride}
 use Rattle.scr_numbers.specs.Moves.{IsNew, IsSameBut}
 use Rattle.scr_numbers.specs.Steps.{IsRollsBut, Made, Revived}
-use Rattle.scr_numbers.specs.Kept.{AreKept, IsKept, IsListed, IsOf, IsOwned, numbered_of, owner_at, range_at, range_of}
+use Rattle.scr_numbers.specs.Kept.{AreKept, IsKept, IsListed, IsOf, IsOwned, numbered_of, owner_at, owners, range_at, range_of}
 use Rattle.scr_numbers.specs.declared.places.Places.TheInside.{Inside}
 use Rattle.scr_numbers.specs.declared.places.Range.{Range}
 use Rattle.scr_numbers.specs.declared.table.Table.{Table}
 use Rattle.scr_numbers.specs.declared.table.Table.TheVariants as tables
 use Rattle.scr_numbers.proofs.Tables.{same_table-is, stride-some}
+use Rattle.scr_numbers.proofs.Owners.{marked-more, owners-push}
 use Rattle.scr_numbers.proofs.Views.{count-is, first-new, first-old, made-is, made-more, of_all, others-same}
 
 module _ (made_in : Table → ℕ) (first_of : Table → ℕ → ℕ) (ranges : List Range) (owner : List ℕ)
@@ -183,34 +184,40 @@ module _ (made_in : Table → ℕ) (first_of : Table → ℕ → ℕ) (ranges : 
 
 module _ (before now : Inside) (kept : IsKept before) (table : Table)
     (rolls : IsRollsBut table before.rolls.items now.rolls.items)
-    (firsts : (roll_at now.rolls.items table).firsts ≡ (roll_at before.rolls.items table).firsts ++ length before.owner.items ∷ [])
+    (firsts : (roll_at now.rolls.items table).firsts ≡ (roll_at before.rolls.items table).firsts ++ length (owners before.ranges.items) ∷ [])
     (live : (roll_at now.rolls.items table).live ≡ (roll_at before.rolls.items table).live)
     (ranges : now.ranges.items
-    ≡ before.ranges.items ++ range_of table (made (numbered_of before) table) (length before.owner.items) ∷ [])
-    (owner : now.owner.items ≡ before.owner.items ++ replicate (stride table) (length before.ranges.items))
-    (fits : length before.owner.items + stride table < 4294967296) where
+    ≡ before.ranges.items ++ range_of table (made (numbered_of before) table) (length (owners before.ranges.items)) ∷ [])
+    (marks : now.marks.items ≡ before.marks.items
+    ++ replicate ((length (owners before.ranges.items) + stride table) / 8 + 1 - length before.marks.items) (length before.ranges.items))
+    (size : now.size ≡ length (owners before.ranges.items) + stride table)
+    (fits : length (owners before.ranges.items) + stride table < 4294967296) where
+  owner : owners now.ranges.items ≡ owners before.ranges.items ++ replicate (stride table) (length before.ranges.items)
+  owner = ap owners ranges
+      ∙ owners-push before.ranges.items (range_of table (made (numbered_of before) table) (length (owners before.ranges.items)))
+
   others : IsSameBut table (numbered_of before) (numbered_of now)
   others = others-same (numbered_of before) (numbered_of now) table rolls
 
   one-more : made (numbered_of now) table ≡ made (numbered_of before) table + 1
-  one-more = made-more (numbered_of before) (numbered_of now) table (length before.owner.items) firsts
+  one-more = made-more (numbered_of before) (numbered_of now) table (length (owners before.ranges.items)) firsts
 
   same-count : count (numbered_of now) table ≡ count (numbered_of before) table
   same-count = count-is (numbered_of now) table ∙ live ∙ sym (count-is (numbered_of before) table)
 
   old-firsts : (k : ℕ) → k < made (numbered_of before) table → first (numbered_of now) table k ≡ first (numbered_of before) table k
-  old-firsts = first-old (numbered_of before) (numbered_of now) table (length before.owner.items) firsts
+  old-firsts = first-old (numbered_of before) (numbered_of now) table (length (owners before.ranges.items)) firsts
 
-  new-first : first (numbered_of now) table (made (numbered_of before) table) ≡ length before.owner.items
-  new-first = first-new (numbered_of before) (numbered_of now) table (length before.owner.items) firsts
+  new-first : first (numbered_of now) table (made (numbered_of before) table) ≡ length (owners before.ranges.items)
+  new-first = first-new (numbered_of before) (numbered_of now) table (length (owners before.ranges.items)) firsts
 
   ranges-long : length now.ranges.items ≡ length before.ranges.items + 1
-  ranges-long = ap length ranges ∙ length_push before.ranges.items (range_of table (made (numbered_of before) table) (length before.owner.items))
+  ranges-long = ap length ranges ∙ length_push before.ranges.items (range_of table (made (numbered_of before) table) (length (owners before.ranges.items)))
 
-  owner-long : length now.owner.items ≡ length before.owner.items + stride table
+  owner-long : length (owners now.ranges.items) ≡ length (owners before.ranges.items) + stride table
   owner-long =
-      ap length owner ∙ length-append before.owner.items (replicate (stride table) (length before.ranges.items))
-      ∙ ap (λ n. length before.owner.items + n) (length-replicate (stride table) (length before.ranges.items))
+      ap length owner ∙ length-append (owners before.ranges.items) (replicate (stride table) (length before.ranges.items))
+      ∙ ap (λ n. length (owners before.ranges.items) + n) (length-replicate (stride table) (length before.ranges.items))
 
   pub make-kept : IsKept now
   make-kept = record {
@@ -222,11 +229,14 @@ module _ (before now : Inside) (kept : IsKept before) (table : Table)
         (let old = kept.few table in omega (arith, old, one-more, ranges-long))
         (λ other f. let old = kept.few other in omega (arith, old, ranges-long, others.ranges other f));
     numbers = let some = stride-some table in omega (arith, kept.numbers, ranges-long, owner-long, some);
-    size = omega (arith, owner-long, fits);
-    ranges = subst (λ rs. AreKept (made (numbered_of now)) (first (numbered_of now)) rs now.owner.items) (sym ranges)
+    end = owner-long ∙ sym size;
+    size = omega (arith, size, fits);
+    marks = marked-more before.ranges.items now.ranges.items before.marks.items now.marks.items kept.marks (stride table)
+        ranges-long owner marks;
+    ranges = subst (λ rs. AreKept (made (numbered_of now)) (first (numbered_of now)) rs (owners now.ranges.items)) (sym ranges)
         (subst (AreKept (made (numbered_of now)) (first (numbered_of now))
-        (before.ranges.items ++ range_of table (made (numbered_of before) table) (length before.owner.items) ∷ [])) (sym owner)
-        (kept-more (made (numbered_of before)) (first (numbered_of before)) before.ranges.items before.owner.items kept.ranges
+        (before.ranges.items ++ range_of table (made (numbered_of before) table) (length (owners before.ranges.items)) ∷ [])) (sym owner)
+        (kept-more (made (numbered_of before)) (first (numbered_of before)) before.ranges.items (owners before.ranges.items) kept.ranges
         table (made (numbered_of now)) (first (numbered_of now)) others.ranges others.firsts one-more old-firsts new-first));
   }
 
@@ -260,16 +270,25 @@ module _ (places : Numbered) (empty : (table : Table) → roll_at places.rolls t
   }
 
 pub empty-kept : (now : Inside) → length now.rolls.items ≡ 7 → ((table : Table) → roll_at now.rolls.items table ≡ no_ranges)
-    → now.ranges.items ≡ [] → now.owner.items ≡ [] → IsKept now
-empty-kept now six empty ranges owner = record {
+    → now.ranges.items ≡ [] → now.marks.items ≡ [] → now.size ≡ 0 → IsKept now
+empty-kept now six empty ranges marks none = record {
   tables = six;
   live = λ table. let c = count-none (numbered_of now) empty table in omega (arith, c);
   few = λ table. let m = made-none (numbered_of now) empty table in omega (arith, m);
   numbers = omega (arith, ap length ranges);
-  size = omega (arith, ap length owner);
+  end = ap length owner ∙ sym none;
+  size = omega (arith, none);
+  marks = record {
+    all = λ number within. absurd (omega (arith, ap length owner, within));
+    early = λ number within. absurd (omega (arith, ap length owner, within));
+    known = λ block within. absurd (omega (arith, ap length marks, within));
+  };
   ranges = record {
     owned = λ table k j room family. let m = made-none (numbered_of now) empty table in absurd (omega (arith, m, room));
     listed = λ id known. absurd (omega (arith, ap length ranges, known));
     held = λ number within. absurd (omega (arith, ap length owner, within));
   };
 }
+  where
+    owner : owners now.ranges.items ≡ []
+    owner = ap owners ranges

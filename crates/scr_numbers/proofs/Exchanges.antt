@@ -1,15 +1,16 @@
 -- Two ranges change places.
-use Rattle.std.proofs.Common.{◌≡◌, ℕ, ◌+◌, ◌<◌, ◌≤◌, ◌⊎◌, inl, inr, ⊎_elim, true, false, List, length, get_or, set, refl, sym, ap, subst, ◌∙◌, arith}
+use Rattle.std.proofs.Common.{◌≡◌, ℕ, ◌+◌, ◌<◌, ◌≤◌, ◌⊎◌, inl, inr, ⊎_elim, true, false, List, length, set, refl, sym, ap, subst, ◌∙◌, arith}
 use Rattle.std.proofs.lemmas.Bool.{cases_eq, cases_lt, cases_Bool}
-use Rattle.std.proofs.lemmas.List.{length-set, get_or_read, get_or-set_same, get_or-set_other}
+use Rattle.std.proofs.lemmas.List.{length-set, get_or-set_same, get_or-set_other}
 use Rattle.scr_numbers.specs.Ranges.{RangeList, count, first, first_in, made, roll_at, same_table, stride}
 use Rattle.scr_numbers.specs.Moves.{IsSameBut, Sunk}
 use Rattle.scr_numbers.specs.Steps.{IsRollsBut, Sinking}
-use Rattle.scr_numbers.specs.Kept.{AreKept, IsKept, IsListed, IsOf, IsOwned, numbered_of, owner_at, range_at, range_of}
+use Rattle.scr_numbers.specs.Kept.{AreKept, AreMarked, IsKept, IsListed, IsOf, IsOwned, numbered_of, owner_at, owners, range_at, range_of}
 use Rattle.scr_numbers.specs.declared.places.Places.TheInside.{Inside}
 use Rattle.scr_numbers.specs.declared.places.Range.{Range}
 use Rattle.scr_numbers.specs.declared.table.Table.{Table}
 use Rattle.scr_numbers.proofs.Tables.{same_table-is, same_table-self, stride-some}
+use Rattle.scr_numbers.proofs.Owners.{marked-same, owners-same}
 use Rattle.scr_numbers.proofs.Views.{count-is, made-is, of_all, others-same, roll-first, roll-made, sunk-is}
 
 module _ (made_in : Table → ℕ) (first_of : Table → ℕ → ℕ) (ranges : List Range) (owner : List ℕ)
@@ -114,7 +115,7 @@ module _ (made_in : Table → ℕ) (first_of : Table → ℕ → ℕ) (ranges : 
     after-else id other further = get_or-set_other moved ib id _ _ further ∙ get_or-set_other ranges ia id _ _ other
 
     -- the table and the first number of a range stay
-    after-body : (id : ℕ) → ((range_at after id).table ≡ (range_at ranges id).table) × ((range_at after id).first ≡ (range_at ranges id).first)
+    pub after-body : (id : ℕ) → ((range_at after id).table ≡ (range_at ranges id).table) × ((range_at after id).first ≡ (range_at ranges id).first)
     after-body id = ⊎_elim
         (λ e. (
           ap (λ n. (range_at after n).table) e ∙ ap (λ r. r.table) after-low ∙ sym (ap (λ n. (range_at ranges n).table) e ∙ ap (λ r. r.table) low.is),
@@ -306,17 +307,17 @@ module _ (places : Inside) (kept : IsKept places) (table : Table) (k : ℕ) (roo
     read-start : number ≡ first (numbered_of places) table k
     read-start = told ∙ roll-first places (numbered_of places) refl table roll is k
 
-    pub read-below : number < length places.owner.items
-    read-below = subst (λ n. n < length places.owner.items) (sym read-start)
-        (start-within (made (numbered_of places)) (first (numbered_of places)) places.ranges.items places.owner.items kept.ranges table k room)
+    pub read-below : number < length (owners places.ranges.items)
+    read-below = subst (λ n. n < length (owners places.ranges.items)) (sym read-start)
+        (start-within (made (numbered_of places)) (first (numbered_of places)) places.ranges.items (owners places.ranges.items) kept.ranges table k room)
 
-    module _ (id : ℕ) (read : id ≡ get_or places.owner.items number id) where
-      pub read-id : id ≡ owner_at places.owner.items (first (numbered_of places) table k)
-      read-id = get_or_read places.owner.items number id read-below read 0 ∙ ap (owner_at places.owner.items) read-start
+    module _ (id : ℕ) (own_id : id ≡ owner_at (owners places.ranges.items) number) where
+      pub read-id : id ≡ owner_at (owners places.ranges.items) (first (numbered_of places) table k)
+      read-id = own_id ∙ ap (owner_at (owners places.ranges.items)) read-start
 
       pub read-known : id < length places.ranges.items
       read-known = subst (λ n. n < length places.ranges.items) (sym read-id)
-          (own (made (numbered_of places)) (first (numbered_of places)) places.ranges.items places.owner.items kept.ranges table k room).known
+          (own (made (numbered_of places)) (first (numbered_of places)) places.ranges.items (owners places.ranges.items) kept.ranges table k room).known
 
 -- two neighbours changed places in the rolls and in what the ranges know
 module _ (before now : Inside) (kept : IsKept before) (table : Table) (k : ℕ)
@@ -325,10 +326,10 @@ module _ (before now : Inside) (kept : IsKept before) (table : Table) (k : ℕ)
     (sunk : Sunk k (k + 1) (first_in (roll_at before.rolls.items table).firsts) (first_in (roll_at now.rolls.items table).firsts))
     (long : length (roll_at now.rolls.items table).firsts ≡ length (roll_at before.rolls.items table).firsts)
     (live : (roll_at now.rolls.items table).live ≡ (roll_at before.rolls.items table).live)
-    (owner : now.owner.items ≡ before.owner.items)
+    (marks : now.marks.items ≡ before.marks.items) (size : now.size ≡ before.size)
     (low_id high_id : ℕ) (once : List Range)
-    (low_is : low_id ≡ owner_at before.owner.items (first (numbered_of before) table k))
-    (high_is : high_id ≡ owner_at before.owner.items (first (numbered_of before) table (k + 1)))
+    (low_is : low_id ≡ owner_at (owners before.ranges.items) (first (numbered_of before) table k))
+    (high_is : high_id ≡ owner_at (owners before.ranges.items) (first (numbered_of before) table (k + 1)))
     (first_write : once ≡ set before.ranges.items low_id (record (range_at before.ranges.items low_id) { place = k + 1 }))
     (second_write : now.ranges.items ≡ set once high_id (record (range_at once high_id) { place = k })) where
   exchanged-others : IsSameBut table (numbered_of before) (numbered_of now)
@@ -350,15 +351,22 @@ module _ (before now : Inside) (kept : IsKept before) (table : Table) (k : ℕ)
   count-each = of_all (λ any. count (numbered_of now) any ≡ count (numbered_of before) any) table exchanged-count exchanged-others.counts
 
   abbrev swapped : List Range
-  swapped = after (made (numbered_of before)) (first (numbered_of before)) before.ranges.items before.owner.items kept.ranges table k room
+  swapped = after (made (numbered_of before)) (first (numbered_of before)) before.ranges.items (owners before.ranges.items) kept.ranges table k room
 
   ranges-are : now.ranges.items ≡ swapped
-  ranges-are = after-is (made (numbered_of before)) (first (numbered_of before)) before.ranges.items before.owner.items kept.ranges table k room
+  ranges-are = after-is (made (numbered_of before)) (first (numbered_of before)) before.ranges.items (owners before.ranges.items) kept.ranges table k room
       low_id high_id once now.ranges.items low_is high_is first_write second_write
 
   ranges-long : length now.ranges.items ≡ length before.ranges.items
   ranges-long = ap length ranges-are
-      ∙ after-length (made (numbered_of before)) (first (numbered_of before)) before.ranges.items before.owner.items kept.ranges table k room
+      ∙ after-length (made (numbered_of before)) (first (numbered_of before)) before.ranges.items (owners before.ranges.items) kept.ranges table k room
+
+  -- the tables of the ranges are the same, and so are the owners
+  owner : owners now.ranges.items ≡ owners before.ranges.items
+  owner = owners-same 0 now.ranges.items before.ranges.items ranges-long (λ id.
+      ap (λ rs. (range_at rs id).table) ranges-are
+      ∙ (after-body (made (numbered_of before)) (first (numbered_of before)) before.ranges.items (owners before.ranges.items)
+      kept.ranges table k room id).0)
 
   pub exchange-kept : IsKept now
   exchange-kept = record {
@@ -366,10 +374,13 @@ module _ (before now : Inside) (kept : IsKept before) (table : Table) (k : ℕ)
     live = λ any. let old = kept.live any in omega (arith, old, made-each any, count-each any);
     few = λ any. let old = kept.few any in omega (arith, old, made-each any, ranges-long);
     numbers = omega (arith, kept.numbers, ranges-long, ap length owner);
-    size = omega (arith, kept.size, ap length owner);
-    ranges = subst (λ rs. AreKept (made (numbered_of now)) (first (numbered_of now)) rs now.owner.items) (sym ranges-are)
+    end = omega (arith, kept.end, ap length owner, size);
+    size = omega (arith, kept.size, size);
+    marks = subst (λ ms. AreMarked ms now.ranges.items) (sym marks)
+        (marked-same before.ranges.items now.ranges.items before.marks.items kept.marks ranges-long owner);
+    ranges = subst (λ rs. AreKept (made (numbered_of now)) (first (numbered_of now)) rs (owners now.ranges.items)) (sym ranges-are)
         (subst (AreKept (made (numbered_of now)) (first (numbered_of now)) swapped) (sym owner)
-        (kept-exchanged (made (numbered_of before)) (first (numbered_of before)) before.ranges.items before.owner.items kept.ranges
+        (kept-exchanged (made (numbered_of before)) (first (numbered_of before)) before.ranges.items (owners before.ranges.items) kept.ranges
         table k room (made (numbered_of now)) (first (numbered_of now)) made-each exchanged-others.firsts exchanged-firsts));
   }
 

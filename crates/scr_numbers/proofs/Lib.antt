@@ -1,4 +1,5 @@
 pub mod Tables
+pub mod Owners
 pub mod Views
 pub mod Exchanges
 pub mod Additions

@@ -1,15 +1,14 @@
 -- What contracts see of the rolls, where those of one table changed.
-use Rattle.std.proofs.Common.{◌≡◌, ℕ, ◌+◌, ◌-◌, ◌<◌, ◌≤◌, ⊎_elim, false, [], ◌∷◌, ◌++◌, length, get_or, refl, sym, ap, subst, ◌∙◌, arith}
+use Rattle.std.proofs.Common.{◌≡◌, ℕ, ◌+◌, ◌-◌, ◌<◌, ◌≤◌, ⊎_elim, false, [], ◌∷◌, ◌++◌, length, refl, sym, ap, subst, ◌∙◌, arith}
 use Rattle.std.proofs.lemmas.Bool.{cases_Bool}
-use Rattle.std.proofs.lemmas.List.{get_or_read, get_or_append_left, get_or_push, length_push}
+use Rattle.std.proofs.lemmas.List.{get_or_append_left, get_or_push, length_push}
 use Rattle.scr_numbers.specs.Ranges.{IsApart, IsAt, IsWithin, Numbered, RangeList, count, first, first_in, made, roll_at, same_table, stride}
 use Rattle.scr_numbers.specs.Moves.{IsSameBut, Sunk}
 use Rattle.scr_numbers.specs.Steps.{IsRollsBut}
-use Rattle.scr_numbers.specs.Kept.{AreKept, IsKept, IsOf, IsOwned, numbered_of, owner_at, range_at, range_of}
+use Rattle.scr_numbers.specs.Kept.{AreKept, AreMarked, AreOwned, IsKept, IsOwned, numbered_of, owner_at, owners, range_at, range_of}
 use Rattle.scr_numbers.specs.declared.places.Places.TheInside.{Inside}
 use Rattle.scr_numbers.specs.declared.places.Range.{Range}
 use Rattle.scr_numbers.specs.declared.table.Table.{Table}
-use Rattle.scr_numbers.specs.declared.table.Table.TheVariants as tables
 use Rattle.scr_numbers.proofs.Tables.{kept-same, same_table-is, stride-some}
 
 pub count-is : (places : Numbered) (table : Table) → count places table ≡ (roll_at places.rolls table).live
@@ -57,9 +56,9 @@ module _ (before now : Numbered) (table : Table) (rolls : IsRollsBut table befor
 pub kept-live : (before now : Inside) → IsKept before → (table : Table)
     → IsRollsBut table before.rolls.items now.rolls.items
     → (roll_at now.rolls.items table).firsts ≡ (roll_at before.rolls.items table).firsts
-    → now.ranges.items ≡ before.ranges.items → now.owner.items ≡ before.owner.items
+    → now.ranges.items ≡ before.ranges.items → now.marks.items ≡ before.marks.items → now.size ≡ before.size
     → count (numbered_of now) table ≤ made (numbered_of before) table → IsKept now
-kept-live before now kept table rolls firsts ranges owner live = record {
+kept-live before now kept table rolls firsts ranges marks size live = record {
   tables = rolls.tables ∙ kept.tables;
   live = of_all (λ any. count b any ≤ made b any) table
       (omega (arith, live, made-same a b table rolls firsts))
@@ -67,10 +66,12 @@ kept-live before now kept table rolls firsts ranges owner live = record {
       omega (arith, old, (others-same a b table rolls).counts other f, (others-same a b table rolls).ranges other f));
   few = λ any. let old = kept.few any in omega (arith, old, made-all a b table rolls firsts any, ap length ranges);
   numbers = omega (arith, kept.numbers, ap length ranges, ap length owner);
-  size = omega (arith, kept.size, ap length owner);
-  ranges = subst (λ rs. AreKept (made b) (first b) rs now.owner.items) (sym ranges)
+  end = omega (arith, kept.end, ap length owner, size);
+  size = omega (arith, kept.size, size);
+  marks = subst (λ ms. AreMarked ms now.ranges.items) (sym marks) (subst (AreMarked before.marks.items) (sym ranges) kept.marks);
+  ranges = subst (λ rs. AreKept (made b) (first b) rs (owners now.ranges.items)) (sym ranges)
       (subst (AreKept (made b) (first b) before.ranges.items) (sym owner)
-      (kept-same (made a) (made b) (first a) (first b) before.ranges.items before.owner.items
+      (kept-same (made a) (made b) (first a) (first b) before.ranges.items (owners before.ranges.items)
       (made-all a b table rolls firsts) (first-all a b table rolls firsts) kept.ranges));
 }
   where
@@ -80,6 +81,9 @@ kept-live before now kept table rolls firsts ranges owner live = record {
     b : Numbered
     b = numbered_of now
 
+    owner : owners now.ranges.items ≡ owners before.ranges.items
+    owner = ap owners ranges
+
 -- ---- what is read
 
 module _ (places : Inside) (kept : IsKept places) (value : Numbered) (view : numbered_of places ≡ value) where
@@ -87,22 +91,22 @@ module _ (places : Inside) (kept : IsKept places) (value : Numbered) (view : num
   live-made table = subst (λ v. count v table ≤ made v table) view (kept.live table)
 
   owned : (table : Table) (k j number : ℕ) → IsAt value table k j number
-      → IsOwned places.ranges.items places.owner.items table k (first value table k) j
+      → IsOwned places.ranges.items (owners places.ranges.items) table k (first value table k) j
   owned table k j number at =
       let some : k < made value table = let less = live-made table in omega (arith, at.row, less) in
-      subst (λ v. IsOwned places.ranges.items places.owner.items table k (first v table k) j) view
+      subst (λ v. IsOwned places.ranges.items (owners places.ranges.items) table k (first v table k) j) view
       (kept.ranges.owned table k j (subst (λ v. k < made v table) (sym view) some) at.family)
 
   -- a number of a row is owned by its range
   pub at-owned : (table : Table) (k j number : ℕ) → IsAt value table k j number
-      → range_at places.ranges.items (owner_at places.owner.items number) ≡ range_of table k (first value table k)
+      → range_at places.ranges.items (owner_at (owners places.ranges.items) number) ≡ range_of table k (first value table k)
   at-owned table k j number at =
-      subst (λ n. range_at places.ranges.items (owner_at places.owner.items n) ≡ range_of table k (first value table k)) at.is
+      subst (λ n. range_at places.ranges.items (owner_at (owners places.ranges.items) n) ≡ range_of table k (first value table k)) at.is
       (owned table k j number at).is
 
-  pub at-within : (table : Table) (k j number : ℕ) → IsAt value table k j number → number < length places.owner.items
+  pub at-within : (table : Table) (k j number : ℕ) → IsAt value table k j number → number < length (owners places.ranges.items)
   at-within table k j number at =
-      subst (λ n. n < length places.owner.items) at.is (owned table k j number at).within
+      subst (λ n. n < length (owners places.ranges.items)) at.is (owned table k j number at).within
 
   pub within : IsWithin value
   within number table k j at =
@@ -120,7 +124,7 @@ module _ (places : Inside) (kept : IsKept places) (value : Numbered) (view : num
       }
 
   -- the numbers of a row are below the size
-  pub below-size : (table : Table) (k : ℕ) → k < made value table → first value table k + stride table ≤ length places.owner.items
+  pub below-size : (table : Table) (k : ℕ) → k < made value table → first value table k + stride table ≤ length (owners places.ranges.items)
   below-size table k inside =
       let some = stride-some table in
       let j : ℕ = stride table - 1 in
@@ -129,23 +133,9 @@ module _ (places : Inside) (kept : IsKept places) (value : Numbered) (view : num
       let start : first (numbered_of places) table k ≡ first value table k = ap (λ v. first v table k) view in
       omega (arith, some, last, start)
 
-  -- what was read of a number's owner, and of its range
-  module _ (number id : ℕ) (range : Range) (below : number < length places.owner.items)
-      (read : id ≡ get_or places.owner.items number id) (told : range ≡ get_or places.ranges.items id range) where
-    own-id : id ≡ owner_at places.owner.items number
-    own-id = get_or_read places.owner.items number id below read 0
-
-    id-known : id < length places.ranges.items
-    id-known = subst (λ n. n < length places.ranges.items) (sym own-id) (kept.ranges.held number below).known
-
-    own-range : range ≡ range_at places.ranges.items id
-    own-range = get_or_read places.ranges.items id range id-known told (range_of tables.Whole 0 0)
-
-    holds : IsOf places.ranges.items number id
-    holds = subst (IsOf places.ranges.items number) (sym own-id) (kept.ranges.held number below)
-
-    pub at-low : range.first ≤ number
-    at-low = subst (λ r. r.first ≤ number) (sym own-range) holds.low
+  -- the numbers are owned, and their owners are marked
+  pub all-owned : AreOwned places.ranges.items
+  all-owned = record { held = kept.ranges.held; owns = λ id j known family. (kept.ranges.listed id known).owns j family }
 
 -- ---- what the roll of a table tells
 

@@ -1,9 +1,9 @@
 //! The numbers of all rows.
-ghost use Rattle.std.specs.Prelude.{◌≡◌, ℕ, ◌+◌, ◌<◌, ◌≤◌, ◌^◌, ◌++◌, ◌∷◌, [], length, IfOk, OnOk, OnErr, IfSome, IsNone, replicate, slice_set};
+ghost use Rattle.std.specs.Prelude.{◌≡◌, ℕ, ◌+◌, ◌-◌, ◌/◌, ◌<◌, ◌≤◌, ◌^◌, ◌++◌, ◌∷◌, [], true, false, length, IfOk, OnOk, OnErr, IfSome, IsNone, replicate, slice_index, slice_set};
 ghost use Rattle.std.specs.Vec.{vec_capacity, vec_len};
 ghost use Rattle.scr_numbers.specs.Ranges.{IsApart, IsAt, IsWithin, no_ranges, count, first, first_in, made, roll_at, stride};
 ghost use Rattle.scr_numbers.specs.Moves.{Came, IsNew, PutBack, Retired, Went, Sunk};
-ghost use Rattle.scr_numbers.specs.Kept.{range_at};
+ghost use Rattle.scr_numbers.specs.Kept.{AreMarked, AreOwned, mark_at, owner_at, owners, range_at};
 ghost use Rattle.scr_numbers.specs.Steps.{IsRollsBut, Made, Revived, Sinking};
 ghost use Rattle.scr_numbers.specs.declared.table.Table.{Table};
 
@@ -12,11 +12,8 @@ use crate::table::Table;
 use std::alloc::{AllocError as NoMemory, Global};
 use std::marker::Model;
 
-/// So many ranges have their room from the start, so that few books need more. Room that is not written takes no page of memory.
-const RANGES: usize = 65_536;
-
-/// So many numbers have theirs.
-const NUMBERS: usize = 262_144;
+/// So many numbers in turn have one mark.
+const BLOCK: usize = 8;
 
 /// How many tables there are.
 const TABLES: usize = 7;
@@ -44,8 +41,9 @@ pub struct Place {
 pub struct Places {
     rolls: Vec<Roll>,
     ranges: Vec<Range>,
-    /// Of each number its range.
-    owner: Vec<u32>,
+    /// Of each block of numbers the range from which on those of its numbers are found.
+    marks: Vec<u32>,
+    size: u32,
 }
 
 impl Model for Places {
@@ -65,13 +63,21 @@ impl Places {
     pub fn new(alloc: Global) -> Result<Places, NoMemory>
         ensures { IfOk result IsNew }
     {
+        Places::with_room(alloc, 0, 0)
+    }
+
+    /// The same, with room for so many ranges, and for the marks of so many numbers.
+    pub fn with_room(alloc: Global, ranges: usize, numbers: usize) -> Result<Places, NoMemory>
+        ensures { IfOk result IsNew }
+    {
         let rolls = no_rolls(alloc)?;
-        let ranges = Vec::with_capacity(alloc, RANGES)?;
-        let owner = Vec::with_capacity(alloc, NUMBERS)?;
+        let ranges = Vec::with_capacity(alloc, ranges)?;
+        let marks = Vec::with_capacity(alloc, numbers / BLOCK + 1)?;
         let mut places = Places {
             rolls,
             ranges,
-            owner,
+            marks,
+            size: 0,
         };
         places.make(Table::Whole)?;
         places.revive(Table::Whole);
@@ -84,7 +90,7 @@ impl Places {
         ensures within { IsWithin self.now }
         ensures apart { IsApart self.now }
     {
-        self.owner.as_slice().len() as u32
+        self.size
     }
 
     /// How many rows a table has.
@@ -104,15 +110,26 @@ impl Places {
         roll_of(&self.rolls, table).first(k)
     }
 
+    /// The first numbers of all rows of a table, in their order.
+    pub fn firsts(&self, table: Table) -> &[u32]
+        ensures count { length result.now ≡ count self.now table }
+        ensures each { (k : ℕ) → k < count self.now table → slice_index result.now k ≡ first self.now table k }
+        ensures low { (k : ℕ) → k < count self.now table → first self.now table k + stride table < 2 ^ 32 }
+    {
+        let roll = roll_of(&self.rolls, table);
+        let live = roll.live();
+        &roll.firsts()[..live]
+    }
+
     /// What a number stands for, if it is that of a row.
     pub fn at(&self, number: u32) -> Option<Place>
         ensures there { IfSome result (λ p. IsAt self.now p.table p.row p.family number) }
         ensures absent { IsNone result → (table : Table) (k j : ℕ) → IsAt self.now table k j number → ⊥ }
     {
-        if number as usize >= self.owner.as_slice().len() {
+        if number >= self.size {
             return None;
         }
-        let range = self.ranges[self.owner[number as usize] as usize];
+        let range = self.ranges[owner_of(&self.ranges, &self.marks, number)];
         let row = range.place as usize;
         if row >= self.count(range.table) {
             return None;
@@ -194,8 +211,8 @@ impl Places {
         ensures { Sinking table k (k + 1) self.old self.new }
     {
         let roll = roll_of(&self.rolls, table);
-        let low = self.owner[roll.first(k) as usize];
-        let high = self.owner[roll.first(k + 1) as usize];
+        let low = owner_of(&self.ranges, &self.marks, roll.first(k));
+        let high = owner_of(&self.ranges, &self.marks, roll.first(k + 1));
         exchange_rolls(&mut self.rolls, table, k);
         move_range(&mut self.ranges, low, (k + 1) as u32);
         move_range(&mut self.ranges, high, k as u32);
@@ -212,15 +229,17 @@ impl Places {
         }
         let place = self.made(table) as u32;
         let id = self.ranges.as_slice().len() as u32;
+        let end = start + table.stride();
         self.ranges.reserve(1)?;
-        self.owner.reserve(table.stride() as usize)?;
+        reserve_marks(&mut self.marks, end)?;
         push_first(&mut self.rolls, table, start)?;
         self.ranges.push_reserved(Range {
             table,
             place,
             first: start,
         });
-        hand_out(&mut self.owner, table.stride() as usize, id);
+        mark(&mut self.marks, end, id);
+        self.size = end;
         Ok(())
     }
 }
@@ -280,18 +299,69 @@ fn exchange_rolls(rolls: &mut Vec<Roll>, table: Table, k: usize)
 }
 
 /// Says at which place of its table a range stands.
-fn move_range(ranges: &mut Vec<Range>, id: u32, place: u32)
+fn move_range(ranges: &mut Vec<Range>, id: usize, place: u32)
     requires { id < length ranges.old.items }
     ensures { ranges.new.items ≡ slice_set ranges.old.items id (record (range_at ranges.old.items id) { place = place }) }
 {
-    ranges[id as usize].place = place;
+    ranges[id].place = place;
 }
 
-/// So many numbers more are of a range. There is room for them.
-fn hand_out(owner: &mut Vec<u32>, numbers: usize, id: u32)
-    requires { vec_len owner.old + numbers ≤ vec_capacity owner.old }
-    ensures { owner.new.items ≡ owner.old.items ++ replicate numbers id }
+/// The range of a number: the first that has it, from the mark of its block on.
+fn owner_of(ranges: &[Range], marks: &[u32], number: u32) -> usize
+    requires owned { AreOwned ranges.now }
+    requires marked { AreMarked marks.now ranges.now }
+    requires number { number < length (owners ranges.now) }
+    ensures { result ≡ owner_at (owners ranges.now) number }
 {
-    let size = owner.len();
-    owner.resize(size + numbers, id).unwrap();
+    let from = mark_of(marks, number as usize / BLOCK) as usize;
+    for id in from..ranges.len() {
+        if has(ranges, id, number) {
+            return id;
+        }
+    }
+    unreachable!()
+}
+
+/// The mark of a block.
+fn mark_of(marks: &[u32], block: usize) -> u32
+    ensures { result ≡ mark_at marks.now block }
+{
+    match marks.get(block) {
+        Some(mark) => *mark,
+        None => 0,
+    }
+}
+
+/// Whether the number is one of a range.
+fn has(ranges: &[Range], id: usize, number: u32) -> bool
+    requires { id < length ranges.now }
+    ensures low { result ≡ true → (range_at ranges.now id).first ≤ number }
+    ensures high { result ≡ true → number < (range_at ranges.now id).first + stride (range_at ranges.now id).table }
+    ensures none { result ≡ false → (range_at ranges.now id).first ≤ number
+        → (range_at ranges.now id).first + stride (range_at ranges.now id).table ≤ number }
+{
+    let range = ranges[id];
+    range.first <= number && number - range.first < range.table.stride()
+}
+
+/// Room for the marks of the numbers below one.
+fn reserve_marks(marks: &mut Vec<u32>, end: u32) -> Result<(), NoMemory>
+    ensures items { marks.new.items ≡ marks.old.items }
+    ensures ok { OnOk result (end / 8 < vec_capacity marks.new) }
+{
+    let blocks = end as usize / BLOCK + 1;
+    if blocks > marks.len() {
+        marks.reserve(blocks - marks.len())?;
+    }
+    Ok(())
+}
+
+/// The blocks up to that of a number that have no mark have this one. There is room for them.
+fn mark(marks: &mut Vec<u32>, end: u32, id: u32)
+    requires { end / 8 < vec_capacity marks.old }
+    ensures { marks.new.items ≡ marks.old.items ++ replicate (end / 8 + 1 - length marks.old.items) id }
+{
+    let size = marks.len();
+    let more = (end as usize / BLOCK + 1).saturating_sub(size);
+    marks.resize(size + more, id).unwrap();
 }

@@ -56,6 +56,13 @@ impl Roll {
         self.firsts.as_slice()[k]
     }
 
+    /// The first numbers of all ranges.
+    pub(crate) fn firsts(&self) -> &[u32]
+        ensures { result.now ≡ self.now.firsts }
+    {
+        self.firsts.as_slice()
+    }
+
     /// Says how many ranges are of rows.
     pub(crate) fn set_live(&mut self, live: usize)
         ensures firsts { self.new.firsts ≡ self.old.firsts }

@@ -1,15 +1,18 @@
-use Rattle.std.proofs.Common.{ap, length, arith}
-use Rattle.scr_numbers.proofs.Views.{at-low, at-within}
+use Rattle.std.proofs.Common.{ℕ, List, subst, sym, arith}
+use Rattle.scr_numbers.specs.Kept.{AreMarked, AreOwned}
+use Rattle.scr_numbers.proofs.Views.{all-owned, at-within}
 use Rattle.scr_numbers.proofs.places.Places.at.Goals as goal
 
-pub returns-then-number-as_slice-clause-absent : goal.returns-then-number-as_slice-clause-absent
-returns-then-number-as_slice-clause-absent c = λ _ table k j at.
+pub returns-then-number-self-clause-absent : goal.returns-then-number-self-clause-absent
+returns-then-number-self-clause-absent c = λ _ table k j at.
     let below = at-within c.self.inside c.self.invariant c.args.self.now c.self.view_is table k j c.args.number at in
-    let long = ap length c.as_slice.ensures.value in
-    omega (arith, below, long, c.if-number-as_slice.true)
+    omega (arith, below, c.self.invariant.end, c.if-number-self.true)
 
-pub overflow_sub-result : goal.overflow_sub-result
-overflow_sub-result c =
-    let long = ap length c.as_slice.ensures.value in
-    at-low c.self.inside c.self.invariant c.args.self.now c.self.view_is c.args.number c.index.result.now c.index-range.result.now
-    (omega (arith, long, c.if-number-as_slice.false)) c.index.ensures c.index-range.ensures
+pub owner_of-requires-clause-owned : goal.owner_of-requires-clause-owned
+owner_of-requires-clause-owned c =
+    subst AreOwned (sym c.deref.ensures.value) (all-owned c.self.inside c.self.invariant c.args.self.now c.self.view_is)
+
+pub owner_of-requires-clause-marked : goal.owner_of-requires-clause-marked
+owner_of-requires-clause-marked c =
+    subst (λ (ms : List ℕ). AreMarked ms c.deref.result.now) (sym c.deref-2.ensures.value)
+    (subst (AreMarked c.self.inside.marks.items) (sym c.deref.ensures.value) c.self.invariant.marks)

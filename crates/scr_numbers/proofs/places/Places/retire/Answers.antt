@@ -7,7 +7,7 @@ use Rattle.scr_numbers.proofs.Views.{count-is, first-same, kept-live, live-made,
 use Rattle.scr_numbers.proofs.places.Places.retire.Goals as goal
 
 abbrev after : goal.After-set_live → Inside
-after c = record { rolls = c.set_live.new.rolls; ranges = c.self.inside.ranges; owner = c.self.inside.owner }
+after c = record { rolls = c.set_live.new.rolls; ranges = c.self.inside.ranges; marks = c.self.inside.marks; size = c.self.inside.size }
 
 pub invariant_of-self : goal.invariant_of-self
 invariant_of-self c =
@@ -15,7 +15,7 @@ invariant_of-self c =
     let view = ap (λ (v : Numbered). count v c.args.table) c.self.view_is in
     let view_made = ap (λ (v : Numbered). made v c.args.table) c.self.view_is in
     let most = live-made c.self.inside c.self.invariant c.args.self.now c.self.view_is c.args.table in
-    kept-live c.self.inside (after c) c.self.invariant c.args.table c.set_live.ensures.others c.set_live.ensures.firsts refl refl
+    kept-live c.self.inside (after c) c.self.invariant c.args.table c.set_live.ensures.others c.set_live.ensures.firsts refl refl refl
     (omega (arith, c.requires, c.count-live.ensures.count, c.set_live.ensures.live, is, view, view_made, most))
 
 pub returns : goal.returns
