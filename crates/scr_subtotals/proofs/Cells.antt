@@ -66,15 +66,15 @@ nothing-of bits ordered is =
     narrow-is bits ordered nothing.span false (omega (arith, is)) (omega (arith, ints, is)) (omega (arith, ints, is))
     (ap (λ (n : ℕ). n / 2 ^ 90 / 2 ^ 36 == 1) is)
 
-abbrev low_at : Kept → ℤ
+abbrev pub low_at : Kept → ℤ
 low_at (kept.Here figure) = figure.span.low
 low_at (kept.Apart place) = pos 0
 
-abbrev high_at : Kept → ℤ
+abbrev pub high_at : Kept → ℤ
 high_at (kept.Here figure) = figure.span.high
 high_at (kept.Apart place) = pos 0
 
-abbrev close_at : Kept → Bool
+abbrev pub close_at : Kept → Bool
 close_at (kept.Here figure) = figure.close
 close_at (kept.Apart place) = false
 

@@ -1,7 +1,9 @@
 pub mod Added
+pub mod Amounts
 pub mod Apart
 pub mod Cells
 pub mod KeptSpans
+pub mod Marks
 pub mod Members
 pub mod Numbered
 pub mod Parted

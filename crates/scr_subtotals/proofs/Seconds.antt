@@ -1,7 +1,8 @@
 -- What blocks come to that stand one after another.
-use Rattle.std.proofs.Common.{◌≡◌, ℕ, ◌+◌, ◌-◌, ◌*◌, ◌<◌, ◌≤◌, min, List, length, get_or, map, pos, refl, sym, ap, ◌∙◌, arith}
-use Rattle.std.specs.List.{range_with_len}
+use Rattle.std.proofs.Common.{◌≡◌, ℕ, zero, suc, ◌+◌, ◌-◌, ◌*◌, ◌<◌, ◌≤◌, ◌||◌, Bool, true, false, min, List, length, get_or, map, pos, refl, sym, ap, ◌∙◌, arith}
+use Rattle.std.specs.List.{list_any, range_with_len}
 use Rattle.std.specs.Option.{option_map_or}
+use Rattle.std.proofs.Math.Bool.{or-false}
 use Rattle.std.proofs.lemmas.List.{same_lists}
 use Rattle.std.proofs.lemmas.List.FromFn.{get_or-map-range_with_len, length-map-range_with_len}
 use Rattle.scr_blocks.specs.Blocks.{blocks_at, part}
@@ -43,6 +44,18 @@ module _ (figures : List Figure) (s : Subtotals) (level : Level) (start many : �
   block-at index number d from low is room =
       get_or-map-range_with_len (λ i. ends_at figures (number_of s level i)) start many (index - start) index (ends (get_or figures number d).span) low (omega (arith, from))
       ∙ ap (ends_at figures) (sym is) ∙ ends-there figures number d room
+
+or-assoc : (x y z : Bool) → (x || (y || z)) ≡ ((x || y) || z)
+or-assoc true y z = refl
+or-assoc false y z = refl
+
+-- one more number is tested
+pub any-next : (f : ℕ → Bool) (start many next : ℕ) → start + many ≡ next
+    → list_any f (range_with_len start (suc many)) ≡ (list_any f (range_with_len start many) || f next)
+any-next f start zero next is = or-false (f start) ∙ ap f (omega (arith, is))
+any-next f start (suc many) next is =
+    ap (λ b. f start || b) (any-next f (start + 1) many next (omega (arith, is)))
+    ∙ or-assoc (f start) (list_any f (range_with_len (start + 1) many)) (f next)
 
 -- the blocks of the first level stay while those of the second are written
 module _ (s : Subtotals) (members : ℕ) (numbered : AreNumbered s members) (upto : ℕ) (worth : ℕ → Ends) (before now : List Figure)

@@ -4,5 +4,6 @@ pub mod KeptCells
 pub mod KeptEnds
 pub mod KeptFigures
 pub mod KeptTables
+pub mod Marks
 pub mod Tables
 pub mod Written

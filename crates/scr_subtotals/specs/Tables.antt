@@ -1,7 +1,22 @@
--- The figure that comes to nothing (this project's own).
-use Rattle.std.specs.Prelude.{pos, false}
+-- Figures that a table tells by a glance (this project's own).
+use Rattle.std.specs.Prelude.{◌≡◌, ℕ, ◌+◌, ◌≤ℤ◌, pos, false, List, Some, slice_get}
 use Rattle.std.specs.Int.Signed.{le_z_yes}
 use Rattle.scr_subtotals.specs.declared.figure.Figure.{Figure}
 
+-- the figure that comes to nothing
 abbrev pub nothing : Figure
 nothing = record { span = record { low = pos 0; high = pos 0; ordered = le_z_yes tt }; close = false }
+
+-- The figure is that of one amount, at most so many, and rests on no choice that is open.
+pub record IsOneAmount (most : ℕ) (figure : Figure) : Type 0 where
+  pub one : figure.span.low ≡ figure.span.high
+  pub not_negative : pos 0 ≤ℤ figure.span.low
+  pub few : figure.span.low ≤ℤ pos most
+  pub settled : figure.close ≡ false
+
+-- such an amount stands at the number, and nothing at the next
+pub record IsAmountBeforeNothing (most : ℕ) (figures : List Figure) (number : ℕ) : Type 0 where
+  pub figure : Figure
+  pub here : slice_get figures number ≡ Some figure
+  pub amount : IsOneAmount most figure
+  pub next : slice_get figures (number + 1) ≡ Some nothing

@@ -54,6 +54,10 @@ part_ends figures family firsts i = sum_ends (members_ends figures family (part 
 abbrev pub blocks_ends : List Figure → Subtotals → Level → ℕ → ℕ → List Ends
 blocks_ends figures s level from many = map (λ i. ends_at figures (number_of s level i)) (range_with_len from many)
 
+-- one of these blocks rests on an open choice
+abbrev pub any_block_open : List Figure → Subtotals → Level → ℕ → ℕ → Bool
+any_block_open figures s level from many = list_any (λ i. is_open_at figures (number_of s level i)) (range_with_len from many)
+
 -- what the blocks of the first level come to that one of the second adds up
 abbrev pub second_ends : List Figure → Subtotals → ℕ → ℕ → Ends
 second_ends figures s members i = sum_ends (part i (blocks_ends figures s levels.First 0 (blocks_at members levels.First)))

@@ -1,8 +1,9 @@
 //! What stands at a number of a table of figures.
 ghost use Rattle.std.specs.Prelude.{◌≡◌, ◌+◌, ◌<◌, ◌^◌, ◌≤ℤ◌, ⊤, true, false, IfSome, IsNone};
 ghost use Rattle.scr_subtotals.specs.Cells.{IsNarrow, high_in, low_in};
-ghost use Rattle.scr_subtotals.specs.Tables.{nothing};
+ghost use Rattle.scr_subtotals.specs.Tables.{IsOneAmount, nothing};
 ghost use Rattle.scr_subtotals.specs.declared.cell.Kept.TheVariants as kept;
+ghost use Rattle.scr_subtotals.specs.declared.figure.Figure.{Figure as TheFigure};
 
 use crate::Figure;
 use scr_num::Span;
@@ -17,6 +18,9 @@ const HALF: i128 = 1 << 89;
 
 /// What the width of a narrow figure counts up to.
 const WIDTHS: u128 = 1 << 36;
+
+/// What a half of the bits counts up to.
+const WORDS: u128 = 1 << 64;
 
 /// From this number on the bits are a place among the wide figures.
 const APART: u128 = 1 << 127;
@@ -89,6 +93,19 @@ impl Cell {
         self.bits == HALF as u128
     }
 
+    /// It is the figure of one amount, at most so many, and the next one is that which comes to nothing. Neither stands apart.
+    pub(crate) fn is_amount_before_nothing(&self, next: &Cell, most: u64) -> bool
+        ensures yes { result ≡ true
+            → ((figure : TheFigure) × (self.now ≡ kept.Here figure) × IsOneAmount most figure) × (next.now ≡ kept.Here nothing) }
+        ensures not { result ≡ false → (figure : TheFigure) → self.now ≡ kept.Here figure → IsOneAmount most figure
+            → next.now ≡ kept.Here nothing → ⊥ }
+    {
+        // The bits of such an amount have the upper half of those of nothing.
+        self.bits / WORDS == (HALF as u128) / WORDS
+            && next.is_nothing()
+            && (self.bits % WORDS) as u64 <= most
+    }
+
     /// The place of a wide one.
     pub(crate) fn apart(place: usize) -> Cell
         ensures { result ≡ kept.Apart place }
@@ -110,7 +127,50 @@ impl Cell {
         let high = low + (rest % WIDTHS) as i128;
         Kept::Here(Figure {
             span: Span { low, high },
-            close: rest / WIDTHS == 1,
+            close: rest / WIDTHS % 2 == 1,
         })
+    }
+}
+
+/// A narrow figure as it stands in a table, in 16 bytes: that it still stands there is told without reading it.
+#[derive(Clone, Copy)]
+pub struct Mark {
+    bits: u128,
+    ghost ordered: { low_in bits ≤ℤ high_in bits },
+    ghost few: { bits < 2 ^ 127 },
+}
+
+impl Mark {
+    ghost use Rattle.std.specs.Prelude.{◌≡◌, true, false, IfSome, IsNone};
+    ghost use Rattle.scr_subtotals.specs.Cells.{IsNarrow};
+    ghost use Rattle.scr_subtotals.specs.Marks.{figure_of};
+    ghost use Rattle.scr_subtotals.specs.declared.cell.Kept.TheVariants as kept;
+
+    /// The mark of a narrow figure. A wide one has none.
+    pub fn new(figure: &Figure) -> Option<Mark>
+        ensures there { IfSome result (λ mark. figure_of mark ≡ figure.now) }
+        ensures absent { IsNone result → IsNarrow figure.now → ⊥ }
+    {
+        let cell = Cell::here(figure)?;
+        Some(Mark { bits: cell.bits })
+    }
+
+    /// The cell is the figure, which does not stand apart.
+    pub(crate) fn is_of(&self, cell: &Cell) -> bool
+        ensures yes { result ≡ true → cell.now ≡ kept.Here (figure_of self.now) }
+        ensures not { result ≡ false → cell.now ≡ kept.Here (figure_of self.now) → ⊥ }
+    {
+        cell.bits == self.bits
+    }
+
+    /// The figure is that of the mark.
+    pub(crate) fn is_same(&self, figure: &Figure) -> bool
+        ensures yes { result ≡ true → figure.now ≡ figure_of self.now }
+        ensures not { result ≡ false → figure.now ≡ figure_of self.now → ⊥ }
+    {
+        match Cell::here(figure) {
+            Some(cell) => self.is_of(&cell),
+            None => false,
+        }
     }
 }

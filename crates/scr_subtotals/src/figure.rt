@@ -1,6 +1,6 @@
 //! Figures by their numbers.
-ghost use Rattle.std.specs.Prelude.{◌≡◌, pos, true, false};
-ghost use Rattle.scr_subtotals.specs.Tables.{nothing};
+ghost use Rattle.std.specs.Prelude.{◌≡◌, ◌≤ℤ◌, pos, true, false};
+ghost use Rattle.scr_subtotals.specs.Tables.{IsOneAmount, nothing};
 
 use scr_num::Span;
 
@@ -17,6 +17,30 @@ pub fn is_nothing(figure: &Figure) -> bool
     ensures not { result ≡ false → figure.now ≡ nothing → ⊥ }
 {
     !figure.close && is_nil(figure.span)
+}
+
+/// The figure is that of one amount, at most so many, and rests on no choice that is open.
+pub(crate) fn is_amount(figure: &Figure, most: u64) -> bool
+    ensures yes { result ≡ true → IsOneAmount most figure.now }
+    ensures not { result ≡ false → IsOneAmount most figure.now → ⊥ }
+{
+    !figure.close && is_one(figure.span) && is_within(figure.span.low, most)
+}
+
+/// Both ends are the same.
+fn is_one(span: Span) -> bool
+    ensures yes { result ≡ true → span.low ≡ span.high }
+    ensures not { result ≡ false → span.low ≡ span.high → ⊥ }
+{
+    span.low == span.high
+}
+
+/// From 0 to so many.
+fn is_within(number: i128, most: u64) -> bool
+    ensures yes { result ≡ true → (pos 0 ≤ℤ number) × (number ≤ℤ pos most) }
+    ensures not { result ≡ false → pos 0 ≤ℤ number → number ≤ℤ pos most → ⊥ }
+{
+    number >= 0 && number <= i128::from(most)
 }
 
 /// Both ends are 0.

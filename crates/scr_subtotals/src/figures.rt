@@ -1,10 +1,11 @@
 //! A table of figures by number.
-ghost use Rattle.std.specs.Prelude.{◌≡◌, ◌+◌, ◌<◌, ◌++◌, ◌∷◌, [], true, false, Some, IfOk, OnErr, OnOk, length, replicate, slice_get, slice_set};
+ghost use Rattle.std.specs.Prelude.{◌≡◌, ◌+◌, ◌<◌, ◌^◌, ◌++◌, ◌∷◌, [], true, false, Some, IfOk, OnErr, OnOk, length, replicate, slice_get, slice_set};
 ghost use Rattle.scr_subtotals.specs.declared.figure.Figure.{Figure as TheFigure};
-ghost use Rattle.scr_subtotals.specs.Tables.{nothing};
+ghost use Rattle.scr_subtotals.specs.Marks.{figure_of};
+ghost use Rattle.scr_subtotals.specs.Tables.{IsAmountBeforeNothing, nothing};
 
-use crate::cell::{Cell, Kept};
-use crate::figure::{Figure, is_nothing};
+use crate::cell::{Cell, Kept, Mark};
+use crate::figure::{Figure, is_amount, is_nothing};
 use crate::kept::KeptFigure;
 use scr_num::Span;
 use std::alloc::{AllocError as NoMemory, Global};
@@ -90,6 +91,47 @@ impl Figures {
         match cell.kept() {
             Kept::Here(_) => false,
             Kept::Apart(place) => is_nothing(&self.wide[place].figure()),
+        }
+    }
+
+    /// The figure at a number is that of one amount, at most so many, and the next one comes to nothing. Neither rests on a choice that is
+    /// open.
+    pub fn is_amount_before_nothing(&self, number: usize, most: u64) -> bool
+        requires within { number + 1 < length self.now }
+        requires low { number < 2 ^ 32 }
+        ensures yes { result ≡ true → IsAmountBeforeNothing most self.now number }
+        ensures not { result ≡ false → IsAmountBeforeNothing most self.now number → ⊥ }
+    {
+        // Of most cells this is told by their bits.
+        let next = &self.cells[number + 1];
+        self.cells[number].is_amount_before_nothing(next, most) || self.is_read_so(number, most)
+    }
+
+    /// The same from the figures as they are read.
+    #[inline(never)]
+    fn is_read_so(&self, number: usize, most: u64) -> bool
+        requires within { number + 1 < length self.now }
+        requires low { number < 2 ^ 32 }
+        ensures yes { result ≡ true → IsAmountBeforeNothing most self.now number }
+        ensures not { result ≡ false → IsAmountBeforeNothing most self.now number → ⊥ }
+    {
+        is_amount(&self.figure(number), most) && self.is_nothing(number + 1)
+    }
+
+    /// The figure at a number is that of the mark.
+    pub fn is_marked(&self, number: usize, mark: &Mark) -> bool
+        requires { number < length self.now }
+        ensures yes { result ≡ true → slice_get self.now number ≡ Some (figure_of mark.now) }
+        ensures not { result ≡ false → slice_get self.now number ≡ Some (figure_of mark.now) → ⊥ }
+    {
+        // Of most cells this is told by their bits.
+        let cell = &self.cells[number];
+        if mark.is_of(cell) {
+            return true;
+        }
+        match cell.kept() {
+            Kept::Here(_) => false,
+            Kept::Apart(place) => mark.is_same(&self.wide[place].figure()),
         }
     }
 

@@ -11,6 +11,7 @@ mod kept;
 mod writing;
 
 pub use adding::{add_figures, add_members};
+pub use cell::Mark;
 pub use figure::{Figure, is_nothing};
 pub use figures::Figures;
 pub use writing::Subtotals;

@@ -8,7 +8,7 @@ ghost use Rattle.scr_num.specs.Rounding.{ends};
 ghost use Rattle.scr_num.specs.Sizes.{AreTogether};
 ghost use Rattle.scr_num.specs.Sums.{sum_ends};
 ghost use Rattle.scr_subtotals.specs.Figures.{ends_at, member_number, members_ends};
-ghost use Rattle.scr_subtotals.specs.Written.{AreNumbered, AreOffBlocks, IsPut, block_figure, blocks_ends, is_open_at, number_of, part_ends, second_ends};
+ghost use Rattle.scr_subtotals.specs.Written.{AreNumbered, AreOffBlocks, IsPut, any_block_open, block_figure, blocks_ends, is_open_at, number_of, part_ends, second_ends};
 
 use crate::{Figure, Figures, add_members};
 use scr_blocks::{Level, blocks_at, part, places};
@@ -73,27 +73,32 @@ impl<'a> Subtotals<'a> {
         }
     }
 
-    /// What blocks of a level come to together, from one up to another.
-    fn add_blocks(
+    /// What blocks of a level come to together, from one up to another, as one figure, which rests on an open choice where one of theirs
+    /// does.
+    pub fn add_blocks(
         &self,
         figures: &Figures,
         count: usize,
         level: Level,
         start: usize,
         end: usize,
-    ) -> Span
+    ) -> Figure
         requires numbered { AreNumbered self.now count }
         requires there { end ≤ blocks_at count level }
-        requires room { self.now.places.now.size ≤ length figures.now }
+        requires within { (i : ℕ) → start ≤ i → i < end → number_of self.now level i < length figures.now }
         requires together { AreTogether (2 ^ 124) (blocks_ends figures.now self.now level start (end - start)) }
-        ensures { ends result ≡ sum_ends (blocks_ends figures.now self.now level start (end - start)) }
+        ensures span { ends result.span ≡ sum_ends (blocks_ends figures.now self.now level start (end - start)) }
+        ensures close { result.close ≡ any_block_open figures.now self.now level start (end - start) }
     {
-        let mut sum = exact(0);
+        let mut span = exact(0);
+        let mut close = false;
         for index in start..end {
             let number = self.number(count, level, index);
-            sum = add(sum, figures.span(number as usize));
+            let figure = figures.figure(number as usize);
+            span = add(span, figure.span);
+            close |= figure.close;
         }
-        sum
+        Figure { span, close }
     }
 
     /// Writes the blocks of the second level over a list of so many members, where those of the first are there.
@@ -106,8 +111,8 @@ impl<'a> Subtotals<'a> {
         let firsts = blocks_at(count, Level::First);
         for index in 0..blocks_at(count, Level::Second) {
             let among = places(firsts, Level::First, index);
-            let span = self.add_blocks(figures, count, Level::First, among.start, among.end);
-            self.put(figures, count, Level::Second, index, span);
+            let sum = self.add_blocks(figures, count, Level::First, among.start, among.end);
+            self.put(figures, count, Level::Second, index, sum.span);
         }
     }
 
@@ -147,8 +152,10 @@ impl<'a> Subtotals<'a> {
             add_members(figures, firsts, family)
         } else if seconds == 0 {
             self.add_blocks(figures, count, Level::First, 0, blocks)
+                .span
         } else {
             self.add_blocks(figures, count, Level::Second, 0, seconds)
+                .span
         }
     }
 }

@@ -7,13 +7,14 @@ use Rattle.scr_num.specs.Sums.{sum_ends}
 use Rattle.scr_subtotals.specs.Figures.{ends_at}
 use Rattle.scr_subtotals.specs.Written.{IsPut, blocks_ends, number_of, second_ends}
 use Rattle.scr_subtotals.specs.declared.figure.Figure.{Figure}
+use Rattle.scr_subtotals.proofs.Numbered.{number-within}
 use Rattle.scr_subtotals.proofs.Parted.{together-part}
 use Rattle.scr_subtotals.proofs.Putting.{one-put}
 use Rattle.scr_subtotals.proofs.Seconds.{blocks-kept, part-of_range}
 use Rattle.scr_subtotals.proofs.writing.Subtotals.put_seconds.Goals as goal
 
-pub add_blocks-span-requires-clause-together : goal.add_blocks-span-requires-clause-together
-add_blocks-span-requires-clause-together c =
+pub add_blocks-sum-requires-clause-together : goal.add_blocks-sum-requires-clause-together
+add_blocks-sum-requires-clause-together c =
     let s = c.args.self.now in
     let before = c.args.figures.now in
     let now = c.loop-index.figures in
@@ -50,5 +51,14 @@ loop-index-preserved c =
     start (end - start) (omega (arith, from, to))
     ∙ part-of_range (λ k. ends_at before (number_of s levels.First k)) firsts i start end from to in
     subst (λ (figures : List Figure). IsPut s levels.Second (i + 1) (second_ends before s c.args.count) before figures) (sym c.put.ensures)
-    (one-put s c.args.count c.requires.numbered levels.Second (second_ends before s c.args.count) before i now c.add_blocks-span.result
-    (omega (arith, low, many)) c.requires.room (c.add_blocks-span.ensures ∙ ap sum_ends same) c.loop-index.invariant)
+    (one-put s c.args.count c.requires.numbered levels.Second (second_ends before s c.args.count) before i now c.add_blocks-sum.result.span
+    (omega (arith, low, many)) c.requires.room (c.add_blocks-sum.ensures.span ∙ ap sum_ends same) c.loop-index.invariant)
+
+pub add_blocks-sum-requires-clause-within : goal.add_blocks-sum-requires-clause-within
+add_blocks-sum-requires-clause-within c = λ k from low.
+    let s = c.args.self.now in
+    let i = c.loop-index.index in
+    let to = c.places-among.ensures.end in
+    let firsts = c.blocks_at-firsts.ensures in
+    let there = number-within s c.args.count c.requires.numbered levels.First k (omega (arith, low, to, firsts)) in
+    omega (arith, there, c.requires.room, c.loop-index.invariant.kept.long)

@@ -5,6 +5,7 @@ use Rattle.scr_blocks.proofs.BlockTests.{over-many}
 use Rattle.scr_num.specs.Sizes.{AreTogether}
 use Rattle.scr_num.specs.Sums.{sum_ends}
 use Rattle.scr_subtotals.specs.Written.{blocks_ends}
+use Rattle.scr_subtotals.proofs.Numbered.{number-within}
 use Rattle.scr_subtotals.proofs.Summed.{firsts-sum, firsts-together, over-some, seconds-sum, seconds-together}
 use Rattle.scr_subtotals.proofs.writing.Subtotals.sum.Goals as goal
 
@@ -41,7 +42,7 @@ returns-then-seconds-eq0 c =
     let blocks = c.blocks_at-blocks.ensures in
     let many : 32 < length firsts = over-some (length firsts) (omega (arith, some, blocks)) in
     let is : c.blocks_at-blocks.result - 0 ≡ parts (length firsts) = omega (arith, blocks, over-many (length firsts) many) in
-    c.add_blocks.ensures ∙ ap (λ (k : ℕ). sum_ends (blocks_ends figures s levels.First 0 k)) is
+    c.add_blocks.ensures.span ∙ ap (λ (k : ℕ). sum_ends (blocks_ends figures s levels.First 0 k)) is
     ∙ firsts-sum figures s c.args.family firsts c.requires.sums many
 
 pub returns-else-seconds-eq0 : goal.returns-else-seconds-eq0
@@ -53,5 +54,15 @@ returns-else-seconds-eq0 c =
     let blocks = c.blocks_at-seconds.ensures in
     let many : 32 < parts (length firsts) = over-some (parts (length firsts)) (omega (arith, some, blocks)) in
     let is : c.blocks_at-seconds.result - 0 ≡ parts (parts (length firsts)) = omega (arith, blocks, over-many (parts (length firsts)) many) in
-    c.add_blocks-else-seconds-eq0.ensures ∙ ap (λ (k : ℕ). sum_ends (blocks_ends figures s levels.Second 0 k)) is
+    c.add_blocks-else-seconds-eq0.ensures.span ∙ ap (λ (k : ℕ). sum_ends (blocks_ends figures s levels.Second 0 k)) is
     ∙ seconds-sum figures s c.args.family firsts c.requires.sums many
+
+pub add_blocks-requires-clause-within : goal.add_blocks-requires-clause-within
+add_blocks-requires-clause-within c = λ k from low.
+    let there = number-within c.args.self.now (length c.args.firsts.now) c.requires.numbered levels.First k (omega (arith, low, c.blocks_at-blocks.ensures)) in
+    omega (arith, there, c.requires.room)
+
+pub add_blocks-requires-else-seconds-eq0-clause-within : goal.add_blocks-requires-else-seconds-eq0-clause-within
+add_blocks-requires-else-seconds-eq0-clause-within c = λ k from low.
+    let there = number-within c.args.self.now (length c.args.firsts.now) c.requires.numbered levels.Second k (omega (arith, low, c.blocks_at-seconds.ensures)) in
+    omega (arith, there, c.requires.room)

@@ -1,0 +1,20 @@
+use Rattle.std.proofs.Common.{◌≡◌, Some, sym, subst, ◌∙◌}
+use Rattle.scr_subtotals.specs.Tables.{IsOneAmount}
+use Rattle.scr_subtotals.proofs.figures.Figures.is_read_so.Goals as goal
+
+pub returns-then-is_amount-clause-yes : goal.returns-then-is_amount-clause-yes
+returns-then-is_amount-clause-yes c = λ yes. record {
+  figure = c.figure.result;
+  here = c.figure.ensures;
+  amount = c.is_amount.ensures.yes c.if-is_amount.true;
+  next = c.is_nothing.ensures.yes yes;
+}
+
+pub returns-then-is_amount-clause-not : goal.returns-then-is_amount-clause-not
+returns-then-is_amount-clause-not c = λ no is. c.is_nothing.ensures.not no is.next
+
+pub returns-else-is_amount-clause-not : goal.returns-else-is_amount-clause-not
+returns-else-is_amount-clause-not c = λ no is.
+    let both : Some is.figure ≡ Some c.figure.result = sym is.here ∙ c.figure.ensures in
+    let same : is.figure ≡ c.figure.result = cc in
+    c.is_amount.ensures.not c.if-is_amount.false (subst (IsOneAmount c.args.most) same is.amount)
