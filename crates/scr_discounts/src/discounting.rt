@@ -17,7 +17,7 @@ pub fn curves_of(alloc: Global, sheet: &BalanceSheet) -> Result<Curves, NoMemory
     requires { Valid sheet.now }
     ensures { IfOk result (λ curves. rows_of curves ≡ all_discounts sheet.now) }
 {
-    let mut curves = Curves::new(alloc)?;
+    let mut curves = Curves::with_capacity(alloc, sheet.curves.len())?;
     for k in 0..sheet.curves.len() {
         curves.push(alloc, row(sheet.curves.at(k)))?;
     }
@@ -35,7 +35,7 @@ pub(crate) fn curves_after(
     requires kept { AreKeptBut currency.now sheet.now.curves (rows_of kept.now) }
     ensures { IfOk result (λ curves. rows_of curves ≡ all_discounts sheet.now) }
 {
-    let mut curves = Curves::new(alloc)?;
+    let mut curves = Curves::with_capacity(alloc, sheet.curves.len())?;
     for k in 0..sheet.curves.len() {
         curves.push(alloc, row_after(kept, currency, k, sheet.curves.at(k)))?;
     }

@@ -66,7 +66,7 @@ fn all_falls(
     requires rows { AreDiscountsOf sheet.now.curves (rows_of curves.now) }
     ensures { IfOk result (λ falls. falls.items ≡ falls_of sheet.now.curves (rows_of curves.now)) }
 {
-    let mut falls = Vec::new(alloc);
+    let mut falls = Vec::with_capacity(alloc, sheet.curves.len())?;
     for k in 0..sheet.curves.len() {
         falls.push(currency_falls(sheet.curves.at(k).rates.as_slice(), curves.row(k)))?;
     }

@@ -31,6 +31,14 @@ impl Curves {
         })
     }
 
+    /// Of no currency, with room for so many.
+    pub(crate) fn with_capacity(alloc: Global, currencies: usize) -> Result<Curves, NoMemory>
+        ensures { IfOk result (λ curves. curves ≡ []) }
+    {
+        let rows = Vec::with_capacity(alloc, currencies)?;
+        Ok(Curves { rows })
+    }
+
     /// Adds the discounts of one more currency at the end. `alloc` is where the list's memory comes from already.
     pub fn push(&mut self, alloc: Global, row: [Discounts; 3]) -> Result<(), NoMemory>
         ensures ok { OnOk result (self.new ≡ self.old ++ row ∷ []) }

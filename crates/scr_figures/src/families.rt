@@ -10,6 +10,7 @@ use scr_numbers::Table;
 use scr_sheet::Projection;
 
 /// The table of the row that the figure is of.
+#[inline(always)]
 pub fn table(node: &Node) -> Table
     ensures { result ≡ table_of node.now }
 {
@@ -24,6 +25,7 @@ pub fn table(node: &Node) -> Table
 }
 
 /// Which of the row's figures it is, from 0; the stride of the table for a figure that no balance sheet can have.
+#[inline(always)]
 pub fn family(node: &Node) -> u32
     ensures { result ≡ family_of node.now }
 {

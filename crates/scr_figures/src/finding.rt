@@ -14,6 +14,7 @@ use scr_numbers::{Place, Places, Table};
 use scr_sheet::{BalanceSheet, Row};
 
 /// The number of a figure, if its row has one. A look-up of the row by its name, and arithmetic.
+#[inline(always)]
 pub fn find(places: &Places, sheet: &BalanceSheet, node: &Node) -> Option<u32>
     requires { IsNumbered sheet.now places.now }
     ensures there { IfSome result (λ number. StandsAt sheet.now places.now node.now number) }

@@ -48,8 +48,8 @@ fn fund_lists(alloc: Global, sheet: &BalanceSheet) -> Result<FundLists, NoMemory
     requires { Valid sheet.now }
     ensures { IfOk result (λ lists. AreFundLists sheet.now sheet.now.funds lists) }
 {
-    let mut securities = Entries::new(alloc, sheet.securities.len())?;
-    let mut funds = Entries::new(alloc, sheet.funds.len())?;
+    let mut securities = Entries::new(alloc, sheet.securities.len(), 0)?;
+    let mut funds = Entries::new(alloc, sheet.funds.len(), 0)?;
     for k in 0..sheet.funds.len() {
         enter_fund(&mut securities, &mut funds, sheet, k)?;
     }
@@ -111,7 +111,7 @@ fn enter_holder(
 fn group_lists(alloc: Global, sheet: &BalanceSheet) -> Result<Lists, NoMemory>
     ensures { IfOk result (λ lists. lists ≡ places_by is_of_default_class default_classes sheet.now.groups) }
 {
-    let mut entries = Entries::new(alloc, 6)?;
+    let mut entries = Entries::new(alloc, 6, sheet.groups.len())?;
     for k in 0..sheet.groups.len() {
         let class = DefaultClass::of_step(sheet.groups.at(k).step);
         entries.enter(Some(class.first_step() as usize), k)?;

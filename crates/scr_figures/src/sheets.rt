@@ -8,17 +8,46 @@ use scr_numbers::{Places, Table};
 use scr_sheet::BalanceSheet;
 use std::alloc::{AllocError as NoMemory, Global};
 
+/// For so many parts of lists there is room in any book, beside the whole sheet.
+const PARTS: usize = 256;
+
 /// Numbers for all rows, table by table in the order of the rows; those of securities and liabilities, which are most, come last.
 pub fn places_of(alloc: Global, sheet: &BalanceSheet) -> Result<Places, NoMemory>
     ensures { IfOk result (IsNumbered sheet.now) }
 {
-    let mut places = Places::new(alloc)?;
+    let (rows, numbers) = expected(sheet);
+    let mut places = Places::with_room(alloc, rows, numbers)?;
     fill(&mut places, Table::Fund, sheet.funds.len())?;
     fill(&mut places, Table::Currency, sheet.curves.len())?;
     fill(&mut places, Table::Group, sheet.groups.len())?;
     fill(&mut places, Table::Security, sheet.securities.len())?;
     fill(&mut places, Table::Liability, sheet.liabilities.len())?;
     Ok(places)
+}
+
+/// For how many rows and numbers there is room at first: for those of all tables, and for parts of lists an eighth as many rows and some
+/// more.
+fn expected(sheet: &BalanceSheet) -> (usize, usize) {
+    let rows = sheet
+        .funds
+        .len()
+        .saturating_add(sheet.curves.len())
+        .saturating_add(sheet.groups.len())
+        .saturating_add(sheet.securities.len())
+        .saturating_add(sheet.liabilities.len());
+    let parts = rows / 8 + PARTS;
+    let numbers = numbers_of(Table::Fund, sheet.funds.len())
+        .saturating_add(numbers_of(Table::Currency, sheet.curves.len()))
+        .saturating_add(numbers_of(Table::Group, sheet.groups.len()))
+        .saturating_add(numbers_of(Table::Security, sheet.securities.len()))
+        .saturating_add(numbers_of(Table::Liability, sheet.liabilities.len()))
+        .saturating_add(numbers_of(Table::Part, parts));
+    (rows.saturating_add(parts), numbers)
+}
+
+/// How many numbers so many rows of a table have.
+fn numbers_of(table: Table, rows: usize) -> usize {
+    rows.saturating_mul(table.stride() as usize)
 }
 
 /// So many rows come.

@@ -190,6 +190,7 @@ fn whole_in(wholes: &[Whole], k: u32) -> Whole
 }
 
 /// The family of a figure of the whole sheet.
+#[inline(always)]
 pub(crate) fn whole_family(what: Whole) -> u32
     ensures { result ≡ whole_family what }
 {

@@ -77,8 +77,6 @@ impl Tables {
     {
         let places = places as usize;
         self.order.grow(places, 2)?;
-        self.by_source.grow(places, size)?;
-        self.by_dependant.grow(places, size)?;
         if places > self.pairs.len() {
             self.pairs.resize(
                 places,
@@ -88,7 +86,9 @@ impl Tables {
                 },
             )?;
         }
-        Ok(())
+        // Few numbers are sources: their lists come last, so that room which is not written keeps no page from what is.
+        self.by_dependant.grow(places, size)?;
+        self.by_source.grow(places, size)
     }
 }
 

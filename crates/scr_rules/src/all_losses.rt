@@ -72,10 +72,7 @@ pub fn group_loss(book: &Book, losses: &GroupLosses, place: usize) -> Span
 fn no_losses(alloc: Global, sheet: &BalanceSheet) -> Result<Vec<u64>, NoMemory>
     ensures { IfOk result (λ sums. sums.items ≡ first_losses sheet.now 0 0) }
 {
-    let mut sums = Vec::new(alloc);
-    for _ in 0..sheet.groups.len() {
-        sums.push(0)?;
-    }
+    let sums = vec![in alloc; 0; sheet.groups.len()]?;
     Ok(sums)
 }
 

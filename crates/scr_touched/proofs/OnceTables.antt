@@ -22,7 +22,7 @@ use Rattle.scr_sheet.specs.declared.{sheet.BalanceSheet.BalanceSheet, rows.Curve
 use Rattle.scr_sheet.specs.declared.rows.Class.TheVariants as classes
 use Rattle.scr_sheet.proofs.Holds.{distinct-securities}
 use Rattle.scr_sheet.proofs.Preserved.{once}
-use Rattle.scr_nodes.specs.Rows.{holds, is_component}
+use Rattle.scr_nodes.specs.Rows.{is_component}
 use Rattle.scr_nodes.specs.declared.node.Node.{Node}
 use Rattle.scr_nodes.specs.declared.node.Direction.TheVariants.{Up, Down}
 use Rattle.scr_nodes.specs.declared.node.Measure.TheVariants.{Gross, Net}

@@ -5,7 +5,6 @@ use Rattle.std.specs.Option.{option_map_or}
 use Rattle.scr_names.specs.Names.{same_name}
 use Rattle.scr_profile.specs.DefaultClasses.{class_of_step}
 use Rattle.scr_profile.specs.declared.default_class.DefaultClass.{DefaultClass}
-use Rattle.scr_profile.specs.declared.group_kind.GroupKind.TheVariants as group_kinds
 use Rattle.scr_sheet.specs.BalanceSheet.{position_of}
 use Rattle.scr_sheet.specs.declared.rows.Group.{Group}
 use Rattle.scr_sheet.specs.declared.sheet.BalanceSheet.{BalanceSheet}

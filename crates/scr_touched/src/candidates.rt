@@ -108,7 +108,7 @@ fn chosen(
     requires { AreSharesOf sheet.now change.now shares.now }
     ensures { IfOk result (λ list. list.items ≡ filter (touches sheet.now change.now) all.now) }
 {
-    let mut list = Vec::new(alloc);
+    let mut list = Vec::with_capacity(alloc, all.len())?;
     for node in all {
         if touches(sheet, change, shares, node) {
             list.push(*node)?;

@@ -153,11 +153,14 @@ pub(crate) fn security_nodes(
     Ok(list)
 }
 
+/// As many figures as the currency, the class and the group of a security have.
+const ROW: usize = 6;
+
 /// The figures of the currency, the class and the group of a security.
 pub(crate) fn row_nodes(alloc: Global, position: Option<&Position>) -> Result<Vec<Node>, NoMemory>
     ensures { IfOk result (λ list. list.items ≡ row_nodes (option_copied position.entry)) }
 {
-    let mut list = Vec::new(alloc);
+    let mut list = Vec::with_capacity(alloc, ROW)?;
     push_row(&mut list, position)?;
     Ok(list)
 }
