@@ -1,5 +1,5 @@
 //! How an amount is printed.
-ghost use Rattle.std.specs.Prelude.{◌≡◌, ◌<◌, ◌++◌, OnOk, codes, decimal};
+ghost use Rattle.std.specs.Prelude.{◌≡◌, ◌/◌, ◌%◌, ◌<◌, ◌++◌, OnOk, codes, decimal};
 ghost use Rattle.scr_amounts.specs.Amounts.{amount, euros};
 
 use itoa::Buffer;
@@ -22,7 +22,17 @@ fn push_euros(out: &mut Vec<u8>, cents: u128) -> Result<(), NoMemory>
 {
     let mut digits = Buffer::new();
     push(out, digits.format(cents / 100))?;
-    push_decimals(out, (cents / 10 % 10) as u8, (cents % 10) as u8)
+    let (tens, units) = decimals_of(cents);
+    push_decimals(out, tens, units)
+}
+
+/// The last two digits of so many cents: both from one division of the wide number.
+fn decimals_of(cents: u128) -> (u8, u8)
+    ensures tens { result.0 ≡ cents / 10 % 10 }
+    ensures units { result.1 ≡ cents % 10 }
+{
+    let part = (cents % 100) as u8;
+    (part / 10, part % 10)
 }
 
 /// Appends a point and two digits.
