@@ -40,17 +40,17 @@ length-shifted : (family : ℕ) (list : List ℕ) → length (map (λ n. n + fam
 length-shifted family [] = refl
 length-shifted family (x ∷ list) = ap suc (length-shifted family list)
 
-each-shifted : (family many : ℕ) (list : List ℕ) → All (λ n. n < many) (map (λ n. n + family) list) → All (λ n. n + family < many) list
+pub each-shifted : (family many : ℕ) (list : List ℕ) → All (λ n. n < many) (map (λ n. n + family) list) → All (λ n. n + family < many) list
 each-shifted family many list all = λ i d low.
     subst (λ n. n < many) (map-at family list i d low) (all i (d + family) (subst (λ n. i < n) (sym (length-shifted family list)) low))
 
 -- what rests on an open choice of the figures of members, by their numbers
-open-shifted : (figures : List Figure) (family : ℕ) (list : List ℕ) → any_open figures family list ≡ any_close figures (map (λ n. n + family) list)
+pub open-shifted : (figures : List Figure) (family : ℕ) (list : List ℕ) → any_open figures family list ≡ any_close figures (map (λ n. n + family) list)
 open-shifted figures family [] = refl
 open-shifted figures family (x ∷ list) = ap (λ b. close_at figures (x + family) || b) (open-shifted figures family list)
 
 -- the ends of figures that are those of points
-ends-one : {Node : Type 0} (reckoning : Reckoning Node) (figures : List Figure) (number : ℕ) (node : Node) → HasFigure reckoning figures number node
+pub ends-one : {Node : Type 0} (reckoning : Reckoning Node) (figures : List Figure) (number : ℕ) (node : Node) → HasFigure reckoning figures number node
     → ends_at figures number ≡ (reckoning.worth node).worked
 ends-one {Node} reckoning figures number node has = by (slice_get figures number) has
   where
@@ -59,7 +59,7 @@ ends-one {Node} reckoning figures number node has = by (slice_get figures number
     by None has = let clash : None ≡ Some (reckoning.worth node) = has in absurd (cc)
     by (Some figure) has = let same : worth_of figure ≡ reckoning.worth node = cc in ap (λ (w : Worth). w.worked) same
 
-ends-have : {Node : Type 0} (reckoning : Reckoning Node) (figures : List Figure) (family : ℕ) (own : List ℕ) (nodes : List Node)
+pub ends-have : {Node : Type 0} (reckoning : Reckoning Node) (figures : List Figure) (family : ℕ) (own : List ℕ) (nodes : List Node)
     → HaveFigures reckoning figures (map (λ n. n + family) own) nodes
     → members_ends figures family own ≡ map (λ node. (reckoning.worth node).worked) nodes
 ends-have reckoning figures family [] [] have = refl
@@ -75,7 +75,7 @@ module _ (b : Basis) (is : IsBasis b) (block : Block) (live : is_live_in (rolled
   abbrev below : List Point
   below = sources_in (rolled_of b.inputs.book.now) (points.Block block)
 
-  at-members : AreAt (StandsOn b) (map (λ n. n + family) own) (sources_in (rolled_of b.inputs.book.now) (points.Block block))
+  pub at-members : AreAt (StandsOn b) (map (λ n. n + family) own) (sources_in (rolled_of b.inputs.book.now) (points.Block block))
   at-members =
       pushed-here b is (graph_on b) refl (points.Block block) [] (map (λ n. n + family) own) refl
       (members-pushed b.inputs.book.now b.places.now b.lists.now is.graph.numbers_of is.valid block.sum family own_family
@@ -91,7 +91,7 @@ module _ (b : Basis) (is : IsBasis b) (block : Block) (live : is_live_in (rolled
       (below-live b.inputs.book.now b.places.now b.lists.now is.graph.numbers_of is.valid block live) own owns few
 
   module _ (figures : List Figure) (number : ℕ) (ready : IsReadyOn b figures number) (stands : StandsOn b (points.Block block) number) where
-    have : HaveFigures (reckoning_on b) figures (map (λ n. n + family) own) (sources_in (rolled_of b.inputs.book.now) (points.Block block))
+    pub have : HaveFigures (reckoning_on b) figures (map (λ n. n + family) own) (sources_in (rolled_of b.inputs.book.now) (points.Block block))
     have = have-here b is figures number ready (points.Block block) stands (map (λ n. n + family) own) at-members
 
     pub added-within : All (λ n. n + family < length figures) own

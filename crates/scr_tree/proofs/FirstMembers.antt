@@ -20,7 +20,7 @@ use Rattle.scr_sheet.specs.declared.keys.Table.TheVariants as tables
 use Rattle.scr_sheet.specs.declared.roll.Roll.TheVariants as rolls
 use Rattle.scr_book.specs.Places.{names_in}
 use Rattle.scr_book.specs.RolledSheets.{RolledSheet}
-use Rattle.scr_book.specs.Rolls.{listed, number_of_roll, roll_of, same_table, seat_of_roll, seated_in}
+use Rattle.scr_book.specs.Rolls.{listed, roll_of, same_table, seat_of_roll, seated_in}
 use Rattle.scr_book.proofs.RollGrowth.{names-past}
 use Rattle.scr_book.proofs.RollSettled.{own-table}
 use Rattle.scr_book.proofs.RollSteps.{seated-in}

@@ -8,7 +8,10 @@ use Rattle.scr_reach.specs.Linked.{AreAt}
 use Rattle.scr_subtotals.specs.declared.figure.Figure.{Figure}
 use Rattle.scr_sums.specs.Books.{rolled_of}
 use Rattle.scr_sums.specs.Graph.{is_live_in, sources_in}
+use Rattle.scr_nodes.specs.declared.node.Node.{Node}
+use Rattle.scr_sums.specs.declared.point.Block.{Block}
 use Rattle.scr_sums.specs.declared.point.Point.{Point}
+use Rattle.scr_sums.specs.declared.point.Point.TheVariants as points
 use Rattle.scr_tree.specs.Figures.{HaveFigures}
 use Rattle.scr_tree.specs.Points.{AreNumbersOf, IsGraphOf, StandsIn, book_graph}
 use Rattle.scr_tree.specs.Ready.{IsBasis, IsReadyOn, StandsOn, graph_on, numbers_on, reckoning_on}
@@ -41,6 +44,12 @@ module _ (b : Basis) (is : IsBasis b) (n : Numbers) (same : n ≡ numbers_on b) 
     lives-here point there =
         let one = is.graph.numbers_of.numbers.exact number point live.0 (stands-here point number there) live.1 in
         subst (λ p. is_live_in (rolled_of b.inputs.book.now) p ≡ true) (sym one) live.2
+
+-- where no figure stands a Block does
+pub block-there : (b : Basis) (number : ℕ) (point : Point) → StandsOn b point number → ((node : Node) → StandsOn b (points.Figure node) number → ⊥)
+    → (block : Block) × StandsOn b (points.Block block) number
+block-there b number (points.Figure node) at none = absurd (none node at)
+block-there b number (points.Block block) at none = (block, at)
 
 -- ---- by its graph
 

@@ -1,5 +1,5 @@
 -- Figures that are known: read at their numbers, and written one after another.
-use Rattle.std.proofs.Common.{◌≡◌, ◌⊎◌, inl, inr, ℕ, zero, suc, ◌+◌, ◌||◌, ◌++◌, Bool, true, false, nat_eq, List, [], ◌∷◌, map, Some, None, slice_get, take, add-one, refl, sym, ap, ap₂, subst, ◌∙◌}
+use Rattle.std.proofs.Common.{◌≡◌, ◌⊎◌, inl, inr, ℕ, zero, suc, ◌+◌, ◌||◌, ◌++◌, All, Bool, true, false, nat_eq, List, [], ◌∷◌, map, Some, None, slice_get, take, add-one, refl, sym, ap, ap₂, subst, ◌∙◌, arith}
 use Rattle.std.specs.List.{AllByRecursion, AllZip, list_any}
 use Rattle.std.specs.Option.{option_map}
 use Rattle.std.proofs.lemmas.Bool.{eqb-true, eq-eqb}
@@ -50,6 +50,11 @@ any-next f (y ∷ xs) x = by (f y) (any-next f xs x)
     by false rest = rest
 
 -- ---- figures that are read
+
+-- what holds of all holds of one that stands behind some
+pub from-all : (P : ℕ → Type 0) (done rest : List ℕ) (one : ℕ) → All P (done ++ one ∷ rest) → P one
+from-all P [] rest one all = all 0 0 (omega arith)
+from-all P (x ∷ done) rest one all = from-all P done rest one (λ i d low. all (suc i) d (omega (arith, low)))
 
 pub read-next : (figures : List Figure) (numbers : List ℕ) (number : ℕ) (figure : Figure) (old now : Below)
     → AreReadAt figures numbers old → slice_get figures number ≡ Some figure

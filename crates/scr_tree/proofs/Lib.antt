@@ -71,6 +71,8 @@ pub mod FigureRead
 pub mod PointNumbers
 pub mod LeftNumbers
 pub mod StateStill
+pub mod Still
+pub mod StillBlocks
 pub mod Standings
 pub mod Entered
 pub mod SquaresEntered
@@ -79,5 +81,8 @@ pub mod SquareRow
 pub mod SquareRun
 pub mod SquareBlocks
 pub mod Roomy
+pub mod Emptied
 pub mod AddedUp
 pub mod SquareTurns
+pub mod WholeNumbers
+pub mod Topped

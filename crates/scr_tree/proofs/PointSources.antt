@@ -94,7 +94,7 @@ over-some count some = by (ltb 32 count) refl
     by true e = ltb-true 32 count e
     by false e = let none : blocks_over count ≡ 0 = ap (λ t. cond t (parts count) 0) e in absurd (omega (arith, some, none))
 
-over-none : (count : ℕ) → blocks_over count ≡ 0 → count ≤ 32
+pub over-none : (count : ℕ) → blocks_over count ≡ 0 → count ≤ 32
 over-none count none = by (ltb 32 count) refl
   where
     by : (t : Bool) → ltb 32 count ≡ t → count ≤ 32

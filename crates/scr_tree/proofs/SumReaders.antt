@@ -195,6 +195,18 @@ module _ (book : RolledSheet) (places : Numbered) (lists : Lists) (numbers : Are
         → AreMarkedMore (StandsAt book.sheet places (fall_of sum)) mid new → AreMarkedMore (IsReaderAt book places lists sum readers.Whole) old new
     whole-both live old mid new one two = marked-then_as _ _ _ old mid new one two (whole-to live) whole-from
 
+    -- where there is no fall beside it
+    pub whole-one : reads book.sheet sum ≡ true → fall_of sum ≡ reader_of sum → (old new : List ℕ)
+        → AreMarkedMore (StandsAt book.sheet places (reader_of sum)) old new → AreMarkedMore (IsReaderAt book places lists sum readers.Whole) old new
+    whole-one live same old new one =
+        marked-as (StandsAt book.sheet places (reader_of sum)) (IsReaderAt book places lists sum readers.Whole) old new
+        (λ other s. whole-to live other (inl s)) (λ other r. alone other (whole-from other r)) one
+      where
+        alone : (other : ℕ) → StandsAt book.sheet places (reader_of sum) other ⊎ StandsAt book.sheet places (fall_of sum) other
+            → StandsAt book.sheet places (reader_of sum) other
+        alone other (inl s) = s
+        alone other (inr s) = subst (λ n. StandsAt book.sheet places n other) same s
+
     -- a live reader, so the sum is read
     pub read-live : (reader : Reader) (other : ℕ) → IsReaderAt book places lists sum reader other → reads book.sheet sum ≡ true
     read-live reader other r = by reader r.point r.live r.reads

@@ -102,7 +102,7 @@ module _ {Node : Type 0} (reckoning : Reckoning Node) (At : Node → ℕ → Typ
       known
 
   -- the figures of its sources are there
-  have-within : (figures : List Figure) (numbers : List ℕ) (nodes : List Node) → HaveFigures reckoning figures numbers nodes
+  pub have-within : (figures : List Figure) (numbers : List ℕ) (nodes : List Node) → HaveFigures reckoning figures numbers nodes
       → AllByRecursion (λ number. number < length figures) numbers
   have-within figures [] [] have = tt
   have-within figures [] (m ∷ nodes) have = absurd have

@@ -18,7 +18,9 @@ pub mod Standing
 pub mod Kept
 pub mod Sorted
 pub mod SquareRun
+pub mod Adding
 pub mod AssetScales
+pub mod Still
 pub mod Room
 pub mod Opening
 pub mod Summed

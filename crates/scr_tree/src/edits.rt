@@ -24,7 +24,7 @@ use crate::basis::{Basis, Crew};
 use crate::figures::{Below, Figures, Inputs};
 use crate::first_links::ASSETS;
 use crate::graph::{Graph, Numbers};
-use crate::order::ordered;
+use crate::order::{Order, ordered};
 use crate::reckoning::{Scratch, reckon_in_place};
 use crate::starts::{dues_at, linked_dues, linked_numbers, mark_starts};
 use scr_book::{Book, Edit, Table};
@@ -40,6 +40,7 @@ use scr_rules::{Rates, rates, rates_after};
 use scr_sheet::BalanceSheet;
 use scr_sums::Point;
 use std::alloc::{AllocError as NoMemory, Global};
+use std::mem::replace;
 use std::sync::ledger::Ledger;
 use std::thread::Threads;
 
@@ -292,7 +293,15 @@ fn reckon_reached<R: Threads + Sync, G: Gate + Sync, L: Ledger>(
     mark_starts(&mut state.marks, graph.numbers, touched)?;
     climb(graph, &mut state.marks, touched)?;
     let squares = state.marks.place(ASSETS).is_some();
-    let order = ordered(crew.alloc, graph, state.marks.as_slice(), squares)?;
+    let room = replace(&mut state.scratch.order, Order::new(crew.alloc));
+    let order = ordered(
+        crew.alloc,
+        graph,
+        state.marks.as_slice(),
+        squares,
+        &mut state.scratch.sorted,
+        room,
+    )?;
     let basis = Basis {
         inputs: Inputs {
             factors: footing.factors,

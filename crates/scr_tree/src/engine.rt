@@ -1,5 +1,5 @@
 //! The engine.
-ghost use Rattle.std.specs.Prelude.{◌≡◌, ◌↔◌, ◌≤◌, true, Contains, None, IfOk, OnOk, OnErr};
+ghost use Rattle.std.specs.Prelude.{◌≡◌, ◌↔◌, ◌≤◌, true, false, Contains, None, IfOk, OnOk, OnErr};
 ghost use Rattle.scr_blocks.specs.Blocks.{HasEachOnce};
 ghost use Rattle.scr_factors.specs.Values.{FactorValues};
 ghost use Rattle.scr_sums.specs.declared.point.Point.{Point as ThePoint};
@@ -10,13 +10,18 @@ ghost use Rattle.scr_sheet.specs.Validity.{Valid};
 ghost use Rattle.scr_sheet.specs.declared.roll.Roll.{Roll};
 ghost use Rattle.scr_book.specs.Rolls.{AreRollsOf, KeepsNumbers, roll_of};
 ghost use Rattle.scr_book.specs.Undone.{back, returned_by, Fits};
+ghost use Rattle.scr_figures.specs.Families.{whole_family};
 ghost use Rattle.scr_nodes.specs.Live.{is_live};
+ghost use Rattle.scr_nodes.specs.declared.node.Node.TheVariants as nodes;
+ghost use Rattle.scr_nodes.specs.declared.node.Whole.{Whole};
 ghost use Rattle.scr_rules.specs.Close.{close_under};
 ghost use Rattle.scr_rules.specs.Worked.{worked};
+ghost use Rattle.scr_subtotals.specs.Marks.{figure_of};
 ghost use Rattle.scr_sums.specs.Books.{rolled_of};
 ghost use Rattle.scr_sums.specs.Graph.{is_live_in, worth_in};
 ghost use Rattle.scr_sums.specs.Touched.{IsTouchedIn};
 ghost use Rattle.scr_num.specs.Sums.{sum_ends};
+ghost use Rattle.scr_tree.specs.Figures.{worth_at, worth_of};
 ghost use Rattle.scr_tree.specs.Standing.{IsAfter, IsAsBefore, Refuses, TakesSteps, book_of, standing_on};
 
 use crate::basis::Crew;
@@ -30,9 +35,10 @@ use scr_factors::Factors;
 use scr_figures::{find, step_of};
 use scr_io::{Gate, Steps};
 use scr_lists::stood_of;
-use scr_nodes::Node;
+use scr_nodes::Node as SheetNode;
 use scr_num::Span;
-use scr_sums::{Point, touched_in};
+use scr_subtotals::Mark;
+use scr_sums::{Point as Node, touched_in};
 use scr_touched::touched;
 use std::alloc::{AllocError as NoMemory, Global};
 use std::marker::Model;
@@ -158,23 +164,23 @@ impl Engine {
     }
 
     /// What a figure or a Block comes to that the book has.
-    pub fn span(&self, point: Point) -> Span
-        requires { is_live_in (book_of self.now) point ≡ true }
-        ensures { ends result ≡ worth_in sum_ends (worked self.now.factors self.now.sheet) (book_of self.now) point }
+    pub fn span(&self, node: Node) -> Span
+        requires { is_live_in (book_of self.now) node ≡ true }
+        ensures { ends result ≡ worth_in sum_ends (worked self.now.factors self.now.sheet) (book_of self.now) node }
     {
         let numbers = Numbers {
             book: &self.book,
             places: &self.state.places,
             lists: &self.state.lists,
         };
-        match numbers.number_of(&point) {
+        match numbers.number_of(&node) {
             Some(number) => self.state.figures.span(number as usize),
             None => unreachable!(),
         }
     }
 
     /// The figure of a node rests on a choice that is open.
-    pub fn is_close(&self, node: &Node) -> bool
+    pub fn is_close(&self, node: &SheetNode) -> bool
         requires { is_live self.now.sheet node.now ≡ true }
         ensures { result ≡ close_under self.now.factors self.now.sheet node.now }
     {
@@ -182,7 +188,8 @@ impl Engine {
     }
 
     /// Both of a node: what it comes to, and whether it rests on a choice that is open.
-    pub fn told(&self, node: &Node) -> (Span, bool)
+    #[inline(always)]
+    pub fn told(&self, node: &SheetNode) -> (Span, bool)
         requires { is_live self.now.sheet node.now ≡ true }
         ensures span { ends result.0 ≡ worked self.now.factors self.now.sheet node.now }
         ensures close { result.1 ≡ close_under self.now.factors self.now.sheet node.now }
@@ -191,7 +198,33 @@ impl Engine {
         (span, close)
     }
 
-    fn figure(&self, node: &Node) -> Figure
+    /// Both of the figure of the whole sheet that is of this family, whose number is the family itself. A read, without a search.
+    #[inline(always)]
+    pub fn told_whole(&self, family: u32) -> (Span, bool)
+        requires { (whole : Whole) × (is_live self.now.sheet (nodes.Whole whole) ≡ true) × (whole_family whole ≡ family) }
+        ensures span { (whole : Whole) → is_live self.now.sheet (nodes.Whole whole) ≡ true → whole_family whole ≡ family
+            → ends result.0 ≡ worked self.now.factors self.now.sheet (nodes.Whole whole) }
+        ensures close { (whole : Whole) → is_live self.now.sheet (nodes.Whole whole) ≡ true → whole_family whole ≡ family
+            → result.1 ≡ close_under self.now.factors self.now.sheet (nodes.Whole whole) }
+    {
+        let Figure { span, close } = self.state.figures.figure(family as usize);
+        (span, close)
+    }
+
+    /// The figure of the whole sheet that is of this family is that of the mark, and so is whether it rests on a choice that is open.
+    #[inline(always)]
+    pub fn is_told(&self, family: u32, mark: &Mark) -> bool
+        requires { (whole : Whole) × (is_live self.now.sheet (nodes.Whole whole) ≡ true) × (whole_family whole ≡ family) }
+        ensures yes { result ≡ true → (whole : Whole) → is_live self.now.sheet (nodes.Whole whole) ≡ true → whole_family whole ≡ family
+            → worth_of (figure_of mark.now) ≡ worth_at self.now.factors self.now.sheet (nodes.Whole whole) }
+        ensures not { result ≡ false → (whole : Whole) → is_live self.now.sheet (nodes.Whole whole) ≡ true → whole_family whole ≡ family
+            → worth_of (figure_of mark.now) ≡ worth_at self.now.factors self.now.sheet (nodes.Whole whole) → ⊥ }
+    {
+        self.state.figures.is_marked(family as usize, mark)
+    }
+
+    #[inline(always)]
+    fn figure(&self, node: &SheetNode) -> Figure
         requires { is_live self.now.sheet node.now ≡ true }
         ensures span { ends result.span ≡ worked self.now.factors self.now.sheet node.now }
         ensures close { result.close ≡ close_under self.now.factors self.now.sheet node.now }
@@ -225,7 +258,7 @@ impl Engine {
 }
 
 /// The points that a record touches.
-fn touched_points(alloc: Global, book: &Book, edit: &Edit) -> Result<Vec<Point>, NoMemory>
+fn touched_points(alloc: Global, book: &Book, edit: &Edit) -> Result<Vec<Node>, NoMemory>
     requires { Formed edit.now }
     ensures touched { IfOk result (λ list. (factors : FactorValues) (point : ThePoint) → fault_of edit.now book.now.sheet ≡ None
         → Contains list.items point ↔ IsTouchedIn factors (rolled_of book.now) edit.now point) }

@@ -3,6 +3,7 @@ ghost use Rattle.std.specs.Prelude.{◌≡◌, ◌+◌, ◌<◌, ◌||◌, true,
 ghost use Rattle.scr_num.specs.Rounding.{ends};
 ghost use Rattle.scr_nodes.specs.Live.{is_live};
 ghost use Rattle.scr_nodes.specs.Sources.{sources_of};
+ghost use Rattle.scr_reach.specs.Linked.{sources_in as linked_in};
 ghost use Rattle.scr_rules.specs.Close.{is_open as open_mask};
 ghost use Rattle.scr_tree.specs.Figures.{AreReadAt, AreSpansOf, opens, reckoning_of, worth_at, worth_of};
 ghost use Rattle.scr_tree.specs.Inputs.{AreOfBook};
@@ -10,6 +11,7 @@ ghost use Rattle.scr_tree.specs.Inputs.{AreOfBook};
 use scr_book::Book;
 use scr_factors::Factors;
 use scr_io::{Gate, Steps};
+use scr_links::Links;
 use scr_nodes::{Node, OfCurrency, Whole};
 use scr_num::Span;
 use scr_rules::{Rates, evaluate_by};
@@ -51,13 +53,21 @@ impl Below {
         self.close = false;
     }
 
+    /// Room for so many figures more.
+    pub(crate) fn reserve(&mut self, more: usize) -> Result<(), NoMemory>
+        ensures spans { self.new.spans.items ≡ self.old.spans.items }
+        ensures close { self.new.close ≡ self.old.close }
+    {
+        self.spans.reserve(more)
+    }
+
     /// Of one figure more.
     pub(crate) fn push(&mut self, figure: &Figure) -> Result<(), NoMemory>
         ensures spans { OnOk result (self.new.spans.items ≡ self.old.spans.items ++ figure.now.span ∷ []) }
         ensures close { OnOk result (self.new.close ≡ (self.old.close || figure.now.close)) }
     {
         self.spans.push(figure.span)?;
-        self.close = self.close || figure.close;
+        self.close |= figure.close;
         Ok(())
     }
 }
@@ -68,8 +78,26 @@ pub(crate) fn read(figures: &Figures, numbers: &[u32], below: &mut Below) -> Res
     ensures { OnOk result (AreReadAt figures.now numbers.now below.new) }
 {
     below.clear();
+    below.reserve(numbers.len())?;
     for number in numbers {
         below.push(&figures.figure(*number as usize))?;
+    }
+    Ok(())
+}
+
+/// Reads the figures that are linked to a number, in the order of its links.
+pub(crate) fn read_linked(
+    figures: &Figures,
+    links: &Links,
+    number: u32,
+    below: &mut Below,
+) -> Result<(), NoMemory>
+    requires { All (λ source. source < length figures.now) (linked_in links.now.edges number) }
+    ensures { OnOk result (AreReadAt figures.now (linked_in links.now.edges number) below.new) }
+{
+    below.clear();
+    for (source, _) in links.sources(number) {
+        below.push(&figures.figure(source as usize))?;
     }
     Ok(())
 }

@@ -35,6 +35,7 @@ use scr_sums::Sum;
 use scr_totals::totals;
 use std::alloc::{AllocError as NoMemory, Global};
 use std::marker::Brand;
+use std::mem::drop;
 use std::sync::ledger::{Blank, Ledger};
 use std::thread::{Threads, join};
 
@@ -72,6 +73,7 @@ pub(crate) fn reckon_all<R: Threads + Sync, G: Gate + Sync>(
     lists.parts().len();
     book.group_seats();
     let (rates, gathered) = rates_beside(crew, factors, book)?;
+    let Gathered { members, totals } = gathered;
     let losses = group_losses(alloc, book)?;
     let ground = Ground {
         alloc,
@@ -82,10 +84,10 @@ pub(crate) fn reckon_all<R: Threads + Sync, G: Gate + Sync>(
         },
         places: &places,
         lists: &lists,
-        members: &gathered.members,
+        members: &members,
         losses: &losses,
     };
-    let made = make_all::<R, G, Brand>(crew, ground, gathered.totals.as_slice(), Blank::new(1))?;
+    let made = make_all::<R, G, Brand>(crew, ground, totals, Blank::new(1))?;
     Ok(Opened {
         rates,
         places,
@@ -134,14 +136,14 @@ fn gather_all(alloc: Global, book: &Book) -> Result<Gathered, NoMemory>
 fn make_all<R: Threads + Sync, G: Gate + Sync, L: Ledger>(
     crew: &Crew<'_, R, G>,
     ground: Ground<'_>,
-    totals: &[u64],
+    totals: Vec<u64>,
     blank: Blank,
 ) -> Result<Made, NoMemory>
     requires name { blank.name ≡ L.name }
     requires parts { blank.parts ≡ L.parts }
     requires some { 0 < blank.parts }
     requires ground { IsGround ground }
-    requires totals { totals.now ≡ totals_of ground.inputs.book.now.sheet }
+    requires totals { totals.items ≡ totals_of ground.inputs.book.now.sheet }
     ensures { IfOk result (IsWhole ground.entry) }
 {
     let figures = no_figures(ground.alloc, ground.places.len())?;
@@ -151,27 +153,28 @@ fn make_all<R: Threads + Sync, G: Gate + Sync, L: Ledger>(
     if crew.workers == 1 {
         put_in_turn(ground, totals, &mut making, crew.gate, &mut steps)?;
     } else {
-        put_together(crew, ground, totals, &mut making, &mut steps)?;
+        put_together(crew, ground, totals.as_slice(), &mut making, &mut steps)?;
     }
     Ok(making.made)
 }
 
-/// All figures by one worker, one after another.
+/// All figures by one worker, one after another. The totals are let go when no later figure takes them.
 fn put_in_turn<G: Gate, L: Ledger>(
     ground: Ground<'_>,
-    totals: &[u64],
+    totals: Vec<u64>,
     making: &mut Making,
     gate: &G,
     steps: &mut Steps<L>,
 ) -> Result<(), NoMemory>
     requires ground { IsGround ground }
-    requires totals { totals.now ≡ totals_of ground.inputs.book.now.sheet }
+    requires totals { totals.items ≡ totals_of ground.inputs.book.now.sheet }
     requires nothing { IsDone ground making.old.made (turn 0 0 0) }
     ensures { OnOk result (IsWhole ground.entry making.new.made) }
 {
-    put_totals(ground, totals, making, gate)?;
+    put_totals(ground, totals.as_slice(), making, gate)?;
     put_assets(ground, making, gate, steps)?;
-    put_rows(ground, totals, making, gate)?;
+    put_rows(ground, totals.as_slice(), making, gate)?;
+    drop(totals);
     put_groups(ground, &mut making.made, gate);
     put_currencies(ground, making, gate, steps)?;
     put_wholes(ground, making, gate, steps)

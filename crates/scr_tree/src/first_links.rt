@@ -29,7 +29,7 @@ pub(crate) const OF_CURRENCY: u32 = 9;
 pub(crate) const WHOLES: u32 = 153;
 
 /// How many links figures of the whole sheet have to others of it, or some more.
-const OF_WHOLES: usize = 1024;
+const OF_WHOLES: usize = 320;
 
 /// No link, with room for those that are expected, between any numbers.
 pub(crate) fn no_links(ground: LinkGround<'_>) -> Result<Links, NoMemory>

@@ -19,7 +19,7 @@ ghost use Rattle.scr_sums.specs.BlockNumbers.{sole};
 ghost use Rattle.scr_sums.specs.Books.{rolled_of};
 ghost use Rattle.scr_sums.specs.Graph.{block_point, is_live_in, reads, roll_in, sources_in, tops_of};
 ghost use Rattle.scr_sums.specs.Levels.{level_in};
-ghost use Rattle.scr_sums.specs.Sums.{member_of, roll_of as sum_roll};
+ghost use Rattle.scr_sums.specs.Sums.{member_of, reader_of, roll_of as sum_roll};
 ghost use Rattle.scr_blocks.specs.Readers.{IsReader};
 ghost use Rattle.scr_blocks.specs.declared.readers.Reader.TheVariants as readers;
 ghost use Rattle.scr_numbers.specs.declared.table.Table.{Table as TheTable};
@@ -133,7 +133,7 @@ impl<'a> Numbers<'a> {
     }
 
     /// The Block that has a number.
-    fn block_at(&self, number: u32) -> Option<Block>
+    pub(crate) fn block_at(&self, number: u32) -> Option<Block>
         requires { AreNumbersOf self.now.book.now self.now.places.now self.now.lists.now }
         ensures there { IfSome result (λ block. StandsIn self.now.book.now self.now.places.now self.now.lists.now (points.Block block) number) }
         ensures absent { IsNone result → (block : TheBlock) → StandsIn self.now.book.now self.now.places.now self.now.lists.now (points.Block block) number
@@ -267,7 +267,7 @@ pub(crate) fn is_linked(node: &Node) -> bool
 }
 
 /// Whether the sources of the figure stand beside it among the numbers of its row, but for the assets, which have one number.
-fn is_beside(node: &Node) -> bool
+pub(crate) fn is_beside(node: &Node) -> bool
     ensures { result ≡ spec.is_beside node.now }
 {
     match node {
@@ -318,7 +318,12 @@ impl<'a> Graph<'a> {
     }
 
     /// Of a figure whose sources stand beside it.
-    fn push_beside(&self, list: &mut Vec<u32>, number: u32, node: &Node) -> Result<(), NoMemory>
+    pub(crate) fn push_beside(
+        &self,
+        list: &mut Vec<u32>,
+        number: u32,
+        node: &Node,
+    ) -> Result<(), NoMemory>
         requires numbers { AreNumbersOf self.now.numbers.book.now self.now.numbers.places.now self.now.numbers.lists.now }
         requires at { StandsIn self.now.numbers.book.now self.now.numbers.places.now self.now.numbers.lists.now (points.Figure node.now) number }
         requires beside { spec.is_beside node.now ≡ true }
@@ -726,7 +731,7 @@ impl<'a> Graph<'a> {
             .members(self.numbers.book, block.sum.roll())
             .len();
         let reader = reader_of_block(count, block.level, block.index as usize);
-        self.mark_reader(marks, &block.sum, reader)
+        self.mark_read(marks, &block.sum, reader)
     }
 
     fn mark_reader(&self, marks: &mut Marked, sum: &Sum, reader: Reader) -> Result<(), NoMemory>
@@ -740,6 +745,19 @@ impl<'a> Graph<'a> {
         if !is_live(self.numbers.book.sheet(), &sum.reader()) {
             return Ok(());
         }
+        self.mark_read(marks, sum, reader)
+    }
+
+    /// The same of a sum that is read.
+    fn mark_read(&self, marks: &mut Marked, sum: &Sum, reader: Reader) -> Result<(), NoMemory>
+        requires numbers { AreNumbersOf self.now.numbers.book.now self.now.numbers.places.now self.now.numbers.lists.now }
+        requires valid { Valid self.now.numbers.book.now.sheet }
+        requires room { self.now.numbers.places.now.size ≤ marks.old.size }
+        requires reads { reads self.now.numbers.book.now.sheet sum.now ≡ true }
+        requires reader { IsReader (length (roll_in (rolled_of self.now.numbers.book.now) sum.now)) reader }
+        ensures marked { OnOk result (AreMarkedMore (IsReaderAt self.now.numbers.book.now self.now.numbers.places.now self.now.numbers.lists.now sum.now reader) marks.old.list marks.new.list) }
+        ensures size { marks.new.size ≡ marks.old.size }
+    {
         match reader {
             Reader::Whole => self.mark_whole(marks, sum),
             Reader::Block(level, index) => { self.mark_block(marks, sum, level, index) }
@@ -779,8 +797,18 @@ impl<'a> Graph<'a> {
     {
         let sheet = self.numbers.book.sheet();
         mark_some(marks, find(self.numbers.places, sheet, &sum.reader()))?;
+        if !is_foreign(sum) {
+            return Ok(());
+        }
         mark_some(marks, find(self.numbers.places, sheet, &fall(sum)))
     }
+}
+
+/// Of a foreign currency two figures are reckoned from the sum; of all others there is the reader alone.
+fn is_foreign(sum: &Sum) -> bool
+    ensures { result ≡ false → reading.fall_of sum.now ≡ reader_of sum.now }
+{
+    matches!(sum, Sum::Assets(_) | Sum::Presents(_))
 }
 
 /// What is reckoned from the sum beside its reader: of a foreign currency the fall, and of all others the reader itself.

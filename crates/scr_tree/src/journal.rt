@@ -1,11 +1,12 @@
 //! The former figures of what an edit reckons anew.
-ghost use Rattle.std.specs.Prelude.{◌≡◌, ◌+◌, ◌<◌, ◌≤◌, true, false, [], Some, length, slice_get, slice_set, vec_capacity, IfOk};
+ghost use Rattle.std.specs.Prelude.{◌≡◌, ◌+◌, ◌<◌, ◌≤◌, true, false, [], Some, drop, length, slice_get, slice_set, vec_capacity, IfOk};
 ghost use Rattle.scr_num.specs.Rounding.{ends};
 ghost use Rattle.scr_tree.specs.Order.{AreWithin, IsJournalKept, undone};
 
 use crate::figures::{Figure, Figures};
 use scr_subtotals::is_nothing;
 use std::alloc::{AllocError as NoMemory, Global};
+use std::mem::replace;
 
 /// A figure that was written over, and its number.
 #[derive(Clone, Copy)]
@@ -26,13 +27,19 @@ pub(crate) struct Journal {
 }
 
 impl Journal {
-    /// No figure is written yet.
-    pub(crate) fn new(alloc: Global, numbers: Vec<u32>) -> Result<Journal, NoMemory>
+    /// No figure is written yet. A former list is taken for its room.
+    pub(crate) fn new(
+        alloc: Global,
+        numbers: Vec<u32>,
+        room: &mut Vec<Former>,
+    ) -> Result<Journal, NoMemory>
         ensures numbers { IfOk result (λ journal. journal.numbers.items ≡ numbers.items) }
         ensures first { IfOk result (λ journal. journal.next ≡ 0) }
         ensures none { IfOk result (λ journal. journal.former.items ≡ []) }
     {
-        let former = Vec::with_capacity(alloc, numbers.len())?;
+        room.clear();
+        room.reserve(numbers.len())?;
+        let former = replace(room, Vec::new(alloc));
         Ok(Journal {
             numbers,
             next: 0,
@@ -53,6 +60,23 @@ impl Journal {
         ensures not { result ≡ false → slice_get self.now.numbers.items self.now.next ≡ Some number → ⊥ }
     {
         self.next < self.numbers.len() && self.numbers[self.next] == number
+    }
+
+    /// The numbers whose figures are left to write, in their order.
+    pub(crate) fn left(&self) -> &[u32]
+        ensures { result.now ≡ drop self.now.next self.now.numbers.items }
+    {
+        &self.numbers.as_slice()[self.next..]
+    }
+
+    /// Passes over the next numbers, so many, whose figures stay as they are.
+    pub(crate) fn pass(&mut self, many: usize)
+        requires { self.old.next + many ≤ length self.old.numbers.items }
+        ensures numbers { self.new.numbers.items ≡ self.old.numbers.items }
+        ensures next { self.new.next ≡ self.old.next + many }
+        ensures former { self.new.former.items ≡ self.old.former.items }
+    {
+        self.next += many;
     }
 
     /// Writes the figure of the next number, and keeps the one that stood there. Where that is the same, neither is done. It takes no
@@ -82,8 +106,18 @@ impl Journal {
         figures.set(place, figure);
     }
 
-    /// Writes the former figures back, the last one first.
-    pub(crate) fn undo(self, figures: &mut Figures)
+    /// The lists of numbers and of former figures, for their room.
+    pub(crate) fn into_room(self) -> (Vec<u32>, Vec<Former>) {
+        let Journal {
+            numbers,
+            former,
+            ..
+        } = self;
+        (numbers, former)
+    }
+
+    /// Writes the former figures back, the last one first. The list of them is told for its room.
+    pub(crate) fn undo(self, figures: &mut Figures) -> Vec<Former>
         requires { AreWithin (length figures.old) self.former.items }
         ensures { figures.new ≡ undone self.former.items figures.old }
     {
@@ -91,6 +125,7 @@ impl Journal {
         while let Some(was) = former.pop() {
             figures.set(was.number as usize, was.figure);
         }
+        former
     }
 }
 

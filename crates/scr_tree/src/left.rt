@@ -11,7 +11,7 @@ use crate::basis::{Basis, Crew};
 use crate::first_links::link_left;
 use crate::graph::Numbers;
 use crate::making::{Ground, Made};
-use crate::order::ordered;
+use crate::order::{Order, Sorted, ordered};
 use crate::together::reckon_together;
 use scr_io::Gate;
 use scr_nodes::{Node, Whole};
@@ -39,7 +39,16 @@ pub(crate) fn put_left<R: Threads + Sync, G: Gate + Sync>(
         lists: ground.lists,
         links: &made.links,
     };
-    let order = ordered(ground.alloc, basis.graph(), left.as_slice(), false)?;
+    let mut sorted = Sorted::new(ground.alloc);
+    let room = Order::new(ground.alloc);
+    let order = ordered(
+        ground.alloc,
+        basis.graph(),
+        left.as_slice(),
+        false,
+        &mut sorted,
+        room,
+    )?;
     reckon_together(crew, basis, order, &mut made.figures)
 }
 

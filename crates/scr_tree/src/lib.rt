@@ -20,9 +20,11 @@ mod order;
 mod reckoning;
 mod refusal;
 mod row_spans;
+mod single;
 mod starts;
 mod sums;
 mod together;
+mod tops;
 
 pub use engine::Engine;
 pub use refusal::Refusal;

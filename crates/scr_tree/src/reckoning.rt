@@ -1,30 +1,34 @@
 //! The points that an edit reaches, reckoned in place, each once and after all that it is reckoned from.
-ghost use Rattle.std.specs.Prelude.{◌≡◌, ℕ, ◌+◌, ◌<◌, ◌≤◌, ◌||◌, [], true, false, Some, drop, length, slice_get, IfOk, OnOk, OnErr};
+ghost use Rattle.std.specs.Prelude.{◌≡◌, ℕ, ◌+◌, ◌<◌, ◌≤◌, ◌^◌, ◌||◌, [], true, false, All, Some, drop, length, slice_get, IfOk, OnOk, OnErr};
 ghost use Rattle.scr_num.specs.Rounding.{ends};
 ghost use Rattle.scr_numbers.specs.Ranges.{first};
 ghost use Rattle.scr_numbers.specs.declared.table.Table.TheVariants as ranged;
 ghost use Rattle.scr_blocks.specs.declared.blocks.Level.TheVariants as levels;
 ghost use Rattle.scr_sums.specs.Graph.{block_point};
 ghost use Rattle.scr_sums.specs.declared.sum.Sum.TheVariants as sums;
+ghost use Rattle.scr_subtotals.specs.Tables.{nothing as no_figure};
+ghost use Rattle.scr_tree.specs.Figures.{worth_of};
 ghost use Rattle.scr_tree.specs.Opening.{opens_in};
 ghost use Rattle.scr_tree.specs.Order.{IsJournalKept, IsJournaled};
 ghost use Rattle.scr_tree.specs.Ready.{AreInTurnOn, AreKnownBut, AreSettledOn, IsBasis, IsOrderOn, IsReadyOn, IsRightOn, IsSquareOn, StandsOn, numbers_on};
 ghost use Rattle.scr_tree.specs.AssetScales.{IsScaleOn};
 ghost use Rattle.scr_tree.specs.Summed.{firsts_on};
 ghost use Rattle.scr_tree.specs.SquareRun.{IsBlockRunOn, IsSquareAtOn, IsSquareRunOn};
+ghost use Rattle.scr_tree.specs.Still.{AreFirstStill, AreNothingOn, ArePassed};
 
-use crate::added::{added_over, added_up};
+use crate::added::added_over;
 use crate::basis::{Basis, Crew};
-use crate::figures::{Below, Figure, Figures, Inputs, is_open_choice, read};
+use crate::figures::{Below, Figure, Figures, Inputs, is_open_choice};
 use crate::first_links::ASSETS;
-use crate::journal::Journal;
-use crate::order::Order;
-use crate::sums::{blocks_of, span_of};
+use crate::journal::{Former, Journal};
+use crate::order::{Order, Sorted};
+use crate::single::figure_at;
+use crate::sums::blocks_of;
 use crate::together::reckon_together;
 use scr_blocks::{Level, blocks_at};
 use scr_conc::Scale;
 use scr_io::{Gate, Steps};
-use scr_num::Span;
+use scr_num::{Span, exact};
 use scr_numbers::{Places, Table};
 use scr_rules::{concentration_scale, concentration_square};
 use scr_sums::{Block, Point, Sum};
@@ -42,11 +46,15 @@ pub(crate) struct AssetScale {
     close: bool,
 }
 
-/// Room for what one point is reckoned from: the numbers of its sources, and their spans.
+/// Room that is kept from one edit to the next: for the numbers of the sources of one point, and their spans; for what is reached, and for
+/// the former figures of that.
 #[derive(Drop)]
 pub(crate) struct Scratch {
     pub(crate) sources: Vec<u32>,
     pub(crate) below: Below,
+    pub(crate) sorted: Sorted,
+    pub(crate) order: Order,
+    pub(crate) former: Vec<Former>,
 }
 
 impl Scratch {
@@ -57,6 +65,9 @@ impl Scratch {
                 spans: Vec::new(alloc),
                 close: false,
             },
+            sorted: Sorted::new(alloc),
+            order: Order::new(alloc),
+            former: Vec::new(alloc),
         }
     }
 }
@@ -129,12 +140,17 @@ fn reckon_in_turn<R: Threads + Sync, G: Gate + Sync, L: Ledger>(
     ensures steps { OnOk result (steps.new ≡ steps.old + length order.numbers.items) }
     ensures err { OnErr result (figures.new ≡ figures.old) }
 {
-    let Order { numbers, .. } = order;
-    let mut journal = Journal::new(crew.alloc, numbers)?;
+    let Order { numbers, ends } = order;
+    let mut journal = Journal::new(crew.alloc, numbers, &mut scratch.former)?;
     match write_in_turn(basis, &mut journal, figures, scratch, crew.gate, steps) {
-        Ok(()) => Ok(()),
+        Ok(()) => {
+            let (numbers, former) = journal.into_room();
+            scratch.order = Order { numbers, ends };
+            scratch.former = former;
+            Ok(())
+        }
         Err(NoMemory) => {
-            journal.undo(figures);
+            scratch.former = journal.undo(figures);
             Err(NoMemory)
         }
     }
@@ -203,11 +219,12 @@ fn write_square_sum<G: Gate, L: Ledger>(
     ensures journaled { IsJournalKept journal.old.former.items figures.old journal.new.former.items figures.new }
     ensures steps { steps.new + journal.old.next ≡ steps.old + journal.new.next }
 {
-    write_squares(basis, journal, figures, gate, steps);
-    write_blocks(basis, journal, figures, gate, steps);
+    let still = write_squares(basis, journal, figures, gate, steps);
+    write_blocks(basis, still, journal, figures, gate, steps);
 }
 
 /// Writes the squares of the groups in the first rows, of which that of the first comes next: as many as come in the order of the rows.
+/// Tells whether the squares of all groups came to nothing before and do so now.
 #[inline(never)]
 fn write_squares<G: Gate, L: Ledger>(
     basis: Basis<'_>,
@@ -215,12 +232,13 @@ fn write_squares<G: Gate, L: Ledger>(
     figures: &mut Figures,
     gate: &G,
     steps: &mut Steps<L>,
-)
+) -> bool
     requires basis { IsBasis basis }
     requires turn { AreInTurnOn basis journal.old.numbers.items }
     requires first { IsSquareAtOn basis 0 journal.old.numbers.items journal.old.next }
     requires known { AreKnownBut basis figures.old (drop journal.old.next journal.old.numbers.items) }
     requires room { basis.places.now.size ≤ length figures.old }
+    ensures still { result ≡ true → AreNothingOn basis.entry }
     ensures run { IsSquareRunOn basis.entry journal.old.numbers.items journal.old.next journal.new.next }
     ensures long { length figures.new ≡ length figures.old }
     ensures known { AreKnownBut basis.entry figures.new (drop journal.new.next journal.old.numbers.items) }
@@ -228,17 +246,84 @@ fn write_squares<G: Gate, L: Ledger>(
     ensures journaled { IsJournalKept journal.old.former.items figures.old journal.new.former.items figures.new }
     ensures steps { steps.new + journal.old.next ≡ steps.old + journal.new.next }
 {
+    basis.inputs.factors.known();
     let assets = scale_on(basis, figures);
-    let count = basis.inputs.book.sheet().groups.len();
-    for row in 0..count {
-        let number = basis.places.first(Table::Group, row) + 1;
+    let firsts = basis.places.firsts(Table::Group);
+    let count = firsts.len();
+    let mut row = pass_still(&assets, firsts, journal, figures, gate, steps);
+    let still = row == count;
+    while row < count {
+        let number = firsts[row] + 1;
         if !journal.is_next(number) {
-            return;
+            return false;
         }
         gate.pass(number);
         steps.tick();
         let figure = square_at(basis, &assets, figures, row, number);
         journal.write(figures, number, figure);
+        row += 1;
+        row += pass_still(&assets, &firsts[row..], journal, figures, gate, steps);
+    }
+    still
+}
+
+/// Passes over the squares of the groups with these first numbers that come next, and came to nothing before as they do now: so many.
+/// They stay as they are.
+fn pass_still<G: Gate, L: Ledger>(
+    assets: &AssetScale,
+    firsts: &[u32],
+    journal: &mut Journal,
+    figures: &Figures,
+    gate: &G,
+    steps: &mut Steps<L>,
+) -> usize
+    requires low { All (λ first. first + 1 < 2 ^ 32) firsts.now }
+    requires within { All (λ number. number < length figures.now) (drop journal.old.next journal.old.numbers.items) }
+    ensures passed { ArePassed assets.now figures.now firsts.now (drop journal.old.next journal.old.numbers.items) result }
+    ensures next { journal.new.next ≡ journal.old.next + result }
+    ensures numbers { journal.new.numbers.items ≡ journal.old.numbers.items }
+    ensures former { journal.new.former.items ≡ journal.old.former.items }
+    ensures steps { steps.new ≡ steps.old + result }
+{
+    // Where the figure of the assets rests on an open choice that of each square does.
+    if assets.close {
+        return 0;
+    }
+    let numbers = journal.left();
+    let many = count_still(firsts, numbers, figures, assets.scale.free());
+    pass_each(&numbers[..many], gate, steps);
+    journal.pass(many);
+    many
+}
+
+/// How many of the squares of the groups with these first numbers, from the first on, come first among the numbers and come to nothing,
+/// before as now: what is held of the group is an amount of at most so many cents, which are above no threshold.
+#[inline(never)]
+fn count_still(firsts: &[u32], numbers: &[u32], figures: &Figures, free: u64) -> usize
+    requires low { All (λ first. first + 1 < 2 ^ 32) firsts.now }
+    requires within { All (λ number. number < length figures.now) numbers.now }
+    ensures { AreFirstStill figures.now free firsts.now numbers.now result }
+{
+    let count = firsts.len().min(numbers.len());
+    for row in 0..count {
+        let first = firsts[row];
+        if numbers[row] != first + 1 {
+            return row;
+        }
+        if !figures.is_amount_before_nothing(first as usize, free) {
+            return row;
+        }
+    }
+    count
+}
+
+/// Passes the gate for each of these numbers, and takes a step.
+fn pass_each<G: Gate, L: Ledger>(numbers: &[u32], gate: &G, steps: &mut Steps<L>)
+    ensures { steps.new ≡ steps.old + length numbers.now }
+{
+    for number in numbers {
+        gate.pass(*number);
+        steps.tick();
     }
 }
 
@@ -280,15 +365,18 @@ fn square_at(
     Figure { span, close }
 }
 
-/// Writes the Blocks of the first level over the squares of all groups: as many as come next in their order.
+/// Writes the Blocks of the first level over the squares of all groups, which may be known to come to nothing: as many Blocks as come next
+/// in their order.
 fn write_blocks<G: Gate, L: Ledger>(
     basis: Basis<'_>,
+    still: bool,
     journal: &mut Journal,
     figures: &mut Figures,
     gate: &G,
     steps: &mut Steps<L>,
 )
     requires basis { IsBasis basis }
+    requires still { still ≡ true → AreNothingOn basis }
     requires turn { AreInTurnOn basis journal.old.numbers.items }
     requires known { AreKnownBut basis figures.old (drop journal.old.next journal.old.numbers.items) }
     requires room { basis.places.now.size ≤ length figures.old }
@@ -312,25 +400,47 @@ fn write_blocks<G: Gate, L: Ledger>(
         }
         gate.pass(number);
         steps.tick();
-        let figure = block_at(basis, figures, members, index as u32, number);
+        let figure = block_at(basis, still, figures, members, index as u32, number);
         journal.write(figures, number, figure);
     }
 }
 
-/// What a Block of the first level over the squares of all groups comes to, which has the number, from the first numbers of all groups.
-fn block_at(basis: Basis<'_>, figures: &Figures, members: &[u32], index: u32, number: u32) -> Figure
+/// What a Block of the first level over the squares of all groups comes to, which has the number, from the first numbers of all groups. The
+/// squares may be known to come to nothing.
+fn block_at(
+    basis: Basis<'_>,
+    still: bool,
+    figures: &Figures,
+    members: &[u32],
+    index: u32,
+    number: u32,
+) -> Figure
     requires basis { IsBasis basis }
+    requires still { still ≡ true → AreNothingOn basis }
     requires members { members.now ≡ firsts_on (numbers_on basis) sums.Squares }
     requires own { StandsOn basis (block_point sums.Squares levels.First index) number }
     requires ready { IsReadyOn basis figures.now number }
     ensures { IsRightOn basis.entry number result }
 {
+    if still {
+        return nothing();
+    }
     let block = Block {
         sum: Sum::Squares,
         level: Level::First,
         index,
     };
     added_over(basis, figures, number, &block, members)
+}
+
+/// The figure that comes to nothing.
+fn nothing() -> Figure
+    ensures { worth_of result ≡ worth_of no_figure }
+{
+    Figure {
+        span: exact(0),
+        close: false,
+    }
 }
 
 fn figure_of(figures: &Figures, number: u32) -> Figure
@@ -345,43 +455,6 @@ fn rests_on_either(one: bool, other: bool) -> bool
     ensures { result ≡ (one || other) }
 {
     one | other
-}
-
-/// The figure at a number, reckoned from those of its sources.
-pub(crate) fn figure_at<G: Gate, L: Ledger>(
-    basis: Basis<'_>,
-    figures: &Figures,
-    number: u32,
-    scratch: &mut Scratch,
-    gate: &G,
-    steps: &mut Steps<L>,
-) -> Result<Figure, NoMemory>
-    requires basis { IsBasis basis }
-    requires ready { IsReadyOn basis figures.now number }
-    ensures figure { IfOk result (IsRightOn basis.entry number) }
-    ensures step { OnOk result (steps.new ≡ steps.old + 1) }
-{
-    let Some(point) = basis.numbers().point_at(number) else {
-        unreachable!();
-    };
-    if let Point::Block(block) = &point {
-        if let Level::First = block.level {
-            gate.pass(number);
-            steps.tick();
-            return Ok(added_up(basis, figures, number, block));
-        }
-    }
-    scratch.sources.clear();
-    basis
-        .graph()
-        .push_sources(&mut scratch.sources, number, &point)?;
-    read(figures, scratch.sources.as_slice(), &mut scratch.below)?;
-    gate.pass(number);
-    let span = span_of(basis.inputs, &point, scratch.below.spans.as_slice(), steps);
-    Ok(Figure {
-        span,
-        close: opens(&point, span) || scratch.below.close,
-    })
 }
 
 /// The point is a choice that is open.

@@ -1,5 +1,5 @@
 //! What large sums come to: over their members with all Blocks written, and by the rule of the figure that is reckoned from them.
-ghost use Rattle.std.specs.Prelude.{◌≡◌, ◌+◌, ◌≤◌, ◌^◌, IfSome, IsNone, Some, is_some, length, map, true};
+ghost use Rattle.std.specs.Prelude.{◌≡◌, ◌+◌, ◌≤◌, ◌^◌, IfSome, IsNone, None, Some, is_some, length, map, true};
 ghost use Rattle.scr_blocks.specs.Blocks.{blocks_at};
 ghost use Rattle.scr_blocks.specs.declared.blocks.Level.TheVariants as levels;
 ghost use Rattle.scr_num.specs.Rounding.{ends};
@@ -131,7 +131,7 @@ fn known(inputs: Inputs<'_>)
 {
     inputs.factors.known();
     inputs.book.sheet();
-    inputs.book.roll_number(Roll::Groups);
+    inputs.book.group_seats();
 }
 
 /// The direction of a currency's change that the figure is the cost of: its rule sees two sums, and each other one sees one.
@@ -214,16 +214,34 @@ fn figure_of<L: Ledger>(
     ensures span { ends result ≡ worked inputs.entry.factors.now inputs.entry.book.now.sheet node.now }
     ensures step { steps.new ≡ steps.old + 1 }
 {
+    match first_sum(node) {
+        Some(first) => by_tops(inputs, node, &first, below, steps),
+        None => plain_of(inputs, node, below, steps),
+    }
+}
+
+/// The same of one that is reckoned from no large sum.
+pub(crate) fn plain_of<L: Ledger>(
+    inputs: Inputs<'_>,
+    node: &Node,
+    below: &[Span],
+    steps: &mut Steps<L>,
+) -> Span
+    requires inputs { AreOfBook inputs }
+    requires live { is_live inputs.book.now.sheet node.now ≡ true }
+    requires plain { first_sum node.now ≡ None }
+    requires below { map ends below.now ≡ map (worth_in sum_ends (worked inputs.factors.now inputs.book.now.sheet) (rolled_of inputs.book.now))
+        (sources_in (rolled_of inputs.book.now) (points.Figure node.now)) }
+    ensures span { ends result ≡ worked inputs.entry.factors.now inputs.entry.book.now.sheet node.now }
+    ensures step { steps.new ≡ steps.old + 1 }
+{
     known(inputs);
     let Inputs {
         factors,
         book,
         rates,
     } = inputs;
-    match first_sum(node) {
-        Some(first) => by_tops(inputs, node, &first, below, steps),
-        None => evaluate_by(factors, book, rates, *node, below, steps),
-    }
+    evaluate_by(factors, book, rates, *node, below, steps)
 }
 
 /// The same of one that is reckoned from this sum, or from this and a second one: what is left of the first stands in front.

@@ -1,8 +1,16 @@
-use Rattle.std.proofs.Common.{get_or, sym, subst, take}
+use Rattle.std.proofs.Common.{[], ◌∙◌, get_or, sym, subst, take}
 use Rattle.std.proofs.lemmas.Option.{slice_get-get_or}
 use Rattle.scr_tree.specs.Figures.{AreReadAt}
 use Rattle.scr_tree.proofs.Known.{read-next, take-next}
 use Rattle.scr_tree.proofs.figures.read.Goals as goal
+
+pub loop-number-init : goal.loop-number-init
+loop-number-init c = record {
+  read = [];
+  at = tt;
+  spans = c.in_ok-reserve.ensures.spans ∙ c.clear.ensures.spans;
+  close = c.in_ok-reserve.ensures.close ∙ c.clear.ensures.close;
+}
 
 pub loop-number-preserved : goal.loop-number-preserved
 loop-number-preserved c =

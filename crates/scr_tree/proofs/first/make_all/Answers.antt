@@ -25,6 +25,9 @@ put_together-requires-clause-nothing g c κs within =
     (let few = c.in_ok-links.ensures.size in let same = ap (λ (linked : LinkGround). linked.places.now.size) c.for_links.ensures in
     omega (arith, few, same)) c.in_ok-links.ensures.links)
 
+pub put_together-requires-clause-totals : goal.put_together-requires-clause-totals
+put_together-requires-clause-totals g c κs within = c.as_slice.ensures.value ∙ c.requires.totals
+
 pub returns : goal.returns
 returns g c =
     elim c.if-crew-eq1.branch [

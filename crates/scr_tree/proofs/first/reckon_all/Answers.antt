@@ -1,4 +1,4 @@
-use Rattle.std.proofs.Common.{subst, ◌∙◌, arith}
+use Rattle.std.proofs.Common.{subst, arith}
 use Rattle.scr_parts.specs.Parts.{AreOwn}
 use Rattle.scr_figures.specs.Numbers.{IsNumbered}
 use Rattle.scr_figures.proofs.Standing.{parts-numbered}
@@ -37,7 +37,7 @@ make_all-requires-clause-ground g c κs within =
     }
 
 pub make_all-requires-clause-totals : goal.make_all-requires-clause-totals
-make_all-requires-clause-totals g c κs within = c.as_slice.ensures.value ∙ c.in_ok-rates.ensures.gathered.totals
+make_all-requires-clause-totals g c κs within = c.in_ok-rates.ensures.gathered.totals
 
 pub returns : goal.returns
 returns g c =

@@ -1,7 +1,9 @@
+use Rattle.std.proofs.Common.{◌∙◌}
 use Rattle.scr_blocks.specs.declared.blocks.Level.TheVariants as levels
 use Rattle.scr_sums.specs.Graph.{block_point}
 use Rattle.scr_sums.specs.declared.sum.Sum.TheVariants as sums
 use Rattle.scr_tree.proofs.SquareBlocks.{figure-right, point-lives}
+use Rattle.scr_tree.proofs.StillBlocks.{block-still}
 use Rattle.scr_tree.proofs.reckoning.block_at.Goals as goal
 
 pub added_over-requires-clause-at : goal.added_over-requires-clause-at
@@ -16,3 +18,9 @@ pub returns : goal.returns
 returns c =
     figure-right c.args.basis c.requires.basis c.args.figures.now c.args.number c.requires.ready
     (block_point sums.Squares levels.First c.args.index) c.requires.own c.added_over.result c.added_over.ensures
+
+pub returns-then-still : goal.returns-then-still
+returns-then-still c = λ point at.
+    c.nothing.ensures
+    ∙ block-still c.args.basis c.requires.basis (c.requires.still c.if-still.true) c.args.index c.args.number c.args.figures.now c.requires.ready
+    c.requires.own point at

@@ -48,6 +48,9 @@ overflow_cast-index g c =
     let few = squares-few c.args.basis c.requires.basis numbers c.numbers-numbers.ensures c.members-members.result.now all in
     omega (arith, few, c.blocks_at-index-end.ensures, c.loop-index-test.true)
 
+pub block_at-figure-requires-clause-still : goal.block_at-figure-requires-clause-still
+block_at-figure-requires-clause-still g c = c.requires.still
+
 pub block_at-figure-requires-clause-members : goal.block_at-figure-requires-clause-members
 block_at-figure-requires-clause-members g c =
     let numbers = c.numbers-numbers.result in

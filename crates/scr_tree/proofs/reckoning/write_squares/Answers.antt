@@ -1,23 +1,16 @@
-use Rattle.std.proofs.Common.{◌≡◌, inl, inr, ◌+◌, ◌<◌, Some, drop, length, set, slice_get, refl, sym, ap, subst, ◌∙◌, arith}
-use Rattle.std.proofs.lemmas.Bool.{cases_lt}
-use Rattle.std.proofs.lemmas.List.{length-set}
-use Rattle.scr_sheet.specs.declared.sheet.BalanceSheet.{BalanceSheet}
-use Rattle.scr_tree.specs.Ready.{AreKnownBut, square_number}
+use Rattle.std.proofs.Common.{◌≡◌, ◌+◌, ◌-◌, ◌<◌, ◌^◌, ℕ, All, List, Some, drop, length, set, slice_get, take, refl, sym, ap, subst, ◌∙◌, arith}
+use Rattle.std.specs.Prelude.{slice_index}
+use Rattle.std.proofs.lemmas.Bool.{eqb-true}
+use Rattle.std.proofs.lemmas.List.{length-set, take_rest}
+use Rattle.scr_tree.specs.Order.{IsJournaled}
+use Rattle.scr_tree.specs.Ready.{AreInTurnOn, square_number}
 use Rattle.scr_tree.specs.SquareRun.{IsSquareAtOn}
-use Rattle.scr_tree.proofs.SquareRun.{known-more, next-ready, next-within, run-over}
+use Rattle.scr_tree.specs.Still.{ArePassed}
+use Rattle.scr_tree.specs.declared.journal.Former.{Former}
+use Rattle.scr_tree.proofs.SquareRun.{next-ready, next-within}
 use Rattle.scr_tree.proofs.SquaresEntered.{rows}
+use Rattle.scr_tree.proofs.Still.{IsWalked, firsts-low, left-within, still-all, walked-more, walked-none, walked-on, walked-run}
 use Rattle.scr_tree.proofs.reckoning.write_squares.Goals as goal
-
-pub loop-row-init : goal.loop-row-init
-loop-row-init g c = record {
-  count = omega arith;
-  numbers = refl;
-  each = λ row low. absurd (omega (arith, low));
-  long = refl;
-  known = c.requires.known;
-  kept = λ before is. is;
-  steps = omega arith;
-}
 
 pub scale_on-assets-requires-clause-ready : goal.scale_on-assets-requires-clause-ready
 scale_on-assets-requires-clause-ready g c =
@@ -29,123 +22,155 @@ scale_on-assets-requires-clause-ready g c =
           c.requires.known,
     )
 
-pub first-number-requires : goal.first-number-requires
-first-number-requires g c =
-    let b = c.args.basis in
-    let there = rows b.inputs.book.now b.places.now b.lists.now c.requires.basis.graph.numbers_of in
-    let count : c.len-count.result ≡ length b.inputs.book.now.sheet.groups = c.len-count.ensures.count ∙ ap (λ (s : BalanceSheet). length s.groups) c.sheet.ensures.sheet in
-    let low : c.loop-row.row < c.len-count.result = c.loop-row-test.true in
-    omega (arith, low, count, there)
+pub pass_still-row-requires-clause-low : goal.pass_still-row-requires-clause-low
+pass_still-row-requires-clause-low g c =
+    firsts-low c.firsts-firsts.result.now 0 (2 ^ 32)
+    (λ k low.
+    let firsts = c.firsts-firsts.ensures in
+    let count = firsts.count in
+    let far = firsts.low k (omega (arith, low, count)) in
+    let is = firsts.each k (omega (arith, low, count)) in
+    omega (arith, far, is))
 
-pub square_at-figure-requires-clause-row : goal.square_at-figure-requires-clause-row
-square_at-figure-requires-clause-row g c =
-    let b = c.args.basis in
-    let count : c.len-count.result ≡ length b.inputs.book.now.sheet.groups = c.len-count.ensures.count ∙ ap (λ (s : BalanceSheet). length s.groups) c.sheet.ensures.sheet in
-    let low : c.loop-row.row < c.len-count.result = c.loop-row-test.true in
-    omega (arith, low, count)
+pub pass_still-row-requires-clause-within : goal.pass_still-row-requires-clause-within
+pass_still-row-requires-clause-within g c =
+    left-within c.args.basis c.requires.basis c.args.journal.now.numbers.items c.requires.turn c.args.journal.now.next (length c.args.figures.now) c.requires.room
 
-pub square_at-figure-requires-clause-own : goal.square_at-figure-requires-clause-own
-square_at-figure-requires-clause-own g c = sym (ap (λ n. n + 1) c.first-number.ensures.first)
+pub loop-row-init : goal.loop-row-init
+loop-row-init g c =
+    let b = c.args.basis in
+    let numbers = c.args.journal.now.numbers.items in
+    let start = c.args.journal.now.next in
+    let figures = c.args.figures.now in
+    let firsts = c.firsts-firsts.result.now in
+    let many = c.pass_still-row.result in
+    let all : length firsts ≡ length b.inputs.book.now.sheet.groups = c.firsts-firsts.ensures.count ∙ rows b.inputs.book.now b.places.now b.lists.now c.requires.basis.graph.numbers_of in
+    let moved : IsWalked b numbers start (0 + many) (start + many) figures =
+    walked-on b c.requires.basis numbers c.requires.turn start 0 start figures c.requires.room (walked-none b numbers start figures c.requires.known)
+    c.scale_on-assets.result c.scale_on-assets.ensures c.known.ensures firsts all
+    (λ k low. c.firsts-firsts.ensures.each k (omega (arith, low, c.firsts-firsts.ensures.count))) many c.pass_still-row.ensures.passed in
+    let none : 0 + many ≡ many = omega arith in
+    record {
+      numbers = c.pass_still-row.ensures.numbers;
+      walked = subst (λ next. IsWalked b numbers start many next figures) (sym c.pass_still-row.ensures.next)
+          (subst (λ row. IsWalked b numbers start row (start + many) figures) none moved);
+      long = refl;
+      kept = λ before is. subst (λ (former : List Former). IsJournaled former before figures) (sym c.pass_still-row.ensures.former) is;
+      steps = c.pass_still-row.ensures.steps;
+    }
 
 pub square_at-figure-requires-clause-ready : goal.square_at-figure-requires-clause-ready
 square_at-figure-requires-clause-ready g c =
     let k = c.loop-row.journal.next in
-    let number = c.first-number.result + 1 in
+    let number = slice_index c.firsts-firsts.result.now c.loop-row.row + 1 in
     next-ready c.args.basis c.requires.basis c.args.journal.now.numbers.items c.requires.turn k c.loop-row.figures number
     (subst (λ ns. slice_get ns k ≡ Some number) c.loop-row.invariant.numbers (c.is_next.ensures.yes c.if-not-is_next.false))
-    c.loop-row.invariant.known
-
-pub write-requires-clause-next : goal.write-requires-clause-next
-write-requires-clause-next g c = c.is_next.ensures.yes c.if-not-is_next.false
+    c.loop-row.invariant.walked.known
 
 pub write-requires-clause-within : goal.write-requires-clause-within
 write-requires-clause-within g c =
     let k = c.loop-row.journal.next in
-    let number = c.first-number.result + 1 in
+    let number = slice_index c.firsts-firsts.result.now c.loop-row.row + 1 in
     let long = c.loop-row.invariant.long in
     let room = c.requires.room in
     next-within c.args.basis c.requires.basis c.args.journal.now.numbers.items c.requires.turn k c.loop-row.figures number
     (subst (λ ns. slice_get ns k ≡ Some number) c.loop-row.invariant.numbers (c.is_next.ensures.yes c.if-not-is_next.false))
     (omega (arith, long, room))
 
+pub pass_still-row-requires-in-loop-row-clause-low : goal.pass_still-row-requires-in-loop-row-clause-low
+pass_still-row-requires-in-loop-row-clause-low g c =
+    let firsts = c.firsts-firsts.result.now in
+    subst (All (λ n. n + 1 < 2 ^ 32)) (sym (take_rest firsts (c.loop-row.row + 1)))
+    (firsts-low firsts (c.loop-row.row + 1) (2 ^ 32)
+    (λ k low.
+    let told = c.firsts-firsts.ensures in
+    let count = told.count in
+    let far = told.low k (omega (arith, low, count)) in
+    let is = told.each k (omega (arith, low, count)) in
+    omega (arith, far, is)))
+
+pub pass_still-row-requires-in-loop-row-clause-within : goal.pass_still-row-requires-in-loop-row-clause-within
+pass_still-row-requires-in-loop-row-clause-within g c =
+    let written = ap length c.write.ensures.written ∙ length-set c.loop-row.figures (slice_index c.firsts-firsts.result.now c.loop-row.row + 1) c.square_at-figure.result in
+    let long = c.loop-row.invariant.long in
+    let room = c.requires.room in
+    left-within c.args.basis c.requires.basis c.write.new.self.numbers.items
+    (subst (AreInTurnOn c.args.basis) (sym (c.write.ensures.numbers ∙ c.loop-row.invariant.numbers)) c.requires.turn)
+    c.write.new.self.next (length c.write.new.figures) (omega (arith, written, long, room))
+
 pub loop-row-preserved : goal.loop-row-preserved
 loop-row-preserved g c =
     let b = c.args.basis in
     let numbers = c.args.journal.now.numbers.items in
     let start = c.args.journal.now.next in
+    let firsts = c.firsts-firsts.result.now in
     let row = c.loop-row.row in
-    let number = c.first-number.result + 1 in
+    let number = slice_index firsts row + 1 in
     let figure = c.square_at-figure.result in
     let k = c.loop-row.journal.next in
     let old = c.loop-row.figures in
     let now = c.write.new.figures in
-    let count : c.len-count.result ≡ length b.inputs.book.now.sheet.groups = c.len-count.ensures.count ∙ ap (λ (s : BalanceSheet). length s.groups) c.sheet.ensures.sheet in
-    let low : c.loop-row.row < c.len-count.result = c.loop-row-test.true in
-    let at : slice_get numbers k ≡ Some number =
-    subst (λ ns. slice_get ns k ≡ Some number) c.loop-row.invariant.numbers (c.is_next.ensures.yes c.if-not-is_next.false) in
-    let more = c.write.ensures.next in
-    let far = c.loop-row.invariant.count in
+    let next = c.write.new.self.next in
+    let on = c.pass_still-row-in-loop-row.ensures in
+    let many = c.pass_still-row-in-loop-row.result in
+    let low : row < length firsts = c.loop-row-test.true in
     let long = c.loop-row.invariant.long in
     let room = c.requires.room in
-    let written : now ≡ set old number figure = c.write.ensures.written in
-    let own : IsSquareAtOn b row numbers (start + row) = (
-      omega (arith, low, count),
-      subst (λ place. slice_get numbers place ≡ Some number) far at ∙ ap Some (ap (λ n. n + 1) c.first-number.ensures.first),
+    let all : length firsts ≡ length b.inputs.book.now.sheet.groups = c.firsts-firsts.ensures.count ∙ rows b.inputs.book.now b.places.now b.lists.now c.requires.basis.graph.numbers_of in
+    let at : slice_get numbers k ≡ Some number =
+    subst (λ ns. slice_get ns k ≡ Some number) c.loop-row.invariant.numbers (c.is_next.ensures.yes c.if-not-is_next.false) in
+    let own : IsSquareAtOn b row numbers k = (
+      omega (arith, low, all),
+      at ∙ ap Some (ap (λ n. n + 1) (c.firsts-firsts.ensures.each row (omega (arith, low, c.firsts-firsts.ensures.count)))),
     ) in
-    let known : AreKnownBut b (set old number figure) (drop (k + 1) numbers) =
-    known-more b c.requires.basis numbers c.requires.turn k old number at figure c.square_at-figure.ensures (omega (arith, long, room))
-    c.loop-row.invariant.known in
+    let written : now ≡ set old number figure = c.write.ensures.written in
+    let as_long : length now ≡ length old = ap length written ∙ length-set old number figure in
+    let more : IsWalked b numbers start (row + 1) next now =
+    subst (λ place. IsWalked b numbers start (row + 1) place now) (sym c.write.ensures.next)
+    (subst (IsWalked b numbers start (row + 1) (k + 1)) (sym written)
+    (walked-more b c.requires.basis numbers c.requires.turn start row k old (omega (arith, long, room)) c.loop-row.invariant.walked number figure own at
+    c.square_at-figure.ensures)) in
+    let passed : ArePassed c.scale_on-assets.result now (drop (row + 1) firsts) (drop next numbers) many =
+    subst (λ (fs : List ℕ). ArePassed c.scale_on-assets.result now fs (drop next numbers) many) (take_rest firsts (row + 1))
+    (subst (λ (ns : List ℕ). ArePassed c.scale_on-assets.result now (take (length firsts - (row + 1)) (drop (row + 1) firsts)) (drop next ns) many)
+    (c.write.ensures.numbers ∙ c.loop-row.invariant.numbers) on.passed) in
     record {
-      count = omega (arith, more, far);
-      numbers = c.write.ensures.numbers ∙ c.loop-row.invariant.numbers;
-      each = λ other less. elim (cases_lt other row) [
-        | inl before ↦ c.loop-row.invariant.each other before
-        | inr not ↦ (let same : row ≡ other = omega (arith, less, not) in subst (λ r. IsSquareAtOn b r numbers (start + r)) same own)
-      ];
-      long = ap length written ∙ length-set old number figure ∙ long;
-      known = subst (λ figures. AreKnownBut b figures (drop c.write.new.self.next numbers)) (sym written)
-          (subst (λ place. AreKnownBut b (set old number figure) (drop place numbers)) (sym more) known);
-      kept = λ before is. c.write.ensures.journaled before (c.loop-row.invariant.kept before is);
-      steps = let step = c.tick.ensures in let so_far = c.loop-row.invariant.steps in omega (arith, step, so_far);
+      numbers = on.numbers ∙ c.write.ensures.numbers ∙ c.loop-row.invariant.numbers;
+      walked = subst (λ place. IsWalked b numbers start (row + 1 + many) place now) (sym on.next)
+          (walked-on b c.requires.basis numbers c.requires.turn start (row + 1) next now (omega (arith, as_long, long, room)) more
+          c.scale_on-assets.result c.scale_on-assets.ensures c.known.ensures firsts all
+          (λ i less. c.firsts-firsts.ensures.each i (omega (arith, less, c.firsts-firsts.ensures.count))) many passed);
+      long = as_long ∙ long;
+      kept = λ before is. subst (λ (former : List Former). IsJournaled former before now) (sym on.former)
+          (c.write.ensures.journaled before (c.loop-row.invariant.kept before is));
+      steps = let step = c.tick.ensures in let so_far = c.loop-row.invariant.steps in let took = on.steps in omega (arith, step, so_far, took);
     }
 
 pub returns-then-not-is_next-clause-run : goal.returns-then-not-is_next-clause-run
 returns-then-not-is_next-clause-run g c =
+    let b = c.args.basis in
     let k = c.loop-row.journal.next in
-    let number = c.first-number.result + 1 in
-    run-over c.args.basis c.args.journal.now.numbers.items c.args.journal.now.next k c.loop-row.row
-    c.loop-row.invariant.count c.requires.first c.loop-row.invariant.each
+    let row = c.loop-row.row in
+    let low : row < length c.firsts-firsts.result.now = c.loop-row-test.true in
+    walked-run b c.args.journal.now.numbers.items c.args.journal.now.next row k c.loop-row.figures c.loop-row.invariant.walked c.requires.first
     (λ on. c.is_next.ensures.not c.if-not-is_next.true
-    (ap (λ ns. slice_get ns k) c.loop-row.invariant.numbers ∙ on.1 ∙ ap Some (sym (ap (λ n. n + 1) c.first-number.ensures.first))))
-
-pub returns-then-not-is_next-clause-known : goal.returns-then-not-is_next-clause-known
-returns-then-not-is_next-clause-known g c = c.loop-row.invariant.known
-
-pub returns-then-not-is_next-clause-journaled : goal.returns-then-not-is_next-clause-journaled
-returns-then-not-is_next-clause-journaled g c = c.loop-row.invariant.kept
-
-pub returns-then-not-is_next-clause-steps : goal.returns-then-not-is_next-clause-steps
-returns-then-not-is_next-clause-steps g c = omega (arith, c.loop-row.invariant.steps, c.loop-row.invariant.count)
+    (ap (λ ns. slice_get ns k) c.loop-row.invariant.numbers ∙ on.1
+    ∙ ap Some (sym (ap (λ n. n + 1) (c.firsts-firsts.ensures.each row (omega (arith, low, c.firsts-firsts.ensures.count)))))))
 
 pub returns-clause-run : goal.returns-clause-run
 returns-clause-run g c =
     let b = c.args.basis in
-    let count : c.len-count.result ≡ length b.inputs.book.now.sheet.groups = c.len-count.ensures.count ∙ ap (λ (s : BalanceSheet). length s.groups) c.sheet.ensures.sheet in
-    run-over b c.args.journal.now.numbers.items c.args.journal.now.next c.loop-row.journal.next c.loop-row.row
-    c.loop-row.invariant.count c.requires.first c.loop-row.invariant.each
+    let count = c.firsts-firsts.ensures.count ∙ rows b.inputs.book.now b.places.now b.lists.now c.requires.basis.graph.numbers_of in
+    walked-run b c.args.journal.now.numbers.items c.args.journal.now.next c.loop-row.row c.loop-row.journal.next c.loop-row.figures
+    c.loop-row.invariant.walked c.requires.first
     (λ on. let low : c.loop-row.row < length b.inputs.book.now.sheet.groups = on.0 in omega (arith, low, count, c.loop-row-test.false))
 
-pub returns-clause-known : goal.returns-clause-known
-returns-clause-known g c = c.loop-row.invariant.known
-
-pub returns-clause-journaled : goal.returns-clause-journaled
-returns-clause-journaled g c = c.loop-row.invariant.kept
-
-pub returns-clause-steps : goal.returns-clause-steps
-returns-clause-steps g c = omega (arith, c.loop-row.invariant.steps, c.loop-row.invariant.count)
-
-pub returns-then-not-is_next-clause-long : goal.returns-then-not-is_next-clause-long
-returns-then-not-is_next-clause-long g c = c.loop-row.invariant.long
-
-pub returns-clause-long : goal.returns-clause-long
-returns-clause-long g c = c.loop-row.invariant.long
+pub returns-clause-still : goal.returns-clause-still
+returns-clause-still g c = λ yes.
+    let b = c.args.basis in
+    let firsts = c.firsts-firsts.result.now in
+    let all : length firsts ≡ length b.inputs.book.now.sheet.groups = c.firsts-firsts.ensures.count ∙ rows b.inputs.book.now b.places.now b.lists.now c.requires.basis.graph.numbers_of in
+    still-all b c.requires.basis c.scale_on-assets.result c.scale_on-assets.ensures c.known.ensures c.args.journal.now.numbers.items c.requires.turn
+    c.args.journal.now.next c.args.figures.now c.requires.room c.requires.known firsts all
+    (λ k low. c.firsts-firsts.ensures.each k (omega (arith, low, c.firsts-firsts.ensures.count)))
+    c.pass_still-row.result c.pass_still-row.ensures.passed (eqb-true c.pass_still-row.result (length firsts) yes)

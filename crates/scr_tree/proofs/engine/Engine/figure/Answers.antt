@@ -1,4 +1,4 @@
-use Rattle.std.proofs.Common.{◌≡◌, true, subst, sym, ap, refl, ◌∙◌, arith}
+use Rattle.std.proofs.Common.{◌≡◌, true, subst, sym, ap, refl, arith}
 use Rattle.scr_figures.specs.Numbers.{IsNumbered, StandsAt}
 use Rattle.scr_figures.proofs.Live.{live-stands}
 use Rattle.scr_nodes.specs.Live.{is_live}

@@ -15,25 +15,25 @@ number_of-requires c = c.self.invariant.state.graph.numbers_of
 
 pub unreachable-requires : goal.unreachable-requires
 unreachable-requires c =
-    let live = subst (λ (s : Standing). is_live_in (book_of s) c.args.point ≡ true) (sym c.self.view_is) c.requires in
-    let own = c.self.invariant.state.graph.numbers_of.numbers.live c.args.point live in
+    let live = subst (λ (s : Standing). is_live_in (book_of s) c.args.node ≡ true) (sym c.self.view_is) c.requires in
+    let own = c.self.invariant.state.graph.numbers_of.numbers.live c.args.node live in
     c.in-None.ensures.absent refl own.0 own.1
 
 pub span-requires : goal.span-requires
 span-requires c =
     let state = c.self.inside.state in
-    let low = known-within state.figures c.in-Some.number (point_worth c.args.self.now.factors (book_of c.args.self.now) c.args.point)
+    let low = known-within state.figures c.in-Some.number (point_worth c.args.self.now.factors (book_of c.args.self.now) c.args.node)
     (settled-point c.self.inside.factors c.self.inside.book state.places state.lists state.figures c.args.self.now c.self.view_is
-    c.self.invariant.state.figures c.args.point c.in-Some.number c.in-Some.ensures.there c.requires) in
+    c.self.invariant.state.figures c.args.node c.in-Some.number c.in-Some.ensures.there c.requires) in
     omega (arith, low)
 
 pub returns : goal.returns
 returns c =
     let state = c.self.inside.state in
     let number = c.in-Some.number in
-    let worth = point_worth c.args.self.now.factors (book_of c.args.self.now) c.args.point in
+    let worth = point_worth c.args.self.now.factors (book_of c.args.self.now) c.args.node in
     let known = settled-point c.self.inside.factors c.self.inside.book state.places state.lists state.figures c.args.self.now c.self.view_is
-    c.self.invariant.state.figures c.args.point number c.in-Some.ensures.there c.requires in
+    c.self.invariant.state.figures c.args.node number c.in-Some.ensures.there c.requires in
     ap ends (c.span.ensures (get_or state.figures number nothing)
     (slice_get-get_or state.figures number nothing (known-within state.figures number worth known)))
     ∙ ap (λ (w : Worth). w.worked) (known-there state.figures number worth nothing known)

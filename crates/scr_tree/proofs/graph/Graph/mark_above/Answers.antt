@@ -18,8 +18,8 @@ use Rattle.scr_tree.proofs.MarkedMore.{ok-then}
 use Rattle.scr_tree.proofs.SumReaders.{above-marked}
 use Rattle.scr_tree.proofs.graph.Graph.mark_above.Goals as goal
 
-pub mark_reader-requires-clause-reader : goal.mark_reader-requires-clause-reader
-mark_reader-requires-clause-reader c =
+pub mark_read-requires-clause-reader : goal.mark_read-requires-clause-reader
+mark_read-requires-clause-reader c =
     let numbers = c.args.self.now.numbers in
     let block = c.in-Some.block in
     let from : StandsIn numbers.book.now numbers.places.now numbers.lists.now (points.Block block) c.args.number = c.in-Some.ensures.there in
@@ -36,6 +36,16 @@ mark_reader-requires-clause-reader c =
     (block-reader (length (roll_in (rolled_of numbers.book.now) block.sum)) block.level block.index
     (and_parts (reads numbers.book.now.sheet block.sum) (is_block (length (roll_in (rolled_of numbers.book.now) block.sum)) block.level block.index) live).1)
 
+pub mark_read-requires-clause-reads : goal.mark_read-requires-clause-reads
+mark_read-requires-clause-reads c =
+    let numbers = c.args.self.now.numbers in
+    let block = c.in-Some.block in
+    let from : StandsIn numbers.book.now numbers.places.now numbers.lists.now (points.Block block) c.args.number = c.in-Some.ensures.there in
+    let live : is_live_in (rolled_of numbers.book.now) (points.Block block) ≡ true =
+    subst (λ p. is_live_in (rolled_of numbers.book.now) p ≡ true)
+    (c.requires.numbers.numbers.exact c.args.number (points.Block c.requires.at.0) (points.Block block) c.requires.at.1 from) c.requires.at.2 in
+    (and_parts (reads numbers.book.now.sheet block.sum) (is_block (length (roll_in (rolled_of numbers.book.now) block.sum)) block.level block.index) live).0
+
 pub returns-clause-marked : goal.returns-clause-marked
 returns-clause-marked c =
     let numbers = c.args.self.now.numbers in
@@ -50,6 +60,6 @@ returns-clause-marked c =
     ∙ length-map (roll_of (sum_roll block.sum) numbers.book.now.rolls) (first_of numbers.book.now.sheet numbers.places.now (table_of (sum_roll block.sum))) in
     let reader : c.reader_of_block-reader.result ≡ reader_of_block (length (roll_in (rolled_of numbers.book.now) block.sum)) block.level block.index =
     c.reader_of_block-reader.ensures ∙ ap (λ n. reader_of_block n block.level block.index) long in
-    ok-then c.mark_reader.result c.mark_reader.ensures.marked (λ m.
-    above-marked numbers.book.now numbers.places.now numbers.lists.now c.requires.numbers block c.args.number from live c.args.marks.now.list c.mark_reader.new.marks.list
-    (subst (λ r. AreMarkedMore (IsReaderAt numbers.book.now numbers.places.now numbers.lists.now block.sum r) c.args.marks.now.list c.mark_reader.new.marks.list) reader m))
+    ok-then c.mark_read.result c.mark_read.ensures.marked (λ m.
+    above-marked numbers.book.now numbers.places.now numbers.lists.now c.requires.numbers block c.args.number from live c.args.marks.now.list c.mark_read.new.marks.list
+    (subst (λ r. AreMarkedMore (IsReaderAt numbers.book.now numbers.places.now numbers.lists.now block.sum r) c.args.marks.now.list c.mark_read.new.marks.list) reader m))

@@ -1,0 +1,116 @@
+//! One figure, reckoned from those of its sources.
+ghost use Rattle.std.specs.Prelude.{◌≡◌, ◌+◌, true, Some, None, IfOk, OnOk};
+ghost use Rattle.scr_nodes.specs.Live.{is_live};
+ghost use Rattle.scr_reach.specs.Dues.{IsLiveAt};
+ghost use Rattle.scr_sums.specs.Books.{rolled_of};
+ghost use Rattle.scr_sums.specs.Graph.{sources_in};
+ghost use Rattle.scr_sums.specs.Sums.{first_sum};
+ghost use Rattle.scr_sums.specs.declared.point.Block.{Block as TheBlock};
+ghost use Rattle.scr_sums.specs.declared.point.Point.TheVariants as points;
+ghost use Rattle.scr_tree.specs.Figures.{AreSpansOf, worth_of};
+ghost use Rattle.scr_tree.specs.Ready.{IsBasis, IsReadyOn, IsRightOn, StandsOn, reckoning_on};
+
+use crate::basis::Basis;
+use crate::figures::{Figure, Figures, is_open_choice, read, read_linked};
+use crate::graph::is_beside;
+use crate::reckoning::Scratch;
+use crate::sums::plain_of;
+use crate::tops::{block_up, summed_up};
+use scr_figures::node_at;
+use scr_io::{Gate, Steps};
+use scr_nodes::Node;
+use scr_sums::first_sum;
+use std::alloc::AllocError as NoMemory;
+use std::sync::ledger::Ledger;
+
+/// The figure at a number, reckoned from those of its sources.
+pub(crate) fn figure_at<G: Gate, L: Ledger>(
+    basis: Basis<'_>,
+    figures: &Figures,
+    number: u32,
+    scratch: &mut Scratch,
+    gate: &G,
+    steps: &mut Steps<L>,
+) -> Result<Figure, NoMemory>
+    requires basis { IsBasis basis }
+    requires ready { IsReadyOn basis figures.now number }
+    ensures figure { IfOk result (IsRightOn basis.entry number) }
+    ensures step { OnOk result (steps.new ≡ steps.old + 1) }
+{
+    gate.pass(number);
+    match node_at(basis.places, basis.inputs.book.sheet(), number) {
+        Some(node) => figure_of_node(basis, figures, number, &node, scratch, steps),
+        None => Ok(figure_of_block(basis, figures, number, steps)),
+    }
+}
+
+/// The figure of the Block that has the number.
+fn figure_of_block<L: Ledger>(
+    basis: Basis<'_>,
+    figures: &Figures,
+    number: u32,
+    steps: &mut Steps<L>,
+) -> Figure
+    requires basis { IsBasis basis }
+    requires ready { IsReadyOn basis figures.now number }
+    requires block { (block : TheBlock) × StandsOn basis (points.Block block) number }
+    ensures figure { IsRightOn basis.entry number result }
+    ensures step { steps.new ≡ steps.old + 1 }
+{
+    let Some(block) = basis.numbers().block_at(number) else {
+        unreachable!();
+    };
+    steps.tick();
+    block_up(basis, figures, number, &block)
+}
+
+/// The figure of the node that has the number.
+fn figure_of_node<L: Ledger>(
+    basis: Basis<'_>,
+    figures: &Figures,
+    number: u32,
+    node: &Node,
+    scratch: &mut Scratch,
+    steps: &mut Steps<L>,
+) -> Result<Figure, NoMemory>
+    requires basis { IsBasis basis }
+    requires ready { IsReadyOn basis figures.now number }
+    requires at { StandsOn basis (points.Figure node.now) number }
+    ensures figure { IfOk result (IsRightOn basis.entry number) }
+    ensures step { OnOk result (steps.new ≡ steps.old + 1) }
+{
+    if let Some(first) = first_sum(node) {
+        return Ok(summed_up(basis, figures, number, node, &first, steps));
+    }
+    read_plain(basis, figures, number, node, scratch)?;
+    let below = &scratch.below;
+    let span = plain_of(basis.inputs, node, below.spans.as_slice(), steps);
+    Ok(Figure {
+        span,
+        close: is_open_choice(node, span) | below.close,
+    })
+}
+
+/// Reads what a figure is reckoned from that is reckoned from no large sum.
+fn read_plain(
+    basis: Basis<'_>,
+    figures: &Figures,
+    number: u32,
+    node: &Node,
+    scratch: &mut Scratch,
+) -> Result<(), NoMemory>
+    requires basis { IsBasis basis }
+    requires ready { IsReadyOn basis figures.now number }
+    requires at { StandsOn basis (points.Figure node.now) number }
+    requires plain { first_sum node.now ≡ None }
+    ensures { OnOk result (AreSpansOf (reckoning_on basis.entry) (sources_in (rolled_of basis.entry.inputs.book.now) (points.Figure node.now)) scratch.new.below) }
+{
+    if !is_beside(node) {
+        return read_linked(figures, basis.links, number, &mut scratch.below);
+    }
+    scratch.sources.clear();
+    basis
+        .graph()
+        .push_beside(&mut scratch.sources, number, node)?;
+    read(figures, scratch.sources.as_slice(), &mut scratch.below)
+}
