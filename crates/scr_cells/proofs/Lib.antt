@@ -1,4 +1,5 @@
-mod BlockLines
 pub mod Bounded
+mod Forming
 mod LineLists
 mod LiveCells
+mod Runs

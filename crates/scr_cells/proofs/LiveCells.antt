@@ -1,5 +1,5 @@
 -- The figure of each cell is one of every balance sheet, and it is in grains.
-use Rattle.std.proofs.Common.{◌≡◌, ℕ, zero, suc, true, false, Bool, List, [], ◌∷◌, ◌&&◌, Some, is_some, refl, subst}
+use Rattle.std.proofs.Common.{◌≡◌, ℕ, zero, suc, true, false, Bool, List, [], ◌∷◌, length, ◌&&◌, Some, is_some, refl, subst}
 use Rattle.std.specs.Prelude.{◌==◌, slice_get}
 use Rattle.std.proofs.lemmas.Bool.{eqb-true}
 use Rattle.std.specs.List.{AllByRecursion, list_all}
@@ -27,6 +27,10 @@ pub All-at : {X : Type 0} (P : X → Type 0) (xs : List X) (k : ℕ) (x : X) →
 All-at P [] k x is all = absurd (cc)
 All-at P (y ∷ ys) zero x is all = let same : y ≡ x = cc in subst P same all.0
 All-at P (y ∷ ys) (suc k) x is all = All-at P ys k x is all.1
+
+pub length-table : length table ≡ 102
+unfolding table
+length-table = refl
 
 pub all_live : (sheet : BalanceSheet) → AllByRecursion (IsLive sheet) table
 unfolding table

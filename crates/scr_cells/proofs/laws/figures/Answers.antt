@@ -1,5 +1,4 @@
-use Rattle.scr_cells.proofs.BlockLines.{length-table}
-use Rattle.scr_cells.proofs.LiveCells.{all_live, in_grains}
+use Rattle.scr_cells.proofs.LiveCells.{all_live, in_grains, length-table}
 use Rattle.scr_cells.proofs.laws.figures.Goals as goal
 
 pub returns : goal.returns
