@@ -5,6 +5,9 @@ ghost use Rattle.scr_amounts.specs.Amounts.{amount, euros};
 use itoa::Buffer;
 use std::alloc::{AllocError as NoMemory, Global};
 
+/// What 64 bits count up to.
+const WORDS: u128 = 1 << 64;
+
 /// Appends so many cents, in euros with two decimals.
 #[tactic(auto, unfolding(crate::specs::Amounts::amount))]
 pub fn push_amount(_alloc: Global, out: &mut Vec<u8>, cents: i128) -> Result<(), NoMemory>
@@ -21,18 +24,25 @@ fn push_euros(out: &mut Vec<u8>, cents: u128) -> Result<(), NoMemory>
     ensures { OnOk result (out.new.items ≡ out.old.items ++ euros cents) }
 {
     let mut digits = Buffer::new();
-    push(out, digits.format(cents / 100))?;
-    let (tens, units) = decimals_of(cents);
+    let (whole, tens, units) = digits_of(cents);
+    push(out, digits.format(whole))?;
     push_decimals(out, tens, units)
 }
 
-/// The last two digits of so many cents: both from one division of the wide number.
-fn decimals_of(cents: u128) -> (u8, u8)
-    ensures tens { result.0 ≡ cents / 10 % 10 }
-    ensures units { result.1 ≡ cents % 10 }
+/// The whole euros of so many cents, and the last two digits: all from one division, which most amounts are few enough for that it takes
+/// no wide number.
+fn digits_of(cents: u128) -> (u128, u8, u8)
+    ensures whole { result.0 ≡ cents / 100 }
+    ensures tens { result.1 ≡ cents / 10 % 10 }
+    ensures units { result.2 ≡ cents % 10 }
 {
+    if cents < WORDS {
+        let few = cents as u64;
+        let part = (few % 100) as u8;
+        return ((few / 100) as u128, part / 10, part % 10);
+    }
     let part = (cents % 100) as u8;
-    (part / 10, part % 10)
+    (cents / 100, part / 10, part % 10)
 }
 
 /// Appends a point and two digits.

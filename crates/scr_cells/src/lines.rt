@@ -22,8 +22,8 @@ use std::marker::Model;
 /// As many bytes as a block mostly has at the most.
 const BLOCK: usize = 6_000;
 
-/// A cell's line: the family of the figure that the cell shows, the figure in grains that the line tells, its mark where it is narrow, and
-/// how many bytes the line has. It has neither where it was not formed yet.
+/// A cell's line: the family of the figure that the cell shows, the figure in grains that the line tells, which contracts alone read, its
+/// mark where it is narrow, and how many bytes the line has. It has no mark and no bytes where it was not formed yet.
 #[derive(Clone, Copy)]
 pub(crate) struct Line {
     family: u32,
@@ -32,7 +32,8 @@ pub(crate) struct Line {
     bytes: usize,
 }
 
-/// The block that was printed last, with its lines from the first on: one whose figure is the same is not formed anew.
+/// The block that was printed last, with its lines from the first on: that of a narrow figure is not formed anew where the figure is the
+/// same.
 #[derive(Drop)]
 pub struct Lines {
     lines: Vec<Line>,
