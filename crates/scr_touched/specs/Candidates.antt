@@ -1,8 +1,9 @@
 -- Which figures what is exchanged touches (this project's own).
-use Rattle.std.specs.Prelude.{Bool, false, not, List, [], ◌++◌, filter}
+use Rattle.std.specs.Prelude.{Bool, false, not, List, [], ◌++◌, filter, Option, None}
 use Rattle.scr_names.specs.Tables.{row_of}
 use Rattle.scr_sheet.specs.BalanceSheet.{group_name, position_name, stake_name, liability_name, bank_name, rein_name, curve_name}
 use Rattle.scr_sheet.specs.declared.sheet.BalanceSheet.{BalanceSheet}
+use Rattle.scr_sheet.specs.declared.rows.Position.{Position}
 use Rattle.scr_nodes.specs.declared.node.Node.{Node}
 use Rattle.scr_touched.specs.Securities.{security_touches, security_nodes, row_nodes, is_of_position}
 use Rattle.scr_touched.specs.Funds.{fund_touches, fund_nodes, component_nodes, is_of_stake}
@@ -30,6 +31,18 @@ touches sheet (changes.Liability name new) node =
 touches sheet (changes.Curve name new) node = curve_touches sheet name (row_of curve_name name sheet.curves) new node
 touches sheet (changes.Asof date currency) node = date_touches sheet date currency node
 touches sheet (changes.Numbers numbers) node = numbers_touch sheet.numbers numbers node
+
+-- the security that is exchanged, as it was
+abbrev pub security_before : BalanceSheet → Change → Option Position
+security_before sheet (changes.Security name new) = row_of position_name name sheet.securities
+security_before sheet (changes.Fund name new) = None
+security_before sheet (changes.Group name new) = None
+security_before sheet (changes.Bank name new) = None
+security_before sheet (changes.Rein name new) = None
+security_before sheet (changes.Liability name new) = None
+security_before sheet (changes.Curve name new) = None
+security_before sheet (changes.Asof date currency) = None
+security_before sheet (changes.Numbers numbers) = None
 
 -- ---- what may be touched
 

@@ -1,10 +1,11 @@
 //! The figures that a record touches.
 ghost use Rattle.std.specs.Prelude.{◌≡◌, ◌++◌, ◌||◌, None, IfOk, OnOk, filter, is_some, not};
+ghost use Rattle.std.specs.Option.{option_copied};
 ghost use Rattle.scr_nodes.specs.LiveNodes.{HasNoRepeats};
 ghost use Rattle.scr_sheet.specs.Faults.{fields_outside, list_fault};
 ghost use Rattle.scr_sheet.specs.Forms.{Formed};
 ghost use Rattle.scr_sheet.specs.Validity.{Valid};
-ghost use Rattle.scr_touched.specs.Candidates.{touches, candidates, first_candidates, is_of_row, later_candidates};
+ghost use Rattle.scr_touched.specs.Candidates.{touches, candidates, first_candidates, is_of_row, later_candidates, security_before};
 ghost use Rattle.scr_touched.specs.FundShares.{AreSharesOf};
 ghost use Rattle.scr_touched.specs.Touched.{AreTouched};
 
@@ -21,7 +22,7 @@ use scr_book::Book;
 use scr_changes::debts::{bank_debt, rein_debt};
 use scr_changes::{Change, change_of};
 use scr_nodes::Node;
-use scr_sheet::{BalanceSheet, Edit, Fault, check_lists, fields_outside};
+use scr_sheet::{BalanceSheet, Edit, Fault, Position, check_lists, fields_outside};
 use std::alloc::{AllocError as NoMemory, Global};
 use std::mem::drop;
 
@@ -93,8 +94,19 @@ fn touched_with(
     ensures { IfOk result (λ list. list.items
         ≡ filter (touches sheet.now change.now) (candidates sheet.now change.now)) }
 {
-    let all = candidates(alloc, sheet, change, shares)?;
-    chosen(alloc, sheet, change, shares, &all)
+    let former = security_before(sheet, change);
+    let all = candidates(alloc, sheet, change, shares, former)?;
+    chosen(alloc, sheet, change, shares, former, &all)
+}
+
+/// The security that is exchanged, as it was. It is asked for at each figure: one look-up serves all.
+fn security_before<'a>(sheet: &'a BalanceSheet, change: &Change) -> Option<&'a Position>
+    ensures { option_copied result ≡ security_before sheet.now change.now }
+{
+    match change {
+        Change::Security(name, _) => sheet.securities.get(name),
+        _ => None,
+    }
 }
 
 /// Those of the figures that what is exchanged touches.
@@ -103,14 +115,16 @@ fn chosen(
     sheet: &BalanceSheet,
     change: &Change,
     shares: &Shares,
+    former: Option<&Position>,
     all: &[Node],
 ) -> Result<Vec<Node>, NoMemory>
-    requires { AreSharesOf sheet.now change.now shares.now }
+    requires shares { AreSharesOf sheet.now change.now shares.now }
+    requires former { option_copied former ≡ security_before sheet.now change.now }
     ensures { IfOk result (λ list. list.items ≡ filter (touches sheet.now change.now) all.now) }
 {
     let mut list = Vec::with_capacity(alloc, all.len())?;
     for node in all {
-        if touches(sheet, change, shares, node) {
+        if touches(sheet, change, shares, former, node) {
             list.push(*node)?;
         }
     }
@@ -127,14 +141,19 @@ fn shares_of(alloc: Global, sheet: &BalanceSheet, change: &Change) -> Result<Sha
     }
 }
 
-fn touches(sheet: &BalanceSheet, change: &Change, shares: &Shares, node: &Node) -> bool
-    requires { AreSharesOf sheet.now change.now shares.now }
+fn touches(
+    sheet: &BalanceSheet,
+    change: &Change,
+    shares: &Shares,
+    former: Option<&Position>,
+    node: &Node,
+) -> bool
+    requires shares { AreSharesOf sheet.now change.now shares.now }
+    requires former { option_copied former ≡ security_before sheet.now change.now }
     ensures { result ≡ touches sheet.now change.now node.now }
 {
     match change {
-        Change::Security(name, new) => {
-            security_touches(sheet, name, sheet.securities.get(name), new.as_ref(), node)
-        }
+        Change::Security(name, new) => security_touches(sheet, name, former, new.as_ref(), node),
         Change::Fund(name, new) => {
             fund_touches(
                 sheet,
@@ -176,13 +195,15 @@ fn candidates(
     sheet: &BalanceSheet,
     change: &Change,
     shares: &Shares,
+    former: Option<&Position>,
 ) -> Result<Vec<Node>, NoMemory>
-    requires { AreSharesOf sheet.now change.now shares.now }
+    requires shares { AreSharesOf sheet.now change.now shares.now }
+    requires former { option_copied former ≡ security_before sheet.now change.now }
     ensures { IfOk result (λ list. list.items ≡ candidates sheet.now change.now) }
 {
     let mut list = first_candidates(alloc, sheet, change)?;
     let later = later_candidates(alloc, sheet, change)?;
-    push_others(&mut list, sheet, change, shares, &later)?;
+    push_others(&mut list, sheet, change, shares, former, &later)?;
     Ok(list)
 }
 
@@ -192,14 +213,16 @@ fn push_others(
     sheet: &BalanceSheet,
     change: &Change,
     shares: &Shares,
+    former: Option<&Position>,
     later: &[Node],
 ) -> Result<(), NoMemory>
-    requires { AreSharesOf sheet.now change.now shares.now }
+    requires shares { AreSharesOf sheet.now change.now shares.now }
+    requires former { option_copied former ≡ security_before sheet.now change.now }
     ensures { OnOk result (list.new.items ≡ list.old.items
         ++ filter (λ node. not (is_of_row sheet.now change.now node)) later.now) }
 {
     for node in later {
-        if !is_of_row(sheet, change, shares, node) {
+        if !is_of_row(sheet, change, shares, former, node) {
             list.push(*node)?;
         }
     }
@@ -262,12 +285,19 @@ fn later_candidates(
 }
 
 /// Whether a figure is one of the row before.
-fn is_of_row(sheet: &BalanceSheet, change: &Change, shares: &Shares, node: &Node) -> bool
-    requires { AreSharesOf sheet.now change.now shares.now }
+fn is_of_row(
+    sheet: &BalanceSheet,
+    change: &Change,
+    shares: &Shares,
+    former: Option<&Position>,
+    node: &Node,
+) -> bool
+    requires shares { AreSharesOf sheet.now change.now shares.now }
+    requires former { option_copied former ≡ security_before sheet.now change.now }
     ensures { result ≡ is_of_row sheet.now change.now node.now }
 {
     match change {
-        Change::Security(name, _) => is_of_position(sheet.securities.get(name), node),
+        Change::Security(_, _) => is_of_position(former, node),
         Change::Fund(name, new) => {
             is_of_stake(name, shares, sheet.funds.get(name), new.as_ref(), node)
         }
