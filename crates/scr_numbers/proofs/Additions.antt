@@ -1,17 +1,16 @@
 -- One more range, of the numbers after all others.
-use Rattle.std.proofs.Common.{◌≡◌, ℕ, ◌+◌, ◌-◌, ◌/◌, ◌<◌, ◌≤◌, ◌⊎◌, inl, inr, ⊎_elim, false, List, [], ◌∷◌, ◌++◌, length, replicate, refl, sym, ap, subst, ◌∙◌, arith}
+use Rattle.std.proofs.Common.{◌≡◌, ℕ, zero, suc, ◌+◌, ◌-◌, ◌<◌, ◌≤◌, ◌⊎◌, inl, inr, ⊎_elim, false, List, [], ◌∷◌, ◌++◌, length, replicate, refl, sym, ap, subst, ◌∙◌, arith}
 use Rattle.std.proofs.lemmas.Bool.{cases_lt, cases_Bool}
 use Rattle.std.proofs.lemmas.List.{length_push, length-append, length-replicate, get_or_push, get_or_append_left, get_or-append_right, get_or-replicate}
 use Rattle.scr_numbers.specs.Ranges.{Numbered, RangeList, count, first, made, no_ranges, roll_at, same_table, stride}
 use Rattle.scr_numbers.specs.Moves.{IsNew, IsSameBut}
 use Rattle.scr_numbers.specs.Steps.{IsRollsBut, Made, Revived}
-use Rattle.scr_numbers.specs.Kept.{AreKept, IsKept, IsListed, IsOf, IsOwned, numbered_of, owner_at, owners, range_at, range_of}
+use Rattle.scr_numbers.specs.Kept.{AreKept, AreRuns, IsKept, IsListed, IsOf, IsOwned, Follow, Range, first_run, numbered_of, owner_at, owners, range_at, range_of, ranges_in, ranges_of, run_at}
 use Rattle.scr_numbers.specs.declared.places.Places.TheInside.{Inside}
-use Rattle.scr_numbers.specs.declared.places.Range.{Range}
 use Rattle.scr_numbers.specs.declared.table.Table.{Table}
 use Rattle.scr_numbers.specs.declared.table.Table.TheVariants as tables
 use Rattle.scr_numbers.proofs.Tables.{same_table-is, stride-some}
-use Rattle.scr_numbers.proofs.Owners.{marked-more, owners-push}
+use Rattle.scr_numbers.proofs.Owners.{owners-push}
 use Rattle.scr_numbers.proofs.Views.{count-is, first-new, first-old, made-is, made-more, of_all, others-same}
 
 module _ (made_in : Table → ℕ) (first_of : Table → ℕ → ℕ) (ranges : List Range) (owner : List ℕ)
@@ -184,40 +183,37 @@ module _ (made_in : Table → ℕ) (first_of : Table → ℕ → ℕ) (ranges : 
 
 module _ (before now : Inside) (kept : IsKept before) (table : Table)
     (rolls : IsRollsBut table before.rolls.items now.rolls.items)
-    (firsts : (roll_at now.rolls.items table).firsts ≡ (roll_at before.rolls.items table).firsts ++ length (owners before.ranges.items) ∷ [])
+    (firsts : (roll_at now.rolls.items table).firsts ≡ (roll_at before.rolls.items table).firsts ++ length (owners (ranges_in before)) ∷ [])
     (live : (roll_at now.rolls.items table).live ≡ (roll_at before.rolls.items table).live)
-    (ranges : now.ranges.items
-    ≡ before.ranges.items ++ range_of table (made (numbered_of before) table) (length (owners before.ranges.items)) ∷ [])
-    (marks : now.marks.items ≡ before.marks.items
-    ++ replicate ((length (owners before.ranges.items) + stride table) / 8 + 1 - length before.marks.items) (length before.ranges.items))
-    (size : now.size ≡ length (owners before.ranges.items) + stride table)
-    (fits : length (owners before.ranges.items) + stride table < 4294967296) where
-  owner : owners now.ranges.items ≡ owners before.ranges.items ++ replicate (stride table) (length before.ranges.items)
+    (ranges : (ranges_in now)
+    ≡ (ranges_in before) ++ range_of table (made (numbered_of before) table) (length (owners (ranges_in before))) ∷ [])
+    (runs : AreRuns now.runs.items (length now.places.items) now.size)
+    (many : length now.places.items ≡ length before.places.items + 1)
+    (size : now.size ≡ length (owners (ranges_in before)) + stride table)
+    (fits : length (owners (ranges_in before)) + stride table < 4294967296) where
+  owner : owners (ranges_in now) ≡ owners (ranges_in before) ++ replicate (stride table) (length (ranges_in before))
   owner = ap owners ranges
-      ∙ owners-push before.ranges.items (range_of table (made (numbered_of before) table) (length (owners before.ranges.items)))
+      ∙ owners-push (ranges_in before) (range_of table (made (numbered_of before) table) (length (owners (ranges_in before))))
 
   others : IsSameBut table (numbered_of before) (numbered_of now)
   others = others-same (numbered_of before) (numbered_of now) table rolls
 
   one-more : made (numbered_of now) table ≡ made (numbered_of before) table + 1
-  one-more = made-more (numbered_of before) (numbered_of now) table (length (owners before.ranges.items)) firsts
+  one-more = made-more (numbered_of before) (numbered_of now) table (length (owners (ranges_in before))) firsts
 
   same-count : count (numbered_of now) table ≡ count (numbered_of before) table
   same-count = count-is (numbered_of now) table ∙ live ∙ sym (count-is (numbered_of before) table)
 
   old-firsts : (k : ℕ) → k < made (numbered_of before) table → first (numbered_of now) table k ≡ first (numbered_of before) table k
-  old-firsts = first-old (numbered_of before) (numbered_of now) table (length (owners before.ranges.items)) firsts
+  old-firsts = first-old (numbered_of before) (numbered_of now) table (length (owners (ranges_in before))) firsts
 
-  new-first : first (numbered_of now) table (made (numbered_of before) table) ≡ length (owners before.ranges.items)
-  new-first = first-new (numbered_of before) (numbered_of now) table (length (owners before.ranges.items)) firsts
+  new-first : first (numbered_of now) table (made (numbered_of before) table) ≡ length (owners (ranges_in before))
+  new-first = first-new (numbered_of before) (numbered_of now) table (length (owners (ranges_in before))) firsts
 
-  ranges-long : length now.ranges.items ≡ length before.ranges.items + 1
-  ranges-long = ap length ranges ∙ length_push before.ranges.items (range_of table (made (numbered_of before) table) (length (owners before.ranges.items)))
-
-  owner-long : length (owners now.ranges.items) ≡ length (owners before.ranges.items) + stride table
+  owner-long : length (owners (ranges_in now)) ≡ length (owners (ranges_in before)) + stride table
   owner-long =
-      ap length owner ∙ length-append (owners before.ranges.items) (replicate (stride table) (length before.ranges.items))
-      ∙ ap (λ n. length (owners before.ranges.items) + n) (length-replicate (stride table) (length before.ranges.items))
+      ap length owner ∙ length-append (owners (ranges_in before)) (replicate (stride table) (length (ranges_in before)))
+      ∙ ap (λ n. length (owners (ranges_in before)) + n) (length-replicate (stride table) (length (ranges_in before)))
 
   pub make-kept : IsKept now
   make-kept = record {
@@ -225,18 +221,17 @@ module _ (before now : Inside) (kept : IsKept before) (table : Table)
     live = of_all (λ any. count (numbered_of now) any ≤ made (numbered_of now) any) table
         (let old = kept.live table in omega (arith, old, one-more, same-count))
         (λ other f. let old = kept.live other in omega (arith, old, others.counts other f, others.ranges other f));
-    few = of_all (λ any. made (numbered_of now) any ≤ length now.ranges.items) table
-        (let old = kept.few table in omega (arith, old, one-more, ranges-long))
-        (λ other f. let old = kept.few other in omega (arith, old, ranges-long, others.ranges other f));
-    numbers = let some = stride-some table in omega (arith, kept.numbers, ranges-long, owner-long, some);
+    few = of_all (λ any. made (numbered_of now) any ≤ length now.places.items) table
+        (let old = kept.few table in omega (arith, old, one-more, many))
+        (λ other f. let old = kept.few other in omega (arith, old, many, others.ranges other f));
+    numbers = let some = stride-some table in omega (arith, kept.numbers, many, owner-long, some);
     end = owner-long ∙ sym size;
     size = omega (arith, size, fits);
-    marks = marked-more before.ranges.items now.ranges.items before.marks.items now.marks.items kept.marks (stride table)
-        ranges-long owner marks;
-    ranges = subst (λ rs. AreKept (made (numbered_of now)) (first (numbered_of now)) rs (owners now.ranges.items)) (sym ranges)
+    runs = runs;
+    ranges = subst (λ rs. AreKept (made (numbered_of now)) (first (numbered_of now)) rs (owners (ranges_in now))) (sym ranges)
         (subst (AreKept (made (numbered_of now)) (first (numbered_of now))
-        (before.ranges.items ++ range_of table (made (numbered_of before) table) (length (owners before.ranges.items)) ∷ [])) (sym owner)
-        (kept-more (made (numbered_of before)) (first (numbered_of before)) before.ranges.items (owners before.ranges.items) kept.ranges
+        ((ranges_in before) ++ range_of table (made (numbered_of before) table) (length (owners (ranges_in before))) ∷ [])) (sym owner)
+        (kept-more (made (numbered_of before)) (first (numbered_of before)) (ranges_in before) (owners (ranges_in before)) kept.ranges
         table (made (numbered_of now)) (first (numbered_of now)) others.ranges others.firsts one-more old-firsts new-first));
   }
 
@@ -270,19 +265,17 @@ module _ (places : Numbered) (empty : (table : Table) → roll_at places.rolls t
   }
 
 pub empty-kept : (now : Inside) → length now.rolls.items ≡ 7 → ((table : Table) → roll_at now.rolls.items table ≡ no_ranges)
-    → now.ranges.items ≡ [] → now.marks.items ≡ [] → now.size ≡ 0 → IsKept now
-empty-kept now six empty ranges marks none = record {
+    → now.runs.items ≡ first_run ∷ [] → now.places.items ≡ [] → now.size ≡ 0 → IsKept now
+empty-kept now six empty runs places none = record {
   tables = six;
   live = λ table. let c = count-none (numbered_of now) empty table in omega (arith, c);
   few = λ table. let m = made-none (numbered_of now) empty table in omega (arith, m);
-  numbers = omega (arith, ap length ranges);
+  numbers = omega (arith, ap length places);
   end = ap length owner ∙ sym none;
   size = omega (arith, none);
-  marks = record {
-    all = λ number within. absurd (omega (arith, ap length owner, within));
-    early = λ number within. absurd (omega (arith, ap length owner, within));
-    known = λ block within. absurd (omega (arith, ap length marks, within));
-  };
+  runs = subst (λ rs. AreRuns rs (length now.places.items) now.size) (sym runs)
+      (subst (λ ps. AreRuns (first_run ∷ []) (length ps) now.size) (sym places)
+      (subst (AreRuns (first_run ∷ []) 0) (sym none) one-run));
   ranges = record {
     owned = λ table k j room family. let m = made-none (numbered_of now) empty table in absurd (omega (arith, m, room));
     listed = λ id known. absurd (omega (arith, ap length ranges, known));
@@ -290,5 +283,24 @@ empty-kept now six empty ranges marks none = record {
   };
 }
   where
-    owner : owners now.ranges.items ≡ []
+    ranges : ranges_in now ≡ []
+    ranges = ap (ranges_of now.runs.items) places
+
+    owner : owners (ranges_in now) ≡ []
     owner = ap owners ranges
+
+    follow : Follow first_run (first_run ∷ [])
+    follow zero less = record { id = omega arith; first = refl }
+    follow (suc n) less = absurd (omega (arith, less))
+
+    -- the run of the whole sheet, which has no range yet
+    one-run : AreRuns (first_run ∷ []) 0 0
+    one-run = record {
+      turn = record { some = omega arith; begin = refl; follow = follow };
+      low = low;
+      end = refl;
+    }
+      where
+        low : (n : ℕ) → n < 1 → (run_at (first_run ∷ []) n).id ≤ 0
+        low zero less = omega arith
+        low (suc n) less = absurd (omega (arith, less))

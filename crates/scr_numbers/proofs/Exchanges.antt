@@ -5,12 +5,11 @@ use Rattle.std.proofs.lemmas.List.{length-set, get_or-set_same, get_or-set_other
 use Rattle.scr_numbers.specs.Ranges.{RangeList, count, first, first_in, made, roll_at, same_table, stride}
 use Rattle.scr_numbers.specs.Moves.{IsSameBut, Sunk}
 use Rattle.scr_numbers.specs.Steps.{IsRollsBut, Sinking}
-use Rattle.scr_numbers.specs.Kept.{AreKept, AreMarked, IsKept, IsListed, IsOf, IsOwned, numbered_of, owner_at, owners, range_at, range_of}
+use Rattle.scr_numbers.specs.Kept.{AreKept, AreRuns, IsKept, IsListed, IsOf, IsOwned, Range, numbered_of, owner_at, owners, range_at, range_of, ranges_in}
 use Rattle.scr_numbers.specs.declared.places.Places.TheInside.{Inside}
-use Rattle.scr_numbers.specs.declared.places.Range.{Range}
 use Rattle.scr_numbers.specs.declared.table.Table.{Table}
 use Rattle.scr_numbers.proofs.Tables.{same_table-is, same_table-self, stride-some}
-use Rattle.scr_numbers.proofs.Owners.{marked-same, owners-same}
+use Rattle.scr_numbers.proofs.Owners.{owners-same}
 use Rattle.scr_numbers.proofs.Views.{count-is, made-is, of_all, others-same, roll-first, roll-made, sunk-is}
 
 module _ (made_in : Table → ℕ) (first_of : Table → ℕ → ℕ) (ranges : List Range) (owner : List ℕ)
@@ -307,17 +306,13 @@ module _ (places : Inside) (kept : IsKept places) (table : Table) (k : ℕ) (roo
     read-start : number ≡ first (numbered_of places) table k
     read-start = told ∙ roll-first places (numbered_of places) refl table roll is k
 
-    pub read-below : number < length (owners places.ranges.items)
-    read-below = subst (λ n. n < length (owners places.ranges.items)) (sym read-start)
-        (start-within (made (numbered_of places)) (first (numbered_of places)) places.ranges.items (owners places.ranges.items) kept.ranges table k room)
+    pub read-below : number < length (owners (ranges_in places))
+    read-below = subst (λ n. n < length (owners (ranges_in places))) (sym read-start)
+        (start-within (made (numbered_of places)) (first (numbered_of places)) (ranges_in places) (owners (ranges_in places)) kept.ranges table k room)
 
-    module _ (id : ℕ) (own_id : id ≡ owner_at (owners places.ranges.items) number) where
-      pub read-id : id ≡ owner_at (owners places.ranges.items) (first (numbered_of places) table k)
-      read-id = own_id ∙ ap (owner_at (owners places.ranges.items)) read-start
-
-      pub read-known : id < length places.ranges.items
-      read-known = subst (λ n. n < length places.ranges.items) (sym read-id)
-          (own (made (numbered_of places)) (first (numbered_of places)) places.ranges.items (owners places.ranges.items) kept.ranges table k room).known
+    module _ (id : ℕ) (own_id : id ≡ owner_at (owners (ranges_in places)) number) where
+      pub read-id : id ≡ owner_at (owners (ranges_in places)) (first (numbered_of places) table k)
+      read-id = own_id ∙ ap (owner_at (owners (ranges_in places))) read-start
 
 -- two neighbours changed places in the rolls and in what the ranges know
 module _ (before now : Inside) (kept : IsKept before) (table : Table) (k : ℕ)
@@ -326,12 +321,12 @@ module _ (before now : Inside) (kept : IsKept before) (table : Table) (k : ℕ)
     (sunk : Sunk k (k + 1) (first_in (roll_at before.rolls.items table).firsts) (first_in (roll_at now.rolls.items table).firsts))
     (long : length (roll_at now.rolls.items table).firsts ≡ length (roll_at before.rolls.items table).firsts)
     (live : (roll_at now.rolls.items table).live ≡ (roll_at before.rolls.items table).live)
-    (marks : now.marks.items ≡ before.marks.items) (size : now.size ≡ before.size)
+    (runs : now.runs.items ≡ before.runs.items) (many : length now.places.items ≡ length before.places.items) (size : now.size ≡ before.size)
     (low_id high_id : ℕ) (once : List Range)
-    (low_is : low_id ≡ owner_at (owners before.ranges.items) (first (numbered_of before) table k))
-    (high_is : high_id ≡ owner_at (owners before.ranges.items) (first (numbered_of before) table (k + 1)))
-    (first_write : once ≡ set before.ranges.items low_id (record (range_at before.ranges.items low_id) { place = k + 1 }))
-    (second_write : now.ranges.items ≡ set once high_id (record (range_at once high_id) { place = k })) where
+    (low_is : low_id ≡ owner_at (owners (ranges_in before)) (first (numbered_of before) table k))
+    (high_is : high_id ≡ owner_at (owners (ranges_in before)) (first (numbered_of before) table (k + 1)))
+    (first_write : once ≡ set (ranges_in before) low_id (record (range_at (ranges_in before) low_id) { place = k + 1 }))
+    (second_write : (ranges_in now) ≡ set once high_id (record (range_at once high_id) { place = k })) where
   exchanged-others : IsSameBut table (numbered_of before) (numbered_of now)
   exchanged-others = others-same (numbered_of before) (numbered_of now) table rolls
 
@@ -351,36 +346,37 @@ module _ (before now : Inside) (kept : IsKept before) (table : Table) (k : ℕ)
   count-each = of_all (λ any. count (numbered_of now) any ≡ count (numbered_of before) any) table exchanged-count exchanged-others.counts
 
   abbrev swapped : List Range
-  swapped = after (made (numbered_of before)) (first (numbered_of before)) before.ranges.items (owners before.ranges.items) kept.ranges table k room
+  swapped = after (made (numbered_of before)) (first (numbered_of before)) (ranges_in before) (owners (ranges_in before)) kept.ranges table k room
 
-  ranges-are : now.ranges.items ≡ swapped
-  ranges-are = after-is (made (numbered_of before)) (first (numbered_of before)) before.ranges.items (owners before.ranges.items) kept.ranges table k room
-      low_id high_id once now.ranges.items low_is high_is first_write second_write
+  ranges-are : (ranges_in now) ≡ swapped
+  ranges-are = after-is (made (numbered_of before)) (first (numbered_of before)) (ranges_in before) (owners (ranges_in before)) kept.ranges table k room
+      low_id high_id once (ranges_in now) low_is high_is first_write second_write
 
-  ranges-long : length now.ranges.items ≡ length before.ranges.items
+  ranges-long : length (ranges_in now) ≡ length (ranges_in before)
   ranges-long = ap length ranges-are
-      ∙ after-length (made (numbered_of before)) (first (numbered_of before)) before.ranges.items (owners before.ranges.items) kept.ranges table k room
+      ∙ after-length (made (numbered_of before)) (first (numbered_of before)) (ranges_in before) (owners (ranges_in before)) kept.ranges table k room
 
   -- the tables of the ranges are the same, and so are the owners
-  owner : owners now.ranges.items ≡ owners before.ranges.items
-  owner = owners-same 0 now.ranges.items before.ranges.items ranges-long (λ id.
+  owner : owners (ranges_in now) ≡ owners (ranges_in before)
+  owner = owners-same 0 (ranges_in now) (ranges_in before) ranges-long (λ id.
       ap (λ rs. (range_at rs id).table) ranges-are
-      ∙ (after-body (made (numbered_of before)) (first (numbered_of before)) before.ranges.items (owners before.ranges.items)
+      ∙ (after-body (made (numbered_of before)) (first (numbered_of before)) (ranges_in before) (owners (ranges_in before))
       kept.ranges table k room id).0)
 
   pub exchange-kept : IsKept now
   exchange-kept = record {
     tables = rolls.tables ∙ kept.tables;
     live = λ any. let old = kept.live any in omega (arith, old, made-each any, count-each any);
-    few = λ any. let old = kept.few any in omega (arith, old, made-each any, ranges-long);
-    numbers = omega (arith, kept.numbers, ranges-long, ap length owner);
+    few = λ any. let old = kept.few any in omega (arith, old, made-each any, many);
+    numbers = omega (arith, kept.numbers, many, ap length owner);
     end = omega (arith, kept.end, ap length owner, size);
     size = omega (arith, kept.size, size);
-    marks = subst (λ ms. AreMarked ms now.ranges.items) (sym marks)
-        (marked-same before.ranges.items now.ranges.items before.marks.items kept.marks ranges-long owner);
-    ranges = subst (λ rs. AreKept (made (numbered_of now)) (first (numbered_of now)) rs (owners now.ranges.items)) (sym ranges-are)
+    runs = subst (λ rs. AreRuns rs (length now.places.items) now.size) (sym runs)
+        (subst (λ n. AreRuns before.runs.items n now.size) (sym many)
+        (subst (AreRuns before.runs.items (length before.places.items)) (sym size) kept.runs));
+    ranges = subst (λ rs. AreKept (made (numbered_of now)) (first (numbered_of now)) rs (owners (ranges_in now))) (sym ranges-are)
         (subst (AreKept (made (numbered_of now)) (first (numbered_of now)) swapped) (sym owner)
-        (kept-exchanged (made (numbered_of before)) (first (numbered_of before)) before.ranges.items (owners before.ranges.items) kept.ranges
+        (kept-exchanged (made (numbered_of before)) (first (numbered_of before)) (ranges_in before) (owners (ranges_in before)) kept.ranges
         table k room (made (numbered_of now)) (first (numbered_of now)) made-each exchanged-others.firsts exchanged-firsts));
   }
 

@@ -1,5 +1,6 @@
 pub mod Tables
 pub mod Owners
+pub mod Runs
 pub mod Views
 pub mod Exchanges
 pub mod Additions

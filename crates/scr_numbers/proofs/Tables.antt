@@ -2,8 +2,7 @@
 use Rattle.std.proofs.Common.{◌≡◌, ℕ, zero, suc, ◌<◌, true, List, refl, sym, ap, subst, ◌∙◌, arith}
 use Rattle.std.proofs.lemmas.Bool.{eqb-true}
 use Rattle.scr_numbers.specs.Ranges.{number_of, same_table, stride}
-use Rattle.scr_numbers.specs.Kept.{AreKept, IsOwned, range_at}
-use Rattle.scr_numbers.specs.declared.places.Range.{Range}
+use Rattle.scr_numbers.specs.Kept.{AreKept, IsOwned, Range, range_at}
 use Rattle.scr_numbers.specs.declared.table.Table.{Table}
 use Rattle.scr_numbers.specs.declared.table.Table.TheVariants as tables
 

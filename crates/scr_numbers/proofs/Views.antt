@@ -1,15 +1,16 @@
 -- What contracts see of the rolls, where those of one table changed.
-use Rattle.std.proofs.Common.{◌≡◌, ℕ, ◌+◌, ◌-◌, ◌<◌, ◌≤◌, ⊎_elim, false, [], ◌∷◌, ◌++◌, length, refl, sym, ap, subst, ◌∙◌, arith}
+use Rattle.std.proofs.Common.{◌≡◌, ℕ, ◌+◌, ◌-◌, ◌<◌, ◌≤◌, ⊎_elim, false, [], ◌∷◌, ◌++◌, length, get_or, refl, sym, ap, subst, ◌∙◌, arith}
 use Rattle.std.proofs.lemmas.Bool.{cases_Bool}
-use Rattle.std.proofs.lemmas.List.{get_or_append_left, get_or_push, length_push}
+use Rattle.std.proofs.lemmas.List.{get_or_append_left, get_or_push, get_or_read, length_push}
 use Rattle.scr_numbers.specs.Ranges.{IsApart, IsAt, IsWithin, Numbered, RangeList, count, first, first_in, made, roll_at, same_table, stride}
 use Rattle.scr_numbers.specs.Moves.{IsSameBut, Sunk}
 use Rattle.scr_numbers.specs.Steps.{IsRollsBut}
-use Rattle.scr_numbers.specs.Kept.{AreKept, AreMarked, AreOwned, IsKept, IsOwned, numbered_of, owner_at, owners, range_at, range_of}
+use Rattle.scr_numbers.specs.Kept.{AreKept, AreRuns, IsKept, IsListed, IsOf, IsOwned, IsOwner, Range, numbered_of, owner_at, owners, place_at, range_at, range_of, ranges_in, ranges_of}
 use Rattle.scr_numbers.specs.declared.places.Places.TheInside.{Inside}
-use Rattle.scr_numbers.specs.declared.places.Range.{Range}
+use Rattle.scr_numbers.specs.declared.places.Owner.{Owner}
 use Rattle.scr_numbers.specs.declared.table.Table.{Table}
 use Rattle.scr_numbers.proofs.Tables.{kept-same, same_table-is, stride-some}
+use Rattle.scr_numbers.proofs.Runs.{owner-is, owner-known, owner-range}
 
 pub count-is : (places : Numbered) (table : Table) → count places table ≡ (roll_at places.rolls table).live
 unfolding count
@@ -56,22 +57,24 @@ module _ (before now : Numbered) (table : Table) (rolls : IsRollsBut table befor
 pub kept-live : (before now : Inside) → IsKept before → (table : Table)
     → IsRollsBut table before.rolls.items now.rolls.items
     → (roll_at now.rolls.items table).firsts ≡ (roll_at before.rolls.items table).firsts
-    → now.ranges.items ≡ before.ranges.items → now.marks.items ≡ before.marks.items → now.size ≡ before.size
+    → now.runs.items ≡ before.runs.items → now.places.items ≡ before.places.items → now.size ≡ before.size
     → count (numbered_of now) table ≤ made (numbered_of before) table → IsKept now
-kept-live before now kept table rolls firsts ranges marks size live = record {
+kept-live before now kept table rolls firsts runs places size live = record {
   tables = rolls.tables ∙ kept.tables;
   live = of_all (λ any. count b any ≤ made b any) table
       (omega (arith, live, made-same a b table rolls firsts))
       (λ other f. let old = kept.live other in
       omega (arith, old, (others-same a b table rolls).counts other f, (others-same a b table rolls).ranges other f));
-  few = λ any. let old = kept.few any in omega (arith, old, made-all a b table rolls firsts any, ap length ranges);
-  numbers = omega (arith, kept.numbers, ap length ranges, ap length owner);
+  few = λ any. let old = kept.few any in omega (arith, old, made-all a b table rolls firsts any, ap length places);
+  numbers = omega (arith, kept.numbers, ap length places, ap length owner);
   end = omega (arith, kept.end, ap length owner, size);
   size = omega (arith, kept.size, size);
-  marks = subst (λ ms. AreMarked ms now.ranges.items) (sym marks) (subst (AreMarked before.marks.items) (sym ranges) kept.marks);
-  ranges = subst (λ rs. AreKept (made b) (first b) rs (owners now.ranges.items)) (sym ranges)
-      (subst (AreKept (made b) (first b) before.ranges.items) (sym owner)
-      (kept-same (made a) (made b) (first a) (first b) before.ranges.items (owners before.ranges.items)
+  runs = subst (λ rs. AreRuns rs (length now.places.items) now.size) (sym runs)
+      (subst (λ ps. AreRuns before.runs.items (length ps) now.size) (sym places)
+      (subst (AreRuns before.runs.items (length before.places.items)) (sym size) kept.runs));
+  ranges = subst (λ rs. AreKept (made b) (first b) rs (owners (ranges_in now))) (sym ranges)
+      (subst (AreKept (made b) (first b) (ranges_in before)) (sym owner)
+      (kept-same (made a) (made b) (first a) (first b) (ranges_in before) (owners (ranges_in before))
       (made-all a b table rolls firsts) (first-all a b table rolls firsts) kept.ranges));
 }
   where
@@ -81,7 +84,10 @@ kept-live before now kept table rolls firsts ranges marks size live = record {
     b : Numbered
     b = numbered_of now
 
-    owner : owners now.ranges.items ≡ owners before.ranges.items
+    ranges : ranges_in now ≡ ranges_in before
+    ranges = ap (λ rs. ranges_of rs now.places.items) runs ∙ ap (ranges_of before.runs.items) places
+
+    owner : owners (ranges_in now) ≡ owners (ranges_in before)
     owner = ap owners ranges
 
 -- ---- what is read
@@ -91,22 +97,22 @@ module _ (places : Inside) (kept : IsKept places) (value : Numbered) (view : num
   live-made table = subst (λ v. count v table ≤ made v table) view (kept.live table)
 
   owned : (table : Table) (k j number : ℕ) → IsAt value table k j number
-      → IsOwned places.ranges.items (owners places.ranges.items) table k (first value table k) j
+      → IsOwned (ranges_in places) (owners (ranges_in places)) table k (first value table k) j
   owned table k j number at =
       let some : k < made value table = let less = live-made table in omega (arith, at.row, less) in
-      subst (λ v. IsOwned places.ranges.items (owners places.ranges.items) table k (first v table k) j) view
+      subst (λ v. IsOwned (ranges_in places) (owners (ranges_in places)) table k (first v table k) j) view
       (kept.ranges.owned table k j (subst (λ v. k < made v table) (sym view) some) at.family)
 
   -- a number of a row is owned by its range
   pub at-owned : (table : Table) (k j number : ℕ) → IsAt value table k j number
-      → range_at places.ranges.items (owner_at (owners places.ranges.items) number) ≡ range_of table k (first value table k)
+      → range_at (ranges_in places) (owner_at (owners (ranges_in places)) number) ≡ range_of table k (first value table k)
   at-owned table k j number at =
-      subst (λ n. range_at places.ranges.items (owner_at (owners places.ranges.items) n) ≡ range_of table k (first value table k)) at.is
+      subst (λ n. range_at (ranges_in places) (owner_at (owners (ranges_in places)) n) ≡ range_of table k (first value table k)) at.is
       (owned table k j number at).is
 
-  pub at-within : (table : Table) (k j number : ℕ) → IsAt value table k j number → number < length (owners places.ranges.items)
+  pub at-within : (table : Table) (k j number : ℕ) → IsAt value table k j number → number < length (owners (ranges_in places))
   at-within table k j number at =
-      subst (λ n. n < length (owners places.ranges.items)) at.is (owned table k j number at).within
+      subst (λ n. n < length (owners (ranges_in places))) at.is (owned table k j number at).within
 
   pub within : IsWithin value
   within number table k j at =
@@ -124,7 +130,7 @@ module _ (places : Inside) (kept : IsKept places) (value : Numbered) (view : num
       }
 
   -- the numbers of a row are below the size
-  pub below-size : (table : Table) (k : ℕ) → k < made value table → first value table k + stride table ≤ length (owners places.ranges.items)
+  pub below-size : (table : Table) (k : ℕ) → k < made value table → first value table k + stride table ≤ length (owners (ranges_in places))
   below-size table k inside =
       let some = stride-some table in
       let j : ℕ = stride table - 1 in
@@ -133,9 +139,55 @@ module _ (places : Inside) (kept : IsKept places) (value : Numbered) (view : num
       let start : first (numbered_of places) table k ≡ first value table k = ap (λ v. first v table k) view in
       omega (arith, some, last, start)
 
-  -- the numbers are owned, and their owners are marked
-  pub all-owned : AreOwned places.ranges.items
-  all-owned = record { held = kept.ranges.held; owns = λ id j known family. (kept.ranges.listed id known).owns j family }
+  -- what is found of a number that is below the size
+  module _ (number : ℕ) (below : number < length (owners (ranges_in places))) (owner : Owner)
+      (found : IsOwner places.runs.items number owner) where
+    held : IsOf (ranges_in places) number (owner_at (owners (ranges_in places)) number)
+    held = kept.ranges.held number below
+
+    pub found-is : owner.id ≡ owner_at (owners (ranges_in places)) number
+    found-is = owner-is places.runs.items places.places.items kept.runs.turn number held owner found
+
+    pub found-known : owner.id < length places.places.items
+    found-known = owner-known places.runs.items places.places.items kept.runs.turn number held owner found
+
+    found-range : range_at (ranges_in places) owner.id ≡ range_of owner.table (place_at places.places.items owner.id) (number - owner.family)
+    found-range = owner-range places.runs.items places.places.items kept.runs.turn number held owner found
+
+    family-low : owner.family ≤ number
+    family-low = omega (arith, found.is)
+
+    -- what is read there is its place
+    pub found-read : (row : ℕ) → row ≡ get_or places.places.items owner.id row → row ≡ place_at places.places.items owner.id
+    found-read row read = get_or_read places.places.items owner.id row found-known read 0
+
+    -- the row that has it, if it stands
+    pub found-at : place_at places.places.items owner.id < count value owner.table
+        → IsAt value owner.table (place_at places.places.items owner.id) owner.family number
+    found-at room =
+        let listed = kept.ranges.listed owner.id (subst (λ n. n < length (ranges_in places)) (sym found-is) held.known) in
+        let start = (subst (IsListed (made (numbered_of places)) (first (numbered_of places)) (owners (ranges_in places)) owner.id) found-range listed).start in
+        let same : first (numbered_of places) owner.table (place_at places.places.items owner.id)
+        ≡ first value owner.table (place_at places.places.items owner.id) =
+        ap (λ v. first v owner.table (place_at places.places.items owner.id)) view in
+        record { row = room; family = found.family; is = omega (arith, start, same, family-low) }
+
+    -- a row that has it stands in the table and at the place that were found
+    pub found-row : (table : Table) (k j : ℕ) → IsAt value table k j number
+        → (owner.table ≡ table) × (place_at places.places.items owner.id ≡ k)
+    found-row table k j at =
+        let same : range_of owner.table (place_at places.places.items owner.id) (number - owner.family) ≡ range_of table k (first value table k) =
+        sym found-range ∙ ap (range_at (ranges_in places)) found-is ∙ at-owned table k j number at in
+        (ap (λ (r : Range). r.table) same, ap (λ (r : Range). r.place) same)
+
+    -- so where that row went, none has it
+    pub found-none : count value owner.table ≤ place_at places.places.items owner.id → (table : Table) (k j : ℕ)
+        → IsAt value table k j number → ⊥
+    found-none gone table k j at =
+        let of = found-row table k j at in
+        let row : k < count value owner.table = subst (λ t. k < count value t) (sym of.0) at.row in
+        let place = of.1 in
+        absurd (omega (arith, gone, row, place))
 
 -- ---- what the roll of a table tells
 

@@ -1,12 +1,19 @@
 -- How numbers are kept (this project's own): each number has one owner, a range, and each range knows its table, its place
--- there and its first number. So ranges cannot overlap. Ranges own numbers one behind another, so only of each eight numbers in turn
--- a range is marked, from which on theirs are found.
-use Rattle.std.specs.Prelude.{◌≡◌, ℕ, ◌+◌, ◌/◌, ◌<◌, ◌≤◌, ◌^◌, ◌++◌, List, [], ◌∷◌, length, replicate, slice_index_or}
+-- there and its first number. So ranges cannot overlap. Ranges own numbers one behind another; of many in turn that are of one table
+-- only the run is kept that they make up, and of each the place in its table.
+use Rattle.std.specs.Prelude.{◌≡◌, ℕ, ◌+◌, ◌-◌, ◌*◌, ◌<◌, ◌≤◌, ◌^◌, ◌++◌, List, [], ◌∷◌, length, if◌then◌else◌, nat_lt, replicate, slice_index_or}
 use Rattle.scr_numbers.specs.Ranges.{Numbered, count, made, first, stride}
 use Rattle.scr_numbers.specs.declared.places.Places.TheInside.{Inside}
-use Rattle.scr_numbers.specs.declared.places.Range.{Range}
+use Rattle.scr_numbers.specs.declared.places.Owner.{Owner}
+use Rattle.scr_numbers.specs.declared.places.Run.{Run}
 use Rattle.scr_numbers.specs.declared.table.Table.{Table}
 use Rattle.scr_numbers.specs.declared.table.Table.TheVariants as tables
+
+-- what a range of numbers is of, where that stands in its table, and its first number
+pub record Range : Type 0 where
+  pub table : Table
+  pub place : ℕ
+  pub first : ℕ
 
 abbrev pub range_of : Table → ℕ → ℕ → Range
 range_of table place start = record { table = table; place = place; first = start }
@@ -21,9 +28,6 @@ owners_from id (range ∷ ranges) = replicate (stride range.table) id ++ owners_
 
 abbrev pub owners : List Range → List ℕ
 owners ranges = owners_from 0 ranges
-
-abbrev pub mark_at : List ℕ → ℕ → ℕ
-mark_at marks block = slice_index_or marks block 0
 
 abbrev pub owner_at : List ℕ → ℕ → ℕ
 owner_at owner number = slice_index_or owner number 0
@@ -52,27 +56,87 @@ pub record AreKept (made_in : Table → ℕ) (first_of : Table → ℕ → ℕ) 
   pub listed : (id : ℕ) → id < length ranges → IsListed made_in first_of owner id (range_at ranges id)
   pub held : (number : ℕ) → number < length owner → IsOf ranges number (owner_at owner number)
 
--- each number is one of its owner's, and each range owns its numbers
-pub record AreOwned (ranges : List Range) : Type 0 where
-  pub held : (number : ℕ) → number < length (owners ranges) → IsOf ranges number (owner_at (owners ranges) number)
-  pub owns : (id j : ℕ) → id < length ranges → j < stride (range_at ranges id).table
-      → owner_at (owners ranges) ((range_at ranges id).first + j) ≡ id
+-- ---- runs
 
--- of each block of eight numbers a range is marked that is none behind the owner of one of them
-pub record AreMarked (marks : List ℕ) (ranges : List Range) : Type 0 where
-  pub all : (number : ℕ) → number < length (owners ranges) → number / 8 < length marks
-  pub early : (number : ℕ) → number < length (owners ranges) → mark_at marks (number / 8) ≤ owner_at (owners ranges) number
-  pub known : (block : ℕ) → block < length marks → mark_at marks block < length ranges
+-- the run of the whole sheet, which has the first range and the first numbers
+abbrev pub first_run : Run
+first_run = record { table = tables.Whole; first = 0; id = 0 }
+
+abbrev pub run_at : List Run → ℕ → Run
+run_at runs n = slice_index_or runs n first_run
+
+abbrev pub last_run : List Run → Run
+last_run runs = run_at runs (length runs - 1)
+
+-- the run of a range: the last of these that begins at it or before it
+abbrev pub run_from : Run → List Run → ℕ → Run
+run_from run [] id = run
+run_from run (next ∷ runs) id = if nat_lt id next.id then run else run_from next runs id
+
+abbrev pub run_of : List Run → ℕ → Run
+run_of runs id = run_from first_run runs id
+
+-- the first number of a range, where it is of this run
+abbrev pub start_in : Run → ℕ → ℕ
+start_in run id = run.first + (id - run.id) * stride run.table
+
+abbrev pub start_of : List Run → ℕ → ℕ
+start_of runs id = start_in (run_of runs id) id
+
+abbrev pub place_at : List ℕ → ℕ → ℕ
+place_at places id = slice_index_or places id 0
+
+-- the range of a run that stands at a place of its table
+abbrev pub range_in : List Run → ℕ → ℕ → Range
+range_in runs id place = range_of (run_of runs id).table place (start_of runs id)
+
+-- all ranges, where these are their places
+abbrev pub ranges_from : List Run → ℕ → List ℕ → List Range
+ranges_from runs id [] = []
+ranges_from runs id (place ∷ places) = range_in runs id place ∷ ranges_from runs (id + 1) places
+
+abbrev pub ranges_of : List Run → List ℕ → List Range
+ranges_of runs places = ranges_from runs 0 places
+
+-- a run begins where the ranges of the one before it end
+pub record IsNext (run next : Run) : Type 0 where
+  pub id : run.id ≤ next.id
+  pub first : next.first ≡ start_in run next.id
+
+abbrev pub Follow : Run → List Run → Type 0
+Follow run runs = (n : ℕ) → n < length runs → IsNext (run_at (run ∷ runs) n) (run_at runs n)
+
+pub record AreInTurn (runs : List Run) : Type 0 where
+  pub some : 0 < length runs
+  pub begin : (run_at runs 0).first ≡ 0
+  pub follow : Follow first_run runs
+
+-- they have so many ranges, which own all numbers below the size
+pub record AreRuns (runs : List Run) (count size : ℕ) : Type 0 where
+  pub turn : AreInTurn runs
+  pub low : (n : ℕ) → n < length runs → (run_at runs n).id ≤ count
+  pub end : start_of runs count ≡ size
+
+-- the number is that of place `family` in the range
+pub record IsOwner (runs : List Run) (number : ℕ) (owner : Owner) : Type 0 where
+  pub table : (run_of runs owner.id).table ≡ owner.table
+  pub family : owner.family < stride owner.table
+  pub is : start_of runs owner.id + owner.family ≡ number
+
+-- ---- all that is kept
+
+abbrev pub ranges_in : Inside → List Range
+ranges_in places = ranges_of places.runs.items places.places.items
 
 abbrev pub numbered_of : Inside → Numbered
-numbered_of places = record { size = length (owners places.ranges.items); rolls = places.rolls.items }
+numbered_of places = record { size = length (owners (ranges_in places)); rolls = places.rolls.items }
 
 pub record IsKept (places : Inside) : Type 0 where
   pub tables : length places.rolls.items ≡ 7
   pub live : (table : Table) → count (numbered_of places) table ≤ made (numbered_of places) table
-  pub few : (table : Table) → made (numbered_of places) table ≤ length places.ranges.items
-  pub numbers : length places.ranges.items ≤ length (owners places.ranges.items)
-  pub end : length (owners places.ranges.items) ≡ places.size
+  pub few : (table : Table) → made (numbered_of places) table ≤ length places.places.items
+  pub numbers : length places.places.items ≤ length (owners (ranges_in places))
+  pub end : length (owners (ranges_in places)) ≡ places.size
   pub size : places.size < 2 ^ 32
-  pub marks : AreMarked places.marks.items places.ranges.items
-  pub ranges : AreKept (made (numbered_of places)) (first (numbered_of places)) places.ranges.items (owners places.ranges.items)
+  pub runs : AreRuns places.runs.items (length places.places.items) places.size
+  pub ranges : AreKept (made (numbered_of places)) (first (numbered_of places)) (ranges_in places) (owners (ranges_in places))

@@ -1,9 +1,9 @@
 //! The numbers of all rows.
-ghost use Rattle.std.specs.Prelude.{◌≡◌, ℕ, ◌+◌, ◌-◌, ◌/◌, ◌<◌, ◌≤◌, ◌^◌, ◌++◌, ◌∷◌, [], true, false, length, IfOk, OnOk, OnErr, IfSome, IsNone, replicate, slice_index, slice_set};
+ghost use Rattle.std.specs.Prelude.{◌≡◌, ℕ, ◌+◌, ◌<◌, ◌≤◌, ◌^◌, ◌++◌, ◌∷◌, [], length, IfOk, OnOk, OnErr, IfSome, IsNone, slice_index, slice_set};
 ghost use Rattle.std.specs.Vec.{vec_capacity, vec_len};
 ghost use Rattle.scr_numbers.specs.Ranges.{IsApart, IsAt, IsWithin, no_ranges, count, first, first_in, made, roll_at, stride};
 ghost use Rattle.scr_numbers.specs.Moves.{Came, IsNew, PutBack, Retired, Went, Sunk};
-ghost use Rattle.scr_numbers.specs.Kept.{AreMarked, AreOwned, mark_at, owner_at, owners, range_at};
+ghost use Rattle.scr_numbers.specs.Kept.{AreInTurn, IsOwner, first_run, last_run, run_at};
 ghost use Rattle.scr_numbers.specs.Steps.{IsRollsBut, Made, Revived, Sinking};
 ghost use Rattle.scr_numbers.specs.declared.table.Table.{Table};
 
@@ -12,18 +12,26 @@ use crate::table::Table;
 use std::alloc::{AllocError as NoMemory, Global};
 use std::marker::Model;
 
-/// So many numbers in turn have one mark.
-const BLOCK: usize = 8;
+/// For so many runs there is room at first: the rows of each table come one behind another, and so do the parts of lists.
+const RUNS: usize = 16;
 
 /// How many tables there are.
 const TABLES: usize = 7;
 
-/// What a range of numbers is of, where that stands in its table, and its first number.
+/// From a range on, and from its first number on, all ranges are of one table and lie one behind another, until the next run begins.
 #[derive(Clone, Copy)]
-pub(crate) struct Range {
+pub(crate) struct Run {
     table: Table,
-    place: u32,
     first: u32,
+    id: u32,
+}
+
+/// The range of a number, the table of the range, and the place of the number in it.
+#[derive(Clone, Copy)]
+pub(crate) struct Owner {
+    table: Table,
+    id: usize,
+    family: u32,
 }
 
 /// What a number stands for: the table, the place of the row in it, and the place of the number in the row's range.
@@ -40,9 +48,9 @@ pub struct Place {
 #[derive(Drop)]
 pub struct Places {
     rolls: Vec<Roll>,
-    ranges: Vec<Range>,
-    /// Of each block of numbers the range from which on those of its numbers are found.
-    marks: Vec<u32>,
+    runs: Vec<Run>,
+    /// Of each range the place in its table.
+    places: Vec<u32>,
     size: u32,
 }
 
@@ -63,25 +71,25 @@ impl Places {
     pub fn new(alloc: Global) -> Result<Places, NoMemory>
         ensures { IfOk result IsNew }
     {
-        Places::with_room(alloc, 0, 0)
+        Places::with_room(alloc, 0)
     }
 
-    /// The same, with room for so many ranges, and for the marks of so many numbers.
-    pub fn with_room(alloc: Global, ranges: usize, numbers: usize) -> Result<Places, NoMemory>
+    /// The same, with room for so many ranges.
+    pub fn with_room(alloc: Global, ranges: usize) -> Result<Places, NoMemory>
         ensures { IfOk result IsNew }
     {
         let rolls = no_rolls(alloc)?;
-        let ranges = Vec::with_capacity(alloc, ranges)?;
-        let marks = Vec::with_capacity(alloc, numbers / BLOCK + 1)?;
-        let mut places = Places {
+        let runs = first_runs(alloc)?;
+        let places = Vec::with_capacity(alloc, ranges)?;
+        let mut numbers = Places {
             rolls,
-            ranges,
-            marks,
+            runs,
+            places,
             size: 0,
         };
-        places.make(Table::Whole)?;
-        places.revive(Table::Whole);
-        Ok(places)
+        numbers.make(Table::Whole)?;
+        numbers.revive(Table::Whole);
+        Ok(numbers)
     }
 
     /// The number below which all are.
@@ -129,15 +137,15 @@ impl Places {
         if number >= self.size {
             return None;
         }
-        let range = self.ranges[owner_of(&self.ranges, &self.marks, number)];
-        let row = range.place as usize;
-        if row >= self.count(range.table) {
+        let owner = owner_of(&self.runs, number);
+        let row = self.places[owner.id] as usize;
+        if row >= self.count(owner.table) {
             return None;
         }
         Some(Place {
-            table: range.table,
+            table: owner.table,
             row,
-            family: number - range.first,
+            family: owner.family,
         })
     }
 
@@ -211,11 +219,11 @@ impl Places {
         ensures { Sinking table k (k + 1) self.old self.new }
     {
         let roll = roll_of(&self.rolls, table);
-        let low = owner_of(&self.ranges, &self.marks, roll.first(k));
-        let high = owner_of(&self.ranges, &self.marks, roll.first(k + 1));
+        let low = owner_of(&self.runs, roll.first(k));
+        let high = owner_of(&self.runs, roll.first(k + 1));
         exchange_rolls(&mut self.rolls, table, k);
-        move_range(&mut self.ranges, low, (k + 1) as u32);
-        move_range(&mut self.ranges, high, k as u32);
+        move_range(&mut self.places, low.id, (k + 1) as u32);
+        move_range(&mut self.places, high.id, k as u32);
     }
 
     /// One more free range, of numbers that no range has.
@@ -228,18 +236,18 @@ impl Places {
             return Err(NoMemory);
         }
         let place = self.made(table) as u32;
-        let id = self.ranges.as_slice().len() as u32;
-        let end = start + table.stride();
-        self.ranges.reserve(1)?;
-        reserve_marks(&mut self.marks, end)?;
+        let id = self.places.as_slice().len() as u32;
+        self.runs.reserve(1)?;
+        self.places.reserve(1)?;
         push_first(&mut self.rolls, table, start)?;
-        self.ranges.push_reserved(Range {
+        let run = Run {
             table,
-            place,
             first: start,
-        });
-        mark(&mut self.marks, end, id);
-        self.size = end;
+            id,
+        };
+        begin_run(&mut self.runs, run);
+        self.places.push_reserved(place);
+        self.size = start + table.stride();
         Ok(())
     }
 }
@@ -299,69 +307,70 @@ fn exchange_rolls(rolls: &mut Vec<Roll>, table: Table, k: usize)
 }
 
 /// Says at which place of its table a range stands.
-fn move_range(ranges: &mut Vec<Range>, id: usize, place: u32)
-    requires { id < length ranges.old.items }
-    ensures { ranges.new.items ≡ slice_set ranges.old.items id (record (range_at ranges.old.items id) { place = place }) }
+fn move_range(places: &mut Vec<u32>, id: usize, place: u32)
+    requires { id < length places.old.items }
+    ensures { places.new.items ≡ slice_set places.old.items id place }
 {
-    ranges[id].place = place;
+    places[id] = place;
 }
 
-/// The range of a number: the first that has it, from the mark of its block on.
-fn owner_of(ranges: &[Range], marks: &[u32], number: u32) -> usize
-    requires owned { AreOwned ranges.now }
-    requires marked { AreMarked marks.now ranges.now }
-    requires number { number < length (owners ranges.now) }
-    ensures { result ≡ owner_at (owners ranges.now) number }
+/// The run of the whole sheet, which has the first range and the first numbers.
+fn first_runs(alloc: Global) -> Result<Vec<Run>, NoMemory>
+    ensures { IfOk result (λ runs. runs.items ≡ first_run ∷ []) }
 {
-    let from = mark_of(marks, number as usize / BLOCK) as usize;
-    for id in from..ranges.len() {
-        if has(ranges, id, number) {
-            return id;
+    let mut runs = Vec::with_capacity(alloc, RUNS)?;
+    runs.push(Run {
+        table: Table::Whole,
+        first: 0,
+        id: 0,
+    })?;
+    Ok(runs)
+}
+
+/// A run begins, unless the last one is of the same table and goes on. There is room for it.
+fn begin_run(runs: &mut Vec<Run>, run: Run)
+    requires some { 0 < length runs.old.items }
+    requires room { vec_len runs.old < vec_capacity runs.old }
+    ensures same { (last_run runs.old.items).table ≡ run.table → runs.new.items ≡ runs.old.items }
+    ensures other { ((last_run runs.old.items).table ≡ run.table → ⊥) → runs.new.items ≡ runs.old.items ++ run ∷ [] }
+{
+    let last = runs[runs.len() - 1];
+    if last.table != run.table {
+        runs.push_reserved(run);
+    }
+}
+
+/// The range of a number, found from the run that has the number.
+fn owner_of(runs: &[Run], number: u32) -> Owner
+    requires { AreInTurn runs.now }
+    ensures { IsOwner runs.now number result }
+{
+    let run = runs[run_of(runs, number)];
+    let (row, family) = run.table.split(number - run.first);
+    Owner {
+        table: run.table,
+        id: run.id as usize + row as usize,
+        family,
+    }
+}
+
+/// The last run whose numbers begin at a number or below it, where those of the first do: found by halves.
+fn run_of(runs: &[Run], number: u32) -> usize
+    requires some { 0 < length runs.now }
+    requires first { (run_at runs.now 0).first ≤ number }
+    ensures known { result < length runs.now }
+    ensures low { (run_at runs.now result).first ≤ number }
+    ensures high { result + 1 < length runs.now → number < (run_at runs.now (result + 1)).first }
+{
+    let mut low = 0;
+    let mut high = runs.len();
+    'halves: while low + 1 < high {
+        let middle = low + (high - low) / 2;
+        if runs[middle].first <= number {
+            low = middle;
+        } else {
+            high = middle;
         }
     }
-    unreachable!()
-}
-
-/// The mark of a block.
-fn mark_of(marks: &[u32], block: usize) -> u32
-    ensures { result ≡ mark_at marks.now block }
-{
-    match marks.get(block) {
-        Some(mark) => *mark,
-        None => 0,
-    }
-}
-
-/// Whether the number is one of a range.
-fn has(ranges: &[Range], id: usize, number: u32) -> bool
-    requires { id < length ranges.now }
-    ensures low { result ≡ true → (range_at ranges.now id).first ≤ number }
-    ensures high { result ≡ true → number < (range_at ranges.now id).first + stride (range_at ranges.now id).table }
-    ensures none { result ≡ false → (range_at ranges.now id).first ≤ number
-        → (range_at ranges.now id).first + stride (range_at ranges.now id).table ≤ number }
-{
-    let range = ranges[id];
-    range.first <= number && number - range.first < range.table.stride()
-}
-
-/// Room for the marks of the numbers below one.
-fn reserve_marks(marks: &mut Vec<u32>, end: u32) -> Result<(), NoMemory>
-    ensures items { marks.new.items ≡ marks.old.items }
-    ensures ok { OnOk result (end / 8 < vec_capacity marks.new) }
-{
-    let blocks = end as usize / BLOCK + 1;
-    if blocks > marks.len() {
-        marks.reserve(blocks - marks.len())?;
-    }
-    Ok(())
-}
-
-/// The blocks up to that of a number that have no mark have this one. There is room for them.
-fn mark(marks: &mut Vec<u32>, end: u32, id: u32)
-    requires { end / 8 < vec_capacity marks.old }
-    ensures { marks.new.items ≡ marks.old.items ++ replicate (end / 8 + 1 - length marks.old.items) id }
-{
-    let size = marks.len();
-    let more = (end as usize / BLOCK + 1).saturating_sub(size);
-    marks.resize(size + more, id).unwrap();
+    low
 }

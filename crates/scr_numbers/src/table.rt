@@ -1,5 +1,5 @@
 //! The tables whose rows have numbers.
-ghost use Rattle.std.specs.Prelude.{◌≡◌, ◌<◌};
+ghost use Rattle.std.specs.Prelude.{◌≡◌, ◌<◌, ◌/◌, ◌%◌};
 ghost use Rattle.scr_numbers.specs.Ranges.{number_of, stride};
 
 /// A table whose rows have numbers; or the whole sheet, which is numbered as a table of one row; or the parts of the member lists of
@@ -28,6 +28,22 @@ impl Table {
             Table::Group => 3,
             Table::Currency => 9,
             Table::Part => 3,
+        }
+    }
+
+    /// In how many rows so many numbers are used up, and how many are left of them. Each divisor is known to the compiler, which
+    /// then divides by a product.
+    pub(crate) fn split(self, numbers: u32) -> (u32, u32)
+        ensures rows { result.0 ≡ numbers / stride self }
+        ensures rest { result.1 ≡ numbers % stride self }
+    {
+        match self {
+            Table::Whole => (numbers / 154, numbers % 154),
+            Table::Fund => (numbers, 0),
+            Table::Security => (numbers / 6, numbers % 6),
+            Table::Liability => (numbers / 12, numbers % 12),
+            Table::Group | Table::Part => (numbers / 3, numbers % 3),
+            Table::Currency => (numbers / 9, numbers % 9),
         }
     }
 

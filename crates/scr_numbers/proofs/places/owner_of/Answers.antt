@@ -1,25 +1,11 @@
--- No range from the mark on has the number before its owner does.
 use Rattle.std.proofs.Common.{arith}
-use Rattle.scr_numbers.proofs.Owners.{has-next, has-owner, owner-known}
+use Rattle.scr_numbers.proofs.Runs.{owner-told}
 use Rattle.scr_numbers.proofs.places.owner_of.Goals as goal
 
-pub loop-id-init : goal.loop-id-init
-loop-id-init c =
-    let early = c.requires.marked.early c.args.number c.requires.number in
-    omega (arith, early, c.mark_of-from.ensures)
+pub run_of-requires-clause-first : goal.run_of-requires-clause-first
+run_of-requires-clause-first c = omega (arith, c.requires.begin)
 
-pub returns-then-has : goal.returns-then-has
-returns-then-has c =
-    has-owner c.args.ranges.now c.requires.owned c.args.number c.requires.number c.loop-id.id (omega arith)
-    (c.has.ensures.low c.if-has.true) (c.has.ensures.high c.if-has.true)
-
-pub loop-id-preserved : goal.loop-id-preserved
-loop-id-preserved c =
-    let next = has-next c.args.ranges.now c.requires.owned c.args.number c.requires.number c.loop-id.id
-    (c.has.ensures.none c.if-has.false) c.loop-id.invariant in
-    omega (arith, next)
-
-pub unreachable-requires : goal.unreachable-requires
-unreachable-requires c =
-    let known = owner-known c.args.ranges.now c.requires.owned c.args.number c.requires.number in
-    omega (arith, known, c.loop-id.invariant)
+pub returns : goal.returns
+returns c =
+    owner-told c.args.runs.now c.requires c.args.number c.run_of.result c.run_of.ensures.known c.run_of.ensures.low c.run_of.ensures.high
+    _ _ c.split-row.ensures.rows c.split-row.ensures.rest

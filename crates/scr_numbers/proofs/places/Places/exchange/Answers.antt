@@ -1,13 +1,15 @@
-use Rattle.std.proofs.Common.{◌≡◌, ℕ, ◌+◌, ◌<◌, List, ap, length, refl, sym, subst, ◌∙◌, arith}
+use Rattle.std.proofs.Common.{◌≡◌, ℕ, ◌+◌, ◌<◌, List, ap, length, refl, set, sym, subst, ◌∙◌, arith}
 use Rattle.std.proofs.lemmas.List.{length-set}
-use Rattle.scr_numbers.specs.Ranges.{Numbered, RangeList, made, roll_at}
+use Rattle.scr_numbers.specs.Ranges.{Numbered, RangeList, first, made, roll_at}
 use Rattle.scr_numbers.specs.Steps.{Sinking}
-use Rattle.scr_numbers.specs.Kept.{AreMarked, AreOwned, numbered_of, owner_at, owners, range_at}
+use Rattle.scr_numbers.specs.Kept.{AreInTurn, IsOwner, Range, numbered_of, owner_at, owners, range_at, ranges_in, ranges_of}
 use Rattle.scr_numbers.specs.declared.places.Places.TheInside.{Inside}
-use Rattle.scr_numbers.specs.declared.places.Range.{Range}
+use Rattle.scr_numbers.specs.declared.places.Owner.{Owner}
+use Rattle.scr_numbers.specs.declared.places.Run.{Run}
 use Rattle.scr_numbers.specs.declared.table.Table.{Table}
-use Rattle.scr_numbers.proofs.Views.{all-owned}
-use Rattle.scr_numbers.proofs.Exchanges.{exchange-kept, exchange-sinks, read-below, read-id, read-known, read-room}
+use Rattle.scr_numbers.proofs.Runs.{ranges-set}
+use Rattle.scr_numbers.proofs.Views.{found-is, found-known}
+use Rattle.scr_numbers.proofs.Exchanges.{exchange-kept, exchange-sinks, read-below, read-id, read-room}
 use Rattle.scr_numbers.proofs.places.Places.exchange.Goals as goal
 
 -- both places are among the table's ranges
@@ -26,76 +28,108 @@ roll-is rolls shown table roll is same = is ∙ ap (λ rs. roll_at rs table) sam
 pub first-requires : goal.first-requires
 first-requires c = read-room c.self.inside c.self.invariant c.args.table c.args.k (low-room c.self.inside c.args.self.now c.self.view_is c.args.table c.args.k c.requires) c.roll_of-roll.result.now (roll-is c.self.inside.rolls.items c.deref.result.now c.args.table c.roll_of-roll.result.now c.roll_of-roll.ensures c.deref.ensures.value)
 
-pub owner_of-low-requires-clause-number : goal.owner_of-low-requires-clause-number
-owner_of-low-requires-clause-number c =
-    let below = read-below c.self.inside c.self.invariant c.args.table c.args.k (low-room c.self.inside c.args.self.now c.self.view_is c.args.table c.args.k c.requires) c.roll_of-roll.result.now (roll-is c.self.inside.rolls.items c.deref.result.now c.args.table c.roll_of-roll.result.now c.roll_of-roll.ensures c.deref.ensures.value) c.first.result c.first.ensures in
-    subst (λ (rs : List Range). c.first.result < length (owners rs)) (sym c.deref-2.ensures.value) below
+turn-is : (runs shown : List Run) → AreInTurn runs → shown ≡ runs → AreInTurn shown
+turn-is runs shown turn same = subst AreInTurn (sym same) turn
+
+owner-of : (runs shown : List Run) (number : ℕ) (owner : Owner) → IsOwner shown number owner → shown ≡ runs → IsOwner runs number owner
+owner-of runs shown number owner found same = subst (λ rs. IsOwner rs number owner) same found
+
+pub owner_of-low-requires : goal.owner_of-low-requires
+owner_of-low-requires c = turn-is c.self.inside.runs.items c.deref-2.result.now c.self.invariant.runs.turn c.deref-2.ensures.value
+
+pub owner_of-high-requires : goal.owner_of-high-requires
+owner_of-high-requires c = turn-is c.self.inside.runs.items c.deref-3.result.now c.self.invariant.runs.turn c.deref-3.ensures.value
 
 pub first-requires-2 : goal.first-requires-2
 first-requires-2 c = read-room c.self.inside c.self.invariant c.args.table (c.args.k + 1) (high-room c.self.inside c.args.self.now c.self.view_is c.args.table c.args.k c.requires) c.roll_of-roll.result.now (roll-is c.self.inside.rolls.items c.deref.result.now c.args.table c.roll_of-roll.result.now c.roll_of-roll.ensures c.deref.ensures.value)
-
-pub owner_of-high-requires-clause-number : goal.owner_of-high-requires-clause-number
-owner_of-high-requires-clause-number c =
-    let below = read-below c.self.inside c.self.invariant c.args.table (c.args.k + 1) (high-room c.self.inside c.args.self.now c.self.view_is c.args.table c.args.k c.requires) c.roll_of-roll.result.now (roll-is c.self.inside.rolls.items c.deref.result.now c.args.table c.roll_of-roll.result.now c.roll_of-roll.ensures c.deref.ensures.value) c.first-2.result c.first-2.ensures in
-    subst (λ (rs : List Range). c.first-2.result < length (owners rs)) (sym c.deref-4.ensures.value) below
-
-pub owner_of-low-requires-clause-owned : goal.owner_of-low-requires-clause-owned
-owner_of-low-requires-clause-owned c =
-    subst AreOwned (sym c.deref-2.ensures.value) (all-owned c.self.inside c.self.invariant c.args.self.now c.self.view_is)
-
-pub owner_of-low-requires-clause-marked : goal.owner_of-low-requires-clause-marked
-owner_of-low-requires-clause-marked c =
-    subst (λ (ms : List ℕ). AreMarked ms c.deref-2.result.now) (sym c.deref-3.ensures.value)
-    (subst (AreMarked c.self.inside.marks.items) (sym c.deref-2.ensures.value) c.self.invariant.marks)
-
-pub owner_of-high-requires-clause-owned : goal.owner_of-high-requires-clause-owned
-owner_of-high-requires-clause-owned c =
-    subst AreOwned (sym c.deref-4.ensures.value) (all-owned c.self.inside c.self.invariant c.args.self.now c.self.view_is)
-
-pub owner_of-high-requires-clause-marked : goal.owner_of-high-requires-clause-marked
-owner_of-high-requires-clause-marked c =
-    subst (λ (ms : List ℕ). AreMarked ms c.deref-4.result.now) (sym c.deref-5.ensures.value)
-    (subst (AreMarked c.self.inside.marks.items) (sym c.deref-4.ensures.value) c.self.invariant.marks)
 
 pub exchange_rolls-requires-clause-place : goal.exchange_rolls-requires-clause-place
 exchange_rolls-requires-clause-place c =
     read-room c.self.inside c.self.invariant c.args.table (c.args.k + 1) (high-room c.self.inside c.args.self.now c.self.view_is c.args.table c.args.k c.requires) (roll_at c.self.inside.rolls.items c.args.table) refl
 
+-- the numbers at which both begin are below the size
+low-below : (c : goal.After-move_range-2) → c.first.result < length (owners (ranges_in c.self.inside))
+low-below c =
+    read-below c.self.inside c.self.invariant c.args.table c.args.k (low-room c.self.inside c.args.self.now c.self.view_is c.args.table c.args.k c.requires)
+    c.roll_of-roll.result.now (roll-is c.self.inside.rolls.items c.deref.result.now c.args.table c.roll_of-roll.result.now c.roll_of-roll.ensures c.deref.ensures.value) c.first.result c.first.ensures
+
+high-below : (c : goal.After-move_range-2) → c.first-2.result < length (owners (ranges_in c.self.inside))
+high-below c =
+    read-below c.self.inside c.self.invariant c.args.table (c.args.k + 1) (high-room c.self.inside c.args.self.now c.self.view_is c.args.table c.args.k c.requires)
+    c.roll_of-roll.result.now (roll-is c.self.inside.rolls.items c.deref.result.now c.args.table c.roll_of-roll.result.now c.roll_of-roll.ensures c.deref.ensures.value) c.first-2.result c.first-2.ensures
+
 pub move_range-requires : goal.move_range-requires
 move_range-requires c =
-    read-known c.self.inside c.self.invariant c.args.table c.args.k (low-room c.self.inside c.args.self.now c.self.view_is c.args.table c.args.k c.requires) c.roll_of-roll.result.now (roll-is c.self.inside.rolls.items c.deref.result.now c.args.table c.roll_of-roll.result.now c.roll_of-roll.ensures c.deref.ensures.value) c.first.result c.first.ensures
-    c.owner_of-low.result (c.owner_of-low.ensures ∙ ap (λ (rs : List Range). owner_at (owners rs) c.first.result) c.deref-2.ensures.value)
+    found-known c.self.inside c.self.invariant c.args.self.now c.self.view_is c.first.result
+    (read-below c.self.inside c.self.invariant c.args.table c.args.k (low-room c.self.inside c.args.self.now c.self.view_is c.args.table c.args.k c.requires)
+    c.roll_of-roll.result.now (roll-is c.self.inside.rolls.items c.deref.result.now c.args.table c.roll_of-roll.result.now c.roll_of-roll.ensures c.deref.ensures.value) c.first.result c.first.ensures)
+    c.owner_of-low.result (owner-of c.self.inside.runs.items c.deref-2.result.now c.first.result c.owner_of-low.result c.owner_of-low.ensures c.deref-2.ensures.value)
 
 pub move_range-requires-2 : goal.move_range-requires-2
 move_range-requires-2 c =
-    let known = read-known c.self.inside c.self.invariant c.args.table (c.args.k + 1) (high-room c.self.inside c.args.self.now c.self.view_is c.args.table c.args.k c.requires) c.roll_of-roll.result.now (roll-is c.self.inside.rolls.items c.deref.result.now c.args.table c.roll_of-roll.result.now c.roll_of-roll.ensures c.deref.ensures.value) c.first-2.result c.first-2.ensures
-    c.owner_of-high.result (c.owner_of-high.ensures ∙ ap (λ (rs : List Range). owner_at (owners rs) c.first-2.result) c.deref-4.ensures.value) in
-    let long = ap length c.move_range.ensures ∙ length-set c.self.inside.ranges.items c.owner_of-low.result
-    (record (range_at c.self.inside.ranges.items c.owner_of-low.result) { place = c.args.k + 1 }) in
+    let known = found-known c.self.inside c.self.invariant c.args.self.now c.self.view_is c.first-2.result
+    (read-below c.self.inside c.self.invariant c.args.table (c.args.k + 1) (high-room c.self.inside c.args.self.now c.self.view_is c.args.table c.args.k c.requires)
+    c.roll_of-roll.result.now (roll-is c.self.inside.rolls.items c.deref.result.now c.args.table c.roll_of-roll.result.now c.roll_of-roll.ensures c.deref.ensures.value) c.first-2.result c.first-2.ensures)
+    c.owner_of-high.result (owner-of c.self.inside.runs.items c.deref-3.result.now c.first-2.result c.owner_of-high.result c.owner_of-high.ensures c.deref-3.ensures.value) in
+    let long = ap length c.move_range.ensures ∙ length-set c.self.inside.places.items c.owner_of-low.result.id (c.args.k + 1) in
     omega (arith, known, long)
 
 abbrev after : goal.After-move_range-2 → Inside
-after c = record { rolls = c.exchange_rolls.new.rolls; ranges = c.move_range-2.new.ranges; marks = c.self.inside.marks; size = c.self.inside.size }
+after c = record { rolls = c.exchange_rolls.new.rolls; runs = c.self.inside.runs; places = c.move_range-2.new.places; size = c.self.inside.size }
+
+-- what the two writes make of the ranges
+module _ (c : goal.After-move_range-2) where
+  abbrev once : List Range
+  once = ranges_of c.self.inside.runs.items c.move_range.new.places.items
+
+  low-found : IsOwner c.self.inside.runs.items c.first.result c.owner_of-low.result
+  low-found = owner-of c.self.inside.runs.items c.deref-2.result.now c.first.result c.owner_of-low.result c.owner_of-low.ensures c.deref-2.ensures.value
+
+  high-found : IsOwner c.self.inside.runs.items c.first-2.result c.owner_of-high.result
+  high-found = owner-of c.self.inside.runs.items c.deref-3.result.now c.first-2.result c.owner_of-high.result c.owner_of-high.ensures c.deref-3.ensures.value
+
+  low-known : c.owner_of-low.result.id < length c.self.inside.places.items
+  low-known = found-known c.self.inside c.self.invariant c.args.self.now c.self.view_is c.first.result (low-below c) c.owner_of-low.result low-found
+
+  high-known : c.owner_of-high.result.id < length c.self.inside.places.items
+  high-known = found-known c.self.inside c.self.invariant c.args.self.now c.self.view_is c.first-2.result (high-below c) c.owner_of-high.result high-found
+
+  long : length c.move_range.new.places.items ≡ length c.self.inside.places.items
+  long = ap length c.move_range.ensures ∙ length-set c.self.inside.places.items c.owner_of-low.result.id (c.args.k + 1)
+
+  many : length (after c).places.items ≡ length c.self.inside.places.items
+  many = ap length c.move_range-2.ensures ∙ length-set c.move_range.new.places.items c.owner_of-high.result.id c.args.k ∙ long
+
+  low-is : c.owner_of-low.result.id ≡ owner_at (owners (ranges_in c.self.inside)) (first (numbered_of c.self.inside) c.args.table c.args.k)
+  low-is =
+      read-id c.self.inside c.self.invariant c.args.table c.args.k (low-room c.self.inside c.args.self.now c.self.view_is c.args.table c.args.k c.requires)
+      c.roll_of-roll.result.now (roll-is c.self.inside.rolls.items c.deref.result.now c.args.table c.roll_of-roll.result.now c.roll_of-roll.ensures c.deref.ensures.value) c.first.result c.first.ensures c.owner_of-low.result.id
+      (found-is c.self.inside c.self.invariant c.args.self.now c.self.view_is c.first.result (low-below c) c.owner_of-low.result low-found)
+
+  high-is : c.owner_of-high.result.id ≡ owner_at (owners (ranges_in c.self.inside)) (first (numbered_of c.self.inside) c.args.table (c.args.k + 1))
+  high-is =
+      read-id c.self.inside c.self.invariant c.args.table (c.args.k + 1) (high-room c.self.inside c.args.self.now c.self.view_is c.args.table c.args.k c.requires)
+      c.roll_of-roll.result.now (roll-is c.self.inside.rolls.items c.deref.result.now c.args.table c.roll_of-roll.result.now c.roll_of-roll.ensures c.deref.ensures.value) c.first-2.result c.first-2.ensures c.owner_of-high.result.id
+      (found-is c.self.inside c.self.invariant c.args.self.now c.self.view_is c.first-2.result (high-below c) c.owner_of-high.result high-found)
+
+  first-write : once ≡ set (ranges_in c.self.inside) c.owner_of-low.result.id
+      (record (range_at (ranges_in c.self.inside) c.owner_of-low.result.id) { place = c.args.k + 1 })
+  first-write = ap (ranges_of c.self.inside.runs.items) c.move_range.ensures
+      ∙ ranges-set c.self.inside.runs.items 0 c.self.inside.places.items c.owner_of-low.result.id (c.args.k + 1) low-known
+
+  second-write : ranges_in (after c) ≡ set once c.owner_of-high.result.id (record (range_at once c.owner_of-high.result.id) { place = c.args.k })
+  second-write = ap (ranges_of c.self.inside.runs.items) c.move_range-2.ensures
+      ∙ ranges-set c.self.inside.runs.items 0 c.move_range.new.places.items c.owner_of-high.result.id c.args.k (omega (arith, high-known, long))
 
 pub invariant_of-self : goal.invariant_of-self
 invariant_of-self c =
     exchange-kept c.self.inside (after c) c.self.invariant c.args.table c.args.k (high-room c.self.inside c.args.self.now c.self.view_is c.args.table c.args.k c.requires)
-    c.exchange_rolls.ensures.others c.exchange_rolls.ensures.firsts c.exchange_rolls.ensures.len c.exchange_rolls.ensures.live refl refl
-    c.owner_of-low.result c.owner_of-high.result c.move_range.new.ranges.items
-    (read-id c.self.inside c.self.invariant c.args.table c.args.k (low-room c.self.inside c.args.self.now c.self.view_is c.args.table c.args.k c.requires) c.roll_of-roll.result.now (roll-is c.self.inside.rolls.items c.deref.result.now c.args.table c.roll_of-roll.result.now c.roll_of-roll.ensures c.deref.ensures.value) c.first.result c.first.ensures
-    c.owner_of-low.result (c.owner_of-low.ensures ∙ ap (λ (rs : List Range). owner_at (owners rs) c.first.result) c.deref-2.ensures.value))
-    (read-id c.self.inside c.self.invariant c.args.table (c.args.k + 1) (high-room c.self.inside c.args.self.now c.self.view_is c.args.table c.args.k c.requires) c.roll_of-roll.result.now (roll-is c.self.inside.rolls.items c.deref.result.now c.args.table c.roll_of-roll.result.now c.roll_of-roll.ensures c.deref.ensures.value) c.first-2.result c.first-2.ensures
-    c.owner_of-high.result (c.owner_of-high.ensures ∙ ap (λ (rs : List Range). owner_at (owners rs) c.first-2.result) c.deref-4.ensures.value))
-    c.move_range.ensures c.move_range-2.ensures
+    c.exchange_rolls.ensures.others c.exchange_rolls.ensures.firsts c.exchange_rolls.ensures.len c.exchange_rolls.ensures.live refl (many c) refl
+    c.owner_of-low.result.id c.owner_of-high.result.id (once c) (low-is c) (high-is c) (first-write c) (second-write c)
 
 pub returns : goal.returns
 returns c =
     subst (λ (v : Numbered). Sinking c.args.table c.args.k (c.args.k + 1) v (numbered_of (after c))) c.self.view_is
     (exchange-sinks c.self.inside (after c) c.self.invariant c.args.table c.args.k (high-room c.self.inside c.args.self.now c.self.view_is c.args.table c.args.k c.requires)
-    c.exchange_rolls.ensures.others c.exchange_rolls.ensures.firsts c.exchange_rolls.ensures.len c.exchange_rolls.ensures.live refl refl
-    c.owner_of-low.result c.owner_of-high.result c.move_range.new.ranges.items
-    (read-id c.self.inside c.self.invariant c.args.table c.args.k (low-room c.self.inside c.args.self.now c.self.view_is c.args.table c.args.k c.requires) c.roll_of-roll.result.now (roll-is c.self.inside.rolls.items c.deref.result.now c.args.table c.roll_of-roll.result.now c.roll_of-roll.ensures c.deref.ensures.value) c.first.result c.first.ensures
-    c.owner_of-low.result (c.owner_of-low.ensures ∙ ap (λ (rs : List Range). owner_at (owners rs) c.first.result) c.deref-2.ensures.value))
-    (read-id c.self.inside c.self.invariant c.args.table (c.args.k + 1) (high-room c.self.inside c.args.self.now c.self.view_is c.args.table c.args.k c.requires) c.roll_of-roll.result.now (roll-is c.self.inside.rolls.items c.deref.result.now c.args.table c.roll_of-roll.result.now c.roll_of-roll.ensures c.deref.ensures.value) c.first-2.result c.first-2.ensures
-    c.owner_of-high.result (c.owner_of-high.ensures ∙ ap (λ (rs : List Range). owner_at (owners rs) c.first-2.result) c.deref-4.ensures.value))
-    c.move_range.ensures c.move_range-2.ensures)
+    c.exchange_rolls.ensures.others c.exchange_rolls.ensures.firsts c.exchange_rolls.ensures.len c.exchange_rolls.ensures.live refl (many c) refl
+    c.owner_of-low.result.id c.owner_of-high.result.id (once c) (low-is c) (high-is c) (first-write c) (second-write c))

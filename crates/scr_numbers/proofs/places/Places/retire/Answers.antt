@@ -7,7 +7,7 @@ use Rattle.scr_numbers.proofs.Views.{count-is, first-same, kept-live, live-made,
 use Rattle.scr_numbers.proofs.places.Places.retire.Goals as goal
 
 abbrev after : goal.After-set_live → Inside
-after c = record { rolls = c.set_live.new.rolls; ranges = c.self.inside.ranges; marks = c.self.inside.marks; size = c.self.inside.size }
+after c = record { rolls = c.set_live.new.rolls; runs = c.self.inside.runs; places = c.self.inside.places; size = c.self.inside.size }
 
 pub invariant_of-self : goal.invariant_of-self
 invariant_of-self c =
