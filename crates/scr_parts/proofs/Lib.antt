@@ -1,5 +1,6 @@
 pub mod Pigeons
 pub mod Views
+pub mod Placed
 pub mod Standing
 pub mod Owners
 pub mod Moving

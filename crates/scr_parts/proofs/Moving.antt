@@ -97,11 +97,10 @@ module _ (a b : Parted) (mid : List NumberList) (from to slot : ℕ) (apart : fr
   moved-kept kept = kept-moved a b kept from to slot apart left joined others owner
 
 -- so of all that is kept
-pub kept-through : (before now : Inside) → IsKept before → length now.lists.items ≡ length before.lists.items
+pub kept-through : (before now : Inside) → IsKept before → length now.lists ≡ length before.lists
     → size_of (parted_of now) ≡ size_of (parted_of before) → KeepsRoom (parted_of before) (parted_of now)
     → AreKept (parted_of now) → IsKept now
 kept-through before now kept lists size room slots = record {
-  free = omega (arith, kept.free, lists);
   lists = omega (arith, kept.lists, lists);
   size = omega (arith, kept.size, size);
   room = let all = room FREE in omega (arith, kept.room, size, all);
@@ -124,12 +123,11 @@ module _ (a b : Parted) (roomier : Roomier a.lists b.lists) (owner : b.owner ≡
   pub same-kept : AreKept a → AreKept b
   same-kept kept = kept-same a b kept same-slots owner
 
-pub kept-roomier : (before now : Inside) → IsKept before → Roomier before.lists.items now.lists.items → now.owner.items ≡ before.owner.items → IsKept now
+pub kept-roomier : (before now : Inside) → IsKept before → Roomier before.lists now.lists → now.owner.items ≡ before.owner.items → IsKept now
 kept-roomier before now kept roomier owner =
     let told = same (parted_of before) (parted_of now) roomier owner in
     let all = told.room FREE in
     record {
-      free = let more = roomier.more in omega (arith, kept.free, more);
       lists = roomier.few kept.lists;
       size = omega (arith, kept.size, told.size);
       room = omega (arith, kept.room, told.size, all);

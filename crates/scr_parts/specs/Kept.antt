@@ -19,12 +19,11 @@ pub record AreKept (parts : Parted) : Type 0 where
   pub listed : (slot : ℕ) → slot < size_of parts → IsListed parts slot (owner_at slot parts.owner)
 
 abbrev pub parted_of : Inside → Parted
-parted_of parts = record { lists = parts.lists.items; owner = parts.owner.items }
+parted_of parts = record { lists = parts.lists; owner = parts.owner.items }
 
 -- there is room for all slots among the free ones
 pub record IsKept (parts : Inside) : Type 0 where
-  pub free : 0 < length parts.lists.items
-  pub lists : length parts.lists.items ≤ 2 ^ 32
+  pub lists : length parts.lists ≤ 2 ^ 32
   pub size : size_of (parted_of parts) ≤ MOST
   pub room : size_of (parted_of parts) ≤ length (slots_in FREE (parted_of parts)) + room_in FREE (parted_of parts)
   pub slots : AreKept (parted_of parts)

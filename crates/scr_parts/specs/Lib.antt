@@ -1,5 +1,6 @@
 pub mod Parts
 pub mod Moves
+pub mod SlotLists
 pub mod Kept
 pub mod Firsts
 pub mod Filling

@@ -9,6 +9,7 @@ pub mod laws;
 mod numbers;
 mod part_numbers;
 mod parts;
+mod slot_lists;
 
 pub use firsts::Firsts;
 pub use parts::{Part, Parts};

@@ -3,11 +3,11 @@ ghost use Rattle.std.specs.Prelude.{◌≡◌, ◌≢◌, ℕ, ◌+◌, ◌-◌,
 ghost use Rattle.scr_blocks.specs.Blocks.{blocks_at};
 ghost use Rattle.scr_blocks.specs.declared.blocks.Level.{Level};
 ghost use Rattle.scr_blocks.specs.declared.blocks.Level.TheVariants as levels;
-ghost use Rattle.scr_parts.specs.Parts.{FREE, AreOwn, count_of, key_of, list_at, part_at, part_of, room_in, size_of, slot_of, slots_in, slots_of};
+ghost use Rattle.scr_parts.specs.Parts.{FREE, AreOwn, count_of, key_of, part_at, part_of, room_in, size_of, slot_of, slots_in, slots_of};
 ghost use Rattle.scr_parts.specs.declared.parts.Part.{Part as ThePart};
 ghost use Rattle.scr_parts.specs.Moves.{AreSame, Came, Freed, HaveGone, IsFront, KeepsOthers, KeepsParts, KeepsRoom, Made, Moved};
 
-use crate::numbers::{Numbers, make_room, put_last, room_for, take_last};
+use crate::slot_lists::SlotLists;
 use scr_blocks::{Level, blocks_at};
 use std::alloc::{AllocError as NoMemory, Global};
 use std::marker::Model;
@@ -37,7 +37,7 @@ pub(crate) struct Owner {
 #[derive(Drop)]
 pub struct Parts {
     /// The free slots first, then those of the parts, by list and level.
-    lists: Vec<Numbers>,
+    lists: SlotLists,
     owner: Vec<Owner>,
 }
 
@@ -59,7 +59,7 @@ impl Parts {
         ensures none { IfOk result (λ parts. (key : ℕ) → slots_in key parts ≡ []) }
         ensures size { IfOk result (λ parts. size_of parts ≡ 0) }
     {
-        let lists = free_alone(alloc)?;
+        let lists = SlotLists::new(alloc)?;
         Ok(Parts {
             lists,
             owner: Vec::new(alloc),
@@ -79,18 +79,15 @@ impl Parts {
     pub fn count(&self, list: u32, level: Level) -> usize
         ensures { result ≡ count_of list level self.now }
     {
-        match self.lists.as_slice().get(key_of(list, level)) {
-            Some(slots) => slots.as_slice().len(),
-            None => 0,
-        }
+        self.lists.at(key_of(list, level)).len()
     }
 
     /// The slot of a part, if it is there.
     pub fn slot(&self, part: &Part) -> Option<u32>
         ensures { result ≡ slot_of part.now self.now }
     {
-        let slots = self.lists.as_slice().get(key_of(part.list, part.level))?;
-        slots.as_slice().get(part.index as usize).copied()
+        let slots = self.lists.at(key_of(part.list, part.level));
+        slots.get(part.index as usize).copied()
     }
 
     /// The part that has a slot, none where it is free.
@@ -178,7 +175,7 @@ impl Parts {
     {
         self.reserve(alloc, key_of(list, level))?;
         if self.is_full() {
-            self.make()?;
+            self.make(alloc)?;
         }
         self.go_back(list, level);
         Ok(())
@@ -245,7 +242,7 @@ impl Parts {
     fn is_full(&self) -> bool
         ensures { result ≡ nat_eq (length (slots_in FREE self.now)) 0 }
     {
-        self.lists[FREE].as_slice().is_empty()
+        self.lists.at(FREE).is_empty()
     }
 
     // There is room for a slot more in a list.
@@ -253,11 +250,11 @@ impl Parts {
         ensures ok { OnOk result (0 < room_in key self.new) }
         ensures same { AreSame self.old self.new }
     {
-        make_room(&mut self.lists, alloc, key, 1)
+        self.lists.make_room(alloc, key, 1)
     }
 
     // A slot more, which is free.
-    fn make(&mut self) -> Result<(), NoMemory>
+    fn make(&mut self, alloc: Global) -> Result<(), NoMemory>
         requires { slots_in FREE self.old ≡ [] }
         ensures ok { OnOk result (Made self.old self.new) }
         ensures err { OnErr result (AreSame self.old self.new) }
@@ -267,9 +264,9 @@ impl Parts {
             return Err(NoMemory);
         }
         self.owner.reserve(1)?;
-        room_for(&mut self.lists, FREE, slot as usize + 1)?;
+        self.lists.make_room(alloc, FREE, slot as usize + 1)?;
         self.owner.push_reserved(Owner { list: 0, index: 0 });
-        put_last(&mut self.lists, FREE, slot);
+        self.lists.put_last(FREE, slot);
         Ok(())
     }
 
@@ -280,8 +277,8 @@ impl Parts {
         requires room { 0 < room_in to self.old }
         ensures { Moved from to self.old self.new }
     {
-        let slot = take_last(&mut self.lists, from);
-        let index = put_last(&mut self.lists, to, slot);
+        let slot = self.lists.take_last(from);
+        let index = self.lists.put_last(to, slot);
         set_owner(
             &mut self.owner,
             slot,
@@ -291,16 +288,6 @@ impl Parts {
             },
         );
     }
-}
-
-/// The list of the free slots alone, without any.
-fn free_alone(alloc: Global) -> Result<Vec<Numbers>, NoMemory>
-    ensures one { IfOk result (λ lists. length lists.items ≡ 1) }
-    ensures none { IfOk result (λ lists. (key : ℕ) → (list_at key lists.items).items ≡ []) }
-{
-    let mut lists = Vec::new(alloc);
-    lists.push(Numbers::new(alloc))?;
-    Ok(lists)
 }
 
 /// The list of the slots of a list's parts of a level.

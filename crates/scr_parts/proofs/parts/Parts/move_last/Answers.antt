@@ -20,10 +20,10 @@ put_last-index-requires c =
 
 pub set_owner-requires : goal.set_owner-requires
 set_owner-requires c =
-    taken-within (parted_of c.self.inside) c.take_last-slot.new.lists.items c.args.from c.take_last-slot.result c.self.invariant.slots c.take_last-slot.ensures.slots
+    taken-within (parted_of c.self.inside) c.take_last-slot.new.self c.args.from c.take_last-slot.result c.self.invariant.slots c.take_last-slot.ensures.slots
 
 abbrev after : goal.After-set_owner → Inside
-after c = record { lists = c.put_last-index.new.lists; owner = c.set_owner.new.owners }
+after c = record { lists = c.put_last-index.new.self; owner = c.set_owner.new.owners }
 
 index-is : (c : goal.After-set_owner) → c.put_last-index.result ≡ length (slots_in c.args.to (parted_of c.self.inside))
 index-is c =
@@ -38,7 +38,7 @@ owner-is c =
 
 moved-now : (c : goal.After-set_owner) → Moved c.args.from c.args.to (parted_of c.self.inside) (parted_of (after c))
 moved-now c =
-    moved (parted_of c.self.inside) (parted_of (after c)) c.take_last-slot.new.lists.items c.args.from c.args.to c.take_last-slot.result c.requires.apart
+    moved (parted_of c.self.inside) (parted_of (after c)) c.take_last-slot.new.self c.args.from c.args.to c.take_last-slot.result c.requires.apart
     c.take_last-slot.ensures.slots c.take_last-slot.ensures.room c.take_last-slot.ensures.others c.put_last-index.ensures.slots c.put_last-index.ensures.room
     c.put_last-index.ensures.others (owner-is c)
 
@@ -46,7 +46,7 @@ pub invariant_of-self : goal.invariant_of-self
 invariant_of-self c =
     kept-through c.self.inside (after c) c.self.invariant (c.put_last-index.ensures.others.lists ∙ c.take_last-slot.ensures.others.lists)
     (moved-now c).size (moved-now c).room
-    (moved-kept (parted_of c.self.inside) (parted_of (after c)) c.take_last-slot.new.lists.items c.args.from c.args.to c.take_last-slot.result c.requires.apart
+    (moved-kept (parted_of c.self.inside) (parted_of (after c)) c.take_last-slot.new.self c.args.from c.args.to c.take_last-slot.result c.requires.apart
     c.take_last-slot.ensures.slots c.take_last-slot.ensures.room c.take_last-slot.ensures.others c.put_last-index.ensures.slots c.put_last-index.ensures.room
     c.put_last-index.ensures.others (owner-is c) c.self.invariant.slots)
 
@@ -57,6 +57,6 @@ returns c =
 pub overflow_cast-to : goal.overflow_cast-to
 overflow_cast-to c =
     let view = ap (λ (v : Parted). room_in c.args.to v) c.self.view_is in
-    let there = there-room c.args.to c.self.inside.lists.items (omega (arith, view, c.requires.room)) in
+    let there = there-room c.args.to c.self.inside.lists (omega (arith, view, c.requires.room)) in
     let few = c.self.invariant.lists in
     omega (arith, there, few)
