@@ -10,5 +10,6 @@ pub mod Leveled
 pub mod Entering
 pub mod GatheredRows
 pub mod Entries
+pub mod Begun
 pub mod Zipped
 pub mod SourceRows

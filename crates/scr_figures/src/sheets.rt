@@ -15,8 +15,7 @@ const PARTS: usize = 256;
 pub fn places_of(alloc: Global, sheet: &BalanceSheet) -> Result<Places, NoMemory>
     ensures { IfOk result (IsNumbered sheet.now) }
 {
-    let (rows, numbers) = expected(sheet);
-    let mut places = Places::with_room(alloc, rows, numbers)?;
+    let mut places = Places::with_room(alloc, expected(sheet))?;
     fill(&mut places, Table::Fund, sheet.funds.len())?;
     fill(&mut places, Table::Currency, sheet.curves.len())?;
     fill(&mut places, Table::Group, sheet.groups.len())?;
@@ -25,9 +24,8 @@ pub fn places_of(alloc: Global, sheet: &BalanceSheet) -> Result<Places, NoMemory
     Ok(places)
 }
 
-/// For how many rows and numbers there is room at first: for those of all tables, and for parts of lists an eighth as many rows and some
-/// more.
-fn expected(sheet: &BalanceSheet) -> (usize, usize) {
+/// For how many rows there is room at first: for those of all tables, and for parts of lists an eighth as many and some more.
+fn expected(sheet: &BalanceSheet) -> usize {
     let rows = sheet
         .funds
         .len()
@@ -35,19 +33,7 @@ fn expected(sheet: &BalanceSheet) -> (usize, usize) {
         .saturating_add(sheet.groups.len())
         .saturating_add(sheet.securities.len())
         .saturating_add(sheet.liabilities.len());
-    let parts = rows / 8 + PARTS;
-    let numbers = numbers_of(Table::Fund, sheet.funds.len())
-        .saturating_add(numbers_of(Table::Currency, sheet.curves.len()))
-        .saturating_add(numbers_of(Table::Group, sheet.groups.len()))
-        .saturating_add(numbers_of(Table::Security, sheet.securities.len()))
-        .saturating_add(numbers_of(Table::Liability, sheet.liabilities.len()))
-        .saturating_add(numbers_of(Table::Part, parts));
-    (rows.saturating_add(parts), numbers)
-}
-
-/// How many numbers so many rows of a table have.
-fn numbers_of(table: Table, rows: usize) -> usize {
-    rows.saturating_mul(table.stride() as usize)
+    rows.saturating_add(rows / 8 + PARTS)
 }
 
 /// So many rows come.
