@@ -1,11 +1,10 @@
 -- The sum of ends, as the code goes.
-use Rattle.std.proofs.Common.{◌≡◌, ℕ, ◌+◌, ◌<◌, ◌≤◌, pos, ◌+ℤ◌, List, ◌∷◌, length, get_or, drop, unsigned_abs, sym, ap, ◌∙◌, arith}
-use Rattle.std.proofs.lemmas.Int.{ints}
+use Rattle.std.proofs.Common.{◌≡◌, ℕ, ◌+◌, ◌<◌, ◌≤◌, ◌+ℤ◌, List, ◌∷◌, length, get_or, drop, unsigned_abs, sym, ap, ◌∙◌, arith}
 use Rattle.std.proofs.lemmas.List.{drop_more, drop_all}
 use Rattle.std.proofs.lemmas.List.Sums.{sum_by-cons}
-use Rattle.scr_num.specs.Rounding.{Ends, add_ends, exact_ends}
+use Rattle.scr_num.specs.Rounding.{Ends, add_ends}
 use Rattle.scr_num.specs.Sums.{sum_ends}
-use Rattle.scr_num.proofs.AddedEnds.{add_ends-assoc, zero-add_ends, add_ends-zero}
+use Rattle.scr_num.proofs.AddedEnds.{add_ends-assoc, add_ends-zero}
 use Rattle.scr_num.proofs.SumLemmas.{abs-add}
 use Rattle.scr_num.proofs.Totals.{lows, highs}
 
@@ -14,16 +13,6 @@ pub record AddedTo (all : List Ends) (sum : Ends) (i : ℕ) : Type 0 where
   pub total : add_ends sum (sum_ends (drop i all)) ≡ sum_ends all
   pub low : unsigned_abs sum.low + lows (drop i all) ≤ lows all
   pub high : unsigned_abs sum.high + highs (drop i all) ≤ highs all
-
-pub added-start : (all : List Ends) (sum : Ends) → sum ≡ exact_ends (pos 0) → AddedTo all sum 0
-added-start all sum e =
-    let low : sum.low ≡ pos 0 = ap (λ (x : Ends). x.low) e in
-    let high : sum.high ≡ pos 0 = ap (λ (x : Ends). x.high) e in
-    record {
-      total = ap (λ (x : Ends). add_ends x (sum_ends all)) e ∙ zero-add_ends (sum_ends all);
-      low = rw low (omega (arith, ints));
-      high = rw high (omega (arith, ints));
-    }
 
 pub added-next : (all : List Ends) (sum one next : Ends) (i : ℕ) → i < length all → get_or all i one ≡ one → next ≡ add_ends sum one
     → AddedTo all sum i → AddedTo all next (i + 1)

@@ -34,13 +34,6 @@ abbrev mark_in : Option Figure → Bool
 mark_in o = option_map_or (λ (f : Figure). f.close) o false
 
 module _ (s : Subtotals) (members : ℕ) (numbered : AreNumbered s members) (level : Level) (worth : ℕ → Ends) (before : List Figure) where
-  pub none-put : IsPut s level 0 worth before before
-  none-put = record {
-    kept = record { long = refl; others = λ number off. refl };
-    there = λ i low. absurd (omega (arith, low));
-    settled = λ i low. absurd (omega (arith, low));
-  }
-
   pub one-put : (upto : ℕ) (now : List Figure) (span : Span) → upto < blocks_at members level → s.places.now.size ≤ length before
       → ends span ≡ worth upto → IsPut s level upto worth before now
       → IsPut s level (upto + 1) worth before (set now (number_of s level upto) (block_figure span))

@@ -9,7 +9,6 @@ use Rattle.std.proofs.lemmas.List.FromFn.{get_or-map-range_with_len, length-map-
 use Rattle.std.proofs.lemmas.List.Sums.{sum_by-append, sum_by-cons, sum_by-take-drop}
 use Rattle.scr_blocks.specs.Blocks.{blocks_at, blocks_over, part, parts}
 use Rattle.scr_blocks.specs.Sums.{AreSums}
-use Rattle.scr_blocks.specs.declared.blocks.Level.{Level}
 use Rattle.scr_blocks.specs.declared.blocks.Level.TheVariants as levels
 use Rattle.scr_blocks.proofs.BlockTests.{Decides-is_block_over, over-many}
 use Rattle.scr_blocks.proofs.ListedSums.{ends-add_up, total-ends}
@@ -20,7 +19,7 @@ use Rattle.scr_num.specs.Sizes.{AreTogether}
 use Rattle.scr_num.specs.Sums.{sum_ends}
 use Rattle.scr_num.proofs.SumLemmas.{sum_ends-high_size, sum_ends-low_size}
 use Rattle.scr_subtotals.specs.Figures.{ends_at, member_number, members_ends}
-use Rattle.scr_subtotals.specs.Written.{AreNumbered, AreOffBlocks, IsPut, blocks_ends, is_open_at, number_of, part_ends, second_ends}
+use Rattle.scr_subtotals.specs.Written.{AreNumbered, AreOffBlocks, IsPut, blocks_ends, number_of, part_ends, second_ends}
 use Rattle.scr_subtotals.specs.declared.figure.Figure.{Figure}
 use Rattle.scr_subtotals.specs.declared.writing.Subtotals.{Subtotals}
 use Rattle.scr_subtotals.proofs.Members.{members-length, members-same}
@@ -138,10 +137,6 @@ module _ (s : Subtotals) (family : ℕ) (firsts : List ℕ) (numbered : AreNumbe
 
   pub kept-after : (number : ℕ) → AreOffBlocks s count number → slice_get after number ≡ slice_get before number
   kept-after number apart = second.kept.others number (λ i low. apart levels.Second i low) ∙ first.kept.others number (λ i low. apart levels.First i low)
-
-  pub settled-after : (level : Level) (i : ℕ) → i < blocks_at count level → is_open_at after (number_of s level i) ≡ false
-  settled-after levels.First i low = ap (λ o. option_map_or (λ (f : Figure). f.close) o false) (first-after i low) ∙ first.settled i low
-  settled-after levels.Second i low = second.settled i low
 
 -- ---- blocks that are there
 

@@ -3,7 +3,7 @@ use Rattle.std.proofs.Common.{◌≡◌, ℕ, zero, suc, ◌+◌, ◌<◌, ◌�
 use Rattle.std.specs.List.{count_by}
 use Rattle.std.specs.Option.{option_map}
 use Rattle.std.specs.Vec.{vec_capacity}
-use Rattle.std.proofs.lemmas.List.{length-append, length-map, length-replicate, length-set, map-append, map-set}
+use Rattle.std.proofs.lemmas.List.{length-append, length-map, length-replicate, map-set}
 use Rattle.std.proofs.lemmas.List.Sums.{count_by-le-length}
 use Rattle.std.proofs.lemmas.Option.{slice_get-get_or, slice_get-map, slice_get_within}
 use Rattle.scr_subtotals.specs.KeptTables.{IsKept, figure_of, figures_in, is_here}
@@ -57,17 +57,6 @@ module _ (before after : Inside) (number : ℕ) (figure : Figure) where
       ∙ map-set (figure_of before.wide.items) before.cells.items number (kept.Here figure)
 
   -- one is written over that stands apart
-  pub kept-apart : (place : ℕ) → after.cells.items ≡ before.cells.items → after.wide.items ≡ set before.wide.items place figure
-      → vec_capacity before.wide ≤ vec_capacity after.wide → IsKept before → IsKept after
-  kept-apart place cells wide room is = record {
-    within = subst (λ cs. AreWithin cs (length after.wide.items)) (sym cells)
-        (subst (AreWithin before.cells.items) (sym (ap (λ (ws : List Figure). length ws) wide ∙ length-set before.wide.items place figure)) is.within);
-    own = subst AreOwn (sym cells) is.own;
-    room = let now = ap (count_by is_here) cells in
-        let long = ap (λ (ws : List Figure). length ws) wide ∙ length-set before.wide.items place figure in
-        let was = is.room in omega (arith, now, long, room, was);
-  }
-
   pub shown-apart : (place : ℕ) → slice_get before.cells.items number ≡ Some (kept.Apart place) → after.cells.items ≡ before.cells.items
       → after.wide.items ≡ set before.wide.items place figure → IsKept before → figures_in after ≡ set (figures_in before) number figure
   shown-apart place at cells wide is =
@@ -145,12 +134,6 @@ kept-more before after cells wide room is = record {
       let same = ap (λ (ws : List Figure). length ws) wide in omega (arith, few, long, same, room);
 }
 
-pub shown-more : (before after : Inside) → after.cells.items ≡ before.cells.items ++ kept.Here nothing ∷ [] → after.wide.items ≡ before.wide.items
-    → figures_in after ≡ figures_in before ++ nothing ∷ []
-shown-more before after cells wide =
-    ap₂ (λ (ws : List Figure) (cs : List Kept). map (figure_of ws) cs) wide cells
-    ∙ map-append (figure_of before.wide.items) before.cells.items (kept.Here nothing ∷ [])
-
 -- more room alone changes nothing
 pub kept-roomier : (before after : Inside) → after.cells.items ≡ before.cells.items → after.wide.items ≡ before.wide.items
     → vec_capacity before.wide ≤ vec_capacity after.wide → IsKept before → IsKept after
@@ -161,7 +144,3 @@ kept-roomier before after cells wide room is = record {
   room = let now = ap (count_by is_here) cells in let long = ap (λ (ws : List Figure). length ws) wide in let was = is.room in
       omega (arith, now, long, room, was);
 }
-
-pub shown-roomier : (before after : Inside) → after.cells.items ≡ before.cells.items → after.wide.items ≡ before.wide.items
-    → figures_in after ≡ figures_in before
-shown-roomier before after cells wide = ap₂ (λ (ws : List Figure) (cs : List Kept). map (figure_of ws) cs) wide cells

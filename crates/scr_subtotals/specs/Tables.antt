@@ -1,4 +1,4 @@
--- Figures that a table tells by a glance (this project's own).
+-- Figures that a table tells at a glance (this project's own).
 use Rattle.std.specs.Prelude.{◌≡◌, ℕ, ◌+◌, ◌≤ℤ◌, pos, false, List, Some, slice_get}
 use Rattle.std.specs.Int.Signed.{le_z_yes}
 use Rattle.scr_subtotals.specs.declared.figure.Figure.{Figure}

@@ -1,5 +1,5 @@
 //! Sums over the figures of members.
-ghost use Rattle.std.specs.Prelude.{◌≡◌, ◌+◌, ◌<◌, ◌≤◌, ◌^◌, All, length};
+ghost use Rattle.std.specs.Prelude.{◌≡◌, ◌+◌, ◌<◌, ◌^◌, All, length};
 ghost use Rattle.scr_num.specs.Rounding.{ends};
 ghost use Rattle.scr_num.specs.Sizes.{AreTogether};
 ghost use Rattle.scr_num.specs.Sums.{sum_ends};
@@ -12,7 +12,6 @@ use scr_num::{Span, add, exact};
 /// What the figures of one family of the rows with these first numbers come to.
 pub fn add_members(figures: &Figures, firsts: &[u32], family: u32) -> Span
     requires within { All (λ first. first + family < length figures.now) firsts.now }
-    requires few { length figures.now ≤ 2 ^ 32 }
     requires together { AreTogether (2 ^ 124) (members_ends figures.now family firsts.now) }
     ensures { ends result ≡ sum_ends (members_ends figures.now family firsts.now) }
 {
@@ -23,7 +22,6 @@ pub fn add_members(figures: &Figures, firsts: &[u32], family: u32) -> Span
 /// where one of theirs does.
 pub fn add_figures(figures: &Figures, firsts: &[u32], family: u32) -> Figure
     requires within { All (λ first. first + family < length figures.now) firsts.now }
-    requires low { All (λ first. first + family < 2 ^ 32) firsts.now }
     requires together { AreTogether (2 ^ 124) (members_ends figures.now family firsts.now) }
     ensures span { ends result.span ≡ sum_ends (members_ends figures.now family firsts.now) }
     ensures close { result.close ≡ any_open figures.now family firsts.now }
@@ -31,13 +29,10 @@ pub fn add_figures(figures: &Figures, firsts: &[u32], family: u32) -> Figure
     let mut span = exact(0);
     let mut close = false;
     for first in firsts {
-        let number = (*first + family) as usize;
-        // Most members of a long list come to nothing.
-        if !figures.is_nothing(number) {
-            let figure = figures.figure(number);
-            span = add(span, figure.span);
-            close |= figure.close;
-        }
+        let number = *first as usize + family as usize;
+        let figure = figures.figure(number);
+        span = add(span, figure.span);
+        close |= figure.close;
     }
     Figure { span, close }
 }

@@ -7,7 +7,7 @@ use std::marker::Model;
 const WORD: u128 = 1 << 32;
 
 /// An end of a span in four words of 32 bits, the lowest first, which may stand at each fourth byte. Contracts see the number.
-#[derive(Clone, Drop)]
+#[derive(Drop)]
 pub(crate) struct End {
     first: u32,
     second: u32,

@@ -1,5 +1,5 @@
 //! A table of figures by number.
-ghost use Rattle.std.specs.Prelude.{◌≡◌, ◌+◌, ◌<◌, ◌^◌, ◌++◌, ◌∷◌, [], true, false, Some, IfOk, OnErr, OnOk, length, replicate, slice_get, slice_set};
+ghost use Rattle.std.specs.Prelude.{◌≡◌, ◌+◌, ◌<◌, ◌++◌, ◌∷◌, [], true, false, Some, IfOk, OnErr, OnOk, length, replicate, slice_get, slice_set};
 ghost use Rattle.scr_subtotals.specs.declared.figure.Figure.{Figure as TheFigure};
 ghost use Rattle.scr_subtotals.specs.Marks.{figure_of};
 ghost use Rattle.scr_subtotals.specs.Tables.{IsAmountBeforeNothing, nothing};
@@ -97,8 +97,7 @@ impl Figures {
     /// The figure at a number is that of one amount, at most so many, and the next one comes to nothing. Neither rests on a choice that is
     /// open.
     pub fn is_amount_before_nothing(&self, number: usize, most: u64) -> bool
-        requires within { number + 1 < length self.now }
-        requires low { number < 2 ^ 32 }
+        requires { number + 1 < length self.now }
         ensures yes { result ≡ true → IsAmountBeforeNothing most self.now number }
         ensures not { result ≡ false → IsAmountBeforeNothing most self.now number → ⊥ }
     {
@@ -110,11 +109,12 @@ impl Figures {
     /// The same from the figures as they are read.
     #[inline(never)]
     fn is_read_so(&self, number: usize, most: u64) -> bool
-        requires within { number + 1 < length self.now }
-        requires low { number < 2 ^ 32 }
+        requires { number + 1 < length self.now }
         ensures yes { result ≡ true → IsAmountBeforeNothing most self.now number }
         ensures not { result ≡ false → IsAmountBeforeNothing most self.now number → ⊥ }
     {
+        // The length is a number, and so is the next one.
+        let _length = self.len();
         is_amount(&self.figure(number), most) && self.is_nothing(number + 1)
     }
 

@@ -1,10 +1,9 @@
 //! A figure as the table keeps it.
-ghost use Rattle.std.specs.Prelude.{◌≡◌, ◌≤ℤ◌, ⊤};
+ghost use Rattle.std.specs.Prelude.{◌≡◌, ◌≤ℤ◌};
 
 use crate::Figure;
 use crate::end::End;
 use scr_num::Span;
-use std::alloc::AllocError as NoMemory;
 use std::marker::Model;
 
 /// A figure as the table keeps it: in 36 bytes, where one to reckon with takes 48, since there are many. Contracts see the figure.
@@ -24,16 +23,6 @@ impl Model for KeptFigure {
     ghost use Rattle.scr_subtotals.specs.KeptFigures.{figure_in};
 
     ghost view = { figure_in };
-}
-
-impl Clone for KeptFigure {
-    ghost is_clone = { λ x y. y ≡ x };
-
-    ghost is_infallible = { λ _. ⊤ };
-
-    fn clone(&self) -> Result<KeptFigure, NoMemory> {
-        Ok(KeptFigure::new(self.figure()))
-    }
 }
 
 impl KeptFigure {
@@ -68,12 +57,5 @@ impl KeptFigure {
         let low = self.low.number();
         let high = self.high.number();
         Span { low, high }
-    }
-
-    /// The figure rests on a choice that is open.
-    pub(crate) fn close(&self) -> bool
-        ensures { result ≡ self.now.close }
-    {
-        self.close
     }
 }

@@ -60,7 +60,6 @@ impl<'a> Subtotals<'a> {
     pub fn put_firsts(&self, figures: &mut Figures, firsts: &[u32], family: u32)
         requires numbered { AreNumbered self.now (length firsts.now) }
         requires room { self.now.places.now.size ≤ length figures.old }
-        requires few { length figures.old ≤ 2 ^ 32 }
         requires within { All (λ first. first + family < length figures.old) firsts.now }
         requires off { All (λ first. AreOffBlocks self.now (length firsts.now) (member_number family first)) firsts.now }
         requires together { AreTogether (2 ^ 124) (members_ends figures.old family firsts.now) }
@@ -120,7 +119,6 @@ impl<'a> Subtotals<'a> {
     pub fn put_all(&self, figures: &mut Figures, firsts: &[u32], family: u32)
         requires numbered { AreNumbered self.now (length firsts.now) }
         requires room { self.now.places.now.size ≤ length figures.old }
-        requires few { length figures.old ≤ 2 ^ 32 }
         requires within { All (λ first. first + family < length figures.old) firsts.now }
         requires off { All (λ first. AreOffBlocks self.now (length firsts.now) (member_number family first)) firsts.now }
         requires together { AreTogether (2 ^ 124) (members_ends figures.old family firsts.now) }
@@ -139,7 +137,6 @@ impl<'a> Subtotals<'a> {
     pub fn sum(&self, figures: &Figures, firsts: &[u32], family: u32) -> Span
         requires numbered { AreNumbered self.now (length firsts.now) }
         requires room { self.now.places.now.size ≤ length figures.now }
-        requires few { length figures.now ≤ 2 ^ 32 }
         requires within { All (λ first. first + family < length figures.now) firsts.now }
         requires sums { AreSums sum_ends (ends_at figures.now) (member_number family) (number_of self.now) firsts.now }
         requires together { AreTogether (2 ^ 124) (members_ends figures.now family firsts.now) }

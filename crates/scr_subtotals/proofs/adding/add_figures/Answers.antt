@@ -1,19 +1,15 @@
-use Rattle.std.proofs.Common.{◌≡◌, ◌+◌, ◌||◌, Bool, false, Some, get_or, slice_get, ap, ap₂, sym, ◌∙◌, arith}
+use Rattle.std.proofs.Common.{◌≡◌, ◌+◌, ◌||◌, Bool, false, get_or, ap, ap₂, sym, ◌∙◌, arith}
 use Rattle.std.specs.Prelude.{nat_abs}
 use Rattle.std.specs.Option.{option_map_or}
 use Rattle.std.proofs.lemmas.List.Folds.{list_any_more}
 use Rattle.std.proofs.lemmas.Option.{get_or_from_slice_get}
-use Rattle.std.proofs.Math.Bool.{or-false}
 use Rattle.scr_num.specs.Rounding.{add_ends, ends}
 use Rattle.scr_num.specs.declared.span.Span.{Span}
-use Rattle.scr_num.proofs.AddedEnds.{add_ends-zero}
 use Rattle.scr_subtotals.specs.declared.figure.Figure.{Figure}
 use Rattle.scr_subtotals.specs.Figures.{member_number, members_ends}
-use Rattle.scr_subtotals.specs.Tables.{nothing}
 use Rattle.scr_subtotals.specs.Written.{is_open_at}
 use Rattle.scr_subtotals.proofs.Added.{added-next, next-high, next-low}
 use Rattle.scr_subtotals.proofs.Members.{member-at, members-length}
-use Rattle.scr_subtotals.proofs.adding.add_figures.Goals.{then-not-is_nothing, else-not-is_nothing}
 use Rattle.scr_subtotals.proofs.adding.add_figures.Goals as goal
 
 pub add-span-requires-clause-b_low : goal.add-span-requires-clause-b_low
@@ -53,31 +49,15 @@ loop-first-preserved c =
     let family = c.args.family in
     let i = c.loop-first.first-index in
     let number = get_or firsts i 0 + family in
-    elim c.if-not-is_nothing.branch [
-      | then-not-is_nothing w ↦ (let d = w.figure-figure.result in
-          let is : d.span ≡ (get_or figures number d).span = sym (ap (λ (f : Figure). f.span) (get_or_from_slice_get figures number d d w.figure-figure.ensures)) in
-          let mark : is_open_at figures number ≡ d.close = ap (λ found. option_map_or (λ (f : Figure). f.close) found false) w.figure-figure.ensures in
-          record {
-            added = added-next (members_ends figures family firsts) (ends c.loop-first.span)
-                (ends (get_or figures number d).span) (ends c.if-not-is_nothing.span) i
-                (omega (arith, c.loop-first-test.true, members-length figures family firsts))
-                (member-at figures family firsts i d c.loop-first-test.true c.requires.within)
-                (ap ends w.span-is ∙ w.add-span.ensures.ends ∙ ap (λ (s : Span). add_ends (ends c.loop-first.span) (ends s)) is) c.loop-first.invariant.added;
-            close = w.close-is ∙ ap₂ (λ (x : Bool) (y : Bool). x || y) c.loop-first.invariant.close (sym mark)
-                ∙ sym (list_any_more (λ first. is_open_at figures (member_number family first)) firsts i 0 c.loop-first-test.true);
-          })
-      | else-not-is_nothing w ↦ (let here : slice_get figures number ≡ Some nothing = c.is_nothing.ensures.yes w.if-not-is_nothing.false in
-          let is : nothing.span ≡ (get_or figures number nothing).span = sym (ap (λ (f : Figure). f.span) (get_or_from_slice_get figures number nothing nothing here)) in
-          let mark : is_open_at figures number ≡ false = ap (λ found. option_map_or (λ (f : Figure). f.close) found false) here in
-          record {
-            added = added-next (members_ends figures family firsts) (ends c.loop-first.span)
-                (ends (get_or figures number nothing).span) (ends c.if-not-is_nothing.span) i
-                (omega (arith, c.loop-first-test.true, members-length figures family firsts))
-                (member-at figures family firsts i nothing c.loop-first-test.true c.requires.within)
-                (ap ends w.span-is ∙ sym (add_ends-zero (ends c.loop-first.span))
-                ∙ ap (λ (s : Span). add_ends (ends c.loop-first.span) (ends s)) is) c.loop-first.invariant.added;
-            close = w.close-is ∙ sym (or-false c.loop-first.close)
-                ∙ ap₂ (λ (x : Bool) (y : Bool). x || y) c.loop-first.invariant.close (sym mark)
-                ∙ sym (list_any_more (λ first. is_open_at figures (member_number family first)) firsts i 0 c.loop-first-test.true);
-          })
-    ]
+    let d = c.figure-figure.result in
+    let is : d.span ≡ (get_or figures number d).span = sym (ap (λ (f : Figure). f.span) (get_or_from_slice_get figures number d d c.figure-figure.ensures)) in
+    let mark : is_open_at figures number ≡ d.close = ap (λ found. option_map_or (λ (f : Figure). f.close) found false) c.figure-figure.ensures in
+    record {
+      added = added-next (members_ends figures family firsts) (ends c.loop-first.span)
+          (ends (get_or figures number d).span) (ends c.add-span.result) i
+          (omega (arith, c.loop-first-test.true, members-length figures family firsts))
+          (member-at figures family firsts i d c.loop-first-test.true c.requires.within)
+          (c.add-span.ensures.ends ∙ ap (λ (s : Span). add_ends (ends c.loop-first.span) (ends s)) is) c.loop-first.invariant.added;
+      close = ap₂ (λ (x : Bool) (y : Bool). x || y) c.loop-first.invariant.close (sym mark)
+          ∙ sym (list_any_more (λ first. is_open_at figures (member_number family first)) firsts i 0 c.loop-first-test.true);
+    }

@@ -5,13 +5,19 @@ use Rattle.scr_subtotals.specs.declared.cell.Kept.TheVariants as kept
 use Rattle.scr_subtotals.proofs.Tables.{number-low, read-here}
 use Rattle.scr_subtotals.proofs.figures.Figures.is_amount_before_nothing.Goals as goal
 
+pub overflow_add-number : goal.overflow_add-number
+overflow_add-number c =
+    let table = c.self.inside in
+    let low = number-low table c.args.self.now (c.args.number + 1) c.self.view_is c.requires in
+    omega (arith, low, table.cells.ok.0, table.cells.ok.1, table.cells.small)
+
 pub returns-then-is_amount_before_nothing-clause-yes : goal.returns-then-is_amount_before_nothing-clause-yes
 returns-then-is_amount_before_nothing-clause-yes c = λ yes.
     let table = c.self.inside in
     let figures = c.args.self.now in
     let number = c.args.number in
     let told = c.is_amount_before_nothing.ensures.yes c.if-is_amount_before_nothing.true in
-    let within = c.requires.within in
+    let within = c.requires in
     let at : slice_get table.cells.items number ≡ Some (kept.Here told.0.0) =
     slice_get-get_or table.cells.items number c.index.result.now (number-low table figures number c.self.view_is (omega (arith, within)))
     ∙ ap Some (sym c.index.ensures ∙ told.0.1) in

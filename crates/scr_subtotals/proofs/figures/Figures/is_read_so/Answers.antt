@@ -1,6 +1,10 @@
-use Rattle.std.proofs.Common.{◌≡◌, Some, sym, subst, ◌∙◌}
+use Rattle.std.proofs.Common.{◌≡◌, Some, sym, subst, arith, ◌∙◌}
 use Rattle.scr_subtotals.specs.Tables.{IsOneAmount}
 use Rattle.scr_subtotals.proofs.figures.Figures.is_read_so.Goals as goal
+
+pub overflow_add-number : goal.overflow_add-number
+overflow_add-number c =
+    let fits = c.len-length.type_inv in let long = c.len-length.ensures in omega (arith, c.requires, long, fits)
 
 pub returns-then-is_amount-clause-yes : goal.returns-then-is_amount-clause-yes
 returns-then-is_amount-clause-yes c = λ yes. record {

@@ -3,7 +3,6 @@ use Rattle.std.specs.Prelude.{nat_abs}
 use Rattle.std.specs.Option.{option_map_or}
 use Rattle.std.proofs.lemmas.Option.{get_or_from_slice_get}
 use Rattle.scr_num.specs.Rounding.{add_ends, ends}
-use Rattle.scr_num.specs.declared.span.Span.{Span}
 use Rattle.scr_subtotals.specs.Written.{any_block_open, blocks_ends, is_open_at, number_of}
 use Rattle.scr_subtotals.specs.declared.figure.Figure.{Figure}
 use Rattle.scr_subtotals.proofs.Added.{AddedTo, added-end, added-next, next-high, next-low}
