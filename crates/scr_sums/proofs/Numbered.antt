@@ -1,12 +1,11 @@
 -- A Block has a number where its part has one at the place of its sum.
-use Rattle.std.proofs.Common.{◌≡◌, ℕ, ◌^◌, ◌<◌, ◌≤◌, Option, Some, None, IfSome, refl, sym, ap, subst, ◌∙◌, arith}
+use Rattle.std.proofs.Common.{◌≡◌, ℕ, Option, Some, None, IfSome, refl, sym, ap, subst, ◌∙◌}
 use Rattle.std.proofs.lemmas.Option.{same_Some}
 use Rattle.scr_numbers.specs.Ranges.{IsAt, Numbered}
 use Rattle.scr_numbers.specs.declared.table.Table.TheVariants as numbered_tables
 use Rattle.scr_parts.specs.Parts.{Parted, slot_of}
 use Rattle.scr_parts.specs.PartNumbers.{PartAt}
 use Rattle.scr_parts.specs.declared.parts.Part.{Part}
-use Rattle.scr_parts.proofs.Views.{no-some}
 use Rattle.scr_sheet.specs.declared.roll.Roll.{Roll}
 use Rattle.scr_sums.specs.BlockNumbers.{BlockAt, list_number, part_of, place_of}
 use Rattle.scr_sums.specs.Sums.{roll_of}
@@ -20,20 +19,9 @@ module _ (numbers : Roll → Option ℕ) (parts : Parted) (places : Numbered) (b
   named : (found : Option ℕ) → numbers roll ≡ found → numbers (roll_of block.sum) ≡ found
   named found e = ap numbers (sym own) ∙ e
 
-  pub unnumbered : numbers roll ≡ None → (number : ℕ) → BlockAt numbers parts places block number → ⊥
-  unnumbered none number at = no-some (sym (named None none) ∙ at.numbered)
-
   module _ (n : ℕ) (is : numbers roll ≡ Some n) where
     same-roll : (number : ℕ) (at : BlockAt numbers parts places block number) → at.roll ≡ n
     same-roll number at = same_Some at.roll n (sym at.numbered ∙ named (Some n) is)
-
-    pub beyond : ((part : Part) (slot : ℕ) → slot_of part parts ≡ Some slot → part.list < 2 ^ 31) → 2 ^ 31 ≤ list_number roll n
-        → (number : ℕ) → BlockAt numbers parts places block number → ⊥
-    beyond few past number at =
-        let low = few (part_of at.roll block) at.slot at.part in
-        let here : list_number roll n ≡ list_number (roll_of block.sum) at.roll =
-        ap (λ r. list_number r n) own ∙ ap (list_number (roll_of block.sum)) (sym (same-roll number at)) in
-        omega (arith, low, past, here)
 
     module _ (list : ℕ) (listed : list ≡ list_number roll n) (place : ℕ) (placed : place ≡ place_of block.sum) where
       abbrev part : Part

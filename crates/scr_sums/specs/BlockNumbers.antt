@@ -75,6 +75,13 @@ sum_at (rolls.Losses kinds.Health projection) place = if place == 0 then Some (s
 sum_at (rolls.Losses kinds.Other projection) place = None
 sum_at rolls.Groups place = if place == 0 then Some sums.Squares else None
 
+-- the sum stands at this place among those over the list that has this number among those of all tables
+pub record SumAt (numbers : Roll → Option ℕ) (sum : Sum) (list place : ℕ) : Type 0 where
+  pub roll : ℕ
+  pub numbered : numbers (roll_of sum) ≡ Some roll
+  pub listed : list ≡ list_number (roll_of sum) roll
+  pub placed : place ≡ place_of sum
+
 -- ---- Blocks by number
 
 -- the part of the list that a Block spans

@@ -15,7 +15,7 @@ mod turns;
 
 pub use graph::{is_live_in, source, sums_of};
 pub use levels::block_level;
-pub use numbers::{block_number, sum_at};
+pub use numbers::{block_number, sum_at, sum_place};
 pub use point::{Block, Point};
 pub use scr_blocks::Level;
 pub use sum::{Sum, first_sum, second_sum};

@@ -6,7 +6,7 @@ ghost use Rattle.scr_parts.specs.Parts.{AreOwn, Parted};
 ghost use Rattle.scr_sheet.specs.declared.roll.Roll.{Roll as TheRoll};
 ghost use Rattle.scr_sheet.specs.declared.roll.Roll.TheVariants as rolls;
 ghost use Rattle.scr_book.specs.Rolls.{AreNumbered, KeptRolls, number_of_roll};
-ghost use Rattle.scr_sums.specs.BlockNumbers.{AreListsApart, BlockAt, HaveParts, KeepsBlocks};
+ghost use Rattle.scr_sums.specs.BlockNumbers.{AreListsApart, BlockAt, HaveParts, KeepsBlocks, SumAt};
 ghost use Rattle.scr_sums.specs.BlockNumbers as spec;
 ghost use Rattle.scr_sums.specs.Graph.{Rolled, is_live_in};
 ghost use Rattle.scr_sums.specs.Sums.{roll_of};
@@ -30,15 +30,27 @@ pub fn block_number(book: &Book, parts: &Parts, places: &Places, block: &Block) 
 {
     // No list beyond a number has parts.
     let _slots = parts.len();
-    let roll = block.sum.roll();
-    let number = book.roll_number(roll)?;
-    let list = list_number(&roll, number)?;
+    let found = sum_place(book, &block.sum)?;
     let part = Part {
-        list,
+        list: found.0,
         level: block.level,
         index: block.index,
     };
-    parts.number(places, &part, place_of(&block.sum))
+    parts.number(places, &part, found.1)
+}
+
+/// Where a sum has the numbers of its Blocks: the number of its list among those of all tables, and its place among the sums over that
+/// list. None exactly where the list has no number, or none with which it can have parts.
+pub fn sum_place(book: &Book, sum: &Sum) -> Option<(u32, u32)>
+    ensures there { IfSome result (λ found. SumAt (λ roll. number_of_roll roll book.now.rolls) sum.now found.0 found.1) }
+    ensures few { IfSome result (λ found. found.1 < 3) }
+    ensures absent { IsNone result → (list place : ℕ)
+        → SumAt (λ roll. number_of_roll roll book.now.rolls) sum.now list place → 2 ^ 31 ≤ list }
+{
+    let roll = sum.roll();
+    let number = book.roll_number(roll)?;
+    let list = list_number(&roll, number)?;
+    Some((list, place_of(sum)))
 }
 
 /// The number of a list among those of all tables, if a list of that number can have parts.
