@@ -1,11 +1,14 @@
 -- A Block of the first level, from the figures of its members.
-use Rattle.std.proofs.Common.{◌≡◌, ℕ, zero, suc, ◌+◌, ◌<◌, ◌^◌, ◌||◌, Bool, true, All, List, [], ◌∷◌, Option, Some, None, get_or, length, map, pos, slice_get, refl, sym, ap, ap₂, subst, ◌∙◌, arith}
+use Rattle.std.proofs.Common.{◌≡◌, ℕ, zero, suc, ◌+◌, ◌<◌, ◌^◌, ◌||◌, Bool, true, nat_eq, All, IfSome, List, [], ◌∷◌, Option, Some, None, get_or, length, map, pos, slice_get, refl, sym, ap, ap₂, subst, ◌∙◌, arith}
+use Rattle.std.specs.List.{IsDistinct}
 use Rattle.std.specs.Option.{option_map, option_map_or}
 use Rattle.scr_num.specs.Rounding.{Ends, ends, exact_ends}
 use Rattle.scr_num.specs.Sizes.{AreTogether}
 use Rattle.scr_num.specs.Sums.{sum_ends}
 use Rattle.scr_num.specs.declared.span.Span.{Span}
 use Rattle.scr_blocks.specs.Blocks.{part}
+use Rattle.scr_blocks.proofs.Regrouped.{map-map}
+use Rattle.scr_nodes.proofs.SingleSources.{sources-once as plain-once}
 use Rattle.scr_blocks.specs.declared.blocks.Level.TheVariants as levels
 use Rattle.scr_factors.specs.Values.{IsInForm}
 use Rattle.scr_figures.specs.Families.{family_of}
@@ -13,21 +16,23 @@ use Rattle.scr_lists.specs.Lists.{first_of}
 use Rattle.scr_sheet.specs.Members.{table_of}
 use Rattle.scr_reach.specs.Linked.{AreAt}
 use Rattle.scr_subtotals.specs.Figures.{ends_at, members_ends}
-use Rattle.scr_subtotals.specs.Written.{any_open}
+use Rattle.scr_subtotals.specs.Written.{any_open, is_open_at}
 use Rattle.scr_subtotals.specs.declared.figure.Figure.{Figure}
 use Rattle.scr_sums.specs.Books.{rolled_of}
 use Rattle.scr_sums.specs.Graph.{is_live_in, roll_in, sources_in}
 use Rattle.scr_sums.specs.Sums.{member_of, roll_of}
+use Rattle.scr_sums.proofs.Once.{sources-once}
 use Rattle.scr_sums.specs.declared.point.Block.{Block}
 use Rattle.scr_sums.specs.declared.point.Point.{Point}
 use Rattle.scr_sums.specs.declared.point.Point.TheVariants as points
 use Rattle.scr_tree.specs.Figures.{HasFigure, HaveFigures, Reckoning, Worth, worth_of}
 use Rattle.scr_tree.specs.Ready.{IsBasis, IsReadyOn, StandsOn, graph_on, reckoning_on}
-use Rattle.scr_tree.specs.Together.{any_close, close_at}
+use Rattle.scr_tree.specs.Renewed.{IsSumOf}
+use Rattle.scr_tree.specs.Together.{any_close}
 use Rattle.scr_tree.specs.declared.basis.Basis.{Basis}
 use Rattle.scr_tree.proofs.Here.{have-here, pushed-here, within-here}
-use Rattle.scr_tree.proofs.PointSources.{below-live, first-sources, members-few, members-pushed}
-use Rattle.scr_tree.proofs.Spanned.{close-all, point-right}
+use Rattle.scr_tree.proofs.PointSources.{below-live, first-sources, members-pushed}
+use Rattle.scr_tree.proofs.Spanned.{close-all, distinct-numbers, point-right}
 use Rattle.scr_tree.proofs.SumWorth.{block-small, block-sum}
 use Rattle.scr_tree.proofs.Upright.{rolls-are}
 
@@ -47,7 +52,7 @@ each-shifted family many list all = λ i d low.
 -- what rests on an open choice of the figures of members, by their numbers
 pub open-shifted : (figures : List Figure) (family : ℕ) (list : List ℕ) → any_open figures family list ≡ any_close figures (map (λ n. n + family) list)
 open-shifted figures family [] = refl
-open-shifted figures family (x ∷ list) = ap (λ b. close_at figures (x + family) || b) (open-shifted figures family list)
+open-shifted figures family (x ∷ list) = ap (λ b. is_open_at figures (x + family) || b) (open-shifted figures family list)
 
 -- the ends of figures that are those of points
 pub ends-one : {Node : Type 0} (reckoning : Reckoning Node) (figures : List Figure) (number : ℕ) (node : Node) → HasFigure reckoning figures number node
@@ -83,12 +88,11 @@ module _ (b : Basis) (is : IsBasis b) (block : Block) (live : is_live_in (rolled
       (first-sources b.inputs.book.now b.places.now b.lists.now is.graph.numbers_of is.valid block live first)
       (below-live b.inputs.book.now b.places.now b.lists.now is.graph.numbers_of is.valid block live) own [] (map (λ n. n + family) own) owns refl)
 
-  pub added-low : b.places.now.size < 2 ^ 32 → All (λ n. n + family < 2 ^ 32) own
-  added-low few =
-      members-few b.inputs.book.now b.places.now b.lists.now is.graph.numbers_of is.valid block.sum family own_family
-      (part block.index (roll_in (rolled_of b.inputs.book.now) block.sum)) below
-      (first-sources b.inputs.book.now b.places.now b.lists.now is.graph.numbers_of is.valid block live first)
-      (below-live b.inputs.book.now b.places.now b.lists.now is.graph.numbers_of is.valid block live) own owns few
+  pub numbers-once : IsDistinct nat_eq (map (λ n. n + family) own)
+  numbers-once =
+      distinct-numbers b is (map (λ n. n + family) own) below at-members
+      (sources-once (rolled_of b.inputs.book.now) (rolls-are b.inputs.book.now is.graph.numbers_of.rolls)
+      (λ node. plain-once b.inputs.book.now.sheet is.valid node) (points.Block block))
 
   module _ (figures : List Figure) (number : ℕ) (ready : IsReadyOn b figures number) (stands : StandsOn b (points.Block block) number) where
     pub have : HaveFigures (reckoning_on b) figures (map (λ n. n + family) own) (sources_in (rolled_of b.inputs.book.now) (points.Block block))
@@ -114,3 +118,19 @@ module _ (b : Basis) (is : IsBasis b) (block : Block) (live : is_live_in (rolled
         (sum ∙ ap sum_ends same
         ∙ block-sum b.inputs.factors.now b.inputs.book.now is.valid (rolls-are b.inputs.book.now is.graph.numbers_of.rolls) block)
         (close-all b is figures (map (λ n. n + family) own) below have) (any ∙ open-shifted figures family own)
+
+    pub numbers-within : All (λ n. n < length figures) (map (λ n. n + family) own)
+    numbers-within = within-here b is figures number ready (points.Block block) stands (map (λ n. n + family) own) at-members
+
+    -- the same of a figure that is known to be their sum
+    pub renewed-right : (figure : Figure) → IsSumOf figures (map (λ n. n + family) own) figure
+        → worth_of figure ≡ (reckoning_on b).worth (points.Block block)
+    renewed-right figure sum =
+        added-right figure.span figure.close (sum.span ∙ ap sum_ends (map-map (ends_at figures) (λ n. n + family) own))
+        (sum.close ∙ sym (open-shifted figures family own))
+
+-- one that is renewed is right
+pub renewed-if : (result : Option Figure) (P : Figure → Type 0) (worth : Worth) → IfSome result P
+    → ((figure : Figure) → P figure → worth_of figure ≡ worth) → IfSome result (λ figure. worth_of figure ≡ worth)
+renewed-if None P worth is right = tt
+renewed-if (Some figure) P worth is right = right figure is

@@ -1,6 +1,6 @@
 -- The beginning and the end of the first reckoning: at last each figure and each Block of the book is there, and figures are linked that
 -- neither rows nor lists give.
-use Rattle.std.proofs.Common.{◌≡◌, inl, ℕ, ◌+◌, ◌≤◌, ◌++◌, Bool, true, false, is_some, if◌then◌else◌, List, [], ◌∷◌, map, length, Some, slice_get, refl, sym, ap, subst, ◌∙◌, arith}
+use Rattle.std.proofs.Common.{◌≡◌, inl, ℕ, ◌+◌, ◌++◌, Bool, true, false, is_some, if◌then◌else◌, List, [], ◌∷◌, map, length, Some, slice_get, refl, sym, ap, subst, ◌∙◌, arith}
 use Rattle.std.specs.Option.{option_map}
 use Rattle.std.specs.Prelude.{not}
 use Rattle.std.proofs.lemmas.Bool.{and_parts}
@@ -25,8 +25,7 @@ use Rattle.scr_tree.specs.Graphs.{graph_of}
 use Rattle.scr_tree.specs.Points.{IsLinkedPoint, StandsIn, book_graph, book_reckoning, is_linked}
 use Rattle.scr_tree.specs.Turns.{turn}
 use Rattle.scr_tree.specs.declared.making.{Ground.Ground, Made.Made}
-use Rattle.scr_tree.proofs.BlockTurns.{blocks-none}
-use Rattle.scr_tree.proofs.Made.{links-all, made-none}
+use Rattle.scr_tree.proofs.Made.{links-all, none-reckoned}
 use Rattle.scr_tree.proofs.Turns.{all-done}
 
 -- what is linked is reckoned from no sum
@@ -46,11 +45,10 @@ module _ (ground : Ground) (g : IsGround ground) where
   abbrev At : Point → ℕ → Type 0
   At = StandsIn ground.inputs.book.now ground.places.now ground.lists.now
 
-  pub nothing-made : (made : Made) → length made.figures ≡ ground.places.now.size → made.links.size ≤ ground.places.now.size
-      → made.links.edges ≡ [] → IsDone ground made (turn 0 0 0)
-  nothing-made made count size none = record {
-    figures = made-none ground.inputs.factors.now ground.inputs.book.now.sheet g.valid ground.places.now g.numbered g.numbers made count size none;
-    blocks_there = blocks-none ground g made.figures 0 (omega arith);
+  pub nothing-reckoned : (figures : List Figure) → length figures ≡ ground.places.now.size → AreReckonedTo ground figures (turn 0 0 0)
+  nothing-reckoned figures count = record {
+    count = count;
+    known = none-reckoned ground.inputs.factors.now ground.inputs.book.now.sheet g.valid ground.places.now g.numbered g.numbers figures;
   }
 
   -- ---- the assets of which concentrations are measured

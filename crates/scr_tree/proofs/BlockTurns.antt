@@ -1,5 +1,5 @@
 -- The Blocks of the first reckoning: at which turns sums are read.
-use Rattle.std.proofs.Common.{◌≡◌, ◌⊎◌, inl, inr, ℕ, ◌≤◌, ◌<◌, Bool, true, false, is_some, List, slice_get, refl, ap, ◌∙◌, arith}
+use Rattle.std.proofs.Common.{◌≡◌, ◌⊎◌, inl, inr, ℕ, ◌<◌, Bool, true, false, is_some, List, slice_get, refl, ap, ◌∙◌, arith}
 use Rattle.std.specs.Option.{option_map}
 use Rattle.std.specs.Prelude.{not}
 use Rattle.scr_figures.specs.Families.{family_of}
@@ -23,21 +23,7 @@ use Rattle.scr_tree.specs.Turns.{IsBefore, Turn, stage_of, turn}
 use Rattle.scr_tree.specs.declared.making.Ground.{Ground}
 use Rattle.scr_tree.proofs.Known.{known-weaker}
 
--- no sum is read before the assets of which concentrations are measured
-reader-late : (sum : Sum) → 2 ≤ stage_of (reader_of sum)
-reader-late (sums.Class class) = omega arith
-reader-late sums.Closed = omega arith
-reader-late sums.Spreads = omega arith
-reader-late sums.Grouped = omega arith
-reader-late (sums.Group name) = omega arith
-reader-late (sums.Assets currency) = omega arith
-reader-late (sums.Rates currency direction) = omega arith
-reader-late (sums.Costs currency direction) = omega arith
-reader-late (sums.Presents currency) = omega arith
-reader-late (sums.Losses biometric projection) = omega arith
-reader-late sums.Squares = omega arith
-
--- between them and the groups none is read
+-- between the assets of which concentrations are measured and the groups no sum is read
 reader-between : (sum : Sum) → stage_of (reader_of sum) < 5 → stage_of (reader_of sum) < 3
 reader-between (sums.Class class) low = absurd (omega (arith, low))
 reader-between sums.Closed low = absurd (omega (arith, low))
@@ -82,19 +68,7 @@ module _ (ground : Ground) (g : IsGround ground) where
       by (inl less) = omega (arith, less)
       by (inr same) = let l = same.1 in omega (arith, l)
 
-  -- totals are read off no sum
-  pub blocks-none : (figures : List Figure) (s : ℕ) → s ≤ 2 → AreThere figures (turn s 0 0)
-  unfolding AreKnownOf
-  blocks-none figures s low = λ point number at live before. by point number before
-    where
-      by : (point : Point) (number : ℕ) → IsBlockBefore ground.inputs.book.now.sheet (turn s 0 0) point → HasFigure of_book figures number point
-      by (points.Figure node) number before = absurd before
-      by (points.Block block) number before =
-          let less = early s (reader_of block.sum) before in
-          let late = reader-late block.sum in
-          absurd (omega (arith, less, late, low))
-
-  -- nor are figures of rows but the totals of groups
+  -- figures of rows are read off no sum, but for the totals of groups
   pub blocks-rows : (figures : List Figure) → AreThere figures (turn 3 0 0) → AreThere figures (turn 5 0 0)
   blocks-rows figures there =
       known-weaker of_book At figures (IsBlockBefore ground.inputs.book.now.sheet (turn 3 0 0)) (IsBlockBefore ground.inputs.book.now.sheet (turn 5 0 0))

@@ -22,7 +22,7 @@ use Rattle.scr_tree.specs.Points.{StandsIn, book_reckoning, is_linked}
 use Rattle.scr_tree.specs.Turns.{IsBefore, Turn, next, stage_of, turn}
 use Rattle.scr_tree.specs.declared.making.Ground.{Ground}
 use Rattle.scr_tree.proofs.Made.{same-turn}
-use Rattle.scr_tree.proofs.Turns.{IsTurnOf, step-back}
+use Rattle.scr_tree.proofs.Turns.{TakesTurn, step-back}
 
 -- what is reckoned from sums is linked by lists
 pub reader-unlinked : (sum : Sum) → is_linked (reader_of sum) ≡ false
@@ -113,7 +113,7 @@ module _ (ground : Ground) (g : IsGround ground) where
   -- ---- turns
 
   -- with those of the sums of the figure whose turn it is
-  pub blocks-next : (figures : List Figure) (t : Turn) (node : Node) → IsTurnOf ground.inputs.book.now.sheet t node
+  pub blocks-next : (figures : List Figure) (t : Turn) (node : Node) → TakesTurn ground.inputs.book.now.sheet t node
       → is_live ground.inputs.book.now.sheet node ≡ true
       → ((sum : Sum) → reader_of sum ≡ node → AreBlocksThere ground figures (λ s. s ≡ sum))
       → Known figures (IsBlockBefore ground.inputs.book.now.sheet t) → Known figures (IsBlockBefore ground.inputs.book.now.sheet (next t))
@@ -125,7 +125,7 @@ module _ (ground : Ground) (g : IsGround ground) where
       by (points.Figure n) m at live before = absurd before
       by (points.Block block) m at live before = either (step-back ground.inputs.book.now.sheet t (reader_of block.sum) before)
         where
-          either : IsBefore ground.inputs.book.now.sheet t (reader_of block.sum) ⊎ IsTurnOf ground.inputs.book.now.sheet t (reader_of block.sum)
+          either : IsBefore ground.inputs.book.now.sheet t (reader_of block.sum) ⊎ TakesTurn ground.inputs.book.now.sheet t (reader_of block.sum)
               → Has figures m (points.Block block)
           either (inl earlier) = known (points.Block block) m at live earlier
           either (inr its) =

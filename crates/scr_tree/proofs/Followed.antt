@@ -49,12 +49,15 @@ use Rattle.scr_sums.specs.Graph.{is_live_in}
 use Rattle.scr_sums.specs.declared.point.Block.{Block}
 use Rattle.scr_sums.specs.declared.point.Point.{Point}
 use Rattle.scr_sums.specs.declared.point.Point.TheVariants as points
+use Rattle.scr_tree.specs.Ceiling.{IsCeiling, ceiling_after}
 use Rattle.scr_tree.specs.Changed.{CanFollowLists, CanPutBack, HaveFollowed, IsFollowed, IsMoved, IsRecorded, IsStateOf, IsTakenFrom, IsUndone, IsUnchanged, KeepsAllButLists, KeepsState, StandsYet}
 use Rattle.scr_tree.specs.Figures.{AreSettled}
 use Rattle.scr_tree.specs.Graphs.{graph_of}
 use Rattle.scr_tree.specs.Points.{AreNumbersOf, IsGraphOf, StandsIn, book_reckoning, list_numbers}
 use Rattle.scr_tree.specs.declared.edits.State.{State}
 use Rattle.scr_tree.specs.declared.edits.Taken.{Taken}
+use Rattle.scr_tree.specs.declared.reckoning.Scratch.{Scratch}
+use Rattle.scr_tree.proofs.Ceiling.{ceiling-followed, ceiling-kept, no-ceiling}
 use Rattle.scr_tree.proofs.PointNumbers.{have-ranges, points-numbered}
 use Rattle.scr_tree.proofs.PutBack.{IsAsWas, can-go-back as step-back, less-other, linked-yet, more-other, numbers-yet, settled-yet, taken-back, takes-grown}
 use Rattle.scr_tree.proofs.RowFollowed.{can-follow-row, lists-after}
@@ -282,6 +285,9 @@ module _ (factors : FactorValues) (after : RolledSheet) (taken : Taken) (gone : 
       graph = subst (λ (links : Linked). IsGraphOf fo.before fo.old state.lists links.edges) (sym has.links) fo.graph;
       figures = subst (λ (figures : List Figure). AreSettled (book_reckoning factors (rolled_of fo.before))
           (StandsIn fo.before fo.old state.lists) figures) (sym has.figures) fo.figures;
+      ceiling = subst (IsCeiling new.places new.figures) (sym has.ceiling)
+          (ceiling-kept state.places new.places state.figures new.figures state.scratch.ceiling (has.places.others.counts tables.Group refl)
+          (has.places.others.firsts tables.Group refl) (λ n l. ap (λ (figures : List Figure). slice_get figures n) has.figures) fo.ceiling);
       size = subst (λ (links : Linked). links.size ≤ fo.old.size) (sym has.links) fo.size;
       marks = ap (λ (m : MarkedNumbers). m.list) has.marks ∙ fo.marks;
     }
@@ -327,9 +333,10 @@ can-take factors after taken known state rec =
 
 -- the numbers of rows follow
 pub followed : (factors : FactorValues) (after : RolledSheet) (taken : Taken) (known : Option (Vec ℕ Global)) (state : State) (places : Numbered)
-    → IsRecorded factors after taken known state → Takes taken.step state.places places
-    → IsFollowed factors after taken known (record state { places = places })
-followed factors after taken known state places rec takes = record {
+    → IsRecorded factors after taken known state → Takes taken.step state.places places → (ceiling : Option ℕ)
+    → ceiling ≡ ceiling_after taken.step state.scratch.ceiling
+    → IsFollowed factors after taken known (record state { places = places; scratch = record state.scratch { ceiling = ceiling } })
+followed factors after taken known state places rec takes ceiling kept = record {
   before = rec.before;
   old = state.places;
   by = rec.by;
@@ -339,23 +346,25 @@ followed factors after taken known state places rec takes = record {
   rates = rec.state_before.rates;
   graph = rec.state_before.graph;
   figures = rec.state_before.figures;
+  ceiling = subst (IsCeiling places state.figures) (sym kept)
+      (ceiling-followed taken.step state.places places state.figures state.scratch.ceiling takes rec.state_before.ceiling);
   size = rec.state_before.size;
   marks = rec.marks;
 }
 
 pub can-go-back : (factors : FactorValues) (before after : RolledSheet) (taken : Taken) → IsTakenFrom factors before after taken → (state : State)
-    → IsStateOf factors before state → (places : Numbered) → Takes taken.step state.places places → (now : State)
-    → IsUndone (record state { places = places }) now → CanTakeBack taken.step now.places
-can-go-back factors before after taken by state is places takes now un =
+    → IsStateOf factors before state → (places : Numbered) → Takes taken.step state.places places → (scratch : Scratch) (now : State)
+    → IsUndone (record state { places = places; scratch = scratch }) now → CanTakeBack taken.step now.places
+can-go-back factors before after taken by state is places takes scratch now un =
     step-back before.sheet after.sheet state.places places now.places now.places is.graph.numbers_of.numbered un.places taken.step
     (taken-leads factors before after taken by) takes
 
 -- and are taken back
 pub kept-back : (factors : FactorValues) (before after : RolledSheet) (taken : Taken) → IsTakenFrom factors before after taken → (state : State)
-    → IsStateOf factors before state → (places : Numbered) → Takes taken.step state.places places → (now : State)
-    → IsUndone (record state { places = places }) now → (back : Numbered) → TakesBack taken.step now.places back
-    → IsStateOf factors before (record now { places = back })
-kept-back factors before after taken by state is places takes now un back returns = record {
+    → IsStateOf factors before state → (places : Numbered) → Takes taken.step state.places places → (scratch : Scratch) (now : State)
+    → IsUndone (record state { places = places; scratch = scratch }) now → (back : Numbered) → TakesBack taken.step now.places back
+    → IsStateOf factors before (record now { places = back; scratch = record now.scratch { ceiling = None } })
+kept-back factors before after taken by state is places takes scratch now un back returns = record {
   rates = ap known_of un.rates ∙ is.rates;
   graph = record {
     numbers_of = numbers-yet before state.places back state.lists now.lists was un.lists is.graph.numbers_of;
@@ -366,6 +375,7 @@ kept-back factors before after taken by state is places takes now un back return
       now.figures
       (known-kept (book_reckoning factors (rolled_of before)) (StandsIn before state.places state.lists) (λ point. Unit {0}) state.figures
       now.figures un.figures is.figures);
+  ceiling = no-ceiling back now.figures None refl;
   size =
       let small = is.size in
       let more = takes-grown taken.step state.places places takes in
@@ -390,6 +400,7 @@ state-placed factors book state places same is =
       rates = is.rates;
       graph = is.graph;
       figures = is.figures;
+      ceiling = is.ceiling;
       size = is.size;
     })
 

@@ -20,7 +20,7 @@ use Rattle.scr_nodes.proofs.OwnRows.{own-funds}
 use Rattle.scr_nodes.specs.declared.{node.Node.Node, node.OfCurrency.OfCurrency, node.Whole.Whole}
 use Rattle.scr_nodes.specs.declared.node.Node.TheVariants as nodes
 use Rattle.scr_tree.specs.Figures.{AreKnownOf, HaveFigures, reckoning_of, total_worth, worth_at, worth_of}
-use Rattle.scr_tree.specs.First.{AreReckonedTo, IsBlockBefore, IsDone, IsGround, IsLinkGround, IsPut, link_ground}
+use Rattle.scr_tree.specs.First.{AreDoneTo, AreReckonedTo, IsBlockBefore, IsDone, IsGround, IsLinkGround, IsPut, link_ground}
 use Rattle.scr_tree.specs.Points.{StandsIn, book_reckoning, is_linked}
 use Rattle.scr_tree.specs.Turns.{IsBefore, Turn, next, stage_of, turn, turn_of}
 use Rattle.scr_figures.specs.SourceNumbers.{ArePushed}
@@ -29,7 +29,7 @@ use Rattle.scr_sums.specs.Graph.{is_live_in}
 use Rattle.scr_sums.specs.Sums.{reader_of}
 use Rattle.scr_sums.specs.declared.point.Point.{Point}
 use Rattle.scr_sums.specs.declared.point.Point.TheVariants as points
-use Rattle.scr_tree.proofs.BlocksMade.{blocks-beside, blocks-next, reader-unlinked}
+use Rattle.scr_tree.proofs.BlocksMade.{blocks-beside, blocks-next, blocks-none, reader-unlinked}
 use Rattle.scr_subtotals.specs.declared.figure.Figure.{Figure}
 use Rattle.scr_tree.specs.declared.making.Ground.{Ground}
 use Rattle.scr_tree.specs.declared.making.LinkGround.{LinkGround}
@@ -38,7 +38,7 @@ use Rattle.scr_tree.proofs.FirstRows.{each-get, got-map, got-row, made-on, secur
 use Rattle.scr_tree.proofs.Plain.{fund-placed, security-placed}
 use Rattle.scr_tree.proofs.Known.{known-weaker}
 use Rattle.scr_tree.proofs.Made.{known-sources, made-entered, reckoned-next}
-use Rattle.scr_tree.proofs.Turns.{IsAsGood, IsTurnOf, assets-first, dead-skipped, family-within, of-table, row-begun, row-ended, stage-of-whole, table-ended, table_at, total-last}
+use Rattle.scr_tree.proofs.Turns.{IsAsGood, TakesTurn, assets-first, dead-skipped, family-within, of-table, row-begun, row-ended, stage-of-whole, table-ended, table_at, total-last}
 
 -- as many rows as names
 pub as-long : {Row : Type 0} (name_in : Row → List ℕ) (rows : List Row) (k : ℕ) → k ≡ length rows → k ≡ length (map name_in rows)
@@ -145,17 +145,6 @@ module _ (ground : Ground) (g : IsGround ground) where
       (row-ended ground.inputs.book.now.sheet 6 k 9
       (λ n alive s. of-table ground.inputs.book.now.sheet ground.places.now g.numbered 6 n alive s)) is
 
-  pub assets-begun : (a : Made) → IsDone ground a (turn 2 0 0) → IsDone ground a (turn 2 0 153)
-  assets-begun a is =
-      done-on a (turn 2 0 0) (turn 2 0 153) (row-begun ground.inputs.book.now.sheet 2 0 153 (λ n alive s. assets-first n s)) is
-
-  pub assets-made : (a : Made) → IsDone ground a (turn 2 0 154) → IsDone ground a (turn 3 0 0)
-  assets-made a is =
-      table-made 2 1 refl a
-      (done-on a (turn 2 0 154) (turn 2 1 0)
-      (row-ended ground.inputs.book.now.sheet 2 0 154
-      (λ n alive s. of-table ground.inputs.book.now.sheet ground.places.now g.numbered 2 n alive s)) is)
-
   -- ---- a figure from all its sources
 
   module _ (node : Node) (row number : ℕ)
@@ -182,7 +171,7 @@ module _ (ground : Ground) (g : IsGround ground) where
           (λ n before. before) stood put.entered.others is.blocks_there);
     }
       where
-        turn_is : IsTurnOf ground.inputs.book.now.sheet (turn_of node row) node
+        turn_is : TakesTurn ground.inputs.book.now.sheet (turn_of node row) node
         turn_is = record { at = refl; row = named; family = refl }
 
         stood : StandsAt ground.inputs.book.now.sheet ground.places.now node number
@@ -206,6 +195,30 @@ module _ (ground : Ground) (g : IsGround ground) where
     known = known-weaker (reckoning_of ground.inputs.factors.now ground.inputs.book.now.sheet) (StandsAt ground.inputs.book.now.sheet ground.places.now) figures
         (IsBefore ground.inputs.book.now.sheet t) (IsBefore ground.inputs.book.now.sheet u) (λ n live before. good.back n live before) is.known;
   }
+
+  -- ---- the assets of which concentrations are measured
+
+  figures-on : (figures : List Figure) (t u : Turn) → IsAsGood ground.inputs.book.now.sheet t u → AreDoneTo ground figures t t
+      → AreDoneTo ground figures u u
+  figures-on figures t u good is = record {
+    reckoned = reckoned-good figures t u good is.reckoned;
+    blocks_there = blocks-on figures t u good is.blocks_there;
+  }
+
+  -- their turn comes when all totals are there
+  pub assets-begun : (figures : List Figure) → AreReckonedTo ground figures (turn 2 0 0) → AreDoneTo ground figures (turn 2 0 153) (turn 2 0 153)
+  assets-begun figures is =
+      figures-on figures (turn 2 0 0) (turn 2 0 153) (row-begun ground.inputs.book.now.sheet 2 0 153 (λ n alive s. assets-first n s))
+      (record { reckoned = is; blocks_there = blocks-none ground g figures })
+
+  pub assets-done : (figures : List Figure) → AreDoneTo ground figures (turn 2 0 154) (turn 2 0 154) → AreDoneTo ground figures (turn 3 0 0) (turn 3 0 0)
+  assets-done figures is =
+      figures-on figures (turn 2 1 0) (turn 3 0 0) (table-ended ground.inputs.book.now.sheet ground.places.now g.numbered 2 1 refl)
+      (figures-on figures (turn 2 0 154) (turn 2 1 0)
+      (row-ended ground.inputs.book.now.sheet 2 0 154
+      (λ n alive s. of-table ground.inputs.book.now.sheet ground.places.now g.numbered 2 n alive s)) is)
+
+  -- ---- totals
 
   -- a total is written
   pub total-made : (node : Node) (row number cents : ℕ) (a b : List Figure)

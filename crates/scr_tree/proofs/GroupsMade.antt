@@ -29,7 +29,7 @@ use Rattle.scr_tree.proofs.FirstRows.{group-live, group-named}
 use Rattle.scr_tree.proofs.Grounds.{blocks-on}
 use Rattle.scr_tree.proofs.Known.{known-weaker}
 use Rattle.scr_tree.proofs.SumsMade.{blocks-weaker, figures-off, members-early}
-use Rattle.scr_tree.proofs.Turns.{IsTurnOf, not-before, table-ended}
+use Rattle.scr_tree.proofs.Turns.{TakesTurn, not-before, table-ended}
 
 -- of a group's figures its total alone is reckoned from a sum
 reader-family : (sum : Sum) → stage_of (reader_of sum) ≡ 5 → family_of (reader_of sum) ≡ 0
@@ -83,7 +83,7 @@ module _ (ground : Ground) (g : IsGround ground) where
         members-early ground g a.figures (turn 6 0 0) IsIts
         (λ sum name e. subst (λ s. stage_of (member_of s name) < 6) (one-some e) (omega arith)) is.figures.known
 
-    its_turn : IsTurnOf ground.inputs.book.now.sheet (turn 5 k 0) (group_total h)
+    its_turn : TakesTurn ground.inputs.book.now.sheet (turn 5 k 0) (group_total h)
     its_turn = record { at = refl; row = group-named ground.inputs.book.now.sheet g.valid k h at; family = refl }
 
     pub group-made : (a b : Made) (now : List Figure) → AreGroupsDone ground a k → KeepsOffBlocks ground IsIts a.figures now

@@ -1,6 +1,9 @@
 pub mod Known
 pub mod KeptRates
 pub mod Journaled
+pub mod RenewedSums
+pub mod SumsKnown
+pub mod TouchedBlocks
 pub mod Turning
 pub mod Numbering
 pub mod Sorting
@@ -72,6 +75,7 @@ pub mod PointNumbers
 pub mod LeftNumbers
 pub mod StateStill
 pub mod Still
+pub mod Ceiling
 pub mod StillBlocks
 pub mod Standings
 pub mod Entered
@@ -85,4 +89,5 @@ pub mod Emptied
 pub mod AddedUp
 pub mod SquareTurns
 pub mod WholeNumbers
+pub mod WholeRead
 pub mod Topped

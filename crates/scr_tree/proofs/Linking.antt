@@ -1,5 +1,5 @@
 -- The links of all figures, table by table: what is linked after each.
-use Rattle.std.proofs.Common.{◌≡◌, ℕ, ◌+◌, ◌<◌, true, false, List, length, Some, slice_get, refl, sym, subst, ◌∙◌}
+use Rattle.std.proofs.Common.{◌≡◌, ℕ, ◌+◌, ◌<◌, ◌≤◌, true, false, List, [], length, Some, slice_get, refl, sym, subst, ◌∙◌}
 use Rattle.std.proofs.lemmas.List.Elements.{All-from_recursion}
 use Rattle.scr_names.proofs.TableRows.{passes_or_fails}
 use Rattle.scr_figures.specs.Families.{family_of, name_of, table_of}
@@ -15,8 +15,8 @@ use Rattle.scr_tree.specs.Points.{is_linked}
 use Rattle.scr_tree.specs.Turns.{Turn, next, turn, turn_of}
 use Rattle.scr_tree.specs.declared.making.LinkGround.{LinkGround}
 use Rattle.scr_tree.proofs.Grounds.{at-within, its-number}
-use Rattle.scr_tree.proofs.Made.{linked-next, linked-still}
-use Rattle.scr_tree.proofs.Turns.{IsAsGood, IsTurnOf, dead-skipped, of-table, row-ended, table-ended, table_at, total-last}
+use Rattle.scr_tree.proofs.Made.{linked-next, linked-still, links-none}
+use Rattle.scr_tree.proofs.Turns.{IsAsGood, TakesTurn, dead-skipped, of-table, row-ended, table-ended, table_at, total-last}
 
 module _ (ground : LinkGround) (g : IsLinkGround ground) where
   abbrev At : Node → ℕ → Type 0
@@ -32,9 +32,16 @@ module _ (ground : LinkGround) (g : IsLinkGround ground) where
     };
   }
 
+  -- there is no link
+  pub unlinked : (links : Linked) → links.size ≤ ground.places.now.size → links.edges ≡ [] → AreLinkedTo ground links (turn 0 0 0)
+  unlinked links size none = record {
+    size = size;
+    linked = links-none ground.book.now.sheet g.valid ground.places.now g.numbered g.numbers links.edges none;
+  }
+
   -- one figure more
   pub linked-one : (old now : Linked) (t : Turn) (node : Node) (number : ℕ) (sources : List ℕ) → AreLinkedTo ground old t
-      → IsTurnOf ground.book.now.sheet t node → is_live ground.book.now.sheet node ≡ true → is_linked node ≡ true → At node number
+      → TakesTurn ground.book.now.sheet t node → is_live ground.book.now.sheet node ≡ true → is_linked node ≡ true → At node number
       → AreAt At sources (sources_of ground.book.now.sheet node) → IsLinkedNext number sources old now
       → AreLinkedTo ground now (next t)
   linked-one old now t node number sources is turn_is live own at are joined = record {

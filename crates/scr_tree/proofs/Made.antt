@@ -1,5 +1,5 @@
 -- What the first reckoning has made, figure by figure.
-use Rattle.std.proofs.Common.{◌≡◌, ◌⊎◌, inl, inr, ℕ, ◌≤◌, ◌++◌, Bool, true, false, nat_eq, List, [], ◌∷◌, map, filter, length, Some, Contains, slice_get, if◌then◌else◌, refl, sym, ap, subst, ◌∙◌}
+use Rattle.std.proofs.Common.{◌≡◌, ◌⊎◌, inl, inr, ℕ, ◌≤◌, ◌++◌, Bool, true, false, nat_eq, List, [], ◌∷◌, map, filter, Some, Contains, slice_get, if◌then◌else◌, refl, sym, ap, subst, ◌∙◌}
 use Rattle.std.specs.List.{AllByRecursion}
 use Rattle.std.specs.Option.{option_map}
 use Rattle.std.proofs.lemmas.Bool.{eqb-true, eq-eqb, ne_eqb}
@@ -17,7 +17,7 @@ use Rattle.scr_nodes.specs.Sources.{sources_of}
 use Rattle.scr_nodes.specs.declared.node.Node.{Node}
 use Rattle.scr_nodes.proofs.LiveSources.{IsLive, sources-live}
 use Rattle.scr_reach.specs.Linked.{AreAt, AreLinkedOf, AreNumbers, edges_to, sources_in}
-use Rattle.scr_tree.specs.Figures.{AreKnownOf, AreSettled, HaveFigures, IsPutRight, reckoning_of, worth_at, worth_of}
+use Rattle.scr_tree.specs.Figures.{AreKnownOf, HaveFigures, IsPutRight, reckoning_of, worth_at, worth_of}
 use Rattle.scr_tree.specs.First.{IsEntered, IsLinkedBefore, IsMade}
 use Rattle.scr_tree.specs.Points.{is_linked}
 use Rattle.scr_tree.specs.Turns.{IsBefore, Turn, next, stage_of, turn, turn_of}
@@ -25,7 +25,7 @@ use Rattle.scr_subtotals.specs.declared.figure.Figure.{Figure}
 use Rattle.scr_tree.specs.declared.making.Made.{Made}
 use Rattle.scr_tree.proofs.FirstSources.{sources-before}
 use Rattle.scr_tree.proofs.Known.{known-have, known-put, known-weaker}
-use Rattle.scr_tree.proofs.Turns.{IsAsGood, IsTurnOf, all-done, family-within, its-turn, later, none-done, not-before, one-turn, step-back}
+use Rattle.scr_tree.proofs.Turns.{IsAsGood, TakesTurn, all-done, family-within, its-turn, later, none-done, not-before, one-turn, step-back}
 use Rattle.scr_tree.specs.Graphs.{graph_of}
 
 -- ---- edges to a number
@@ -81,12 +81,12 @@ was-there old now number kept e has other =
 
 module _ (sheet : BalanceSheet) (valid : Valid sheet) (places : Numbered) (numbered : IsNumbered sheet places)
     (numbers : AreNumbers (graph_of sheet) (StandsAt sheet places) places.size) where
-  pub same-turn : (t : Turn) (n node : Node) → is_live sheet n ≡ true → IsTurnOf sheet t n → IsTurnOf sheet t node → n ≡ node
+  pub same-turn : (t : Turn) (n node : Node) → is_live sheet n ≡ true → TakesTurn sheet t n → TakesTurn sheet t node → n ≡ node
   same-turn t n node live x y = one-turn sheet t n node x y (family-within sheet places numbered n live)
 
   -- it is linked
   pub linked-next : (old now : List Edge) (t : Turn) (node : Node) (number : ℕ) (sources : List ℕ)
-      → AreLinkedOf (graph_of sheet) (StandsAt sheet places) old (IsLinkedBefore sheet t) → IsTurnOf sheet t node → is_live sheet node ≡ true
+      → AreLinkedOf (graph_of sheet) (StandsAt sheet places) old (IsLinkedBefore sheet t) → TakesTurn sheet t node → is_live sheet node ≡ true
       → is_linked node ≡ true → StandsAt sheet places node number → AreAt (StandsAt sheet places) sources (sources_of sheet node)
       → sources_in now number ≡ sources_in old number ++ sources
       → ((other : ℕ) → nat_eq number other ≡ false → edges_to now other ≡ edges_to old other)
@@ -105,7 +105,7 @@ module _ (sheet : BalanceSheet) (valid : Valid sheet) (places : Numbered) (numbe
       own : sources_in now number ≡ sources
       own = made ∙ ap (λ xs. xs ++ sources) free
 
-      done : (n : Node) (m : ℕ) → StandsAt sheet places n m → is_live sheet n ≡ true → is_linked n ≡ true → IsBefore sheet t n ⊎ IsTurnOf sheet t n
+      done : (n : Node) (m : ℕ) → StandsAt sheet places n m → is_live sheet n ≡ true → is_linked n ≡ true → IsBefore sheet t n ⊎ TakesTurn sheet t n
           → AreAt (StandsAt sheet places) (sources_in now m) (sources_of sheet n)
       done n m stands live links (inl before) =
           let other : number ≡ m → ⊥ =
@@ -137,14 +137,14 @@ module _ (sheet : BalanceSheet) (valid : Valid sheet) (places : Numbered) (numbe
 
   -- a figure that rows or lists link
   pub linked-still : (edges : List Edge) (t : Turn) (node : Node)
-      → AreLinkedOf (graph_of sheet) (StandsAt sheet places) edges (IsLinkedBefore sheet t) → IsTurnOf sheet t node → is_live sheet node ≡ true
+      → AreLinkedOf (graph_of sheet) (StandsAt sheet places) edges (IsLinkedBefore sheet t) → TakesTurn sheet t node → is_live sheet node ≡ true
       → is_linked node ≡ false → AreLinkedOf (graph_of sheet) (StandsAt sheet places) edges (IsLinkedBefore sheet (next t))
   linked-still edges t node linked turn alive none = record {
     done = λ n m stands live before. done n m stands live before.1 (step-back sheet t n before.0);
     only = λ e has. let l = linked.only e has in (l.0, l.1, l.2, (later sheet t l.0 l.3.0, l.3.1));
   }
     where
-      done : (n : Node) (m : ℕ) → StandsAt sheet places n m → is_live sheet n ≡ true → is_linked n ≡ true → IsBefore sheet t n ⊎ IsTurnOf sheet t n
+      done : (n : Node) (m : ℕ) → StandsAt sheet places n m → is_live sheet n ≡ true → is_linked n ≡ true → IsBefore sheet t n ⊎ TakesTurn sheet t n
           → AreAt (StandsAt sheet places) (sources_in edges m) (sources_of sheet n)
       done n m stands live links (inl before) = linked.done n m stands live (before, links)
       done n m stands live links (inr its) =
@@ -171,14 +171,14 @@ module _ (factors : FactorValues) (sheet : BalanceSheet) (valid : Valid sheet) (
     (numbers : AreNumbers (graph_of sheet) (StandsAt sheet places) places.size) where
   -- it is reckoned
   pub reckoned-next : (old now : List Figure) (t : Turn) (node : Node) (number : ℕ) → AreKnownOf (reckoning_of factors sheet) (StandsAt sheet places) old (IsBefore sheet t)
-      → IsTurnOf sheet t node → IsPutRight (reckoning_of factors sheet) (StandsAt sheet places) old now node number
+      → TakesTurn sheet t node → IsPutRight (reckoning_of factors sheet) (StandsAt sheet places) old now node number
       → AreKnownOf (reckoning_of factors sheet) (StandsAt sheet places) now (IsBefore sheet (next t))
   reckoned-next old now t node number known turn put =
       known-weaker (reckoning_of factors sheet) (StandsAt sheet places) now (λ n. IsBefore sheet t n ⊎ (n ≡ node)) (IsBefore sheet (next t))
       (λ n live before. by n live (step-back sheet t n before))
       (known-put (reckoning_of factors sheet) (StandsAt sheet places) places.size numbers old now (IsBefore sheet t) node number known put)
     where
-      by : (n : Node) → is_live sheet n ≡ true → IsBefore sheet t n ⊎ IsTurnOf sheet t n → IsBefore sheet t n ⊎ (n ≡ node)
+      by : (n : Node) → is_live sheet n ≡ true → IsBefore sheet t n ⊎ TakesTurn sheet t n → IsBefore sheet t n ⊎ (n ≡ node)
       by n live (inl before) = inl before
       by n live (inr own) = inr (same-turn sheet valid places numbered numbers t n node live own turn)
 
@@ -199,7 +199,7 @@ module _ (factors : FactorValues) (sheet : BalanceSheet) (valid : Valid sheet) (
 
   -- a figure is entered that is right, and its sources
   pub made-entered : (old now : Made) (t : Turn) (node : Node) (number : ℕ) (sources : List ℕ) (figure : Figure)
-      → IsMade factors sheet places old t t → IsTurnOf sheet t node → is_live sheet node ≡ true → is_linked node ≡ true
+      → IsMade factors sheet places old t t → TakesTurn sheet t node → is_live sheet node ≡ true → is_linked node ≡ true
       → StandsAt sheet places node number
       → AreAt (StandsAt sheet places) sources (sources_of sheet node) → worth_of figure ≡ worth_at factors sheet node
       → IsEntered number sources figure old now → IsMade factors sheet places now (next t) (next t)
@@ -231,26 +231,8 @@ module _ (factors : FactorValues) (sheet : BalanceSheet) (valid : Valid sheet) (
       both [] a b = tt
       both (n ∷ list) a b = ((a.0, b.0), both list a.1 b.1)
 
-  -- ---- the beginning and the end
+  -- ---- the beginning
 
   pub none-reckoned : (figures : List Figure) → AreKnownOf (reckoning_of factors sheet) (StandsAt sheet places) figures (IsBefore sheet (turn 0 0 0))
   unfolding AreKnownOf
   none-reckoned figures = λ n m stands live before. absurd (none-done sheet n before)
-
-  pub made-none : (made : Made) → length made.figures ≡ places.size → made.links.size ≤ places.size → made.links.edges ≡ []
-      → IsMade factors sheet places made (turn 0 0 0) (turn 0 0 0)
-  made-none made count size none = record {
-    count = count;
-    size = size;
-    known = none-reckoned made.figures;
-    links = links-none sheet valid places numbered numbers made.links.edges none;
-  }
-
-  pub made-all : (made : Made) → IsMade factors sheet places made (turn 7 0 153) (turn 7 0 153)
-      → AreSettled (reckoning_of factors sheet) (StandsAt sheet places) made.figures
-      × AreLinkedOf (graph_of sheet) (StandsAt sheet places) made.links.edges (λ n. is_linked n ≡ true)
-  made-all made is = (
-    known-weaker (reckoning_of factors sheet) (StandsAt sheet places) made.figures (IsBefore sheet (turn 7 0 153)) (λ n. Unit {0})
-        (λ n live all. all-done sheet places numbered n live) is.known,
-    links-all sheet valid places numbered numbers made.links.edges is.links,
-  )

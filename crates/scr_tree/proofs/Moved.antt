@@ -33,21 +33,25 @@ use Rattle.scr_reach.proofs.Relinked.{due-linked, kept-sources, relinked-back}
 use Rattle.scr_sums.specs.Books.{rolled_of}
 use Rattle.scr_sums.specs.Changed.{IsSameIn}
 use Rattle.scr_sums.specs.Graph.{AreRolls, Rolled, is_live_in, sources_in}
+use Rattle.scr_sums.specs.declared.point.Block.{Block}
 use Rattle.scr_sums.specs.declared.point.Point.{Point}
 use Rattle.scr_sums.specs.declared.point.Point.TheVariants as points
 use Rattle.scr_sums.proofs.Lives.{sources-live-in}
 use Rattle.scr_sums.proofs.Once.{node_in}
 use Rattle.scr_tree.specs.Changed.{AreGone, AreRowsFor, IsMoved, IsRelinkedFor, StandsYet}
-use Rattle.scr_tree.specs.Figures.{AreKnownOf}
+use Rattle.scr_tree.specs.Figures.{AreKnownOf, AreSettled}
 use Rattle.scr_tree.specs.Graphs.{graph_of}
 use Rattle.scr_tree.specs.Points.{IsGraphOf, IsLinkedPoint, StandsIn, book_graph, book_reckoning, is_linked}
+use Rattle.scr_tree.specs.Renewed.{AreSums}
 use Rattle.scr_tree.specs.Starts.{AreFormer, IsLiveOrEmpty, keeps_links, relinked}
 use Rattle.scr_tree.specs.declared.edits.State.{State}
 use Rattle.scr_tree.specs.declared.edits.Taken.{Taken}
+use Rattle.scr_tree.proofs.Ceiling.{ceiling-kept}
 use Rattle.scr_tree.proofs.Held.{gone-held, holders-kept, new-held}
 use Rattle.scr_tree.proofs.KeptRates.{rates-kept}
 use Rattle.scr_tree.proofs.Leveled.{plain-sources}
 use Rattle.scr_tree.proofs.PlainReaders.{not-summed}
+use Rattle.scr_tree.proofs.SumsKnown.{sum-known}
 use Rattle.scr_tree.proofs.TakenUp.{known-kept}
 use Rattle.scr_tree.proofs.Unreached.{worth-kept}
 use Rattle.scr_tree.proofs.Untouched.{untouched}
@@ -478,6 +482,21 @@ module _ (factors : FactorValues) (after : RolledSheet) (taken : Taken) (gone : 
       mo.figures point number (mo.keeps point number at lived) lived tt
       ∙ ap Some (worth-kept factors was now mo.by.valid later rolls_was rolls_now Left left-closed left-same point left)
 
+  -- what a Block that it does not touch came to is the sum of what those came to that it adds up
+  blocks-left : (figures : List Figure) → AreSettled (book_reckoning factors was) Was figures
+      → AreSums now Now figures (λ point. Contains taken.touched.now point → ⊥)
+  blocks-left figures known block number numbers live untouched at ats =
+      let point = points.Block block in
+      let same = same-untouched point untouched (or-right (is_live_in was point) (is_live_in now point) live) in
+      let lived : is_live_in was point ≡ true = same.live ∙ live in
+      let there : AreAt Was numbers (sources_in now point) =
+      at-weaker Now Was numbers (sources_in now point)
+      (λ source q h stands. mo.keeps source q stands
+      (sources-live-in was mo.by.valid rolls_was point source lived
+      (subst (λ list. Contains list source) (sym same.sources) (Contains-from_IsMember (sources_in now point) source h)))) ats in
+      sum-known factors mo.before mo.by.valid rolls_was Was figures known block lived number numbers (mo.keeps point number at lived)
+      (subst (AreAt Was numbers) (sym same.sources) there)
+
   -- ---- what the reckoning is handed
 
   pub rates-after : (rates : Option Rates) → AreRowsFor edit after.sheet rates
@@ -496,7 +515,9 @@ module _ (factors : FactorValues) (after : RolledSheet) (taken : Taken) (gone : 
     rates_after = rates-after rates rows;
     others = known-kept (book_reckoning factors now) Now (λ point. IsInReach (book_graph now) (Contains taken.touched.now) point → ⊥)
         state.figures figures kept left-known;
+    blocks = blocks-left figures (known-kept (book_reckoning factors was) Was (λ point. Unit {0}) state.figures figures kept mo.figures);
     room = room;
+    ceiling = ceiling-kept state.places state.places state.figures figures state.scratch.ceiling refl (λ k. refl) kept mo.ceiling;
     marks = none;
     marked = marked;
   }

@@ -45,7 +45,8 @@ use Rattle.scr_tree.specs.Figures.{HasFigure, HaveFigures, Reckoning, Worth, wor
 use Rattle.scr_tree.specs.Opening.{opens_at, opens_in}
 use Rattle.scr_tree.specs.Points.{book_graph, point_worth}
 use Rattle.scr_tree.specs.Ready.{AreInTurnOn, AreKnownBut, IsBasis, IsNoneOf, StandsOn, reckoning_on}
-use Rattle.scr_tree.specs.Together.{AreDuesOn, AreSpansOn, IsDueOn, IsKnownOn, IsSpanOn, any_close, blocks_below, blocks_of_level, blocks_under, close_at, ends_at, ends_on, has_number, live_points, point_number, point_with}
+use Rattle.scr_subtotals.specs.Written.{is_open_at}
+use Rattle.scr_tree.specs.Together.{AreDuesOn, AreSpansOn, IsDueOn, IsKnownOn, IsSpanOn, any_close, blocks_below, blocks_of_level, blocks_under, ends_at, ends_on, has_number, live_points, point_number, point_with}
 use Rattle.scr_tree.specs.declared.basis.Basis.{Basis}
 use Rattle.scr_tree.proofs.Known.{known-have, opens-is}
 use Rattle.scr_tree.proofs.PointEquations.{opens}
@@ -232,7 +233,7 @@ module _ (b : Basis) (is : IsBasis b) where
       ∙ sym (opens b.inputs.factors.now book is.valid (rolls-are b.inputs.book.now is.graph.numbers_of.rolls) point))
 
   close-one : (figures : List Figure) (number : ℕ) (point : Point) → HasFigure (reckoning_on b) figures number point
-      → close_at figures number ≡ ((reckoning_on b).worth point).close
+      → is_open_at figures number ≡ ((reckoning_on b).worth point).close
   close-one figures number point has = by (slice_get figures number) has
     where
       by : (found : Option Figure) → option_map worth_of found ≡ Some ((reckoning_on b).worth point)

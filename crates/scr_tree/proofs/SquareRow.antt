@@ -13,7 +13,7 @@ use Rattle.scr_numbers.specs.declared.table.Table.TheVariants as ranged
 use Rattle.scr_nodes.specs.Live.{is_live}
 use Rattle.scr_nodes.specs.OwnOf.{own_of}
 use Rattle.scr_nodes.specs.Rows.{group_of}
-use Rattle.scr_nodes.specs.Sources.{concentration_square, sources_of}
+use Rattle.scr_nodes.specs.Sources.{concentration_square, group_total, sources_of}
 use Rattle.scr_nodes.specs.declared.node.Node.{Node}
 use Rattle.scr_nodes.specs.declared.node.Node.TheVariants as nodes
 use Rattle.scr_nodes.specs.declared.node.Whole.TheVariants as wholes
@@ -32,7 +32,7 @@ use Rattle.scr_sums.specs.Graph.{sources_in}
 use Rattle.scr_sums.specs.declared.point.Point.TheVariants as points
 use Rattle.scr_tree.specs.Figures.{HaveFigures, Worth, worth_of}
 use Rattle.scr_tree.specs.AssetScales.{IsScaleOn}
-use Rattle.scr_tree.specs.Ready.{IsBasis, IsReadyOn, IsSquareOn, StandsOn, reckoning_on}
+use Rattle.scr_tree.specs.Ready.{IsBasis, IsReadyOn, IsRightOn, IsSquareOn, StandsOn, reckoning_on}
 use Rattle.scr_tree.specs.declared.basis.Basis.{Basis}
 use Rattle.scr_tree.proofs.ByRow.{by-rule-worked}
 use Rattle.scr_tree.proofs.FirstRows.{each-get, got-map, group-live}
@@ -86,6 +86,12 @@ module _ (b : Basis) (is : IsBasis b) (row : ℕ) (group : Group) (got : slice_g
     pub assets-worth : (assets : Figure) → slice_get figures 153 ≡ Some assets
         → worth_of assets ≡ (reckoning_on b).worth (points.Figure (nodes.Whole wholes.Assets))
     assets-worth assets here = read-is _ figures 153 assets have.0 here
+
+    -- that of the group's total stands before it
+    pub total-right : (total : Figure) → slice_get figures (number - 1) ≡ Some total → IsRightOn b (number - 1) total
+    total-right total here = λ point at.
+        read-is _ figures (number - 1) total have.1.0 here
+        ∙ ap (reckoning_on b).worth (is.graph.numbers_of.numbers.exact (number - 1) (points.Figure (group_total group)) point below-at.1.0 at)
 
     pub assets-amount : IsInForm b.inputs.factors.now → (assets : Figure) → slice_get figures 153 ≡ Some assets → IsAmount MAX_HELD (ends assets.span)
     assets-amount form assets here =

@@ -166,5 +166,6 @@ state-still factors old new state same is = record {
     linked = links-still old new state.places state.lists same is.graph.numbers_of state.links.edges is.graph.linked;
   };
   figures = figures-still old new state.places state.lists same is.graph.numbers_of factors state.figures is.figures;
+  ceiling = is.ceiling;
   size = is.size;
 }

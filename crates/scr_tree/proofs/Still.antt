@@ -4,7 +4,7 @@ use Rattle.std.specs.Prelude.{◌≤ℤ◌, ℤ, negsuc, slice_index}
 use Rattle.std.proofs.lemmas.Bool.{cases_lt}
 use Rattle.std.proofs.lemmas.Int.{ints}
 use Rattle.std.proofs.lemmas.List.{get_or-drop, length-drop}
-use Rattle.std.proofs.lemmas.Option.{slice_get-get_or}
+use Rattle.std.proofs.lemmas.Option.{slice_get-get_or, slice_get_within}
 use Rattle.scr_num.specs.Rounding.{ends, exact_ends, or_zero}
 use Rattle.scr_factors.specs.Values.{IsInForm}
 use Rattle.scr_conc.specs.Scales.{IsFree}
@@ -25,15 +25,16 @@ use Rattle.scr_sums.specs.declared.point.Point.TheVariants as points
 use Rattle.scr_tree.specs.AssetScales.{IsScaleOn}
 use Rattle.scr_tree.specs.Ready.{AreInTurnOn, AreKnownBut, IsBasis, IsReadyOn, IsRightOn, IsSquareOn, reckoning_on, square_number}
 use Rattle.scr_tree.specs.SquareRun.{IsSquareAtOn, IsSquareRunOn}
-use Rattle.scr_tree.specs.Still.{AreNothingOn, ArePassed}
+use Rattle.scr_tree.specs.Still.{AreAllWithin, AreNext, ArePassed, AreStillOn, ComeStill, IsTotalWithin}
 use Rattle.scr_tree.specs.declared.basis.Basis.{Basis}
 use Rattle.scr_tree.specs.declared.reckoning.AssetScale.{AssetScale}
+use Rattle.scr_tree.specs.declared.reckoning.Stillness.{Stillness}
 use Rattle.scr_tree.proofs.Journaled.{same-written}
-use Rattle.scr_tree.proofs.SquareRow.{square-fits, square-right, square-row, square-stands}
+use Rattle.scr_tree.proofs.SquareRow.{square-fits, square-right, square-row, square-stands, total-right}
 use Rattle.scr_tree.proofs.SquareRun.{known-more, next-ready, run-over}
 use Rattle.scr_tree.proofs.Upright.{book-up}
 
-row-group : (groups : List Group) (row : ℕ) → row < length groups → (group : Group) × (slice_get groups row ≡ Some group)
+pub row-group : (groups : List Group) (row : ℕ) → row < length groups → (group : Group) × (slice_get groups row ≡ Some group)
 row-group [] row some = absurd (omega (arith, some))
 row-group (group ∷ rest) zero some = (group, refl)
 row-group (group ∷ rest) (suc row) some = row-group rest row (omega (arith, some))
@@ -80,6 +81,18 @@ module _ (b : Basis) (is : IsBasis b) (assets : AssetScale) (m : IsScaleOn b ass
       rests : false ≡ (m.assets.close || total.close)
       rests = ap₂ (λ (x : Bool) (y : Bool). x || y) (sym settled ∙ m.close) (sym still.amount.settled)
 
+  -- and the group's total is of at most so many cents
+  still-total : (row number : ℕ) → IsSquareOn b row number → IsReadyOn b figures number → IsAmountBeforeNothing most figures (number - 1)
+      → IsTotalWithin b most row
+  still-total row number one ready still =
+      let found = row-group b.inputs.book.now.sheet.groups row one.0 in
+      let square = one.1 in
+      let before : number - 1 ≡ first b.places.now ranged.Group row = omega (arith, square) in (
+        still.figure,
+        still.amount,
+        subst (λ n. IsRightOn b n still.figure) before (total-right b is row found.0 found.1 number one figures ready still.figure still.here),
+      )
+
   -- all are known when so many more are passed over
   still-known : (numbers : List ℕ) → AreInTurnOn b numbers → b.places.now.size ≤ length figures → (next row many : ℕ)
       → ((j : ℕ) → j < many → assets.close ≡ false) → ((j : ℕ) → j < many → IsSquareAtOn b (row + j) numbers (next + j))
@@ -103,6 +116,33 @@ module _ (b : Basis) (is : IsBasis b) (assets : AssetScale) (m : IsScaleOn b ass
       subst (λ n. AreKnownBut b figures (drop n numbers)) same
       (subst (λ (now : List Figure). AreKnownBut b now (drop (next + many + 1) numbers)) (same-written figures number nothing here)
       (known-more b is numbers turn (next + many) figures number there.1 nothing right room before))
+
+-- ---- told of all at once
+
+-- fewer cents than such that are above no threshold are above none
+pub free-less : (assets most fewer : ℕ) → fewer ≤ most → IsFree assets most → IsFree assets fewer
+free-less assets most fewer few free = λ kind step low. let within = free kind step low in omega (arith, few, within)
+
+-- where the squares of all groups come next as many numbers are left
+pub next-left : (firsts numbers : List ℕ) → AreNext firsts numbers → length firsts ≤ length numbers
+next-left firsts numbers next = elim (cases_lt 0 (length firsts)) [
+  | inl some ↦
+      (let last = length firsts - 1 in
+      let at = next last (omega (arith, some)) in
+      let low = slice_get_within numbers last (slice_index firsts last + 1) at in
+      omega (arith, some, low))
+  | inr none ↦ omega (arith, none)
+]
+
+-- so they are still by a ceiling of the totals
+pub all-still : (figures : List Figure) (most : ℕ) (firsts numbers : List ℕ) → AreNext firsts numbers
+    → AreAllWithin figures firsts most → ComeStill figures most firsts numbers (length firsts)
+all-still figures most firsts numbers next each = record {
+  few = omega arith;
+  left = next-left firsts numbers next;
+  come = next;
+  each = each;
+}
 
 -- ---- a walk over the squares
 
@@ -156,9 +196,9 @@ module _ (b : Basis) (is : IsBasis b) (numbers : List ℕ) (turn : AreInTurnOn b
   pub walked-on : (assets : AssetScale) → IsScaleOn b assets → IsInForm b.inputs.factors.now → (firsts : List ℕ)
       → length firsts ≡ length b.inputs.book.now.sheet.groups
       → ((k : ℕ) → k < length firsts → slice_index firsts k ≡ first b.places.now ranged.Group k)
-      → (many : ℕ) → ArePassed assets figures (drop row firsts) (drop next numbers) many
-      → IsWalked b numbers start (row + many) (next + many) figures
-  walked-on assets m form firsts long of many passed = record {
+      → (stood : Stillness) → ArePassed assets figures (drop row firsts) (drop next numbers) stood
+      → IsWalked b numbers start (row + stood.many) (next + stood.many) figures
+  walked-on assets m form firsts long of stood passed = record {
     count = omega (arith, walked.count);
     each = λ other low. elim (cases_lt other row) [
       | inl before ↦ walked.each other before
@@ -169,27 +209,27 @@ module _ (b : Basis) (is : IsBasis b) (numbers : List ℕ) (turn : AreInTurnOn b
           subst (λ k. IsSquareAtOn b k numbers (start + other)) (sym back)
           (subst (IsSquareAtOn b (row + (other - row)) numbers) place (at (other - row) (omega (arith, low, not)))))
     ];
-    known = still-known b is assets m form passed.most passed.free figures numbers turn room next row many passed.settled at still walked.known;
+    known = still-known b is assets m form stood.most passed.free figures numbers turn room next row stood.many passed.settled at still walked.known;
   }
     where
-      own : (j : ℕ) → j < many → slice_index (drop row firsts) j + 1 ≡ square_number b (row + j)
+      own : (j : ℕ) → j < stood.many → slice_index (drop row firsts) j + 1 ≡ square_number b (row + j)
       own j low =
-          let few = passed.few in
+          let few = passed.still.few in
           let rest = length-drop row firsts in
           ap (λ n. n + 1) (get_or-drop row firsts j 0 ∙ of (row + j) (omega (arith, low, few, rest)))
 
-      at : (j : ℕ) → j < many → IsSquareAtOn b (row + j) numbers (next + j)
+      at : (j : ℕ) → j < stood.many → IsSquareAtOn b (row + j) numbers (next + j)
       at j low =
-          let few = passed.few in
+          let few = passed.still.few in
           let rest = length-drop row firsts in (
             omega (arith, low, few, rest, long),
-            sym (get-drop next numbers j) ∙ passed.come j low ∙ ap Some (own j low),
+            sym (get-drop next numbers j) ∙ passed.still.come j low ∙ ap Some (own j low),
           )
 
-      still : (j : ℕ) → j < many → IsAmountBeforeNothing passed.most figures (square_number b (row + j) - 1)
+      still : (j : ℕ) → j < stood.many → IsAmountBeforeNothing stood.most figures (square_number b (row + j) - 1)
       still j low =
           let is_own = own j low in
-          subst (IsAmountBeforeNothing passed.most figures) (omega (arith, is_own)) (passed.each j low)
+          subst (IsAmountBeforeNothing stood.most figures) (omega (arith, is_own)) (passed.still.each j low)
 
   -- on over the next, which is written
   pub walked-more : (number : ℕ) (figure : Figure) → IsSquareAtOn b row numbers next → slice_get numbers next ≡ Some number → IsRightOn b number figure
@@ -212,33 +252,50 @@ pub walked-run : (b : Basis) (numbers : List ℕ) (start row next : ℕ) (figure
     → IsSquareAtOn b 0 numbers start → (IsSquareAtOn b row numbers next → ⊥) → IsSquareRunOn b numbers start next
 walked-run b numbers start row next figures walked first not = run-over b numbers start next row walked.count first walked.each not
 
--- where as many squares are still as there are groups, all come to nothing
+-- where as many squares are still as there are groups, all come to nothing, and no total is above so many cents
 module _ (b : Basis) (is : IsBasis b) (assets : AssetScale) (m : IsScaleOn b assets) (form : IsInForm b.inputs.factors.now) (numbers : List ℕ)
     (turn : AreInTurnOn b numbers) (next : ℕ) (figures : List Figure) (room : b.places.now.size ≤ length figures)
     (known : AreKnownBut b figures (drop next numbers)) (firsts : List ℕ) (long : length firsts ≡ length b.inputs.book.now.sheet.groups)
     (of : (k : ℕ) → k < length firsts → slice_index firsts k ≡ first b.places.now ranged.Group k) where
-  pub still-all : (many : ℕ) → ArePassed assets figures firsts (drop next numbers) many → many ≡ length firsts → AreNothingOn b
-  still-all many passed all = λ row number one.
-      let low : row < many = let groups = one.0 in omega (arith, groups, all, long) in
-      let square : slice_index firsts row + 1 ≡ number = ap (λ n. n + 1) (of row (omega (arith, low, all))) ∙ one.1 in
-      let at : slice_get numbers (next + row) ≡ Some number = sym (get-drop next numbers row) ∙ passed.come row low ∙ ap Some square in
-      still-right b is assets m form passed.most passed.free figures row number (passed.settled row low) one
-      (next-ready b is numbers turn (next + row) figures number at (known-at row low))
-      (subst (IsAmountBeforeNothing passed.most figures) (omega (arith, square)) (passed.each row low))
+  pub still-all : (stood : Stillness) → ArePassed assets figures firsts (drop next numbers) stood → stood.many ≡ length firsts → AreStillOn b stood.most
+  still-all stood passed all = record {
+    totals = λ row within.
+        let low : row < stood.many = omega (arith, within, all, long) in
+        still-total b is assets m form stood.most passed.free figures row (square_number b row) (within, refl) (ready row low) (amount row low);
+    squares = λ row number one.
+        let within = one.0 in
+        let low : row < stood.many = omega (arith, within, all, long) in
+        subst (λ n. IsRightOn b n nothing) one.1
+        (still-right b is assets m form stood.most passed.free figures row (square_number b row) (passed.settled row low) (within, refl) (ready row low)
+        (amount row low));
+  }
     where
-      known-at : (row : ℕ) → row < many → AreKnownBut b figures (drop (next + row) numbers)
+      known-at : (row : ℕ) → row < stood.many → AreKnownBut b figures (drop (next + row) numbers)
       known-at row low =
-          still-known b is assets m form passed.most passed.free figures numbers turn room next 0 row
+          still-known b is assets m form stood.most passed.free figures numbers turn room next 0 row
           (λ j less. passed.settled j (omega (arith, less, low)))
           (λ j less. at j (omega (arith, less, low)))
-          (λ j less. subst (IsAmountBeforeNothing passed.most figures)
-          (let is_own = own j (omega (arith, less, low)) in omega (arith, is_own)) (passed.each j (omega (arith, less, low)))) known
+          (λ j less. subst (IsAmountBeforeNothing stood.most figures)
+          (let is_own = own j (omega (arith, less, low)) in omega (arith, is_own)) (passed.still.each j (omega (arith, less, low)))) known
         where
-          own : (j : ℕ) → j < many → slice_index firsts j + 1 ≡ square_number b (0 + j)
+          own : (j : ℕ) → j < stood.many → slice_index firsts j + 1 ≡ square_number b (0 + j)
           own j less = ap (λ n. n + 1) (of j (omega (arith, less, all)) ∙ (let same : j ≡ 0 + j = omega arith in ap (first b.places.now ranged.Group) same))
 
-          at : (j : ℕ) → j < many → IsSquareAtOn b (0 + j) numbers (next + j)
+          at : (j : ℕ) → j < stood.many → IsSquareAtOn b (0 + j) numbers (next + j)
           at j less = (
             omega (arith, less, all, long),
-            sym (get-drop next numbers j) ∙ passed.come j less ∙ ap Some (own j less),
+            sym (get-drop next numbers j) ∙ passed.still.come j less ∙ ap Some (own j less),
           )
+
+      square-at : (row : ℕ) → row < stood.many → slice_get numbers (next + row) ≡ Some (square_number b row)
+      square-at row low =
+          sym (get-drop next numbers row) ∙ passed.still.come row low ∙ ap (λ n. Some (n + 1)) (of row (omega (arith, low, all)))
+
+      ready : (row : ℕ) → row < stood.many → IsReadyOn b figures (square_number b row)
+      ready row low =
+          next-ready b is numbers turn (next + row) figures (square_number b row) (square-at row low) (known-at row low)
+
+      amount : (row : ℕ) → row < stood.many → IsAmountBeforeNothing stood.most figures (square_number b row - 1)
+      amount row low =
+          let own = of row (omega (arith, low, all)) in
+          subst (IsAmountBeforeNothing stood.most figures) (omega (arith, own)) (passed.still.each row low)

@@ -18,11 +18,9 @@ use Rattle.scr_figures.proofs.Live.{live-stands, named-once}
 use Rattle.scr_figures.proofs.RowNames.{placed-at}
 use Rattle.scr_num.specs.Sizes.{AreTogether}
 use Rattle.scr_num.specs.Sums.{sum_ends}
-use Rattle.scr_numbers.specs.Ranges.{IsApart, IsAt, IsOne, IsWithin, Numbered, count, first}
+use Rattle.scr_numbers.specs.Ranges.{IsApart, IsAt, IsWithin, Numbered, count, first}
 use Rattle.scr_numbers.specs.declared.table.Table.TheVariants as ranged
-use Rattle.scr_parts.specs.PartNumbers.{PartAt}
-use Rattle.scr_parts.specs.Parts.{AreOwn, Parted, count_of, key_of, part_at, slot_at, slot_of, slots_of}
-use Rattle.scr_parts.specs.declared.parts.Part.{Part}
+use Rattle.scr_parts.specs.Parts.{AreOwn, Parted, count_of, key_of, slot_at, slot_of, slots_of}
 use Rattle.scr_parts.proofs.Views.{no-some, one-some}
 use Rattle.scr_sheet.specs.Members.{table_of as roll_table}
 use Rattle.scr_sheet.specs.Validity.{Valid}
@@ -46,7 +44,7 @@ use Rattle.scr_subtotals.specs.Written.{AreNumbered, AreOffBlocks, is_open_at, n
 use Rattle.scr_subtotals.specs.declared.figure.Figure.{Figure}
 use Rattle.scr_subtotals.proofs.Members.{members-same}
 use Rattle.scr_subtotals.specs.declared.writing.Subtotals.{Subtotals}
-use Rattle.scr_sums.specs.BlockNumbers.{list_number, part_of, place_of, table_place}
+use Rattle.scr_sums.specs.BlockNumbers.{list_number, place_of, table_place}
 use Rattle.scr_sums.specs.Books.{rolled_of}
 use Rattle.scr_sums.specs.Graph.{AreRolls, Rolled, block_point, listed, member_point, reads, roll_in}
 use Rattle.scr_sums.specs.Sums.{first_sum, member_of, names_listed, reader_of, roll_of, second_sum}
@@ -281,22 +279,6 @@ module _ (numbers : Numbers) (are : AreNumbersOf numbers.book.now numbers.places
             absurd (none (first numbers.places.now ranged.Part (slot own its.0 its.1 levels.First 0) + place_of sum) (block-at own its.0 its.1 levels.First 0 some))
 
     -- ---- the Blocks as a list and a place tell them
-
-    -- the part that has the number of the first Block is that of the list, and the place is that of the sum
-    module _ (own : AreOwn parts) (apart : IsApart numbers.places.now) (n : ℕ) (at : At (block_point sum levels.First 0) n) where
-      module _ (part : Part) (place : ℕ) (is : PartAt parts numbers.places.now part place n) where
-        one : IsOne ranged.Part is.slot place ranged.Part at.slot (place_of sum)
-        one = apart n ranged.Part is.slot place ranged.Part at.slot (place_of sum) is.at at.at
-
-        same : part ≡ part_of at.roll (record { sum = sum; level = levels.First; index = 0 })
-        same = one-some (sym (own.own part is.slot is.held) ∙ ap (λ s. part_at s parts) one.rows
-            ∙ own.own (part_of at.roll (record { sum = sum; level = levels.First; index = 0 })) at.slot at.part)
-
-        pub its-list : part.list ≡ list_number roll at.roll
-        its-list = ap (λ (p : Part). p.list) same
-
-        pub its-place : place ≡ place_of sum
-        its-place = one.families
 
     module _ (own : AreOwn parts) (apart : IsApart numbers.places.now) (within : IsWithin numbers.places.now)
         (number : ℕ) (numbered : number_of_roll roll book.rolls ≡ Some number) (blocks : Subtotals)

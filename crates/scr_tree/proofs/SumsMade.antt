@@ -49,11 +49,8 @@ use Rattle.scr_subtotals.specs.Figures.{ends_at, member_number, members_ends}
 use Rattle.scr_subtotals.specs.Written.{is_open_at}
 use Rattle.scr_subtotals.specs.declared.figure.Figure.{Figure}
 use Rattle.scr_tree.specs.Figures.{AreKnownOf, HasFigure, Worth, reckoning_of, worth_at, worth_of}
-use Rattle.scr_tree.specs.First.{AreBlocksThere, AreMembersThere, IsBlockBefore, IsBlockOf, IsDone, IsGround, IsLinkedBefore, IsMemberOf, IsSumOf, KeepsOffBlocks, link_ground, numbers_of}
-use Rattle.scr_tree.specs.Graphs.{graph_of}
-use Rattle.scr_links.specs.Edges.{Linked}
+use Rattle.scr_tree.specs.First.{AreBlocksThere, AreDoneTo, AreMembersThere, IsBlockBefore, IsBlockOf, IsDone, IsGround, IsMemberOf, IsSumOf, KeepsOffBlocks, link_ground, numbers_of}
 use Rattle.scr_numbers.specs.Ranges.{first}
-use Rattle.scr_reach.specs.Linked.{AreLinkedOf}
 use Rattle.scr_tree.specs.Points.{StandsIn, book_reckoning, is_linked, point_worth}
 use Rattle.scr_tree.specs.Summed.{AreBlocksOn, AreMembersOn, KeepsOffBlocksOn, family_in, firsts_on, spanned_ends}
 use Rattle.scr_tree.specs.Turns.{IsBefore, Turn, next, stage_of, turn_of}
@@ -70,7 +67,7 @@ use Rattle.scr_tree.proofs.Plain.{is_plain, never-close}
 use Rattle.scr_tree.proofs.SumNumbers.{firsts-are, member-live, member-source, member-stands, rolls}
 use Rattle.scr_tree.proofs.SumWorth.{members-small}
 use Rattle.scr_tree.proofs.SumsRead.{first-reads, second-reads}
-use Rattle.scr_tree.proofs.Turns.{IsTurnOf, not-before}
+use Rattle.scr_tree.proofs.Turns.{TakesTurn, not-before}
 
 -- ---- figures and their sums
 
@@ -495,13 +492,14 @@ module _ (ground : Ground) (g : IsGround ground) where
       by (points.Block block) q = step block.sum q
 
   -- the Blocks of sums that another figure has read before
-  pub earlier-there : (node : Node) (row : ℕ) (a : Made) → IsDone ground a (turn_of node row)
+  pub earlier-there : (node : Node) (row : ℕ) (figures : List Figure)
+      → Known figures (IsBlockBefore ground.inputs.book.now.sheet (turn_of node row))
       → ((sum : Sum) → IsSumOf node sum → (reader_of sum ≡ node → ⊥) → IsBefore ground.inputs.book.now.sheet (turn_of node row) (reader_of sum))
-      → AreBlocksThere ground a.figures (λ sum. IsSumOf node sum × (reader_of sum ≡ node → ⊥))
-  earlier-there node row a is earlier =
-      known-weaker (book_reckoning ground.inputs.factors.now (rolled_of ground.inputs.book.now)) At a.figures
+      → AreBlocksThere ground figures (λ sum. IsSumOf node sum × (reader_of sum ≡ node → ⊥))
+  earlier-there node row figures known earlier =
+      known-weaker (book_reckoning ground.inputs.factors.now (rolled_of ground.inputs.book.now)) At figures
       (IsBlockBefore ground.inputs.book.now.sheet (turn_of node row)) (IsBlockOf (λ sum. IsSumOf node sum × (reader_of sum ≡ node → ⊥)))
-      (λ point alive q. by point q) is.blocks_there
+      (λ point alive q. by point q) known
     where
       by : (point : Point) → IsBlockOf (λ sum. IsSumOf node sum × (reader_of sum ≡ node → ⊥)) point
           → IsBlockBefore ground.inputs.book.now.sheet (turn_of node row) point
@@ -513,56 +511,65 @@ module _ (ground : Ground) (g : IsGround ground) where
   module _ (node : Node) (row number : ℕ)
       (named : slice_get (names_in ground.inputs.book.now.sheet (table_of node)) row ≡ Some (name_of node))
       (own : number ≡ first ground.places.now (table_of node) row + family_of node)
-      (live : is_live ground.inputs.book.now.sheet node ≡ true) (some : is_some (first_sum node) ≡ true) where
+      (live : is_live ground.inputs.book.now.sheet node ≡ true) where
     abbrev t : Turn
     t = turn_of node row
 
-    its_turn : IsTurnOf ground.inputs.book.now.sheet t node
+    its_turn : TakesTurn ground.inputs.book.now.sheet t node
     its_turn = record { at = refl; row = named; family = refl }
 
-    module _ (a : Made) (is : IsDone ground a t) (between now : List Figure) (b : Made)
-        (kept : KeepsOffBlocks ground (λ sum. reader_of sum ≡ node) a.figures between)
+    module _ (before between now : List Figure) (is : AreDoneTo ground before t t)
+        (kept : KeepsOffBlocks ground (λ sum. reader_of sum ≡ node) before between)
         (blocks : AreBlocksThere ground between (IsSumOf node)) (figure : Figure)
         (right : worth_of figure ≡ worth_at ground.inputs.factors.now ground.inputs.book.now.sheet node)
         (count : length now ≡ length between) (put : slice_get now number ≡ Some figure)
-        (others : (other : ℕ) → (other ≡ number → ⊥) → slice_get now other ≡ slice_get between other)
-        (figures_are : b.figures ≡ now) (links_are : b.links ≡ a.links) where
+        (others : (other : ℕ) → (other ≡ number → ⊥) → slice_get now other ≡ slice_get between other) where
       stood : StandsAt ground.inputs.book.now.sheet ground.places.now node number
       stood = its-number (link_ground ground) (for-links ground g) node row number named own live
 
       still-known : AreKnownOf (reckoning_of ground.inputs.factors.now ground.inputs.book.now.sheet)
           (StandsAt ground.inputs.book.now.sheet ground.places.now) between (IsBefore ground.inputs.book.now.sheet t)
       still-known =
-          figures-off a.figures between (λ sum. reader_of sum ≡ node) (IsBefore ground.inputs.book.now.sheet t) kept is.figures.known
+          figures-off before between (λ sum. reader_of sum ≡ node) (IsBefore ground.inputs.book.now.sheet t) kept is.reckoned.known
 
       still-blocks : Known between (IsBlockBefore ground.inputs.book.now.sheet t)
       still-blocks =
-          known-off ground g a.figures between (λ sum. reader_of sum ≡ node) (IsBlockBefore ground.inputs.book.now.sheet t)
-          (λ block reads before. not-before ground.inputs.book.now.sheet g.valid t node its_turn (subst (IsBefore ground.inputs.book.now.sheet t) reads before))
+          known-off ground g before between (λ sum. reader_of sum ≡ node) (IsBlockBefore ground.inputs.book.now.sheet t)
+          (λ block reads early. not-before ground.inputs.book.now.sheet g.valid t node its_turn (subst (IsBefore ground.inputs.book.now.sheet t) reads early))
           kept is.blocks_there
 
       beside : (P : Point → Type 0) → ((n : Node) → P (points.Figure n) → ⊥) → Known between P → Known now P
       beside P none = blocks-beside ground g between now node number P none stood others
 
-      pub summed-made : IsDone ground b (next t)
-      summed-made = record {
-        figures = record {
-          count = ap length figures_are ∙ count ∙ kept.count ∙ is.figures.count;
-          size = subst (λ (l : Linked). l.size ≤ ground.places.now.size) (sym links_are) is.figures.size;
-          known = subst (λ fs. AreKnownOf (reckoning_of ground.inputs.factors.now ground.inputs.book.now.sheet)
-              (StandsAt ground.inputs.book.now.sheet ground.places.now) fs (IsBefore ground.inputs.book.now.sheet (next t))) (sym figures_are)
-              (reckoned-next ground.inputs.factors.now ground.inputs.book.now.sheet g.valid ground.places.now g.numbered g.numbers
+      pub summed-done : AreDoneTo ground now (next t) (next t)
+      summed-done = record {
+        reckoned = record {
+          count = count ∙ (kept.count ∙ is.reckoned.count);
+          known = reckoned-next ground.inputs.factors.now ground.inputs.book.now.sheet g.valid ground.places.now g.numbered g.numbers
               between now t node number still-known its_turn
-              (record { at = stood; there = ap (option_map worth_of) put ∙ ap Some right; others = others }));
-          links = subst (λ (l : Linked). AreLinkedOf (graph_of ground.inputs.book.now.sheet) (StandsAt ground.inputs.book.now.sheet ground.places.now)
-              l.edges (IsLinkedBefore ground.inputs.book.now.sheet (next t))) (sym links_are)
-              (linked-still ground.inputs.book.now.sheet g.valid ground.places.now g.numbered g.numbers a.links.edges t node is.figures.links its_turn live
-              (summed-unlinked node some));
+              (record { at = stood; there = ap (option_map worth_of) put ∙ ap Some right; others = others });
         };
-        blocks_there = subst (λ fs. Known fs (IsBlockBefore ground.inputs.book.now.sheet (next t))) (sym figures_are)
-            (blocks-next ground g now t node its_turn live
+        blocks_there = blocks-next ground g now t node its_turn live
             (λ sum reads.
             blocks-weaker now (IsSumOf node) (λ s. s ≡ sum) (λ s e. read-own node s (ap reader_of e ∙ reads))
             (beside (IsBlockOf (IsSumOf node)) (λ n q. q) blocks))
-            (beside (IsBlockBefore ground.inputs.book.now.sheet t) (λ n q. q) still-blocks));
+            (beside (IsBlockBefore ground.inputs.book.now.sheet t) (λ n q. q) still-blocks);
       }
+
+  -- lists link it to its sources: the links stay
+  pub summed-made : (node : Node) (row : ℕ)
+      → slice_get (names_in ground.inputs.book.now.sheet (table_of node)) row ≡ Some (name_of node)
+      → is_live ground.inputs.book.now.sheet node ≡ true → is_some (first_sum node) ≡ true
+      → (a : Made) → IsDone ground a (turn_of node row)
+      → (figures : List Figure) → AreDoneTo ground figures (next (turn_of node row)) (next (turn_of node row))
+      → IsDone ground (record { figures = figures; links = a.links }) (next (turn_of node row))
+  summed-made node row named live some a is figures done = record {
+    figures = record {
+      count = done.reckoned.count;
+      size = is.figures.size;
+      known = done.reckoned.known;
+      links = linked-still ground.inputs.book.now.sheet g.valid ground.places.now g.numbered g.numbers a.links.edges (turn_of node row) node
+          is.figures.links (record { at = refl; row = named; family = refl }) live (summed-unlinked node some);
+    };
+    blocks_there = done.blocks_there;
+  }

@@ -14,6 +14,7 @@ use Rattle.scr_subtotals.specs.declared.figure.Figure.{Figure}
 use Rattle.scr_lists.specs.declared.lists.Lists.{Lists}
 use Rattle.scr_reach.specs.Linked.{sources_in}
 use Rattle.scr_sums.specs.Books.{rolled_of}
+use Rattle.scr_tree.specs.Ceiling.{IsCeiling}
 use Rattle.scr_tree.specs.Changed.{IsStateOf, IsUnchanged}
 use Rattle.scr_tree.specs.Figures.{AreKnownOf, AreSettled, HasFigure, Reckoning, worth_of}
 use Rattle.scr_tree.specs.Points.{IsGraphOf, StandsIn, book_reckoning}
@@ -67,8 +68,8 @@ kept-twice old mid now first second n l = by (slice_get old n) refl
 pub state-anew : (factors : FactorValues) (after : RolledSheet) (places : Numbered) (lists : Lists) (rates : Rates) (now : State)
     → IsGraphOf after places lists now.links.edges → known_of rates ≡ all_rates after.sheet
     → AreSettled (book_reckoning factors (rolled_of after)) (StandsIn after places lists) now.figures → now.links.size ≤ places.size
-    → now.places ≡ places → now.lists ≡ lists → (marks : MarkedNumbers) → IsStateOf factors after (record now { rates = rates; marks = marks })
-state-anew factors after places lists rates now graph known settled size same same_lists marks =
+    → now.places ≡ places → now.lists ≡ lists → IsCeiling places now.figures now.scratch.ceiling → (marks : MarkedNumbers) → IsStateOf factors after (record now { rates = rates; marks = marks })
+state-anew factors after places lists rates now graph known settled size same same_lists ceiling marks =
     by now.places now.lists same same_lists
   where
     by : (p : Numbered) (l : Lists) → p ≡ places → l ≡ lists
@@ -79,6 +80,7 @@ state-anew factors after places lists rates now graph known settled size same sa
           rates = known;
           graph = graph;
           figures = settled;
+          ceiling = ceiling;
           size = size;
         }))
 

@@ -40,11 +40,11 @@ use Rattle.scr_tree.specs.Figures.{HasFigure, HaveFigures, Reckoning, opens, wor
 use Rattle.scr_tree.specs.Points.{book_graph}
 use Rattle.scr_tree.specs.Ready.{IsBasis, IsReadyOn, StandsOn, reckoning_on}
 use Rattle.scr_tree.specs.Summed.{summed_in}
-use Rattle.scr_tree.specs.Together.{any_close, close_at}
+use Rattle.scr_tree.specs.Together.{any_close}
 use Rattle.scr_tree.specs.declared.basis.Basis.{Basis}
 use Rattle.scr_tree.proofs.AddedUp.{each-shifted, ends-have, ends-one, open-shifted}
 use Rattle.scr_tree.proofs.Here.{have-here}
-use Rattle.scr_tree.proofs.PointSources.{members-at, members-few, members-live, over-none, tops-live, tops-members}
+use Rattle.scr_tree.proofs.PointSources.{members-at, members-live, over-none, tops-live, tops-members}
 use Rattle.scr_tree.proofs.Spanned.{close-all, point-right}
 use Rattle.scr_tree.proofs.SumWorth.{by-tops, listed-small, tops-few}
 use Rattle.scr_tree.proofs.Turning.{have-within}
@@ -85,7 +85,7 @@ zip-made R f g start (suc many) each = (
 
 any-made : (figures : List Figure) (f : ℕ → ℕ) (list : List ℕ) → list_any (λ i. is_open_at figures (f i)) list ≡ any_close figures (map f list)
 any-made figures f [] = refl
-any-made figures f (i ∷ list) = ap (λ b. close_at figures (f i) || b) (any-made figures f list)
+any-made figures f (i ∷ list) = ap (λ b. is_open_at figures (f i) || b) (any-made figures f list)
 
 ends-made : (reckoning : Reckoning Point) (figures : List Figure) (f : ℕ → ℕ) (g : ℕ → Point) (list : List ℕ) → HaveFigures reckoning figures (map f list) (map g list)
     → map (λ i. ends_at figures (f i)) list ≡ map (λ p. (reckoning.worth p).worked) (map g list)
@@ -295,12 +295,6 @@ module _ (b : Basis) (is : IsBasis b) where
     members-within =
         each-shifted family (length figures) firsts
         (known-within figures (tops_of (rolled_of b.inputs.book.now) (Some sum)) known (map (λ n. n + family) firsts) at-members)
-
-    pub members-low : b.places.now.size < 2 ^ 32 → All (λ n. n + family < 2 ^ 32) firsts
-    members-low few =
-        members-few b.inputs.book.now b.places.now b.lists.now is.graph.numbers_of is.valid sum family own_family (roll_in (rolled_of b.inputs.book.now) sum)
-        (tops_of (rolled_of b.inputs.book.now) (Some sum)) tops-are
-        (tops-live b.inputs.book.now b.places.now b.lists.now is.graph.numbers_of is.valid sum there) firsts are few
 
     pub members-worth : members_ends figures family firsts ≡ map (worked_of b) (tops_of (rolled_of b.inputs.book.now) (Some sum))
     members-worth = ends-have (reckoning_on b) figures family firsts (tops_of (rolled_of b.inputs.book.now) (Some sum)) have-members

@@ -47,13 +47,13 @@ one-table a b same = sym (table-at a) ∙ (ap table_at same ∙ table-at b)
 
 -- ---- whose turn it is
 
-pub record IsTurnOf (sheet : BalanceSheet) (t : Turn) (node : Node) : Type 0 where
+pub record TakesTurn (sheet : BalanceSheet) (t : Turn) (node : Node) : Type 0 where
   pub at : stage_of node ≡ t.stage
   pub row : slice_get (names_in sheet (table_of node)) t.row ≡ Some (name_of node)
   pub family : family_of node ≡ t.family
 
 -- two of one turn are one
-pub one-turn : (sheet : BalanceSheet) (t : Turn) (a b : Node) → IsTurnOf sheet t a → IsTurnOf sheet t b
+pub one-turn : (sheet : BalanceSheet) (t : Turn) (a b : Node) → TakesTurn sheet t a → TakesTurn sheet t b
     → family_of a < stride (table_of a) → a ≡ b
 one-turn sheet t a b x y within =
     let table : table_of a ≡ table_of b = one-table a b (x.at ∙ sym y.at) in
@@ -62,11 +62,11 @@ one-turn sheet t a b x y within =
     told a b table (x.family ∙ sym y.family) (cc) within
 
 -- what is before the next turn is before this one, or it is its own
-pub step-back : (sheet : BalanceSheet) (t : Turn) (n : Node) → IsBefore sheet (next t) n → IsBefore sheet t n ⊎ IsTurnOf sheet t n
+pub step-back : (sheet : BalanceSheet) (t : Turn) (n : Node) → IsBefore sheet (next t) n → IsBefore sheet t n ⊎ TakesTurn sheet t n
 step-back sheet t n (inl less) = inl (inl less)
 step-back sheet t n (inr h) = by h.1.before
   where
-    last : h.1.k ≡ t.row → family_of n < t.family + 1 → IsBefore sheet t n ⊎ IsTurnOf sheet t n
+    last : h.1.k ≡ t.row → family_of n < t.family + 1 → IsBefore sheet t n ⊎ TakesTurn sheet t n
     last row less = passes_or_fails (nat_eq (family_of n) t.family)
         (λ e. inr (record {
           at = h.0;
@@ -81,11 +81,11 @@ step-back sheet t n (inr h) = by h.1.before
         lower : (a b : ℕ) → a < b + 1 → (a ≡ b → ⊥) → a < b
         lower a b l other = omega (arith, l, other)
 
-    by : (h.1.k < t.row) ⊎ ((h.1.k ≡ t.row) × (family_of n < t.family + 1)) → IsBefore sheet t n ⊎ IsTurnOf sheet t n
+    by : (h.1.k < t.row) ⊎ ((h.1.k ≡ t.row) × (family_of n < t.family + 1)) → IsBefore sheet t n ⊎ TakesTurn sheet t n
     by (inl less) = inl (inr (h.0, record { k = h.1.k; named = h.1.named; before = inl less }))
     by (inr same) = last same.0 same.1
 
-pub its-turn : (sheet : BalanceSheet) (t : Turn) (n : Node) → IsTurnOf sheet t n → IsBefore sheet (next t) n
+pub its-turn : (sheet : BalanceSheet) (t : Turn) (n : Node) → TakesTurn sheet t n → IsBefore sheet (next t) n
 its-turn sheet t n is =
     inr (is.at, record { k = t.row; named = is.row; before = inr (refl, let f = is.family in omega (arith, f)) })
 
@@ -99,7 +99,7 @@ later sheet t n (inr h) = inr (h.0, record { k = h.1.k; named = h.1.named; befor
     by (inr same) = inr (same.0, let l = same.1 in omega (arith, l))
 
 -- a figure is not before its own turn
-pub not-before : (sheet : BalanceSheet) → Valid sheet → (t : Turn) (n : Node) → IsTurnOf sheet t n → IsBefore sheet t n → ⊥
+pub not-before : (sheet : BalanceSheet) → Valid sheet → (t : Turn) (n : Node) → TakesTurn sheet t n → IsBefore sheet t n → ⊥
 not-before sheet valid t n is (inl less) = let e = is.at in absurd (omega (arith, e, less))
 not-before sheet valid t n is (inr h) =
     let names = names_in sheet (table_of n) in
@@ -120,20 +120,20 @@ pub record IsAsGood (sheet : BalanceSheet) (t u : Turn) : Type 0 where
   pub back : (n : Node) → is_live sheet n ≡ true → IsBefore sheet u n → IsBefore sheet t n
 
 -- no figure has the turn
-pub skipped : (sheet : BalanceSheet) (t : Turn) → ((n : Node) → is_live sheet n ≡ true → IsTurnOf sheet t n → ⊥)
+pub skipped : (sheet : BalanceSheet) (t : Turn) → ((n : Node) → is_live sheet n ≡ true → TakesTurn sheet t n → ⊥)
     → IsAsGood sheet t (next t)
 skipped sheet t none = record {
   to = λ n live before. later sheet t n before;
   back = λ n live before. by n live (step-back sheet t n before);
 }
   where
-    by : (n : Node) → is_live sheet n ≡ true → IsBefore sheet t n ⊎ IsTurnOf sheet t n → IsBefore sheet t n
+    by : (n : Node) → is_live sheet n ≡ true → IsBefore sheet t n ⊎ TakesTurn sheet t n → IsBefore sheet t n
     by n live (inl before) = before
     by n live (inr is) = absurd (none n live is)
 
 -- the balance sheet does not have the figure that has the turn
 pub dead-skipped : (sheet : BalanceSheet) (places : Numbered) → IsNumbered sheet places → (t : Turn) (node : Node)
-    → IsTurnOf sheet t node → (is_live sheet node ≡ true → ⊥) → IsAsGood sheet t (next t)
+    → TakesTurn sheet t node → (is_live sheet node ≡ true → ⊥) → IsAsGood sheet t (next t)
 dead-skipped sheet places numbered t node is dead = skipped sheet t
     (λ n live own. dead (subst (λ m. is_live sheet m ≡ true)
     (one-turn sheet t n node own is (live-stands sheet places numbered n live).1.at.family) live))

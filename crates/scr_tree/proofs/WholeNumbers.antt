@@ -1,8 +1,8 @@
--- The number of a figure of the whole sheet is its family.
-use Rattle.std.proofs.Common.{◌≡◌, ℕ, true, List, Some, slice_get, subst, sym, ap, arith, refl}
+-- The number of a figure of the whole sheet is its family, and the first numbers are those of such figures.
+use Rattle.std.proofs.Common.{◌≡◌, ℕ, ◌<◌, true, List, Some, slice_get, subst, sym, ap, arith, refl}
 use Rattle.std.specs.Option.{option_map}
 use Rattle.scr_factors.specs.Values.{FactorValues}
-use Rattle.scr_numbers.specs.Ranges.{Numbered, count, first}
+use Rattle.scr_numbers.specs.Ranges.{IsAt, Numbered, count, first}
 use Rattle.scr_numbers.specs.declared.table.Table.TheVariants as tables
 use Rattle.scr_sheet.specs.declared.sheet.BalanceSheet.{BalanceSheet}
 use Rattle.scr_book.specs.RolledSheets.{RolledSheet}
@@ -33,6 +33,23 @@ whole-stands sheet places numbered whole live number family =
     let at = own.1.at.is in
     let is : own.0 ≡ number = omega (arith, from, start, at, family) in
     subst (StandsAt sheet places (nodes.Whole whole)) is own.1
+
+-- each of the first numbers is that of a place of the sheet's one row
+pub whole-place : (sheet : BalanceSheet) (places : Numbered) → IsNumbered sheet places → (number : ℕ) → number < 154
+    → IsAt places tables.Whole 0 number number
+whole-place sheet places numbered number low =
+    let rows : count places tables.Whole ≡ 1 = numbered.rows tables.Whole refl in
+    let start = numbered.whole in
+    record { row = omega (arith, rows); family = low; is = omega (arith, start) }
+
+-- and the figure of that family stands there
+pub whole-there : (sheet : BalanceSheet) (places : Numbered) → IsNumbered sheet places → (whole : Whole) (number : ℕ)
+    → whole_family whole ≡ number → number < 154 → StandsAt sheet places (nodes.Whole whole) number
+whole-there sheet places numbered whole number family low = record {
+  k = 0;
+  row = refl;
+  at = subst (λ j. IsAt places tables.Whole 0 j number) (sym family) (whole-place sheet places numbered number low);
+}
 
 -- what stands there is what it comes to
 pub whole-known : (factors : FactorValues) (book : RolledSheet) (places : Numbered) (lists : Lists) (figures : List Figure) (now : Standing)

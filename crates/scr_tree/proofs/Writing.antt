@@ -31,14 +31,14 @@ use Rattle.scr_pieces.specs.declared.rows.Sort.TheVariants as sorts
 use Rattle.scr_pieces.proofs.Counted.{all-once, times_row-append}
 use Rattle.scr_rules.specs.Worked.{worked}
 use Rattle.scr_tree.specs.Figures.{AreKnownOf, HasFigure, reckoning_of, worth_of}
-use Rattle.scr_tree.specs.First.{AreGroupsDone, AreReckonedTo, IsDone, IsGround, IsLinkedBefore}
+use Rattle.scr_tree.specs.First.{AreDoneTo, AreGroupsDone, AreLinkedTo, AreReckonedTo, AreRowsDone, IsGround, IsLinkedBefore, link_ground}
 use Rattle.scr_tree.specs.Graphs.{graph_of}
 use Rattle.scr_tree.specs.Points.{is_linked}
 use Rattle.scr_tree.specs.RowSpans.{IsOfRow, IsRowOf, row_count, sort_table}
 use Rattle.scr_tree.specs.Turns.{IsBefore, stage_of, turn}
 use Rattle.scr_tree.specs.Written.{IsOfRows, IsWrittenAt, IsWrittenOf, is_by_row, plain_of, rows_among}
 use Rattle.scr_subtotals.specs.declared.figure.Figure.{Figure}
-use Rattle.scr_tree.specs.declared.making.{Ground.Ground, Made.Made}
+use Rattle.scr_tree.specs.declared.making.Ground.{Ground}
 use Rattle.scr_tree.proofs.BlockTurns.{blocks-kept, blocks-rows}
 use Rattle.scr_tree.proofs.Journaled.{set-here, set-other}
 use Rattle.scr_tree.proofs.Known.{take-next}
@@ -371,52 +371,50 @@ module _ (ground : Ground) (g : IsGround ground) where
       by node number stood live (inl early) = written.kept node number stood live (is.known node number stood live early)
       by node number stood live (inr own) = written.each node number stood (its-row rows all node live own)
 
-  -- no figure of a row is linked
-  row-unlinked : (node : Node) → is_by_row node ≡ true → is_linked node ≡ true → ⊥
-  row-unlinked (nodes.Fund name what) own its = absurd (let clash : false ≡ true = own in cc)
-  row-unlinked (nodes.Security name of_securities.Total) own its = absurd (let clash : false ≡ true = own in cc)
-  row-unlinked (nodes.Security name what) own its = absurd (let clash : false ≡ true = its in cc)
-  row-unlinked (nodes.Liability name what) own its = absurd (let clash : false ≡ true = its in cc)
-  row-unlinked (nodes.Group name what) own its = absurd (let clash : false ≡ true = its in cc)
-  row-unlinked (nodes.Currency name what) own its = absurd (let clash : false ≡ true = own in cc)
-  row-unlinked (nodes.Whole what) own its = absurd (let clash : false ≡ true = own in cc)
+  -- what is linked before the currencies is a total of a fund or of a security
+  early-total : (node : Node) → is_linked node ≡ true → IsBefore ground.inputs.book.now.sheet (turn 6 0 0) node
+      → IsBefore ground.inputs.book.now.sheet (turn 2 0 0) node
+  early-total (nodes.Fund name what) its before = inl (omega arith)
+  early-total (nodes.Security name of_securities.Total) its before = inl (omega arith)
+  early-total (nodes.Security name what) its before = absurd (let clash : false ≡ true = its in cc)
+  early-total (nodes.Liability name what) its before = absurd (let clash : false ≡ true = its in cc)
+  early-total (nodes.Group name what) its before = absurd (let clash : false ≡ true = its in cc)
+  early-total (nodes.Currency name what) its before = absurd (late 6 (nodes.Currency name what) (omega arith) before)
+  early-total (nodes.Whole wholes.Assets) its before = absurd (let clash : false ≡ true = its in cc)
+  early-total (nodes.Whole what) its before = absurd (late 6 (nodes.Whole what) (omega arith) before)
 
-  -- what is linked before the currencies is linked before all rows
   rows-linked : (edges : List Edge)
-      → AreLinkedOf (graph_of ground.inputs.book.now.sheet) At edges (IsLinkedBefore ground.inputs.book.now.sheet (turn 3 0 0))
+      → AreLinkedOf (graph_of ground.inputs.book.now.sheet) At edges (IsLinkedBefore ground.inputs.book.now.sheet (turn 2 0 0))
       → AreLinkedOf (graph_of ground.inputs.book.now.sheet) At edges (IsLinkedBefore ground.inputs.book.now.sheet (turn 6 0 0))
   rows-linked edges is = record {
-    done = λ node number stood live before. is.done node number stood live (early node before.1 (early-or node before.0), before.1);
+    done = λ node number stood live before. is.done node number stood live (early-total node before.1 before.0, before.1);
     only = λ e has. let l = is.only e has in (l.0, l.1, l.2, (later l.0 l.3.0, l.3.1));
   }
     where
-      early : (node : Node) → is_linked node ≡ true → IsBefore ground.inputs.book.now.sheet (turn 3 0 0) node ⊎ (is_by_row node ≡ true)
-          → IsBefore ground.inputs.book.now.sheet (turn 3 0 0) node
-      early node its (inl before) = before
-      early node its (inr own) = absurd (row-unlinked node own its)
-
-      later : (node : Node) → IsBefore ground.inputs.book.now.sheet (turn 3 0 0) node → IsBefore ground.inputs.book.now.sheet (turn 6 0 0) node
+      later : (node : Node) → IsBefore ground.inputs.book.now.sheet (turn 2 0 0) node → IsBefore ground.inputs.book.now.sheet (turn 6 0 0) node
       later node (inl less) = inl (omega (arith, less))
       later node (inr h) = let e = h.0 in inl (omega (arith, e))
 
   -- all rows are written, and nothing but their figures
   pub rows-done : (rows : List Row) → ((sort : Sort) (k : ℕ) → k < row_count ground.inputs.book.now.sheet sort → 0 < times_row (row sort k) rows)
-      → (a b : Made) → b.links ≡ a.links → IsDone ground a (turn 3 0 0) → IsWrittenOf ground rows a.figures b.figures
-      → AreGroupsDone ground b 0
-  rows-done rows all a b links is written =
-      let reckoned = rows-reckoned rows all a.figures b.figures (record { count = is.figures.count; known = is.figures.known }) written in
-      record {
-        figures = record {
-          count = reckoned.count;
-          size = subst (λ (l : Linked). l.size ≤ ground.places.now.size) (sym links) is.figures.size;
-          known = reckoned.known;
-          links = subst
-              (λ (l : Linked). AreLinkedOf (graph_of ground.inputs.book.now.sheet) At l.edges (IsLinkedBefore ground.inputs.book.now.sheet (turn 6 0 0)))
-              (sym links) (rows-linked a.links.edges is.figures.links);
-        };
-        blocks_there = blocks-rows ground g b.figures
-            (blocks-kept ground g a.figures b.figures (turn 3 0 0) written.parts is.blocks_there);
-      }
+      → (a b : List Figure) → AreDoneTo ground a (turn 3 0 0) (turn 3 0 0) → IsWrittenOf ground rows a b → AreRowsDone ground b
+  rows-done rows all a b is written = record {
+    reckoned = rows-reckoned rows all a b is.reckoned written;
+    blocks_there = blocks-rows ground g b (blocks-kept ground g a b (turn 3 0 0) written.parts is.blocks_there);
+  }
+
+  -- with the links of all totals
+  pub rows-made : (figures : List Figure) (links : Linked) → AreRowsDone ground figures → AreLinkedTo (link_ground ground) links (turn 2 0 0)
+      → AreGroupsDone ground (record { figures = figures; links = links }) 0
+  rows-made figures links is linked = record {
+    figures = record {
+      count = is.reckoned.count;
+      size = linked.size;
+      known = is.reckoned.known;
+      links = rows-linked links.edges linked.linked;
+    };
+    blocks_there = is.blocks_there;
+  }
 
 -- ---- spans of rows
 

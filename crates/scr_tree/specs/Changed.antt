@@ -38,21 +38,25 @@ use Rattle.scr_sums.specs.Books.{rolled_of}
 use Rattle.scr_sums.specs.Graph.{Rolled, is_live_in}
 use Rattle.scr_sums.specs.Touched.{IsTouchedIn}
 use Rattle.scr_sums.specs.declared.point.Point.{Point}
+use Rattle.scr_tree.specs.Ceiling.{IsCeiling}
 use Rattle.scr_tree.specs.Figures.{AreKnownOf, AreSettled}
 use Rattle.scr_tree.specs.KeptRates.{keeps_rates}
 use Rattle.scr_tree.specs.Marking.{AreAssetsMarked, is_of_squares}
 use Rattle.scr_tree.specs.Points.{AreNumbersOf, IsGraphOf, StandsIn, book_graph, book_reckoning}
+use Rattle.scr_tree.specs.Renewed.{AreSums}
 use Rattle.scr_tree.specs.Starts.{relinked}
 use Rattle.scr_tree.specs.declared.edits.State.{State}
 use Rattle.scr_tree.specs.declared.edits.Taken.{Taken}
 
 -- ---- what an engine keeps beside factors and book
 
--- The rates are those of the balance sheet; each figure and each Block of the book has a number and is there.
+-- The rates are those of the balance sheet; each figure and each Block of the book has a number and is there; and where a ceiling is kept no
+-- group's total is above it, and no square comes to anything.
 pub record IsStateOf (factors : FactorValues) (book : RolledSheet) (state : State) : Type 0 where
   pub rates : known_of state.rates ≡ all_rates book.sheet
   pub graph : IsGraphOf book state.places state.lists state.links.edges
   pub figures : AreSettled (book_reckoning factors (rolled_of book)) (StandsIn book state.places state.lists) state.figures
+  pub ceiling : IsCeiling state.places state.figures state.scratch.ceiling
   pub size : state.links.size ≤ state.places.size
 
 -- rates, figures, lists and links are as they were, and all rows have their numbers: those of parts may be more
@@ -123,6 +127,7 @@ pub record IsFollowed (factors : FactorValues) (after : RolledSheet) (taken : Ta
   pub rates : known_of state.rates ≡ all_rates before.sheet
   pub graph : IsGraphOf before old state.lists state.links.edges
   pub figures : AreSettled (book_reckoning factors (rolled_of before)) (StandsIn before old state.lists) state.figures
+  pub ceiling : IsCeiling state.places state.figures state.scratch.ceiling
   pub size : state.links.size ≤ old.size
   pub marks : state.marks.list ≡ []
 
@@ -156,6 +161,7 @@ pub record HaveFollowed (book : RolledSheet) (stood : Option Stood) (moved : Opt
   pub places : HasMoreParts old.places now.places
   pub rates : now.rates ≡ old.rates
   pub figures : now.figures ≡ old.figures
+  pub ceiling : now.scratch.ceiling ≡ old.scratch.ceiling
   pub links : now.links ≡ old.links
   pub marks : now.marks ≡ old.marks
 
@@ -179,6 +185,7 @@ pub record IsMoved (factors : FactorValues) (after : RolledSheet) (taken : Taken
   pub rates : known_of state.rates ≡ all_rates before.sheet
   pub graph : IsGraphOf before old former state.links.edges
   pub figures : AreSettled (book_reckoning factors (rolled_of before)) (StandsIn before old former) state.figures
+  pub ceiling : IsCeiling state.places state.figures state.scratch.ceiling
   pub size : state.links.size ≤ old.size
   pub marks : state.marks.list ≡ []
 
@@ -190,14 +197,17 @@ KeepsState factors before after taken old now =
 
 -- ---- from the links on
 
--- The links are those of the book after the record, and the figures of all are known that it does not reach.
+-- The links are those of the book after the record, and the figures of all are known that it does not reach. What each Block came to is yet the
+-- sum of what those came to that it adds up, unless the record touches it.
 pub record IsRelinkedFor (factors : FactorValues) (after : RolledSheet) (touched : List Point) (rates : Option Rates) (state : State) : Type 0 where
   pub valid : Valid after.sheet
   pub graph : IsGraphOf after state.places state.lists state.links.edges
   pub rates_after : option_map_or known_of rates (known_of state.rates) ≡ all_rates after.sheet
   pub others : AreKnownOf (book_reckoning factors (rolled_of after)) (StandsIn after state.places state.lists) state.figures
       (λ point. IsInReach (book_graph (rolled_of after)) (Contains touched) point → ⊥)
+  pub blocks : AreSums (rolled_of after) (StandsIn after state.places state.lists) state.figures (λ point. Contains touched point → ⊥)
   pub room : state.places.size ≤ length state.figures
+  pub ceiling : IsCeiling state.places state.figures state.scratch.ceiling
   pub marks : state.marks.list ≡ []
   pub marked : state.places.size ≤ state.marks.size
 

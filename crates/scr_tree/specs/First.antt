@@ -135,6 +135,16 @@ abbrev pub IsEstimated : BalanceSheet → ℕ → Estimate → Type 0
 IsEstimated sheet k estimate =
     (liability : Liability) → slice_get sheet.liabilities k ≡ Some liability → IsEstimateOf sheet liability estimate
 
+-- all figures before one turn are reckoned, and the Blocks are there under sums that are read before another
+pub record AreDoneTo (ground : Ground) (figures : List Figure) (t u : Turn) : Type 0 where
+  pub reckoned : AreReckonedTo ground figures t
+  pub blocks_there : AreKnownOf (book_reckoning ground.inputs.factors.now (rolled_of ground.inputs.book.now))
+      (StandsIn ground.inputs.book.now ground.places.now ground.lists.now) figures (IsBlockBefore ground.inputs.book.now.sheet u)
+
+-- all figures of rows are reckoned, but no Block under the total of a group is there
+abbrev pub AreRowsDone : Ground → List Figure → Type 0
+AreRowsDone ground figures = AreDoneTo ground figures (turn 6 0 0) (turn 5 0 0)
+
 -- all before one turn is reckoned, all before another is linked, and the Blocks are there under sums that are read before a third
 pub record IsMadeTo (ground : Ground) (made : Made) (reckoned linked blocks : Turn) : Type 0 where
   pub figures : IsMade ground.inputs.factors.now ground.inputs.book.now.sheet ground.places.now made reckoned linked

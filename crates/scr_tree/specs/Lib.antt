@@ -4,6 +4,7 @@ pub mod Points
 pub mod Inputs
 pub mod Order
 pub mod Ready
+pub mod Renewed
 pub mod Together
 pub mod Starts
 pub mod KeptRates
@@ -21,6 +22,7 @@ pub mod SquareRun
 pub mod Adding
 pub mod AssetScales
 pub mod Still
+pub mod Ceiling
 pub mod Room
 pub mod Opening
 pub mod Summed

@@ -1,5 +1,5 @@
 -- The points of an order, reckoned by several workers at once (this project's own).
-use Rattle.std.specs.Prelude.{◌≡◌, ℕ, ◌+◌, ◌++◌, Bool, true, false, List, [], ◌∷◌, Option, Some, None, pos, flat_map, if◌then◌else◌, length, map, nat_eq, slice_get}
+use Rattle.std.specs.Prelude.{◌≡◌, ℕ, ◌+◌, ◌++◌, Bool, true, false, List, [], ◌∷◌, Option, Some, None, pos, flat_map, if◌then◌else◌, length, map, nat_eq}
 use Rattle.std.specs.List.{AllByRecursion, list_any, range_with_len}
 use Rattle.std.specs.Option.{option_and_then, option_map, option_map_or}
 use Rattle.scr_num.specs.Rounding.{Ends, ends, exact_ends}
@@ -21,6 +21,7 @@ use Rattle.scr_figures.specs.Records.{place_in}
 use Rattle.scr_lists.specs.declared.lists.Lists.{Lists}
 use Rattle.scr_parts.specs.Parts.{slot_of}
 use Rattle.scr_reach.specs.Dues.{IsDue, numbers_of}
+use Rattle.scr_subtotals.specs.Written.{is_open_at}
 use Rattle.scr_subtotals.specs.declared.figure.Figure.{Figure}
 use Rattle.scr_sums.specs.Books.{rolled_of}
 use Rattle.scr_sums.specs.BlockNumbers.{part_of, place_of}
@@ -113,9 +114,6 @@ pub record AreDuesOn (b : Basis) (numbers : List ℕ) (dues : List Due) : Type 0
 
 -- ---- open choices
 
-abbrev pub close_at : List Figure → ℕ → Bool
-close_at figures number = option_map_or (λ (figure : Figure). figure.close) (slice_get figures number) false
-
 -- one of the figures at these numbers rests on an open choice
 abbrev pub any_close : List Figure → List ℕ → Bool
-any_close figures numbers = list_any (close_at figures) numbers
+any_close figures numbers = list_any (is_open_at figures) numbers

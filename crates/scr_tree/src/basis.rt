@@ -8,13 +8,15 @@ use scr_numbers::Places;
 use std::alloc::Global;
 
 /// What figures are reckoned from beside those of their sources: the book and its rates, the numbers of all its figures and Blocks, and
-/// the links that neither rows nor lists give.
+/// the links that neither rows nor lists give. And whether each Block of the first level came to what its members came to before anything
+/// was reckoned anew: so it is where no member list has moved since all figures were right.
 #[derive(Clone, Copy)]
 pub(crate) struct Basis<'a> {
     pub(crate) inputs: Inputs<'a>,
     pub(crate) places: &'a Places,
     pub(crate) lists: &'a Lists,
     pub(crate) links: &'a Links,
+    pub(crate) summed: bool,
 }
 
 impl<'a> Basis<'a> {

@@ -1,5 +1,5 @@
 //! What a record that the book has taken changes of an engine beside the book.
-ghost use Rattle.std.specs.Prelude.{◌≡◌, ◌+◌, ◌≤◌, ◌<◌, [], ℕ, length, max, slice_get, IfNone, IfOk, IfSome, OnOk, OnErr};
+ghost use Rattle.std.specs.Prelude.{◌≡◌, ◌+◌, ◌≤◌, ◌<◌, [], ℕ, true, false, Contains, length, max, slice_get, IfNone, IfOk, IfSome, OnOk, OnErr};
 ghost use Rattle.std.specs.Option.{option_map_or};
 ghost use Rattle.scr_discounts.specs.KeptRates.{known_of};
 ghost use Rattle.scr_reach.specs.Dues.{AreStarts, sources_count};
@@ -9,6 +9,9 @@ ghost use Rattle.scr_book.specs.RolledSheets.{RolledSheet};
 ghost use Rattle.scr_figures.specs.Numbers.{IsNumbered, StandsAt};
 ghost use Rattle.scr_reach.specs.Linked.{AreNumbers};
 ghost use Rattle.scr_sums.specs.Books.{rolled_of};
+ghost use Rattle.scr_tree.specs.Ceiling.{IsCeiling, ceiling_after};
+ghost use Rattle.scr_sums.specs.declared.point.Block.{Block as TheBlock};
+ghost use Rattle.scr_sums.specs.declared.point.Point.TheVariants as points;
 ghost use Rattle.scr_tree.specs.Changed.{AreGone, AreReachedMarks, AreRowsFor, CanFollowLists, CanPutBack, HaveFollowed, IsFollowed, IsMoved, IsRecorded, IsRelinkedFor, IsStateOf, IsUnchanged, IsUndone, KeepsAllButLists, KeepsState, StepsReach};
 ghost use Rattle.scr_lists.specs.Following.{AreStill};
 ghost use Rattle.scr_lists.specs.declared.lists.Lists.{Lists as TheLists};
@@ -21,7 +24,7 @@ ghost use Rattle.std.specs.Prelude.{nat_eq};
 ghost use Rattle.scr_tree.specs.KeptRates.{AreKeptFor, keeps_rates};
 
 use crate::basis::{Basis, Crew};
-use crate::figures::{Below, Figures, Inputs};
+use crate::figures::{Figures, Inputs};
 use crate::first_links::ASSETS;
 use crate::graph::{Graph, Numbers};
 use crate::order::{Order, ordered};
@@ -113,12 +116,24 @@ pub(crate) fn take_up<R: Threads + Sync, G: Gate + Sync, L: Ledger>(
         → KeepsState footing.entry.factors.now before footing.entry.book.now taken.entry state.old state.new) }
 {
     follow(&mut state.places, taken.step)?;
+    state.scratch.ceiling = ceiling_after(taken.step, state.scratch.ceiling);
     match move_and_change(crew, footing, state, taken, gone, steps) {
         Ok(()) => Ok(()),
         Err(NoMemory) => {
+            state.scratch.ceiling = None;
             take_back(&mut state.places, taken.step);
             Err(NoMemory)
         }
+    }
+}
+
+/// The ceiling of what is held of each group, where each row stays where it is.
+fn ceiling_after(step: Step, ceiling: Option<u64>) -> Option<u64>
+    ensures { result ≡ ceiling_after step ceiling }
+{
+    match step {
+        Step::Stays => ceiling,
+        Step::Comes(_) | Step::Goes(_, _) => None,
     }
 }
 
@@ -275,6 +290,7 @@ fn reckon_reached<R: Threads + Sync, G: Gate + Sync, L: Ledger>(
         (StandsIn footing.entry.book.now state.old.places state.old.lists) state.new.figures) }
     ensures steps { OnOk result (crew.now.workers ≡ 1
         → StepsReach (rolled_of footing.entry.book.now) touched.now steps.old steps.new) }
+    ensures ceiling { OnOk result (IsCeiling state.old.places state.new.figures state.new.scratch.ceiling) }
     ensures figures { OnErr result (state.new.figures ≡ state.old.figures) }
     ensures count { length state.new.figures ≡ length state.old.figures }
     ensures rates { state.new.rates ≡ state.old.rates }
@@ -311,6 +327,7 @@ fn reckon_reached<R: Threads + Sync, G: Gate + Sync, L: Ledger>(
         places: &state.places,
         lists: &state.lists,
         links: &state.links,
+        summed: are_figures(touched),
     };
     reckon_in_place(
         crew,
@@ -320,6 +337,20 @@ fn reckon_reached<R: Threads + Sync, G: Gate + Sync, L: Ledger>(
         &mut state.scratch,
         steps,
     )
+}
+
+/// The record touches no Block: each one comes yet to what its members came to.
+fn are_figures(touched: &[Point]) -> bool
+    ensures yes { result ≡ true → (block : TheBlock) → Contains touched.now (points.Block block) → ⊥ }
+    ensures not { result ≡ false → ((block : TheBlock) → Contains touched.now (points.Block block) → ⊥) → ⊥ }
+{
+    for point in touched {
+        match point {
+            Point::Figure(_) => (),
+            Point::Block(_) => return false,
+        }
+    }
+    true
 }
 
 /// Marks all that is reckoned from what is marked. Where the assets are marked squares and the Blocks over them need no mark.

@@ -179,7 +179,7 @@ impl Engine {
         }
     }
 
-    /// The figure of a node rests on a choice that is open.
+    /// A figure of the balance sheet rests on a choice that is open.
     pub fn is_close(&self, node: &SheetNode) -> bool
         requires { is_live self.now.sheet node.now ≡ true }
         ensures { result ≡ close_under self.now.factors self.now.sheet node.now }
@@ -187,7 +187,7 @@ impl Engine {
         self.figure(node).close
     }
 
-    /// Both of a node: what it comes to, and whether it rests on a choice that is open.
+    /// What a figure of the balance sheet comes to, and whether it rests on a choice that is open.
     #[inline(always)]
     pub fn told(&self, node: &SheetNode) -> (Span, bool)
         requires { is_live self.now.sheet node.now ≡ true }
@@ -198,7 +198,8 @@ impl Engine {
         (span, close)
     }
 
-    /// Both of the figure of the whole sheet that is of this family, whose number is the family itself. A read, without a search.
+    /// What the figure of the whole sheet of this family comes to, and whether it rests on an open choice. Its number is the family itself:
+    /// a read, without a search.
     #[inline(always)]
     pub fn told_whole(&self, family: u32) -> (Span, bool)
         requires { (whole : Whole) × (is_live self.now.sheet (nodes.Whole whole) ≡ true) × (whole_family whole ≡ family) }
@@ -211,7 +212,7 @@ impl Engine {
         (span, close)
     }
 
-    /// The figure of the whole sheet that is of this family is that of the mark, and so is whether it rests on a choice that is open.
+    /// The same are those of the mark.
     #[inline(always)]
     pub fn is_told(&self, family: u32, mark: &Mark) -> bool
         requires { (whole : Whole) × (is_live self.now.sheet (nodes.Whole whole) ≡ true) × (whole_family whole ≡ family) }

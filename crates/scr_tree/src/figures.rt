@@ -1,6 +1,6 @@
 //! The figures that are known, each at its number, and one figure reckoned from those of its sources.
-ghost use Rattle.std.specs.Prelude.{◌≡◌, ◌+◌, ◌<◌, ◌||◌, true, All, length, IfOk, OnOk};
-ghost use Rattle.scr_num.specs.Rounding.{ends};
+ghost use Rattle.std.specs.Prelude.{◌≡◌, ◌+◌, ◌<◌, ◌||◌, true, false, All, length, pos, IfOk, OnOk};
+ghost use Rattle.scr_num.specs.Rounding.{ends, exact_ends};
 ghost use Rattle.scr_nodes.specs.Live.{is_live};
 ghost use Rattle.scr_nodes.specs.Sources.{sources_of};
 ghost use Rattle.scr_reach.specs.Linked.{sources_in as linked_in};
@@ -13,7 +13,7 @@ use scr_factors::Factors;
 use scr_io::{Gate, Steps};
 use scr_links::Links;
 use scr_nodes::{Node, OfCurrency, Whole};
-use scr_num::Span;
+use scr_num::{Span, exact};
 use scr_rules::{Rates, evaluate_by};
 pub(crate) use scr_subtotals::{Figure, Figures};
 use std::alloc::{AllocError as NoMemory, Global};
@@ -24,6 +24,17 @@ pub(crate) fn no_figures(alloc: Global, size: u32) -> Result<Figures, NoMemory>
     ensures { IfOk result (λ figures. length figures ≡ size) }
 {
     Figures::new(alloc, size as usize)
+}
+
+/// The figure that comes to nothing: what no figures come to together.
+pub(crate) fn nothing() -> Figure
+    ensures span { ends result.span ≡ exact_ends (pos 0) }
+    ensures close { result.close ≡ false }
+{
+    Figure {
+        span: exact(0),
+        close: false,
+    }
 }
 
 /// What figures are reckoned from beside those of their sources.

@@ -4,7 +4,7 @@ ghost use Rattle.std.specs.Prelude.{◌≡◌, ◌+◌, ◌<◌, length, IfOk, O
 ghost use Rattle.scr_discounts.specs.KeptRates.{all_rates, known_of};
 ghost use Rattle.scr_factors.specs.Values.{IsInForm};
 ghost use Rattle.scr_pieces.specs.Rows.{rows_from};
-ghost use Rattle.scr_tree.specs.First.{AreGroupsDone, AreReckonedTo, IsDone, IsGathered, IsGround, IsWhole, totals_of};
+ghost use Rattle.scr_tree.specs.First.{AreDoneTo, AreGroupsDone, AreReckonedTo, AreRowsDone, IsDone, IsGathered, IsGround, IsWhole, totals_of};
 ghost use Rattle.scr_tree.specs.Opened.{IsOpened};
 ghost use Rattle.scr_tree.specs.RowSpans.{IsRowGround, row_count};
 ghost use Rattle.scr_tree.specs.Turns.{turn};
@@ -12,11 +12,11 @@ ghost use Rattle.scr_tree.specs.Written.{IsWrittenOf};
 
 use crate::basis::Crew;
 use crate::figures::{Below, Figures, Inputs, no_figures};
-use crate::first_links::{ASSETS, OF_CURRENCY, WHOLES, no_links};
+use crate::first_links::{ASSETS, OF_CURRENCY, WHOLES, links_of_totals};
 use crate::first_parts::{write_parts, write_row};
-use crate::first_totals::{pass_totals, put_totals};
+use crate::first_totals::{enter_totals, pass_totals};
 use crate::left::put_left;
-use crate::making::{Ground, Made, Making, put_found, put_live};
+use crate::making::{Ground, Made, Making, put_found, put_live, put_summed};
 use crate::row_spans::RowGround;
 use crate::sums::pass_blocks;
 use scr_book::Book;
@@ -124,11 +124,12 @@ fn rates_beside<R: Threads + Sync, G: Gate + Sync>(
     Ok((rates, gathered))
 }
 
+/// The totals come first, so that the rows take the room of all that they are found by.
 fn gather_all(alloc: Global, book: &Book) -> Result<Gathered, NoMemory>
     ensures { IfOk result (IsGathered book.now.sheet) }
 {
-    let members = members_of(alloc, book.sheet())?;
     let totals = totals(alloc, book.sheet())?;
+    let members = members_of(alloc, book.sheet())?;
     Ok(Gathered { members, totals })
 }
 
@@ -146,38 +147,37 @@ fn make_all<R: Threads + Sync, G: Gate + Sync, L: Ledger>(
     requires totals { totals.items ≡ totals_of ground.inputs.book.now.sheet }
     ensures { IfOk result (IsWhole ground.entry) }
 {
-    let figures = no_figures(ground.alloc, ground.places.len())?;
-    let links = no_links(ground.for_links())?;
-    let mut making = making_of(ground.alloc, Made { figures, links });
     let mut steps = Steps::<L>::new(blank);
     if crew.workers == 1 {
-        put_in_turn(ground, totals, &mut making, crew.gate, &mut steps)?;
+        put_in_turn(ground, totals, crew.gate, &mut steps)
     } else {
-        put_together(crew, ground, totals.as_slice(), &mut making, &mut steps)?;
+        put_together(crew, ground, totals, &mut steps)
     }
-    Ok(making.made)
 }
 
-/// All figures by one worker, one after another. The totals are let go when no later figure takes them.
+/// All figures by one worker, one after another. No figure but those of rows is reckoned from the totals in cents, so that the links
+/// take the room of these.
 fn put_in_turn<G: Gate, L: Ledger>(
     ground: Ground<'_>,
     totals: Vec<u64>,
-    making: &mut Making,
     gate: &G,
     steps: &mut Steps<L>,
-) -> Result<(), NoMemory>
+) -> Result<Made, NoMemory>
     requires ground { IsGround ground }
     requires totals { totals.items ≡ totals_of ground.inputs.book.now.sheet }
-    requires nothing { IsDone ground making.old.made (turn 0 0 0) }
-    ensures { OnOk result (IsWhole ground.entry making.new.made) }
+    ensures { IfOk result (IsWhole ground.entry) }
 {
-    put_totals(ground, totals.as_slice(), making, gate)?;
-    put_assets(ground, making, gate, steps)?;
-    put_rows(ground, totals.as_slice(), making, gate)?;
+    let mut figures = no_figures(ground.alloc, ground.places.len())?;
+    enter_totals(ground, totals.as_slice(), &mut figures, gate);
+    put_assets(ground, &mut figures, gate, steps);
+    put_rows(ground, totals.as_slice(), &mut figures, gate)?;
     drop(totals);
+    let links = links_of_totals(ground.for_links())?;
+    let mut making = making_of(ground.alloc, Made { figures, links });
     put_groups(ground, &mut making.made, gate);
-    put_currencies(ground, making, gate, steps)?;
-    put_wholes(ground, making, gate, steps)
+    put_currencies(ground, &mut making, gate, steps)?;
+    put_wholes(ground, &mut making, gate, steps)?;
+    Ok(making.made)
 }
 
 /// All figures by several workers: rows in pieces, and then all others, each as soon as those of its sources are known. What was found
@@ -185,22 +185,24 @@ fn put_in_turn<G: Gate, L: Ledger>(
 fn put_together<R: Threads + Sync, G: Gate + Sync, L: Ledger>(
     crew: &Crew<'_, R, G>,
     ground: Ground<'_>,
-    totals: &[u64],
-    making: &mut Making,
+    totals: Vec<u64>,
     steps: &mut Steps<L>,
-) -> Result<(), NoMemory>
+) -> Result<Made, NoMemory>
     requires ground { IsGround ground }
-    requires totals { totals.now ≡ totals_of ground.inputs.book.now.sheet }
-    requires nothing { IsDone ground making.old.made (turn 0 0 0) }
-    ensures { OnOk result (IsWhole ground.entry making.new.made) }
+    requires totals { totals.items ≡ totals_of ground.inputs.book.now.sheet }
+    ensures { IfOk result (IsWhole ground.entry) }
 {
-    put_totals(ground, totals, making, &OpenGate)?;
-    put_assets(ground, making, &OpenGate, steps)?;
-    put_by_pieces(crew, ground, totals, &mut making.made)?;
-    put_left(crew, ground, &mut making.made)?;
+    let mut figures = no_figures(ground.alloc, ground.places.len())?;
+    enter_totals(ground, totals.as_slice(), &mut figures, &OpenGate);
+    put_assets(ground, &mut figures, &OpenGate, steps);
+    put_by_pieces(crew, ground, totals.as_slice(), &mut figures)?;
+    drop(totals);
+    let links = links_of_totals(ground.for_links())?;
+    let mut made = Made { figures, links };
+    put_left(crew, ground, &mut made)?;
     pass_totals(ground, crew.gate);
     pass_assets(ground, crew.gate);
-    Ok(())
+    Ok(made)
 }
 
 /// What is made, with no room yet for what one figure is reckoned from.
@@ -217,18 +219,18 @@ fn making_of(alloc: Global, made: Made) -> Making
     }
 }
 
-/// The assets of which concentrations are measured.
+/// The assets of which concentrations are measured, with the Blocks under them.
 fn put_assets<G: Gate, L: Ledger>(
     ground: Ground<'_>,
-    making: &mut Making,
+    figures: &mut Figures,
     gate: &G,
     steps: &mut Steps<L>,
-) -> Result<(), NoMemory>
+)
     requires ground { IsGround ground }
-    requires done { IsDone ground making.old.made (turn 2 0 0) }
-    ensures { OnOk result (IsDone ground.entry making.new.made (turn 3 0 0)) }
+    requires totals { AreReckonedTo ground figures.old (turn 2 0 0) }
+    ensures { AreDoneTo ground.entry figures.new (turn 3 0 0) (turn 3 0 0) }
 {
-    put_live(ground, making, &Node::Whole(Whole::Assets), 0, gate, steps)
+    put_summed(ground, figures, &Node::Whole(Whole::Assets), 0, gate, steps)
 }
 
 /// Passes the gate for the assets, and for the Blocks under them.
@@ -257,20 +259,19 @@ fn row_ground<'a>(ground: Ground<'a>, totals: &'a [u64], figures: &Figures) -> R
 fn put_rows<G: Gate>(
     ground: Ground<'_>,
     totals: &[u64],
-    making: &mut Making,
+    figures: &mut Figures,
     gate: &G,
 ) -> Result<(), NoMemory>
     requires ground { IsGround ground }
     requires totals { totals.now ≡ totals_of ground.inputs.book.now.sheet }
-    requires done { IsDone ground making.old.made (turn 3 0 0) }
-    ensures { OnOk result (AreGroupsDone ground.entry making.new.made 0) }
+    requires done { AreDoneTo ground figures.old (turn 3 0 0) (turn 3 0 0) }
+    ensures { OnOk result (AreRowsDone ground.entry figures.new) }
 {
-    let rows = row_ground(ground, totals, &making.made.figures);
-    let figures = &mut making.made.figures;
-    let room = &mut making.below.spans;
-    put_sort(&rows, Sort::Liability, figures, room, gate)?;
-    put_sort(&rows, Sort::Security, figures, room, gate)?;
-    put_sort(&rows, Sort::Group, figures, room, gate)
+    let rows = row_ground(ground, totals, figures);
+    let mut room = Vec::new(ground.alloc);
+    put_sort(&rows, Sort::Liability, figures, &mut room, gate)?;
+    put_sort(&rows, Sort::Security, figures, &mut room, gate)?;
+    put_sort(&rows, Sort::Group, figures, &mut room, gate)
 }
 
 /// The figures of all rows of a sort.
@@ -300,16 +301,16 @@ fn put_by_pieces<R: Threads + Sync, G: Gate + Sync>(
     crew: &Crew<'_, R, G>,
     ground: Ground<'_>,
     totals: &[u64],
-    made: &mut Made,
+    figures: &mut Figures,
 ) -> Result<(), NoMemory>
     requires ground { IsGround ground }
     requires totals { totals.now ≡ totals_of ground.inputs.book.now.sheet }
-    requires done { IsDone ground made.old (turn 3 0 0) }
-    ensures { OnOk result (AreGroupsDone ground.entry made.new 0) }
+    requires done { AreDoneTo ground figures.old (turn 3 0 0) (turn 3 0 0) }
+    ensures { OnOk result (AreRowsDone ground.entry figures.new) }
 {
-    let rows = row_ground(ground, totals, &made.figures);
+    let rows = row_ground(ground, totals, figures);
     let parts = reckon_rows(crew.rt, crew.alloc, crew.workers, &rows, crew.gate)?;
-    write_parts(ground, &mut made.figures, parts.as_slice());
+    write_parts(ground, figures, parts.as_slice());
     Ok(())
 }
 

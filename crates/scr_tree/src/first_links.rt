@@ -31,8 +31,20 @@ pub(crate) const WHOLES: u32 = 153;
 /// How many links figures of the whole sheet have to others of it, or some more.
 const OF_WHOLES: usize = 320;
 
+/// The links between the totals of all funds and securities, with room for all that are expected.
+pub(crate) fn links_of_totals(ground: LinkGround<'_>) -> Result<Links, NoMemory>
+    requires { IsLinkGround ground }
+    ensures { IfOk result (λ links. AreLinkedTo ground.entry links (turn 2 0 0)) }
+{
+    let mut links = no_links(ground)?;
+    let mut sources = Vec::new(ground.alloc);
+    link_funds(ground, &mut links, &mut sources)?;
+    link_securities(ground, &mut links, &mut sources)?;
+    Ok(links)
+}
+
 /// No link, with room for those that are expected, between any numbers.
-pub(crate) fn no_links(ground: LinkGround<'_>) -> Result<Links, NoMemory>
+fn no_links(ground: LinkGround<'_>) -> Result<Links, NoMemory>
     ensures links { IfOk result (λ links. links.edges ≡ []) }
     ensures size { IfOk result (λ links. links.size ≤ ground.entry.places.now.size) }
 {
@@ -61,7 +73,7 @@ fn expected_links(sheet: &BalanceSheet) -> u32 {
 }
 
 /// Links to the total of each fund those of the funds that hold it.
-pub(crate) fn link_funds(
+fn link_funds(
     ground: LinkGround<'_>,
     links: &mut Links,
     sources: &mut Vec<u32>,
@@ -79,7 +91,7 @@ pub(crate) fn link_funds(
 }
 
 /// Links to the total of each security those of the funds that hold it.
-pub(crate) fn link_securities(
+fn link_securities(
     ground: LinkGround<'_>,
     links: &mut Links,
     sources: &mut Vec<u32>,

@@ -1,42 +1,21 @@
 //! The totals of all funds and securities, found at once.
-ghost use Rattle.std.specs.Prelude.{◌≡◌, ◌<◌, ℕ, pos, map, Some, length, slice_get, OnOk};
+ghost use Rattle.std.specs.Prelude.{◌≡◌, ◌<◌, ℕ, pos, map, Some, length, slice_get};
 ghost use Rattle.std.specs.Option.{option_map};
 ghost use Rattle.scr_num.specs.Rounding.{ends, exact_ends};
 ghost use Rattle.scr_sheet.specs.BalanceSheet.{position_name, stake_name};
 ghost use Rattle.scr_sheet.specs.Totals.{total_of};
 ghost use Rattle.scr_tree.specs.Figures.{total_worth, worth_of};
-ghost use Rattle.scr_tree.specs.First.{AreReckonedTo, IsDone, IsGround, totals_of};
+ghost use Rattle.scr_tree.specs.First.{AreReckonedTo, IsGround, totals_of};
 ghost use Rattle.scr_tree.specs.Turns.{turn};
 
 use crate::figures::{Figure, Figures};
-use crate::first_links::{link_funds, link_securities};
-use crate::making::{Ground, Making};
+use crate::making::Ground;
 use crate::row_spans::stands_alone;
 use scr_io::Gate;
 use scr_num::{Span, exact};
 use scr_numbers::Table;
-use std::alloc::AllocError as NoMemory;
 
-/// The totals, and the links between them. The gate is passed before each but those of securities that have other figures: these pass
-/// it in their rows.
-pub(crate) fn put_totals<G: Gate>(
-    ground: Ground<'_>,
-    totals: &[u64],
-    making: &mut Making,
-    gate: &G,
-) -> Result<(), NoMemory>
-    requires ground { IsGround ground }
-    requires totals { totals.now ≡ totals_of ground.inputs.book.now.sheet }
-    requires nothing { IsDone ground making.old.made (turn 0 0 0) }
-    ensures { OnOk result (IsDone ground.entry making.new.made (turn 2 0 0)) }
-{
-    enter_totals(ground, totals, &mut making.made.figures, gate);
-    let linked = ground.for_links();
-    link_funds(linked, &mut making.made.links, &mut making.sources)?;
-    link_securities(linked, &mut making.made.links, &mut making.sources)
-}
-
-/// The totals alone. The gate is passed as for `put_totals`.
+/// The totals. The gate is passed before each but those of securities that have other figures: these pass it in their rows.
 pub(crate) fn enter_totals<G: Gate>(
     ground: Ground<'_>,
     totals: &[u64],

@@ -10,9 +10,10 @@ ghost use Rattle.scr_rolls.specs.Seatings.{roll_in as roll_at};
 ghost use Rattle.scr_sheet.specs.Members.{table_of};
 ghost use Rattle.scr_sheet.specs.Validity.{Valid};
 ghost use Rattle.scr_sheet.specs.declared.keys.Projection.{Projection as TheProjection};
+ghost use Rattle.scr_sheet.specs.declared.keys.Table.TheVariants as tables;
 ghost use Rattle.scr_sheet.specs.declared.roll.Roll.{Roll as TheRoll};
 ghost use Rattle.scr_book.specs.Places.{names_in};
-ghost use Rattle.scr_book.specs.Rolls.{roll_of, same_table, seat_of_roll};
+ghost use Rattle.scr_book.specs.Rolls.{KeptRolls, number_of_roll, roll_of, same_table, seat_of_roll};
 ghost use Rattle.scr_book.specs.Sums.{place_of as projection_place};
 ghost use Rattle.scr_reach.specs.Linked.{AreAt, sources_in as linked_in};
 ghost use Rattle.scr_sums.specs.BlockNumbers.{sole};
@@ -117,6 +118,23 @@ impl<'a> Numbers<'a> {
         }
     }
 
+    /// What a number stands for. The first ones are those of the whole sheet, and are told without a search.
+    #[inline(always)]
+    pub(crate) fn place_at(&self, number: u32) -> Option<Place>
+        requires { AreNumbersOf self.now.book.now self.now.places.now self.now.lists.now }
+        ensures there { IfSome result (λ p. IsAt self.now.places.now p.table p.row p.family number) }
+        ensures absent { IsNone result → (table : TheTable) (k j : ℕ) → IsAt self.now.places.now table k j number → ⊥ }
+    {
+        if number < Table::Whole.stride() {
+            return Some(Place {
+                table: Table::Whole,
+                row: 0,
+                family: number,
+            });
+        }
+        self.places.at(number)
+    }
+
     /// The figure or the Block that has a number.
     pub(crate) fn point_at(&self, number: u32) -> Option<Point>
         requires { AreNumbersOf self.now.book.now self.now.places.now self.now.lists.now }
@@ -152,7 +170,8 @@ impl<'a> Numbers<'a> {
         })
     }
 
-    /// Which list it is that has a number, by the seat in which its first member has it.
+    /// Which list it is that has a number: by the number alone where it is one for all books, or by the seat in which its first member has
+    /// it.
     fn roll_of(&self, list: u32) -> Option<Roll>
         requires { AreNumbersOf self.now.book.now self.now.places.now self.now.lists.now }
         ensures there { IfSome result (IsRollOf self.now.book.now.rolls list) }
@@ -161,6 +180,9 @@ impl<'a> Numbers<'a> {
         // No number is of two rows.
         let _numbers = self.places.len();
         let (table, number) = list_of(list);
+        if let Some(roll) = fixed_roll(table, number) {
+            return Some(roll);
+        }
         let first = self.lists.of(table).list(number).first()?;
         let row = self.places.at(*first)?.row;
         let seat = seat_in(&seats_at(self.book, table, row), number)?;
@@ -196,6 +218,40 @@ impl<'a> Numbers<'a> {
             RowTable::Fund => Some(Roll::Closed),
             _ => Some(Roll::Groups),
         }
+    }
+}
+
+/// The list of a table that has this number in all books: that of a class, or one of which there is no second.
+fn fixed_roll(table: RowTable, number: u32) -> Option<Roll>
+    ensures there { IfSome result (λ roll. (table_of roll ≡ table) × ((kept : KeptRolls) → number_of_roll roll kept ≡ Some number)) }
+    ensures absent { IsNone result → ((table ≡ tables.Security → 10 < number) × (table ≡ tables.Fund → 0 < number)) × (table ≡ tables.Group → 0 < number) }
+{
+    match table {
+        RowTable::Security => fixed_among_securities(number),
+        RowTable::Fund if number == 0 => Some(Roll::Closed),
+        RowTable::Group if number == 0 => Some(Roll::Groups),
+        _ => None,
+    }
+}
+
+/// The same of securities.
+fn fixed_among_securities(number: u32) -> Option<Roll>
+    ensures there { IfSome result (λ roll. (table_of roll ≡ tables.Security) × ((kept : KeptRolls) → number_of_roll roll kept ≡ Some number)) }
+    ensures absent { IsNone result → 10 < number }
+{
+    match number {
+        0 => Some(Roll::Class(Class::Type1Equity)),
+        1 => Some(Roll::Class(Class::Type1Strategic)),
+        2 => Some(Roll::Class(Class::Type2Equity)),
+        3 => Some(Roll::Class(Class::Type2Strategic)),
+        4 => Some(Roll::Class(Class::Infrastructure)),
+        5 => Some(Roll::Class(Class::InfrastructureCorporate)),
+        6 => Some(Roll::Class(Class::Property)),
+        7 => Some(Roll::Class(Class::Bond)),
+        8 => Some(Roll::Class(Class::Government)),
+        9 => Some(Roll::Class(Class::Other)),
+        10 => Some(Roll::Grouped),
+        _ => None,
     }
 }
 
@@ -360,7 +416,8 @@ impl<'a> Graph<'a> {
         }
     }
 
-    fn push_linked(&self, list: &mut Vec<u32>, number: u32) -> Result<(), NoMemory>
+    /// Of a figure whose sources are linked to it.
+    pub(crate) fn push_linked(&self, list: &mut Vec<u32>, number: u32) -> Result<(), NoMemory>
         ensures { OnOk result (list.new.items ≡ list.old.items ++ linked_in self.now.links.now.edges number) }
     {
         for (source, _) in self.links.sources(number) {
@@ -489,7 +546,7 @@ impl<'a> Graph<'a> {
         self.mark_linked(marks, number)?;
         // The size is what says that no number is that of two.
         let _size = self.numbers.places.len();
-        let Some(place) = self.numbers.places.at(number) else {
+        let Some(place) = self.numbers.place_at(number) else {
             return Ok(());
         };
         match place.table {
@@ -734,6 +791,8 @@ impl<'a> Graph<'a> {
         self.mark_read(marks, &block.sum, reader)
     }
 
+    /// Marks what reads a member or a Block of the sum: the Block over it, or what is reckoned from the whole sum. Of a sum from which the
+    /// book has no figure nothing is marked.
     fn mark_reader(&self, marks: &mut Marked, sum: &Sum, reader: Reader) -> Result<(), NoMemory>
         requires numbers { AreNumbersOf self.now.numbers.book.now self.now.numbers.places.now self.now.numbers.lists.now }
         requires valid { Valid self.now.numbers.book.now.sheet }
@@ -748,7 +807,7 @@ impl<'a> Graph<'a> {
         self.mark_read(marks, sum, reader)
     }
 
-    /// The same of a sum that is read.
+    /// Marks what reads a member or a Block of a sum from which the book has a figure.
     fn mark_read(&self, marks: &mut Marked, sum: &Sum, reader: Reader) -> Result<(), NoMemory>
         requires numbers { AreNumbersOf self.now.numbers.book.now self.now.numbers.places.now self.now.numbers.lists.now }
         requires valid { Valid self.now.numbers.book.now.sheet }
@@ -804,7 +863,7 @@ impl<'a> Graph<'a> {
     }
 }
 
-/// Of a foreign currency two figures are reckoned from the sum; of all others there is the reader alone.
+/// Whether the sum is of a foreign currency, from which the fall is reckoned too.
 fn is_foreign(sum: &Sum) -> bool
     ensures { result ≡ false → reading.fall_of sum.now ≡ reader_of sum.now }
 {

@@ -11,8 +11,8 @@ use std::mem::replace;
 /// A figure that was written over, and its number.
 #[derive(Clone, Copy)]
 pub(crate) struct Former {
-    number: u32,
-    figure: Figure,
+    pub(crate) number: u32,
+    pub(crate) figure: Figure,
 }
 
 /// Numbers in the order in which their figures are written, and how many have been. Of each figure that became another the former
@@ -69,6 +69,13 @@ impl Journal {
         &self.numbers.as_slice()[self.next..]
     }
 
+    /// The former figures that are kept so far.
+    pub(crate) fn former(&self) -> &[Former]
+        ensures { result.now ≡ self.now.former.items }
+    {
+        self.former.as_slice()
+    }
+
     /// Passes over the next numbers, so many, whose figures stay as they are.
     pub(crate) fn pass(&mut self, many: usize)
         requires { self.old.next + many ≤ length self.old.numbers.items }
@@ -116,7 +123,7 @@ impl Journal {
         (numbers, former)
     }
 
-    /// Writes the former figures back, the last one first. The list of them is told for its room.
+    /// Writes the former figures back, the last one first. The list of them is handed back for its room.
     pub(crate) fn undo(self, figures: &mut Figures) -> Vec<Former>
         requires { AreWithin (length figures.old) self.former.items }
         ensures { figures.new ≡ undone self.former.items figures.old }
@@ -129,7 +136,7 @@ impl Journal {
     }
 }
 
-/// The figure comes to nothing, and the one that stands at the place does: so it is of most squares, and told by a glance.
+/// The figure comes to nothing, and the one that stands at the place does: so it is of most squares, and told at a glance.
 fn both_nothing(figures: &Figures, place: usize, figure: &Figure) -> bool
     requires { place < length figures.now }
     ensures { result ≡ true → slice_get figures.now place ≡ Some figure.now }

@@ -38,6 +38,7 @@ pub(crate) fn put_left<R: Threads + Sync, G: Gate + Sync>(
         places: ground.places,
         lists: ground.lists,
         links: &made.links,
+        summed: false,
     };
     let mut sorted = Sorted::new(ground.alloc);
     let room = Order::new(ground.alloc);

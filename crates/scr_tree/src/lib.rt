@@ -19,6 +19,7 @@ mod opening;
 mod order;
 mod reckoning;
 mod refusal;
+mod renewed;
 mod row_spans;
 mod single;
 mod starts;

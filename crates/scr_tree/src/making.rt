@@ -12,7 +12,7 @@ ghost use Rattle.scr_sums.specs.Sums.{first_sum, reader_of};
 ghost use Rattle.scr_sums.specs.Told.{is_reader};
 ghost use Rattle.scr_sums.specs.declared.sum.Sum.{Sum as TheSum};
 ghost use Rattle.scr_num.specs.Rounding.{ends};
-ghost use Rattle.scr_tree.specs.First.{AreBlocksThere, AreMembersThere, IsDone, IsEntered, IsGround, IsLinkGround, IsPut, IsSumOf, KeepsOffBlocks};
+ghost use Rattle.scr_tree.specs.First.{AreBlocksThere, AreDoneTo, AreMembersThere, IsDone, IsEntered, IsGround, IsLinkGround, IsPut, IsSumOf, KeepsOffBlocks};
 ghost use Rattle.scr_tree.specs.Points.{is_linked};
 ghost use Rattle.scr_tree.specs.Summed.{summed_in};
 ghost use Rattle.scr_tree.specs.Turns.{next, stage_of, turn_of};
@@ -278,7 +278,7 @@ pub(crate) fn put_live<G: Gate, L: Ledger>(
     }
     match first_sum(node) {
         Some(_) => {
-            put_summed(ground, &mut making.made, node, row, gate, steps);
+            put_summed(ground, &mut making.made.figures, node, row, gate, steps);
             Ok(())
         }
         None => put_gathered(ground, making, node, row, gate, steps),
@@ -286,9 +286,9 @@ pub(crate) fn put_live<G: Gate, L: Ledger>(
 }
 
 /// The figure of a node that is reckoned from large sums, with the Blocks under these.
-fn put_summed<G: Gate, L: Ledger>(
+pub(crate) fn put_summed<G: Gate, L: Ledger>(
     ground: Ground<'_>,
-    made: &mut Made,
+    figures: &mut Figures,
     node: &Node,
     row: usize,
     gate: &G,
@@ -299,18 +299,18 @@ fn put_summed<G: Gate, L: Ledger>(
     requires row { slice_get (names_in ground.inputs.book.now.sheet (table_of node.now)) row ≡ Some (name_of node.now) }
     requires later { 2 ≤ stage_of node.now }
     requires summed { is_some (first_sum node.now) ≡ true }
-    requires done { IsDone ground made.old (turn_of node.now row) }
-    ensures { IsDone ground.entry made.new (next (turn_of node.now row)) }
+    requires done { AreDoneTo ground figures.old (turn_of node.now row) (turn_of node.now row) }
+    ensures { AreDoneTo ground.entry figures.new (next (turn_of node.now row)) (next (turn_of node.now row)) }
 {
-    put_under(ground, &mut made.figures, node, gate);
+    put_under(ground, figures, node, gate);
     let first = first_sum(node);
     let second = second_sum(node);
-    let held = sum_under(ground, &made.figures, &first);
-    let owed = sum_under(ground, &made.figures, &second);
+    let held = sum_under(ground, figures, &first);
+    let owed = sum_under(ground, figures, &second);
     let number = number_at(ground.places, node, row);
     gate.pass(number);
     let span = by_sums(ground.inputs, node, held, owed, steps);
-    write(&mut made.figures, number, Figure { span, close: false });
+    write(figures, number, Figure { span, close: false });
 }
 
 /// Writes all Blocks under the sums of a figure. A currency's fall has those of its rise, with which they are written.
@@ -356,8 +356,6 @@ pub(crate) fn put_found<G: Gate>(
     ensures blocks { AreBlocksThere ground.entry figures.new (λ sum. found.now ≡ Some sum) }
     ensures others { KeepsOffBlocks ground.entry (λ sum. found.now ≡ Some sum) figures.old figures.new }
 {
-    // There are no more figures than numbers.
-    let _size = ground.places.len();
     match found {
         Some(sum) => put_blocks(ground.numbers(), figures, sum, gate),
         None => (),
@@ -373,8 +371,6 @@ fn sum_under(ground: Ground<'_>, figures: &Figures, found: &Option<Sum>) -> Span
     requires blocks { AreBlocksThere ground figures.now (λ sum. found.now ≡ Some sum) }
     ensures { ends result ≡ summed_in ground.entry.inputs.factors.now ground.entry.inputs.book.now found.now }
 {
-    // There are no more figures than numbers.
-    let _size = ground.places.len();
     match found {
         Some(sum) => sum_there(ground.numbers(), figures, sum),
         None => exact(0),

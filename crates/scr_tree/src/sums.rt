@@ -1,5 +1,5 @@
 //! What large sums come to: over their members with all Blocks written, and by the rule of the figure that is reckoned from them.
-ghost use Rattle.std.specs.Prelude.{◌≡◌, ◌+◌, ◌≤◌, ◌^◌, IfSome, IsNone, None, Some, is_some, length, map, true};
+ghost use Rattle.std.specs.Prelude.{◌≡◌, ◌+◌, ◌≤◌, IfSome, IsNone, None, Some, is_some, length, map, true};
 ghost use Rattle.scr_blocks.specs.Blocks.{blocks_at};
 ghost use Rattle.scr_blocks.specs.declared.blocks.Level.TheVariants as levels;
 ghost use Rattle.scr_num.specs.Rounding.{ends};
@@ -21,37 +21,30 @@ ghost use Rattle.scr_tree.specs.Summed.{AreBlocksOn, AreMembersOn, AreOwnBlocks,
 use crate::figures::{Figures, Inputs};
 use crate::graph::{Numbers, member_family};
 use scr_blocks::{Level, blocks_at, top_count};
-use scr_book::Roll;
 use scr_io::{Gate, Steps};
 use scr_nodes::{Direction, Measure, Node, OfCurrency};
 use scr_num::{Span, total};
 use scr_rules::{evaluate_by, foreign_by_sums};
 use scr_subtotals::{Subtotals, add_members};
-use scr_sums::{Block, Point, Sum, block_number, first_sum};
+use scr_sums::{Point, Sum, first_sum, sum_place};
 use std::sync::ledger::Ledger;
 
-/// The Blocks of a sum by number, where its list falls into Blocks: the part of its first Block tells the list, and the place of the sum.
+/// The Blocks of a sum by number, where its list may fall into Blocks.
 pub(crate) fn blocks_of<'a>(numbers: Numbers<'a>, sum: &Sum) -> Option<Subtotals<'a>>
     requires numbers { AreNumbersOf numbers.book.now numbers.places.now numbers.lists.now }
     requires valid { Valid numbers.book.now.sheet }
     ensures there { IfSome result (λ blocks. AreOwnBlocks numbers.entry sum.now blocks) }
     ensures absent { IsNone result → blocks_at (length (roll_in (rolled_of numbers.entry.book.now) sum.now)) levels.First ≡ 0 }
 {
-    let block = Block {
-        sum: *sum,
-        level: Level::First,
-        index: 0,
-    };
     let parts = numbers.lists.parts();
     // Each slot is one part's, and each number one row's.
     let _slots = parts.len();
     let _size = numbers.places.len();
-    let number = block_number(numbers.book, parts, numbers.places, &block)?;
-    let found = parts.numbered(numbers.places, number)?;
+    let found = sum_place(numbers.book, sum)?;
     Some(Subtotals {
         parts,
         places: numbers.places,
-        list: found.0.list,
+        list: found.0,
         own: found.1,
     })
 }
@@ -62,7 +55,6 @@ pub(crate) fn put_blocks<G: Gate>(numbers: Numbers<'_>, figures: &mut Figures, s
     requires valid { Valid numbers.book.now.sheet }
     requires reads { reads numbers.book.now.sheet sum.now ≡ true }
     requires count { numbers.places.now.size ≤ length figures.old }
-    requires few { length figures.old ≤ 2 ^ 32 }
     requires members { AreMembersOn numbers sum.now figures.old }
     ensures blocks { AreBlocksOn numbers.entry sum.now figures.old figures.new }
     ensures others { KeepsOffBlocksOn numbers.entry sum.now figures.old figures.new }
@@ -110,7 +102,6 @@ pub(crate) fn sum_there(numbers: Numbers<'_>, figures: &Figures, sum: &Sum) -> S
     requires valid { Valid numbers.book.now.sheet }
     requires reads { reads numbers.book.now.sheet sum.now ≡ true }
     requires count { numbers.places.now.size ≤ length figures.now }
-    requires few { length figures.now ≤ 2 ^ 32 }
     requires members { AreMembersOn numbers sum.now figures.now }
     requires blocks { AreBlocksOn numbers sum.now figures.now figures.now }
     ensures { ends result ≡ sum_on numbers.entry sum.now figures.now }

@@ -1,9 +1,8 @@
 //! Figures that add up others without a list of their numbers: Blocks, and figures by the large sums that they are reckoned from.
-ghost use Rattle.std.specs.Prelude.{◌≡◌, ◌+◌, ◌≤◌, ◌^◌, true, false, IfSome, Some, length, map, pos};
+ghost use Rattle.std.specs.Prelude.{◌≡◌, ◌+◌, ◌≤◌, ◌^◌, true, IfSome, Some, length, map};
 ghost use Rattle.scr_blocks.specs.Blocks.{blocks_at};
 ghost use Rattle.scr_blocks.specs.declared.blocks.Level.TheVariants as levels;
 ghost use Rattle.scr_nodes.specs.Live.{is_live};
-ghost use Rattle.scr_num.specs.Rounding.{ends, exact_ends};
 ghost use Rattle.scr_num.specs.Sizes.{AreTogether};
 ghost use Rattle.scr_sums.specs.Books.{rolled_of};
 ghost use Rattle.scr_sums.specs.Graph.{is_live_in, reads, roll_in, tops_of};
@@ -11,38 +10,41 @@ ghost use Rattle.scr_sums.specs.Sums.{first_sum};
 ghost use Rattle.scr_sums.specs.declared.point.Point.TheVariants as points;
 ghost use Rattle.scr_tree.specs.Adding.{AreKnownAt, IsAddedUp, blocks_among, worked_of};
 ghost use Rattle.scr_tree.specs.Figures.{worth_of};
+ghost use Rattle.scr_tree.specs.Order.{undone};
+ghost use Rattle.scr_tree.specs.Renewed.{AreSumsOn};
 ghost use Rattle.scr_tree.specs.Ready.{IsBasis, IsReadyOn, StandsOn, reckoning_on};
 
 use crate::added::added_up;
 use crate::basis::Basis;
-use crate::figures::{Figure, Figures};
+use crate::figures::{Figure, Figures, nothing};
 use crate::graph::member_family;
+use crate::renewed::Rewritten;
 use crate::sums::{blocks_of, by_sums};
 use scr_blocks::{Level, blocks_at, places};
 use scr_io::Steps;
 use scr_nodes::Node;
-use scr_num::exact;
 use scr_subtotals::add_figures;
 use scr_sums::{Block, Sum, second_sum};
 use std::ops::Range;
 use std::sync::ledger::Ledger;
 
 /// The figure of a Block at a number, from those that it adds up.
-pub(crate) fn block_up(basis: Basis<'_>, figures: &Figures, number: u32, block: &Block) -> Figure
+pub(crate) fn block_up(basis: Basis<'_>, table: Rewritten<'_>, number: u32, block: &Block) -> Figure
     requires basis { IsBasis basis }
-    requires ready { IsReadyOn basis figures.now number }
+    requires ready { IsReadyOn basis table.figures.now number }
     requires at { StandsOn basis (points.Block block.now) number }
     requires live { is_live_in (rolled_of basis.inputs.book.now) (points.Block block.now) ≡ true }
+    requires sums { basis.summed ≡ true → AreSumsOn basis (undone table.former.now table.figures.now) }
     ensures { worth_of result ≡ (reckoning_on basis.entry).worth (points.Block block.now) }
 {
     match block.level {
-        Level::First => added_up(basis, figures, number, block),
-        Level::Second => second_up(basis, figures, number, block),
+        Level::First => added_up(basis, table, number, block),
+        Level::Second => second_level_up(basis, table.figures, number, block),
     }
 }
 
 /// The figure of a Block of the second level at a number, from those of the first that it adds up.
-fn second_up(basis: Basis<'_>, figures: &Figures, number: u32, block: &Block) -> Figure
+fn second_level_up(basis: Basis<'_>, figures: &Figures, number: u32, block: &Block) -> Figure
     requires basis { IsBasis basis }
     requires ready { IsReadyOn basis figures.now number }
     requires at { StandsOn basis (points.Block block.now) number }
@@ -77,17 +79,6 @@ fn add_blocks(
     match blocks_of(basis.numbers(), sum) {
         Some(blocks) => blocks.add_blocks(figures, count, level, among.start, among.end),
         None => nothing(),
-    }
-}
-
-/// What no figure comes to.
-fn nothing() -> Figure
-    ensures span { ends result.span ≡ exact_ends (pos 0) }
-    ensures close { result.close ≡ false }
-{
-    Figure {
-        span: exact(0),
-        close: false,
     }
 }
 
@@ -138,8 +129,6 @@ fn top(basis: Basis<'_>, figures: &Figures, sum: &Sum) -> Figure
     ensures { IsAddedUp basis.entry (tops_of (rolled_of basis.entry.inputs.book.now) (Some sum.now)) result }
 {
     basis.inputs.factors.known();
-    // The size is what says that all are numbers.
-    let _size = basis.places.len();
     let members = basis.lists.members(basis.inputs.book, sum.roll());
     let count = members.len();
     let firsts = blocks_at(count, Level::First);

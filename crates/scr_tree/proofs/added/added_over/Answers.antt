@@ -1,6 +1,6 @@
-use Rattle.std.proofs.Common.{refl, arith}
+use Rattle.std.proofs.Common.{refl}
 use Rattle.scr_sums.specs.Sums.{roll_of}
-use Rattle.scr_tree.proofs.AddedUp.{added-low, added-right, added-together, added-within}
+use Rattle.scr_tree.proofs.AddedUp.{added-right, added-together, added-within}
 use Rattle.scr_tree.proofs.PointSources.{first-firsts, firsts-are}
 use Rattle.scr_tree.proofs.added.added_over.Goals as goal
 
@@ -13,16 +13,6 @@ add_figures-requires-clause-within c =
     added-within b c.requires.basis block c.requires.live c.requires.first c.member_family-family.result c.member_family-family.ensures c.part-own.result.now
     (first-firsts b.inputs.book.now b.places.now b.lists.now of c.requires.basis.valid block c.requires.live c.args.members.now c.part-own.result.now c.part-own.ensures all)
     c.args.figures.now c.args.number c.requires.ready c.requires.at
-
-pub add_figures-requires-clause-low : goal.add_figures-requires-clause-low
-add_figures-requires-clause-low c =
-    let b = c.args.basis in
-    let block = c.args.block.now in
-    let of = c.requires.basis.graph.numbers_of in
-    let all = firsts-are b.inputs.book.now b.places.now b.lists.now of c.requires.basis.valid block.sum (roll_of block.sum) c.args.members.now c.requires.members refl in
-    added-low b c.requires.basis block c.requires.live c.requires.first c.member_family-family.result c.member_family-family.ensures c.part-own.result.now
-    (first-firsts b.inputs.book.now b.places.now b.lists.now of c.requires.basis.valid block c.requires.live c.args.members.now c.part-own.result.now c.part-own.ensures all)
-    (omega (arith, c.len-size.ensures.size))
 
 pub add_figures-requires-clause-together : goal.add_figures-requires-clause-together
 add_figures-requires-clause-together c =

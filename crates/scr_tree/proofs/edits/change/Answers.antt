@@ -205,7 +205,7 @@ returns-in-Ok-clause-ok g c =
           (subst (λ size. size ≤ state.places.size) (sym c.relink.ensures.size)
           (capped c.reserve.new.links.size state.links.size c.len-size.result state.places.size c.in_ok-reserve.ensures.size c.len-size.ensures.size
           (let low = c.requires.size in let grown = c.requires.grown in omega (arith, low, grown)))))
-          c.reckon_reached-changed.ensures.places c.reckon_reached-changed.ensures.lists c.clear.new.self)
+          c.reckon_reached-changed.ensures.places c.reckon_reached-changed.ensures.lists c.in-Ok.ensures.ceiling c.clear.new.self)
       | in_default w ↦
           subst (IsStateOf c.args.footing.factors.now book) (sym w.state-is)
           (state-anew c.args.footing.factors.now book state.places state.lists c.reckon_reached-changed.new.state.rates c.reckon_reached-changed.new.state graph_now
@@ -215,5 +215,5 @@ returns-in-Ok-clause-ok g c =
           (subst (λ size. size ≤ state.places.size) (sym c.relink.ensures.size)
           (capped c.reserve.new.links.size state.links.size c.len-size.result state.places.size c.in_ok-reserve.ensures.size c.len-size.ensures.size
           (let low = c.requires.size in let grown = c.requires.grown in omega (arith, low, grown)))))
-          c.reckon_reached-changed.ensures.places c.reckon_reached-changed.ensures.lists c.clear.new.self)
+          c.reckon_reached-changed.ensures.places c.reckon_reached-changed.ensures.lists c.in-Ok.ensures.ceiling c.clear.new.self)
     ]

@@ -38,6 +38,7 @@ returns-in-None-clause-ok c = record {
   places = no-more c.args.state.now.places;
   rates = refl;
   figures = refl;
+  ceiling = refl;
   links = refl;
   marks = refl;
 }

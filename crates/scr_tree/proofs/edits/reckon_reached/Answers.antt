@@ -79,6 +79,10 @@ reckon_in_place-requires-clause-known g c κs within =
     (subst (λ (list : List ℕ). AreReached book state.places state.lists c.is_some-squares.result list reached.0) c.as_slice.ensures.list reached.1) reached.2
     (book_reckoning c.args.footing.factors.now (rolled_of book)) state.figures c.requires.others
 
+pub reckon_in_place-requires-clause-sums : goal.reckon_in_place-requires-clause-sums
+reckon_in_place-requires-clause-sums g c κs within = λ figures block number numbers live all at ats.
+    c.requires.blocks block number numbers live (c.are_figures.ensures.yes figures block) at ats
+
 pub returns-clause-steps : goal.returns-clause-steps
 returns-clause-steps g c =
     let book = c.args.footing.book.now in

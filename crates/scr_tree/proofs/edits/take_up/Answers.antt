@@ -9,7 +9,7 @@ follow-requires g c =
 pub move_and_change-requires-after_bounds : goal.move_and_change-requires-after_bounds
 move_and_change-requires-after_bounds g c κs within =
     followed c.args.footing.factors.now c.args.footing.book.now c.args.taken c.args.gone c.args.state.now c.follow.new.places
-    c.requires c.in_ok-follow.ensures.ok
+    c.requires c.in_ok-follow.ensures.ok c.ceiling_after-state.result c.ceiling_after-state.ensures
 
 pub returns-in_err-follow-clause-err : goal.returns-in_err-follow-clause-err
 returns-in_err-follow-clause-err g c =
@@ -20,11 +20,11 @@ returns-in_err-follow-clause-err g c =
 pub take_back-requires : goal.take_back-requires
 take_back-requires g c =
     can-go-back c.args.footing.factors.now c.requires.before c.args.footing.book.now c.args.taken c.requires.by
-    c.args.state.now c.requires.state_before c.follow.new.places c.in_ok-follow.ensures.ok c.move_and_change.new.state c.in-Err.ensures.err
+    c.args.state.now c.requires.state_before c.follow.new.places c.in_ok-follow.ensures.ok _ c.move_and_change.new.state c.in-Err.ensures.err
 
 pub returns-in-Err-clause-err : goal.returns-in-Err-clause-err
 returns-in-Err-clause-err g c = λ before by is marks. (
   kept-back c.args.footing.factors.now before c.args.footing.book.now c.args.taken by c.args.state.now is c.follow.new.places
-      c.in_ok-follow.ensures.ok c.move_and_change.new.state c.in-Err.ensures.err c.take_back.new.places c.take_back.ensures,
+      c.in_ok-follow.ensures.ok _ c.move_and_change.new.state c.in-Err.ensures.err c.take_back.new.places c.take_back.ensures,
   c.move_and_change.ensures.marks,
 )

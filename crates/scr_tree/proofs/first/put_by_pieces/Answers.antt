@@ -1,4 +1,4 @@
-use Rattle.std.proofs.Common.{refl, sym, subst}
+use Rattle.std.proofs.Common.{sym, subst}
 use Rattle.scr_pieces.specs.Rows.{AreAllRows}
 use Rattle.scr_tree.specs.RowSpans.{IsRowOf, row_count}
 use Rattle.scr_tree.specs.Written.{rows_among}
@@ -7,14 +7,13 @@ use Rattle.scr_tree.proofs.Writing.{all-among, rows-done}
 use Rattle.scr_tree.proofs.first.put_by_pieces.Goals as goal
 
 pub row_ground-rows-requires-clause-done : goal.row_ground-rows-requires-clause-done
-row_ground-rows-requires-clause-done g c =
-    record { count = c.requires.done.figures.count; known = c.requires.done.figures.known }
+row_ground-rows-requires-clause-done g c = c.requires.done.reckoned
 
 pub reckon_rows-requires-after_bounds : goal.reckon_rows-requires-after_bounds
 reckon_rows-requires-after_bounds g c κs within = c.row_ground-rows.ensures.rows
 
 pub write_parts-requires-clause-count : goal.write_parts-requires-clause-count
-write_parts-requires-clause-count g c = c.requires.done.figures.count
+write_parts-requires-clause-count g c = c.requires.done.reckoned.count
 
 pub write_parts-requires-clause-rows : goal.write_parts-requires-clause-rows
 write_parts-requires-clause-rows g c =
@@ -28,7 +27,6 @@ pub returns : goal.returns
 returns g c =
     let ground = c.args.ground in
     let sheet = ground.inputs.book.now.sheet in
-    let made = c.args.made.now in
     let parts = c.as_slice.result.now in
     let written = c.write_parts.new.figures in
     let is_row = IsRowOf ground.inputs.factors.now sheet in
@@ -37,6 +35,5 @@ returns g c =
     (subst (AreAllRows (row_count c.row_ground-rows.result.ground.inputs.book.now.sheet)
     (IsRowOf c.row_ground-rows.result.ground.inputs.factors.now c.row_ground-rows.result.ground.inputs.book.now.sheet)) (sym c.as_slice.ensures.value)
     c.in_ok-parts.ensures) in
-    rows-done ground c.requires.ground (rows_among parts) (all-among (row_count sheet) is_row parts all) made
-    (record { figures = written; links = made.links }) refl c.requires.done
-    c.write_parts.ensures
+    rows-done ground c.requires.ground (rows_among parts) (all-among (row_count sheet) is_row parts all) c.args.figures.now written
+    c.requires.done c.write_parts.ensures

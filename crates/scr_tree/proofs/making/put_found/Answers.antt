@@ -24,13 +24,6 @@ put_blocks-requires-clause-count g c =
     subst (λ (n : Numbers). n.places.now.size ≤ length c.args.figures.now) (sym c.numbers.ensures)
     (let long = c.requires.count in omega (arith, long))
 
-pub put_blocks-requires-clause-few : goal.put_blocks-requires-clause-few
-put_blocks-requires-clause-few g c =
-    let long = c.requires.count in
-    let size = c.len-size.ensures.size in
-    let low = c.len-size.type_inv in
-    omega (arith, long, size, low)
-
 pub put_blocks-requires-clause-members : goal.put_blocks-requires-clause-members
 put_blocks-requires-clause-members g c =
     subst (λ (n : Numbers). AreMembersOn n c.in-Some.sum c.args.figures.now) (sym c.numbers.ensures)

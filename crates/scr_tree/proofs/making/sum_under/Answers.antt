@@ -23,13 +23,6 @@ sum_there-requires-clause-count c =
     subst (λ (n : Numbers). n.places.now.size ≤ length c.args.figures.now) (sym c.numbers.ensures)
     (let long = c.requires.count in omega (arith, long))
 
-pub sum_there-requires-clause-few : goal.sum_there-requires-clause-few
-sum_there-requires-clause-few c =
-    let long = c.requires.count in
-    let size = c.len-size.ensures.size in
-    let low = c.len-size.type_inv in
-    omega (arith, long, size, low)
-
 pub sum_there-requires-clause-members : goal.sum_there-requires-clause-members
 sum_there-requires-clause-members c =
     subst (λ (n : Numbers). AreMembersOn n c.in-Some.sum c.args.figures.now) (sym c.numbers.ensures)

@@ -1,5 +1,6 @@
-use Rattle.std.proofs.Common.{◌∙◌}
+use Rattle.std.proofs.Common.{Bool, ap₂, ◌∙◌}
 use Rattle.scr_blocks.specs.declared.blocks.Level.TheVariants as levels
+use Rattle.scr_num.specs.Rounding.{Ends}
 use Rattle.scr_sums.specs.Graph.{block_point}
 use Rattle.scr_sums.specs.declared.sum.Sum.TheVariants as sums
 use Rattle.scr_tree.proofs.SquareBlocks.{figure-right, point-lives}
@@ -21,6 +22,6 @@ returns c =
 
 pub returns-then-still : goal.returns-then-still
 returns-then-still c = λ point at.
-    c.nothing.ensures
+    ap₂ (λ (worked : Ends) (close : Bool). record { worked = worked; close = close }) c.nothing.ensures.span c.nothing.ensures.close
     ∙ block-still c.args.basis c.requires.basis (c.requires.still c.if-still.true) c.args.index c.args.number c.args.figures.now c.requires.ready
     c.requires.own point at

@@ -39,10 +39,12 @@ pub returns-then-numbers-row : goal.returns-then-numbers-row
 returns-then-numbers-row c =
     let low : c.loop-row.row < c.min-count.result = c.loop-row-test.true in
     record {
-      few = omega (arith, low, c.min-count.ensures);
-      left = omega (arith, low, c.min-count.ensures);
-      come = c.loop-row.invariant.come;
-      each = c.loop-row.invariant.each;
+      still = record {
+        few = omega (arith, low, c.min-count.ensures);
+        left = omega (arith, low, c.min-count.ensures);
+        come = c.loop-row.invariant.come;
+        each = c.loop-row.invariant.each;
+      };
       last = λ within at still.
           let numbers = c.args.numbers.now in
           let number = slice_index c.args.firsts.now c.loop-row.row + 1 in
@@ -56,10 +58,12 @@ pub returns-then-not-is_amount_before_nothing : goal.returns-then-not-is_amount_
 returns-then-not-is_amount_before_nothing c =
     let low : c.loop-row.row < c.min-count.result = c.loop-row-test.true in
     record {
-      few = omega (arith, low, c.min-count.ensures);
-      left = omega (arith, low, c.min-count.ensures);
-      come = c.loop-row.invariant.come;
-      each = c.loop-row.invariant.each;
+      still = record {
+        few = omega (arith, low, c.min-count.ensures);
+        left = omega (arith, low, c.min-count.ensures);
+        come = c.loop-row.invariant.come;
+        each = c.loop-row.invariant.each;
+      };
       last = λ within at still. c.is_amount_before_nothing.ensures.not c.if-not-is_amount_before_nothing.true still;
     }
 
@@ -67,10 +71,12 @@ pub returns : goal.returns
 returns c =
     let end : c.min-count.result ≤ c.loop-row.row = c.loop-row-test.false in
     record {
-      few = omega (arith, c.min-count.ensures);
-      left = omega (arith, c.min-count.ensures);
-      come = λ row low. c.loop-row.invariant.come row (omega (arith, low, end));
-      each = λ row low. c.loop-row.invariant.each row (omega (arith, low, end));
+      still = record {
+        few = omega (arith, c.min-count.ensures);
+        left = omega (arith, c.min-count.ensures);
+        come = λ row low. c.loop-row.invariant.come row (omega (arith, low, end));
+        each = λ row low. c.loop-row.invariant.each row (omega (arith, low, end));
+      };
       last = λ within at still.
           let low = slice_get_within c.args.numbers.now c.min-count.result (slice_index c.args.firsts.now c.min-count.result + 1) at in
           absurd (omega (arith, within, low, c.min-count.ensures));

@@ -45,7 +45,7 @@ returns c = λ point at.
     let total = c.figure_of-total.result in
     square-right b c.requires.basis c.args.row group got c.args.number (c.requires.row, c.requires.own) c.args.figures.now c.requires.ready
     m.assets total m.worth c.figure_of-total.ensures c.known.ensures
-    c.concentration_square-span.result c.rests_on_either-close.result (c.concentration_square-span.ensures (ends m.assets.span) m.cents)
-    (c.rests_on_either-close.ensures ∙ ap (λ (t : Bool). t || total.close) m.close)
+    c.concentration_square-span.result (c.args.assets.now.close || total.close) (c.concentration_square-span.ensures (ends m.assets.span) m.cents)
+    (ap (λ (t : Bool). t || total.close) m.close)
     ∙ ap (reckoning_on b).worth (c.requires.basis.graph.numbers_of.numbers.exact c.args.number (points.Figure (concentration_square group)) point
     (square-stands b c.requires.basis c.args.row group got c.args.number (c.requires.row, c.requires.own)) at)

@@ -1,7 +1,9 @@
 use Rattle.std.proofs.Common.{◌≡◌, ◌+◌, Some, drop, length, set, slice_get, refl, sym, ap, subst, ◌∙◌, arith}
 use Rattle.std.proofs.lemmas.Option.{slice_get_within}
-use Rattle.scr_tree.specs.Order.{IsJournalKept, IsJournaled}
+use Rattle.scr_tree.specs.Order.{IsJournalKept, IsJournaled, undone}
 use Rattle.scr_tree.specs.Ready.{AreInTurnOn, AreKnownBut, StandsOn, reckoning_on}
+use Rattle.scr_tree.proofs.Ceiling.{ceiling-settled}
+use Rattle.scr_tree.specs.Renewed.{AreSumsOn}
 use Rattle.scr_tree.proofs.Journaled.{journaled-long, journaled-none}
 use Rattle.scr_tree.proofs.SquareRun.{known-more, next-ready, next-within, none-left}
 use Rattle.scr_tree.proofs.Upright.{book-up}
@@ -15,29 +17,34 @@ loop-number-init g c = record {
   journaled = subst (λ former. IsJournaled former c.args.figures.now c.args.figures.now) (sym c.requires.none)
       (journaled-none c.args.figures.now);
   steps = let none = c.requires.first in omega (arith, none);
+  kept = tt;
 }
 
 -- ---- the squares of all groups
 
-pub write_square_sum-requires-clause-turn : goal.write_square_sum-requires-clause-turn
-write_square_sum-requires-clause-turn g c = subst (AreInTurnOn c.args.basis) (sym c.loop-number.invariant.numbers) c.requires.turn
+pub write_square_sum-kept-requires-clause-turn : goal.write_square_sum-kept-requires-clause-turn
+write_square_sum-kept-requires-clause-turn g c = subst (AreInTurnOn c.args.basis) (sym c.loop-number.invariant.numbers) c.requires.turn
 
-pub write_square_sum-requires-clause-first : goal.write_square_sum-requires-clause-first
-write_square_sum-requires-clause-first g c =
+pub write_square_sum-kept-requires-clause-first : goal.write_square_sum-kept-requires-clause-first
+write_square_sum-kept-requires-clause-first g c =
     let first = c.is_first_square.ensures.yes c.if-is_first_square.true in
     (first.0, sym c.next_number.ensures ∙ c.in-Some.is ∙ ap Some (sym first.1))
 
-pub write_square_sum-requires-clause-known : goal.write_square_sum-requires-clause-known
-write_square_sum-requires-clause-known g c =
+pub write_square_sum-kept-requires-clause-known : goal.write_square_sum-kept-requires-clause-known
+write_square_sum-kept-requires-clause-known g c =
     let k = c.loop-number.journal.next in
     subst (λ ns. AreKnownBut c.args.basis c.loop-number.figures (drop k ns)) (sym c.loop-number.invariant.numbers)
     c.loop-number.invariant.known
 
-pub write_square_sum-requires-clause-room : goal.write_square_sum-requires-clause-room
-write_square_sum-requires-clause-room g c =
+pub write_square_sum-kept-requires-clause-room : goal.write_square_sum-kept-requires-clause-room
+write_square_sum-kept-requires-clause-room g c =
     let long = journaled-long c.loop-number.journal.former.items c.args.figures.now c.loop-number.figures c.loop-number.invariant.journaled in
     let room = c.requires.room in
     omega (arith, long, room)
+
+pub write_square_sum-kept-requires-clause-ceiling : goal.write_square_sum-kept-requires-clause-ceiling
+write_square_sum-kept-requires-clause-ceiling g c =
+    record { before = c.args.figures.now; journaled = c.loop-number.invariant.journaled; ceiling = c.requires.ceiling }
 
 pub loop-number-smaller-then-is_first_square : goal.loop-number-smaller-then-is_first_square
 loop-number-smaller-then-is_first_square g c =
@@ -45,7 +52,7 @@ loop-number-smaller-then-is_first_square g c =
     let k = c.loop-number.journal.next in
     let low = slice_get_within numbers k c.in-Some.number
     (ap (λ ns. slice_get ns k) (sym c.loop-number.invariant.numbers) ∙ sym c.next_number.ensures ∙ c.in-Some.is) in
-    let some = c.write_square_sum.ensures.some in
+    let some = c.write_square_sum-kept.ensures.some in
     omega (arith, low, some)
 
 pub loop-number-preserved-then-is_first_square : goal.loop-number-preserved-then-is_first_square
@@ -55,18 +62,19 @@ loop-number-preserved-then-is_first_square g c =
     let before = c.args.figures.now in
     let former = c.loop-number.journal.former.items in
     let old = c.loop-number.figures in
-    let k = c.write_square_sum.new.journal.next in
-    let next = c.write_square_sum.new.journal.former.items in
-    let now = c.write_square_sum.new.figures in
-    let kept : IsJournalKept former old next now = c.write_square_sum.ensures.journaled in
+    let k = c.write_square_sum-kept.new.journal.next in
+    let next = c.write_square_sum-kept.new.journal.former.items in
+    let now = c.write_square_sum-kept.new.figures in
+    let kept : IsJournalKept former old next now = c.write_square_sum-kept.ensures.journaled in
     let journaled : IsJournaled next before now = kept before c.loop-number.invariant.journaled in
     let known : AreKnownBut basis now (drop k numbers) =
-    subst (λ ns. AreKnownBut basis now (drop k ns)) c.loop-number.invariant.numbers c.write_square_sum.ensures.known in
+    subst (λ ns. AreKnownBut basis now (drop k ns)) c.loop-number.invariant.numbers c.write_square_sum-kept.ensures.known in
     record {
-      numbers = c.write_square_sum.ensures.numbers ∙ c.loop-number.invariant.numbers;
+      numbers = c.write_square_sum-kept.ensures.numbers ∙ c.loop-number.invariant.numbers;
       known = known;
       journaled = journaled;
-      steps = let step = c.write_square_sum.ensures.steps in let so_far = c.loop-number.invariant.steps in omega (arith, step, so_far);
+      steps = let step = c.write_square_sum-kept.ensures.steps in let so_far = c.loop-number.invariant.steps in omega (arith, step, so_far);
+      kept = c.write_square_sum-kept.ensures.still;
     }
 
 -- ---- any other figure
@@ -78,6 +86,11 @@ figure_at-requires-clause-ready g c =
     next-ready c.args.basis c.requires.basis c.args.journal.now.numbers.items c.requires.turn k c.loop-number.figures number
     (ap (λ ns. slice_get ns k) (sym c.loop-number.invariant.numbers) ∙ sym c.next_number.ensures ∙ c.in-Some.is)
     c.loop-number.invariant.known
+
+pub figure_at-requires-clause-sums : goal.figure_at-requires-clause-sums
+figure_at-requires-clause-sums g c = λ summed.
+    subst (AreSumsOn c.args.basis)
+    (sym (ap (λ former. undone former c.loop-number.figures) c.former.ensures ∙ c.loop-number.invariant.journaled.back)) (c.requires.sums summed)
 
 pub write-requires-clause-next : goal.write-requires-clause-next
 write-requires-clause-next g c = sym c.next_number.ensures ∙ c.in-Some.is
@@ -131,6 +144,7 @@ loop-number-preserved g c =
       journaled = journaled;
       steps = let step = c.in_ok-figure.ensures.step in let so_far = c.loop-number.invariant.steps in
           let more = c.write.ensures.next in omega (arith, step, so_far, more);
+      kept = c.loop-number.invariant.kept;
     }
 
 -- ---- all of them
@@ -143,6 +157,17 @@ returns-clause-settled g c =
     settled-all (reckoning_on basis) (StandsOn basis) basis.places.now.size (book-up basis c.requires.basis) c.loop-number.figures numbers k
     (none-left numbers k (ap (λ ns. slice_get ns k) (sym c.loop-number.invariant.numbers) ∙ sym c.next_number.ensures ∙ c.in_default.is))
     c.loop-number.invariant.known
+
+pub returns-clause-ceiling : goal.returns-clause-ceiling
+returns-clause-ceiling g c =
+    let basis = c.args.basis in
+    let numbers = c.args.journal.now.numbers.items in
+    let k = c.loop-number.journal.next in
+    ceiling-settled basis c.requires.basis c.loop-number.figures
+    (settled-all (reckoning_on basis) (StandsOn basis) basis.places.now.size (book-up basis c.requires.basis) c.loop-number.figures numbers k
+    (none-left numbers k (ap (λ ns. slice_get ns k) (sym c.loop-number.invariant.numbers) ∙ sym c.next_number.ensures ∙ c.in_default.is))
+    c.loop-number.invariant.known)
+    c.loop-number.kept c.loop-number.invariant.kept
 
 pub returns-clause-steps : goal.returns-clause-steps
 returns-clause-steps g c =

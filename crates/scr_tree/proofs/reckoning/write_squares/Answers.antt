@@ -1,12 +1,13 @@
 use Rattle.std.proofs.Common.{◌≡◌, ◌+◌, ◌-◌, ◌<◌, ◌^◌, ℕ, All, List, Some, drop, length, set, slice_get, take, refl, sym, ap, subst, ◌∙◌, arith}
 use Rattle.std.specs.Prelude.{slice_index}
-use Rattle.std.proofs.lemmas.Bool.{eqb-true}
-use Rattle.std.proofs.lemmas.List.{length-set, take_rest}
+use Rattle.std.proofs.lemmas.List.{length-drop, length-set, take_rest}
 use Rattle.scr_tree.specs.Order.{IsJournaled}
 use Rattle.scr_tree.specs.Ready.{AreInTurnOn, square_number}
 use Rattle.scr_tree.specs.SquareRun.{IsSquareAtOn}
-use Rattle.scr_tree.specs.Still.{ArePassed}
+use Rattle.scr_tree.specs.Still.{ArePassed, AreStillOn}
 use Rattle.scr_tree.specs.declared.journal.Former.{Former}
+use Rattle.scr_tree.specs.declared.reckoning.Stillness.{Stillness}
+use Rattle.scr_tree.proofs.Ceiling.{ceiling-firsts, kept-still}
 use Rattle.scr_tree.proofs.SquareRun.{next-ready, next-within}
 use Rattle.scr_tree.proofs.SquaresEntered.{rows}
 use Rattle.scr_tree.proofs.Still.{IsWalked, firsts-low, left-within, still-all, walked-more, walked-none, walked-on, walked-run}
@@ -22,8 +23,11 @@ scale_on-assets-requires-clause-ready g c =
           c.requires.known,
     )
 
-pub pass_still-row-requires-clause-low : goal.pass_still-row-requires-clause-low
-pass_still-row-requires-clause-low g c =
+pub ceiling_now-ceiling-requires-clause-before : goal.ceiling_now-ceiling-requires-clause-before
+ceiling_now-ceiling-requires-clause-before g c = c.requires.ceiling
+
+pub still_from-still-requires-clause-low : goal.still_from-still-requires-clause-low
+still_from-still-requires-clause-low g c =
     firsts-low c.firsts-firsts.result.now 0 (2 ^ 32)
     (λ k low.
     let firsts = c.firsts-firsts.ensures in
@@ -32,9 +36,23 @@ pass_still-row-requires-clause-low g c =
     let is = firsts.each k (omega (arith, low, count)) in
     omega (arith, far, is))
 
-pub pass_still-row-requires-clause-within : goal.pass_still-row-requires-clause-within
-pass_still-row-requires-clause-within g c =
-    left-within c.args.basis c.requires.basis c.args.journal.now.numbers.items c.requires.turn c.args.journal.now.next (length c.args.figures.now) c.requires.room
+pub still_from-still-requires-clause-within : goal.still_from-still-requires-clause-within
+still_from-still-requires-clause-within g c =
+    subst (All (λ number. number < length c.args.figures.now)) (sym c.left.ensures)
+    (left-within c.args.basis c.requires.basis c.args.journal.now.numbers.items c.requires.turn c.args.journal.now.next (length c.args.figures.now) c.requires.room)
+
+pub still_from-still-requires-clause-ceiling : goal.still_from-still-requires-clause-ceiling
+still_from-still-requires-clause-ceiling g c =
+    ceiling-firsts c.args.basis.places.now c.args.figures.now c.ceiling_now-ceiling.result c.firsts-firsts.result.now c.ceiling_now-ceiling.ensures
+    c.firsts-firsts.ensures.count c.firsts-firsts.ensures.each
+
+pub pass_next-requires : goal.pass_next-requires
+pass_next-requires g c =
+    let left = c.still_from-still.ensures.still.left in
+    let long = length-drop c.args.journal.now.next c.args.journal.now.numbers.items in
+    let is = ap length c.left.ensures in
+    let within = c.args.journal.now.left in
+    omega (arith, left, long, is, within)
 
 pub loop-row-init : goal.loop-row-init
 loop-row-init g c =
@@ -43,20 +61,23 @@ loop-row-init g c =
     let start = c.args.journal.now.next in
     let figures = c.args.figures.now in
     let firsts = c.firsts-firsts.result.now in
-    let many = c.pass_still-row.result in
+    let stood = c.still_from-still.result in
+    let many = stood.many in
     let all : length firsts ≡ length b.inputs.book.now.sheet.groups = c.firsts-firsts.ensures.count ∙ rows b.inputs.book.now b.places.now b.lists.now c.requires.basis.graph.numbers_of in
+    let passed : ArePassed c.scale_on-assets.result figures firsts (drop start numbers) stood =
+    subst (λ (ns : List ℕ). ArePassed c.scale_on-assets.result figures firsts ns stood) c.left.ensures c.still_from-still.ensures in
     let moved : IsWalked b numbers start (0 + many) (start + many) figures =
     walked-on b c.requires.basis numbers c.requires.turn start 0 start figures c.requires.room (walked-none b numbers start figures c.requires.known)
     c.scale_on-assets.result c.scale_on-assets.ensures c.known.ensures firsts all
-    (λ k low. c.firsts-firsts.ensures.each k (omega (arith, low, c.firsts-firsts.ensures.count))) many c.pass_still-row.ensures.passed in
+    (λ k low. c.firsts-firsts.ensures.each k (omega (arith, low, c.firsts-firsts.ensures.count))) stood passed in
     let none : 0 + many ≡ many = omega arith in
     record {
-      numbers = c.pass_still-row.ensures.numbers;
-      walked = subst (λ next. IsWalked b numbers start many next figures) (sym c.pass_still-row.ensures.next)
+      numbers = c.pass_next.ensures.numbers;
+      walked = subst (λ next. IsWalked b numbers start many next figures) (sym c.pass_next.ensures.next)
           (subst (λ row. IsWalked b numbers start row (start + many) figures) none moved);
       long = refl;
-      kept = λ before is. subst (λ (former : List Former). IsJournaled former before figures) (sym c.pass_still-row.ensures.former) is;
-      steps = c.pass_still-row.ensures.steps;
+      kept = λ before is. subst (λ (former : List Former). IsJournaled former before figures) (sym c.pass_next.ensures.former) is;
+      steps = c.pass_next.ensures.steps;
     }
 
 pub square_at-figure-requires-clause-ready : goal.square_at-figure-requires-clause-ready
@@ -77,8 +98,8 @@ write-requires-clause-within g c =
     (subst (λ ns. slice_get ns k ≡ Some number) c.loop-row.invariant.numbers (c.is_next.ensures.yes c.if-not-is_next.false))
     (omega (arith, long, room))
 
-pub pass_still-row-requires-in-loop-row-clause-low : goal.pass_still-row-requires-in-loop-row-clause-low
-pass_still-row-requires-in-loop-row-clause-low g c =
+pub pass_still-row-requires-clause-low : goal.pass_still-row-requires-clause-low
+pass_still-row-requires-clause-low g c =
     let firsts = c.firsts-firsts.result.now in
     subst (All (λ n. n + 1 < 2 ^ 32)) (sym (take_rest firsts (c.loop-row.row + 1)))
     (firsts-low firsts (c.loop-row.row + 1) (2 ^ 32)
@@ -89,14 +110,21 @@ pass_still-row-requires-in-loop-row-clause-low g c =
     let is = told.each k (omega (arith, low, count)) in
     omega (arith, far, is)))
 
-pub pass_still-row-requires-in-loop-row-clause-within : goal.pass_still-row-requires-in-loop-row-clause-within
-pass_still-row-requires-in-loop-row-clause-within g c =
+pub pass_still-row-requires-clause-within : goal.pass_still-row-requires-clause-within
+pass_still-row-requires-clause-within g c =
     let written = ap length c.write.ensures.written ∙ length-set c.loop-row.figures (slice_index c.firsts-firsts.result.now c.loop-row.row + 1) c.square_at-figure.result in
     let long = c.loop-row.invariant.long in
     let room = c.requires.room in
     left-within c.args.basis c.requires.basis c.write.new.self.numbers.items
     (subst (AreInTurnOn c.args.basis) (sym (c.write.ensures.numbers ∙ c.loop-row.invariant.numbers)) c.requires.turn)
     c.write.new.self.next (length c.write.new.figures) (omega (arith, written, long, room))
+
+pub loop-row-smaller : goal.loop-row-smaller
+loop-row-smaller g c =
+    let b = c.args.basis in
+    let all : length c.firsts-firsts.result.now ≡ length b.inputs.book.now.sheet.groups = c.firsts-firsts.ensures.count ∙ rows b.inputs.book.now b.places.now b.lists.now c.requires.basis.graph.numbers_of in
+    let low : c.loop-row.row < length c.firsts-firsts.result.now = c.loop-row-test.true in
+    omega (arith, all, low)
 
 pub loop-row-preserved : goal.loop-row-preserved
 loop-row-preserved g c =
@@ -111,8 +139,8 @@ loop-row-preserved g c =
     let old = c.loop-row.figures in
     let now = c.write.new.figures in
     let next = c.write.new.self.next in
-    let on = c.pass_still-row-in-loop-row.ensures in
-    let many = c.pass_still-row-in-loop-row.result in
+    let on = c.pass_still-row.ensures in
+    let many = c.pass_still-row.result in
     let low : row < length firsts = c.loop-row-test.true in
     let long = c.loop-row.invariant.long in
     let room = c.requires.room in
@@ -130,16 +158,17 @@ loop-row-preserved g c =
     (subst (IsWalked b numbers start (row + 1) (k + 1)) (sym written)
     (walked-more b c.requires.basis numbers c.requires.turn start row k old (omega (arith, long, room)) c.loop-row.invariant.walked number figure own at
     c.square_at-figure.ensures)) in
-    let passed : ArePassed c.scale_on-assets.result now (drop (row + 1) firsts) (drop next numbers) many =
-    subst (λ (fs : List ℕ). ArePassed c.scale_on-assets.result now fs (drop next numbers) many) (take_rest firsts (row + 1))
-    (subst (λ (ns : List ℕ). ArePassed c.scale_on-assets.result now (take (length firsts - (row + 1)) (drop (row + 1) firsts)) (drop next ns) many)
-    (c.write.ensures.numbers ∙ c.loop-row.invariant.numbers) on.passed) in
+    let stood : Stillness = record { many = many; most = on.passed.0 } in
+    let passed : ArePassed c.scale_on-assets.result now (drop (row + 1) firsts) (drop next numbers) stood =
+    subst (λ (fs : List ℕ). ArePassed c.scale_on-assets.result now fs (drop next numbers) stood) (take_rest firsts (row + 1))
+    (subst (λ (ns : List ℕ). ArePassed c.scale_on-assets.result now (take (length firsts - (row + 1)) (drop (row + 1) firsts)) (drop next ns) stood)
+    (c.write.ensures.numbers ∙ c.loop-row.invariant.numbers) on.passed.1) in
     record {
       numbers = on.numbers ∙ c.write.ensures.numbers ∙ c.loop-row.invariant.numbers;
       walked = subst (λ place. IsWalked b numbers start (row + 1 + many) place now) (sym on.next)
           (walked-on b c.requires.basis numbers c.requires.turn start (row + 1) next now (omega (arith, as_long, long, room)) more
           c.scale_on-assets.result c.scale_on-assets.ensures c.known.ensures firsts all
-          (λ i less. c.firsts-firsts.ensures.each i (omega (arith, less, c.firsts-firsts.ensures.count))) many passed);
+          (λ i less. c.firsts-firsts.ensures.each i (omega (arith, less, c.firsts-firsts.ensures.count))) stood passed);
       long = as_long ∙ long;
       kept = λ before is. subst (λ (former : List Former). IsJournaled former before now) (sym on.former)
           (c.write.ensures.journaled before (c.loop-row.invariant.kept before is));
@@ -166,11 +195,16 @@ returns-clause-run g c =
     (λ on. let low : c.loop-row.row < length b.inputs.book.now.sheet.groups = on.0 in omega (arith, low, count, c.loop-row-test.false))
 
 pub returns-clause-still : goal.returns-clause-still
-returns-clause-still g c = λ yes.
+returns-clause-still g c =
     let b = c.args.basis in
+    let numbers = c.args.journal.now.numbers.items in
+    let start = c.args.journal.now.next in
+    let figures = c.args.figures.now in
     let firsts = c.firsts-firsts.result.now in
+    let stood = c.still_from-still.result in
     let all : length firsts ≡ length b.inputs.book.now.sheet.groups = c.firsts-firsts.ensures.count ∙ rows b.inputs.book.now b.places.now b.lists.now c.requires.basis.graph.numbers_of in
-    still-all b c.requires.basis c.scale_on-assets.result c.scale_on-assets.ensures c.known.ensures c.args.journal.now.numbers.items c.requires.turn
-    c.args.journal.now.next c.args.figures.now c.requires.room c.requires.known firsts all
-    (λ k low. c.firsts-firsts.ensures.each k (omega (arith, low, c.firsts-firsts.ensures.count)))
-    c.pass_still-row.result c.pass_still-row.ensures.passed (eqb-true c.pass_still-row.result (length firsts) yes)
+    let passed : ArePassed c.scale_on-assets.result figures firsts (drop start numbers) stood =
+    subst (λ (ns : List ℕ). ArePassed c.scale_on-assets.result figures firsts ns stood) c.left.ensures c.still_from-still.ensures in
+    kept-still c.ceiling-kept.result (AreStillOn b) stood.many (length firsts) stood.most c.ceiling-kept.ensures.all
+    (still-all b c.requires.basis c.scale_on-assets.result c.scale_on-assets.ensures c.known.ensures numbers c.requires.turn start figures c.requires.room
+    c.requires.known firsts all (λ k low. c.firsts-firsts.ensures.each k (omega (arith, low, c.firsts-firsts.ensures.count))) stood passed)

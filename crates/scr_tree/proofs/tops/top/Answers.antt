@@ -8,7 +8,7 @@ use Rattle.scr_sums.specs.Books.{rolled_of}
 use Rattle.scr_sums.specs.Graph.{block_point, member_point, roll_in, tops_of}
 use Rattle.scr_tree.specs.Adding.{AreKnownAt, IsAddedUp, blocks_among, worked_of}
 use Rattle.scr_tree.proofs.PointSources.{blocks-are, counted-are, firsts-are, tops-firsts, tops-seconds}
-use Rattle.scr_tree.proofs.Topped.{members-low, members-open, members-within, members-worth, top-small}
+use Rattle.scr_tree.proofs.Topped.{members-open, members-within, members-worth, top-small}
 use Rattle.scr_tree.proofs.tops.top.Goals as goal
 
 -- ---- the members, where the list does not fall into Blocks
@@ -26,20 +26,6 @@ add_figures-requires-clause-within c =
     let seconds : c.blocks_at-seconds.result ≡ blocks_at (length roll) levels.Second = c.blocks_at-seconds.ensures ∙ told levels.Second in
     let none : blocks_at (length roll) levels.First ≡ 0 = (let zero = c.if-firsts-eq0.true in omega (arith, firsts, zero)) in
     members-within b c.requires.basis c.args.figures.now sum c.requires.reads c.member_family.result c.member_family.ensures c.members-members.result.now own none c.requires.known
-
-pub add_figures-requires-clause-low : goal.add_figures-requires-clause-low
-add_figures-requires-clause-low c =
-    let b = c.args.basis in
-    let book = b.inputs.book.now in
-    let of = c.requires.basis.graph.numbers_of in
-    let sum = c.args.sum.now in
-    let roll = roll_in (rolled_of book) sum in
-    let own = firsts-are book b.places.now b.lists.now of c.requires.basis.valid sum c.roll.result c.members-members.result.now c.members-members.ensures c.roll.ensures in
-    let told = blocks-are book b.places.now b.lists.now of c.requires.basis.valid sum c.roll.result c.members-members.result.now c.members-members.ensures c.roll.ensures in
-    let firsts : c.blocks_at-firsts.result ≡ blocks_at (length roll) levels.First = c.blocks_at-firsts.ensures ∙ told levels.First in
-    let seconds : c.blocks_at-seconds.result ≡ blocks_at (length roll) levels.Second = c.blocks_at-seconds.ensures ∙ told levels.Second in
-    let none : blocks_at (length roll) levels.First ≡ 0 = (let zero = c.if-firsts-eq0.true in omega (arith, firsts, zero)) in
-    members-low b c.requires.basis c.args.figures.now sum c.requires.reads c.member_family.result c.member_family.ensures c.members-members.result.now own none c.requires.known (omega (arith, c.len-size.ensures.size))
 
 pub add_figures-requires-clause-together : goal.add_figures-requires-clause-together
 add_figures-requires-clause-together c =

@@ -13,7 +13,7 @@ use Rattle.scr_tree.proofs.graph.Graph.mark_dependants.Goals as goal
 pub returns-in_default-clause-marked : goal.returns-in_default-clause-marked
 returns-in_default-clause-marked c =
     let numbers = c.args.self.now.numbers in
-    absurd (no-place numbers.book.now numbers.places.now numbers.lists.now c.requires.graph.numbers_of c.args.number (c.at.ensures.absent (subst (λ found. IsNone found) (sym c.in_default.is) refl)) c.requires.live)
+    absurd (no-place numbers.book.now numbers.places.now numbers.lists.now c.requires.graph.numbers_of c.args.number (c.place_at.ensures.absent (subst (λ found. IsNone found) (sym c.in_default.is) refl)) c.requires.live)
 
 pub mark_above-requires-clause-at : goal.mark_above-requires-clause-at
 mark_above-requires-clause-at c =

@@ -1,11 +1,23 @@
 use Rattle.std.proofs.Common.{◌≡◌, true, false, Option, slice_get, ap, refl, subst, sym, ◌∙◌}
 use Rattle.std.specs.Prelude.{IfSome, is_some}
+use Rattle.scr_lists.specs.Lists.{list_in}
 use Rattle.scr_parts.specs.Firsts.{firsts_in}
 use Rattle.scr_rolls.specs.Seatings.{roll_in}
 use Rattle.scr_sheet.specs.declared.roll.Roll.{Roll}
 use Rattle.scr_tree.specs.Reading.{IsRollOf}
-use Rattle.scr_tree.proofs.FirstMembers.{empty-roll, no-row, no-seat, roll-told, row-within}
+use Rattle.scr_tree.proofs.FirstMembers.{empty-roll, list-same, no-row, no-seat, roll-told, row-within}
 use Rattle.scr_tree.proofs.graph.Numbers.roll_of.Goals as goal
+
+pub returns-in-Some-clause-there : goal.returns-in-Some-clause-there
+returns-in-Some-clause-there c =
+    let roll = c.in-Some.roll in
+    let number = c.list_of-table.result.1 in
+    let told = c.in-Some.ensures.there in
+    record {
+      number = number;
+      numbered = told.1 c.args.self.now.book.now.rolls;
+      is = list-same roll number ∙ ap (λ table. list_in table number) told.0 ∙ c.list_of-table.ensures.number;
+    }
 
 pub returns-in_err-first-clause-absent : goal.returns-in_err-first-clause-absent
 returns-in_err-first-clause-absent c = λ none roll of.

@@ -11,7 +11,7 @@ use Rattle.scr_tree.proofs.Spanned.{point-right}
 use Rattle.scr_tree.proofs.SumWorth.{block-small, block-sum}
 use Rattle.scr_tree.proofs.Topped.{sources-known}
 use Rattle.scr_tree.proofs.Upright.{rolls-are}
-use Rattle.scr_tree.proofs.tops.second_up.Goals as goal
+use Rattle.scr_tree.proofs.tops.second_level_up.Goals as goal
 
 pub add_blocks-requires-clause-count : goal.add_blocks-requires-clause-count
 add_blocks-requires-clause-count c =
