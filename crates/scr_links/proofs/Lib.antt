@@ -1,4 +1,5 @@
-pub mod Seats
+pub mod Blocks
+pub mod ShortSeats
 pub mod Lists
 pub mod Rings
 pub mod Linked

@@ -8,3 +8,5 @@ pub mod Kept
 pub mod Left
 pub mod ListEnds
 pub mod ListEndsInside
+pub mod Seats
+pub mod SeatsInside

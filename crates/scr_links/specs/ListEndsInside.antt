@@ -10,6 +10,6 @@ ends_by_list inside = record { seats = inside.seats.items; written = inside.ends
 pub record IsKept (inside : Inside) : Type 0 where
   pub seated : AreSeated inside.seats.items inside.ends.items
   pub blocks : length inside.seats.items ≤ inside.blocks
-  pub seats : inside.blocks ≤ vec_capacity inside.seats
+  pub seats : inside.blocks ≤ inside.seats.room
   pub ends : inside.blocks * 4 ≤ vec_capacity inside.ends
   pub few : inside.blocks ≤ 2 ^ 30

@@ -7,6 +7,7 @@ mod chains;
 pub mod laws;
 mod links;
 mod list_ends;
+mod seats;
 mod walk;
 
 pub use links::{EdgeId, Links};

@@ -1,7 +1,7 @@
 -- The block of the list is written, and in it the ends of the list.
 use Rattle.std.proofs.Common.{ap, ◌∙◌, arith, eqb, cond}
 use Rattle.scr_links.specs.Chains.{EndsByList, ends_at}
-use Rattle.scr_links.proofs.Seats.{set-at, set-seated}
+use Rattle.scr_links.proofs.Blocks.{set-at, set-seated}
 use Rattle.scr_links.proofs.list_ends.ListEnds.set.Goals as goal
 
 pub invariant_of-self : goal.invariant_of-self

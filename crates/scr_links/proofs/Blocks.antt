@@ -228,18 +228,20 @@ module _ (seats : List ℕ) (ends : List Ends) (seated : AreSeated seats ends) (
       let fewer = unwritten-set now block 0 low now_is (λ e. absurd (omega (arith, e))) in
       omega (arith, counted, fewer)
 
-  pub made : (seat : ℕ) → length seats ≤ 1073741824 → block < 1073741824 → seat * 4 ≡ length ends → (so : List Ends)
-      → so ≡ ends ++ replicate 4 empty → IsReady seats ends (set now block seat) so block seat
-  made seat few short next so is_so =
+  pub made : (seat : ℕ) → length seats ≤ 1073741824 → block < 1073741824 → seat * 4 ≡ length ends → (then : List ℕ)
+      → then ≡ set now block seat → (so : List Ends) → so ≡ ends ++ replicate 4 empty
+      → IsReady seats ends then so block seat
+  made seat few short next then is_then so is_so =
       let small = longest 1073741824 short few in
-      subst (λ es. IsReady seats ends (set now block seat) es block seat) (sym is_so) (record {
+      subst (λ ss. IsReady seats ends ss so block seat) (sym is_then)
+      (subst (λ es. IsReady seats ends (set now block seat) es block seat) (sym is_so) (record {
         seated = written-seated now ends now_seated small block seat low now_is next;
         same = λ list. written-same now ends now_seated small block seat low now_is next list ∙ now_same list;
         has = record {
           is = get_or-set_same now block seat none low;
           there = omega (arith, next, length-append ends (replicate 4 empty));
         };
-      })
+      }))
 
 pub empty-seated : (seats : List ℕ) (ends : List Ends) → seats ≡ [] → ends ≡ [] → AreSeated seats ends
 empty-seated seats ends no_seats no_ends = record {
