@@ -1,176 +1,187 @@
--- A block that is formed from the former one, cell by cell.
-use Rattle.std.proofs.Common.{◌≡◌, ◌≢◌, ◌∙◌, ◌⊎◌, inl, inr, ℕ, suc, ◌+◌, ◌<◌, ◌≤◌, ◌++◌, ◌∷◌, List, [], Some, true, is_some, drop, length, take, slice_get, refl, sym, ap, subst, append_assoc, arith}
+-- A block that is formed from the former one, cell by cell, in its place.
+use Rattle.std.proofs.Common.{◌≡◌, ◌∙◌, ℕ, zero, suc, ◌+◌, ◌-◌, ◌≤◌, ◌++◌, ◌∷◌, List, [], None, Some, drop, length, take, slice_get, refl, sym, ap, ap₂, subst, append_assoc, arith}
 use Rattle.std.specs.Prelude.{flat_map}
-use Rattle.std.proofs.lemmas.Bool.{cases_eq}
-use Rattle.std.proofs.lemmas.List.{append-nil, drop_all, drop_more, length-drop}
+use Rattle.std.proofs.lemmas.List.{append-nil, drop-drop, drop_all, drop_at, drop_more, flat_map_more, length-append, length-drop, length-take-le, take-append-drop, take_all, take_at, take_more}
 use Rattle.std.proofs.lemmas.Option.{get_or_from_slice_get, slice_get_within}
 use Rattle.scr_factors.specs.Values.{FactorValues}
 use Rattle.scr_sheet.specs.declared.sheet.BalanceSheet.{BalanceSheet}
+use Rattle.scr_subtotals.specs.Marks.{figure_of}
+use Rattle.scr_subtotals.specs.declared.cell.Mark.{Mark}
 use Rattle.scr_cells.specs.Block.{block_text, cell_line}
-use Rattle.scr_cells.specs.Lines.{AreLines, IsBlock, IsLineOf, LineList, line_text, lines_text}
+use Rattle.scr_cells.specs.Lines.{AreLines, IsBlock, IsLineOf, LineList, figure_line}
 use Rattle.scr_cells.specs.Table.{NamedFigure, table}
 use Rattle.scr_cells.specs.declared.lines.Line.{Line}
-use Rattle.scr_cells.proofs.LineLists.{IsNext, drop-put, got-other, got-put, lines-same, put_at}
-use Rattle.scr_cells.proofs.Runs.{run-after, run-further, run-within}
+use Rattle.scr_cells.proofs.LineLists.{IsBlank, IsNext, got-behind, line-alone, lines-append, lines-none, next-is}
 
-one-cell : (k : ℕ) (a b : NamedFigure) → slice_get table k ≡ Some a → slice_get table k ≡ Some b → a ≡ b
-one-cell k a b first second = let both : Some a ≡ Some b = sym first ∙ second in cc
+next-place : (k : ℕ) → k + 1 ≡ suc k
+next-place k = omega arith
 
--- from a place on: the line of the cell there, and those of the cells after it
-cells-more : (line : NamedFigure → List ℕ) (before : List ℕ) (k : ℕ) (cell : NamedFigure) → slice_get table k ≡ Some cell
-    → (before ++ line cell) ++ flat_map line (drop (suc k) table) ≡ before ++ flat_map line (drop k table)
-cells-more line before k cell is =
-    let rest : drop k table ≡ cell ∷ drop (suc k) table =
+-- from a place on: the cell there, and those after it
+cells-ahead : (k : ℕ) (cell : NamedFigure) → slice_get table k ≡ Some cell → drop k table ≡ cell ∷ drop (suc k) table
+cells-ahead k cell is =
     drop_more table k cell (slice_get_within table k cell is)
     ∙ ap (λ (c : NamedFigure). c ∷ drop (k + 1) table) (get_or_from_slice_get table k cell cell is)
-    ∙ ap (λ (n : ℕ). cell ∷ drop n table) next in
-    append_assoc before (line cell) (flat_map line (drop (suc k) table))
-    ∙ ap (λ (cells : List NamedFigure). before ++ flat_map line cells) (sym rest)
-  where
-    next : k + 1 ≡ suc k
-    next = omega arith
+    ∙ ap (λ (n : ℕ). cell ∷ drop n table) (next-place k)
 
--- There is a line of each cell so far, and it is today's; behind the run stand the former lines of the cells that are left; the text, the run
--- and the lines of these cells are the block.
-pub record IsForming (factors : FactorValues) (sheet : BalanceSheet) (most : ℕ) (lines : LineList) (text rest : List ℕ) (run k : ℕ) : Type 0 where
-  pub lines_are : AreLines lines
-  pub many : k ≤ length lines
-  pub today : (i : ℕ) (line : Line) (cell : NamedFigure) → i < k → slice_get lines i ≡ Some line → slice_get table i ≡ Some cell
-      → line_text cell line ≡ cell_line factors sheet cell
-  pub within : run ≤ length rest
-  pub few : length rest ≤ most
-  pub ahead : drop run rest ≡ lines_text (drop k lines) (drop k table)
-  pub block : (text ++ take run rest) ++ flat_map (cell_line factors sheet) (drop k table) ≡ block_text factors sheet
+-- up to a place and with it
+cells-so-far : (k : ℕ) (cell : NamedFigure) → slice_get table k ≡ Some cell → take (suc k) table ≡ take k table ++ cell ∷ []
+cells-so-far k cell is =
+    ap (λ (n : ℕ). take n table) (sym (next-place k))
+    ∙ take_more table k cell (slice_get_within table k cell is)
+    ∙ ap (λ (c : NamedFigure). take k table ++ c ∷ []) (get_or_from_slice_get table k cell cell is)
+
+-- Of each cell so far stands today's line, with its text in front; behind them stand the former lines of the cells that come yet, whose
+-- text is so long.
+pub record IsForming (factors : FactorValues) (sheet : BalanceSheet) (lines : LineList) (text : List ℕ) (left k : ℕ) : Type 0 where
+  pub done : LineList
+  pub rest : LineList
+  pub front : List ℕ
+  pub back : List ℕ
+  pub lines_is : lines ≡ done ++ rest
+  pub text_is : text ≡ front ++ back
+  pub many : length done ≡ k
+  pub few : k ≤ length table
+  pub size : length back ≡ left
+  pub so_far : AreLines done (take k table) front
+  pub ahead : AreLines rest (drop k table) back
+  pub today : front ≡ flat_map (cell_line factors sheet) (take k table)
 
 module _ (factors : FactorValues) (sheet : BalanceSheet) where
-  pub forming-starts : (lines : LineList) (former : List ℕ) → IsBlock lines former
-      → IsForming factors sheet (length former) lines [] former 0 0
-  unfolding block_text
-  forming-starts lines former is = record {
-    lines_are = is.lines_are;
-    many = omega arith;
-    today = λ i line cell low there owned. absurd (omega (arith, low));
-    within = omega arith;
+  pub forming-starts : (lines : LineList) (text : List ℕ) → IsBlock lines text → IsForming factors sheet lines text (length text) 0
+  forming-starts lines text is = record {
+    done = [];
+    rest = lines;
+    front = [];
+    back = text;
+    lines_is = refl;
+    text_is = refl;
+    many = refl;
     few = omega arith;
-    ahead = is.text_is;
-    block = refl;
+    size = refl;
+    so_far = refl;
+    ahead = is;
+    today = refl;
   }
 
-  -- a run that goes on is within what is left
-  pub forming-within : (most : ℕ) (lines : LineList) (text rest : List ℕ) (run k : ℕ) (cell : NamedFigure) (line : Line)
-      → IsForming factors sheet most lines text rest run k → IsNext lines k cell line → run + line.bytes ≤ length rest
-  forming-within most lines text rest run k cell line forming next =
-      let low = run-within rest run next.own _ forming.within (forming.ahead ∙ next.is) in omega (arith, low, next.long)
+  -- what the former lines have of the next cell, by what was found at its place
+  pub forming-next : (lines : LineList) (text : List ℕ) (left k : ℕ) (cell : NamedFigure) (line : Line)
+      → (forming : IsForming factors sheet lines text left k) → slice_get table k ≡ Some cell
+      → ((x : Line) → slice_get lines k ≡ Some x → line ≡ x) → (slice_get lines k ≡ None → IsBlank cell line)
+      → IsNext forming.rest cell (drop (suc k) table) forming.back line
+  forming-next lines text left k cell line forming at there absent =
+      let found : slice_get lines k ≡ slice_get forming.rest 0 =
+      ap (λ (items : LineList). slice_get items k) forming.lines_is ∙ got-behind forming.done forming.rest k forming.many in
+      next-is forming.rest cell (drop (suc k) table) forming.back line
+      (subst (λ (cells : List NamedFigure). AreLines forming.rest cells forming.back) (cells-ahead k cell at) forming.ahead)
+      (λ x is. there x (found ∙ is)) (λ none. absent (found ∙ none))
+
+  -- today's line of the next cell
+  forming-more : (lines now : LineList) (text text_now : List ℕ) (left k : ℕ) (cell : NamedFigure) (former line : Line)
+      → (forming : IsForming factors sheet lines text left k) → slice_get table k ≡ Some cell
+      → (next : IsNext forming.rest cell (drop (suc k) table) forming.back former) → now ≡ forming.done ++ line ∷ next.rest
+      → text_now ≡ forming.front ++ (cell_line factors sheet cell ++ drop former.bytes forming.back)
+      → IsLineOf cell line (cell_line factors sheet cell) → IsForming factors sheet now text_now (left - former.bytes) (suc k)
+  forming-more lines now text text_now left k cell former line forming at next put more of = record {
+    done = forming.done ++ line ∷ [];
+    rest = next.rest;
+    front = forming.front ++ cell_line factors sheet cell;
+    back = drop former.bytes forming.back;
+    lines_is = put ∙ sym (append_assoc forming.done (line ∷ []) next.rest);
+    text_is = more ∙ sym (append_assoc forming.front (cell_line factors sheet cell) (drop former.bytes forming.back));
+    many = let long = length-append forming.done (line ∷ []) in let many = forming.many in omega (arith, long, many);
+    few = let room = slice_get_within table k cell at in omega (arith, room);
+    size = let cut = length-drop former.bytes forming.back in let size = forming.size in omega (arith, cut, size);
+    so_far =
+        subst (λ (cells : List NamedFigure). AreLines (forming.done ++ line ∷ []) cells (forming.front ++ cell_line factors sheet cell))
+        (sym (cells-so-far k cell at))
+        (lines-append forming.done (line ∷ []) (take k table) (cell ∷ []) forming.front (cell_line factors sheet cell)
+        (forming.many ∙ sym (length-take-le k table forming.few)) forming.so_far (line-alone cell line (cell_line factors sheet cell) of));
+    ahead = next.behind;
+    today =
+        ap (λ (items : List ℕ). items ++ cell_line factors sheet cell) forming.today
+        ∙ flat_map_more (cell_line factors sheet) [] (take k table) cell
+        ∙ ap (flat_map (cell_line factors sheet)) (sym (cells-so-far k cell at));
+  }
 
   -- the line stays
-  pub forming-stays : (most : ℕ) (lines : LineList) (text rest : List ℕ) (run k : ℕ) (cell : NamedFigure) (line : Line)
-      → IsForming factors sheet most lines text rest run k → slice_get table k ≡ Some cell → IsNext lines k cell line → is_some line.mark ≡ true
-      → line_text cell line ≡ cell_line factors sheet cell
-      → IsForming factors sheet most lines text rest (run + line.bytes) (suc k)
-  forming-stays most lines text rest run k cell line forming at next some same = record {
-    lines_are = forming.lines_are;
-    many = let room = slice_get_within lines k line (next.there some) in omega (arith, room);
-    today = λ i other owner low there owned. by i other owner there owned (cases_eq i k) low;
-    within = forming-within most lines text rest run k cell line forming next;
-    few = forming.few;
-    ahead = ap (λ (n : ℕ). drop (run + n) rest) (sym next.long) ∙ run-after rest run next.own _ (forming.ahead ∙ next.is);
-    block =
-        ap (λ (items : List ℕ). (text ++ items) ++ flat_map (cell_line factors sheet) (drop (suc k) table)) longer
-        ∙ ap (λ (items : List ℕ). items ++ flat_map (cell_line factors sheet) (drop (suc k) table))
-        (sym (append_assoc text (take run rest) (cell_line factors sheet cell)))
-        ∙ cells-more (cell_line factors sheet) (text ++ take run rest) k cell at
-        ∙ forming.block;
-  }
-    where
-      longer : take (run + line.bytes) rest ≡ take run rest ++ cell_line factors sheet cell
-      longer =
-          ap (λ (n : ℕ). take (run + n) rest) (sym next.long)
-          ∙ run-further rest run next.own _ (forming.ahead ∙ next.is)
-          ∙ ap (λ (items : List ℕ). take run rest ++ items) (next.text some ∙ same)
-
-      by : (i : ℕ) (other : Line) (owner : NamedFigure) → slice_get lines i ≡ Some other → slice_get table i ≡ Some owner
-          → (i ≡ k) ⊎ (i ≢ k) → i < suc k → line_text owner other ≡ cell_line factors sheet owner
-      by i other owner there owned (inl is) low =
-          let mine : line ≡ other = (let both : Some line ≡ Some other = sym (next.there some) ∙ ap (slice_get lines) (sym is) ∙ there in cc) in
-          let of : cell ≡ owner = one-cell k cell owner at (ap (slice_get table) (sym is) ∙ owned) in
-          subst (λ (c : NamedFigure). line_text c other ≡ cell_line factors sheet c) of
-          (subst (λ (l : Line). line_text cell l ≡ cell_line factors sheet cell) mine same)
-      by i other owner there owned (inr apart) low = forming.today i other owner (below apart low) there owned
-        where
-          below : i ≢ k → i < suc k → i < k
-          below other_one lower = omega (arith, other_one, lower)
+  pub forming-stays : (lines : LineList) (text : List ℕ) (left k : ℕ) (cell : NamedFigure) (line : Line)
+      → (forming : IsForming factors sheet lines text left k) → slice_get table k ≡ Some cell
+      → IsNext forming.rest cell (drop (suc k) table) forming.back line
+      → (mark : Mark) × (line.mark ≡ Some mark) × (figure_line cell (figure_of mark) ≡ cell_line factors sheet cell)
+      → IsForming factors sheet lines text (left - line.bytes) (suc k)
+  forming-stays lines text left k cell line forming at next (mark, some, same) =
+      let here = next.here mark some in
+      let own : take line.bytes forming.back ≡ cell_line factors sheet cell = here.1.marked mark some ∙ same in
+      forming-more lines lines text text left k cell line line forming at next
+      (forming.lines_is ∙ ap (λ (rest : LineList). forming.done ++ rest) here.0)
+      (forming.text_is
+      ∙ ap (λ (back : List ℕ). forming.front ++ back)
+      (sym (take-append-drop line.bytes forming.back) ∙ ap (λ (items : List ℕ). items ++ drop line.bytes forming.back) own))
+      (subst (IsLineOf cell line) own here.1)
 
   -- the line is formed anew
-  pub forming-anew : (most : ℕ) (lines now : LineList) (text rest text_now : List ℕ) (run k : ℕ) (cell : NamedFigure) (line anew : Line)
-      → IsForming factors sheet most lines text rest run k → slice_get table k ≡ Some cell → IsNext lines k cell line
-      → now ≡ put_at lines k anew → text_now ≡ (text ++ take run rest) ++ cell_line factors sheet cell
-      → IsLineOf cell anew → line_text cell anew ≡ cell_line factors sheet cell
-      → IsForming factors sheet most now text_now (drop (run + line.bytes) rest) 0 (suc k)
-  forming-anew most lines now text rest text_now run k cell line anew forming at next put more of same = record {
-    lines_are = subst AreLines (sym put) (λ i other owner there owned. each i other owner there owned (cases_eq i k));
-    many = let room = slice_get_within now k anew here in omega (arith, room);
-    today = λ i other owner low there owned. by i other owner there owned (cases_eq i k) low;
-    within = omega arith;
-    few = fewer;
-    ahead = behind ∙ ap (λ (left : LineList). lines_text left (drop (suc k) table)) (sym (drop-put lines k anew forming.many) ∙ ap (drop (suc k)) (sym put));
-    block =
-        ap (λ (items : List ℕ). items ++ flat_map (cell_line factors sheet) (drop (suc k) table)) (append-nil text_now ∙ more)
-        ∙ cells-more (cell_line factors sheet) (text ++ take run rest) k cell at
-        ∙ forming.block;
-  }
+  pub forming-anew : (lines now : LineList) (text text_now : List ℕ) (left k : ℕ) (cell : NamedFigure) (former line : Line)
+      → (forming : IsForming factors sheet lines text left k) → slice_get table k ≡ Some cell
+      → IsNext forming.rest cell (drop (suc k) table) forming.back former → now ≡ take k lines ++ line ∷ drop (k + 1) lines
+      → text_now ≡ (take (length text - (former.bytes + (left - former.bytes))) text ++ cell_line factors sheet cell)
+      ++ drop (length text - (left - former.bytes)) text
+      → IsLineOf cell line (cell_line factors sheet cell) → IsForming factors sheet now text_now (left - former.bytes) (suc k)
+  forming-anew lines now text text_now left k cell former line forming at next put more of =
+      forming-more lines now text text_now left k cell former line forming at next
+      (put ∙ ap₂ (λ (done rest : LineList). done ++ line ∷ rest) lines-before lines-behind)
+      (more ∙ ap₂ (λ (front back : List ℕ). (front ++ cell_line factors sheet cell) ++ back) text-before text-behind
+      ∙ append_assoc forming.front (cell_line factors sheet cell) (drop former.bytes forming.back)) of
     where
-      here : slice_get now k ≡ Some anew
-      here = ap (λ (items : LineList). slice_get items k) put ∙ got-put lines k anew forming.many
+      lines-before : take k lines ≡ forming.done
+      lines-before = ap (take k) forming.lines_is ∙ take_at forming.done forming.rest k forming.many
 
-      behind : drop (run + line.bytes) rest ≡ lines_text (drop (suc k) lines) (drop (suc k) table)
-      behind = ap (λ (n : ℕ). drop (run + n) rest) (sym next.long) ∙ run-after rest run next.own _ (forming.ahead ∙ next.is)
+      lines-behind : drop (k + 1) lines ≡ next.rest
+      lines-behind =
+          sym (drop-drop 1 k lines)
+          ∙ ap (drop 1) (ap (drop k) forming.lines_is ∙ drop_at forming.done forming.rest k forming.many)
+          ∙ next.tail
 
-      fewer : length (drop (run + line.bytes) rest) ≤ most
-      fewer = let long = length-drop (run + line.bytes) rest in let few = forming.few in omega (arith, long, few)
+      long : length text ≡ length forming.front + length forming.back
+      long = ap length forming.text_is ∙ length-append forming.front forming.back
 
-      own : (i : ℕ) (other : Line) (owner : NamedFigure) → i ≡ k → slice_get (put_at lines k anew) i ≡ Some other
-          → slice_get table i ≡ Some owner → (anew ≡ other) × (cell ≡ owner)
-      own i other owner is there owned = (
-        let both : Some anew ≡ Some other = sym (got-put lines k anew forming.many) ∙ ap (slice_get (put_at lines k anew)) (sym is) ∙ there in cc,
-        one-cell k cell owner at (ap (slice_get table) (sym is) ∙ owned),
-      )
+      before : length text - (former.bytes + (left - former.bytes)) ≡ length forming.front
+      before = let size = forming.size in let room = next.room in omega (arith, long, size, room)
 
-      each : (i : ℕ) (other : Line) (owner : NamedFigure) → slice_get (put_at lines k anew) i ≡ Some other → slice_get table i ≡ Some owner
-          → (i ≡ k) ⊎ (i ≢ k) → IsLineOf owner other
-      each i other owner there owned (inl is) =
-          let both = own i other owner is there owned in
-          subst (λ (c : NamedFigure). IsLineOf c other) both.1 (subst (IsLineOf cell) both.0 of)
-      each i other owner there owned (inr apart) =
-          forming.lines_are i other owner (sym (got-other lines k anew i forming.many apart) ∙ there) owned
+      behind : length text - (left - former.bytes) ≡ length forming.front + former.bytes
+      behind = let size = forming.size in let room = next.room in omega (arith, long, size, room)
 
-      by : (i : ℕ) (other : Line) (owner : NamedFigure) → slice_get now i ≡ Some other → slice_get table i ≡ Some owner
-          → (i ≡ k) ⊎ (i ≢ k) → i < suc k → line_text owner other ≡ cell_line factors sheet owner
-      by i other owner there owned (inl is) low =
-          let both = own i other owner is (ap (λ (items : LineList). slice_get items i) (sym put) ∙ there) owned in
-          subst (λ (c : NamedFigure). line_text c other ≡ cell_line factors sheet c) both.1
-          (subst (λ (l : Line). line_text cell l ≡ cell_line factors sheet cell) both.0 same)
-      by i other owner there owned (inr apart) low =
-          forming.today i other owner (below apart low)
-          (sym (got-other lines k anew i forming.many apart) ∙ ap (λ (items : LineList). slice_get items i) (sym put) ∙ there) owned
-        where
-          below : i ≢ k → i < suc k → i < k
-          below other_one lower = omega (arith, other_one, lower)
+      text-before : take (length text - (former.bytes + (left - former.bytes))) text ≡ forming.front
+      text-before =
+          ap (λ (n : ℕ). take n text) before
+          ∙ ap (take (length forming.front)) forming.text_is
+          ∙ take_at forming.front forming.back (length forming.front) refl
 
-  -- past the last cell the text with the run is the block
-  pub forming-ends : (most : ℕ) (lines : LineList) (text rest : List ℕ) (run k : ℕ) → IsForming factors sheet most lines text rest run k
-      → length table ≤ k → text ++ take run rest ≡ block_text factors sheet
-  forming-ends most lines text rest run k forming past =
-      sym (append-nil (text ++ take run rest))
-      ∙ ap (λ (cells : List NamedFigure). (text ++ take run rest) ++ flat_map (cell_line factors sheet) cells) (sym (drop_all k table past))
-      ∙ forming.block
+      text-behind : drop (length text - (left - former.bytes)) text ≡ drop former.bytes forming.back
+      text-behind =
+          ap (λ (n : ℕ). drop n text) behind
+          ∙ sym (drop-drop former.bytes (length forming.front) text)
+          ∙ ap (drop former.bytes)
+          (ap (drop (length forming.front)) forming.text_is ∙ drop_at forming.front forming.back (length forming.front) refl)
 
-  pub forming-block : (most : ℕ) (lines : LineList) (text rest : List ℕ) (run k : ℕ) → IsForming factors sheet most lines text rest run k
-      → length table ≤ k → IsBlock lines (text ++ take run rest)
+  -- past the last cell the text is the block
+  pub forming-ends : (lines : LineList) (text : List ℕ) (left k : ℕ) → IsForming factors sheet lines text left k → length table ≤ k
+      → text ≡ block_text factors sheet
   unfolding block_text
-  forming-block most lines text rest run k forming past = record {
-    lines_are = forming.lines_are;
-    text_is =
-        forming-ends most lines text rest run k forming past
-        ∙ sym (lines-same (cell_line factors sheet) lines table (let many = forming.many in omega (arith, many, past))
-        (λ i line cell there owned. forming.today i line cell (let low = slice_get_within table i cell owned in omega (arith, low, past)) there owned));
-  }
+  forming-ends lines text left k forming past =
+      forming.text_is
+      ∙ ap (λ (back : List ℕ). forming.front ++ back)
+      (lines-none forming.rest forming.back
+      (subst (λ (cells : List NamedFigure). AreLines forming.rest cells forming.back) (drop_all k table past) forming.ahead))
+      ∙ append-nil forming.front
+      ∙ forming.today
+      ∙ ap (flat_map (cell_line factors sheet)) (take_all k table past)
+
+  -- and the lines are those of the text at all times
+  pub forming-block : (lines : LineList) (text : List ℕ) (left k : ℕ) → IsForming factors sheet lines text left k → IsBlock lines text
+  forming-block lines text left k forming =
+      subst (λ (text : List ℕ). AreLines lines table text) (sym forming.text_is)
+      (subst (λ (lines : LineList). AreLines lines table (forming.front ++ forming.back)) (sym forming.lines_is)
+      (subst (λ (cells : List NamedFigure). AreLines (forming.done ++ forming.rest) cells (forming.front ++ forming.back))
+      (take-append-drop k table)
+      (lines-append forming.done forming.rest (take k table) (drop k table) forming.front forming.back
+      (forming.many ∙ sym (length-take-le k table forming.few)) forming.so_far forming.ahead)))

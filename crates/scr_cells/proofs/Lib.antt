@@ -2,4 +2,3 @@ pub mod Bounded
 mod Forming
 mod LineLists
 mod LiveCells
-mod Runs

@@ -1,10 +1,12 @@
 //! The block that was printed last, and its lines.
-ghost use Rattle.std.specs.Prelude.{◌≡◌, ◌≤◌, ◌+◌, ◌++◌, ◌∷◌, [], if◌then◌else◌, drop, is_ok, is_some, length, slice_get, take, true, IfOk, None, OnOk, OnErr, Some};
+ghost use Rattle.std.specs.Prelude.{◌≡◌, ◌≤◌, ◌+◌, ◌-◌, ◌++◌, ◌∷◌, [], if◌then◌else◌, drop, is_ok, length, slice_get, take, true, IfOk, None, OnOk, OnErr, Some};
 ghost use Rattle.scr_nodes.specs.Live.{is_live};
 ghost use Rattle.scr_nodes.specs.declared.node.Node.TheVariants as nodes;
 ghost use Rattle.scr_figures.specs.Families.{whole_family};
+ghost use Rattle.scr_subtotals.specs.Marks.{figure_of};
+ghost use Rattle.scr_subtotals.specs.declared.cell.Mark.{Mark as TheMark};
 ghost use Rattle.scr_cells.specs.Block.{block_text, cell_line};
-ghost use Rattle.scr_cells.specs.Lines.{AreLines, IsBlock, IsLineOf, IsMarked, line_text, lines_text};
+ghost use Rattle.scr_cells.specs.Lines.{IsBlock, IsLineOf, figure_line};
 ghost use Rattle.scr_cells.specs.Table.{seen, table};
 ghost use Rattle.scr_cells.specs.declared.lines.Line.{Line as TheLine};
 
@@ -13,7 +15,6 @@ use crate::printing::push_bounds;
 use crate::table::{CELL_COUNT, Entry, entry_of};
 use scr_figures::family;
 use scr_nodes::Node;
-use scr_num::exact;
 use scr_subtotals::{Figure, Mark};
 use scr_tree::Engine;
 use std::alloc::{AllocError as NoMemory, Global};
@@ -22,18 +23,21 @@ use std::marker::Model;
 /// As many bytes as a block mostly has at the most.
 const BLOCK: usize = 6_000;
 
-/// A cell's line: the family of the figure that the cell shows, the figure in grains that the line tells, which contracts alone read, its
-/// mark where it is narrow, and how many bytes the line has. It has no mark and no bytes where it was not formed yet.
+/// As many bytes as a line mostly has at the most.
+const LINE: usize = 100;
+
+/// What is kept of a cell's line: the mark of the figure that it tells where that is narrow, the family of the figure that the cell shows,
+/// and how many bytes the line has. It has no mark and no bytes where it was not formed yet.
 #[derive(Clone, Copy)]
 pub(crate) struct Line {
-    family: u32,
-    figure: Figure,
+    // The widest field stands first: so a line takes the least room.
     mark: Option<Mark>,
+    family: u32,
     bytes: usize,
 }
 
 /// The block that was printed last, with its lines from the first on: that of a narrow figure is not formed anew where the figure is the
-/// same.
+/// same. Contracts see the text of the block.
 #[derive(Drop)]
 pub struct Lines {
     lines: Vec<Line>,
@@ -41,11 +45,12 @@ pub struct Lines {
 }
 
 impl Model for Lines {
-    ghost use Rattle.scr_cells.specs.Lines.{IsBlock, LineList};
+    ghost use Rattle.std.specs.Prelude.{ℕ, List};
+    ghost use Rattle.scr_cells.specs.Lines.{IsBlock};
 
-    ghost Value = { LineList };
+    ghost Value = { List ℕ };
 
-    ghost view = { λ printed. printed.lines.items };
+    ghost view = { λ printed. printed.text.items };
 
     ghost invariant = { λ printed. IsBlock printed.lines.items printed.text.items };
 }
@@ -79,13 +84,10 @@ impl Lines {
 
     /// The block is that of the engine's book. Where memory is refused, no line is kept.
     fn form(&mut self, alloc: Global, engine: &Engine) -> Result<(), NoMemory>
-        ensures { OnOk result (lines_text self.new table ≡ block_text engine.now.factors engine.now.sheet) }
+        ensures { OnOk result (self.new ≡ block_text engine.now.factors engine.now.sheet) }
     {
-        match formed(alloc, engine, &mut self.lines, self.text.as_slice()) {
-            Ok(text) => {
-                self.text = text;
-                Ok(())
-            }
+        match renew(alloc, engine, &mut self.lines, &mut self.text) {
+            Ok(()) => Ok(()),
             Err(NoMemory) => {
                 self.lines.clear();
                 self.text.clear();
@@ -95,46 +97,48 @@ impl Lines {
     }
 }
 
-/// The block of the engine's book with its lines. Of the former one the lines that stay are copied, each run of them in one piece.
-fn formed(
+/// The block becomes that of the engine's book: each line whose figure is another one is formed anew, in its place in the text.
+fn renew(
     alloc: Global,
     engine: &Engine,
     lines: &mut Vec<Line>,
-    former: &[u8],
-) -> Result<Vec<u8>, NoMemory>
-    requires { IsBlock lines.old.items former.now }
-    ensures block { IfOk result (λ text. IsBlock lines.new.items text.items) }
-    ensures today { IfOk result (λ text. text.items ≡ block_text engine.now.factors engine.now.sheet) }
+    text: &mut Vec<u8>,
+) -> Result<(), NoMemory>
+    requires { IsBlock lines.old.items text.old.items }
+    ensures block { OnOk result (IsBlock lines.new.items text.new.items) }
+    ensures today { OnOk result (text.new.items ≡ block_text engine.now.factors engine.now.sheet) }
 {
-    let mut text = Vec::with_capacity(alloc, former.len().max(BLOCK))?;
-    // What follows the last line that was formed anew, and how many bytes of it stay.
-    let mut rest = former;
-    let mut run = 0;
+    make_room(lines, text)?;
+    let mut anew = Vec::with_capacity(alloc, LINE)?;
+    // So many bytes stand behind the lines so far.
+    let mut left = text.len();
     for k in 0..CELL_COUNT {
         let entry = entry_of(k);
-        let line = line_at(lines.as_slice(), k, entry);
-        if stays(engine, entry, &line) {
-            run += line.bytes;
-        } else {
-            push(&mut text, &rest[..run])?;
-            rest = &rest[run + line.bytes..];
-            run = 0;
-            let line = push_line(alloc, engine, entry, line.family, &mut text)?;
+        let former = line_at(lines.as_slice(), k, entry);
+        left -= former.bytes;
+        if !stays(engine, entry, &former) {
+            let line = line_of(alloc, engine, entry, former.family, &mut anew)?;
+            replace(alloc, text, former.bytes, left, anew.as_slice())?;
             put(lines, k as usize, line)?;
         }
     }
-    push(&mut text, &rest[..run])?;
-    Ok(text)
+    Ok(())
+}
+
+/// Room for all lines at once.
+fn make_room(lines: &mut Vec<Line>, text: &mut Vec<u8>) -> Result<(), NoMemory>
+    ensures lines { lines.new.items ≡ lines.old.items }
+    ensures text { text.new.items ≡ text.old.items }
+{
+    lines.reserve_exact((CELL_COUNT as usize).saturating_sub(lines.len()))?;
+    text.reserve_exact(BLOCK.saturating_sub(text.len()))
 }
 
 /// The line of the cell of this number, which may not be formed yet.
 fn line_at(lines: &[Line], k: u32, entry: &Entry) -> Line
-    requires lines { AreLines lines.now }
-    requires cell { slice_get table k ≡ Some (seen entry.now) }
     ensures there { (line : TheLine) → slice_get lines.now k ≡ Some line → result ≡ line }
-    ensures absent { slice_get lines.now k ≡ None → (result.bytes ≡ 0) × (result.mark ≡ None) }
-    ensures family { whole_family entry.now.shown ≡ result.family }
-    ensures mark { IsMarked result }
+    ensures absent { slice_get lines.now k ≡ None
+        → (result.mark ≡ None) × (whole_family entry.now.shown ≡ result.family) × (result.bytes ≡ 0) }
 {
     match lines.get(k as usize) {
         Some(line) => *line,
@@ -144,17 +148,11 @@ fn line_at(lines: &[Line], k: u32, entry: &Entry) -> Line
 
 /// The line of a cell as long as it is not formed.
 fn blank(entry: &Entry) -> Line
-    ensures absent { (result.bytes ≡ 0) × (result.mark ≡ None) }
-    ensures family { whole_family entry.now.shown ≡ result.family }
+    ensures { (result.mark ≡ None) × (whole_family entry.now.shown ≡ result.family) × (result.bytes ≡ 0) }
 {
-    let figure = Figure {
-        span: exact(0),
-        close: false,
-    };
     Line {
-        family: family(&Node::Whole(entry.shown)),
-        figure,
         mark: None,
+        family: family(&Node::Whole(entry.shown)),
         bytes: 0,
     }
 }
@@ -164,9 +162,8 @@ fn blank(entry: &Entry) -> Line
 fn stays(engine: &Engine, entry: &Entry, line: &Line) -> bool
     requires live { is_live engine.now.sheet (nodes.Whole entry.now.shown) ≡ true }
     requires family { whole_family entry.now.shown ≡ line.now.family }
-    requires mark { IsMarked line.now }
-    ensures { result ≡ true → (is_some line.now.mark ≡ true)
-        × (line_text (seen entry.now) line.now ≡ cell_line engine.now.factors engine.now.sheet (seen entry.now)) }
+    ensures { result ≡ true → (mark : TheMark) × (line.now.mark ≡ Some mark)
+        × (figure_line (seen entry.now) (figure_of mark) ≡ cell_line engine.now.factors engine.now.sheet (seen entry.now)) }
 {
     match line.mark {
         Some(mark) => engine.is_told(line.family, &mark),
@@ -174,9 +171,9 @@ fn stays(engine: &Engine, entry: &Entry, line: &Line) -> bool
     }
 }
 
-/// Appends the line of a cell.
+/// The line of a cell, and its text.
 #[tactic(auto, unfolding(crate::specs::Block::cell_line))]
-fn push_line(
+fn line_of(
     alloc: Global,
     engine: &Engine,
     entry: &Entry,
@@ -185,22 +182,41 @@ fn push_line(
 ) -> Result<Line, NoMemory>
     requires live { is_live engine.now.sheet (nodes.Whole entry.now.shown) ≡ true }
     requires family { whole_family entry.now.shown ≡ family }
-    ensures line { IfOk result (λ line. IsLineOf (seen entry.now) line
-        × (line_text (seen entry.now) line ≡ cell_line engine.now.factors engine.now.sheet (seen entry.now))) }
-    ensures text { OnOk result (text.new.items ≡ text.old.items ++ cell_line engine.now.factors engine.now.sheet (seen entry.now)) }
+    ensures line { IfOk result (λ line. IsLineOf (seen entry.now) line (cell_line engine.now.factors engine.now.sheet (seen entry.now))) }
+    ensures text { OnOk result (text.new.items ≡ cell_line engine.now.factors engine.now.sheet (seen entry.now)) }
 {
     let (span, close) = engine.told_whole(family);
-    let start = text.len();
+    text.clear();
     push_bounds(alloc, text, entry.name, &bounds_of(span, close))?;
-    let figure = Figure { span, close };
-    let mark = Mark::new(&figure);
-    let bytes = text.len() - start;
     Ok(Line {
+        mark: Mark::new(&Figure { span, close }),
         family,
-        figure,
-        mark,
-        bytes,
+        bytes: text.len(),
     })
+}
+
+/// A line stands in the text in place of so many bytes, behind which so many are left.
+fn replace(
+    alloc: Global,
+    text: &mut Vec<u8>,
+    count: usize,
+    left: usize,
+    line: &[u8],
+) -> Result<(), NoMemory>
+    requires { count + left ≤ length text.old.items }
+    ensures { OnOk result (text.new.items
+        ≡ take (length text.old.items - (count + left)) text.old.items ++ line.now ++ drop (length text.old.items - left) text.old.items) }
+{
+    let end = text.len() - left;
+    let start = end - count;
+    if line.len() == count {
+        text[start..end].copy_from_slice(line);
+        return Ok(());
+    }
+    let rest = Vec::from_slice(alloc, &text[end..])?;
+    text.truncate(start);
+    push(text, line)?;
+    push(text, rest.as_slice())
 }
 
 /// The line stands at this place, in that of another or behind the last.
