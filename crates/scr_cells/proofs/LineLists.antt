@@ -1,5 +1,5 @@
 -- Lines in their places, and which part of the text is that of each.
-use Rattle.std.proofs.Common.{◌≡◌, ◌∙◌, ℕ, zero, suc, ◌≤◌, ◌++◌, List, [], ◌∷◌, length, take, drop, Option, Some, None, slice_get, refl, sym, ap, subst, arith}
+use Rattle.std.proofs.Common.{◌≡◌, ◌∙◌, ℕ, zero, suc, ◌≤◌, ◌++◌, List, [], ◌∷◌, length, take, drop, Some, None, slice_get, refl, sym, ap, subst, arith}
 use Rattle.std.proofs.lemmas.List.{drop-append-le, drop_all, length-take, take-append-le, take_all}
 use Rattle.scr_figures.specs.Families.{family_of}
 use Rattle.scr_subtotals.specs.declared.cell.Mark.{Mark}
@@ -28,7 +28,7 @@ lines-append (line ∷ done) rest (cell ∷ cells) more front back long is behin
     let room = text-room cell line front is.0 in (
       subst (IsLineOf cell line) (sym (take-append-le line.bytes front back room)) is.0,
       subst (AreLines (done ++ rest) (cells ++ more)) (sym (drop-append-le line.bytes front back room))
-      (lines-append done rest cells more (drop line.bytes front) back (omega (arith, long)) is.1 behind),
+          (lines-append done rest cells more (drop line.bytes front) back (omega (arith, long)) is.1 behind),
     )
 
 -- one line alone

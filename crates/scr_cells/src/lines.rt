@@ -213,6 +213,11 @@ fn replace(
         text[start..end].copy_from_slice(line);
         return Ok(());
     }
+    if left == 0 {
+        // So are all lines of the first block.
+        text.truncate(start);
+        return push(text, line);
+    }
     let rest = Vec::from_slice(alloc, &text[end..])?;
     text.truncate(start);
     push(text, line)?;

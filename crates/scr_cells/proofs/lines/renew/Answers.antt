@@ -1,4 +1,4 @@
-use Rattle.std.proofs.Common.{◌≡◌, ◌∙◌, ◌+◌, ◌-◌, ◌++◌, ◌∷◌, ℕ, List, None, Some, suc, drop, length, slice_get, take, sym, ap, subst, arith}
+use Rattle.std.proofs.Common.{◌≡◌, ◌∙◌, ◌+◌, ◌-◌, ◌++◌, ℕ, List, None, Some, suc, drop, length, slice_get, take, sym, ap, subst, arith}
 use Rattle.std.proofs.lemmas.List.{length-append}
 use Rattle.scr_factors.specs.Values.{FactorValues}
 use Rattle.scr_sheet.specs.declared.sheet.BalanceSheet.{BalanceSheet}
