@@ -539,7 +539,7 @@ fn owned<const N: usize>(seating: &Seating<N>, number: Option<u32>, next: u32) -
     }
 }
 
-// The first number of an owner's rolls, which are made where it has none.
+// The first number of an owner's rolls, which are made where it has none. Where it has one no roll comes.
 fn owned_number<const N: usize>(
     alloc: Global,
     seating: &mut Seating<N>,
@@ -551,6 +551,7 @@ fn owned_number<const N: usize>(
     requires width { (k : ℕ) → slice_index_or seats.now k 0 < N }
     ensures gives { GivesNumber owner.now seats.now seating.old seating.new owners.old owners.new }
     ensures own { IfOk result (λ number. number_of owner.now owners.new ≡ Some number) }
+    ensures had { (number : ℕ) → number_of owner.now owners.old ≡ Some number → seating.new ≡ seating.old }
 {
     if let Some(number) = owners.number(owner) {
         return Ok(number);

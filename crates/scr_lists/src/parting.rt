@@ -169,10 +169,11 @@ fn extend_all(
     number_parts(parts, places)
 }
 
-/// Each slot has a row of numbers.
+/// Each slot has a row of numbers. There are no more rows than there were, or than there are slots.
 pub(crate) fn number_parts(parts: &Parts, places: &mut Places) -> Result<(), NoMemory>
     ensures ok { OnOk result (size_of parts.now ≤ count places.new ranged.Part) }
     ensures more { HasMoreParts places.old places.new }
+    ensures most { (bound : ℕ) → count places.old ranged.Part ≤ bound → size_of parts.now ≤ bound → count places.new ranged.Part ≤ bound }
 {
     let rows = places.count(Ranged::Part);
     let more = (parts.len() as usize).saturating_sub(rows);
