@@ -1,5 +1,5 @@
 -- What is told of sizes and of touched figures, in the words of those who ask.
-use Rattle.std.proofs.Common.{◌≡◌, ◌^◌, ℕ, List, Contains, None, arith}
+use Rattle.std.proofs.Common.{◌≡◌, ◌^◌, List, Contains, None, arith}
 use Rattle.std.specs.Prelude.{◌↔◌}
 use Rattle.scr_num.specs.Rounding.{Ends}
 use Rattle.scr_num.specs.Sizes.{AreTogether}

@@ -1,5 +1,5 @@
 -- What the texts of records are read as that are all accepted: the sheet that they leave, and no refusal.
-use Rattle.std.proofs.Common.{◌≡◌, ◌∙◌, ◌+◌, ◌≤◌, ◌⊎◌, ◌||◌, ℕ, suc, Bool, false, if◌then◌else◌, List, [], ◌∷◌, length, map, Result, Ok, Err, is_err, inl, inr, refl, sym, ap, subst, arith}
+use Rattle.std.proofs.Common.{◌≡◌, ◌∙◌, ◌≤◌, ◌⊎◌, ℕ, false, if◌then◌else◌, List, [], ◌∷◌, length, map, Result, Ok, Err, inl, inr, refl, sym, ap, subst, arith}
 use Rattle.std.proofs.lemmas.Bool.{le-leb}
 use Rattle.std.proofs.lemmas.List.{length-map}
 use Rattle.scr_csv.specs.Lines.{records}

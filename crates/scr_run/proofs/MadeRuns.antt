@@ -1,5 +1,5 @@
 -- What a run on a made book owes.
-use Rattle.std.proofs.Common.{◌≡◌, ◌∙◌, ℕ, List, Option, Some, Result, Ok, Err, refl, sym, ap, ap₂, subst}
+use Rattle.std.proofs.Common.{◌≡◌, ◌∙◌, ℕ, List, Option, Some, Result, Ok, refl, sym, ap, ap₂, subst}
 use Rattle.scr_cells.specs.Block.{requirement_line}
 use Rattle.scr_csv.specs.Lines.{records}
 use Rattle.scr_factors.specs.Values.{FactorValues}

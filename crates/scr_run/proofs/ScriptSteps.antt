@@ -1,6 +1,6 @@
 -- The records of a script, counted one after another.
-use Rattle.std.proofs.Common.{◌≡◌, ◌∙◌, ◌+◌, ◌<◌, ◌≤◌, ◌^◌, ◌&&◌, ◌==◌, ◌||◌, Bool, true, false, cond, ℕ, suc, List, [], ◌∷◌, length, Result, Ok, Err, is_err, is_ok, ◌++◌, refl, sym, ap, ap₂, subst, arith, nat_lt, lt-ltb, le-ltb, ltb-true, ltb-false}
-use Rattle.std.specs.List.{count_by, enumerate_from, filter, fold, slice_split}
+use Rattle.std.proofs.Common.{◌≡◌, ◌∙◌, ◌+◌, ◌≤◌, ◌&&◌, ◌==◌, ◌||◌, Bool, true, false, cond, ℕ, suc, List, [], ◌∷◌, length, Result, Ok, Err, is_err, is_ok, ◌++◌, refl, sym, ap, ap₂, arith, nat_lt, lt-ltb, le-ltb, ltb-true, ltb-false}
+use Rattle.std.specs.List.{enumerate_from, slice_split}
 use Rattle.std.specs.Str.Lines.{lines, lines_of_parts}
 use Rattle.std.proofs.lemmas.List.FromFn.{length-enumerate_from}
 use Rattle.std.proofs.lemmas.List.Splits.{length-slice_split}

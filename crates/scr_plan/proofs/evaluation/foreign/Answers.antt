@@ -1,4 +1,4 @@
-use Rattle.std.proofs.Common.{◌≡◌, ◌^◌, length, sym, subst, ap, ap₂, ◌∙◌}
+use Rattle.std.proofs.Common.{◌^◌, length, sym, subst, ap, ap₂, ◌∙◌}
 use Rattle.scr_blocks.specs.Blocks.{top_count}
 use Rattle.scr_num.specs.Amounts.{IsAmount}
 use Rattle.scr_num.specs.Sizes.{AreTogether}

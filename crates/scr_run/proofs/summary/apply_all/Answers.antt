@@ -1,4 +1,4 @@
-use Rattle.std.proofs.Common.{◌≡◌, ◌+◌, ◌≤◌, ◌<◌, ◌^◌, ℕ, List, length, ap, arith}
+use Rattle.std.proofs.Common.{ℕ, List, length, ap, arith}
 use Rattle.scr_run.proofs.ScriptSteps.{few_records}
 use Rattle.scr_run.proofs.summary.apply_all.Goals as goal
 
