@@ -377,6 +377,11 @@ module _ (book : RolledSheet) (places : Numbered) (lists : Lists) (are : AreNumb
       is ∙ ap (part block.index) all
       ∙ part-map (first_of book.sheet places (table_of (roll_of block.sum))) block.index (roll_in (rolled_of book) block.sum)
 
+  -- so are those that stand beside the list
+  pub part-firsts : (roll : Roll) → roll ≡ roll_of block.sum → (firsts own : List ℕ) → firsts ≡ members_of roll book.rolls lists → own ≡ part block.index firsts
+      → own ≡ map (first_of book.sheet places (table_of (roll_of block.sum))) (part block.index (roll_in (rolled_of book) block.sum))
+  part-firsts roll told firsts own beside is = first-firsts firsts own is (firsts-are book places lists are valid block.sum roll firsts beside told)
+
   pub second-sources : block.level ≡ levels.Second → (count start end : ℕ) → count ≡ blocks_at (length (roll_in (rolled_of book) block.sum)) levels.First
       → start ≡ start_of count levels.First block.index → end ≡ end_of count levels.First block.index
       → map (block_point block.sum levels.First) (range_with_len start (end - start)) ≡ sources_in (rolled_of book) (points.Block block)
@@ -387,6 +392,13 @@ module _ (book : RolledSheet) (places : Numbered) (lists : Lists) (are : AreNumb
       ∙ below-second (member_point block.sum) (block_point block.sum) (roll_in (rolled_of book) block.sum) block.index
       (subst (λ l. is_block (length (roll_in (rolled_of book) block.sum)) l block.index ≡ true) is read-and-there.1) count own
       ∙ ap (λ l. block_sources (member_point block.sum) (block_point block.sum) (roll_in (rolled_of book) block.sum) l block.index) (sym is)
+
+  -- so are those that are counted beside the list
+  pub second-beside : block.level ≡ levels.Second → (roll : Roll) → roll ≡ roll_of block.sum → (firsts : List ℕ) → firsts ≡ members_of roll book.rolls lists
+      → (count start end : ℕ) → count ≡ blocks_at (length firsts) levels.First → start ≡ start_of count levels.First block.index → end ≡ end_of count levels.First block.index
+      → map (block_point block.sum levels.First) (range_with_len start (end - start)) ≡ sources_in (rolled_of book) (points.Block block)
+  second-beside is roll told firsts beside count start end own from until =
+      second-sources is count start end (own ∙ blocks-are book places lists are valid block.sum roll firsts beside told levels.First) from until
 
 -- of a figure that is reckoned from sums what is left of them
 pub both-pushed : (book : RolledSheet) (places : Numbered) (lists : Lists) (node : Node) (one two : Option Sum) → one ≡ first_sum node → two ≡ second_sum node

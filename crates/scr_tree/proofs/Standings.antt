@@ -103,17 +103,15 @@ reach-like graph P Q like n = (
 -- those of a record that is accepted
 pub taken-steps : (factors : FactorValues) (before after : RolledSheet) (edit : Edit) (list : List Point) → after.sheet ≡ applied edit before.sheet
     → AreRolled edit before after → ((point : Point) → Contains list point ↔ IsTouchedIn factors (rolled_of before) edit point)
-    → (workers old new : ℕ) → (workers ≡ 1 → StepsReach (rolled_of after) list old new)
-    → TakesSteps factors (rolled_of before) edit workers old new (Ok tt)
-taken-steps factors before after edit list sheet rolls told workers old new steps = record {
-  accepted = λ one.
-      let s = steps one in (
-        s.0,
-        count-like (IsInReach (book_graph (applied_in edit (rolled_of before))) (Contains list)) (IsReachedBy factors (rolled_of before) edit)
-            (reach-like (book_graph (applied_in edit (rolled_of before))) (Contains list) (IsTouchedIn factors (rolled_of before) edit) told) s.0
-            (subst (λ (book : Rolled). IsCountOf (IsInReach (book_graph book) (Contains list)) s.0)
-            (rolled-after before after edit sheet rolls) s.1),
-        s.2,
-      );
+    → (old new : ℕ) → StepsReach (rolled_of after) list old new → TakesSteps factors (rolled_of before) edit old new (Ok tt)
+taken-steps factors before after edit list sheet rolls told old new steps = record {
+  accepted = (
+    steps.0,
+    count-like (IsInReach (book_graph (applied_in edit (rolled_of before))) (Contains list)) (IsReachedBy factors (rolled_of before) edit)
+        (reach-like (book_graph (applied_in edit (rolled_of before))) (Contains list) (IsTouchedIn factors (rolled_of before) edit) told) steps.0
+        (subst (λ (book : Rolled). IsCountOf (IsInReach (book_graph book) (Contains list)) steps.0)
+        (rolled-after before after edit sheet rolls) steps.1),
+    steps.2,
+  );
   refused = λ fault e. absurd (cc);
 }

@@ -67,9 +67,7 @@ Refuses due (Err (refusals.Fault fault)) = due ≡ Some fault
 abbrev pub IsReachedBy : FactorValues → Rolled → Edit → Point → Type 0
 IsReachedBy factors book edit point = IsInReach (book_graph (applied_in edit book)) (IsTouchedIn factors book edit) point
 
--- Where one worker reckons, a record that is accepted takes as many steps as it reaches figures and Blocks. One that has a fault
--- takes none.
-pub record TakesSteps (factors : FactorValues) (book : Rolled) (edit : Edit) (workers before after : ℕ) (result : Result (Unit {0}) Refusal) : Type 0 where
-  pub accepted : OnOk result (workers ≡ 1
-      → (count : ℕ) × IsCountOf (IsReachedBy factors book edit) count × (after ≡ before + count))
+-- A record that is accepted takes as many steps as it reaches figures and Blocks. One that has a fault takes none.
+pub record TakesSteps (factors : FactorValues) (book : Rolled) (edit : Edit) (before after : ℕ) (result : Result (Unit {0}) Refusal) : Type 0 where
+  pub accepted : OnOk result ((count : ℕ) × IsCountOf (IsReachedBy factors book edit) count × (after ≡ before + count))
   pub refused : (fault : Fault) → result ≡ Err (refusals.Fault fault) → after ≡ before

@@ -109,8 +109,7 @@ pub(crate) fn take_up<R: Threads + Sync, G: Gate + Sync, L: Ledger>(
 ) -> Result<(), NoMemory>
     requires { IsRecorded footing.factors.now footing.book.now taken gone state.old }
     ensures ok { OnOk result (IsStateOf footing.entry.factors.now footing.entry.book.now state.new) }
-    ensures steps { OnOk result (crew.now.workers ≡ 1
-        → StepsReach (rolled_of footing.entry.book.now) taken.entry.touched.now steps.old steps.new) }
+    ensures steps { OnOk result (StepsReach (rolled_of footing.entry.book.now) taken.entry.touched.now steps.old steps.new) }
     ensures marks { OnOk result (state.new.marks.list ≡ []) }
     ensures err { OnErr result ((before : RolledSheet)
         → KeepsState footing.entry.factors.now before footing.entry.book.now taken.entry state.old state.new) }
@@ -149,8 +148,7 @@ fn move_and_change<R: Threads + Sync, G: Gate + Sync, L: Ledger>(
 ) -> Result<(), NoMemory>
     requires { IsFollowed footing.factors.now footing.book.now taken gone state.old }
     ensures ok { OnOk result (IsStateOf footing.entry.factors.now footing.entry.book.now state.new) }
-    ensures steps { OnOk result (crew.now.workers ≡ 1
-        → StepsReach (rolled_of footing.entry.book.now) taken.entry.touched.now steps.old steps.new) }
+    ensures steps { OnOk result (StepsReach (rolled_of footing.entry.book.now) taken.entry.touched.now steps.old steps.new) }
     ensures err { OnErr result (IsUndone state.old state.new) }
     ensures marks { state.new.marks.list ≡ [] }
 {
@@ -214,8 +212,7 @@ fn change<R: Threads + Sync, G: Gate + Sync, L: Ledger>(
 ) -> Result<(), NoMemory>
     requires { IsMoved footing.factors.now footing.book.now taken gone state.old }
     ensures ok { OnOk result (IsStateOf footing.entry.factors.now footing.entry.book.now state.new) }
-    ensures steps { OnOk result (crew.now.workers ≡ 1
-        → StepsReach (rolled_of footing.entry.book.now) taken.entry.touched.now steps.old steps.new) }
+    ensures steps { OnOk result (StepsReach (rolled_of footing.entry.book.now) taken.entry.touched.now steps.old steps.new) }
     ensures err { OnErr result (IsUnchanged state.old state.new) }
     ensures marks { state.new.marks.list ≡ [] }
 {
@@ -288,8 +285,7 @@ fn reckon_reached<R: Threads + Sync, G: Gate + Sync, L: Ledger>(
     requires { IsRelinkedFor footing.factors.now footing.book.now touched.now rates.now state.old }
     ensures settled { OnOk result (AreSettled (book_reckoning footing.entry.factors.now (rolled_of footing.entry.book.now))
         (StandsIn footing.entry.book.now state.old.places state.old.lists) state.new.figures) }
-    ensures steps { OnOk result (crew.now.workers ≡ 1
-        → StepsReach (rolled_of footing.entry.book.now) touched.now steps.old steps.new) }
+    ensures steps { OnOk result (StepsReach (rolled_of footing.entry.book.now) touched.now steps.old steps.new) }
     ensures ceiling { OnOk result (IsCeiling state.old.places state.new.figures state.new.scratch.ceiling) }
     ensures figures { OnErr result (state.new.figures ≡ state.old.figures) }
     ensures count { length state.new.figures ≡ length state.old.figures }
@@ -373,9 +369,10 @@ fn climb(graph: Graph<'_>, marks: &mut Marked, touched: &[Point]) -> Result<(), 
     Ok(())
 }
 
-/// Room for figures and marks of all numbers below the size.
+/// Room for figures and marks of all numbers below the size, and no more than there was or is asked for.
 fn make_room(figures: &mut Figures, marks: &mut Marked, size: u32) -> Result<(), NoMemory>
     ensures figures { OnOk result (size ≤ length figures.new) }
+    ensures most { (bound : ℕ) → length figures.old ≤ bound → size ≤ bound → length figures.new ≤ bound }
     ensures kept { (number : ℕ) → number < length figures.old
         → slice_get figures.new number ≡ slice_get figures.old number }
     ensures marks { OnOk result (size ≤ marks.new.size) }
@@ -434,7 +431,7 @@ fn keeps_rates(edit: &Edit) -> bool
     )
 }
 
-/// Room for the links of all these dues, between numbers below the size.
+/// Room for the links of all these dues, between numbers below the size, and no more than there was or is asked for.
 fn reserve(
     alloc: Global,
     links: &mut Links,
@@ -445,6 +442,7 @@ fn reserve(
     ensures edges { links.new.edges ≡ links.old.edges }
     ensures size { OnOk result (links.new.size ≡ max links.old.size size) }
     ensures spare { OnOk result (sources_count dues.now + sources_count former.now ≤ links.new.spare) }
+    ensures most { OnOk result (links.new.spare ≡ max links.old.spare (sources_count dues.now + sources_count former.now)) }
     ensures err { OnErr result (links.new ≡ links.old) }
 {
     let count = sum(count_of(dues)?, count_of(former)?)?;

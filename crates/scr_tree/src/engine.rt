@@ -99,9 +99,9 @@ impl Engine {
         }
     }
 
-    /// Applies a record and reckons the figures anew that depend on it, by so many workers, or refuses it exactly as the
-    /// book does; book and figures are then as before. The gate is passed before each evaluation. One worker takes a
-    /// step for each figure and each Block that the record reaches.
+    /// Applies a record and reckons the figures anew that depend on it, or refuses it exactly as the book does; book and figures are then
+    /// as before. The gate is passed before each evaluation. It takes a step for each figure and each Block that the record reaches. All
+    /// are reckoned on this thread: what several workers must tell each other of them takes longer.
     pub fn edit<R: Threads + Sync, G: Gate + Sync, L: Ledger>(
         &mut self,
         rt: &R,
@@ -116,7 +116,7 @@ impl Engine {
         ensures answer { Refuses (fault_of edit.now self.old.sheet) result }
         ensures ok { OnOk result (IsAfter edit.now self.old self.new) }
         ensures err { OnErr result (IsAsBefore self.old self.new) }
-        ensures steps { TakesSteps self.old.factors (book_of self.old) edit.now workers steps.old steps.new result }
+        ensures steps { TakesSteps self.old.factors (book_of self.old) edit.now steps.old steps.new result }
     {
         let touched = match touched_points(alloc, &self.book, edit) {
             Ok(touched) => touched,

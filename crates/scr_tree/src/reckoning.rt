@@ -25,7 +25,6 @@ use crate::order::{Order, Sorted};
 use crate::renewed::Rewritten;
 use crate::single::figure_at;
 use crate::sums::blocks_of;
-use crate::together::reckon_together;
 use scr_blocks::{Level, blocks_at};
 use scr_conc::Scale;
 use scr_io::{Gate, Steps};
@@ -35,10 +34,6 @@ use scr_rules::{concentration_scale, concentration_square};
 use scr_sums::{Block, Point, Sum};
 use std::alloc::{AllocError as NoMemory, Global};
 use std::sync::ledger::Ledger;
-use std::thread::Threads;
-
-/// So many figures that are reckoned from payments are worth several workers.
-const SHARED: u32 = 256;
 
 /// For the totals of groups a ceiling that is kept leaves so much of what is above no threshold, that it holds where the assets fall a little.
 const SLACK: u64 = 64;
@@ -109,62 +104,9 @@ impl Scratch {
     }
 }
 
-/// Reckons the points of an order in place, by several workers where that is sooner. One worker takes a step for each. Where
-/// memory is refused, all figures are as before.
-pub(crate) fn reckon_in_place<R: Threads + Sync, G: Gate + Sync, L: Ledger>(
-    crew: &Crew<'_, R, G>,
-    basis: Basis<'_>,
-    order: Order,
-    figures: &mut Figures,
-    scratch: &mut Scratch,
-    steps: &mut Steps<L>,
-) -> Result<(), NoMemory>
-    requires basis { IsBasis basis }
-    requires order { IsOrderOn basis order.numbers.items order.ends.items }
-    requires known { AreKnownBut basis figures.old order.numbers.items }
-    requires room { basis.places.now.size ≤ length figures.old }
-    requires ceiling { IsCeiling basis.places.now figures.old scratch.old.ceiling }
-    requires sums { basis.summed ≡ true → AreSumsOn basis figures.old }
-    ensures settled { OnOk result (AreSettledOn basis.entry figures.new) }
-    ensures ceiling { OnOk result (IsCeiling basis.entry.places.now figures.new scratch.new.ceiling) }
-    ensures count { length figures.new ≡ length figures.old }
-    ensures steps { OnOk result (crew.now.workers ≡ 1 → steps.new ≡ steps.old + length order.numbers.items) }
-    ensures err { OnErr result (figures.new ≡ figures.old) }
-{
-    if crew.workers == 1 || !are_many(basis.places, order.numbers.as_slice()) {
-        return reckon_in_turn(crew, basis, order, figures, scratch, steps);
-    }
-    scratch.ceiling = None;
-    reckon_together(crew, basis, order, figures)
-}
-
-/// Many of the figures are reckoned from payments, which takes the most time. All others cost less than to share them out.
-fn are_many(places: &Places, numbers: &[u32]) -> bool {
-    let mut wanted = SHARED;
-    for number in numbers {
-        if is_of_payments(places, *number) {
-            if wanted == 0 {
-                return true;
-            }
-            wanted -= 1;
-        }
-    }
-    false
-}
-
-fn is_of_payments(places: &Places, number: u32) -> bool {
-    match places.at(number) {
-        Some(place) => match place.table {
-            Table::Liability => true,
-            Table::Security => place.family == 1 || place.family == 2,
-            _ => false,
-        },
-        None => false,
-    }
-}
-
-/// By one worker, one after another.
-fn reckon_in_turn<R: Threads + Sync, G: Gate + Sync, L: Ledger>(
+/// Reckons the points of an order in place, one after another, and takes a step for each. Where memory is refused, all figures are as
+/// before.
+pub(crate) fn reckon_in_place<R, G: Gate, L: Ledger>(
     crew: &Crew<'_, R, G>,
     basis: Basis<'_>,
     order: Order,

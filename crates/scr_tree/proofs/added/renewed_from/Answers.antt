@@ -4,7 +4,7 @@ use Rattle.scr_tree.specs.Ready.{reckoning_on}
 use Rattle.scr_tree.specs.Renewed.{IsSumOf}
 use Rattle.scr_sums.specs.declared.point.Point.TheVariants as points
 use Rattle.scr_tree.proofs.AddedUp.{at-members, numbers-once, numbers-within, renewed-if, renewed-right}
-use Rattle.scr_tree.proofs.PointSources.{first-firsts, firsts-are}
+use Rattle.scr_tree.proofs.PointSources.{part-firsts}
 use Rattle.scr_tree.proofs.added.renewed_from.Goals as goal
 
 pub renewed-requires-clause-members : goal.renewed-requires-clause-members
@@ -12,9 +12,9 @@ renewed-requires-clause-members c =
     let b = c.args.basis in
     let block = c.args.block.now in
     let of = c.requires.basis.graph.numbers_of in
-    let all = firsts-are b.inputs.book.now b.places.now b.lists.now of c.requires.basis.valid block.sum (roll_of block.sum) c.args.members.now c.requires.members refl in
     numbers-within b c.requires.basis block c.requires.live c.requires.first c.member_family-family.result c.member_family-family.ensures c.part-own.result.now
-    (first-firsts b.inputs.book.now b.places.now b.lists.now of c.requires.basis.valid block c.requires.live c.args.members.now c.part-own.result.now c.part-own.ensures all)
+    (part-firsts b.inputs.book.now b.places.now b.lists.now of c.requires.basis.valid block c.requires.live (roll_of block.sum) refl c.args.members.now c.part-own.result.now c.requires.members
+    c.part-own.ensures)
     c.args.table.figures.now c.args.number c.requires.ready c.requires.at
 
 pub renewed-requires-clause-once : goal.renewed-requires-clause-once
@@ -22,31 +22,31 @@ renewed-requires-clause-once c =
     let b = c.args.basis in
     let block = c.args.block.now in
     let of = c.requires.basis.graph.numbers_of in
-    let all = firsts-are b.inputs.book.now b.places.now b.lists.now of c.requires.basis.valid block.sum (roll_of block.sum) c.args.members.now c.requires.members refl in
     numbers-once b c.requires.basis block c.requires.live c.requires.first c.member_family-family.result c.member_family-family.ensures c.part-own.result.now
-    (first-firsts b.inputs.book.now b.places.now b.lists.now of c.requires.basis.valid block c.requires.live c.args.members.now c.part-own.result.now c.part-own.ensures all)
+    (part-firsts b.inputs.book.now b.places.now b.lists.now of c.requires.basis.valid block c.requires.live (roll_of block.sum) refl c.args.members.now c.part-own.result.now c.requires.members
+    c.part-own.ensures)
 
 pub renewed-requires-clause-was : goal.renewed-requires-clause-was
 renewed-requires-clause-was c =
     let b = c.args.basis in
     let block = c.args.block.now in
     let of = c.requires.basis.graph.numbers_of in
-    let all = firsts-are b.inputs.book.now b.places.now b.lists.now of c.requires.basis.valid block.sum (roll_of block.sum) c.args.members.now c.requires.members refl in
     let family = c.member_family-family.result in
     let own = c.part-own.result.now in
     c.requires.sums c.if-not-basis.false block c.args.number (map (λ n. n + family) own) c.requires.live tt c.requires.at
     (at-members b c.requires.basis block c.requires.live c.requires.first family c.member_family-family.ensures own
-    (first-firsts b.inputs.book.now b.places.now b.lists.now of c.requires.basis.valid block c.requires.live c.args.members.now own c.part-own.ensures all))
+    (part-firsts b.inputs.book.now b.places.now b.lists.now of c.requires.basis.valid block c.requires.live (roll_of block.sum) refl c.args.members.now own c.requires.members
+    c.part-own.ensures))
 
 pub returns : goal.returns
 returns c =
     let b = c.args.basis in
     let block = c.args.block.now in
     let of = c.requires.basis.graph.numbers_of in
-    let all = firsts-are b.inputs.book.now b.places.now b.lists.now of c.requires.basis.valid block.sum (roll_of block.sum) c.args.members.now c.requires.members refl in
     let family = c.member_family-family.result in
     let own = c.part-own.result.now in
     renewed-if c.renewed.result (IsSumOf c.args.table.figures.now (map (λ n. n + family) own)) ((reckoning_on b).worth (points.Block block)) c.renewed.ensures
     (renewed-right b c.requires.basis block c.requires.live c.requires.first family c.member_family-family.ensures own
-    (first-firsts b.inputs.book.now b.places.now b.lists.now of c.requires.basis.valid block c.requires.live c.args.members.now own c.part-own.ensures all)
+    (part-firsts b.inputs.book.now b.places.now b.lists.now of c.requires.basis.valid block c.requires.live (roll_of block.sum) refl c.args.members.now own c.requires.members
+    c.part-own.ensures)
     c.args.table.figures.now c.args.number c.requires.ready c.requires.at)

@@ -1,4 +1,4 @@
-use Rattle.std.proofs.Common.{◌≡◌, arith}
+use Rattle.std.proofs.Common.{arith}
 use Rattle.scr_tree.proofs.TouchedBlocks.{block-found, no-block-at-all, no-block-more}
 use Rattle.scr_tree.proofs.edits.are_figures.Goals as goal
 

@@ -47,14 +47,14 @@ ordered-requires-clause-live g c = λ number h.
     (n.0, n.1, (n.2).live)
 
 pub reckon_in_place-requires-clause-basis : goal.reckon_in_place-requires-clause-basis
-reckon_in_place-requires-clause-basis g c κs within = record {
+reckon_in_place-requires-clause-basis g c = record {
   valid = c.requires.valid;
   graph = c.requires.graph;
   rates = c.new_or_kept.ensures ∙ c.requires.rates_after;
 }
 
 pub reckon_in_place-requires-clause-order : goal.reckon_in_place-requires-clause-order
-reckon_in_place-requires-clause-order g c κs within = (c.in_ok-order.ensures.0, c.in_ok-order.ensures.2)
+reckon_in_place-requires-clause-order g c = (c.in_ok-order.ensures.0, c.in_ok-order.ensures.2)
 
 pub place-requires : goal.place-requires
 place-requires g c =
@@ -66,7 +66,7 @@ place-requires g c =
     omega (arith, low, room, c.mark_starts.ensures.size, c.climb.ensures.size)
 
 pub reckon_in_place-requires-clause-known : goal.reckon_in_place-requires-clause-known
-reckon_in_place-requires-clause-known g c κs within =
+reckon_in_place-requires-clause-known g c =
     let book = c.args.footing.book.now in
     let state = c.args.state.now in
     let of = c.requires.graph.numbers_of in
@@ -80,7 +80,7 @@ reckon_in_place-requires-clause-known g c κs within =
     (book_reckoning c.args.footing.factors.now (rolled_of book)) state.figures c.requires.others
 
 pub reckon_in_place-requires-clause-sums : goal.reckon_in_place-requires-clause-sums
-reckon_in_place-requires-clause-sums g c κs within = λ figures block number numbers live all at ats.
+reckon_in_place-requires-clause-sums g c = λ figures block number numbers live all at ats.
     c.requires.blocks block number numbers live (c.are_figures.ensures.yes figures block) at ats
 
 pub returns-clause-steps : goal.returns-clause-steps
@@ -90,12 +90,12 @@ returns-clause-steps g c =
     let of = c.requires.graph.numbers_of in
     let marks = c.climb.new.marks.list in
     let reached = c.in_ok-order.ensures in
-    on-ok c.reckon_in_place.result _ _ (λ counted one. (
+    on-ok c.reckon_in_place.result _ _ (λ counted. (
       length c.in_ok-order.order.numbers.items,
       reach-counted book state.places state.lists c.args.touched.now of marks c.in_ok-climb.ensures.marked c.is_some-squares.result
           (λ yes. assets-found book state.places state.lists of marks c.place.result c.place.ensures.there (sym c.is_some-squares.ensures ∙ yes))
           (λ left. c.is_some-squares.ensures ∙ found-assets book state.places state.lists of marks c.place.result c.place.ensures.only left)
           reached.0 c.in_ok-order.order.numbers.items c.in_ok-order.order.ends.items
           (subst (λ (list : List ℕ). AreReached book state.places state.lists c.is_some-squares.result list reached.0) c.as_slice.ensures.list reached.1) reached.2,
-      counted one,
+      counted,
     )) c.reckon_in_place.ensures.steps

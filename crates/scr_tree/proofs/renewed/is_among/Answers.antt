@@ -1,4 +1,4 @@
-use Rattle.std.proofs.Common.{◌≡◌, ◌+◌, ◌-◌, nat_eq, ap, ◌∙◌, arith}
+use Rattle.std.proofs.Common.{◌-◌, nat_eq, ap, ◌∙◌, arith}
 use Rattle.std.specs.List.{list_any}
 use Rattle.std.proofs.lemmas.List.{take_all}
 use Rattle.scr_tree.proofs.RenewedSums.{among-none, among-not, among-yes}

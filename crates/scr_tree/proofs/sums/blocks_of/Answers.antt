@@ -1,4 +1,4 @@
-use Rattle.std.proofs.Common.{◌≡◌, ℕ, ◌<◌, ◌≤◌, ◌^◌, Some, refl, sym, subst, arith}
+use Rattle.std.proofs.Common.{◌≡◌, ◌<◌, ◌≤◌, ◌^◌, Some, refl, sym, subst, arith}
 use Rattle.scr_blocks.specs.declared.blocks.Level.TheVariants as levels
 use Rattle.scr_parts.specs.Parts.{AreOwn, Parted, slot_of}
 use Rattle.scr_sums.specs.BlockNumbers.{list_number, part_of, place_of}

@@ -1,12 +1,11 @@
 use Rattle.std.proofs.Common.{◌^◌, map, refl, sym, ap, subst, ◌∙◌, arith}
 use Rattle.std.specs.List.{list_any}
-use Rattle.scr_blocks.specs.declared.blocks.Level.TheVariants as levels
 use Rattle.scr_num.specs.Sizes.{AreTogether}
 use Rattle.scr_num.specs.Sums.{sum_ends}
 use Rattle.scr_sums.specs.declared.point.Point.TheVariants as points
 use Rattle.scr_tree.specs.Adding.{AreKnownAt, worked_of}
 use Rattle.scr_tree.specs.Ready.{reckoning_on}
-use Rattle.scr_tree.proofs.PointSources.{blocks-are, counted-are, second-sources}
+use Rattle.scr_tree.proofs.PointSources.{counted-are, second-beside}
 use Rattle.scr_tree.proofs.Spanned.{point-right}
 use Rattle.scr_tree.proofs.SumWorth.{block-small, block-sum}
 use Rattle.scr_tree.proofs.Topped.{sources-known}
@@ -29,11 +28,9 @@ add_blocks-requires-clause-known c =
     let b = c.args.basis in
     let of = c.requires.basis.graph.numbers_of in
     let block = c.args.block.now in
-    let told = blocks-are b.inputs.book.now b.places.now b.lists.now of c.requires.basis.valid block.sum c.roll.result c.members-members.result.now
-    c.members-members.ensures c.roll.ensures levels.First in
-    let below = second-sources b.inputs.book.now b.places.now b.lists.now of c.requires.basis.valid block c.requires.live c.requires.second
-    c.blocks_at-firsts.result c.places-among.result.start c.places-among.result.end (c.blocks_at-firsts.ensures ∙ told) c.places-among.ensures.start
-    c.places-among.ensures.end in
+    let below = second-beside b.inputs.book.now b.places.now b.lists.now of c.requires.basis.valid block c.requires.live c.requires.second c.roll.result c.roll.ensures
+    c.members-members.result.now c.members-members.ensures c.blocks_at-firsts.result c.places-among.result.start c.places-among.result.end c.blocks_at-firsts.ensures
+    c.places-among.ensures.start c.places-among.ensures.end in
     subst (AreKnownAt b c.args.figures.now) (sym below)
     (sources-known b c.requires.basis c.args.figures.now c.args.number c.requires.ready (points.Block block) c.requires.at)
 
@@ -42,11 +39,9 @@ add_blocks-requires-clause-together c =
     let b = c.args.basis in
     let of = c.requires.basis.graph.numbers_of in
     let block = c.args.block.now in
-    let told = blocks-are b.inputs.book.now b.places.now b.lists.now of c.requires.basis.valid block.sum c.roll.result c.members-members.result.now
-    c.members-members.ensures c.roll.ensures levels.First in
-    let below = second-sources b.inputs.book.now b.places.now b.lists.now of c.requires.basis.valid block c.requires.live c.requires.second
-    c.blocks_at-firsts.result c.places-among.result.start c.places-among.result.end (c.blocks_at-firsts.ensures ∙ told) c.places-among.ensures.start
-    c.places-among.ensures.end in
+    let below = second-beside b.inputs.book.now b.places.now b.lists.now of c.requires.basis.valid block c.requires.live c.requires.second c.roll.result c.roll.ensures
+    c.members-members.result.now c.members-members.ensures c.blocks_at-firsts.result c.places-among.result.start c.places-among.result.end c.blocks_at-firsts.ensures
+    c.places-among.ensures.start c.places-among.ensures.end in
     subst (AreTogether (2 ^ 124)) (sym (ap (map (worked_of b)) below))
     (block-small b.inputs.factors.now b.inputs.book.now c.requires.basis.valid (rolls-are b.inputs.book.now of.rolls) c.known.ensures block c.requires.live)
 
@@ -55,11 +50,9 @@ returns c =
     let b = c.args.basis in
     let of = c.requires.basis.graph.numbers_of in
     let block = c.args.block.now in
-    let told = blocks-are b.inputs.book.now b.places.now b.lists.now of c.requires.basis.valid block.sum c.roll.result c.members-members.result.now
-    c.members-members.ensures c.roll.ensures levels.First in
-    let below = second-sources b.inputs.book.now b.places.now b.lists.now of c.requires.basis.valid block c.requires.live c.requires.second
-    c.blocks_at-firsts.result c.places-among.result.start c.places-among.result.end (c.blocks_at-firsts.ensures ∙ told) c.places-among.ensures.start
-    c.places-among.ensures.end in
+    let below = second-beside b.inputs.book.now b.places.now b.lists.now of c.requires.basis.valid block c.requires.live c.requires.second c.roll.result c.roll.ensures
+    c.members-members.result.now c.members-members.ensures c.blocks_at-firsts.result c.places-among.result.start c.places-among.result.end c.blocks_at-firsts.ensures
+    c.places-among.ensures.start c.places-among.ensures.end in
     let close = c.add_blocks.ensures.close ∙ ap (λ ps. list_any (λ t. t) (map (λ p. ((reckoning_on b).worth p).close) ps)) below in
     point-right b c.requires.basis (points.Block block) c.add_blocks.result.span c.add_blocks.result.close c.add_blocks.result.close
     (c.add_blocks.ensures.span ∙ ap (λ ps. sum_ends (map (worked_of b) ps)) below

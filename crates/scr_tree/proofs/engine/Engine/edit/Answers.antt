@@ -90,12 +90,12 @@ returns-in-Ok-take_up-clause-ok g c =
 
 pub returns-in-Ok-take_up-clause-steps : goal.returns-in-Ok-take_up-clause-steps
 returns-in-Ok-take_up-clause-steps g c =
-    subst (λ (s : Standing). TakesSteps s.factors (book_of s) c.args.edit.now c.args.workers c.args.steps.now
+    subst (λ (s : Standing). TakesSteps s.factors (book_of s) c.args.edit.now c.args.steps.now
     c.take_up.new.steps (Ok tt)) c.self.view_is
     (taken-steps c.self.inside.factors c.self.inside.book c.apply_kept.new.self c.args.edit.now c.as_slice-2.result.now
     c.in-Ok-apply_kept.ensures.ok c.in-Ok-apply_kept.ensures.rolls
     (λ point. subst (λ points. Contains points point ↔ IsTouchedIn c.self.inside.factors (rolled_of c.self.inside.book) c.args.edit.now point)
-    (sym c.as_slice-2.ensures.value) (c.in-Ok.ensures.touched c.self.inside.factors point c.in-Ok-apply_kept.ensures.answer)) c.args.workers c.args.steps.now c.take_up.new.steps c.in-Ok-take_up.ensures.steps)
+    (sym c.as_slice-2.ensures.value) (c.in-Ok.ensures.touched c.self.inside.factors point c.in-Ok-apply_kept.ensures.answer)) c.args.steps.now c.take_up.new.steps c.in-Ok-take_up.ensures.steps)
 
 pub invariant_of-self-in-Err-take_up : goal.invariant_of-self-in-Err-take_up
 invariant_of-self-in-Err-take_up g c =

@@ -5,7 +5,7 @@ use Rattle.scr_nodes.proofs.Walks.{on_ok}
 use Rattle.scr_sums.specs.Books.{rolled_of}
 use Rattle.scr_sums.specs.Graph.{roll_in, sources_in}
 use Rattle.scr_sums.specs.declared.point.Point.TheVariants as points
-use Rattle.scr_tree.proofs.PointSources.{Pushed, below-live, blocks-are, counted-are, first-firsts, first-sources, firsts-are, members-few, members-pushed, second-sources}
+use Rattle.scr_tree.proofs.PointSources.{Pushed, below-live, blocks-are, counted-are, first-sources, members-few, members-pushed, part-firsts, second-beside}
 use Rattle.scr_tree.proofs.graph.Graph.push_below.Goals as goal
 
 pub push_members-requires : goal.push_members-requires
@@ -17,11 +17,11 @@ push_members-requires c =
     let block = c.args.block.now in
     let are = c.requires.numbers in
     let roll = roll_in (rolled_of book) block.sum in
-    let all = firsts-are book places lists are c.requires.valid block.sum c.roll.result c.members-members.result.now c.members-members.ensures c.roll.ensures in
     members-few book places lists are c.requires.valid block.sum c.member_family.result c.member_family.ensures (part block.index roll)
     (sources_in (rolled_of book) (points.Block block)) (first-sources book places lists are c.requires.valid block c.requires.live c.in-First.is)
     (below-live book places lists are c.requires.valid block c.requires.live) c.part-own.result.now
-    (first-firsts book places lists are c.requires.valid block c.requires.live c.members-members.result.now c.part-own.result.now c.part-own.ensures all)
+    (part-firsts book places lists are c.requires.valid block c.requires.live c.roll.result c.roll.ensures c.members-members.result.now c.part-own.result.now
+    c.members-members.ensures c.part-own.ensures)
     (omega (arith, c.len-size.ensures.size))
 
 pub returns-in-First : goal.returns-in-First
@@ -33,12 +33,12 @@ returns-in-First c =
     let block = c.args.block.now in
     let are = c.requires.numbers in
     let roll = roll_in (rolled_of book) block.sum in
-    let all = firsts-are book places lists are c.requires.valid block.sum c.roll.result c.members-members.result.now c.members-members.ensures c.roll.ensures in
     on_ok c.push_members.result _ (Pushed book places lists c.args.list.now.items c.push_members.new.list.items (sources_in (rolled_of book) (points.Block block)))
     (members-pushed book places lists are c.requires.valid block.sum c.member_family.result c.member_family.ensures (part block.index roll)
     (sources_in (rolled_of book) (points.Block block)) (first-sources book places lists are c.requires.valid block c.requires.live c.in-First.is)
     (below-live book places lists are c.requires.valid block c.requires.live) c.part-own.result.now c.args.list.now.items c.push_members.new.list.items
-    (first-firsts book places lists are c.requires.valid block c.requires.live c.members-members.result.now c.part-own.result.now c.part-own.ensures all))
+    (part-firsts book places lists are c.requires.valid block c.requires.live c.roll.result c.roll.ensures c.members-members.result.now c.part-own.result.now
+    c.members-members.ensures c.part-own.ensures))
     c.push_members.ensures
 
 pub push_blocks-requires-clause-count : goal.push_blocks-requires-clause-count
@@ -64,10 +64,9 @@ returns-in-Second c =
     let lists = numbers.lists.now in
     let block = c.args.block.now in
     let are = c.requires.numbers in
-    let told = blocks-are book places lists are c.requires.valid block.sum c.roll.result c.members-members.result.now c.members-members.ensures c.roll.ensures
-    levels.First in
     on_ok c.push_blocks.result _ (Pushed book places lists c.args.list.now.items c.push_blocks.new.list.items (sources_in (rolled_of book) (points.Block block)))
     (subst (Pushed book places lists c.args.list.now.items c.push_blocks.new.list.items)
-    (second-sources book places lists are c.requires.valid block c.requires.live c.in-Second.is c.blocks_at-firsts.result c.places-among.result.start
-    c.places-among.result.end (c.blocks_at-firsts.ensures ∙ told) c.places-among.ensures.start c.places-among.ensures.end))
+    (second-beside book places lists are c.requires.valid block c.requires.live c.in-Second.is c.roll.result c.roll.ensures c.members-members.result.now
+    c.members-members.ensures c.blocks_at-firsts.result c.places-among.result.start c.places-among.result.end c.blocks_at-firsts.ensures c.places-among.ensures.start
+    c.places-among.ensures.end))
     c.push_blocks.ensures

@@ -1,4 +1,4 @@
-use Rattle.std.proofs.Common.{◌≡◌, slice_get, ap, sym, ◌∙◌, arith}
+use Rattle.std.proofs.Common.{slice_get, ap, ◌∙◌, arith}
 use Rattle.scr_tree.proofs.RenewedSums.{since-all, stood-here, stood-later}
 use Rattle.scr_tree.proofs.renewed.Rewritten.figure_before.Goals as goal
 

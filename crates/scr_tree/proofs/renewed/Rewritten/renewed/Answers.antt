@@ -1,4 +1,4 @@
-use Rattle.std.proofs.Common.{◌≡◌, ◌<◌, false, length, pos, ap, sym, ◌∙◌, arith}
+use Rattle.std.proofs.Common.{false, pos, ap, sym, ◌∙◌, arith}
 use Rattle.std.specs.Option.{option_map_or}
 use Rattle.scr_num.specs.Rounding.{ends, exact_ends}
 use Rattle.scr_subtotals.specs.declared.figure.Figure.{Figure}

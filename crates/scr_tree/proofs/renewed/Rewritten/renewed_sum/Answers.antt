@@ -1,7 +1,6 @@
-use Rattle.std.proofs.Common.{rules, ◌≡◌, ◌+◌, ◌<◌, FitsSigned, get_or, length, refl, ap, sym, subst, ◌∙◌, arith}
+use Rattle.std.proofs.Common.{rules, ◌+◌, ◌<◌, FitsSigned, get_or, length, subst, ◌∙◌, arith}
 use mir.Syntax.{w128}
 use Rattle.std.proofs.lemmas.Int.{to_z-of_z}
-use Rattle.scr_num.specs.Rounding.{Ends, ends}
 use Rattle.scr_tree.specs.Renewed.{family_numbers}
 use Rattle.scr_tree.proofs.RenewedSums.{all-over, all-settled, moved-over, passed-over, sides-ordered, taken-over}
 use Rattle.scr_tree.proofs.renewed.Rewritten.renewed_sum.Goals.{then-is_among+else-now+in_ok-low+in_ok-high, else-is_among}
