@@ -1,17 +1,29 @@
 -- The numbers of what is left of the first reckoning, listed one after another.
-use Rattle.std.proofs.Common.{◌≡◌, ◌⊎◌, inl, inr, ℕ, ◌+◌, ◌<◌, ◌++◌, true, false, nat_eq, List, [], ◌∷◌, Contains, sym, subst, ◌∙◌, arith}
+use Rattle.std.proofs.Common.{◌≡◌, ◌⊎◌, inl, inr, ℕ, ◌+◌, ◌<◌, ◌++◌, true, false, nat_eq, List, [], ◌∷◌, Contains, refl, sym, ap, subst, ◌∙◌, arith}
 use Rattle.std.specs.List.{IsDistinct}
 use Rattle.std.proofs.lemmas.Bool.{eqb-true, eq-eqb}
+use Rattle.scr_figures.specs.Families.{whole_family}
+use Rattle.scr_figures.specs.Numbers.{IsNumbered, StandsAt}
 use Rattle.scr_names.proofs.TableRows.{passes_or_fails}
+use Rattle.scr_nodes.specs.Live.{is_live}
+use Rattle.scr_nodes.specs.declared.node.Node.TheVariants as nodes
+use Rattle.scr_nodes.specs.declared.node.Whole.{Whole}
+use Rattle.scr_nodes.specs.declared.node.Whole.TheVariants as wholes
+use Rattle.scr_numbers.specs.Ranges.{Numbered, count, first}
+use Rattle.scr_numbers.specs.declared.table.Table.TheVariants as tables
+use Rattle.scr_sheet.specs.declared.sheet.BalanceSheet.{BalanceSheet}
 use Rattle.scr_funds.proofs.Members.{IsMember, Contains-from_IsMember, IsMember-from_Contains, IsMember-left, IsMember-right, IsMember-cases}
 use Rattle.scr_reach.specs.Dues.{IsLiveAt}
 use Rattle.scr_sums.specs.Books.{rolled_of}
 use Rattle.scr_sums.specs.Graph.{is_live_in}
 use Rattle.scr_sums.specs.declared.point.Point.{Point}
-use Rattle.scr_tree.specs.Left.{AreLeft, IsLeftAt, is_left}
+use Rattle.scr_sums.specs.declared.point.Point.TheVariants as points
+use Rattle.scr_tree.specs.Left.{AreLeft, IsLeftAt, is_after_rows, is_left}
 use Rattle.scr_tree.specs.Points.{AreNumbersOf, StandsIn, book_graph}
+use Rattle.scr_tree.specs.Turns.{stage_of}
 use Rattle.scr_tree.specs.declared.graph.Numbers.{Numbers}
 use Rattle.scr_tree.proofs.Sorting.{distinct-last, none-distinct}
+use Rattle.scr_tree.proofs.Turns.{whole-last}
 
 -- what is left lives
 pub live-left : (numbers : Numbers) (number : ℕ) → IsLeftAt numbers number
@@ -22,6 +34,23 @@ live-left numbers number left = (left.0, left.1, left.2)
 abbrev HasNoneLeft : Numbers → ℕ → Type 0
 HasNoneLeft numbers number = (point : Point) → StandsIn numbers.book.now numbers.places.now numbers.lists.now point number
     → is_live_in (rolled_of numbers.book.now) point ≡ true → is_left point ≡ false
+
+-- a figure of the whole sheet has its family as its number, and the assets of which concentrations are measured have the last one
+after-rows : (what : Whole) → is_after_rows what ≡ true → stage_of (nodes.Whole what) ≡ 7
+after-rows wholes.Assets after = absurd (let clash : false ≡ true = after in cc)
+after-rows what after = refl
+
+first-number : (sheet : BalanceSheet) (places : Numbered) → IsNumbered sheet places → (what : Whole) (number : ℕ)
+    → StandsAt sheet places (nodes.Whole what) number → is_live sheet (nodes.Whole what) ≡ true → is_after_rows what ≡ true → number < 153
+first-number sheet places numbered what number at live after =
+    let rows : count places tables.Whole ≡ 1 = numbered.rows tables.Whole refl in
+    let row = at.at.row in
+    let only : at.k ≡ 0 = omega (arith, rows, row) in
+    let from = ap (first places tables.Whole) only in
+    let start = numbered.whole in
+    let is = at.at.is in
+    let low : whole_family what < 153 = whole-last sheet places numbered what live (after-rows what after) in
+    omega (arith, from, start, is, low)
 
 -- just the numbers below the end of what is left are listed, each once
 pub record AreLeftBelow (numbers : Numbers) (end : ℕ) (list : List ℕ) : Type 0 where
@@ -107,14 +136,22 @@ module _ (numbers : Numbers) where
             in-now m (IsMember-left list (number ∷ []) m (IsMember-from_Contains list m (so.all point m low at live left)))
         all point m at live left (inr same) = in-now m (IsMember-right list (number ∷ []) m (inl same))
 
-  -- no point has a number past their count
-  pub below-all : AreNumbersOf numbers.book.now numbers.places.now numbers.lists.now → (end : ℕ) → numbers.places.now.size ≡ end
-      → (list : List ℕ) → AreLeftBelow numbers end list → AreLeft numbers list
-  below-all are end size list so = record {
+  -- the others have later numbers
+  pub below-all : AreNumbersOf numbers.book.now numbers.places.now numbers.lists.now → (list : List ℕ) → AreLeftBelow numbers 153 list
+      → AreLeft numbers list
+  below-all are list so = record {
     once = so.once;
     each = λ number has. (so.each number has).1;
-    all = λ point number at live left.
-        let within = are.numbers.within point number at in
-        let low : number < end = omega (arith, within, size) in
-        so.all point number low at live left;
+    all = λ point number at live left. so.all point number (early point number at live left) at live left;
   }
+    where
+      early : (point : Point) (number : ℕ) → StandsIn numbers.book.now numbers.places.now numbers.lists.now point number
+          → is_live_in (rolled_of numbers.book.now) point ≡ true → is_left point ≡ true → number < 153
+      early (points.Figure (nodes.Whole what)) number at live left =
+          first-number numbers.book.now.sheet numbers.places.now are.numbered what number at live left
+      early (points.Figure (nodes.Fund name what)) number at live left = absurd (let clash : false ≡ true = left in cc)
+      early (points.Figure (nodes.Security name what)) number at live left = absurd (let clash : false ≡ true = left in cc)
+      early (points.Figure (nodes.Liability name what)) number at live left = absurd (let clash : false ≡ true = left in cc)
+      early (points.Figure (nodes.Group name what)) number at live left = absurd (let clash : false ≡ true = left in cc)
+      early (points.Figure (nodes.Currency name what)) number at live left = absurd (let clash : false ≡ true = left in cc)
+      early (points.Block block) number at live left = absurd (let clash : false ≡ true = left in cc)

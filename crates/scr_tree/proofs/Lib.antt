@@ -90,4 +90,5 @@ pub mod AddedUp
 pub mod SquareTurns
 pub mod WholeNumbers
 pub mod WholeRead
+pub mod WholesMade
 pub mod Topped

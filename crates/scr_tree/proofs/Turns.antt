@@ -267,7 +267,7 @@ stage-of-whole wholes.Assets l = absurd (omega (arith, l))
 stage-of-whole what l = refl
 
 module _ (sheet : BalanceSheet) (places : Numbered) (numbered : IsNumbered sheet places) where
-  whole-last : (what : Whole) → is_live sheet (nodes.Whole what) ≡ true → stage_of (nodes.Whole what) ≡ 7
+  pub whole-last : (what : Whole) → is_live sheet (nodes.Whole what) ≡ true → stage_of (nodes.Whole what) ≡ 7
       → whole_family what < 153
   whole-last what live e =
       let few : whole_family what < 154 = family-within sheet places numbered (nodes.Whole what) live in

@@ -1,5 +1,6 @@
 -- What the first reckoning of all figures has made (this project's own).
-use Rattle.std.specs.Prelude.{◌≡◌, ◌⊎◌, ℕ, ◌<◌, ◌≤◌, ◌++◌, true, false, All, Contains, List, Some, length, map, nat_eq, slice_get}
+use Rattle.std.specs.Prelude.{◌≡◌, ◌⊎◌, ℕ, ◌<◌, ◌≤◌, ◌++◌, true, false, All, Contains, IfSome, List, Some, length, map, nat_eq, slice_get}
+use Rattle.scr_discounts.specs.KeptRates.{all_rates, known_of}
 use Rattle.scr_factors.specs.Values.{FactorValues, IsInForm}
 use Rattle.scr_figures.specs.Numbers.{IsNumbered, StandsAt}
 use Rattle.scr_figures.specs.Gathered.{AreMembersOf}
@@ -19,13 +20,14 @@ use Rattle.scr_tree.specs.Figures.{AreKnownOf, AreSettled, reckoning_of, worth_a
 use Rattle.scr_tree.specs.Inputs.{AreOfBook}
 use Rattle.scr_tree.specs.Turns.{IsBefore, Turn, turn}
 use Rattle.scr_subtotals.specs.declared.figure.Figure.{Figure}
-use Rattle.scr_tree.specs.declared.first.Gathered.{Gathered}
+use Rattle.scr_tree.specs.declared.first.{Found.Found, Gathered.Gathered, Numbering.Numbering}
 use Rattle.scr_tree.specs.declared.graph.Numbers.{Numbers}
 use Rattle.scr_tree.specs.declared.making.Ground.{Ground}
 use Rattle.scr_tree.specs.declared.making.LinkGround.{LinkGround}
 use Rattle.scr_tree.specs.declared.making.Made.{Made}
 use Rattle.scr_tree.specs.Graphs.{graph_of}
 use Rattle.scr_book.specs.RolledSheets.{RolledSheet}
+use Rattle.scr_lists.specs.Lists.{AreListsOf}
 use Rattle.scr_lists.specs.declared.lists.Lists.{Lists}
 use Rattle.scr_sums.specs.Books.{rolled_of}
 use Rattle.scr_sums.specs.Graph.{Rolled, member_point, roll_in}
@@ -206,3 +208,21 @@ pub record KeepsOffBlocks (ground : Ground) (P : Sum → Type 0) (before now : L
 pub record IsGathered (sheet : BalanceSheet) (gathered : Gathered) : Type 0 where
   pub members : AreMembersOf sheet gathered.members
   pub totals : gathered.totals.items ≡ totals_of sheet
+
+-- each row of the book has its numbers, and its lists have theirs
+pub record AreNumbered (book : RolledSheet) (numbering : Numbering) : Type 0 where
+  pub rows : IsNumbered book.sheet numbering.places
+  pub lists : AreListsOf book numbering.places numbering.lists
+
+-- the totals of funds and securities are linked
+pub record AreTotalsLinked (sheet : BalanceSheet) (places : Numbered) (links : Linked) : Type 0 where
+  pub size : links.size ≤ places.size
+  pub linked : AreLinkedOf (graph_of sheet) (StandsAt sheet places) links.edges (IsLinkedBefore sheet (turn 2 0 0))
+
+-- all that is found is the book's
+pub record IsFound (book : RolledSheet) (found : Found) : Type 0 where
+  pub rates : known_of found.rates ≡ all_rates book.sheet
+  pub losses : AreLossesOf book.sheet found.losses
+  pub numbering : AreNumbered book found.numbering
+  pub gathered : IsGathered book.sheet found.gathered
+  pub links : IfSome found.links (AreTotalsLinked book.sheet found.numbering.places)

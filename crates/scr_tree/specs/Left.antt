@@ -1,4 +1,4 @@
--- What is left of the first reckoning once the rows are reckoned (this project's own).
+-- What is left of the first reckoning once rows, currencies and Blocks are reckoned (this project's own).
 use Rattle.std.specs.Prelude.{◌≡◌, ℕ, Bool, true, false, Contains, List, nat_eq}
 use Rattle.std.specs.List.{IsDistinct}
 use Rattle.scr_nodes.specs.declared.node.Node.TheVariants as nodes
@@ -8,8 +8,6 @@ use Rattle.scr_sums.specs.Books.{rolled_of}
 use Rattle.scr_sums.specs.Graph.{is_live_in}
 use Rattle.scr_sums.specs.declared.point.Point.{Point}
 use Rattle.scr_sums.specs.declared.point.Point.TheVariants as points
-use Rattle.scr_sums.specs.declared.sum.Sum.{Sum}
-use Rattle.scr_sums.specs.declared.sum.Sum.TheVariants as sums
 use Rattle.scr_tree.specs.Points.{StandsIn}
 use Rattle.scr_tree.specs.declared.graph.Numbers.{Numbers}
 
@@ -17,17 +15,10 @@ abbrev pub is_after_rows : Whole → Bool
 is_after_rows wholes.Assets = false
 is_after_rows what = true
 
-abbrev pub is_sum_after_rows : Sum → Bool
-is_sum_after_rows sums.Grouped = false
-is_sum_after_rows sum = true
-
--- The figures of currencies and of the whole sheet, and the Blocks: all but the assets of which concentrations are measured, and the Blocks
--- under them, which the rows of groups are reckoned from.
+-- The figures of the whole sheet, but the assets of which concentrations are measured, from which the rows of groups are reckoned.
 abbrev pub is_left : Point → Bool
-is_left (points.Block block) = is_sum_after_rows block.sum
 is_left (points.Figure (nodes.Whole what)) = is_after_rows what
-is_left (points.Figure (nodes.Currency currency what)) = true
-is_left (points.Figure node) = false
+is_left point = false
 
 -- a point that is left, and that the book has, stands at the number
 abbrev pub IsLeftAt : Numbers → ℕ → Type 0

@@ -1,10 +1,10 @@
 //! The figures of a book, all reckoned for the first time: totals, rows, and then the large sums with their Blocks and all that is
 //! reckoned from them in its order. Several workers share out the rows.
-ghost use Rattle.std.specs.Prelude.{◌≡◌, ◌+◌, ◌<◌, length, IfOk, OnOk};
+ghost use Rattle.std.specs.Prelude.{◌≡◌, ◌+◌, ◌<◌, length, IfOk, IfSome, OnOk};
 ghost use Rattle.scr_discounts.specs.KeptRates.{all_rates, known_of};
-ghost use Rattle.scr_factors.specs.Values.{IsInForm};
 ghost use Rattle.scr_pieces.specs.Rows.{rows_from};
-ghost use Rattle.scr_tree.specs.First.{AreDoneTo, AreGroupsDone, AreReckonedTo, AreRowsDone, IsDone, IsGathered, IsGround, IsWhole, totals_of};
+ghost use Rattle.scr_rules.specs.GroupLosses.{AreLossesOf};
+ghost use Rattle.scr_tree.specs.First.{AreDoneTo, AreGroupsDone, AreNumbered, AreReckonedTo, AreRowsDone, AreTotalsLinked, IsDone, IsFound, IsGathered, IsGround, IsWhole, totals_of};
 ghost use Rattle.scr_tree.specs.Opened.{IsOpened};
 ghost use Rattle.scr_tree.specs.RowSpans.{IsRowGround, row_count};
 ghost use Rattle.scr_tree.specs.Turns.{turn};
@@ -14,11 +14,11 @@ use crate::basis::Crew;
 use crate::figures::{Below, Figures, Inputs, no_figures};
 use crate::first_links::{ASSETS, OF_CURRENCY, WHOLES, links_of_totals};
 use crate::first_parts::{write_parts, write_row};
-use crate::first_totals::{enter_totals, pass_totals};
+use crate::first_totals::enter_totals;
 use crate::left::put_left;
-use crate::making::{Ground, Made, Making, put_found, put_live, put_summed};
+use crate::making::{Ground, LinkGround, Made, Making, put_found, put_live, put_summed};
+use crate::passes::pass_found;
 use crate::row_spans::RowGround;
-use crate::sums::pass_blocks;
 use scr_book::Book;
 use scr_factors::Factors;
 use scr_figures::gathered::{Members, members_of};
@@ -30,7 +30,7 @@ use scr_nodes::{Node, Whole};
 use scr_num::Span;
 use scr_numbers::Places;
 use scr_pieces::{RowPlan, Sort, reckon_rows};
-use scr_rules::{Rates, group_losses, rates};
+use scr_rules::{GroupLosses, Rates, group_losses, rates};
 use scr_sums::Sum;
 use scr_totals::totals;
 use std::alloc::{AllocError as NoMemory, Global};
@@ -56,6 +56,23 @@ struct Gathered {
     totals: Vec<u64>,
 }
 
+/// The numbers of all figures, and the lists of members.
+#[derive(Drop)]
+struct Numbering {
+    places: Places,
+    lists: Lists,
+}
+
+/// What is found before any figure is reckoned; with the links of totals, where several workers are to reckon.
+#[derive(Drop)]
+struct Found {
+    rates: Rates,
+    losses: GroupLosses,
+    numbering: Numbering,
+    gathered: Gathered,
+    links: Option<Links>,
+}
+
 /// All figures of a book with their links. The gate is passed before each evaluation. Only want of memory is refused.
 pub(crate) fn reckon_all<R: Threads + Sync, G: Gate + Sync>(
     crew: &Crew<'_, R, G>,
@@ -66,15 +83,21 @@ pub(crate) fn reckon_all<R: Threads + Sync, G: Gate + Sync>(
 {
     let alloc = crew.alloc;
     factors.known();
-    let mut places = places_of(alloc, book.sheet())?;
-    let lists = lists_of(alloc, book, &mut places)?;
-    // No number is that of two rows, no slot that of two parts, and the lists are those of the rows.
+    let found = found_beside(crew, factors, book)?;
+    let Found {
+        rates,
+        losses,
+        numbering,
+        gathered,
+        links,
+    } = found;
+    let Numbering { places, lists } = numbering;
+    let Gathered { members, totals } = gathered;
+    // The sheet is valid, no number is that of two rows, no slot that of two parts, and the lists are those of the rows.
+    book.sheet();
     places.len();
     lists.parts().len();
     book.group_seats();
-    let (rates, gathered) = rates_beside(crew, factors, book)?;
-    let Gathered { members, totals } = gathered;
-    let losses = group_losses(alloc, book)?;
     let ground = Ground {
         alloc,
         inputs: Inputs {
@@ -87,7 +110,7 @@ pub(crate) fn reckon_all<R: Threads + Sync, G: Gate + Sync>(
         members: &members,
         losses: &losses,
     };
-    let made = make_all::<R, G, Brand>(crew, ground, totals, Blank::new(1))?;
+    let made = make_all::<R, G, Brand>(crew, ground, totals, links, Blank::new(1))?;
     Ok(Opened {
         rates,
         places,
@@ -97,31 +120,98 @@ pub(crate) fn reckon_all<R: Threads + Sync, G: Gate + Sync>(
     })
 }
 
-/// The rates, by several workers beside the totals.
-fn rates_beside<R: Threads + Sync, G: Gate + Sync>(
+/// What is found before any figure is reckoned: by several workers rates and losses beside all others. By one the links come later, when
+/// nothing takes the totals in cents any more.
+fn found_beside<R: Threads + Sync, G: Gate + Sync>(
     crew: &Crew<'_, R, G>,
     factors: &Factors,
     book: &Book,
-) -> Result<(Rates, Gathered), NoMemory>
-    requires { IsInForm factors.now }
-    ensures rates { IfOk result (λ all. known_of all.0 ≡ all_rates book.now.sheet) }
-    ensures gathered { IfOk result (λ all. IsGathered book.now.sheet all.1) }
+) -> Result<Found, NoMemory>
+    ensures { IfOk result (IsFound book.now) }
 {
     let alloc = crew.alloc;
     if crew.workers == 1 {
-        let known = rates(alloc, factors, book)?;
-        return Ok((known, gather_all(alloc, book)?));
+        return found_in_turn(alloc, factors, book);
     }
-    let working = move || -> Result<Rates, NoMemory>
-        ensures { IfOk result (λ rates. known_of rates ≡ all_rates book.entry.now.sheet) }
-    { rates(alloc, factors, book) };
-    let gathering = move || -> Result<Gathered, NoMemory>
-        ensures { IfOk result (IsGathered book.entry.now.sheet) }
-    { gather_all(alloc, book) };
-    let (rates, gathered) = join(crew.rt, working, gathering);
-    let rates = rates?;
-    let gathered = gathered?;
-    Ok((rates, gathered))
+    let pricing = move || -> Result<(Rates, GroupLosses), NoMemory>
+        ensures rates { IfOk result (λ all. known_of all.0 ≡ all_rates book.entry.now.sheet) }
+        ensures losses { IfOk result (λ all. AreLossesOf book.entry.now.sheet all.1) }
+    { rates_and_losses(alloc, factors, book) };
+    let linking = move || -> Result<(Numbering, Gathered, Links), NoMemory>
+        ensures numbering { IfOk result (λ all. AreNumbered book.entry.now all.0) }
+        ensures gathered { IfOk result (λ all. IsGathered book.entry.now.sheet all.1) }
+        ensures links { IfOk result (λ all. AreTotalsLinked book.entry.now.sheet all.0.places all.2) }
+    { linked_rows(alloc, book) };
+    let (priced, rows) = join(crew.rt, pricing, linking);
+    let (rates, losses) = priced?;
+    let (numbering, gathered, links) = rows?;
+    Ok(Found {
+        rates,
+        losses,
+        numbering,
+        gathered,
+        links: Some(links),
+    })
+}
+
+fn found_in_turn(alloc: Global, factors: &Factors, book: &Book) -> Result<Found, NoMemory>
+    ensures { IfOk result (IsFound book.now) }
+{
+    let numbering = numbering_of(alloc, book)?;
+    let rates = rates(alloc, factors, book)?;
+    let gathered = gather_all(alloc, book)?;
+    let losses = group_losses(alloc, book)?;
+    Ok(Found {
+        rates,
+        losses,
+        numbering,
+        gathered,
+        links: None,
+    })
+}
+
+/// The rates and the losses of groups.
+fn rates_and_losses(
+    alloc: Global,
+    factors: &Factors,
+    book: &Book,
+) -> Result<(Rates, GroupLosses), NoMemory>
+    ensures rates { IfOk result (λ all. known_of all.0 ≡ all_rates book.now.sheet) }
+    ensures losses { IfOk result (λ all. AreLossesOf book.now.sheet all.1) }
+{
+    let known = rates(alloc, factors, book)?;
+    let losses = group_losses(alloc, book)?;
+    Ok((known, losses))
+}
+
+/// All that the links of totals are made from, with these links.
+fn linked_rows(alloc: Global, book: &Book) -> Result<(Numbering, Gathered, Links), NoMemory>
+    ensures numbering { IfOk result (λ all. AreNumbered book.now all.0) }
+    ensures gathered { IfOk result (λ all. IsGathered book.now.sheet all.1) }
+    ensures links { IfOk result (λ all. AreTotalsLinked book.now.sheet all.0.places all.2) }
+{
+    let numbering = numbering_of(alloc, book)?;
+    let gathered = gather_all(alloc, book)?;
+    // The sheet is valid, and no number is that of two rows.
+    book.sheet();
+    numbering.places.len();
+    let ground = LinkGround {
+        alloc,
+        book,
+        places: &numbering.places,
+        members: &gathered.members,
+    };
+    let links = links_of_totals(ground)?;
+    Ok((numbering, gathered, links))
+}
+
+/// The numbers of all figures, and the lists of members with those of their parts.
+fn numbering_of(alloc: Global, book: &Book) -> Result<Numbering, NoMemory>
+    ensures { IfOk result (AreNumbered book.now) }
+{
+    let mut places = places_of(alloc, book.sheet())?;
+    let lists = lists_of(alloc, book, &mut places)?;
+    Ok(Numbering { places, lists })
 }
 
 /// The totals come first, so that the rows take the room of all that they are found by.
@@ -133,11 +223,12 @@ fn gather_all(alloc: Global, book: &Book) -> Result<Gathered, NoMemory>
     Ok(Gathered { members, totals })
 }
 
-/// All figures, each after those that it is reckoned from.
+/// All figures, each after those that it is reckoned from: by several workers where the links of totals are made.
 fn make_all<R: Threads + Sync, G: Gate + Sync, L: Ledger>(
     crew: &Crew<'_, R, G>,
     ground: Ground<'_>,
     totals: Vec<u64>,
+    links: Option<Links>,
     blank: Blank,
 ) -> Result<Made, NoMemory>
     requires name { blank.name ≡ L.name }
@@ -145,13 +236,13 @@ fn make_all<R: Threads + Sync, G: Gate + Sync, L: Ledger>(
     requires some { 0 < blank.parts }
     requires ground { IsGround ground }
     requires totals { totals.items ≡ totals_of ground.inputs.book.now.sheet }
+    requires links { IfSome links (AreTotalsLinked ground.inputs.book.now.sheet ground.places.now) }
     ensures { IfOk result (IsWhole ground.entry) }
 {
     let mut steps = Steps::<L>::new(blank);
-    if crew.workers == 1 {
-        put_in_turn(ground, totals, crew.gate, &mut steps)
-    } else {
-        put_together(crew, ground, totals, &mut steps)
+    match links {
+        Some(links) => put_together(crew, ground, totals, links, &mut steps),
+        None => put_in_turn(ground, totals, crew.gate, &mut steps),
     }
 }
 
@@ -180,16 +271,18 @@ fn put_in_turn<G: Gate, L: Ledger>(
     Ok(making.made)
 }
 
-/// All figures by several workers: rows in pieces, and then all others, each as soon as those of its sources are known. What was found
-/// beforehand passes the gate when all workers are done.
+/// All figures by several workers: rows in pieces, those of currencies and all Blocks one after another, and then those of the whole sheet, each
+/// as soon as those of its sources are known. What was found on one thread passes the gate when all workers are done.
 fn put_together<R: Threads + Sync, G: Gate + Sync, L: Ledger>(
     crew: &Crew<'_, R, G>,
     ground: Ground<'_>,
     totals: Vec<u64>,
+    links: Links,
     steps: &mut Steps<L>,
 ) -> Result<Made, NoMemory>
     requires ground { IsGround ground }
     requires totals { totals.items ≡ totals_of ground.inputs.book.now.sheet }
+    requires links { AreTotalsLinked ground.inputs.book.now.sheet ground.places.now links }
     ensures { IfOk result (IsWhole ground.entry) }
 {
     let mut figures = no_figures(ground.alloc, ground.places.len())?;
@@ -197,12 +290,12 @@ fn put_together<R: Threads + Sync, G: Gate + Sync, L: Ledger>(
     put_assets(ground, &mut figures, &OpenGate, steps);
     put_by_pieces(crew, ground, totals.as_slice(), &mut figures)?;
     drop(totals);
-    let links = links_of_totals(ground.for_links())?;
-    let mut made = Made { figures, links };
-    put_left(crew, ground, &mut made)?;
-    pass_totals(ground, crew.gate);
-    pass_assets(ground, crew.gate);
-    Ok(made)
+    let mut making = making_of(ground.alloc, Made { figures, links });
+    put_groups(ground, &mut making.made, &OpenGate);
+    put_currencies(ground, &mut making, &OpenGate, steps)?;
+    put_left(crew, ground, &mut making.made)?;
+    pass_found(ground, crew.gate);
+    Ok(making.made)
 }
 
 /// What is made, with no room yet for what one figure is reckoned from.
@@ -231,14 +324,6 @@ fn put_assets<G: Gate, L: Ledger>(
     ensures { AreDoneTo ground.entry figures.new (turn 3 0 0) (turn 3 0 0) }
 {
     put_summed(ground, figures, &Node::Whole(Whole::Assets), 0, gate, steps)
-}
-
-/// Passes the gate for the assets, and for the Blocks under them.
-fn pass_assets<G: Gate>(ground: Ground<'_>, gate: &G)
-    requires { IsGround ground }
-{
-    pass_blocks(ground.numbers(), &Sum::Grouped, gate);
-    gate.pass(ASSETS);
 }
 
 fn row_ground<'a>(ground: Ground<'a>, totals: &'a [u64], figures: &Figures) -> RowGround<'a>

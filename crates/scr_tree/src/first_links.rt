@@ -1,5 +1,5 @@
 //! The links between the numbers of the totals of funds and securities.
-ghost use Rattle.std.specs.Prelude.{◌≡◌, ◌+◌, ◌<◌, ◌≤◌, [], true, Some, length, slice_get, IfOk, OnOk};
+ghost use Rattle.std.specs.Prelude.{◌≡◌, ◌<◌, ◌≤◌, [], true, Some, length, slice_get, IfOk, OnOk};
 ghost use Rattle.std.specs.List.{list_any};
 ghost use Rattle.scr_figures.specs.Families.{name_of, table_of};
 ghost use Rattle.scr_figures.specs.Numbers.{names_in};
@@ -12,7 +12,7 @@ ghost use Rattle.scr_tree.specs.Turns.{next, turn, turn_of};
 
 use crate::graph::is_linked;
 use crate::making::{LinkGround, gather_linked, make_room, number_at};
-use scr_figures::{currency_at, whole_at};
+use scr_figures::whole_at;
 use scr_links::Links;
 use scr_nodes::{Node, OfFund, OfSecurity, is_live};
 use scr_reach::link;
@@ -121,44 +121,8 @@ fn is_held(ground: LinkGround<'_>, k: usize) -> bool
     !holders.is_empty()
 }
 
-/// Links to all figures of currencies and of the whole sheet their sources, but to those that are reckoned from a large sum.
-pub(crate) fn link_left(
-    ground: LinkGround<'_>,
-    links: &mut Links,
-    sources: &mut Vec<u32>,
-) -> Result<(), NoMemory>
-    requires ground { IsLinkGround ground }
-    requires linked { AreLinkedTo ground links.old (turn 6 0 0) }
-    ensures { OnOk result (AreLinkedTo ground.entry links.new (turn 7 0 153)) }
-{
-    for k in 0..ground.book.sheet().curves.len() {
-        link_currency(ground, links, sources, k)?;
-    }
-    link_wholes(ground, links, sources)
-}
-
-/// Links to all figures of a currency their sources, but to those that are reckoned from a large sum.
-fn link_currency(
-    ground: LinkGround<'_>,
-    links: &mut Links,
-    sources: &mut Vec<u32>,
-    k: usize,
-) -> Result<(), NoMemory>
-    requires ground { IsLinkGround ground }
-    requires row { k < length ground.book.now.sheet.curves }
-    requires linked { AreLinkedTo ground links.old (turn 6 k 0) }
-    ensures { OnOk result (AreLinkedTo ground.entry links.new (turn 6 (k + 1) 0)) }
-{
-    let name = ground.book.sheet().curves.at(k).currency;
-    for family in 0..OF_CURRENCY {
-        let node = Node::Currency(name, currency_at(family));
-        link_if_there(ground, links, sources, &node, k)?;
-    }
-    Ok(())
-}
-
-/// The same of the whole sheet.
-fn link_wholes(
+/// Links to all figures of the whole sheet their sources, but to those that are reckoned from a large sum.
+pub(crate) fn link_wholes(
     ground: LinkGround<'_>,
     links: &mut Links,
     sources: &mut Vec<u32>,

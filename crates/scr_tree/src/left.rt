@@ -1,37 +1,41 @@
-//! What is left of the first reckoning once the rows are reckoned, by several workers at once.
-ghost use Rattle.std.specs.Prelude.{◌≡◌, IfOk, OnOk, true, false};
+//! What is left of the first reckoning once rows and currencies are reckoned: the figures of the whole sheet, by several workers at once.
+ghost use Rattle.std.specs.Prelude.{◌≡◌, ◌+◌, ◌<◌, IfOk, OnOk, true, false};
 ghost use Rattle.scr_sums.specs.Books.{rolled_of};
 ghost use Rattle.scr_sums.specs.Graph.{is_live_in};
 ghost use Rattle.scr_sums.specs.declared.point.Point.{Point as ThePoint};
-ghost use Rattle.scr_tree.specs.First.{AreGroupsDone, IsGround, IsWhole};
+ghost use Rattle.scr_tree.specs.First.{AreDoneTo, IsDone, IsGround, IsWhole};
 ghost use Rattle.scr_tree.specs.Left.{AreLeft, IsLeftAt, is_left};
 ghost use Rattle.scr_tree.specs.Points.{AreNumbersOf, StandsIn};
+ghost use Rattle.scr_tree.specs.Turns.{turn};
 
 use crate::basis::{Basis, Crew};
-use crate::first_links::link_left;
+use crate::figures::Figures;
+use crate::first_links::{WHOLES, link_wholes};
 use crate::graph::Numbers;
-use crate::making::{Ground, Made};
+use crate::making::{Ground, Made, put_under};
 use crate::order::{Order, Sorted, ordered};
 use crate::together::reckon_together;
-use scr_io::Gate;
-use scr_nodes::{Node, Whole};
-use scr_sums::{Point, Sum, is_live_in};
+use scr_figures::whole_at;
+use scr_io::{Gate, OpenGate};
+use scr_nodes::{Node, Whole, is_live};
+use scr_sums::{Point, is_live_in};
 use std::alloc::{AllocError as NoMemory, Global};
 use std::thread::Threads;
 
-/// The figures of currencies and of the whole sheet, and all Blocks, but the assets of which concentrations are measured with the Blocks
-/// under them: each as soon as those of its sources are known. The gate is passed before each.
+/// The figures of the whole sheet, but the assets of which concentrations are measured: each as soon as those of its sources are known.
+/// The gate is passed before each. The Blocks under them come first, one after another, and pass no gate.
 pub(crate) fn put_left<R: Threads + Sync, G: Gate + Sync>(
     crew: &Crew<'_, R, G>,
     ground: Ground<'_>,
     made: &mut Made,
 ) -> Result<(), NoMemory>
     requires ground { IsGround ground }
-    requires done { AreGroupsDone ground made.old 0 }
+    requires done { IsDone ground made.old (turn 7 0 0) }
     ensures { OnOk result (IsWhole ground.entry made.new) }
 {
+    put_whole_blocks(ground, &mut made.figures, &OpenGate);
     let mut sources = Vec::new(ground.alloc);
-    link_left(ground.for_links(), &mut made.links, &mut sources)?;
+    link_wholes(ground.for_links(), &mut made.links, &mut sources)?;
     let left = left_numbers(ground.alloc, ground.numbers())?;
     let basis = Basis {
         inputs: ground.inputs,
@@ -53,13 +57,38 @@ pub(crate) fn put_left<R: Threads + Sync, G: Gate + Sync>(
     reckon_together(crew, basis, order, &mut made.figures)
 }
 
-/// The numbers of what is left.
+/// The Blocks under the figures of the whole sheet.
+fn put_whole_blocks<G: Gate>(ground: Ground<'_>, figures: &mut Figures, gate: &G)
+    requires ground { IsGround ground }
+    requires done { AreDoneTo ground figures.old (turn 7 0 0) (turn 7 0 0) }
+    ensures { AreDoneTo ground.entry figures.new (turn 7 0 0) (turn 7 0 153) }
+{
+    for number in 0..WHOLES {
+        put_blocks_at(ground, figures, number, gate);
+    }
+}
+
+/// The Blocks under the figure of the whole sheet at a number, if the balance sheet has it.
+fn put_blocks_at<G: Gate>(ground: Ground<'_>, figures: &mut Figures, number: u32, gate: &G)
+    requires ground { IsGround ground }
+    requires number { number < 153 }
+    requires done { AreDoneTo ground figures.old (turn 7 0 0) (turn 7 0 number) }
+    ensures { AreDoneTo ground.entry figures.new (turn 7 0 0) (turn 7 0 (number + 1)) }
+{
+    let node = Node::Whole(whole_at(number));
+    if !is_live(ground.inputs.book.sheet(), &node) {
+        return;
+    }
+    put_under(ground, figures, &node, gate);
+}
+
+/// The numbers of what is left, which are the first of all.
 fn left_numbers(alloc: Global, numbers: Numbers<'_>) -> Result<Vec<u32>, NoMemory>
     requires numbers { AreNumbersOf numbers.book.now numbers.places.now numbers.lists.now }
     ensures { IfOk result (λ list. AreLeft numbers.entry list.items) }
 {
     let mut list = Vec::new(alloc);
-    for number in 0..numbers.places.len() {
+    for number in 0..WHOLES {
         if is_left_at(numbers, number) {
             list.push(number)?;
         }
@@ -81,14 +110,12 @@ fn is_left_at(numbers: Numbers<'_>, number: u32) -> bool
     }
 }
 
-/// The point is reckoned after all rows.
+/// The point is reckoned after all rows, currencies and Blocks.
 fn is_left(point: &Point) -> bool
     ensures { result ≡ is_left point.now }
 {
     match point {
-        Point::Block(block) => !matches!(block.sum, Sum::Grouped),
         Point::Figure(Node::Whole(whole)) => !matches!(whole, Whole::Assets),
-        Point::Figure(Node::Currency(_, _)) => true,
-        Point::Figure(_) => false,
+        _ => false,
     }
 }

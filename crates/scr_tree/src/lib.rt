@@ -17,6 +17,7 @@ mod left;
 mod making;
 mod opening;
 mod order;
+mod passes;
 mod reckoning;
 mod refusal;
 mod renewed;

@@ -19,7 +19,7 @@ ghost use Rattle.scr_tree.specs.Turns.{next, stage_of, turn_of};
 
 use crate::figures::{Below, Figure, Figures, Inputs, read, reckoned};
 use crate::graph::Numbers;
-use crate::sums::{by_sums, put_blocks, sum_there};
+use crate::sums::{by_sums, pass_blocks, put_blocks, sum_there};
 use scr_book::Book;
 use scr_figures::gathered::Members;
 use scr_figures::{View, family, push_gathered, table};
@@ -314,7 +314,7 @@ pub(crate) fn put_summed<G: Gate, L: Ledger>(
 }
 
 /// Writes all Blocks under the sums of a figure. A currency's fall has those of its rise, with which they are written.
-fn put_under<G: Gate>(ground: Ground<'_>, figures: &mut Figures, node: &Node, gate: &G)
+pub(crate) fn put_under<G: Gate>(ground: Ground<'_>, figures: &mut Figures, node: &Node, gate: &G)
     requires ground { IsGround ground }
     requires live { is_live ground.inputs.book.now.sheet node.now ≡ true }
     requires count { length figures.old ≡ ground.places.now.size }
@@ -330,6 +330,28 @@ fn put_under<G: Gate>(ground: Ground<'_>, figures: &mut Figures, node: &Node, ga
     let second = second_sum(node);
     put_found(ground, figures, &first, gate);
     put_found(ground, figures, &second, gate);
+}
+
+/// Passes the gate for all Blocks under the sums of a figure that are written with it.
+pub(crate) fn pass_under<G: Gate>(ground: Ground<'_>, node: &Node, gate: &G)
+    requires { IsGround ground }
+{
+    if !is_reader(node) {
+        return;
+    }
+    let first = first_sum(node);
+    let second = second_sum(node);
+    pass_found_sum(ground, &first, gate);
+    pass_found_sum(ground, &second, gate);
+}
+
+fn pass_found_sum<G: Gate>(ground: Ground<'_>, found: &Option<Sum>, gate: &G)
+    requires { IsGround ground }
+{
+    match found {
+        Some(sum) => pass_blocks(ground.numbers(), sum, gate),
+        None => (),
+    }
 }
 
 /// Whether the Blocks under its sums are written with the figure.

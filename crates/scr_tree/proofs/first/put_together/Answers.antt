@@ -1,8 +1,6 @@
 use Rattle.std.proofs.Common.{sym, subst, ◌∙◌}
-use Rattle.scr_tree.specs.First.{AreLinkedTo, IsLinkGround}
-use Rattle.scr_tree.specs.Turns.{turn}
+use Rattle.scr_tree.specs.First.{AreGroupsDone}
 use Rattle.scr_tree.proofs.AllMade.{nothing-reckoned}
-use Rattle.scr_tree.proofs.Grounds.{for-links}
 use Rattle.scr_tree.proofs.Writing.{rows-made}
 use Rattle.scr_tree.proofs.first.put_together.Goals as goal
 
@@ -16,11 +14,9 @@ enter_totals-requires-clause-nothing g c =
 pub put_by_pieces-requires-clause-totals : goal.put_by_pieces-requires-clause-totals
 put_by_pieces-requires-clause-totals g c κs within = c.as_slice-2.ensures.value ∙ c.requires.totals
 
-pub links_of_totals-requires : goal.links_of_totals-requires
-links_of_totals-requires g c = subst IsLinkGround (sym c.for_links.ensures) (for-links c.args.ground c.requires.ground)
-
-pub put_left-requires-clause-done : goal.put_left-requires-clause-done
-put_left-requires-clause-done g c κs within =
+pub put_groups-requires-clause-done : goal.put_groups-requires-clause-done
+put_groups-requires-clause-done g c =
     let ground = c.args.ground in
-    rows-made ground c.requires.ground c.put_by_pieces.new.figures c.in_ok-links.links c.in_ok-put_by_pieces.ensures
-    (subst (λ l. AreLinkedTo l c.in_ok-links.links (turn 2 0 0)) c.for_links.ensures c.in_ok-links.ensures)
+    subst (λ made. AreGroupsDone ground made 0) (sym c.making_of-making.ensures)
+    (rows-made ground c.requires.ground c.put_by_pieces.new.figures c.args.links c.in_ok-put_by_pieces.ensures
+    (record { size = c.requires.links.size; linked = c.requires.links.linked }))

@@ -1,65 +1,56 @@
 use Rattle.std.proofs.Common.{subst, arith}
 use Rattle.scr_parts.specs.Parts.{AreOwn}
-use Rattle.scr_figures.specs.Numbers.{IsNumbered}
-use Rattle.scr_figures.proofs.Standing.{parts-numbered}
 use Rattle.scr_tree.proofs.Numbering.{are-numbers}
-use Rattle.scr_tree.proofs.PointNumbers.{have-ranges, points-numbered}
+use Rattle.scr_tree.proofs.PointNumbers.{points-numbered}
 use Rattle.scr_tree.proofs.first.reckon_all.Goals as goal
-
-pub lists_of-requires : goal.lists_of-requires
-lists_of-requires g c =
-    have-ranges c.args.book.now.sheet c.in_ok-places.places
-    (subst (λ s. IsNumbered s c.in_ok-places.places) c.sheet.ensures.sheet c.in_ok-places.ensures)
 
 pub make_all-requires-clause-ground : goal.make_all-requires-clause-ground
 make_all-requires-clause-ground g c κs within =
     let book = c.args.book.now in
-    let places = c.lists_of.new.places in
-    let lists = c.in_ok-lists.lists in
-    let numbered = parts-numbered book.sheet c.in_ok-places.places places c.lists_of.ensures.more.others
-    (subst (λ s. IsNumbered s c.in_ok-places.places) c.sheet.ensures.sheet c.in_ok-places.ensures) in
+    let places = c.in_ok-found.found.numbering.places in
+    let lists = c.in_ok-found.found.numbering.lists in
+    let numbered = c.in_ok-found.ensures.numbering.rows in
     let figures = are-numbers book.sheet places c.sheet.ensures.valid numbered c.len.ensures.within c.len.ensures.apart in
     record {
       form = c.known.ensures;
       valid = c.sheet.ensures.valid;
-      rates = c.in_ok-rates.ensures.rates;
+      rates = c.in_ok-found.ensures.rates;
       numbered = numbered;
       numbers = figures;
       points = record {
         rolls = c.group_seats.ensures.kept;
         numbered = numbered;
-        lists_of = c.in_ok-lists.ensures.ok;
+        lists_of = c.in_ok-found.ensures.numbering.lists;
         numbers = points-numbered book places lists c.group_seats.ensures.kept c.len.ensures.apart c.len.ensures.within
-            (subst AreOwn c.parts.ensures c.len-2.ensures.own) c.in_ok-lists.ensures.ok figures;
+            (subst AreOwn c.parts.ensures c.len-2.ensures.own) c.in_ok-found.ensures.numbering.lists figures;
       };
-      members = c.in_ok-rates.ensures.gathered.members;
-      losses = c.in_ok-losses.ensures;
+      members = c.in_ok-found.ensures.gathered.members;
+      losses = c.in_ok-found.ensures.losses;
     }
 
 pub make_all-requires-clause-totals : goal.make_all-requires-clause-totals
-make_all-requires-clause-totals g c κs within = c.in_ok-rates.ensures.gathered.totals
+make_all-requires-clause-totals g c κs within = c.in_ok-found.ensures.gathered.totals
 
 pub returns : goal.returns
 returns g c =
     let book = c.args.book.now in
-    let places = c.lists_of.new.places in
-    let lists = c.in_ok-lists.lists in
-    let numbered = parts-numbered book.sheet c.in_ok-places.places places c.lists_of.ensures.more.others
-    (subst (λ s. IsNumbered s c.in_ok-places.places) c.sheet.ensures.sheet c.in_ok-places.ensures) in
+    let places = c.in_ok-found.found.numbering.places in
+    let lists = c.in_ok-found.found.numbering.lists in
+    let numbered = c.in_ok-found.ensures.numbering.rows in
     let figures = are-numbers book.sheet places c.sheet.ensures.valid numbered c.len.ensures.within c.len.ensures.apart in
     let made = c.in_ok-made.ensures in
     let count = made.count in
     let size = made.size in
     record {
       valid = c.sheet.ensures.valid;
-      rates = c.in_ok-rates.ensures.rates;
+      rates = c.in_ok-found.ensures.rates;
       graph = record {
         numbers_of = record {
           rolls = c.group_seats.ensures.kept;
           numbered = numbered;
-          lists_of = c.in_ok-lists.ensures.ok;
+          lists_of = c.in_ok-found.ensures.numbering.lists;
           numbers = points-numbered book places lists c.group_seats.ensures.kept c.len.ensures.apart c.len.ensures.within
-              (subst AreOwn c.parts.ensures c.len-2.ensures.own) c.in_ok-lists.ensures.ok figures;
+              (subst AreOwn c.parts.ensures c.len-2.ensures.own) c.in_ok-found.ensures.numbering.lists figures;
         };
         linked = made.links;
       };

@@ -24,7 +24,6 @@ loop-number-preserved c =
 
 pub returns : goal.returns
 returns c =
-    let numbers = c.args.numbers in
-    let end : numbers.places.now.size ≡ c.loop-number.number =
-    omega (arith, c.loop-number-test.false, c.loop-number.auto.number-end, c.len-number-end.ensures.size) in
-    below-all numbers c.requires.numbers c.loop-number.number end c.loop-number.list.items c.loop-number.invariant
+    let end : c.loop-number.number ≡ 153 = omega (arith, c.loop-number-test.false, c.loop-number.auto.number-end) in
+    below-all c.args.numbers c.requires.numbers c.loop-number.list.items
+    (subst (λ n. AreLeftBelow c.args.numbers n c.loop-number.list.items) end c.loop-number.invariant)

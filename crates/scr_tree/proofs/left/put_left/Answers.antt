@@ -17,12 +17,18 @@ use Rattle.scr_tree.proofs.LeftKnown.{left-graph, left-known, left-made}
 use Rattle.scr_tree.proofs.LeftNumbers.{live-left}
 use Rattle.scr_tree.proofs.left.put_left.Goals as goal
 
-pub link_left-requires-clause-ground : goal.link_left-requires-clause-ground
-link_left-requires-clause-ground g c = subst IsLinkGround (sym c.for_links.ensures) (for-links c.args.ground c.requires.ground)
+pub put_whole_blocks-requires-clause-done : goal.put_whole_blocks-requires-clause-done
+put_whole_blocks-requires-clause-done g c = record {
+  reckoned = record { count = c.requires.done.figures.count; known = c.requires.done.figures.known };
+  blocks_there = c.requires.done.blocks_there;
+}
 
-pub link_left-requires-clause-linked : goal.link_left-requires-clause-linked
-link_left-requires-clause-linked g c =
-    subst (λ (l : LinkGround). AreLinkedTo l c.args.made.now.links (turn 6 0 0)) (sym c.for_links.ensures)
+pub link_wholes-requires-clause-ground : goal.link_wholes-requires-clause-ground
+link_wholes-requires-clause-ground g c = subst IsLinkGround (sym c.for_links.ensures) (for-links c.args.ground c.requires.ground)
+
+pub link_wholes-requires-clause-linked : goal.link_wholes-requires-clause-linked
+link_wholes-requires-clause-linked g c =
+    subst (λ (l : LinkGround). AreLinkedTo l c.args.made.now.links (turn 7 0 0)) (sym c.for_links.ensures)
     (record { size = c.requires.done.figures.size; linked = c.requires.done.figures.links })
 
 pub left_numbers-requires : goal.left_numbers-requires
@@ -36,8 +42,8 @@ ordered-requires-clause-valid g c = subst (λ (h : Graph). Valid h.numbers.book.
 pub ordered-requires-clause-graph : goal.ordered-requires-clause-graph
 ordered-requires-clause-graph g c =
     subst (λ (h : Graph). IsGraphOf h.numbers.book.now h.numbers.places.now h.numbers.lists.now h.links.now.edges) (sym c.graph.ensures)
-    (left-graph c.args.ground c.requires.ground c.link_left.new.links
-    (subst (λ (l : LinkGround). AreLinkedTo l c.link_left.new.links (turn 7 0 153)) c.for_links.ensures c.in_ok-link_left.ensures))
+    (left-graph c.args.ground c.requires.ground c.link_wholes.new.links
+    (subst (λ (l : LinkGround). AreLinkedTo l c.link_wholes.new.links (turn 7 0 153)) c.for_links.ensures c.in_ok-link_wholes.ensures))
 
 pub ordered-requires-clause-once : goal.ordered-requires-clause-once
 ordered-requires-clause-once g c = subst (IsDistinct nat_eq) (sym c.as_slice.ensures.value) c.in_ok-left.ensures.once
@@ -52,8 +58,8 @@ ordered-requires-clause-live g c = λ number h.
 pub reckon_together-requires-clause-basis : goal.reckon_together-requires-clause-basis
 reckon_together-requires-clause-basis g c κs within = record {
   valid = c.requires.ground.valid;
-  graph = left-graph c.args.ground c.requires.ground c.link_left.new.links
-      (subst (λ (l : LinkGround). AreLinkedTo l c.link_left.new.links (turn 7 0 153)) c.for_links.ensures c.in_ok-link_left.ensures);
+  graph = left-graph c.args.ground c.requires.ground c.link_wholes.new.links
+      (subst (λ (l : LinkGround). AreLinkedTo l c.link_wholes.new.links (turn 7 0 153)) c.for_links.ensures c.in_ok-link_wholes.ensures);
   rates = c.requires.ground.rates;
 }
 
@@ -69,23 +75,24 @@ reckon_together-requires-clause-known g c κs within =
     let ground = c.args.ground in
     let numbers = c.in_ok-order.order.numbers.items in
     let ends = c.in_ok-order.order.ends.items in
-    left-known ground c.requires.ground c.args.made.now.figures c.in_ok-left.left.items c.in_ok-order.ensures.0 numbers ends
-    c.requires.done.figures.known c.requires.done.blocks_there
+    left-known ground c.requires.ground c.put_whole_blocks.new.figures c.in_ok-left.left.items c.in_ok-order.ensures.0 numbers ends
+    c.put_whole_blocks.ensures
     (subst (λ (n : Numbers). AreLeft n c.in_ok-left.left.items) c.numbers.ensures c.in_ok-left.ensures)
     (λ number h. (c.in_ok-order.ensures.1).marked number (subst (λ (xs : List ℕ). Contains xs number) (sym c.as_slice.ensures.value) h))
     (subst (λ (h : Graph). IsOrder (book_graph (rolled_of h.numbers.book.now)) (StandsIn h.numbers.book.now h.numbers.places.now h.numbers.lists.now)
     c.in_ok-order.ensures.0 numbers ends) c.graph.ensures c.in_ok-order.ensures.2)
 
 pub reckon_together-requires-clause-room : goal.reckon_together-requires-clause-room
-reckon_together-requires-clause-room g c κs within = let count = c.requires.done.figures.count in omega (arith, count)
+reckon_together-requires-clause-room g c κs within = let count = c.put_whole_blocks.ensures.reckoned.count in omega (arith, count)
 
 pub returns : goal.returns
 returns g c =
     let ground = c.args.ground in
-    let now : Made = record { figures = c.reckon_together.new.figures; links = c.link_left.new.links } in
+    let now : Made = record { figures = c.reckon_together.new.figures; links = c.link_wholes.new.links } in
     on-ok (AreSettled (book_reckoning ground.inputs.factors.now (rolled_of ground.inputs.book.now))
     (StandsIn ground.inputs.book.now ground.places.now ground.lists.now) c.reckon_together.new.figures)
     (IsWhole ground now) c.reckon_together.result
-    (left-made ground c.requires.ground c.args.made.now now c.requires.done c.reckon_together.ensures.count
-    (subst (λ (l : LinkGround). AreLinkedTo l c.link_left.new.links (turn 7 0 153)) c.for_links.ensures c.in_ok-link_left.ensures))
+    (left-made ground c.requires.ground c.put_whole_blocks.new.figures now c.put_whole_blocks.ensures.reckoned.count
+    c.reckon_together.ensures.count
+    (subst (λ (l : LinkGround). AreLinkedTo l c.link_wholes.new.links (turn 7 0 153)) c.for_links.ensures c.in_ok-link_wholes.ensures))
     c.reckon_together.ensures.settled
