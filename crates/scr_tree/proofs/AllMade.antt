@@ -7,7 +7,7 @@ use Rattle.std.proofs.lemmas.Bool.{and_parts}
 use Rattle.scr_blocks.specs.Blocks.{is_block}
 use Rattle.scr_figures.specs.Numbers.{StandsAt}
 use Rattle.scr_figures.proofs.Standing.{stands}
-use Rattle.scr_links.specs.Edges.{Edge}
+use Rattle.scr_links.specs.Edges.{Edge, Linked}
 use Rattle.scr_nodes.specs.Sources.{sources_of}
 use Rattle.scr_nodes.specs.declared.node.Node.{Node}
 use Rattle.scr_nodes.specs.declared.node.Node.TheVariants as nodes
@@ -20,11 +20,11 @@ use Rattle.scr_sums.specs.declared.point.Point.{Point}
 use Rattle.scr_sums.specs.declared.point.Point.TheVariants as points
 use Rattle.scr_subtotals.specs.declared.figure.Figure.{Figure}
 use Rattle.scr_tree.specs.Figures.{AreKnownOf, AreSettled, HasFigure, worth_at, worth_of}
-use Rattle.scr_tree.specs.First.{AreReckonedTo, IsDone, IsGround, IsLinkedBefore, IsWhole}
+use Rattle.scr_tree.specs.First.{AreDone, AreLinkedTo, AreReckonedTo, IsGround, IsLinkedBefore, IsWhole, link_ground}
 use Rattle.scr_tree.specs.Graphs.{graph_of}
 use Rattle.scr_tree.specs.Points.{IsLinkedPoint, StandsIn, book_graph, book_reckoning, is_linked}
 use Rattle.scr_tree.specs.Turns.{turn}
-use Rattle.scr_tree.specs.declared.making.{Ground.Ground, Made.Made}
+use Rattle.scr_tree.specs.declared.making.Ground.{Ground}
 use Rattle.scr_tree.proofs.Made.{links-all, none-reckoned}
 use Rattle.scr_tree.proofs.Turns.{all-done}
 
@@ -81,15 +81,15 @@ module _ (ground : Ground) (g : IsGround ground) where
       else map points.Figure (sources_of ground.inputs.book.now.sheet node))) (sym (unsummed node its))
       (points-at numbers (sources_of ground.inputs.book.now.sheet node) at)
 
-  settled : (made : Made) → IsDone ground made (turn 7 0 153)
-      → AreSettled (book_reckoning ground.inputs.factors.now (rolled_of ground.inputs.book.now)) At made.figures
+  settled : (figures : List Figure) → AreDone ground figures (turn 7 0 153)
+      → AreSettled (book_reckoning ground.inputs.factors.now (rolled_of ground.inputs.book.now)) At figures
   unfolding AreKnownOf
-  settled made is = λ point number at live all. by point number at live
+  settled figures is = λ point number at live all. by point number at live
     where
       by : (point : Point) (number : ℕ) → At point number → is_live_in (rolled_of ground.inputs.book.now) point ≡ true
-          → HasFigure (book_reckoning ground.inputs.factors.now (rolled_of ground.inputs.book.now)) made.figures number point
+          → HasFigure (book_reckoning ground.inputs.factors.now (rolled_of ground.inputs.book.now)) figures number point
       by (points.Figure node) number at live =
-          is.figures.known node number at live (all-done ground.inputs.book.now.sheet ground.places.now g.numbered node live)
+          is.reckoned.known node number at live (all-done ground.inputs.book.now.sheet ground.places.now g.numbered node live)
       by (points.Block block) number at live =
           is.blocks_there (points.Block block) number at live
           (all-done ground.inputs.book.now.sheet ground.places.now g.numbered (reader_of block.sum)
@@ -115,10 +115,11 @@ module _ (ground : Ground) (g : IsGround ground) where
       done (points.Figure node) number at live its = linked-at (linked_in edges number) node its (linked.done node number at live its)
       done (points.Block block) number at live its = absurd its
 
-  pub all-made : (made : Made) → IsDone ground made (turn 7 0 153) → IsWhole ground made
-  all-made made is = record {
-    count = is.figures.count;
-    size = is.figures.size;
-    figures = settled made is;
-    links = points-linked made.links.edges is.figures.links;
+  pub all-made : (figures : List Figure) (links : Linked) → AreDone ground figures (turn 7 0 153)
+      → AreLinkedTo (link_ground ground) links (turn 7 0 153) → IsWhole ground figures links
+  all-made figures links is all = record {
+    count = is.reckoned.count;
+    size = all.size;
+    settled = settled figures is;
+    linked = points-linked links.edges all.linked;
   }

@@ -1,9 +1,8 @@
 -- The figures of a row in the first reckoning.
 use Rattle.std.proofs.Common.{◌≡◌, ℕ, zero, suc, ◌<◌, true, List, [], ◌∷◌, map, length, Some, None, is_some, Result, Ok, Err, OnOk, slice_get, refl, ap, subst, arith}
 use Rattle.std.specs.List.{AllByRecursion}
-use Rattle.scr_factors.specs.Values.{FactorValues}
 use Rattle.scr_names.specs.Tables.{row_of}
-use Rattle.scr_figures.specs.Numbers.{IsNumbered, StandsAt}
+use Rattle.scr_figures.specs.Numbers.{IsNumbered}
 use Rattle.scr_numbers.specs.Ranges.{Numbered}
 use Rattle.scr_sheet.specs.BalanceSheet.{group_name, liability_name, position_name, position_of}
 use Rattle.scr_sheet.specs.declared.{keys.Projection.Projection, rows.Group.Group, rows.Liability.Liability, rows.Position.Position, sheet.BalanceSheet.BalanceSheet}
@@ -13,13 +12,6 @@ use Rattle.scr_nodes.specs.Rows.{has_flows, is_stress, liability_of}
 use Rattle.scr_nodes.specs.Sources.{group_total, liability_loss, security_total}
 use Rattle.scr_nodes.proofs.LiveSources.{loss-live}
 use Rattle.scr_nodes.proofs.OwnRows.{own-groups, own-liabilities, own-securities}
-use Rattle.scr_reach.specs.Linked.{AreNumbers}
-use Rattle.scr_tree.specs.First.{IsMade}
-use Rattle.scr_tree.specs.Turns.{Turn}
-use Rattle.scr_tree.specs.declared.making.Made.{Made}
-use Rattle.scr_tree.proofs.Made.{made-good}
-use Rattle.scr_tree.proofs.Turns.{IsAsGood}
-use Rattle.scr_tree.specs.Graphs.{graph_of}
 
 pub on-ok : {E : Type 0} (P Q : Type 0) (r : Result (Unit {0}) E) → (P → Q) → OnOk r P → OnOk r Q
 on-ok P Q (Ok u) step h = step h
@@ -41,12 +33,6 @@ pub got-row : {A : Type 0} (xs : List A) (k : ℕ) → k < length xs → (x : A)
 got-row [] k l = absurd (omega (arith, l))
 got-row (x ∷ xs) zero l = (x, refl)
 got-row (x ∷ xs) (suc k) l = got-row xs k (omega (arith, l))
-
-module _ (factors : FactorValues) (sheet : BalanceSheet) (valid : Valid sheet) (places : Numbered) (numbered : IsNumbered sheet places)
-    (numbers : AreNumbers (graph_of sheet) (StandsAt sheet places) places.size) where
-  pub made-on : (made : Made) (t u : Turn) → IsAsGood sheet t u → IsMade factors sheet places made t t
-      → IsMade factors sheet places made u u
-  made-on made t u good is = made-good factors sheet valid places numbered numbers made t u t u good good is
 
 -- ---- securities
 

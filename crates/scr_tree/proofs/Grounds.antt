@@ -1,5 +1,5 @@
 -- The first reckoning figure by figure and table by table: what is made after each.
-use Rattle.std.proofs.Common.{◌≡◌, is_some, map, None, Option, slice_index, ℕ, ◌+◌, ◌<◌, ◌≤◌, ◌++◌, true, false, List, [], ◌∷◌, length, Some, slice_get, refl, sym, ap, ap₂, subst, ◌∙◌, arith}
+use Rattle.std.proofs.Common.{◌≡◌, ◌⊎◌, inl, inr, is_some, map, None, Option, slice_index, ℕ, ◌+◌, ◌<◌, ◌≤◌, ◌++◌, true, false, List, [], ◌∷◌, length, Some, slice_get, refl, sym, ap, ap₂, subst, ◌∙◌, arith}
 use Rattle.std.specs.List.{AllByRecursion, AllZip}
 use Rattle.std.proofs.lemmas.Bool.{and_parts}
 use Rattle.std.proofs.lemmas.List.{length-map}
@@ -20,10 +20,12 @@ use Rattle.scr_nodes.proofs.OwnRows.{own-funds}
 use Rattle.scr_nodes.specs.declared.{node.Node.Node, node.OfCurrency.OfCurrency, node.Whole.Whole}
 use Rattle.scr_nodes.specs.declared.node.Node.TheVariants as nodes
 use Rattle.scr_tree.specs.Figures.{AreKnownOf, HaveFigures, reckoning_of, total_worth, worth_at, worth_of}
-use Rattle.scr_tree.specs.First.{AreDoneTo, AreReckonedTo, IsBlockBefore, IsDone, IsGround, IsLinkGround, IsPut, link_ground}
+use Rattle.scr_tree.specs.First.{AreDone, AreDoneTo, AreLinkedTo, AreReckonedTo, IsBlockBefore, IsGround, IsLinkGround, link_ground}
 use Rattle.scr_tree.specs.Points.{StandsIn, book_reckoning, is_linked}
 use Rattle.scr_tree.specs.Turns.{IsBefore, Turn, next, stage_of, turn, turn_of}
 use Rattle.scr_figures.specs.SourceNumbers.{ArePushed}
+use Rattle.scr_links.specs.Edges.{Linked}
+use Rattle.scr_reach.specs.Linked.{sources_in}
 use Rattle.scr_sums.specs.Books.{rolled_of}
 use Rattle.scr_sums.specs.Graph.{is_live_in}
 use Rattle.scr_sums.specs.Sums.{reader_of}
@@ -33,12 +35,20 @@ use Rattle.scr_tree.proofs.BlocksMade.{blocks-beside, blocks-next, blocks-none, 
 use Rattle.scr_subtotals.specs.declared.figure.Figure.{Figure}
 use Rattle.scr_tree.specs.declared.making.Ground.{Ground}
 use Rattle.scr_tree.specs.declared.making.LinkGround.{LinkGround}
-use Rattle.scr_tree.specs.declared.making.Made.{Made}
-use Rattle.scr_tree.proofs.FirstRows.{each-get, got-map, got-row, made-on, security-named, total-live}
+use Rattle.scr_tree.proofs.FirstRows.{each-get, got-map, got-row, security-named, total-live}
 use Rattle.scr_tree.proofs.Plain.{fund-placed, security-placed}
 use Rattle.scr_tree.proofs.Known.{known-weaker}
-use Rattle.scr_tree.proofs.Made.{known-sources, made-entered, reckoned-next}
-use Rattle.scr_tree.proofs.Turns.{IsAsGood, TakesTurn, assets-first, dead-skipped, family-within, of-table, row-begun, row-ended, stage-of-whole, table-ended, table_at, total-last}
+use Rattle.scr_tree.proofs.Made.{known-sources, reckoned-next}
+use Rattle.scr_tree.proofs.Turns.{IsAsGood, TakesTurn, all-done, assets-first, dead-skipped, family-within, of-table, row-begun, row-ended, stage-of-whole, table-ended, table_at, total-last}
+
+-- no figure of a later stage is done
+pub late : (sheet : BalanceSheet) (s : ℕ) (node : Node) → s ≤ stage_of node → IsBefore sheet (turn s 0 0) node → ⊥
+late sheet s node from (inl less) = omega (arith, from, less)
+late sheet s node from (inr h) = by h.1.before
+  where
+    by : (h.1.k < 0) ⊎ ((h.1.k ≡ 0) × (family_of node < 0)) → ⊥
+    by (inl less) = omega (arith, less)
+    by (inr same) = let l = same.1 in omega (arith, l)
 
 -- as many rows as names
 pub as-long : {Row : Type 0} (name_in : Row → List ℕ) (rows : List Row) (k : ℕ) → k ≡ length rows → k ≡ length (map name_in rows)
@@ -127,21 +137,32 @@ module _ (ground : Ground) (g : IsGround ground) where
       back (points.Figure node) live before = absurd before
       back (points.Block block) live before = good.back (reader_of block.sum) (and_parts _ _ live).0 before
 
-  pub done-on : (a : Made) (t u : Turn) → IsAsGood ground.inputs.book.now.sheet t u → IsDone ground a t → IsDone ground a u
-  done-on a t u good is = record {
-    figures = made-on ground.inputs.factors.now ground.inputs.book.now.sheet g.valid ground.places.now g.numbered g.numbers a t u good is.figures;
-    blocks_there = blocks-on a.figures t u good is.blocks_there;
+  pub reckoned-good : (figures : List Figure) (t u : Turn) → IsAsGood ground.inputs.book.now.sheet t u → AreReckonedTo ground figures t
+      → AreReckonedTo ground figures u
+  reckoned-good figures t u good is = record {
+    count = is.count;
+    known = known-weaker (reckoning_of ground.inputs.factors.now ground.inputs.book.now.sheet) (StandsAt ground.inputs.book.now.sheet ground.places.now) figures
+        (IsBefore ground.inputs.book.now.sheet t) (IsBefore ground.inputs.book.now.sheet u) (λ n live before. good.back n live before) is.known;
   }
 
-  -- a table has no more rows
-  pub table-made : (s count : ℕ) → count ≡ length (names_in ground.inputs.book.now.sheet (table_at s)) → (a : Made)
-      → IsDone ground a (turn s count 0) → IsDone ground a (turn (s + 1) 0 0)
-  table-made s count long a is =
-      done-on a (turn s count 0) (turn (s + 1) 0 0) (table-ended ground.inputs.book.now.sheet ground.places.now g.numbered s count long) is
+  done-on : (figures : List Figure) (t u : Turn) → IsAsGood ground.inputs.book.now.sheet t u → AreDone ground figures t → AreDone ground figures u
+  done-on figures t u good is = record {
+    reckoned = reckoned-good figures t u good is.reckoned;
+    blocks_there = blocks-on figures t u good is.blocks_there;
+  }
 
-  pub currency-made : (k : ℕ) (a : Made) → IsDone ground a (turn 6 k 9) → IsDone ground a (turn 6 (k + 1) 0)
-  currency-made k a is =
-      done-on a (turn 6 k 9) (turn 6 (k + 1) 0)
+  pub turned : (figures : List Figure) (t u : Turn) → t ≡ u → AreDone ground figures t → AreDone ground figures u
+  turned figures t u same is = subst (AreDone ground figures) same is
+
+  -- a table has no more rows
+  pub table-done : (s count : ℕ) → count ≡ length (names_in ground.inputs.book.now.sheet (table_at s)) → (figures : List Figure)
+      → AreDone ground figures (turn s count 0) → AreDone ground figures (turn (s + 1) 0 0)
+  table-done s count long figures is =
+      done-on figures (turn s count 0) (turn (s + 1) 0 0) (table-ended ground.inputs.book.now.sheet ground.places.now g.numbered s count long) is
+
+  pub currency-done : (k : ℕ) (figures : List Figure) → AreDone ground figures (turn 6 k 9) → AreDone ground figures (turn 6 (k + 1) 0)
+  currency-done k figures is =
+      done-on figures (turn 6 k 9) (turn 6 (k + 1) 0)
       (row-ended ground.inputs.book.now.sheet 6 k 9
       (λ n alive s. of-table ground.inputs.book.now.sheet ground.places.now g.numbered 6 n alive s)) is
 
@@ -151,70 +172,61 @@ module _ (ground : Ground) (g : IsGround ground) where
       (named : slice_get (names_in ground.inputs.book.now.sheet (table_of node)) row ≡ Some (name_of node))
       (own : number ≡ first ground.places.now (table_of node) row + family_of node)
       (live : is_live ground.inputs.book.now.sheet node ≡ true) where
-    pub sources-known : (a : Made) → 2 ≤ stage_of node → IsDone ground a (turn_of node row) → (sources : List ℕ)
-        → AllZip (λ m source. StandsAt ground.inputs.book.now.sheet ground.places.now source m) sources (sources_of ground.inputs.book.now.sheet node)
-        → HaveFigures (reckoning_of ground.inputs.factors.now ground.inputs.book.now.sheet) a.figures sources (sources_of ground.inputs.book.now.sheet node)
-    sources-known a high is sources are =
+    turn_is : TakesTurn ground.inputs.book.now.sheet (turn_of node row) node
+    turn_is = record { at = refl; row = named; family = refl }
+
+    stood : StandsAt ground.inputs.book.now.sheet ground.places.now node number
+    stood = its-number (link_ground ground) for-links node row number named own live
+
+    -- all of them are linked to it, and known
+    pub sources-known : (links : Linked) → AreLinkedTo (link_ground ground) links (turn 7 0 153) → is_linked node ≡ true → 2 ≤ stage_of node
+        → (a : List Figure) → AreDone ground a (turn_of node row)
+        → HaveFigures (reckoning_of ground.inputs.factors.now ground.inputs.book.now.sheet) a (sources_in links.edges number)
+        (sources_of ground.inputs.book.now.sheet node)
+    sources-known links all its high a is =
         known-sources ground.inputs.factors.now ground.inputs.book.now.sheet g.valid ground.places.now g.numbered g.numbers a
-        node row live named high is.figures sources are
+        node row live named high is.reckoned.known (sources_in links.edges number)
+        (all.linked.done node number stood live (all-done ground.inputs.book.now.sheet ground.places.now g.numbered node live, its))
 
     -- it is of none of the sums: its figure is written, and no Block
-    pub gathered-made : (a b : Made) (sources : List ℕ) → is_linked node ≡ true → IsDone ground a (turn_of node row)
-        → AllZip (λ m source. StandsAt ground.inputs.book.now.sheet ground.places.now source m) sources (sources_of ground.inputs.book.now.sheet node)
-        → IsPut ground.inputs.factors.now ground.inputs.book.now.sheet node number sources a b → IsDone ground b (next (turn_of node row))
-    gathered-made a b sources links is are put = record {
-      figures = made-entered ground.inputs.factors.now ground.inputs.book.now.sheet g.valid ground.places.now g.numbered g.numbers a b
-          (turn_of node row) node number sources put.figure is.figures turn_is live links stood are put.right put.entered;
-      blocks_there = blocks-next ground g b.figures (turn_of node row) node turn_is live
+    pub linked-done : (a b : List Figure) (figure : Figure) → is_linked node ≡ true → AreDone ground a (turn_of node row)
+        → worth_of figure ≡ worth_at ground.inputs.factors.now ground.inputs.book.now.sheet node → length b ≡ length a
+        → slice_get b number ≡ Some figure → ((other : ℕ) → (other ≡ number → ⊥) → slice_get b other ≡ slice_get a other)
+        → AreDone ground b (next (turn_of node row))
+    linked-done a b figure links is right count there others = record {
+      reckoned = record {
+        count = count ∙ is.reckoned.count;
+        known = reckoned-next ground.inputs.factors.now ground.inputs.book.now.sheet g.valid ground.places.now g.numbered g.numbers
+            a b (turn_of node row) node number is.reckoned.known turn_is
+            (record { at = stood; there = ap (option_map worth_of) there ∙ ap Some right; others = others });
+      };
+      blocks_there = blocks-next ground g b (turn_of node row) node turn_is live
           (λ sum reads. let clash : true ≡ false = sym links ∙ (ap is_linked (sym reads) ∙ reader-unlinked sum) in absurd (cc))
-          (blocks-beside ground g a.figures b.figures node number (IsBlockBefore ground.inputs.book.now.sheet (turn_of node row))
-          (λ n before. before) stood put.entered.others is.blocks_there);
+          (blocks-beside ground g a b node number (IsBlockBefore ground.inputs.book.now.sheet (turn_of node row))
+          (λ n before. before) stood others is.blocks_there);
     }
-      where
-        turn_is : TakesTurn ground.inputs.book.now.sheet (turn_of node row) node
-        turn_is = record { at = refl; row = named; family = refl }
-
-        stood : StandsAt ground.inputs.book.now.sheet ground.places.now node number
-        stood = its-number (link_ground ground) for-links node row number named own live
 
   -- where the balance sheet does not have the figure
-  pub dead-made : (node : Node) (row : ℕ) → slice_get (names_in ground.inputs.book.now.sheet (table_of node)) row ≡ Some (name_of node)
-      → (is_live ground.inputs.book.now.sheet node ≡ true → ⊥) → (a : Made) → IsDone ground a (turn_of node row)
-      → IsDone ground a (next (turn_of node row))
-  dead-made node row named dead a is =
-      done-on a (turn_of node row) (next (turn_of node row))
+  pub dead-done : (node : Node) (row : ℕ) → slice_get (names_in ground.inputs.book.now.sheet (table_of node)) row ≡ Some (name_of node)
+      → (is_live ground.inputs.book.now.sheet node ≡ true → ⊥) → (figures : List Figure) → AreDone ground figures (turn_of node row)
+      → AreDone ground figures (next (turn_of node row))
+  dead-done node row named dead figures is =
+      done-on figures (turn_of node row) (next (turn_of node row))
       (dead-skipped ground.inputs.book.now.sheet ground.places.now g.numbered (turn_of node row) node
       (record { at = refl; row = named; family = refl }) dead) is
 
-  -- ---- totals
-
-  pub reckoned-good : (figures : List Figure) (t u : Turn) → IsAsGood ground.inputs.book.now.sheet t u → AreReckonedTo ground figures t
-      → AreReckonedTo ground figures u
-  reckoned-good figures t u good is = record {
-    count = is.count;
-    known = known-weaker (reckoning_of ground.inputs.factors.now ground.inputs.book.now.sheet) (StandsAt ground.inputs.book.now.sheet ground.places.now) figures
-        (IsBefore ground.inputs.book.now.sheet t) (IsBefore ground.inputs.book.now.sheet u) (λ n live before. good.back n live before) is.known;
-  }
-
   -- ---- the assets of which concentrations are measured
-
-  figures-on : (figures : List Figure) (t u : Turn) → IsAsGood ground.inputs.book.now.sheet t u → AreDoneTo ground figures t t
-      → AreDoneTo ground figures u u
-  figures-on figures t u good is = record {
-    reckoned = reckoned-good figures t u good is.reckoned;
-    blocks_there = blocks-on figures t u good is.blocks_there;
-  }
 
   -- their turn comes when all totals are there
   pub assets-begun : (figures : List Figure) → AreReckonedTo ground figures (turn 2 0 0) → AreDoneTo ground figures (turn 2 0 153) (turn 2 0 153)
   assets-begun figures is =
-      figures-on figures (turn 2 0 0) (turn 2 0 153) (row-begun ground.inputs.book.now.sheet 2 0 153 (λ n alive s. assets-first n s))
+      done-on figures (turn 2 0 0) (turn 2 0 153) (row-begun ground.inputs.book.now.sheet 2 0 153 (λ n alive s. assets-first n s))
       (record { reckoned = is; blocks_there = blocks-none ground g figures })
 
   pub assets-done : (figures : List Figure) → AreDoneTo ground figures (turn 2 0 154) (turn 2 0 154) → AreDoneTo ground figures (turn 3 0 0) (turn 3 0 0)
   assets-done figures is =
-      figures-on figures (turn 2 1 0) (turn 3 0 0) (table-ended ground.inputs.book.now.sheet ground.places.now g.numbered 2 1 refl)
-      (figures-on figures (turn 2 0 154) (turn 2 1 0)
+      done-on figures (turn 2 1 0) (turn 3 0 0) (table-ended ground.inputs.book.now.sheet ground.places.now g.numbered 2 1 refl)
+      (done-on figures (turn 2 0 154) (turn 2 1 0)
       (row-ended ground.inputs.book.now.sheet 2 0 154
       (λ n alive s. of-table ground.inputs.book.now.sheet ground.places.now g.numbered 2 n alive s)) is)
 
@@ -305,9 +317,6 @@ module _ (ground : Ground) (g : IsGround ground) where
       (own ∙ its-own (first ground.places.now tables.Security k))
       (total-live ground.inputs.book.now.sheet g.valid ground.places.now g.numbered k p.0 p.1)
       (security-placed ground.inputs.factors.now ground.inputs.book.now.sheet g.valid totals are k p.0 p.1) is count there others)
-
-  pub turned : (a : Made) (t u : Turn) → t ≡ u → IsDone ground a t → IsDone ground a u
-  turned a t u same is = subst (IsDone ground a) same is
 
 -- what was pushed is all that the list has
 pub pushed-at : (sheet book : BalanceSheet) (places : Numbered) (node : Node) (old now : List ℕ) → sheet ≡ book → old ≡ []

@@ -1,14 +1,12 @@
 -- The Blocks under the totals of groups in the first reckoning.
-use Rattle.std.proofs.Common.{◌≡◌, ◌⊎◌, inl, inr, ℕ, ◌+◌, ◌<◌, ◌≤◌, true, List, [], Some, length, slice_get, refl, sym, ap, subst, ◌∙◌, arith}
+use Rattle.std.proofs.Common.{◌≡◌, ◌⊎◌, inl, inr, ℕ, ◌+◌, ◌<◌, true, List, [], Some, length, slice_get, refl, sym, ap, subst, ◌∙◌, arith}
 use Rattle.std.proofs.lemmas.Bool.{cases_eq}
 use Rattle.scr_figures.specs.Families.{family_of, table_of}
-use Rattle.scr_figures.specs.Numbers.{names_in, StandsAt}
-use Rattle.scr_links.specs.Edges.{Linked}
+use Rattle.scr_figures.specs.Numbers.{names_in}
 use Rattle.scr_parts.proofs.Views.{one-some}
 use Rattle.scr_sheet.specs.declared.rows.Group.{Group}
 use Rattle.scr_sheet.specs.declared.sheet.BalanceSheet.{BalanceSheet}
 use Rattle.scr_nodes.specs.Sources.{group_total}
-use Rattle.scr_reach.specs.Linked.{AreLinkedOf}
 use Rattle.scr_sums.specs.Books.{rolled_of}
 use Rattle.scr_sums.specs.Graph.{reads}
 use Rattle.scr_sums.specs.Sums.{member_of, reader_of}
@@ -17,13 +15,11 @@ use Rattle.scr_sums.specs.declared.point.Point.TheVariants as points
 use Rattle.scr_sums.specs.declared.sum.Sum.{Sum}
 use Rattle.scr_sums.specs.declared.sum.Sum.TheVariants as sums
 use Rattle.scr_subtotals.specs.declared.figure.Figure.{Figure}
-use Rattle.scr_tree.specs.Figures.{AreKnownOf, Reckoning, reckoning_of}
-use Rattle.scr_tree.specs.First.{AreBlocksThere, AreGroupsDone, AreMembersThere, IsBlockBefore, IsDone, IsGround, IsLinkedBefore, KeepsOffBlocks}
-use Rattle.scr_tree.specs.Graphs.{graph_of}
+use Rattle.scr_tree.specs.Figures.{Reckoning}
+use Rattle.scr_tree.specs.First.{AreBlocksThere, AreDone, AreGroupsDone, AreMembersThere, IsBlockBefore, IsGround, KeepsOffBlocks}
 use Rattle.scr_tree.specs.Points.{StandsIn, book_reckoning}
 use Rattle.scr_tree.specs.Turns.{IsBefore, stage_of, turn}
 use Rattle.scr_tree.specs.declared.making.Ground.{Ground}
-use Rattle.scr_tree.specs.declared.making.Made.{Made}
 use Rattle.scr_tree.proofs.BlocksMade.{blocks-next, known-off}
 use Rattle.scr_tree.proofs.FirstRows.{group-live, group-named}
 use Rattle.scr_tree.proofs.Grounds.{blocks-on}
@@ -63,10 +59,10 @@ row-back sheet k sum (inr h) = inr (h.0, record { k = h.1.k; named = h.1.named; 
 module _ (ground : Ground) (g : IsGround ground) where
   -- the table has no more groups
   pub groups-ended : (count : ℕ) → count ≡ length (names_in ground.inputs.book.now.sheet (table_of (reader_of (sums.Group []))))
-      → (a : Made) → AreGroupsDone ground a count → IsDone ground a (turn 6 0 0)
-  groups-ended count long a is = record {
-    figures = is.figures;
-    blocks_there = blocks-on ground g a.figures (turn 5 count 0) (turn 6 0 0)
+      → (figures : List Figure) → AreGroupsDone ground figures count → AreDone ground figures (turn 6 0 0)
+  groups-ended count long figures is = record {
+    reckoned = is.reckoned;
+    blocks_there = blocks-on ground g figures (turn 5 count 0) (turn 6 0 0)
         (table-ended ground.inputs.book.now.sheet ground.places.now g.numbered 5 count long) is.blocks_there;
   }
 
@@ -78,34 +74,28 @@ module _ (ground : Ground) (g : IsGround ground) where
     group-read sum e =
         subst (λ s. reads ground.inputs.book.now.sheet s ≡ true) (one-some e) (group-live ground.inputs.book.now.sheet g.valid k h at)
 
-    pub group-members : (a : Made) → AreGroupsDone ground a k → AreMembersThere ground a.figures IsIts
-    group-members a is =
-        members-early ground g a.figures (turn 6 0 0) IsIts
-        (λ sum name e. subst (λ s. stage_of (member_of s name) < 6) (one-some e) (omega arith)) is.figures.known
+    pub group-members : (figures : List Figure) → AreGroupsDone ground figures k → AreMembersThere ground figures IsIts
+    group-members figures is =
+        members-early ground g figures (turn 6 0 0) IsIts
+        (λ sum name e. subst (λ s. stage_of (member_of s name) < 6) (one-some e) (omega arith)) is.reckoned.known
 
     its_turn : TakesTurn ground.inputs.book.now.sheet (turn 5 k 0) (group_total h)
     its_turn = record { at = refl; row = group-named ground.inputs.book.now.sheet g.valid k h at; family = refl }
 
-    pub group-made : (a b : Made) (now : List Figure) → AreGroupsDone ground a k → KeepsOffBlocks ground IsIts a.figures now
-        → AreBlocksThere ground now IsIts → b.figures ≡ now → b.links ≡ a.links → AreGroupsDone ground b (k + 1)
-    group-made a b now is kept blocks figures_are links_are = record {
-      figures = record {
-        count = ap length figures_are ∙ kept.count ∙ is.figures.count;
-        size = subst (λ (l : Linked). l.size ≤ ground.places.now.size) (sym links_are) is.figures.size;
-        known = subst (λ fs. AreKnownOf (reckoning_of ground.inputs.factors.now ground.inputs.book.now.sheet)
-            (StandsAt ground.inputs.book.now.sheet ground.places.now) fs (IsBefore ground.inputs.book.now.sheet (turn 6 0 0))) (sym figures_are)
-            (figures-off ground g a.figures now IsIts (IsBefore ground.inputs.book.now.sheet (turn 6 0 0)) kept is.figures.known);
-        links = subst (λ (l : Linked). AreLinkedOf (graph_of ground.inputs.book.now.sheet) (StandsAt ground.inputs.book.now.sheet ground.places.now)
-            l.edges (IsLinkedBefore ground.inputs.book.now.sheet (turn 6 0 0))) (sym links_are) is.figures.links;
+    pub group-made : (a now : List Figure) → AreGroupsDone ground a k → KeepsOffBlocks ground IsIts a now → AreBlocksThere ground now IsIts
+        → AreGroupsDone ground now (k + 1)
+    group-made a now is kept blocks = record {
+      reckoned = record {
+        count = kept.count ∙ is.reckoned.count;
+        known = figures-off ground g a now IsIts (IsBefore ground.inputs.book.now.sheet (turn 6 0 0)) kept is.reckoned.known;
       };
-      blocks_there = subst (λ fs. AreKnownOf reckoning At fs (IsBlockBefore ground.inputs.book.now.sheet (turn 5 (k + 1) 0))) (sym figures_are)
-          (known-weaker reckoning At now (IsBlockBefore ground.inputs.book.now.sheet (turn 5 k 1)) (IsBlockBefore ground.inputs.book.now.sheet (turn 5 (k + 1) 0))
-          (λ point live before. back point before)
+      blocks_there = known-weaker reckoning At now (IsBlockBefore ground.inputs.book.now.sheet (turn 5 k 1))
+          (IsBlockBefore ground.inputs.book.now.sheet (turn 5 (k + 1) 0)) (λ point live before. back point before)
           (blocks-next ground g now (turn 5 k 0) (group_total h) its_turn (group-live ground.inputs.book.now.sheet g.valid k h at) own
-          (known-off ground g a.figures now IsIts (IsBlockBefore ground.inputs.book.now.sheet (turn 5 k 0))
+          (known-off ground g a now IsIts (IsBlockBefore ground.inputs.book.now.sheet (turn 5 k 0))
           (λ block e before. not-before ground.inputs.book.now.sheet g.valid (turn 5 k 0) (group_total h) its_turn
           (subst (λ s. IsBefore ground.inputs.book.now.sheet (turn 5 k 0) (reader_of s)) (sym (one-some e)) before))
-          kept is.blocks_there)));
+          kept is.blocks_there));
     }
       where
         reckoning : Reckoning Point

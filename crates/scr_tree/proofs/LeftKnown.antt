@@ -21,7 +21,7 @@ use Rattle.scr_tree.specs.Order.{IsOrder}
 use Rattle.scr_tree.specs.Points.{IsGraphOf, StandsIn, book_graph, book_reckoning}
 use Rattle.scr_tree.specs.Ready.{IsNoneOf}
 use Rattle.scr_tree.specs.Turns.{stage_of, turn}
-use Rattle.scr_tree.specs.declared.making.{Ground.Ground, Made.Made}
+use Rattle.scr_tree.specs.declared.making.Ground.{Ground}
 use Rattle.scr_tree.proofs.AllMade.{points-linked}
 use Rattle.scr_tree.proofs.Turns.{all-done}
 
@@ -66,12 +66,12 @@ module _ (ground : Ground) (g : IsGround ground) where
           (is_block (length (roll_in (rolled_of ground.inputs.book.now) block.sum)) block.level block.index) live).0)
 
   -- when it is reckoned too, all is there
-  pub left-made : (figures : List Figure) (now : Made) → length figures ≡ ground.places.now.size → length now.figures ≡ length figures
-      → AreLinkedTo (link_ground ground) now.links (turn 7 0 153)
-      → AreSettled (book_reckoning ground.inputs.factors.now (rolled_of ground.inputs.book.now)) At now.figures → IsWhole ground now
-  left-made figures now many count linked settled = record {
+  pub left-made : (figures now : List Figure) (links : Linked) → length figures ≡ ground.places.now.size → length now ≡ length figures
+      → AreLinkedTo (link_ground ground) links (turn 7 0 153)
+      → AreSettled (book_reckoning ground.inputs.factors.now (rolled_of ground.inputs.book.now)) At now → IsWhole ground now links
+  left-made figures now links many count all settled = record {
     count = count ∙ many;
-    size = linked.size;
-    figures = settled;
-    links = points-linked ground g now.links.edges linked.linked;
+    size = all.size;
+    settled = settled;
+    linked = points-linked ground g links.edges all.linked;
   }

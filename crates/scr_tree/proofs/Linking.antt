@@ -1,5 +1,5 @@
 -- The links of all figures, table by table: what is linked after each.
-use Rattle.std.proofs.Common.{◌≡◌, ℕ, ◌+◌, ◌<◌, ◌≤◌, true, false, List, [], length, Some, slice_get, refl, sym, subst, ◌∙◌}
+use Rattle.std.proofs.Common.{◌≡◌, inl, inr, ℕ, ◌+◌, ◌<◌, ◌≤◌, true, false, List, [], length, Some, slice_get, refl, sym, subst, ◌∙◌, arith}
 use Rattle.std.proofs.lemmas.List.Elements.{All-from_recursion}
 use Rattle.scr_names.proofs.TableRows.{passes_or_fails}
 use Rattle.scr_figures.specs.Families.{family_of, name_of, table_of}
@@ -9,12 +9,15 @@ use Rattle.scr_numbers.specs.Ranges.{first}
 use Rattle.scr_nodes.specs.Live.{is_live}
 use Rattle.scr_nodes.specs.Sources.{sources_of}
 use Rattle.scr_nodes.specs.declared.node.Node.{Node}
+use Rattle.scr_nodes.specs.declared.node.Node.TheVariants as nodes
+use Rattle.scr_nodes.specs.declared.node.OfSecurity.TheVariants as of_securities
+use Rattle.scr_nodes.specs.declared.node.Whole.TheVariants as wholes
 use Rattle.scr_reach.specs.Linked.{AreAt}
 use Rattle.scr_tree.specs.First.{AreLinkedTo, IsLinkGround, IsLinkedNext}
 use Rattle.scr_tree.specs.Points.{is_linked}
-use Rattle.scr_tree.specs.Turns.{Turn, next, turn, turn_of}
+use Rattle.scr_tree.specs.Turns.{IsBefore, Turn, next, turn, turn_of}
 use Rattle.scr_tree.specs.declared.making.LinkGround.{LinkGround}
-use Rattle.scr_tree.proofs.Grounds.{at-within, its-number}
+use Rattle.scr_tree.proofs.Grounds.{at-within, its-number, late}
 use Rattle.scr_tree.proofs.Made.{linked-next, linked-still, links-none}
 use Rattle.scr_tree.proofs.Turns.{IsAsGood, TakesTurn, dead-skipped, of-table, row-ended, table-ended, table_at, total-last}
 
@@ -103,6 +106,32 @@ module _ (ground : LinkGround) (g : IsLinkGround ground) where
       linked-good links (turn 1 k 1) (turn 1 (k + 1) 0) (row-ended ground.book.now.sheet 1 k 1 (λ n alive s. total-last n s)) is
 
   -- ---- currencies and the whole sheet
+
+  -- what is linked before the currencies is a total of a fund or of a security
+  early-total : (node : Node) → is_linked node ≡ true → IsBefore ground.book.now.sheet (turn 6 0 0) node
+      → IsBefore ground.book.now.sheet (turn 2 0 0) node
+  early-total (nodes.Fund name what) its before = inl (omega arith)
+  early-total (nodes.Security name of_securities.Total) its before = inl (omega arith)
+  early-total (nodes.Security name what) its before = absurd (let clash : false ≡ true = its in cc)
+  early-total (nodes.Liability name what) its before = absurd (let clash : false ≡ true = its in cc)
+  early-total (nodes.Group name what) its before = absurd (let clash : false ≡ true = its in cc)
+  early-total (nodes.Currency name what) its before =
+      absurd (late ground.book.now.sheet 6 (nodes.Currency name what) (omega arith) before)
+  early-total (nodes.Whole wholes.Assets) its before = absurd (let clash : false ≡ true = its in cc)
+  early-total (nodes.Whole what) its before = absurd (late ground.book.now.sheet 6 (nodes.Whole what) (omega arith) before)
+
+  pub rows-linked : (links : Linked) → AreLinkedTo ground links (turn 2 0 0) → AreLinkedTo ground links (turn 6 0 0)
+  rows-linked links is = record {
+    size = is.size;
+    linked = record {
+      done = λ node number stood live before. is.linked.done node number stood live (early-total node before.1 before.0, before.1);
+      only = λ e has. let l = is.linked.only e has in (l.0, l.1, l.2, (later l.0 l.3.0, l.3.1));
+    };
+  }
+    where
+      later : (node : Node) → IsBefore ground.book.now.sheet (turn 2 0 0) node → IsBefore ground.book.now.sheet (turn 6 0 0) node
+      later node (inl less) = inl (omega (arith, less))
+      later node (inr h) = let e = h.0 in inl (omega (arith, e))
 
   pub currency-linked : (k : ℕ) (links : Linked) → AreLinkedTo ground links (turn 6 k 9) → AreLinkedTo ground links (turn 6 (k + 1) 0)
   currency-linked k links is =

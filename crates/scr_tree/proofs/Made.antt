@@ -1,7 +1,6 @@
 -- What the first reckoning has made, figure by figure.
 use Rattle.std.proofs.Common.{◌≡◌, ◌⊎◌, inl, inr, ℕ, ◌≤◌, ◌++◌, Bool, true, false, nat_eq, List, [], ◌∷◌, map, filter, Some, Contains, slice_get, if◌then◌else◌, refl, sym, ap, subst, ◌∙◌}
 use Rattle.std.specs.List.{AllByRecursion}
-use Rattle.std.specs.Option.{option_map}
 use Rattle.std.proofs.lemmas.Bool.{eqb-true, eq-eqb, ne_eqb}
 use Rattle.scr_names.proofs.TableRows.{passes_or_fails}
 use Rattle.scr_funds.proofs.Members.{IsMember, Contains-from_IsMember, IsMember-from_Contains}
@@ -17,15 +16,14 @@ use Rattle.scr_nodes.specs.Sources.{sources_of}
 use Rattle.scr_nodes.specs.declared.node.Node.{Node}
 use Rattle.scr_nodes.proofs.LiveSources.{IsLive, sources-live}
 use Rattle.scr_reach.specs.Linked.{AreAt, AreLinkedOf, AreNumbers, edges_to, sources_in}
-use Rattle.scr_tree.specs.Figures.{AreKnownOf, HaveFigures, IsPutRight, reckoning_of, worth_at, worth_of}
-use Rattle.scr_tree.specs.First.{IsEntered, IsLinkedBefore, IsMade}
+use Rattle.scr_tree.specs.Figures.{AreKnownOf, HaveFigures, IsPutRight, reckoning_of}
+use Rattle.scr_tree.specs.First.{IsLinkedBefore}
 use Rattle.scr_tree.specs.Points.{is_linked}
 use Rattle.scr_tree.specs.Turns.{IsBefore, Turn, next, stage_of, turn, turn_of}
 use Rattle.scr_subtotals.specs.declared.figure.Figure.{Figure}
-use Rattle.scr_tree.specs.declared.making.Made.{Made}
 use Rattle.scr_tree.proofs.FirstSources.{sources-before}
 use Rattle.scr_tree.proofs.Known.{known-have, known-put, known-weaker}
-use Rattle.scr_tree.proofs.Turns.{IsAsGood, TakesTurn, all-done, family-within, its-turn, later, none-done, not-before, one-turn, step-back}
+use Rattle.scr_tree.proofs.Turns.{TakesTurn, all-done, family-within, its-turn, later, none-done, not-before, one-turn, step-back}
 use Rattle.scr_tree.specs.Graphs.{graph_of}
 
 -- ---- edges to a number
@@ -182,47 +180,14 @@ module _ (factors : FactorValues) (sheet : BalanceSheet) (valid : Valid sheet) (
       by n live (inl before) = inl before
       by n live (inr own) = inr (same-turn sheet valid places numbered numbers t n node live own turn)
 
-  -- ---- what is made
-
-  pub made-good : (made : Made) (t u v w : Turn) → IsAsGood sheet t u → IsAsGood sheet v w → IsMade factors sheet places made t v
-      → IsMade factors sheet places made u w
-  made-good made t u v w a b is = record {
-    count = is.count;
-    size = is.size;
-    known = known-weaker (reckoning_of factors sheet) (StandsAt sheet places) made.figures (IsBefore sheet t) (IsBefore sheet u)
-        (λ n live before. a.back n live before) is.known;
-    links = record {
-      done = λ n m stands live before. is.links.done n m stands live (b.back n live before.0, before.1);
-      only = λ e has. let l = is.links.only e has in (l.0, l.1, l.2, (b.to l.0 l.2 l.3.0, l.3.1));
-    };
-  }
-
-  -- a figure is entered that is right, and its sources
-  pub made-entered : (old now : Made) (t : Turn) (node : Node) (number : ℕ) (sources : List ℕ) (figure : Figure)
-      → IsMade factors sheet places old t t → TakesTurn sheet t node → is_live sheet node ≡ true → is_linked node ≡ true
-      → StandsAt sheet places node number
-      → AreAt (StandsAt sheet places) sources (sources_of sheet node) → worth_of figure ≡ worth_at factors sheet node
-      → IsEntered number sources figure old now → IsMade factors sheet places now (next t) (next t)
-  made-entered old now t node number sources figure is turn live links at are right entered = record {
-    count = entered.count ∙ is.count;
-    size = subst (λ n. now.links.size ≤ n) is.count (entered.size (subst (λ n. old.links.size ≤ n) (sym is.count) is.size));
-    known = reckoned-next old.figures now.figures t node number is.known turn (record {
-      at = at;
-      there = ap (option_map worth_of) entered.there ∙ ap Some right;
-      others = entered.others;
-    });
-    links = linked-next sheet valid places numbered numbers old.links.edges now.links.edges t node number sources is.links turn live links at are
-        entered.made entered.kept;
-  }
-
   -- the sources of a figure whose turn it is are known
-  pub known-sources : (made : Made) (node : Node) (row : ℕ) → is_live sheet node ≡ true
+  pub known-sources : (figures : List Figure) (node : Node) (row : ℕ) → is_live sheet node ≡ true
       → slice_get (names_in sheet (table_of node)) row ≡ Some (name_of node) → 2 ≤ stage_of node
-      → IsMade factors sheet places made (turn_of node row) (turn_of node row) → (sources : List ℕ)
+      → AreKnownOf (reckoning_of factors sheet) (StandsAt sheet places) figures (IsBefore sheet (turn_of node row)) → (sources : List ℕ)
       → AreAt (StandsAt sheet places) sources (sources_of sheet node)
-      → HaveFigures (reckoning_of factors sheet) made.figures sources (sources_of sheet node)
-  known-sources made node row live named high is sources are =
-      known-have (reckoning_of factors sheet) (StandsAt sheet places) made.figures (IsBefore sheet (turn_of node row)) is.known sources
+      → HaveFigures (reckoning_of factors sheet) figures sources (sources_of sheet node)
+  known-sources figures node row live named high known sources are =
+      known-have (reckoning_of factors sheet) (StandsAt sheet places) figures (IsBefore sheet (turn_of node row)) known sources
       (sources_of sheet node) are
       (both (sources_of sheet node) (sources-live sheet valid node live) (sources-before sheet valid node live row named high))
     where

@@ -33,7 +33,6 @@ use Rattle.scr_reach.proofs.Relinked.{due-linked, kept-sources, relinked-back}
 use Rattle.scr_sums.specs.Books.{rolled_of}
 use Rattle.scr_sums.specs.Changed.{IsSameIn}
 use Rattle.scr_sums.specs.Graph.{AreRolls, Rolled, is_live_in, sources_in}
-use Rattle.scr_sums.specs.declared.point.Block.{Block}
 use Rattle.scr_sums.specs.declared.point.Point.{Point}
 use Rattle.scr_sums.specs.declared.point.Point.TheVariants as points
 use Rattle.scr_sums.proofs.Lives.{sources-live-in}

@@ -49,20 +49,19 @@ use Rattle.scr_subtotals.specs.Figures.{ends_at, member_number, members_ends}
 use Rattle.scr_subtotals.specs.Written.{is_open_at}
 use Rattle.scr_subtotals.specs.declared.figure.Figure.{Figure}
 use Rattle.scr_tree.specs.Figures.{AreKnownOf, HasFigure, Worth, reckoning_of, worth_at, worth_of}
-use Rattle.scr_tree.specs.First.{AreBlocksThere, AreDoneTo, AreMembersThere, IsBlockBefore, IsBlockOf, IsDone, IsGround, IsMemberOf, IsSumOf, KeepsOffBlocks, link_ground, numbers_of}
+use Rattle.scr_tree.specs.First.{AreBlocksThere, AreDoneTo, AreMembersThere, IsBlockBefore, IsBlockOf, IsGround, IsMemberOf, IsSumOf, KeepsOffBlocks, link_ground, numbers_of}
 use Rattle.scr_numbers.specs.Ranges.{first}
-use Rattle.scr_tree.specs.Points.{StandsIn, book_reckoning, is_linked, point_worth}
+use Rattle.scr_tree.specs.Points.{StandsIn, book_reckoning, point_worth}
 use Rattle.scr_tree.specs.Summed.{AreBlocksOn, AreMembersOn, KeepsOffBlocksOn, family_in, firsts_on, spanned_ends}
 use Rattle.scr_tree.specs.Turns.{IsBefore, Turn, next, stage_of, turn_of}
 use Rattle.scr_tree.specs.declared.making.Ground.{Ground}
-use Rattle.scr_tree.specs.declared.making.Made.{Made}
 use Rattle.scr_tree.proofs.BlockValues.{block-low, block-there, map-range}
 use Rattle.scr_tree.proofs.BlocksMade.{blocks-beside, blocks-next, known-off, no-block}
 use Rattle.scr_tree.proofs.FirstRows.{got-row}
 use Rattle.scr_tree.proofs.FirstSources.{sources-before}
 use Rattle.scr_tree.proofs.Grounds.{for-links, its-number}
 use Rattle.scr_tree.proofs.Known.{known-weaker}
-use Rattle.scr_tree.proofs.Made.{linked-still, reckoned-next}
+use Rattle.scr_tree.proofs.Made.{reckoned-next}
 use Rattle.scr_tree.proofs.Plain.{is_plain, never-close}
 use Rattle.scr_tree.proofs.SumNumbers.{firsts-are, member-live, member-source, member-stands, rolls}
 use Rattle.scr_tree.proofs.SumWorth.{members-small}
@@ -127,17 +126,6 @@ sums-differ (nodes.Currency currency (of_currencies.Scenario direction measures.
 sums-differ (nodes.Whole (wholes.ClassSum classes.Type2Equity)) sum e d =
     let clash : sums.Class classes.Type2Equity ≡ sums.Closed = one-some (e ∙ sym d) in absurd (cc)
 sums-differ node sum e d = absurd (no-some d)
-
-pub summed-unlinked : (node : Node) → is_some (first_sum node) ≡ true → is_linked node ≡ false
-summed-unlinked (nodes.Group name of_groups.Total) some = refl
-summed-unlinked (nodes.Currency currency (of_currencies.Loss direction)) some = refl
-summed-unlinked (nodes.Currency currency (of_currencies.Scenario direction measures.Gross)) some = refl
-summed-unlinked (nodes.Whole (wholes.ClassSum class)) some = refl
-summed-unlinked (nodes.Whole wholes.Spread) some = refl
-summed-unlinked (nodes.Whole wholes.Assets) some = refl
-summed-unlinked (nodes.Whole wholes.Concentration) some = refl
-summed-unlinked (nodes.Whole (wholes.BioScenario biometric projection measures.Gross)) some = refl
-summed-unlinked node some = absurd (cc)
 
 -- a sum that another figure reads, too, is read before: by the rise, where the figure is a fall
 pub earlier-reader : (sheet : BalanceSheet) (node : Node) (row : ℕ) → slice_get (names_in sheet (table_of node)) row ≡ Some (name_of node)
@@ -555,21 +543,3 @@ module _ (ground : Ground) (g : IsGround ground) where
             (beside (IsBlockOf (IsSumOf node)) (λ n q. q) blocks))
             (beside (IsBlockBefore ground.inputs.book.now.sheet t) (λ n q. q) still-blocks);
       }
-
-  -- lists link it to its sources: the links stay
-  pub summed-made : (node : Node) (row : ℕ)
-      → slice_get (names_in ground.inputs.book.now.sheet (table_of node)) row ≡ Some (name_of node)
-      → is_live ground.inputs.book.now.sheet node ≡ true → is_some (first_sum node) ≡ true
-      → (a : Made) → IsDone ground a (turn_of node row)
-      → (figures : List Figure) → AreDoneTo ground figures (next (turn_of node row)) (next (turn_of node row))
-      → IsDone ground (record { figures = figures; links = a.links }) (next (turn_of node row))
-  summed-made node row named live some a is figures done = record {
-    figures = record {
-      count = done.reckoned.count;
-      size = is.figures.size;
-      known = done.reckoned.known;
-      links = linked-still ground.inputs.book.now.sheet g.valid ground.places.now g.numbered g.numbers a.links.edges (turn_of node row) node
-          is.figures.links (record { at = refl; row = named; family = refl }) live (summed-unlinked node some);
-    };
-    blocks_there = done.blocks_there;
-  }

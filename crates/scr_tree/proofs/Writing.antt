@@ -11,8 +11,6 @@ use Rattle.scr_figures.specs.Families.{family_of, name_of, table_of}
 use Rattle.scr_figures.specs.Numbers.{IsNumbered, StandsAt, names_in}
 use Rattle.scr_figures.proofs.Live.{live-stands}
 use Rattle.scr_figures.proofs.Standing.{stands}
-use Rattle.scr_links.specs.Edges.{Edge, Linked}
-use Rattle.scr_reach.specs.Linked.{AreLinkedOf}
 use Rattle.scr_numbers.specs.Ranges.{IsApart, IsAt, IsOne, IsWithin, Numbered, count, first, stride}
 use Rattle.scr_numbers.specs.declared.table.Table.TheVariants as tables
 use Rattle.scr_sheet.specs.BalanceSheet.{group_name, liability_name, position_name}
@@ -31,15 +29,14 @@ use Rattle.scr_pieces.specs.declared.rows.Sort.TheVariants as sorts
 use Rattle.scr_pieces.proofs.Counted.{all-once, times_row-append}
 use Rattle.scr_rules.specs.Worked.{worked}
 use Rattle.scr_tree.specs.Figures.{AreKnownOf, HasFigure, reckoning_of, worth_of}
-use Rattle.scr_tree.specs.First.{AreDoneTo, AreGroupsDone, AreLinkedTo, AreReckonedTo, AreRowsDone, IsGround, IsLinkedBefore, link_ground}
-use Rattle.scr_tree.specs.Graphs.{graph_of}
-use Rattle.scr_tree.specs.Points.{is_linked}
+use Rattle.scr_tree.specs.First.{AreDoneTo, AreReckonedTo, AreRowsDone, IsGround}
 use Rattle.scr_tree.specs.RowSpans.{IsOfRow, IsRowOf, row_count, sort_table}
-use Rattle.scr_tree.specs.Turns.{IsBefore, stage_of, turn}
+use Rattle.scr_tree.specs.Turns.{IsBefore, turn}
 use Rattle.scr_tree.specs.Written.{IsOfRows, IsWrittenAt, IsWrittenOf, is_by_row, plain_of, rows_among}
 use Rattle.scr_subtotals.specs.declared.figure.Figure.{Figure}
 use Rattle.scr_tree.specs.declared.making.Ground.{Ground}
 use Rattle.scr_tree.proofs.BlockTurns.{blocks-kept, blocks-rows}
+use Rattle.scr_tree.proofs.Grounds.{late}
 use Rattle.scr_tree.proofs.Journaled.{set-here, set-other}
 use Rattle.scr_tree.proofs.Known.{take-next}
 use Rattle.scr_tree.proofs.Plain.{is_plain, plain-worth}
@@ -338,14 +335,6 @@ module _ (ground : Ground) (g : IsGround ground) where
 
   -- ---- by one worker
 
-  late : (s : ℕ) (node : Node) → s ≤ stage_of node → IsBefore ground.inputs.book.now.sheet (turn s 0 0) node → ⊥
-  late s node from (inl less) = omega (arith, from, less)
-  late s node from (inr h) = by h.1.before
-    where
-      by : (h.1.k < 0) ⊎ ((h.1.k ≡ 0) × (family_of node < 0)) → ⊥
-      by (inl less) = omega (arith, less)
-      by (inr same) = let l = same.1 in omega (arith, l)
-
   -- what comes before the currencies is known beforehand, or is reckoned with its row
   early-or : (node : Node) → IsBefore ground.inputs.book.now.sheet (turn 6 0 0) node
       → IsBefore ground.inputs.book.now.sheet (turn 3 0 0) node ⊎ (is_by_row node ≡ true)
@@ -354,9 +343,9 @@ module _ (ground : Ground) (g : IsGround ground) where
   early-or (nodes.Security name what) before = inr refl
   early-or (nodes.Liability name what) before = inr refl
   early-or (nodes.Group name what) before = inr refl
-  early-or (nodes.Currency name what) before = absurd (late 6 (nodes.Currency name what) (omega arith) before)
+  early-or (nodes.Currency name what) before = absurd (late ground.inputs.book.now.sheet 6 (nodes.Currency name what) (omega arith) before)
   early-or (nodes.Whole wholes.Assets) before = inl (inl (omega arith))
-  early-or (nodes.Whole what) before = absurd (late 6 (nodes.Whole what) (omega arith) before)
+  early-or (nodes.Whole what) before = absurd (late ground.inputs.book.now.sheet 6 (nodes.Whole what) (omega arith) before)
 
   pub rows-reckoned : (rows : List Row) → ((sort : Sort) (k : ℕ) → k < row_count ground.inputs.book.now.sheet sort → 0 < times_row (row sort k) rows)
       → (a b : List Figure) → AreReckonedTo ground a (turn 3 0 0) → IsWrittenOf ground rows a b → AreReckonedTo ground b (turn 6 0 0)
@@ -371,49 +360,12 @@ module _ (ground : Ground) (g : IsGround ground) where
       by node number stood live (inl early) = written.kept node number stood live (is.known node number stood live early)
       by node number stood live (inr own) = written.each node number stood (its-row rows all node live own)
 
-  -- what is linked before the currencies is a total of a fund or of a security
-  early-total : (node : Node) → is_linked node ≡ true → IsBefore ground.inputs.book.now.sheet (turn 6 0 0) node
-      → IsBefore ground.inputs.book.now.sheet (turn 2 0 0) node
-  early-total (nodes.Fund name what) its before = inl (omega arith)
-  early-total (nodes.Security name of_securities.Total) its before = inl (omega arith)
-  early-total (nodes.Security name what) its before = absurd (let clash : false ≡ true = its in cc)
-  early-total (nodes.Liability name what) its before = absurd (let clash : false ≡ true = its in cc)
-  early-total (nodes.Group name what) its before = absurd (let clash : false ≡ true = its in cc)
-  early-total (nodes.Currency name what) its before = absurd (late 6 (nodes.Currency name what) (omega arith) before)
-  early-total (nodes.Whole wholes.Assets) its before = absurd (let clash : false ≡ true = its in cc)
-  early-total (nodes.Whole what) its before = absurd (late 6 (nodes.Whole what) (omega arith) before)
-
-  rows-linked : (edges : List Edge)
-      → AreLinkedOf (graph_of ground.inputs.book.now.sheet) At edges (IsLinkedBefore ground.inputs.book.now.sheet (turn 2 0 0))
-      → AreLinkedOf (graph_of ground.inputs.book.now.sheet) At edges (IsLinkedBefore ground.inputs.book.now.sheet (turn 6 0 0))
-  rows-linked edges is = record {
-    done = λ node number stood live before. is.done node number stood live (early-total node before.1 before.0, before.1);
-    only = λ e has. let l = is.only e has in (l.0, l.1, l.2, (later l.0 l.3.0, l.3.1));
-  }
-    where
-      later : (node : Node) → IsBefore ground.inputs.book.now.sheet (turn 2 0 0) node → IsBefore ground.inputs.book.now.sheet (turn 6 0 0) node
-      later node (inl less) = inl (omega (arith, less))
-      later node (inr h) = let e = h.0 in inl (omega (arith, e))
-
   -- all rows are written, and nothing but their figures
   pub rows-done : (rows : List Row) → ((sort : Sort) (k : ℕ) → k < row_count ground.inputs.book.now.sheet sort → 0 < times_row (row sort k) rows)
       → (a b : List Figure) → AreDoneTo ground a (turn 3 0 0) (turn 3 0 0) → IsWrittenOf ground rows a b → AreRowsDone ground b
   rows-done rows all a b is written = record {
     reckoned = rows-reckoned rows all a b is.reckoned written;
     blocks_there = blocks-rows ground g b (blocks-kept ground g a b (turn 3 0 0) written.parts is.blocks_there);
-  }
-
-  -- with the links of all totals
-  pub rows-made : (figures : List Figure) (links : Linked) → AreRowsDone ground figures → AreLinkedTo (link_ground ground) links (turn 2 0 0)
-      → AreGroupsDone ground (record { figures = figures; links = links }) 0
-  rows-made figures links is linked = record {
-    figures = record {
-      count = is.reckoned.count;
-      size = linked.size;
-      known = is.reckoned.known;
-      links = rows-linked links.edges linked.linked;
-    };
-    blocks_there = is.blocks_there;
   }
 
 -- ---- spans of rows

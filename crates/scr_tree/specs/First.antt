@@ -1,5 +1,5 @@
 -- What the first reckoning of all figures has made (this project's own).
-use Rattle.std.specs.Prelude.{◌≡◌, ◌⊎◌, ℕ, ◌<◌, ◌≤◌, ◌++◌, true, false, All, Contains, IfSome, List, Some, length, map, nat_eq, slice_get}
+use Rattle.std.specs.Prelude.{◌≡◌, ◌⊎◌, ℕ, ◌<◌, ◌≤◌, ◌++◌, true, false, All, Contains, List, Some, length, map, nat_eq, slice_get}
 use Rattle.scr_discounts.specs.KeptRates.{all_rates, known_of}
 use Rattle.scr_factors.specs.Values.{FactorValues, IsInForm}
 use Rattle.scr_figures.specs.Numbers.{IsNumbered, StandsAt}
@@ -16,7 +16,7 @@ use Rattle.scr_sheet.specs.Validity.{Valid}
 use Rattle.scr_totals.specs.ByNumber.{names_by_number}
 use Rattle.scr_nodes.specs.declared.node.Node.{Node}
 use Rattle.scr_reach.specs.Linked.{AreLinkedOf, AreNumbers, edges_to, sources_in}
-use Rattle.scr_tree.specs.Figures.{AreKnownOf, AreSettled, reckoning_of, worth_at, worth_of}
+use Rattle.scr_tree.specs.Figures.{AreKnownOf, AreSettled, reckoning_of}
 use Rattle.scr_tree.specs.Inputs.{AreOfBook}
 use Rattle.scr_tree.specs.Turns.{IsBefore, Turn, turn}
 use Rattle.scr_subtotals.specs.declared.figure.Figure.{Figure}
@@ -24,7 +24,7 @@ use Rattle.scr_tree.specs.declared.first.{Found.Found, Gathered.Gathered, Number
 use Rattle.scr_tree.specs.declared.graph.Numbers.{Numbers}
 use Rattle.scr_tree.specs.declared.making.Ground.{Ground}
 use Rattle.scr_tree.specs.declared.making.LinkGround.{LinkGround}
-use Rattle.scr_tree.specs.declared.making.Made.{Made}
+use Rattle.scr_tree.specs.declared.making.LinkedGround.{LinkedGround}
 use Rattle.scr_tree.specs.Graphs.{graph_of}
 use Rattle.scr_book.specs.RolledSheets.{RolledSheet}
 use Rattle.scr_lists.specs.Lists.{AreListsOf}
@@ -40,25 +40,6 @@ use Rattle.scr_tree.specs.Points.{AreNumbersOf, IsLinkedPoint, StandsIn, book_gr
 
 -- ---- what is made
 
--- A figure is written at the number, and these sources are linked to it. To all other numbers all is as before. Links have room for no
--- number that figures have no place for.
-pub record IsEntered (number : ℕ) (sources : List ℕ) (figure : Figure) (before now : Made) : Type 0 where
-  pub count : length now.figures ≡ length before.figures
-  pub size : before.links.size ≤ length before.figures → now.links.size ≤ length before.figures
-  pub there : slice_get now.figures number ≡ Some figure
-  pub others : (other : ℕ) → (other ≡ number → ⊥)
-      → slice_get now.figures other ≡ slice_get before.figures other
-  pub made : sources_in now.links.edges number ≡ sources_in before.links.edges number ++ sources
-  pub kept : (other : ℕ) → nat_eq number other ≡ false
-      → edges_to now.links.edges other ≡ edges_to before.links.edges other
-
--- it is the figure of the node
-pub record IsPut (factors : FactorValues) (sheet : BalanceSheet) (node : Node) (number : ℕ) (sources : List ℕ)
-    (before now : Made) : Type 0 where
-  pub figure : Figure
-  pub right : worth_of figure ≡ worth_at factors sheet node
-  pub entered : IsEntered number sources figure before now
-
 -- a figure before a turn, which is linked
 abbrev pub IsLinkedBefore : BalanceSheet → Turn → Node → Type 0
 IsLinkedBefore sheet t node = IsBefore sheet t node × (is_linked node ≡ true)
@@ -68,20 +49,12 @@ abbrev pub IsBlockBefore : BalanceSheet → Turn → Point → Type 0
 IsBlockBefore sheet t (points.Figure node) = ⊥
 IsBlockBefore sheet t (points.Block block) = IsBefore sheet t (reader_of block.sum)
 
--- There is a place for each figure. All figures before a turn are reckoned, and figures before a turn are linked that
--- neither rows nor lists give.
-pub record IsMade (factors : FactorValues) (sheet : BalanceSheet) (places : Numbered) (made : Made) (reckoned linked : Turn) : Type 0 where
-  pub count : length made.figures ≡ places.size
-  pub size : made.links.size ≤ places.size
-  pub known : AreKnownOf (reckoning_of factors sheet) (StandsAt sheet places) made.figures (IsBefore sheet reckoned)
-  pub links : AreLinkedOf (graph_of sheet) (StandsAt sheet places) made.links.edges (IsLinkedBefore sheet linked)
-
 -- Each figure and each Block is at its number, and figures are linked that neither rows nor lists give.
-pub record IsAllMade (factors : FactorValues) (book : RolledSheet) (places : Numbered) (lists : Lists) (made : Made) : Type 0 where
-  pub count : length made.figures ≡ places.size
-  pub size : made.links.size ≤ places.size
-  pub figures : AreSettled (book_reckoning factors (rolled_of book)) (StandsIn book places lists) made.figures
-  pub links : AreLinkedOf (book_graph (rolled_of book)) (StandsIn book places lists) made.links.edges IsLinkedPoint
+pub record IsAllMade (factors : FactorValues) (book : RolledSheet) (places : Numbered) (lists : Lists) (figures : List Figure) (links : Linked) : Type 0 where
+  pub count : length figures ≡ places.size
+  pub size : links.size ≤ places.size
+  pub settled : AreSettled (book_reckoning factors (rolled_of book)) (StandsIn book places lists) figures
+  pub linked : AreLinkedOf (book_graph (rolled_of book)) (StandsIn book places lists) links.edges IsLinkedPoint
 
 -- the rows are those of a valid balance sheet, and so are the numbers, the lists, the rates, the gathered rows and the losses
 pub record IsGround (ground : Ground) : Type 0 where
@@ -147,21 +120,21 @@ pub record AreDoneTo (ground : Ground) (figures : List Figure) (t u : Turn) : Ty
 abbrev pub AreRowsDone : Ground → List Figure → Type 0
 AreRowsDone ground figures = AreDoneTo ground figures (turn 6 0 0) (turn 5 0 0)
 
--- all before one turn is reckoned, all before another is linked, and the Blocks are there under sums that are read before a third
-pub record IsMadeTo (ground : Ground) (made : Made) (reckoned linked blocks : Turn) : Type 0 where
-  pub figures : IsMade ground.inputs.factors.now ground.inputs.book.now.sheet ground.places.now made reckoned linked
-  pub blocks_there : AreKnownOf (book_reckoning ground.inputs.factors.now (rolled_of ground.inputs.book.now))
-      (StandsIn ground.inputs.book.now ground.places.now ground.lists.now) made.figures (IsBlockBefore ground.inputs.book.now.sheet blocks)
-
-abbrev pub IsDone : Ground → Made → Turn → Type 0
-IsDone ground made t = IsMadeTo ground made t t t
-
-abbrev pub IsWhole : Ground → Made → Type 0
-IsWhole ground made = IsAllMade ground.inputs.factors.now ground.inputs.book.now ground.places.now ground.lists.now made
-
 -- the Blocks under the totals of the first groups are there, and all figures of rows
-abbrev pub AreGroupsDone : Ground → Made → ℕ → Type 0
-AreGroupsDone ground made k = IsMadeTo ground made (turn 6 0 0) (turn 6 0 0) (turn 5 k 0)
+abbrev pub AreGroupsDone : Ground → List Figure → ℕ → Type 0
+AreGroupsDone ground figures k = AreDoneTo ground figures (turn 6 0 0) (turn 5 k 0)
+
+-- all figures before a turn are reckoned, with the Blocks under the sums that they read
+abbrev pub AreDone : Ground → List Figure → Turn → Type 0
+AreDone ground figures t = AreDoneTo ground figures t t
+
+abbrev pub IsWhole : Ground → List Figure → Linked → Type 0
+IsWhole ground figures links = IsAllMade ground.inputs.factors.now ground.inputs.book.now ground.places.now ground.lists.now figures links
+
+-- what figures are read from: the ground, and all links that neither rows nor lists give
+pub record IsLinkedGround (linked : LinkedGround) : Type 0 where
+  pub ground : IsGround linked.ground
+  pub links : AreLinkedTo (link_ground linked.ground) linked.links.now (turn 7 0 153)
 
 -- what numbers are read off
 abbrev pub numbers_of : Ground → Numbers
@@ -214,10 +187,9 @@ pub record AreNumbered (book : RolledSheet) (numbering : Numbering) : Type 0 whe
   pub rows : IsNumbered book.sheet numbering.places
   pub lists : AreListsOf book numbering.places numbering.lists
 
--- the totals of funds and securities are linked
-pub record AreTotalsLinked (sheet : BalanceSheet) (places : Numbered) (links : Linked) : Type 0 where
-  pub size : links.size ≤ places.size
-  pub linked : AreLinkedOf (graph_of sheet) (StandsAt sheet places) links.edges (IsLinkedBefore sheet (turn 2 0 0))
+-- there is a place for the figure at each number
+abbrev pub HaveRoom : Numbering → List Figure → Type 0
+HaveRoom numbering figures = length figures ≡ numbering.places.size
 
 -- all that is found is the book's
 pub record IsFound (book : RolledSheet) (found : Found) : Type 0 where
@@ -225,4 +197,4 @@ pub record IsFound (book : RolledSheet) (found : Found) : Type 0 where
   pub losses : AreLossesOf book.sheet found.losses
   pub numbering : AreNumbered book found.numbering
   pub gathered : IsGathered book.sheet found.gathered
-  pub links : IfSome found.links (AreTotalsLinked book.sheet found.numbering.places)
+  pub room : HaveRoom found.numbering found.figures

@@ -67,8 +67,9 @@ impl Model for Engine {
 }
 
 impl Engine {
-    /// The engine over a book. All figures are reckoned once: by one worker one after another on this thread, by several each as
-    /// soon as those of its sources are known. The gate is passed before each evaluation. Want of memory lets factors and book go.
+    /// The engine over a book. All figures are reckoned once: by one worker one after another on this thread, the gate passed before each;
+    /// by several those of rows at once and those of the whole sheet each as soon as those of its sources are known, the gate passed before
+    /// each, and all others on this thread, for which it is passed at the end. Want of memory lets factors and book go.
     pub fn new<R: Threads + Sync, G: Gate + Sync>(
         rt: &R,
         alloc: Global,

@@ -1,22 +1,22 @@
 //! The figures of a book, all reckoned for the first time: totals, rows, and then the large sums with their Blocks and all that is
 //! reckoned from them in its order. Several workers share out the rows.
-ghost use Rattle.std.specs.Prelude.{◌≡◌, ◌+◌, ◌<◌, length, IfOk, IfSome, OnOk};
+ghost use Rattle.std.specs.Prelude.{◌≡◌, ◌+◌, ◌<◌, length, IfOk, OnOk};
 ghost use Rattle.scr_discounts.specs.KeptRates.{all_rates, known_of};
-ghost use Rattle.scr_pieces.specs.Rows.{rows_from};
+ghost use Rattle.scr_pieces.specs.Rows.{AreAllRows, rows_from};
 ghost use Rattle.scr_rules.specs.GroupLosses.{AreLossesOf};
-ghost use Rattle.scr_tree.specs.First.{AreDoneTo, AreGroupsDone, AreNumbered, AreReckonedTo, AreRowsDone, AreTotalsLinked, IsDone, IsFound, IsGathered, IsGround, IsWhole, totals_of};
+ghost use Rattle.scr_tree.specs.First.{AreDone, AreDoneTo, AreGroupsDone, AreLinkedTo, AreNumbered, AreReckonedTo, AreRowsDone, HaveRoom, IsFound, IsGathered, IsGround, IsLinkGround, IsLinkedGround, IsWhole, link_ground, totals_of};
 ghost use Rattle.scr_tree.specs.Opened.{IsOpened};
-ghost use Rattle.scr_tree.specs.RowSpans.{IsRowGround, row_count};
+ghost use Rattle.scr_tree.specs.RowSpans.{IsRowGround, IsRowOf, row_count};
 ghost use Rattle.scr_tree.specs.Turns.{turn};
 ghost use Rattle.scr_tree.specs.Written.{IsWrittenOf};
 
 use crate::basis::Crew;
 use crate::figures::{Below, Figures, Inputs, no_figures};
-use crate::first_links::{ASSETS, OF_CURRENCY, WHOLES, links_of_totals};
+use crate::first_links::{ASSETS, OF_CURRENCY, WHOLES, all_links};
 use crate::first_parts::{write_parts, write_row};
 use crate::first_totals::enter_totals;
 use crate::left::put_left;
-use crate::making::{Ground, LinkGround, Made, Making, put_found, put_live, put_summed};
+use crate::making::{Ground, LinkedGround, Made, Making, put_found, put_live, put_summed};
 use crate::passes::pass_found;
 use crate::row_spans::RowGround;
 use scr_book::Book;
@@ -29,7 +29,7 @@ use scr_lists::{Lists, lists_of};
 use scr_nodes::{Node, Whole};
 use scr_num::Span;
 use scr_numbers::Places;
-use scr_pieces::{RowPlan, Sort, reckon_rows};
+use scr_pieces::{Part, RowPlan, Sort, reckon_rows};
 use scr_rules::{GroupLosses, Rates, group_losses, rates};
 use scr_sums::Sum;
 use scr_totals::totals;
@@ -63,17 +63,17 @@ struct Numbering {
     lists: Lists,
 }
 
-/// What is found before any figure is reckoned; with the links of totals, where several workers are to reckon.
+/// What is found before any figure is reckoned, with room for all figures.
 #[derive(Drop)]
 struct Found {
     rates: Rates,
     losses: GroupLosses,
     numbering: Numbering,
     gathered: Gathered,
-    links: Option<Links>,
+    figures: Figures,
 }
 
-/// All figures of a book with their links. The gate is passed before each evaluation. Only want of memory is refused.
+/// All figures of a book with their links. The gate is passed once for each. Only want of memory is refused.
 pub(crate) fn reckon_all<R: Threads + Sync, G: Gate + Sync>(
     crew: &Crew<'_, R, G>,
     factors: &Factors,
@@ -89,7 +89,7 @@ pub(crate) fn reckon_all<R: Threads + Sync, G: Gate + Sync>(
         losses,
         numbering,
         gathered,
-        links,
+        figures,
     } = found;
     let Numbering { places, lists } = numbering;
     let Gathered { members, totals } = gathered;
@@ -110,7 +110,7 @@ pub(crate) fn reckon_all<R: Threads + Sync, G: Gate + Sync>(
         members: &members,
         losses: &losses,
     };
-    let made = make_all::<R, G, Brand>(crew, ground, totals, links, Blank::new(1))?;
+    let made = make_all::<R, G, Brand>(crew, ground, totals, figures, Blank::new(1))?;
     Ok(Opened {
         rates,
         places,
@@ -120,8 +120,7 @@ pub(crate) fn reckon_all<R: Threads + Sync, G: Gate + Sync>(
     })
 }
 
-/// What is found before any figure is reckoned: by several workers rates and losses beside all others. By one the links come later, when
-/// nothing takes the totals in cents any more.
+/// What is found before any figure is reckoned: by several workers rates and losses beside all others.
 fn found_beside<R: Threads + Sync, G: Gate + Sync>(
     crew: &Crew<'_, R, G>,
     factors: &Factors,
@@ -137,23 +136,24 @@ fn found_beside<R: Threads + Sync, G: Gate + Sync>(
         ensures rates { IfOk result (λ all. known_of all.0 ≡ all_rates book.entry.now.sheet) }
         ensures losses { IfOk result (λ all. AreLossesOf book.entry.now.sheet all.1) }
     { rates_and_losses(alloc, factors, book) };
-    let linking = move || -> Result<(Numbering, Gathered, Links), NoMemory>
+    let numbering = move || -> Result<(Numbering, Gathered, Figures), NoMemory>
         ensures numbering { IfOk result (λ all. AreNumbered book.entry.now all.0) }
         ensures gathered { IfOk result (λ all. IsGathered book.entry.now.sheet all.1) }
-        ensures links { IfOk result (λ all. AreTotalsLinked book.entry.now.sheet all.0.places all.2) }
-    { linked_rows(alloc, book) };
-    let (priced, rows) = join(crew.rt, pricing, linking);
+        ensures room { IfOk result (λ all. HaveRoom all.0 all.2) }
+    { numbered_rows(alloc, book) };
+    let (priced, rows) = join(crew.rt, pricing, numbering);
     let (rates, losses) = priced?;
-    let (numbering, gathered, links) = rows?;
+    let (numbering, gathered, figures) = rows?;
     Ok(Found {
         rates,
         losses,
         numbering,
         gathered,
-        links: Some(links),
+        figures,
     })
 }
 
+/// The same on this thread.
 fn found_in_turn(alloc: Global, factors: &Factors, book: &Book) -> Result<Found, NoMemory>
     ensures { IfOk result (IsFound book.now) }
 {
@@ -161,12 +161,13 @@ fn found_in_turn(alloc: Global, factors: &Factors, book: &Book) -> Result<Found,
     let rates = rates(alloc, factors, book)?;
     let gathered = gather_all(alloc, book)?;
     let losses = group_losses(alloc, book)?;
+    let figures = no_figures(alloc, numbering.places.len())?;
     Ok(Found {
         rates,
         losses,
         numbering,
         gathered,
-        links: None,
+        figures,
     })
 }
 
@@ -184,25 +185,16 @@ fn rates_and_losses(
     Ok((known, losses))
 }
 
-/// All that the links of totals are made from, with these links.
-fn linked_rows(alloc: Global, book: &Book) -> Result<(Numbering, Gathered, Links), NoMemory>
+/// What rests on the rows alone, with room for all figures.
+fn numbered_rows(alloc: Global, book: &Book) -> Result<(Numbering, Gathered, Figures), NoMemory>
     ensures numbering { IfOk result (λ all. AreNumbered book.now all.0) }
     ensures gathered { IfOk result (λ all. IsGathered book.now.sheet all.1) }
-    ensures links { IfOk result (λ all. AreTotalsLinked book.now.sheet all.0.places all.2) }
+    ensures room { IfOk result (λ all. HaveRoom all.0 all.2) }
 {
     let numbering = numbering_of(alloc, book)?;
     let gathered = gather_all(alloc, book)?;
-    // The sheet is valid, and no number is that of two rows.
-    book.sheet();
-    numbering.places.len();
-    let ground = LinkGround {
-        alloc,
-        book,
-        places: &numbering.places,
-        members: &gathered.members,
-    };
-    let links = links_of_totals(ground)?;
-    Ok((numbering, gathered, links))
+    let figures = no_figures(alloc, numbering.places.len())?;
+    Ok((numbering, gathered, figures))
 }
 
 /// The numbers of all figures, and the lists of members with those of their parts.
@@ -223,12 +215,12 @@ fn gather_all(alloc: Global, book: &Book) -> Result<Gathered, NoMemory>
     Ok(Gathered { members, totals })
 }
 
-/// All figures, each after those that it is reckoned from: by several workers where the links of totals are made.
+/// All figures, each after those that it is reckoned from.
 fn make_all<R: Threads + Sync, G: Gate + Sync, L: Ledger>(
     crew: &Crew<'_, R, G>,
     ground: Ground<'_>,
     totals: Vec<u64>,
-    links: Option<Links>,
+    figures: Figures,
     blank: Blank,
 ) -> Result<Made, NoMemory>
     requires name { blank.name ≡ L.name }
@@ -236,13 +228,14 @@ fn make_all<R: Threads + Sync, G: Gate + Sync, L: Ledger>(
     requires some { 0 < blank.parts }
     requires ground { IsGround ground }
     requires totals { totals.items ≡ totals_of ground.inputs.book.now.sheet }
-    requires links { IfSome links (AreTotalsLinked ground.inputs.book.now.sheet ground.places.now) }
-    ensures { IfOk result (IsWhole ground.entry) }
+    requires room { length figures ≡ ground.places.now.size }
+    ensures { IfOk result (λ made. IsWhole ground.entry made.figures made.links) }
 {
     let mut steps = Steps::<L>::new(blank);
-    match links {
-        Some(links) => put_together(crew, ground, totals, links, &mut steps),
-        None => put_in_turn(ground, totals, crew.gate, &mut steps),
+    if crew.workers == 1 {
+        put_in_turn(ground, totals, figures, crew.gate, &mut steps)
+    } else {
+        put_together(crew, ground, totals, figures, &mut steps)
     }
 }
 
@@ -251,60 +244,75 @@ fn make_all<R: Threads + Sync, G: Gate + Sync, L: Ledger>(
 fn put_in_turn<G: Gate, L: Ledger>(
     ground: Ground<'_>,
     totals: Vec<u64>,
+    figures: Figures,
     gate: &G,
     steps: &mut Steps<L>,
 ) -> Result<Made, NoMemory>
     requires ground { IsGround ground }
     requires totals { totals.items ≡ totals_of ground.inputs.book.now.sheet }
-    ensures { IfOk result (IsWhole ground.entry) }
+    requires room { length figures ≡ ground.places.now.size }
+    ensures { IfOk result (λ made. IsWhole ground.entry made.figures made.links) }
 {
-    let mut figures = no_figures(ground.alloc, ground.places.len())?;
+    let mut figures = figures;
     enter_totals(ground, totals.as_slice(), &mut figures, gate);
     put_assets(ground, &mut figures, gate, steps);
     put_rows(ground, totals.as_slice(), &mut figures, gate)?;
     drop(totals);
-    let links = links_of_totals(ground.for_links())?;
-    let mut making = making_of(ground.alloc, Made { figures, links });
-    put_groups(ground, &mut making.made, gate);
-    put_currencies(ground, &mut making, gate, steps)?;
-    put_wholes(ground, &mut making, gate, steps)?;
-    Ok(making.made)
+    let links = all_links(ground.for_links())?;
+    let mut making = making_of(ground.alloc, figures);
+    let linked = LinkedGround {
+        ground,
+        links: &links,
+    };
+    put_groups(ground, &mut making.figures, gate);
+    put_currencies(linked, &mut making, gate, steps)?;
+    put_wholes(linked, &mut making, gate, steps)?;
+    Ok(Made {
+        figures: making.figures,
+        links,
+    })
 }
 
-/// All figures by several workers: rows in pieces, those of currencies and all Blocks one after another, and then those of the whole sheet, each
-/// as soon as those of its sources are known. What was found on one thread passes the gate when all workers are done.
+/// All figures by several workers: rows in pieces, beside all links, those of currencies and all Blocks one after another, and then those
+/// of the whole sheet, each as soon as those of its sources are known. What was found on one thread passes the gate when all workers are done.
 fn put_together<R: Threads + Sync, G: Gate + Sync, L: Ledger>(
     crew: &Crew<'_, R, G>,
     ground: Ground<'_>,
     totals: Vec<u64>,
-    links: Links,
+    figures: Figures,
     steps: &mut Steps<L>,
 ) -> Result<Made, NoMemory>
     requires ground { IsGround ground }
     requires totals { totals.items ≡ totals_of ground.inputs.book.now.sheet }
-    requires links { AreTotalsLinked ground.inputs.book.now.sheet ground.places.now links }
-    ensures { IfOk result (IsWhole ground.entry) }
+    requires room { length figures ≡ ground.places.now.size }
+    ensures { IfOk result (λ made. IsWhole ground.entry made.figures made.links) }
 {
-    let mut figures = no_figures(ground.alloc, ground.places.len())?;
+    let mut figures = figures;
     enter_totals(ground, totals.as_slice(), &mut figures, &OpenGate);
     put_assets(ground, &mut figures, &OpenGate, steps);
-    put_by_pieces(crew, ground, totals.as_slice(), &mut figures)?;
+    let links = put_by_pieces(crew, ground, totals.as_slice(), &mut figures)?;
     drop(totals);
-    let mut making = making_of(ground.alloc, Made { figures, links });
-    put_groups(ground, &mut making.made, &OpenGate);
-    put_currencies(ground, &mut making, &OpenGate, steps)?;
-    put_left(crew, ground, &mut making.made)?;
+    let mut making = making_of(ground.alloc, figures);
+    let linked = LinkedGround {
+        ground,
+        links: &links,
+    };
+    put_groups(ground, &mut making.figures, &OpenGate);
+    put_currencies(linked, &mut making, &OpenGate, steps)?;
+    put_left(crew, linked, &mut making.figures)?;
     pass_found(ground, crew.gate);
-    Ok(making.made)
+    Ok(Made {
+        figures: making.figures,
+        links,
+    })
 }
 
-/// What is made, with no room yet for what one figure is reckoned from.
-fn making_of(alloc: Global, made: Made) -> Making
-    ensures { result.made ≡ made }
+/// The figures that are made, with no room yet for what one is reckoned from.
+fn making_of(alloc: Global, figures: Figures) -> Making
+    ensures { result.figures ≡ figures }
 {
     Making {
-        made,
-        sources: Vec::new(alloc),
+        figures,
         below: Below {
             spans: Vec::new(alloc),
             close: false,
@@ -381,100 +389,112 @@ fn put_sort<G: Gate>(
     Ok(())
 }
 
-/// The figures of all rows by several workers, who draw the rows in pieces.
+/// The figures of all rows by several workers, who draw the rows in pieces, and beside them all links.
 fn put_by_pieces<R: Threads + Sync, G: Gate + Sync>(
     crew: &Crew<'_, R, G>,
     ground: Ground<'_>,
     totals: &[u64],
     figures: &mut Figures,
-) -> Result<(), NoMemory>
+) -> Result<Links, NoMemory>
     requires ground { IsGround ground }
     requires totals { totals.now ≡ totals_of ground.inputs.book.now.sheet }
     requires done { AreDoneTo ground figures.old (turn 3 0 0) (turn 3 0 0) }
-    ensures { OnOk result (AreRowsDone ground.entry figures.new) }
+    ensures rows { IfOk result (λ links. AreRowsDone ground.entry figures.new) }
+    ensures links { IfOk result (λ links. AreLinkedTo (link_ground ground.entry) links (turn 7 0 153)) }
 {
     let rows = row_ground(ground, totals, figures);
-    let parts = reckon_rows(crew.rt, crew.alloc, crew.workers, &rows, crew.gate)?;
+    let linked = ground.for_links();
+    let reckoning = move || -> Result<Vec<Part>, NoMemory>
+        requires { IsRowGround rows }
+        ensures { IfOk result (λ parts. AreAllRows (row_count rows.entry.ground.inputs.book.now.sheet)
+            (IsRowOf rows.entry.ground.inputs.factors.now rows.entry.ground.inputs.book.now.sheet) parts.items) }
+    { reckon_rows(crew.rt, crew.alloc, crew.workers, &rows, crew.gate) };
+    let linking = move || -> Result<Links, NoMemory>
+        requires { IsLinkGround linked }
+        ensures { IfOk result (λ links. AreLinkedTo linked.entry links (turn 7 0 153)) }
+    { all_links(linked) };
+    let (parts, links) = join(crew.rt, reckoning, linking);
+    let parts = parts?;
     write_parts(ground, figures, parts.as_slice());
-    Ok(())
+    links
 }
 
 /// The Blocks under the totals of groups, which were reckoned with their rows.
-fn put_groups<G: Gate>(ground: Ground<'_>, made: &mut Made, gate: &G)
+fn put_groups<G: Gate>(ground: Ground<'_>, figures: &mut Figures, gate: &G)
     requires ground { IsGround ground }
-    requires done { AreGroupsDone ground made.old 0 }
-    ensures { IsDone ground.entry made.new (turn 6 0 0) }
+    requires done { AreGroupsDone ground figures.old 0 }
+    ensures { AreDone ground.entry figures.new (turn 6 0 0) }
 {
     let sheet = ground.inputs.book.sheet();
     for k in 0..sheet.groups.len() {
-        put_group(ground, made, k, gate);
+        put_group(ground, figures, k, gate);
     }
 }
 
 /// The Blocks under the total of a group.
-fn put_group<G: Gate>(ground: Ground<'_>, made: &mut Made, k: usize, gate: &G)
+fn put_group<G: Gate>(ground: Ground<'_>, figures: &mut Figures, k: usize, gate: &G)
     requires ground { IsGround ground }
     requires row { k < length ground.inputs.book.now.sheet.groups }
-    requires done { AreGroupsDone ground made.old k }
-    ensures { AreGroupsDone ground.entry made.new (k + 1) }
+    requires done { AreGroupsDone ground figures.old k }
+    ensures { AreGroupsDone ground.entry figures.new (k + 1) }
 {
     let group = ground.inputs.book.sheet().groups.at(k);
     let found = Some(Sum::Group(group.name));
-    put_found(ground, &mut made.figures, &found, gate);
+    put_found(ground, figures, &found, gate);
 }
 
 fn put_currencies<G: Gate, L: Ledger>(
-    ground: Ground<'_>,
+    linked: LinkedGround<'_>,
     making: &mut Making,
     gate: &G,
     steps: &mut Steps<L>,
 ) -> Result<(), NoMemory>
-    requires ground { IsGround ground }
-    requires done { IsDone ground making.old.made (turn 6 0 0) }
-    ensures { OnOk result (IsDone ground.entry making.new.made (turn 7 0 0)) }
+    requires linked { IsLinkedGround linked }
+    requires done { AreDone linked.ground making.old.figures (turn 6 0 0) }
+    ensures { OnOk result (AreDone linked.entry.ground making.new.figures (turn 7 0 0)) }
 {
-    for k in 0..ground.inputs.book.sheet().curves.len() {
-        put_currency(ground, making, k, gate, steps)?;
+    for k in 0..linked.ground.inputs.book.sheet().curves.len() {
+        put_currency(linked, making, k, gate, steps)?;
     }
     Ok(())
 }
 
 /// The figures of a currency.
 fn put_currency<G: Gate, L: Ledger>(
-    ground: Ground<'_>,
+    linked: LinkedGround<'_>,
     making: &mut Making,
     k: usize,
     gate: &G,
     steps: &mut Steps<L>,
 ) -> Result<(), NoMemory>
-    requires ground { IsGround ground }
-    requires row { k < length ground.inputs.book.now.sheet.curves }
-    requires done { IsDone ground making.old.made (turn 6 k 0) }
-    ensures { OnOk result (IsDone ground.entry making.new.made (turn 6 (k + 1) 0)) }
+    requires linked { IsLinkedGround linked }
+    requires row { k < length linked.ground.inputs.book.now.sheet.curves }
+    requires done { AreDone linked.ground making.old.figures (turn 6 k 0) }
+    ensures { OnOk result (AreDone linked.entry.ground making.new.figures (turn 6 (k + 1) 0)) }
 {
-    let name = ground.inputs.book.sheet().curves.at(k).currency;
+    let name = linked.ground.inputs.book.sheet().curves.at(k).currency;
     for family in 0..OF_CURRENCY {
         let what = currency_at(family);
         let node = Node::Currency(name, what);
-        put_live(ground, making, &node, k, gate, steps)?;
+        put_live(linked, making, &node, k, gate, steps)?;
     }
     Ok(())
 }
 
 /// The figures of the whole sheet.
 fn put_wholes<G: Gate, L: Ledger>(
-    ground: Ground<'_>,
+    linked: LinkedGround<'_>,
     making: &mut Making,
     gate: &G,
     steps: &mut Steps<L>,
 ) -> Result<(), NoMemory>
-    requires ground { IsGround ground }
-    requires done { IsDone ground making.old.made (turn 7 0 0) }
-    ensures { OnOk result (IsDone ground.entry making.new.made (turn 7 0 153)) }
+    requires linked { IsLinkedGround linked }
+    requires done { AreDone linked.ground making.old.figures (turn 7 0 0) }
+    ensures { OnOk result (AreDone linked.entry.ground making.new.figures (turn 7 0 153)) }
 {
     for number in 0..WHOLES {
         put_live(
-            ground,
+            linked,
             making,
             &Node::Whole(whole_at(number)),
             0,

@@ -1,5 +1,5 @@
-//! The links between the numbers of the totals of funds and securities.
-ghost use Rattle.std.specs.Prelude.{◌≡◌, ◌<◌, ◌≤◌, [], true, Some, length, slice_get, IfOk, OnOk};
+//! The links between the numbers of figures, but for those that rows and lists give.
+ghost use Rattle.std.specs.Prelude.{◌≡◌, ◌+◌, ◌<◌, ◌≤◌, [], true, Some, length, slice_get, IfOk, OnOk};
 ghost use Rattle.std.specs.List.{list_any};
 ghost use Rattle.scr_figures.specs.Families.{name_of, table_of};
 ghost use Rattle.scr_figures.specs.Numbers.{names_in};
@@ -12,7 +12,7 @@ ghost use Rattle.scr_tree.specs.Turns.{next, turn, turn_of};
 
 use crate::graph::is_linked;
 use crate::making::{LinkGround, gather_linked, make_room, number_at};
-use scr_figures::whole_at;
+use scr_figures::{currency_at, whole_at};
 use scr_links::Links;
 use scr_nodes::{Node, OfFund, OfSecurity, is_live};
 use scr_reach::link;
@@ -31,8 +31,20 @@ pub(crate) const WHOLES: u32 = 153;
 /// How many links figures of the whole sheet have to others of it, or some more.
 const OF_WHOLES: usize = 320;
 
+/// All links but those that rows and lists give.
+pub(crate) fn all_links(ground: LinkGround<'_>) -> Result<Links, NoMemory>
+    requires { IsLinkGround ground }
+    ensures { IfOk result (λ links. AreLinkedTo ground.entry links (turn 7 0 153)) }
+{
+    let mut links = links_of_totals(ground)?;
+    let mut sources = Vec::new(ground.alloc);
+    link_currencies(ground, &mut links, &mut sources)?;
+    link_wholes(ground, &mut links, &mut sources)?;
+    Ok(links)
+}
+
 /// The links between the totals of all funds and securities, with room for all that are expected.
-pub(crate) fn links_of_totals(ground: LinkGround<'_>) -> Result<Links, NoMemory>
+fn links_of_totals(ground: LinkGround<'_>) -> Result<Links, NoMemory>
     requires { IsLinkGround ground }
     ensures { IfOk result (λ links. AreLinkedTo ground.entry links (turn 2 0 0)) }
 {
@@ -121,8 +133,45 @@ fn is_held(ground: LinkGround<'_>, k: usize) -> bool
     !holders.is_empty()
 }
 
+/// Links to the figures of all currencies their sources, but to those that are reckoned from a large sum.
+fn link_currencies(
+    ground: LinkGround<'_>,
+    links: &mut Links,
+    sources: &mut Vec<u32>,
+) -> Result<(), NoMemory>
+    requires ground { IsLinkGround ground }
+    requires linked { AreLinkedTo ground links.old (turn 6 0 0) }
+    ensures { OnOk result (AreLinkedTo ground.entry links.new (turn 7 0 0)) }
+{
+    for k in 0..ground.book.sheet().curves.len() {
+        link_currency(ground, links, sources, k)?;
+    }
+    Ok(())
+}
+
+/// The same of the currency at a place.
+fn link_currency(
+    ground: LinkGround<'_>,
+    links: &mut Links,
+    sources: &mut Vec<u32>,
+    k: usize,
+) -> Result<(), NoMemory>
+    requires ground { IsLinkGround ground }
+    requires row { k < length ground.book.now.sheet.curves }
+    requires linked { AreLinkedTo ground links.old (turn 6 k 0) }
+    ensures { OnOk result (AreLinkedTo ground.entry links.new (turn 6 (k + 1) 0)) }
+{
+    let name = ground.book.sheet().curves.at(k).currency;
+    for family in 0..OF_CURRENCY {
+        let what = currency_at(family);
+        let node = Node::Currency(name, what);
+        link_if_there(ground, links, sources, &node, k)?;
+    }
+    Ok(())
+}
+
 /// Links to all figures of the whole sheet their sources, but to those that are reckoned from a large sum.
-pub(crate) fn link_wholes(
+fn link_wholes(
     ground: LinkGround<'_>,
     links: &mut Links,
     sources: &mut Vec<u32>,

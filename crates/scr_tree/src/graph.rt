@@ -170,9 +170,31 @@ impl<'a> Numbers<'a> {
         })
     }
 
+    /// Up to which number there are lists.
+    pub(crate) fn list_count(&self) -> u32 {
+        let lists = self.lists;
+        let most = lists
+            .of(RowTable::Security)
+            .len()
+            .max(lists.of(RowTable::Liability).len())
+            .max(lists.of(RowTable::Fund).len())
+            .max(lists.of(RowTable::Group).len());
+        match u32::try_from(most.saturating_mul(4)) {
+            Ok(count) => count,
+            Err(_) => u32::MAX,
+        }
+    }
+
+    /// The list that has a number is long enough for Blocks.
+    pub(crate) fn has_blocks(&self, list: u32) -> bool {
+        let (table, number) = list_of(list);
+        let members = self.lists.of(table).list(number).len();
+        blocks_at(members, Level::First) > 0
+    }
+
     /// Which list it is that has a number: by the number alone where it is one for all books, or by the seat in which its first member has
     /// it.
-    fn roll_of(&self, list: u32) -> Option<Roll>
+    pub(crate) fn roll_of(&self, list: u32) -> Option<Roll>
         requires { AreNumbersOf self.now.book.now self.now.places.now self.now.lists.now }
         ensures there { IfSome result (IsRollOf self.now.book.now.rolls list) }
         ensures absent { IsNone result → (roll : TheRoll) → IsRollOf self.now.book.now.rolls list roll → roll_of roll self.now.book.now.rolls ≡ [] }

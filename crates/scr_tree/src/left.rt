@@ -3,16 +3,16 @@ ghost use Rattle.std.specs.Prelude.{◌≡◌, ◌+◌, ◌<◌, IfOk, OnOk, tru
 ghost use Rattle.scr_sums.specs.Books.{rolled_of};
 ghost use Rattle.scr_sums.specs.Graph.{is_live_in};
 ghost use Rattle.scr_sums.specs.declared.point.Point.{Point as ThePoint};
-ghost use Rattle.scr_tree.specs.First.{AreDoneTo, IsDone, IsGround, IsWhole};
+ghost use Rattle.scr_tree.specs.First.{AreDone, AreDoneTo, IsGround, IsLinkedGround, IsWhole};
 ghost use Rattle.scr_tree.specs.Left.{AreLeft, IsLeftAt, is_left};
 ghost use Rattle.scr_tree.specs.Points.{AreNumbersOf, StandsIn};
 ghost use Rattle.scr_tree.specs.Turns.{turn};
 
 use crate::basis::{Basis, Crew};
 use crate::figures::Figures;
-use crate::first_links::{WHOLES, link_wholes};
+use crate::first_links::WHOLES;
 use crate::graph::Numbers;
-use crate::making::{Ground, Made, put_under};
+use crate::making::{Ground, LinkedGround, put_under};
 use crate::order::{Order, Sorted, ordered};
 use crate::together::reckon_together;
 use scr_figures::whole_at;
@@ -26,22 +26,21 @@ use std::thread::Threads;
 /// The gate is passed before each. The Blocks under them come first, one after another, and pass no gate.
 pub(crate) fn put_left<R: Threads + Sync, G: Gate + Sync>(
     crew: &Crew<'_, R, G>,
-    ground: Ground<'_>,
-    made: &mut Made,
+    linked: LinkedGround<'_>,
+    figures: &mut Figures,
 ) -> Result<(), NoMemory>
-    requires ground { IsGround ground }
-    requires done { IsDone ground made.old (turn 7 0 0) }
-    ensures { OnOk result (IsWhole ground.entry made.new) }
+    requires linked { IsLinkedGround linked }
+    requires done { AreDone linked.ground figures.old (turn 7 0 0) }
+    ensures { OnOk result (IsWhole linked.entry.ground figures.new linked.entry.links.now) }
 {
-    put_whole_blocks(ground, &mut made.figures, &OpenGate);
-    let mut sources = Vec::new(ground.alloc);
-    link_wholes(ground.for_links(), &mut made.links, &mut sources)?;
+    let ground = linked.ground;
+    put_whole_blocks(ground, figures, &OpenGate);
     let left = left_numbers(ground.alloc, ground.numbers())?;
     let basis = Basis {
         inputs: ground.inputs,
         places: ground.places,
         lists: ground.lists,
-        links: &made.links,
+        links: linked.links,
         summed: false,
     };
     let mut sorted = Sorted::new(ground.alloc);
@@ -54,7 +53,7 @@ pub(crate) fn put_left<R: Threads + Sync, G: Gate + Sync>(
         &mut sorted,
         room,
     )?;
-    reckon_together(crew, basis, order, &mut made.figures)
+    reckon_together(crew, basis, order, figures)
 }
 
 /// The Blocks under the figures of the whole sheet.

@@ -6,20 +6,19 @@ ghost use Rattle.scr_numbers.specs.Ranges.{count, first, stride};
 ghost use Rattle.scr_nodes.specs.Live.{is_live};
 ghost use Rattle.scr_nodes.specs.Sources.{sources_of};
 ghost use Rattle.scr_reach.specs.Linked.{AreAt};
-ghost use Rattle.scr_tree.specs.Figures.{HaveFigures, reckoning_of};
 ghost use Rattle.scr_sums.specs.Graph.{reads};
 ghost use Rattle.scr_sums.specs.Sums.{first_sum, reader_of};
 ghost use Rattle.scr_sums.specs.Told.{is_reader};
 ghost use Rattle.scr_sums.specs.declared.sum.Sum.{Sum as TheSum};
 ghost use Rattle.scr_num.specs.Rounding.{ends};
-ghost use Rattle.scr_tree.specs.First.{AreBlocksThere, AreDoneTo, AreMembersThere, IsDone, IsEntered, IsGround, IsLinkGround, IsPut, IsSumOf, KeepsOffBlocks};
+ghost use Rattle.scr_tree.specs.First.{AreBlocksThere, AreDone, AreDoneTo, AreMembersThere, IsGround, IsLinkGround, IsLinkedGround, IsSumOf, KeepsOffBlocks};
 ghost use Rattle.scr_tree.specs.Points.{is_linked};
 ghost use Rattle.scr_tree.specs.Summed.{summed_in};
 ghost use Rattle.scr_tree.specs.Turns.{next, stage_of, turn_of};
 
-use crate::figures::{Below, Figure, Figures, Inputs, read, reckoned};
+use crate::figures::{Below, Figure, Figures, Inputs, read_linked, reckoned};
 use crate::graph::Numbers;
-use crate::sums::{by_sums, pass_blocks, put_blocks, sum_there};
+use crate::sums::{by_sums, put_blocks, sum_there};
 use scr_book::Book;
 use scr_figures::gathered::Members;
 use scr_figures::{View, family, push_gathered, table};
@@ -91,34 +90,22 @@ pub(crate) struct Made {
     pub(crate) links: Links,
 }
 
-/// What is made, with room for what one figure is reckoned from.
+/// The figures that are made, with room for what one is reckoned from.
 #[derive(Drop)]
 pub(crate) struct Making {
-    pub(crate) made: Made,
-    pub(crate) sources: Vec<u32>,
+    pub(crate) figures: Figures,
     pub(crate) below: Below,
+}
+
+/// What figures are read from when all links are made.
+#[derive(Clone, Copy)]
+pub(crate) struct LinkedGround<'a> {
+    pub(crate) ground: Ground<'a>,
+    pub(crate) links: &'a Links,
 }
 
 /// Links for which room is made at once where there is none.
 const MORE_LINKS: u32 = 16_384;
-
-/// Writes a figure at its number, and links its sources to it.
-pub(crate) fn enter(
-    alloc: Global,
-    made: &mut Made,
-    number: u32,
-    sources: &[u32],
-    figure: Figure,
-) -> Result<(), NoMemory>
-    requires number { number < length made.old.figures }
-    requires sources { All (λ source. source < length made.old.figures) sources.now }
-    ensures { OnOk result (IsEntered number sources.now figure made.old made.new) }
-{
-    make_room(alloc, &mut made.links, number, sources)?;
-    link(&mut made.links, number, sources);
-    write(&mut made.figures, number, figure);
-    Ok(())
-}
 
 /// Writes a figure at its number.
 fn write(figures: &mut Figures, number: u32, figure: Figure)
@@ -178,22 +165,6 @@ fn past(number: u32, sources: &[u32]) -> Option<u32>
 }
 
 /// The numbers of all sources of a figure of the row at a place.
-pub(crate) fn gather(
-    ground: Ground<'_>,
-    sources: &mut Vec<u32>,
-    node: &Node,
-    row: usize,
-) -> Result<(), NoMemory>
-    requires ground { IsGround ground }
-    requires live { is_live ground.inputs.book.now.sheet node.now ≡ true }
-    requires row { slice_get (names_in ground.inputs.book.now.sheet (table_of node.now)) row ≡ Some (name_of node.now) }
-    ensures { OnOk result (AreAt (StandsAt ground.entry.inputs.book.now.sheet ground.entry.places.now) sources.new.items
-        (sources_of ground.entry.inputs.book.now.sheet node.now)) }
-{
-    gather_linked(ground.for_links(), sources, node, row)
-}
-
-/// The same, of what links are made from.
 pub(crate) fn gather_linked(
     ground: LinkGround<'_>,
     sources: &mut Vec<u32>,
@@ -224,64 +195,31 @@ pub(crate) fn number_at(places: &Places, node: &Node, row: usize) -> u32
     first + family(node)
 }
 
-/// Writes the figure of a node at its number, reckoned from the sources that are listed, and links them to it. The gate is
-/// passed before.
-pub(crate) fn put<G: Gate, L: Ledger>(
-    ground: Ground<'_>,
-    making: &mut Making,
-    number: u32,
-    node: &Node,
-    gate: &G,
-    steps: &mut Steps<L>,
-) -> Result<(), NoMemory>
-    requires ground { IsGround ground }
-    requires live { is_live ground.inputs.book.now.sheet node.now ≡ true }
-    requires number { number < length making.old.made.figures }
-    requires sources { HaveFigures (reckoning_of ground.inputs.factors.now ground.inputs.book.now.sheet) making.old.made.figures
-        making.old.sources.items (sources_of ground.inputs.book.now.sheet node.now) }
-    ensures { OnOk result (IsPut ground.entry.inputs.factors.now ground.entry.inputs.book.now.sheet node.now number
-        making.old.sources.items making.old.made making.new.made) }
-{
-    read(
-        &making.made.figures,
-        making.sources.as_slice(),
-        &mut making.below,
-    )?;
-    let figure = reckoned(ground.inputs, &making.below, number, node, gate, steps);
-    enter(
-        ground.alloc,
-        &mut making.made,
-        number,
-        making.sources.as_slice(),
-        figure,
-    )
-}
-
-/// The same of a node of the row at a place, from all its sources; nothing where the balance sheet does not have the figure.
+/// The figure of a node of the row at a place; nothing where the balance sheet does not have it. The gate is passed before.
 pub(crate) fn put_live<G: Gate, L: Ledger>(
-    ground: Ground<'_>,
+    linked: LinkedGround<'_>,
     making: &mut Making,
     node: &Node,
     row: usize,
     gate: &G,
     steps: &mut Steps<L>,
 ) -> Result<(), NoMemory>
-    requires ground { IsGround ground }
-    requires row { slice_get (names_in ground.inputs.book.now.sheet (table_of node.now)) row ≡ Some (name_of node.now) }
+    requires linked { IsLinkedGround linked }
+    requires row { slice_get (names_in linked.ground.inputs.book.now.sheet (table_of node.now)) row ≡ Some (name_of node.now) }
     requires later { 2 ≤ stage_of node.now }
     requires read { (is_some (first_sum node.now) ≡ true) ⊎ (is_linked node.now ≡ true) }
-    requires done { IsDone ground making.old.made (turn_of node.now row) }
-    ensures { OnOk result (IsDone ground.entry making.new.made (next (turn_of node.now row))) }
+    requires done { AreDone linked.ground making.old.figures (turn_of node.now row) }
+    ensures { OnOk result (AreDone linked.entry.ground making.new.figures (next (turn_of node.now row))) }
 {
-    if !is_live(ground.inputs.book.sheet(), node) {
+    if !is_live(linked.ground.inputs.book.sheet(), node) {
         return Ok(());
     }
     match first_sum(node) {
         Some(_) => {
-            put_summed(ground, &mut making.made.figures, node, row, gate, steps);
+            put_summed(linked.ground, &mut making.figures, node, row, gate, steps);
             Ok(())
         }
-        None => put_gathered(ground, making, node, row, gate, steps),
+        None => put_linked(linked, making, node, row, gate, steps),
     }
 }
 
@@ -332,28 +270,6 @@ pub(crate) fn put_under<G: Gate>(ground: Ground<'_>, figures: &mut Figures, node
     put_found(ground, figures, &second, gate);
 }
 
-/// Passes the gate for all Blocks under the sums of a figure that are written with it.
-pub(crate) fn pass_under<G: Gate>(ground: Ground<'_>, node: &Node, gate: &G)
-    requires { IsGround ground }
-{
-    if !is_reader(node) {
-        return;
-    }
-    let first = first_sum(node);
-    let second = second_sum(node);
-    pass_found_sum(ground, &first, gate);
-    pass_found_sum(ground, &second, gate);
-}
-
-fn pass_found_sum<G: Gate>(ground: Ground<'_>, found: &Option<Sum>, gate: &G)
-    requires { IsGround ground }
-{
-    match found {
-        Some(sum) => pass_blocks(ground.numbers(), sum, gate),
-        None => (),
-    }
-}
-
 /// Whether the Blocks under its sums are written with the figure.
 fn is_reader(node: &Node) -> bool
     ensures { result ≡ is_reader node.now }
@@ -399,24 +315,27 @@ fn sum_under(ground: Ground<'_>, figures: &Figures, found: &Option<Sum>) -> Span
     }
 }
 
-/// The figure of a node of the row at a place, from all its sources.
-fn put_gathered<G: Gate, L: Ledger>(
-    ground: Ground<'_>,
+/// The figure of a node of the row at a place, from the figures that are linked to it.
+fn put_linked<G: Gate, L: Ledger>(
+    linked: LinkedGround<'_>,
     making: &mut Making,
     node: &Node,
     row: usize,
     gate: &G,
     steps: &mut Steps<L>,
 ) -> Result<(), NoMemory>
-    requires ground { IsGround ground }
-    requires live { is_live ground.inputs.book.now.sheet node.now ≡ true }
-    requires linked { is_linked node.now ≡ true }
-    requires row { slice_get (names_in ground.inputs.book.now.sheet (table_of node.now)) row ≡ Some (name_of node.now) }
+    requires linked { IsLinkedGround linked }
+    requires live { is_live linked.ground.inputs.book.now.sheet node.now ≡ true }
+    requires linked_node { is_linked node.now ≡ true }
+    requires row { slice_get (names_in linked.ground.inputs.book.now.sheet (table_of node.now)) row ≡ Some (name_of node.now) }
     requires later { 2 ≤ stage_of node.now }
-    requires done { IsDone ground making.old.made (turn_of node.now row) }
-    ensures { OnOk result (IsDone ground.entry making.new.made (next (turn_of node.now row))) }
+    requires done { AreDone linked.ground making.old.figures (turn_of node.now row) }
+    ensures { OnOk result (AreDone linked.entry.ground making.new.figures (next (turn_of node.now row))) }
 {
-    gather(ground, &mut making.sources, node, row)?;
+    let ground = linked.ground;
     let number = number_at(ground.places, node, row);
-    put(ground, making, number, node, gate, steps)
+    read_linked(&making.figures, linked.links, number, &mut making.below)?;
+    let figure = reckoned(ground.inputs, &making.below, number, node, gate, steps);
+    write(&mut making.figures, number, figure);
+    Ok(())
 }

@@ -14,8 +14,8 @@ use scr_rounds::Marked;
 use std::alloc::AllocError as NoMemory;
 use std::thread::Threads;
 
-/// All figures of a book with their numbers and links; the first edit makes room for marks. The gate is passed before each
-/// evaluation. Only want of memory is refused.
+/// All figures of a book with their numbers and links; the first edit makes room for marks. The gate is passed once for each. Only
+/// want of memory is refused.
 pub(crate) fn opened<R: Threads + Sync, G: Gate + Sync>(
     crew: &Crew<'_, R, G>,
     factors: &Factors,

@@ -2,47 +2,32 @@
 ghost use Rattle.std.specs.Prelude.{◌≡◌, ◌<◌, Some, length, slice_get};
 ghost use Rattle.scr_figures.specs.Families.{name_of, table_of};
 ghost use Rattle.scr_figures.specs.Numbers.{names_in};
+ghost use Rattle.scr_sheet.specs.Validity.{Valid};
 ghost use Rattle.scr_tree.specs.First.{IsGround};
+ghost use Rattle.scr_tree.specs.Points.{AreNumbersOf};
 
-use crate::first_links::{ASSETS, OF_CURRENCY, WHOLES};
+use crate::first_links::{ASSETS, OF_CURRENCY};
 use crate::first_totals::pass_totals;
-use crate::making::{Ground, number_at, pass_under};
+use crate::graph::Numbers;
+use crate::making::{Ground, number_at};
 use crate::sums::pass_blocks;
-use scr_figures::{currency_at, whole_at};
+use scr_figures::currency_at;
 use scr_io::Gate;
 use scr_nodes::{Node, is_live};
-use scr_sums::Sum;
+use scr_numbers::Table;
+use scr_sums::{Sum, sum_at};
 
 /// Passes the gate for totals and assets, for the figures of currencies, and for all Blocks.
 pub(crate) fn pass_found<G: Gate>(ground: Ground<'_>, gate: &G)
     requires { IsGround ground }
 {
     pass_totals(ground, gate);
-    pass_assets(ground, gate);
-    pass_groups(ground, gate);
-    pass_currencies(ground, gate);
-    pass_whole_blocks(ground, gate);
-}
-
-/// For the assets of which concentrations are measured, and for the Blocks under them.
-fn pass_assets<G: Gate>(ground: Ground<'_>, gate: &G)
-    requires { IsGround ground }
-{
-    pass_blocks(ground.numbers(), &Sum::Grouped, gate);
     gate.pass(ASSETS);
+    pass_currencies(ground, gate);
+    pass_all_blocks(ground.numbers(), gate);
 }
 
-/// For the Blocks under the totals of groups.
-fn pass_groups<G: Gate>(ground: Ground<'_>, gate: &G)
-    requires { IsGround ground }
-{
-    let sheet = ground.inputs.book.sheet();
-    for k in 0..sheet.groups.len() {
-        pass_blocks(ground.numbers(), &Sum::Group(sheet.groups.at(k).name), gate);
-    }
-}
-
-/// For the figures of currencies, and for the Blocks under them.
+/// For the figures of currencies.
 fn pass_currencies<G: Gate>(ground: Ground<'_>, gate: &G)
     requires { IsGround ground }
 {
@@ -63,26 +48,50 @@ fn pass_currency<G: Gate>(ground: Ground<'_>, k: usize, gate: &G)
     }
 }
 
-/// For a figure of the row at a place, and for the Blocks under it, if the balance sheet has it.
+/// For a figure of the row at a place, if the balance sheet has it.
 fn pass_live<G: Gate>(ground: Ground<'_>, node: &Node, row: usize, gate: &G)
     requires ground { IsGround ground }
     requires row { slice_get (names_in ground.inputs.book.now.sheet (table_of node.now)) row ≡ Some (name_of node.now) }
 {
-    if !is_live(ground.inputs.book.sheet(), node) {
-        return;
+    if is_live(ground.inputs.book.sheet(), node) {
+        gate.pass(number_at(ground.places, node, row));
     }
-    pass_under(ground, node, gate);
-    gate.pass(number_at(ground.places, node, row));
 }
 
-/// For the Blocks under the figures of the whole sheet.
-fn pass_whole_blocks<G: Gate>(ground: Ground<'_>, gate: &G)
-    requires { IsGround ground }
+/// For all Blocks, list by list: most lists are too short for any.
+fn pass_all_blocks<G: Gate>(numbers: Numbers<'_>, gate: &G)
+    requires numbers { AreNumbersOf numbers.book.now numbers.places.now numbers.lists.now }
+    requires valid { Valid numbers.book.now.sheet }
 {
-    for number in 0..WHOLES {
-        let node = Node::Whole(whole_at(number));
-        if is_live(ground.inputs.book.sheet(), &node) {
-            pass_under(ground, &node, gate);
+    for list in 0..numbers.list_count() {
+        if numbers.has_blocks(list) {
+            pass_list(numbers, list, gate);
         }
+    }
+}
+
+/// For the Blocks of all sums over a list.
+fn pass_list<G: Gate>(numbers: Numbers<'_>, list: u32, gate: &G)
+    requires numbers { AreNumbersOf numbers.book.now numbers.places.now numbers.lists.now }
+    requires valid { Valid numbers.book.now.sheet }
+{
+    let Some(roll) = numbers.roll_of(list) else {
+        return;
+    };
+    for place in 0..Table::Part.stride() {
+        match sum_at(&roll, place) {
+            Some(sum) => pass_sum(numbers, &sum, gate),
+            None => (),
+        }
+    }
+}
+
+/// For the Blocks of a sum, if the balance sheet has a figure that is reckoned from it.
+fn pass_sum<G: Gate>(numbers: Numbers<'_>, sum: &Sum, gate: &G)
+    requires numbers { AreNumbersOf numbers.book.now numbers.places.now numbers.lists.now }
+    requires valid { Valid numbers.book.now.sheet }
+{
+    if is_live(numbers.book.sheet(), &sum.reader()) {
+        pass_blocks(numbers, sum, gate);
     }
 }

@@ -1,7 +1,7 @@
 use Rattle.std.proofs.Common.{◌≡◌, IfOk, subst}
 use Rattle.scr_discounts.specs.KeptRates.{all_rates, known_of}
 use Rattle.scr_rules.specs.GroupLosses.{AreLossesOf}
-use Rattle.scr_tree.specs.First.{AreNumbered, AreTotalsLinked, IsGathered}
+use Rattle.scr_tree.specs.First.{AreNumbered, HaveRoom, IsGathered}
 use Rattle.scr_tree.proofs.first.found_beside.Goals as goal
 
 pub returns : goal.returns
@@ -12,5 +12,5 @@ returns g c =
       losses = subst (λ r. IfOk r (λ all. AreLossesOf sheet all.1)) c.in_ok-rates.was c.join-priced.ensures.first.1;
       numbering = subst (λ r. IfOk r (λ all. AreNumbered c.args.book.now all.0)) c.in_ok-numbering.was c.join-priced.ensures.second.0;
       gathered = subst (λ r. IfOk r (λ all. IsGathered sheet all.1)) c.in_ok-numbering.was c.join-priced.ensures.second.1.0;
-      links = subst (λ r. IfOk r (λ all. AreTotalsLinked sheet all.0.places all.2)) c.in_ok-numbering.was c.join-priced.ensures.second.1.1;
+      room = subst (λ r. IfOk r (λ all. HaveRoom all.0 all.2)) c.in_ok-numbering.was c.join-priced.ensures.second.1.1;
     }

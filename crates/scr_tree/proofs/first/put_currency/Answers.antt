@@ -5,12 +5,12 @@ use Rattle.scr_nodes.specs.declared.node.Node.TheVariants as nodes
 use Rattle.scr_tree.specs.Turns.{next, turn, turn_of}
 use Rattle.scr_tree.proofs.BlockTurns.{currency-read}
 use Rattle.scr_tree.proofs.FirstRows.{got-map}
-use Rattle.scr_tree.proofs.Grounds.{currency-made, currency-turn, turned}
+use Rattle.scr_tree.proofs.Grounds.{currency-done, currency-turn, turned}
 use Rattle.scr_tree.proofs.first.put_currency.Goals as goal
 
 pub put_live-requires-clause-row : goal.put_live-requires-clause-row
 put_live-requires-clause-row g c =
-    got-map curve_name c.args.ground.inputs.book.now.sheet.curves c.args.k c.at.result.now
+    got-map curve_name c.args.linked.ground.inputs.book.now.sheet.curves c.args.k c.at.result.now
     (subst (λ (s : BalanceSheet). slice_get s.curves c.args.k ≡ Some c.at.result.now) c.sheet.ensures.sheet c.at.ensures)
 
 pub put_live-requires-clause-read : goal.put_live-requires-clause-read
@@ -18,14 +18,14 @@ put_live-requires-clause-read g c = currency-read c.at.result.now.currency c.cur
 
 pub put_live-requires-clause-done : goal.put_live-requires-clause-done
 put_live-requires-clause-done g c =
-    turned c.args.ground c.requires.ground c.loop-family.making.made (turn 6 c.args.k c.loop-family.family)
+    turned c.args.linked.ground c.requires.linked.ground c.loop-family.making.figures (turn 6 c.args.k c.loop-family.family)
     (turn_of (nodes.Currency c.at.result.now.currency c.currency_at-what.result) c.args.k)
     (sym (currency-turn c.at.result.now.currency c.currency_at-what.result c.args.k
     c.loop-family.family c.currency_at-what.ensures)) c.loop-family.invariant
 
 pub loop-family-preserved : goal.loop-family-preserved
 loop-family-preserved g c =
-    turned c.args.ground c.requires.ground c.put_live.new.making.made
+    turned c.args.linked.ground c.requires.linked.ground c.put_live.new.making.figures
     (next (turn_of (nodes.Currency c.at.result.now.currency c.currency_at-what.result) c.args.k))
     (turn 6 c.args.k (c.loop-family.family + 1))
     (ap next (currency-turn c.at.result.now.currency c.currency_at-what.result c.args.k
@@ -34,6 +34,6 @@ loop-family-preserved g c =
 pub returns : goal.returns
 returns g c =
     let e : c.loop-family.family ≡ 9 = omega (arith, c.loop-family-test.false, c.loop-family.auto.family-end) in
-    currency-made c.args.ground c.requires.ground c.args.k c.loop-family.making.made
-    (turned c.args.ground c.requires.ground c.loop-family.making.made (turn 6 c.args.k c.loop-family.family) (turn 6 c.args.k 9)
+    currency-done c.args.linked.ground c.requires.linked.ground c.args.k c.loop-family.making.figures
+    (turned c.args.linked.ground c.requires.linked.ground c.loop-family.making.figures (turn 6 c.args.k c.loop-family.family) (turn 6 c.args.k 9)
     (ap (turn 6 c.args.k) e) c.loop-family.invariant)

@@ -11,4 +11,4 @@ returns g c =
     groups-ended c.args.ground c.requires.ground c.loop-k.k
     (as-long group_name c.args.ground.inputs.book.now.sheet.groups c.loop-k.k
     (omega (arith, rows, c.loop-k-test.false, c.loop-k.auto.k-end, c.len-k-end.ensures.count)))
-    c.loop-k.made c.loop-k.invariant
+    c.loop-k.figures c.loop-k.invariant

@@ -3,28 +3,37 @@ use Rattle.scr_tree.specs.First.{AreGroupsDone, AreLinkedTo, IsLinkGround}
 use Rattle.scr_tree.specs.Turns.{turn}
 use Rattle.scr_tree.proofs.AllMade.{all-made, nothing-reckoned}
 use Rattle.scr_tree.proofs.Grounds.{for-links}
-use Rattle.scr_tree.proofs.Writing.{rows-made}
 use Rattle.scr_tree.proofs.first.put_in_turn.Goals as goal
 
 pub enter_totals-requires-clause-totals : goal.enter_totals-requires-clause-totals
 enter_totals-requires-clause-totals g c = c.as_slice.ensures.value ∙ c.requires.totals
 
 pub enter_totals-requires-clause-nothing : goal.enter_totals-requires-clause-nothing
-enter_totals-requires-clause-nothing g c =
-    nothing-reckoned c.args.ground c.requires.ground c.in_ok-figures.figures (c.in_ok-figures.ensures ∙ c.len.ensures.size)
+enter_totals-requires-clause-nothing g c = nothing-reckoned c.args.ground c.requires.ground c.args.figures c.requires.room
 
 pub put_rows-requires-clause-totals : goal.put_rows-requires-clause-totals
 put_rows-requires-clause-totals g c = c.as_slice-2.ensures.value ∙ c.requires.totals
 
-pub links_of_totals-requires : goal.links_of_totals-requires
-links_of_totals-requires g c = subst IsLinkGround (sym c.for_links.ensures) (for-links c.args.ground c.requires.ground)
+pub all_links-requires : goal.all_links-requires
+all_links-requires g c = subst IsLinkGround (sym c.for_links.ensures) (for-links c.args.ground c.requires.ground)
 
 pub put_groups-requires-clause-done : goal.put_groups-requires-clause-done
 put_groups-requires-clause-done g c =
-    let ground = c.args.ground in
-    subst (λ made. AreGroupsDone ground made 0) (sym c.making_of-making.ensures)
-    (rows-made ground c.requires.ground c.put_rows.new.figures c.in_ok-links.links c.in_ok-put_rows.ensures
-    (subst (λ l. AreLinkedTo l c.in_ok-links.links (turn 2 0 0)) c.for_links.ensures c.in_ok-links.ensures))
+    subst (λ figures. AreGroupsDone c.args.ground figures 0) (sym c.making_of-making.ensures) c.in_ok-put_rows.ensures
+
+pub put_currencies-requires-clause-linked : goal.put_currencies-requires-clause-linked
+put_currencies-requires-clause-linked g c = record {
+  ground = c.requires.ground;
+  links = subst (λ l. AreLinkedTo l c.in_ok-links.links (turn 7 0 153)) c.for_links.ensures c.in_ok-links.ensures;
+}
+
+pub put_wholes-requires-clause-linked : goal.put_wholes-requires-clause-linked
+put_wholes-requires-clause-linked g c = record {
+  ground = c.requires.ground;
+  links = subst (λ l. AreLinkedTo l c.in_ok-links.links (turn 7 0 153)) c.for_links.ensures c.in_ok-links.ensures;
+}
 
 pub returns : goal.returns
-returns g c = all-made c.args.ground c.requires.ground c.put_wholes.new.making.made c.in_ok-put_wholes.ensures
+returns g c =
+    all-made c.args.ground c.requires.ground c.put_wholes.new.making.figures c.in_ok-links.links c.in_ok-put_wholes.ensures
+    (subst (λ l. AreLinkedTo l c.in_ok-links.links (turn 7 0 153)) c.for_links.ensures c.in_ok-links.ensures)

@@ -18,14 +18,14 @@ put_live-requires-clause-read g c = whole-read c.whole_at.result
 
 pub put_live-requires-clause-done : goal.put_live-requires-clause-done
 put_live-requires-clause-done g c =
-    turned c.args.ground c.requires.ground c.loop-number.making.made (turn 7 0 c.loop-number.number)
+    turned c.args.linked.ground c.requires.linked.ground c.loop-number.making.figures (turn 7 0 c.loop-number.number)
     (turn_of (nodes.Whole c.whole_at.result) 0)
     (sym (whole-turn c.whole_at.result c.loop-number.number c.whole_at.ensures
     (omega (arith, c.loop-number-test.true)))) c.loop-number.invariant
 
 pub loop-number-preserved : goal.loop-number-preserved
 loop-number-preserved g c =
-    turned c.args.ground c.requires.ground c.put_live.new.making.made (next (turn_of (nodes.Whole c.whole_at.result) 0))
+    turned c.args.linked.ground c.requires.linked.ground c.put_live.new.making.figures (next (turn_of (nodes.Whole c.whole_at.result) 0))
     (turn 7 0 (c.loop-number.number + 1))
     (ap next (whole-turn c.whole_at.result c.loop-number.number c.whole_at.ensures
     (omega (arith, c.loop-number-test.true)))) c.in_ok-put_live.ensures
@@ -33,5 +33,5 @@ loop-number-preserved g c =
 pub returns : goal.returns
 returns g c =
     let e : c.loop-number.number ≡ 153 = omega (arith, c.loop-number-test.false, c.loop-number.auto.number-end) in
-    turned c.args.ground c.requires.ground c.loop-number.making.made (turn 7 0 c.loop-number.number) (turn 7 0 153)
+    turned c.args.linked.ground c.requires.linked.ground c.loop-number.making.figures (turn 7 0 c.loop-number.number) (turn 7 0 153)
     (ap (turn 7 0) e) c.loop-number.invariant

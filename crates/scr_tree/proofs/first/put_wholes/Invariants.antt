@@ -1,7 +1,7 @@
-use Rattle.scr_tree.specs.First.{IsDone}
+use Rattle.scr_tree.specs.First.{AreDone}
 use Rattle.scr_tree.specs.Turns.{turn}
 use Rattle.scr_tree.proofs.first.put_wholes.Given as goal
 
 -- those so far
 abbrev pub invariant-loop-number : goal.invariant-loop-number
-invariant-loop-number g l = IsDone l.ground l.making.made (turn 7 0 l.number)
+invariant-loop-number g l = AreDone l.linked.ground l.making.figures (turn 7 0 l.number)

@@ -52,9 +52,9 @@ returns g c =
           numbers = points-numbered book places lists c.group_seats.ensures.kept c.len.ensures.apart c.len.ensures.within
               (subst AreOwn c.parts.ensures c.len-2.ensures.own) c.in_ok-found.ensures.numbering.lists figures;
         };
-        linked = made.links;
+        linked = made.linked;
       };
       room = omega (arith, count);
       size = omega (arith, size);
-      figures = made.figures;
+      figures = made.settled;
     }

@@ -4,46 +4,28 @@ use Rattle.scr_reach.specs.Dues.{IsLiveAt}
 use Rattle.scr_sheet.specs.Validity.{Valid}
 use Rattle.scr_sums.specs.Books.{rolled_of}
 use Rattle.scr_tree.specs.Figures.{AreSettled}
-use Rattle.scr_tree.specs.First.{AreLinkedTo, IsLinkGround, IsWhole, numbers_of}
+use Rattle.scr_tree.specs.First.{IsWhole, numbers_of}
 use Rattle.scr_tree.specs.Left.{AreLeft}
 use Rattle.scr_tree.specs.Order.{IsOrder}
 use Rattle.scr_tree.specs.Points.{AreNumbersOf, IsGraphOf, StandsIn, book_graph, book_reckoning}
-use Rattle.scr_tree.specs.Turns.{turn}
 use Rattle.scr_tree.specs.declared.graph.{Graph.Graph, Numbers.Numbers}
-use Rattle.scr_tree.specs.declared.making.{LinkGround.LinkGround, Made.Made}
 use Rattle.scr_tree.proofs.FirstRows.{on-ok}
-use Rattle.scr_tree.proofs.Grounds.{for-links}
 use Rattle.scr_tree.proofs.LeftKnown.{left-graph, left-known, left-made}
 use Rattle.scr_tree.proofs.LeftNumbers.{live-left}
 use Rattle.scr_tree.proofs.left.put_left.Goals as goal
 
-pub put_whole_blocks-requires-clause-done : goal.put_whole_blocks-requires-clause-done
-put_whole_blocks-requires-clause-done g c = record {
-  reckoned = record { count = c.requires.done.figures.count; known = c.requires.done.figures.known };
-  blocks_there = c.requires.done.blocks_there;
-}
-
-pub link_wholes-requires-clause-ground : goal.link_wholes-requires-clause-ground
-link_wholes-requires-clause-ground g c = subst IsLinkGround (sym c.for_links.ensures) (for-links c.args.ground c.requires.ground)
-
-pub link_wholes-requires-clause-linked : goal.link_wholes-requires-clause-linked
-link_wholes-requires-clause-linked g c =
-    subst (λ (l : LinkGround). AreLinkedTo l c.args.made.now.links (turn 7 0 0)) (sym c.for_links.ensures)
-    (record { size = c.requires.done.figures.size; linked = c.requires.done.figures.links })
-
 pub left_numbers-requires : goal.left_numbers-requires
 left_numbers-requires g c = record {
-  numbers = subst (λ (n : Numbers). AreNumbersOf n.book.now n.places.now n.lists.now) (sym c.numbers.ensures) c.requires.ground.points;
+  numbers = subst (λ (n : Numbers). AreNumbersOf n.book.now n.places.now n.lists.now) (sym c.numbers.ensures) c.requires.linked.ground.points;
 }
 
 pub ordered-requires-clause-valid : goal.ordered-requires-clause-valid
-ordered-requires-clause-valid g c = subst (λ (h : Graph). Valid h.numbers.book.now.sheet) (sym c.graph.ensures) c.requires.ground.valid
+ordered-requires-clause-valid g c = subst (λ (h : Graph). Valid h.numbers.book.now.sheet) (sym c.graph.ensures) c.requires.linked.ground.valid
 
 pub ordered-requires-clause-graph : goal.ordered-requires-clause-graph
 ordered-requires-clause-graph g c =
     subst (λ (h : Graph). IsGraphOf h.numbers.book.now h.numbers.places.now h.numbers.lists.now h.links.now.edges) (sym c.graph.ensures)
-    (left-graph c.args.ground c.requires.ground c.link_wholes.new.links
-    (subst (λ (l : LinkGround). AreLinkedTo l c.link_wholes.new.links (turn 7 0 153)) c.for_links.ensures c.in_ok-link_wholes.ensures))
+    (left-graph c.args.linked.ground c.requires.linked.ground c.args.linked.links.now c.requires.linked.links)
 
 pub ordered-requires-clause-once : goal.ordered-requires-clause-once
 ordered-requires-clause-once g c = subst (IsDistinct nat_eq) (sym c.as_slice.ensures.value) c.in_ok-left.ensures.once
@@ -52,15 +34,14 @@ pub ordered-requires-clause-live : goal.ordered-requires-clause-live
 ordered-requires-clause-live g c = λ number h.
     subst (λ (h : Graph). IsLiveAt (book_graph (rolled_of h.numbers.book.now)) (StandsIn h.numbers.book.now h.numbers.places.now h.numbers.lists.now) number)
     (sym c.graph.ensures)
-    (live-left (numbers_of c.args.ground) number ((subst (λ (n : Numbers). AreLeft n c.in_ok-left.left.items) c.numbers.ensures c.in_ok-left.ensures).each number
+    (live-left (numbers_of c.args.linked.ground) number ((subst (λ (n : Numbers). AreLeft n c.in_ok-left.left.items) c.numbers.ensures c.in_ok-left.ensures).each number
     (subst (λ (xs : List ℕ). Contains xs number) c.as_slice.ensures.value h)))
 
 pub reckon_together-requires-clause-basis : goal.reckon_together-requires-clause-basis
 reckon_together-requires-clause-basis g c κs within = record {
-  valid = c.requires.ground.valid;
-  graph = left-graph c.args.ground c.requires.ground c.link_wholes.new.links
-      (subst (λ (l : LinkGround). AreLinkedTo l c.link_wholes.new.links (turn 7 0 153)) c.for_links.ensures c.in_ok-link_wholes.ensures);
-  rates = c.requires.ground.rates;
+  valid = c.requires.linked.ground.valid;
+  graph = left-graph c.args.linked.ground c.requires.linked.ground c.args.linked.links.now c.requires.linked.links;
+  rates = c.requires.linked.ground.rates;
 }
 
 pub reckon_together-requires-clause-order : goal.reckon_together-requires-clause-order
@@ -72,10 +53,10 @@ reckon_together-requires-clause-order g c κs within = (
 
 pub reckon_together-requires-clause-known : goal.reckon_together-requires-clause-known
 reckon_together-requires-clause-known g c κs within =
-    let ground = c.args.ground in
+    let ground = c.args.linked.ground in
     let numbers = c.in_ok-order.order.numbers.items in
     let ends = c.in_ok-order.order.ends.items in
-    left-known ground c.requires.ground c.put_whole_blocks.new.figures c.in_ok-left.left.items c.in_ok-order.ensures.0 numbers ends
+    left-known ground c.requires.linked.ground c.put_whole_blocks.new.figures c.in_ok-left.left.items c.in_ok-order.ensures.0 numbers ends
     c.put_whole_blocks.ensures
     (subst (λ (n : Numbers). AreLeft n c.in_ok-left.left.items) c.numbers.ensures c.in_ok-left.ensures)
     (λ number h. (c.in_ok-order.ensures.1).marked number (subst (λ (xs : List ℕ). Contains xs number) (sym c.as_slice.ensures.value) h))
@@ -87,12 +68,11 @@ reckon_together-requires-clause-room g c κs within = let count = c.put_whole_bl
 
 pub returns : goal.returns
 returns g c =
-    let ground = c.args.ground in
-    let now : Made = record { figures = c.reckon_together.new.figures; links = c.link_wholes.new.links } in
+    let ground = c.args.linked.ground in
+    let links = c.args.linked.links.now in
     on-ok (AreSettled (book_reckoning ground.inputs.factors.now (rolled_of ground.inputs.book.now))
     (StandsIn ground.inputs.book.now ground.places.now ground.lists.now) c.reckon_together.new.figures)
-    (IsWhole ground now) c.reckon_together.result
-    (left-made ground c.requires.ground c.put_whole_blocks.new.figures now c.put_whole_blocks.ensures.reckoned.count
-    c.reckon_together.ensures.count
-    (subst (λ (l : LinkGround). AreLinkedTo l c.link_wholes.new.links (turn 7 0 153)) c.for_links.ensures c.in_ok-link_wholes.ensures))
+    (IsWhole ground c.reckon_together.new.figures links) c.reckon_together.result
+    (left-made ground c.requires.linked.ground c.put_whole_blocks.new.figures c.reckon_together.new.figures links
+    c.put_whole_blocks.ensures.reckoned.count c.reckon_together.ensures.count c.requires.linked.links)
     c.reckon_together.ensures.settled

@@ -11,10 +11,10 @@ pub number_at-requires-clause-row : goal.number_at-requires-clause-row
 number_at-requires-clause-row g c =
     row-few (link_ground c.args.ground) (for-links c.args.ground c.requires.ground) c.args.node.now c.args.row
     (first c.args.ground.places.now (table_of c.args.node.now) c.args.row + family_of c.args.node.now) c.requires.row refl
-    (sym (ap (λ (s : BalanceSheet). is_live s c.args.node.now) c.sheet.ensures.sheet) ∙ (sym c.is_live.ensures ∙ c.if-not-is_live.false))
+    (sym (ap (λ (s : BalanceSheet). is_live s c.args.node.now) c.sheet.ensures.sheet) ∙ (sym c.is_live.ensures ∙ c.if-is_live.true))
 
 pub number_at-requires-clause-family : goal.number_at-requires-clause-family
 number_at-requires-clause-family g c =
     family-few (link_ground c.args.ground) (for-links c.args.ground c.requires.ground) c.args.node.now c.args.row
     (first c.args.ground.places.now (table_of c.args.node.now) c.args.row + family_of c.args.node.now) c.requires.row refl
-    (sym (ap (λ (s : BalanceSheet). is_live s c.args.node.now) c.sheet.ensures.sheet) ∙ (sym c.is_live.ensures ∙ c.if-not-is_live.false))
+    (sym (ap (λ (s : BalanceSheet). is_live s c.args.node.now) c.sheet.ensures.sheet) ∙ (sym c.is_live.ensures ∙ c.if-is_live.true))

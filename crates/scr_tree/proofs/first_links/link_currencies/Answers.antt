@@ -1,0 +1,14 @@
+use Rattle.std.proofs.Common.{length, ap, arith}
+use Rattle.scr_sheet.specs.BalanceSheet.{curve_name}
+use Rattle.scr_sheet.specs.declared.sheet.BalanceSheet.{BalanceSheet}
+use Rattle.scr_tree.proofs.Grounds.{as-long}
+use Rattle.scr_tree.proofs.Linking.{linked-over}
+use Rattle.scr_tree.proofs.first_links.link_currencies.Goals as goal
+
+pub returns : goal.returns
+returns c =
+    let rows = ap (λ (s : BalanceSheet). length s.curves) c.sheet.ensures.sheet in
+    linked-over c.args.ground c.requires.ground 6 c.loop-k.k
+    (as-long curve_name c.args.ground.book.now.sheet.curves c.loop-k.k
+    (omega (arith, rows, c.loop-k-test.false, c.loop-k.auto.k-end, c.len-k-end.ensures.count)))
+    c.loop-k.links c.loop-k.invariant
