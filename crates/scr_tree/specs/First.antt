@@ -1,5 +1,5 @@
 -- What the first reckoning of all figures has made (this project's own).
-use Rattle.std.specs.Prelude.{◌≡◌, ◌⊎◌, ℕ, ◌<◌, ◌≤◌, ◌++◌, true, false, All, Contains, List, Some, length, map, nat_eq, slice_get}
+use Rattle.std.specs.Prelude.{◌≡◌, ◌⊎◌, ℕ, ◌<◌, ◌≤◌, ◌++◌, true, false, All, Contains, List, None, Option, Some, length, map, nat_eq, slice_get}
 use Rattle.scr_discounts.specs.KeptRates.{all_rates, known_of}
 use Rattle.scr_factors.specs.Values.{FactorValues, IsInForm}
 use Rattle.scr_figures.specs.Numbers.{IsNumbered, StandsAt}
@@ -27,7 +27,12 @@ use Rattle.scr_tree.specs.declared.making.LinkGround.{LinkGround}
 use Rattle.scr_tree.specs.declared.making.LinkedGround.{LinkedGround}
 use Rattle.scr_tree.specs.Graphs.{graph_of}
 use Rattle.scr_book.specs.RolledSheets.{RolledSheet}
+use Rattle.scr_blocks.specs.declared.blocks.Level.TheVariants as levels
 use Rattle.scr_lists.specs.Lists.{AreListsOf}
+use Rattle.scr_parts.specs.Parts.{Parted, slot_of}
+use Rattle.scr_sheet.specs.declared.roll.Roll.{Roll}
+use Rattle.scr_sheet.specs.declared.roll.Roll.TheVariants as rolls
+use Rattle.scr_tree.specs.Reading.{IsRollOf}
 use Rattle.scr_lists.specs.declared.lists.Lists.{Lists}
 use Rattle.scr_sums.specs.Books.{rolled_of}
 use Rattle.scr_sums.specs.Graph.{Rolled, member_point, roll_in}
@@ -36,6 +41,7 @@ use Rattle.scr_sums.specs.declared.point.Block.{Block}
 use Rattle.scr_sums.specs.declared.point.Point.{Point}
 use Rattle.scr_sums.specs.declared.point.Point.TheVariants as points
 use Rattle.scr_sums.specs.declared.sum.Sum.{Sum}
+use Rattle.scr_sums.specs.declared.sum.Sum.TheVariants as sums
 use Rattle.scr_tree.specs.Points.{AreNumbersOf, IsLinkedPoint, StandsIn, book_graph, book_reckoning, is_linked}
 
 -- ---- what is made
@@ -120,10 +126,6 @@ pub record AreDoneTo (ground : Ground) (figures : List Figure) (t u : Turn) : Ty
 abbrev pub AreRowsDone : Ground → List Figure → Type 0
 AreRowsDone ground figures = AreDoneTo ground figures (turn 6 0 0) (turn 5 0 0)
 
--- the Blocks under the totals of the first groups are there, and all figures of rows
-abbrev pub AreGroupsDone : Ground → List Figure → ℕ → Type 0
-AreGroupsDone ground figures k = AreDoneTo ground figures (turn 6 0 0) (turn 5 k 0)
-
 -- all figures before a turn are reckoned, with the Blocks under the sums that they read
 abbrev pub AreDone : Ground → List Figure → Turn → Type 0
 AreDone ground figures t = AreDoneTo ground figures t t
@@ -198,3 +200,40 @@ pub record IsFound (book : RolledSheet) (found : Found) : Type 0 where
   pub numbering : AreNumbered book found.numbering
   pub gathered : IsGathered book.sheet found.gathered
   pub room : HaveRoom found.numbering found.figures
+
+-- ---- groups, by the slots of the parts of their lists
+
+-- The first part of the list on the first level has the slot. So a list that falls into Blocks begins at one slot.
+abbrev pub BeginsAt : Parted → ℕ → ℕ → Type 0
+BeginsAt parts slot list = slot_of (record { list = list; level = levels.First; index = 0 }) parts ≡ Some slot
+
+-- the sum over a group's securities
+abbrev pub group_sum : Roll → Option Sum
+group_sum (rolls.Group name) = Some (sums.Group name)
+group_sum roll = None
+
+-- it is the sum over the securities of a group, whose list begins at the slot
+pub record IsGroupAt (book : RolledSheet) (parts : Parted) (slot : ℕ) (sum : Sum) : Type 0 where
+  pub list : ℕ
+  pub begins : BeginsAt parts slot list
+  pub name : List ℕ
+  pub is : sum ≡ sums.Group name
+  pub of : IsRollOf book.rolls list (rolls.Group name)
+
+-- one of the first slots
+pub record IsGroupBelow (ground : Ground) (slots : ℕ) (sum : Sum) : Type 0 where
+  pub slot : ℕ
+  pub before : slot < slots
+  pub at : IsGroupAt ground.inputs.book.now ground.lists.now.parts slot sum
+
+-- a Block under a sum that is read before the groups, or under the total of one of these
+abbrev pub IsBlockBelow : Ground → ℕ → Point → Type 0
+IsBlockBelow ground slots (points.Figure node) = ⊥
+IsBlockBelow ground slots (points.Block block) =
+    IsBefore ground.inputs.book.now.sheet (turn 5 0 0) (reader_of block.sum) ⊎ IsGroupBelow ground slots block.sum
+
+-- all figures of rows are there, and the Blocks under the totals of the groups whose lists begin at one of the first slots
+pub record AreGroupsDone (ground : Ground) (figures : List Figure) (slots : ℕ) : Type 0 where
+  pub reckoned : AreReckonedTo ground figures (turn 6 0 0)
+  pub blocks_there : AreKnownOf (book_reckoning ground.inputs.factors.now (rolled_of ground.inputs.book.now))
+      (StandsIn ground.inputs.book.now ground.places.now ground.lists.now) figures (IsBlockBelow ground slots)

@@ -4,7 +4,7 @@ ghost use Rattle.std.specs.Prelude.{◌≡◌, ◌+◌, ◌<◌, length, IfOk, O
 ghost use Rattle.scr_discounts.specs.KeptRates.{all_rates, known_of};
 ghost use Rattle.scr_pieces.specs.Rows.{AreAllRows, rows_from};
 ghost use Rattle.scr_rules.specs.GroupLosses.{AreLossesOf};
-ghost use Rattle.scr_tree.specs.First.{AreDone, AreDoneTo, AreGroupsDone, AreLinkedTo, AreNumbered, AreReckonedTo, AreRowsDone, HaveRoom, IsFound, IsGathered, IsGround, IsLinkGround, IsLinkedGround, IsWhole, link_ground, totals_of};
+ghost use Rattle.scr_tree.specs.First.{AreDone, AreDoneTo, AreLinkedTo, AreNumbered, AreReckonedTo, AreRowsDone, HaveRoom, IsFound, IsGathered, IsGround, IsLinkGround, IsLinkedGround, IsWhole, link_ground, totals_of};
 ghost use Rattle.scr_tree.specs.Opened.{IsOpened};
 ghost use Rattle.scr_tree.specs.RowSpans.{IsRowGround, IsRowOf, row_count};
 ghost use Rattle.scr_tree.specs.Turns.{turn};
@@ -15,8 +15,9 @@ use crate::figures::{Below, Figures, Inputs, no_figures};
 use crate::first_links::{ASSETS, OF_CURRENCY, WHOLES, all_links};
 use crate::first_parts::{write_parts, write_row};
 use crate::first_totals::enter_totals;
+use crate::groups::put_groups;
 use crate::left::put_left;
-use crate::making::{Ground, LinkedGround, Made, Making, put_found, put_live, put_summed};
+use crate::making::{Ground, LinkedGround, Made, Making, put_live, put_summed};
 use crate::passes::pass_found;
 use crate::row_spans::RowGround;
 use scr_book::Book;
@@ -31,7 +32,6 @@ use scr_num::Span;
 use scr_numbers::Places;
 use scr_pieces::{Part, RowPlan, Sort, reckon_rows};
 use scr_rules::{GroupLosses, Rates, group_losses, rates};
-use scr_sums::Sum;
 use scr_totals::totals;
 use std::alloc::{AllocError as NoMemory, Global};
 use std::marker::Brand;
@@ -417,30 +417,6 @@ fn put_by_pieces<R: Threads + Sync, G: Gate + Sync>(
     let parts = parts?;
     write_parts(ground, figures, parts.as_slice());
     links
-}
-
-/// The Blocks under the totals of groups, which were reckoned with their rows.
-fn put_groups<G: Gate>(ground: Ground<'_>, figures: &mut Figures, gate: &G)
-    requires ground { IsGround ground }
-    requires done { AreGroupsDone ground figures.old 0 }
-    ensures { AreDone ground.entry figures.new (turn 6 0 0) }
-{
-    let sheet = ground.inputs.book.sheet();
-    for k in 0..sheet.groups.len() {
-        put_group(ground, figures, k, gate);
-    }
-}
-
-/// The Blocks under the total of a group.
-fn put_group<G: Gate>(ground: Ground<'_>, figures: &mut Figures, k: usize, gate: &G)
-    requires ground { IsGround ground }
-    requires row { k < length ground.inputs.book.now.sheet.groups }
-    requires done { AreGroupsDone ground figures.old k }
-    ensures { AreGroupsDone ground.entry figures.new (k + 1) }
-{
-    let group = ground.inputs.book.sheet().groups.at(k);
-    let found = Some(Sum::Group(group.name));
-    put_found(ground, figures, &found, gate);
 }
 
 fn put_currencies<G: Gate, L: Ledger>(

@@ -29,6 +29,7 @@ ghost use Rattle.scr_reach.specs.Dues.{IsLiveAt};
 ghost use Rattle.scr_sums.specs.declared.point.Block.{Block as TheBlock};
 ghost use Rattle.scr_sums.specs.declared.point.Point.{Point as ThePoint};
 ghost use Rattle.scr_sums.specs.declared.point.Point.TheVariants as points;
+ghost use Rattle.scr_tree.specs.First.{BeginsAt};
 ghost use Rattle.scr_tree.specs.Marking as marking;
 ghost use Rattle.scr_tree.specs.Marking.{AreMarkedFrom, AreMarkedMore, AreRowMarked, IsAboveSquares, IsDependantAt, IsLeftToAssets, IsLinkedDependantAt, IsMemberAt, IsPlainDependantAt, IsReaderAt};
 ghost use Rattle.scr_tree.specs.Points.{AreNumbersOf, IsGraphOf, StandsIn, book_graph};
@@ -170,26 +171,19 @@ impl<'a> Numbers<'a> {
         })
     }
 
-    /// Up to which number there are lists.
-    pub(crate) fn list_count(&self) -> u32 {
-        let lists = self.lists;
-        let most = lists
-            .of(RowTable::Security)
-            .len()
-            .max(lists.of(RowTable::Liability).len())
-            .max(lists.of(RowTable::Fund).len())
-            .max(lists.of(RowTable::Group).len());
-        match u32::try_from(most.saturating_mul(4)) {
-            Ok(count) => count,
-            Err(_) => u32::MAX,
+    /// The list that begins at a slot: whose first part on the first level has it.
+    pub(crate) fn list_begun(&self, slot: u32) -> Option<u32>
+        ensures there { IfSome result (BeginsAt self.now.lists.now.parts slot) }
+        ensures absent { IsNone result → (list : ℕ) → BeginsAt self.now.lists.now.parts slot list → ⊥ }
+    {
+        // No slot is of two parts.
+        let parts = self.lists.parts();
+        let _slots = parts.len();
+        let part = parts.part(slot)?;
+        match part.level {
+            Level::First if part.index == 0 => Some(part.list),
+            _ => None,
         }
-    }
-
-    /// The list that has a number is long enough for Blocks.
-    pub(crate) fn has_blocks(&self, list: u32) -> bool {
-        let (table, number) = list_of(list);
-        let members = self.lists.of(table).list(number).len();
-        blocks_at(members, Level::First) > 0
     }
 
     /// Which list it is that has a number: by the number alone where it is one for all books, or by the seat in which its first member has

@@ -11,6 +11,7 @@ mod first_links;
 mod first_parts;
 mod first_totals;
 mod graph;
+mod groups;
 mod journal;
 pub mod laws;
 mod left;

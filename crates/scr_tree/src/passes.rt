@@ -58,14 +58,15 @@ fn pass_live<G: Gate>(ground: Ground<'_>, node: &Node, row: usize, gate: &G)
     }
 }
 
-/// For all Blocks, list by list: most lists are too short for any.
+/// For all Blocks, list by list, each where it begins.
 fn pass_all_blocks<G: Gate>(numbers: Numbers<'_>, gate: &G)
     requires numbers { AreNumbersOf numbers.book.now numbers.places.now numbers.lists.now }
     requires valid { Valid numbers.book.now.sheet }
 {
-    for list in 0..numbers.list_count() {
-        if numbers.has_blocks(list) {
-            pass_list(numbers, list, gate);
+    for slot in 0..numbers.lists.parts().len() {
+        match numbers.list_begun(slot) {
+            Some(list) => pass_list(numbers, list, gate),
+            None => (),
         }
     }
 }

@@ -1,5 +1,5 @@
 use Rattle.std.proofs.Common.{sym, subst, ◌∙◌}
-use Rattle.scr_tree.specs.First.{AreGroupsDone, AreLinkedTo, IsLinkGround}
+use Rattle.scr_tree.specs.First.{AreRowsDone, AreLinkedTo, IsLinkGround}
 use Rattle.scr_tree.specs.Turns.{turn}
 use Rattle.scr_tree.proofs.AllMade.{all-made, nothing-reckoned}
 use Rattle.scr_tree.proofs.Grounds.{for-links}
@@ -19,7 +19,7 @@ all_links-requires g c = subst IsLinkGround (sym c.for_links.ensures) (for-links
 
 pub put_groups-requires-clause-done : goal.put_groups-requires-clause-done
 put_groups-requires-clause-done g c =
-    subst (λ figures. AreGroupsDone c.args.ground figures 0) (sym c.making_of-making.ensures) c.in_ok-put_rows.ensures
+    subst (λ figures. AreRowsDone c.args.ground figures) (sym c.making_of-making.ensures) c.in_ok-put_rows.ensures
 
 pub put_currencies-requires-clause-linked : goal.put_currencies-requires-clause-linked
 put_currencies-requires-clause-linked g c = record {

@@ -1,5 +1,5 @@
 use Rattle.std.proofs.Common.{sym, subst, ◌∙◌}
-use Rattle.scr_tree.specs.First.{AreGroupsDone}
+use Rattle.scr_tree.specs.First.{AreRowsDone}
 use Rattle.scr_tree.proofs.AllMade.{nothing-reckoned}
 use Rattle.scr_tree.proofs.first.put_together.Goals as goal
 
@@ -14,7 +14,7 @@ put_by_pieces-requires-clause-totals g c κs within = c.as_slice-2.ensures.value
 
 pub put_groups-requires-clause-done : goal.put_groups-requires-clause-done
 put_groups-requires-clause-done g c =
-    subst (λ figures. AreGroupsDone c.args.ground figures 0) (sym c.making_of-making.ensures) c.in_ok-links.ensures.rows
+    subst (λ figures. AreRowsDone c.args.ground figures) (sym c.making_of-making.ensures) c.in_ok-links.ensures.rows
 
 pub put_currencies-requires-clause-linked : goal.put_currencies-requires-clause-linked
 put_currencies-requires-clause-linked g c = record { ground = c.requires.ground; links = c.in_ok-links.ensures.links }
