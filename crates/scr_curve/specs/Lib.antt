@@ -1,5 +1,5 @@
-pub mod Rate
-pub mod Discount
-pub mod Parts
-pub mod DiscountEnds
-pub mod Falls
+pub use Rattle.scr_yield_curve.specs.Rate
+pub use Rattle.scr_yield_curve.specs.Discount
+pub use Rattle.scr_yield_curve.specs.Parts
+pub use Rattle.scr_yield_curve.specs.DiscountEnds
+pub use Rattle.scr_yield_curve.specs.Falls

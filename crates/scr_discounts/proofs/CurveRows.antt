@@ -4,13 +4,13 @@ use Rattle.std.specs.List.{AllByRecursion}
 use Rattle.std.proofs.lemmas.Int.{ints}
 use Rattle.std.proofs.lemmas.List.Elements.{All-from_recursion}
 use Rattle.scr_profile.specs.declared.limits.TheConstants.{MIN_RATE, MAX_RATE}
-use Rattle.scr_curve.specs.DiscountEnds.{table_ends}
-use Rattle.scr_curve.specs.Parts.{IsRateInMillionths, IsCurveInMillionths, rates_in_parts}
-use Rattle.scr_curve.specs.Rate.{rate}
-use Rattle.scr_curve.specs.declared.tilt.Tilt.{Tilt}
-use Rattle.scr_curve.specs.declared.tilt.Tilt.TheVariants as tilts
-use Rattle.scr_curve.proofs.RateLemmas.{rates_are, rates_in_range, length-rates_in_parts}
-use Rattle.scr_curve.proofs.TableLemmas.{length-ends_from, table_in_range, table_encloses}
+use Rattle.scr_yield_curve.specs.DiscountEnds.{table_ends}
+use Rattle.scr_yield_curve.specs.Parts.{IsRateInMillionths, IsCurveInMillionths, rates_in_parts}
+use Rattle.scr_yield_curve.specs.Rate.{rate}
+use Rattle.scr_yield_curve.specs.declared.tilt.Tilt.{Tilt}
+use Rattle.scr_yield_curve.specs.declared.tilt.Tilt.TheVariants as tilts
+use Rattle.scr_yield_curve.proofs.RateLemmas.{rates_are, rates_in_range, length-rates_in_parts}
+use Rattle.scr_yield_curve.proofs.TableLemmas.{length-ends_from, table_in_range, table_encloses}
 use Rattle.scr_sheet.specs.Validity.{Valid, IsBetween, IsCurve}
 use Rattle.scr_sheet.specs.declared.{rows.Curve.Curve, sheet.BalanceSheet.BalanceSheet}
 use Rattle.scr_discounts.specs.Discounts.{discounts_at}

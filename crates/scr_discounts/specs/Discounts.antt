@@ -1,9 +1,9 @@
 -- The discounts of a currency under each stress of its rates, as they are worked out (this project's own).
 use Rattle.std.specs.Prelude.{ℤ, List, []}
 use Rattle.scr_num.specs.Rounding.{Ends}
-use Rattle.scr_curve.specs.DiscountEnds.{table_ends}
-use Rattle.scr_curve.specs.Parts.{rates_in_parts}
-use Rattle.scr_curve.specs.declared.tilt.Tilt.TheVariants as tilts
+use Rattle.scr_yield_curve.specs.DiscountEnds.{table_ends}
+use Rattle.scr_yield_curve.specs.Parts.{rates_in_parts}
+use Rattle.scr_yield_curve.specs.declared.tilt.Tilt.TheVariants as tilts
 
 -- those after 1, 2, 3 and up to 100 years at the rates as they are, after a rise and after a fall, in 10^-18
 pub record CurrencyDiscounts : Type 0 where

@@ -2,10 +2,10 @@
 use Rattle.std.specs.Prelude.{ℕ, ◌≡◌, ℤ, All, List, [], ◌∷◌, length, map, if◌then◌else◌}
 use Rattle.scr_num.specs.Fraction.{Fraction}
 use Rattle.scr_num.specs.Rounding.{Ends, ends}
-use Rattle.scr_curve.specs.DiscountEnds.{IsDiscount, EncloseDiscounts}
-use Rattle.scr_curve.specs.Rate.{rate}
-use Rattle.scr_curve.specs.declared.table.Discounts.{Discounts}
-use Rattle.scr_curve.specs.declared.tilt.Tilt.TheVariants as tilts
+use Rattle.scr_yield_curve.specs.DiscountEnds.{IsDiscount, EncloseDiscounts}
+use Rattle.scr_yield_curve.specs.Rate.{rate}
+use Rattle.scr_yield_curve.specs.declared.table.Discounts.{Discounts}
+use Rattle.scr_yield_curve.specs.declared.tilt.Tilt.TheVariants as tilts
 use Rattle.scr_names.specs.Names.{same_name}
 use Rattle.scr_sheet.specs.declared.rows.Curve.{Curve}
 use Rattle.scr_sheet.specs.declared.sheet.BalanceSheet.{BalanceSheet}

@@ -1,9 +1,9 @@
 -- What is kept of all rates: of each currency the falls of its discounts, and the reference date whose anniversaries are known
 -- (this project's own).
 use Rattle.std.specs.Prelude.{ℕ, ◌≡◌, false, ℤ, List, [], ◌∷◌, Some, slice_get}
-use Rattle.scr_curve.specs.Parts.{rates_in_parts}
-use Rattle.scr_curve.specs.declared.tilt.Tilt.TheVariants as tilts
-use Rattle.scr_curve.specs.Falls.{differences}
+use Rattle.scr_yield_curve.specs.Parts.{rates_in_parts}
+use Rattle.scr_yield_curve.specs.declared.tilt.Tilt.TheVariants as tilts
+use Rattle.scr_yield_curve.specs.Falls.{differences}
 use Rattle.scr_names.specs.Names.{same_name}
 use Rattle.scr_sheet.specs.declared.rows.Curve.{Curve}
 use Rattle.scr_sheet.specs.declared.sheet.BalanceSheet.{BalanceSheet}

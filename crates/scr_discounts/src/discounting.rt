@@ -7,9 +7,9 @@ ghost use Rattle.scr_discounts.specs.Kept.{tables, rows_of, all_discounts};
 ghost use Rattle.scr_discounts.specs.KeptRates.{AreKeptBut};
 
 use crate::Curves;
-use scr_curve::{Discounts, Tilt, discounts, yearly};
 use scr_names::Name;
 use scr_sheet::{BalanceSheet, Curve};
+use scr_yield_curve::{Discounts, Tilt, discounts, yearly};
 use std::alloc::{AllocError as NoMemory, Global};
 
 /// The discounts of each currency of the balance sheet. Only want of memory keeps them back.

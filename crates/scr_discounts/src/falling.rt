@@ -1,20 +1,20 @@
 //! All that is kept of the rates of a balance sheet.
 ghost use Rattle.std.specs.Prelude.{◌≡◌, ◌≤◌, All, length, IfOk, map};
 ghost use Rattle.scr_num.specs.Rounding.{ends};
-ghost use Rattle.scr_curve.specs.DiscountEnds.{IsDiscount};
-ghost use Rattle.scr_curve.specs.Falls.{differences};
-ghost use Rattle.scr_curve.specs.Parts.{IsCurveInMillionths, rates_in_parts};
-ghost use Rattle.scr_curve.specs.declared.tilt.Tilt.TheVariants as tilts;
+ghost use Rattle.scr_yield_curve.specs.DiscountEnds.{IsDiscount};
+ghost use Rattle.scr_yield_curve.specs.Falls.{differences};
+ghost use Rattle.scr_yield_curve.specs.Parts.{IsCurveInMillionths, rates_in_parts};
+ghost use Rattle.scr_yield_curve.specs.declared.tilt.Tilt.TheVariants as tilts;
 ghost use Rattle.scr_sheet.specs.Validity.{Valid};
 ghost use Rattle.scr_discounts.specs.Kept.{AreDiscountsAt, AreDiscountsOf, all_discounts, tables, rows_of};
 ghost use Rattle.scr_discounts.specs.KeptRates.{AreKeptBut, falls_at, falls_of, known_of, all_rates};
 
 use crate::discounting::curves_after;
 use crate::{CurrencyFalls, Curves, Rates, curves_of};
-use scr_curve::{Discounts, Falls, Tilt, yearly};
 use scr_names::Name;
 use scr_sheet::BalanceSheet;
 use scr_years::Years;
+use scr_yield_curve::{Discounts, Falls, Tilt, yearly};
 use std::alloc::{AllocError as NoMemory, Global};
 
 /// The discounts of each currency of the balance sheet with their falls. Only want of memory keeps them back.

@@ -1,7 +1,7 @@
 //! The discounts of all currencies, kept so that no figure reckons them again.
 ghost use Rattle.std.specs.Prelude.{◌≡◌, ◌<◌, ◌++◌, [], ◌∷◌, Some, length, slice_get, IfOk, OnOk, OnErr};
 
-use scr_curve::Discounts;
+use scr_yield_curve::Discounts;
 use std::alloc::{AllocError as NoMemory, Global};
 use std::marker::Model;
 
@@ -14,7 +14,7 @@ pub struct Curves {
 
 impl Model for Curves {
     ghost use Rattle.std.specs.Prelude.{List};
-    ghost use Rattle.scr_curve.specs.declared.table.Discounts.{Discounts};
+    ghost use Rattle.scr_yield_curve.specs.declared.table.Discounts.{Discounts};
 
     ghost Value = { List (List Discounts) };
 

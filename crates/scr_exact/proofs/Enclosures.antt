@@ -14,7 +14,7 @@ use Rattle.scr_num.proofs.CentAmounts.{enclosing-in_order}
 use Rattle.scr_num.proofs.Enclosing.{Encloses-exact, Encloses-add, Encloses-sub, Encloses-minus, Encloses-max, Encloses-scale}
 use Rattle.scr_num.proofs.Fractions.{≼_refl, ≼_trans, times_mono}
 use Rattle.scr_num.proofs.SumLemmas.{Encloses-zero, sum_ends-append}
-use Rattle.scr_curve.specs.DiscountEnds.{one}
+use Rattle.scr_yield_curve.specs.DiscountEnds.{one}
 use Rattle.scr_dates.specs.declared.day.Day.{Day}
 use Rattle.scr_flow.specs.LossEnds.{scaled_ends}
 use Rattle.scr_flow.specs.Payments.{payments_exact}

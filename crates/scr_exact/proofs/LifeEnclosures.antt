@@ -7,7 +7,7 @@ use Rattle.scr_num.specs.Fraction.{zero_fraction}
 use Rattle.scr_num.specs.Enclosure.{Encloses, EncloseAll}
 use Rattle.scr_num.specs.Rounding.{Ends}
 use Rattle.scr_num.specs.Sums.{sum_ends}
-use Rattle.scr_curve.specs.DiscountEnds.{one}
+use Rattle.scr_yield_curve.specs.DiscountEnds.{one}
 use Rattle.scr_agg.specs.Choice.{chosen, outcome_at}
 use Rattle.scr_agg.specs.Unbeaten.{EncloseOutcome, EncloseOutcomes, mask_of}
 use Rattle.scr_agg.proofs.Bits.{mask_bits}

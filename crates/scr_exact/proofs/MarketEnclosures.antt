@@ -10,7 +10,7 @@ use Rattle.scr_num.specs.Figure.{Figure, Frac}
 use Rattle.scr_num.specs.Rounding.{Ends, exact_ends}
 use Rattle.scr_num.specs.Sums.{sum_ends, parts_of}
 use Rattle.scr_num.proofs.Enclosing.{Encloses-exact}
-use Rattle.scr_curve.specs.DiscountEnds.{one}
+use Rattle.scr_yield_curve.specs.DiscountEnds.{one}
 use Rattle.scr_agg.specs.Absorbed.{net_figure}
 use Rattle.scr_agg.specs.Choice.{chosen, outcome_at}
 use Rattle.scr_agg.specs.Unbeaten.{EncloseOutcome, EncloseOutcomes}

@@ -4,9 +4,9 @@ use Rattle.std.specs.Prelude.{ℕ, ℤ, pos, Bool, List, [], ◌∷◌, map, if�
 use Rattle.std.proofs.Common.{lit<}
 use Rattle.scr_num.specs.Fraction.{Fraction, over, zero_fraction, plus, minus, product}
 use Rattle.scr_dates.specs.declared.day.Day.{Day}
-use Rattle.scr_curve.specs.Discount.{discount_exact}
-use Rattle.scr_curve.specs.Rate.{rate}
-use Rattle.scr_curve.specs.declared.tilt.Tilt.TheVariants as tilts
+use Rattle.scr_yield_curve.specs.Discount.{discount_exact}
+use Rattle.scr_yield_curve.specs.Rate.{rate}
+use Rattle.scr_yield_curve.specs.declared.tilt.Tilt.TheVariants as tilts
 use Rattle.scr_flow.specs.Payments.{payments_exact, payments_loss_exact}
 use Rattle.scr_agg.specs.Choice.{Outcome, chosen}
 use Rattle.scr_rate.specs.Interest.{scenario_outcome, interest_outcome}

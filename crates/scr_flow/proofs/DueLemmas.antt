@@ -11,7 +11,7 @@ use Rattle.scr_dates.specs.declared.term.Maturity.{Maturity}
 use Rattle.scr_dates.specs.declared.term.Maturity.TheVariants.{Past, Years, TooFar}
 use Rattle.scr_dates.specs.Payments.{years_of}
 use Rattle.scr_dates.specs.Years.{maturity_of}
-use Rattle.scr_curve.proofs.CurveLemmas.{list_by_place}
+use Rattle.scr_yield_curve.proofs.CurveLemmas.{list_by_place}
 use Rattle.scr_flow.specs.Due.{amount_at, due_in}
 use Rattle.scr_flow.proofs.SumLemmas.{sum_by-drop}
 

@@ -7,15 +7,15 @@ use Rattle.scr_num.specs.Fraction.{Fraction, minus}
 use Rattle.scr_num.specs.Figure.{Frac}
 use Rattle.scr_num.specs.Rounding.{Ends, exact_ends, sub_ends}
 use Rattle.scr_num.specs.Enclosure.{Encloses, Measures}
-use Rattle.scr_curve.specs.Discount.{discount_exact}
-use Rattle.scr_curve.specs.Parts.{parts, AreRates}
-use Rattle.scr_curve.specs.DiscountEnds.{one, EncloseDiscounts}
-use Rattle.scr_curve.proofs.SameRates.{Same-rates, Same-discount, Same-below, Same-turned}
+use Rattle.scr_yield_curve.specs.Discount.{discount_exact}
+use Rattle.scr_yield_curve.specs.Parts.{parts, AreRates}
+use Rattle.scr_yield_curve.specs.DiscountEnds.{one, EncloseDiscounts}
+use Rattle.scr_yield_curve.proofs.SameRates.{Same-rates, Same-discount, Same-below, Same-turned}
 use Rattle.scr_flow.specs.Loss.{discount_fall}
-use Rattle.scr_curve.specs.Falls.{difference, differences}
+use Rattle.scr_yield_curve.specs.Falls.{difference, differences}
 use Rattle.scr_num.proofs.Enclosing.{Encloses-sub, Encloses-minus}
 use Rattle.scr_flow.proofs.SumLemmas.{Encloses-equal}
-use Rattle.scr_curve.proofs.FallLemmas.{get_or-differences}
+use Rattle.scr_yield_curve.proofs.FallLemmas.{get_or-differences}
 
 difference_encloses : (n m : ℤ) (e f : Ends) (p q : Fraction) (years : ℕ) → Measures parts n p → Measures parts m q
     → Encloses one e.low e.high (Frac (discount_exact p years)) → Encloses one f.low f.high (Frac (discount_exact q years))

@@ -5,18 +5,18 @@ use Rattle.scr_num.specs.Figure.{Frac}
 use Rattle.scr_num.specs.Rounding.{Ends}
 use Rattle.scr_num.specs.Enclosure.{Encloses}
 use Rattle.scr_dates.specs.declared.day.Day.{Day}
-use Rattle.scr_curve.specs.Parts.{AreRates}
-use Rattle.scr_curve.specs.DiscountEnds.{one, EncloseDiscounts}
+use Rattle.scr_yield_curve.specs.Parts.{AreRates}
+use Rattle.scr_yield_curve.specs.DiscountEnds.{one, EncloseDiscounts}
 use Rattle.scr_flow.specs.Due.{dues, AreNear}
 use Rattle.scr_flow.specs.Loss.{loss_exact, discount_fall}
 use Rattle.scr_flow.specs.LossEnds.{loss_ends}
 use Rattle.scr_flow.specs.Payments.{payments_loss_exact}
-use Rattle.scr_curve.specs.Falls.{differences}
+use Rattle.scr_yield_curve.specs.Falls.{differences}
 use Rattle.scr_flow.proofs.LossLemmas.{differences_enclose}
 use Rattle.scr_flow.proofs.OneValue.{Encloses-one, by-maturity}
 use Rattle.scr_flow.proofs.SizeLemmas.{length-dues}
 use Rattle.scr_flow.proofs.SumLemmas.{Encloses-weighted}
-use Rattle.scr_curve.proofs.FallLemmas.{length-differences}
+use Rattle.scr_yield_curve.proofs.FallLemmas.{length-differences}
 
 pub loss-encloses : (flows base stressed : List ℤ) (from to : List Ends) (before after : ℕ → Fraction)
     → length from ≡ length base → length stressed ≡ length base → length to ≡ length base → length flows ≡ length base

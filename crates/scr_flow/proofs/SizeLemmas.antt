@@ -12,12 +12,12 @@ use Rattle.scr_num.proofs.Quotients.{ceil_div-times, ceil_div-next}
 use Rattle.scr_dates.specs.declared.{day.Day.Day, term.Maturity.Maturity}
 use Rattle.scr_dates.specs.declared.term.Maturity.TheVariants.{Past, Years, TooFar}
 use Rattle.scr_dates.specs.Years.{maturity_of}
-use Rattle.scr_curve.specs.DiscountEnds.{IsDiscount}
-use Rattle.scr_curve.specs.declared.table.TheConstants.{MAX_DISCOUNT}
+use Rattle.scr_yield_curve.specs.DiscountEnds.{IsDiscount}
+use Rattle.scr_yield_curve.specs.declared.table.TheConstants.{MAX_DISCOUNT}
 use Rattle.scr_dates.specs.Payments.{total}
 use Rattle.scr_flow.specs.Due.{amount_at, due_in, dues}
 use Rattle.scr_flow.specs.Sums.{flow_ends, weighted_ends}
-use Rattle.scr_curve.specs.Falls.{difference, differences}
+use Rattle.scr_yield_curve.specs.Falls.{difference, differences}
 use Rattle.scr_flow.specs.LossEnds.{present_ends, loss_ends, scaled_ends}
 use Rattle.scr_num.specs.Sizes.{IsWithin}
 

@@ -14,7 +14,7 @@ use Rattle.scr_num.proofs.AddedEnds.{add_ends-assoc, add_ends-zero}
 use Rattle.scr_num.proofs.Quotients.{times_le}
 use borrow.Author.Differences.{up, down}
 use Rattle.scr_num.specs.Sums.{weighted_sum}
-use Rattle.scr_curve.specs.declared.table.TheConstants.{MAX_DISCOUNT}
+use Rattle.scr_yield_curve.specs.declared.table.TheConstants.{MAX_DISCOUNT}
 use Rattle.scr_flow.specs.Sums.{flow_ends, weighted_ends}
 
 -- ---- fractions that spans enclose

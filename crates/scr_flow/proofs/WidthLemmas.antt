@@ -10,7 +10,7 @@ use Rattle.scr_num.specs.Rounding.{Ends, exact_ends, add_ends, sub_ends}
 use Rattle.scr_num.specs.Narrow.{IsNarrow}
 use Rattle.scr_num.proofs.Spreads.{narrow-wider, narrow-exact, narrow-add, narrow-sub, narrow-scale}
 use Rattle.scr_flow.specs.Sums.{flow_ends, weighted_ends}
-use Rattle.scr_curve.specs.Falls.{difference, differences}
+use Rattle.scr_yield_curve.specs.Falls.{difference, differences}
 use Rattle.scr_flow.specs.LossEnds.{present_ends, loss_ends, scaled_ends}
 
 narrow-flow : (w : ℕ) (flow : ℤ) (e : Ends) → IsNarrow w e → IsNarrow (w * unsigned_abs flow) (flow_ends flow e)

@@ -3,7 +3,7 @@
 use Rattle.std.specs.Prelude.{ℕ, ℤ, List}
 use Rattle.scr_num.specs.Fraction.{Fraction, minus}
 use Rattle.scr_num.specs.Sums.{weighted_sum}
-use Rattle.scr_curve.specs.Discount.{discount_exact}
+use Rattle.scr_yield_curve.specs.Discount.{discount_exact}
 
 -- the fall of the discount of a maturity from the one rate to the other
 abbrev pub discount_fall : (ℕ → Fraction) → (ℕ → Fraction) → ℕ → Fraction

@@ -2,7 +2,7 @@
 use Rattle.std.specs.Prelude.{ℕ, ℤ, List}
 use Rattle.scr_num.specs.Rounding.{Ends, scale_ends}
 use Rattle.scr_flow.specs.Sums.{weighted_ends}
-use Rattle.scr_curve.specs.Falls.{differences}
+use Rattle.scr_yield_curve.specs.Falls.{differences}
 
 -- the present value of payments after 1, 2, 3 and more years at these discounts
 abbrev pub present_ends : List ℤ → List Ends → Ends

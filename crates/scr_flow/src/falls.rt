@@ -2,12 +2,12 @@
 
 ghost use Rattle.std.specs.Prelude.{◌≡◌, ◌*◌, ◌^◌, ◌<◌, ◌≤◌, pos, ◌≤ℤ◌, length, slice_index_or, sum_by, unsigned_abs};
 ghost use Rattle.scr_num.specs.Rounding.{Ends, ends, add_ends};
-ghost use Rattle.scr_curve.specs.declared.table.TheConstants.{MAX_DISCOUNT};
+ghost use Rattle.scr_yield_curve.specs.declared.table.TheConstants.{MAX_DISCOUNT};
 ghost use Rattle.scr_flow.specs.Sums.{flow_ends, weighted_ends};
 
 use crate::value::{weighted_sum, with_promised};
-use scr_curve::Falls;
 use scr_num::Span;
+use scr_yield_curve::Falls;
 
 /// What payments after 1 to 100 years lose: the sum of each times the fall of its discount. The absolute payments sum to 10^14
 /// at most.

@@ -5,21 +5,21 @@ ghost use Rattle.scr_num.specs.Fraction.{Fraction};
 ghost use Rattle.scr_num.specs.Figure.{Frac};
 ghost use Rattle.scr_num.specs.Rounding.{ends};
 ghost use Rattle.scr_num.specs.Enclosure.{Encloses};
-ghost use Rattle.scr_curve.specs.Parts.{AreRates, IsCurveInMillionths, rates_in_parts};
-ghost use Rattle.scr_curve.specs.DiscountEnds.{one, IsDiscount, EncloseDiscounts};
+ghost use Rattle.scr_yield_curve.specs.Parts.{AreRates, IsCurveInMillionths, rates_in_parts};
+ghost use Rattle.scr_yield_curve.specs.DiscountEnds.{one, IsDiscount, EncloseDiscounts};
 ghost use Rattle.scr_flow.specs.Loss.{loss_exact};
-ghost use Rattle.scr_curve.specs.declared.tilt.Tilt.TheVariants as tilts;
-ghost use Rattle.scr_curve.specs.Falls.{difference};
+ghost use Rattle.scr_yield_curve.specs.declared.tilt.Tilt.TheVariants as tilts;
+ghost use Rattle.scr_yield_curve.specs.Falls.{difference};
 ghost use Rattle.scr_flow.specs.Sums.{flow_ends};
 ghost use Rattle.scr_flow.specs.LossEnds.{loss_ends, scaled_ends};
 ghost use Rattle.scr_num.specs.Sizes.{IsWithin};
-ghost use Rattle.scr_curve.specs.declared.table.TheConstants.{MAX_DISCOUNT};
+ghost use Rattle.scr_yield_curve.specs.declared.table.TheConstants.{MAX_DISCOUNT};
 ghost use Rattle.scr_profile.specs.declared.limits.TheConstants.{MAX_HELD};
 
 use crate::fallen;
 use crate::value::weighted;
-use scr_curve::{Discounts, Falls, Tilt, fall_of, yearly_at};
 use scr_num::{Span, add, exact, scale};
+use scr_yield_curve::{Discounts, Falls, Tilt, fall_of, yearly_at};
 
 /// So few cents, and so few 10^-18 between the ends of a unit, that their product fits 64 bits.
 const FEW: u64 = 4_294_967_295;

@@ -5,15 +5,15 @@ ghost use Rattle.scr_num.specs.Fraction.{Fraction};
 ghost use Rattle.scr_num.specs.Figure.{Frac};
 ghost use Rattle.scr_num.specs.Rounding.{ends, add_ends};
 ghost use Rattle.scr_num.specs.Enclosure.{Encloses};
-ghost use Rattle.scr_curve.specs.Discount.{present_exact};
-ghost use Rattle.scr_curve.specs.DiscountEnds.{one, IsDiscount, EncloseDiscounts};
+ghost use Rattle.scr_yield_curve.specs.Discount.{present_exact};
+ghost use Rattle.scr_yield_curve.specs.DiscountEnds.{one, IsDiscount, EncloseDiscounts};
 ghost use Rattle.scr_flow.specs.Sums.{flow_ends, weighted_ends};
 ghost use Rattle.scr_flow.specs.LossEnds.{present_ends};
 ghost use Rattle.scr_num.specs.Sizes.{IsWithin};
-ghost use Rattle.scr_curve.specs.declared.table.TheConstants.{MAX_DISCOUNT};
+ghost use Rattle.scr_yield_curve.specs.declared.table.TheConstants.{MAX_DISCOUNT};
 
-use scr_curve::Discounts;
 use scr_num::{Span, add, exact};
+use scr_yield_curve::Discounts;
 
 /// The present value of payments after 1 to 100 years, in 10^-18 of their unit: the sum of each times its discount. The
 /// absolute payments sum to 10^14 at most.

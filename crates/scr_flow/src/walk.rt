@@ -3,16 +3,16 @@
 ghost use Rattle.std.specs.Prelude.{◌≡◌, ◌*◌, ◌≤◌, pos, ◌≤ℤ◌, All, unsigned_abs};
 ghost use Rattle.scr_num.specs.Rounding.{ends};
 ghost use Rattle.scr_dates.specs.Civil.{IsDay};
-ghost use Rattle.scr_curve.specs.declared.table.TheConstants.{MAX_DISCOUNT};
+ghost use Rattle.scr_yield_curve.specs.declared.table.TheConstants.{MAX_DISCOUNT};
 ghost use Rattle.scr_dates.specs.Payments.{total};
 ghost use Rattle.scr_flow.specs.Due.{dues, AreNear};
 ghost use Rattle.scr_flow.specs.Sums.{weighted_ends};
 
 use crate::falls::with_lost;
-use scr_curve::Falls;
 use scr_dates::Day;
 use scr_num::{Span, exact};
 use scr_years::Years;
+use scr_yield_curve::Falls;
 
 /// What payments of at least 0 lose by two lists of falls, found in one walk along the payments. They need not be summed by
 /// maturity first, since payments of one sign add up. All days lie in the years 1900 to 2200, no payment lies further ahead

@@ -10,11 +10,11 @@ use Rattle.std.proofs.lemmas.List.Sums.{sum_by-cons}
 use Rattle.std.proofs.lemmas.Option.{get_or_from_slice_get, slice_get_within, slice_get-map}
 use Rattle.scr_num.specs.Rounding.{Ends, ends, exact_ends}
 use Rattle.scr_dates.specs.declared.day.Day.{Day}
-use Rattle.scr_curve.specs.Parts.{rates_in_parts}
-use Rattle.scr_curve.specs.declared.tilt.Tilt.TheVariants as tilts
+use Rattle.scr_yield_curve.specs.Parts.{rates_in_parts}
+use Rattle.scr_yield_curve.specs.declared.tilt.Tilt.TheVariants as tilts
 use Rattle.scr_flow.specs.Due.{dues}
 use Rattle.scr_flow.specs.LossEnds.{loss_ends}
-use Rattle.scr_curve.specs.declared.table.Discounts.{Discounts}
+use Rattle.scr_yield_curve.specs.declared.table.Discounts.{Discounts}
 use Rattle.scr_agg.specs.Unbeaten.{Alternative, alternative}
 use Rattle.scr_agg.specs.declared.scenario.Scenario.{Scenario}
 use Rattle.scr_names.specs.Names.{same_name}

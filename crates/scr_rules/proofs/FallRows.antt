@@ -4,9 +4,9 @@ use Rattle.std.specs.Option.{option_map}
 use Rattle.std.proofs.lemmas.Option.{slice_get-get_or, slice_get_within}
 use Rattle.scr_num.specs.Rounding.{Ends}
 use Rattle.scr_dates.specs.declared.day.Day.{Day}
-use Rattle.scr_curve.specs.declared.table.Discounts.{Discounts}
+use Rattle.scr_yield_curve.specs.declared.table.Discounts.{Discounts}
 use Rattle.scr_flow.specs.Due.{dues}
-use Rattle.scr_curve.specs.declared.tilt.Tilt.TheVariants as tilts
+use Rattle.scr_yield_curve.specs.declared.tilt.Tilt.TheVariants as tilts
 use Rattle.scr_flow.specs.Sums.{weighted_ends}
 use Rattle.scr_sheet.specs.BalanceSheet.{curve_name}
 use Rattle.scr_sheet.specs.Validity.{Valid}

@@ -3,8 +3,8 @@
 use Rattle.std.proofs.Common.{◌≡◌, ℕ, ◌≤◌, Bool, true, false, List, [], ◌∷◌, Option, Some, None, length, map, if◌then◌else◌, refl, ◌∙◌, arith}
 use Rattle.std.specs.Option.{option_map_or}
 use Rattle.scr_num.specs.Rounding.{Ends}
-use Rattle.scr_curve.specs.declared.tilt.Tilt.{Tilt}
-use Rattle.scr_curve.specs.declared.tilt.Tilt.TheVariants as tilts
+use Rattle.scr_yield_curve.specs.declared.tilt.Tilt.{Tilt}
+use Rattle.scr_yield_curve.specs.declared.tilt.Tilt.TheVariants as tilts
 use Rattle.scr_factors.specs.Values.{FactorValues}
 use Rattle.scr_names.specs.Names.{same_name}
 use Rattle.scr_profile.specs.declared.group_kind.GroupKind.TheVariants as kinds

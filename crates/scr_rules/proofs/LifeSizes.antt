@@ -14,9 +14,9 @@ use Rattle.scr_num.specs.Sums.{sum_ends}
 use Rattle.scr_num.proofs.AmountBounds.{amount-high, amount-wider}
 use Rattle.scr_dates.specs.Civil.{IsDay}
 use Rattle.scr_dates.specs.declared.day.Day.{Day}
-use Rattle.scr_curve.specs.DiscountEnds.{one}
-use Rattle.scr_curve.specs.Parts.{IsCurveInMillionths}
-use Rattle.scr_curve.specs.declared.table.TheConstants.{MAX_DISCOUNT}
+use Rattle.scr_yield_curve.specs.DiscountEnds.{one}
+use Rattle.scr_yield_curve.specs.Parts.{IsCurveInMillionths}
+use Rattle.scr_yield_curve.specs.declared.table.TheConstants.{MAX_DISCOUNT}
 use Rattle.scr_flow.specs.Due.{due_in}
 use Rattle.scr_flow.specs.LossEnds.{present_ends}
 use Rattle.scr_flow.proofs.SizeLemmas.{dues-within, present-within}

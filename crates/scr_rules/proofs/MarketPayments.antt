@@ -3,12 +3,12 @@ use Rattle.std.proofs.Common.{ℕ, ◌*◌, ◌≤◌, ℤ, List, sum_by, unsign
 use Rattle.std.specs.Prelude.{All}
 use Rattle.std.proofs.lemmas.Nat.{mul-le}
 use Rattle.scr_num.specs.Sizes.{IsWithin}
-use Rattle.scr_curve.specs.DiscountEnds.{table_ends, IsDiscount}
-use Rattle.scr_curve.specs.Parts.{IsCurveInMillionths, rates_in_parts}
-use Rattle.scr_curve.specs.declared.table.TheConstants.{MAX_DISCOUNT}
-use Rattle.scr_curve.specs.declared.tilt.Tilt.TheVariants as tilts
-use Rattle.scr_curve.proofs.RateLemmas.{rates_in_range, length-rates_in_parts}
-use Rattle.scr_curve.proofs.TableLemmas.{table_in_range}
+use Rattle.scr_yield_curve.specs.DiscountEnds.{table_ends, IsDiscount}
+use Rattle.scr_yield_curve.specs.Parts.{IsCurveInMillionths, rates_in_parts}
+use Rattle.scr_yield_curve.specs.declared.table.TheConstants.{MAX_DISCOUNT}
+use Rattle.scr_yield_curve.specs.declared.tilt.Tilt.TheVariants as tilts
+use Rattle.scr_yield_curve.proofs.RateLemmas.{rates_in_range, length-rates_in_parts}
+use Rattle.scr_yield_curve.proofs.TableLemmas.{table_in_range}
 use Rattle.scr_dates.specs.Payments.{total}
 use Rattle.scr_flow.specs.Due.{dues}
 use Rattle.scr_flow.proofs.SizeLemmas.{present-within, dues-within}

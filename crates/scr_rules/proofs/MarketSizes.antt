@@ -11,7 +11,7 @@ use Rattle.scr_num.specs.Sums.{sum_ends}
 use Rattle.scr_num.proofs.AmountBounds.{amount-exact, amount-wider, amount-cut, amount-high}
 use Rattle.scr_num.proofs.CentAmounts.{enclosing-in_order}
 use Rattle.scr_num.proofs.Quotients.{floor_div-le-ceil_div, times_le}
-use Rattle.scr_curve.specs.DiscountEnds.{one}
+use Rattle.scr_yield_curve.specs.DiscountEnds.{one}
 use Rattle.scr_agg.specs.Absorbed.{net_ends}
 use Rattle.scr_agg.specs.Unbeaten.{Alternative, mask_of}
 use Rattle.scr_agg.specs.declared.scenario.Scenario.{Scenario}

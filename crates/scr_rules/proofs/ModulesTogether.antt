@@ -4,7 +4,7 @@ use Rattle.std.proofs.Common.{◌≡◌, ℕ, ◌+◌, ◌*◌, ◌^◌, ◌≤�
 use Rattle.std.proofs.lemmas.Bool.{true≢false}
 use Rattle.scr_num.specs.Amounts.{IsAmount}
 use Rattle.scr_num.specs.Rounding.{Ends}
-use Rattle.scr_curve.specs.declared.table.TheConstants.{MAX_DISCOUNT}
+use Rattle.scr_yield_curve.specs.declared.table.TheConstants.{MAX_DISCOUNT}
 use Rattle.scr_factors.specs.Values.{FactorValues}
 use Rattle.scr_sheet.specs.CashFlows.{flows_under, total}
 use Rattle.scr_sheet.specs.Validity.{Valid}

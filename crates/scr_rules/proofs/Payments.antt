@@ -11,13 +11,13 @@ use Rattle.scr_dates.specs.Civil.{IsDay}
 use Rattle.scr_dates.specs.Years.{maturity_of, years_to}
 use Rattle.scr_dates.specs.declared.day.Day.{Day}
 use Rattle.scr_dates.specs.declared.term.Maturity.TheVariants.{Past, Years, TooFar}
-use Rattle.scr_curve.specs.DiscountEnds.{table_ends, IsDiscount}
-use Rattle.scr_curve.specs.Parts.{IsCurveInMillionths, rates_in_parts}
-use Rattle.scr_curve.specs.declared.tilt.Tilt.{Tilt}
-use Rattle.scr_curve.specs.declared.tilt.Tilt.TheVariants as tilts
-use Rattle.scr_curve.specs.declared.table.TheConstants.{MAX_DISCOUNT}
-use Rattle.scr_curve.proofs.RateLemmas.{rates_in_range, length-rates_in_parts}
-use Rattle.scr_curve.proofs.TableLemmas.{table_in_range}
+use Rattle.scr_yield_curve.specs.DiscountEnds.{table_ends, IsDiscount}
+use Rattle.scr_yield_curve.specs.Parts.{IsCurveInMillionths, rates_in_parts}
+use Rattle.scr_yield_curve.specs.declared.tilt.Tilt.{Tilt}
+use Rattle.scr_yield_curve.specs.declared.tilt.Tilt.TheVariants as tilts
+use Rattle.scr_yield_curve.specs.declared.table.TheConstants.{MAX_DISCOUNT}
+use Rattle.scr_yield_curve.proofs.RateLemmas.{rates_in_range, length-rates_in_parts}
+use Rattle.scr_yield_curve.proofs.TableLemmas.{table_in_range}
 use Rattle.scr_flow.specs.Due.{dues, AreNear}
 use Rattle.scr_num.specs.Sizes.{IsWithin}
 use Rattle.scr_flow.proofs.SizeLemmas.{loss-within, dues-within}

@@ -5,12 +5,12 @@ use Rattle.scr_num.specs.Enclosure.{Encloses}
 use Rattle.scr_num.specs.Figure.{Frac}
 use Rattle.scr_num.specs.Fraction.{Fraction, minus}
 use Rattle.scr_dates.specs.declared.day.Day.{Day}
-use Rattle.scr_curve.specs.Discount.{discount_exact}
-use Rattle.scr_curve.specs.DiscountEnds.{one}
-use Rattle.scr_curve.specs.Parts.{IsCurveInMillionths, rates_in_parts}
-use Rattle.scr_curve.specs.Rate.{rate}
-use Rattle.scr_curve.specs.declared.tilt.Tilt.TheVariants as tilts
-use Rattle.scr_curve.proofs.RateLemmas.{rates_are, length-rates_in_parts}
+use Rattle.scr_yield_curve.specs.Discount.{discount_exact}
+use Rattle.scr_yield_curve.specs.DiscountEnds.{one}
+use Rattle.scr_yield_curve.specs.Parts.{IsCurveInMillionths, rates_in_parts}
+use Rattle.scr_yield_curve.specs.Rate.{rate}
+use Rattle.scr_yield_curve.specs.declared.tilt.Tilt.TheVariants as tilts
+use Rattle.scr_yield_curve.proofs.RateLemmas.{rates_are, length-rates_in_parts}
 use Rattle.scr_flow.specs.Due.{dues, due_in, AreNear}
 use Rattle.scr_flow.specs.LossEnds.{present_ends}
 use Rattle.scr_flow.specs.Payments.{payments_exact, payments_loss_exact}

@@ -6,9 +6,9 @@ use Rattle.std.specs.Option.{option_map, option_map_or}
 use Rattle.std.proofs.lemmas.List.Elements.{All-from_recursion}
 use Rattle.scr_num.specs.Rounding.{Ends, exact_ends, sub_ends, max_ends}
 use Rattle.scr_dates.specs.declared.day.Day.{Day}
-use Rattle.scr_curve.specs.DiscountEnds.{IsDiscount}
-use Rattle.scr_curve.specs.declared.table.Discounts.{Discounts}
-use Rattle.scr_curve.specs.declared.table.TheConstants.{MAX_DISCOUNT}
+use Rattle.scr_yield_curve.specs.DiscountEnds.{IsDiscount}
+use Rattle.scr_yield_curve.specs.declared.table.Discounts.{Discounts}
+use Rattle.scr_yield_curve.specs.declared.table.TheConstants.{MAX_DISCOUNT}
 use Rattle.scr_factors.specs.Values.{FactorValues}
 use Rattle.scr_dates.specs.Payments.{total}
 use Rattle.scr_flow.specs.Due.{dues}

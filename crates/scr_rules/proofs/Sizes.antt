@@ -12,7 +12,7 @@ use Rattle.scr_num.specs.Sizes.{IsWithin, AreTogether}
 use Rattle.scr_num.specs.Sums.{sum_ends}
 use Rattle.scr_num.proofs.AmountBounds.{amount-exact, amount-add}
 use Rattle.scr_num.proofs.SumLemmas.{sum_ends-append}
-use Rattle.scr_curve.specs.declared.table.TheConstants.{MAX_DISCOUNT}
+use Rattle.scr_yield_curve.specs.declared.table.TheConstants.{MAX_DISCOUNT}
 use Rattle.scr_flow.specs.LossEnds.{scaled_ends}
 use Rattle.scr_flow.proofs.SizeLemmas.{scaled-within}
 use Rattle.scr_factors.specs.Values.{FactorValues}

@@ -4,7 +4,7 @@ use Rattle.std.specs.Prelude.{ℕ, ◌+◌, ◌^◌, ◌≤◌, ◌<◌, ℤ, po
 use Rattle.scr_num.specs.Amounts.{IsAmount}
 use Rattle.scr_num.specs.Rounding.{Ends}
 use Rattle.scr_dates.specs.Civil.{IsDay}
-use Rattle.scr_curve.specs.Parts.{IsCurveInMillionths}
+use Rattle.scr_yield_curve.specs.Parts.{IsCurveInMillionths}
 use Rattle.scr_dates.specs.Payments.{total}
 use Rattle.scr_flow.specs.Due.{AreNear}
 use Rattle.scr_num.specs.Sizes.{IsWithin, AreTogether}

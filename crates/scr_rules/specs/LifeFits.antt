@@ -2,7 +2,7 @@
 use Rattle.std.specs.Prelude.{◌≤◌, ℤ, All, List, length}
 use Rattle.scr_dates.specs.Civil.{IsDay}
 use Rattle.scr_dates.specs.declared.day.Day.{Day}
-use Rattle.scr_curve.specs.Parts.{IsCurveInMillionths}
+use Rattle.scr_yield_curve.specs.Parts.{IsCurveInMillionths}
 use Rattle.scr_dates.specs.Payments.{total}
 use Rattle.scr_flow.specs.Due.{AreNear}
 use Rattle.scr_nodes.specs.Own.{Valued}

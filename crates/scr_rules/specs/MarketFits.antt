@@ -5,7 +5,7 @@ use Rattle.scr_num.specs.Rounding.{Ends}
 use Rattle.scr_num.specs.Sizes.{AreTogether}
 use Rattle.scr_num.specs.Sums.{sum_ends}
 use Rattle.scr_dates.specs.Civil.{IsDay}
-use Rattle.scr_curve.specs.Parts.{IsCurveInMillionths}
+use Rattle.scr_yield_curve.specs.Parts.{IsCurveInMillionths}
 use Rattle.scr_dates.specs.Payments.{total}
 use Rattle.scr_flow.specs.Due.{AreNear}
 use Rattle.scr_market.specs.Spread.{row_of}

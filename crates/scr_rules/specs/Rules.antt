@@ -4,8 +4,8 @@ pub use Rattle.scr_rules.specs.Figures.{figure_at, amount_of, amount_at}
 use Rattle.std.specs.Prelude.{ℕ, ◌+◌, ◌-◌, ◌*◌, ◌/◌, ℤ, pos, List, [], ◌∷◌, drop, length, map, take}
 use Rattle.std.specs.List.{range_with_len}
 use Rattle.scr_num.specs.Rounding.{Ends, exact_ends, add_ends, sub_ends, max_ends}
-use Rattle.scr_curve.specs.Parts.{rates_in_parts}
-use Rattle.scr_curve.specs.declared.tilt.Tilt.TheVariants as tilts
+use Rattle.scr_yield_curve.specs.Parts.{rates_in_parts}
+use Rattle.scr_yield_curve.specs.declared.tilt.Tilt.TheVariants as tilts
 use Rattle.scr_flow.specs.Due.{dues}
 use Rattle.scr_flow.specs.LossEnds.{loss_ends, scaled_ends}
 use Rattle.scr_agg.specs.Absorbed.{net_ends}

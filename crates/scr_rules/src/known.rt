@@ -7,11 +7,11 @@ ghost use Rattle.scr_discounts.specs.declared.known.CurrencyFalls.{CurrencyFalls
 ghost use Rattle.scr_rules.specs.Discounts.{falls_in};
 
 use scr_book::BalanceSheet;
-use scr_curve::Falls;
 use scr_dates::Day;
 use scr_discounts::Rates;
 use scr_flow::{bucket, bucket_by};
 use scr_nodes::Direction;
+use scr_yield_curve::Falls;
 
 /// The falls of the currency at a place where its rates change in a direction.
 pub(crate) fn falls_of(rates: &Rates, place: usize, direction: Direction) -> &Falls

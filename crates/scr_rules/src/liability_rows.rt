@@ -16,12 +16,12 @@ use crate::life_rules::worth_above;
 use crate::market_rules::base_worth;
 use crate::paid::fallen;
 use scr_book::{Book, Liability};
-use scr_curve::Falls;
 use scr_discounts::Rates;
 use scr_flow::bucket_by;
 use scr_nodes::Direction;
 use scr_num::{Span, exact, sub};
 use scr_sheet::Projection;
+use scr_yield_curve::Falls;
 
 /// A liability by the best estimate: what it costs more where rates rise and where they fall, and what it is worth, in 10^-18
 /// cents (Delegated Regulation (EU) 2015/35, Articles 165 to 167; Directive 2009/138/EC, Article 77(2)). What falls due by it

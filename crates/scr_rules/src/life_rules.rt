@@ -3,7 +3,7 @@ ghost use Rattle.std.specs.Prelude.{◌≡◌, ◌≤◌, pos, All, map, sum_by,
 ghost use Rattle.std.specs.List.{range_with_len};
 ghost use Rattle.scr_num.specs.Rounding.{ends, exact_ends, max_ends};
 ghost use Rattle.scr_bio.specs.BiometricEnds.{life_ends, slt_ends};
-ghost use Rattle.scr_curve.specs.DiscountEnds.{IsDiscount};
+ghost use Rattle.scr_yield_curve.specs.DiscountEnds.{IsDiscount};
 ghost use Rattle.scr_flow.specs.LossEnds.{present_ends};
 ghost use Rattle.scr_nodes.specs.OwnOf.{liability_valued, paid_under, stress_absorbed as absorbed_of_stress};
 ghost use Rattle.scr_nodes.specs.declared.node.Node.TheVariants as nodes;
@@ -22,13 +22,13 @@ use crate::known::bucketed;
 use crate::market_rules::base_worth;
 use crate::spans::at;
 use scr_book::{BalanceSheet, Name};
-use scr_curve::Discounts;
 use scr_dates::Day;
 use scr_discounts::{Curves, Rates};
 use scr_nodes::Biometric;
 use scr_nodes::single_numbers::stress_key;
 use scr_num::{Span, exact, max};
 use scr_sheet::Projection;
+use scr_yield_curve::Discounts;
 
 /// By how much a liability is worth more under a stress than by the best estimate, in 10^-18 cents,
 /// a gain counting as nil.

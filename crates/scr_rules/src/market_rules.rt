@@ -4,7 +4,7 @@ ghost use Rattle.scr_num.specs.Amounts.{IsAmount};
 ghost use Rattle.scr_num.specs.Rounding.{Ends, ends, exact_ends};
 ghost use Rattle.scr_num.specs.Sizes.{AreTogether, IsWithin};
 ghost use Rattle.scr_num.specs.Sums.{sum_ends};
-ghost use Rattle.scr_curve.specs.DiscountEnds.{IsDiscount};
+ghost use Rattle.scr_yield_curve.specs.DiscountEnds.{IsDiscount};
 ghost use Rattle.scr_flow.specs.LossEnds.{present_ends};
 ghost use Rattle.scr_market.specs.MarketEnds.{market_ends};
 ghost use Rattle.scr_market.specs.Spread.{row_of};
@@ -36,7 +36,6 @@ use crate::known::bucketed;
 use crate::spans::{amount, at};
 use scr_book::{BalanceSheet, Book, Group, GroupKind, Name, Position};
 use scr_conc::{Scale, charge_of, root, threshold_of};
-use scr_curve::Discounts;
 use scr_dates::Day;
 use scr_discounts::{Curves, Rates};
 use scr_factors::Factors;
@@ -46,6 +45,7 @@ use scr_nodes::Direction;
 use scr_num::{Span, add, exact};
 use scr_rate::total;
 use scr_sheet::is_held_in;
+use scr_yield_curve::Discounts;
 
 /// The present value of a liability by the best estimate, in 10^-18 cents.
 pub(crate) fn worth(

@@ -2,11 +2,11 @@
 ghost use Rattle.std.specs.Prelude.{◌≡◌, ◌^◌, ◌≤◌, pos, length, map, sum_by, unsigned_abs, IfSome};
 ghost use Rattle.scr_num.specs.Rounding.{ends, exact_ends, sub_ends};
 ghost use Rattle.scr_num.specs.Sizes.{IsWithin};
-ghost use Rattle.scr_curve.specs.Rate.{rate};
-ghost use Rattle.scr_curve.specs.Parts.{IsCurveInMillionths, rates_in_parts};
+ghost use Rattle.scr_yield_curve.specs.Rate.{rate};
+ghost use Rattle.scr_yield_curve.specs.Parts.{IsCurveInMillionths, rates_in_parts};
 ghost use Rattle.scr_flow.specs.LossEnds.{loss_ends};
 ghost use Rattle.scr_flow.specs.Sums.{weighted_ends};
-ghost use Rattle.scr_curve.specs.declared.tilt.Tilt.TheVariants as tilts;
+ghost use Rattle.scr_yield_curve.specs.declared.tilt.Tilt.TheVariants as tilts;
 ghost use Rattle.scr_nodes.specs.OwnOf.{security_paid, liability_paid};
 ghost use Rattle.scr_sheet.specs.Validity.{Valid};
 ghost use Rattle.scr_rules.specs.Fits.{FitsPaid};
@@ -21,12 +21,12 @@ ghost use Rattle.scr_nodes.specs.declared.node.OfLiability.TheVariants as of_lia
 
 use crate::known::{bucketed, falls_of};
 use scr_book::{BalanceSheet, Name};
-use scr_curve::{Discounts, Falls, Tilt};
 use scr_dates::Day;
 use scr_discounts::{Curves, Rates};
 use scr_flow::curve_loss;
 use scr_nodes::Direction;
 use scr_num::{Span, exact, sub};
+use scr_yield_curve::{Discounts, Falls, Tilt};
 
 /// What the payments of a security lose, per 1,000,000 of its value in 10^-18.
 pub(crate) fn unit(

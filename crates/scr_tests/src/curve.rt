@@ -1,8 +1,8 @@
 //! Stressed rates and discounts, by exact arithmetic.
-ghost use Rattle.scr_curve.specs.Parts.{IsRateInMillionths, IsRateInParts};
+ghost use Rattle.scr_yield_curve.specs.Parts.{IsRateInMillionths, IsRateInParts};
 
-use scr_curve::{Discounts, Tilt, discounts, stressed};
 use scr_num::Span;
+use scr_yield_curve::{Discounts, Tilt, discounts, stressed};
 
 // The rates of 1, 20, 21, 90 and 100 years where all are alike before.
 fn stressed_alike(rate: i32, tilt: Tilt) -> [i64; 5]

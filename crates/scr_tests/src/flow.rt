@@ -1,9 +1,9 @@
 //! What a rise of interest rates loses, by exact arithmetic.
 ghost use Rattle.std.specs.Prelude.{◌≤◌, sum_by, unsigned_abs};
 
-use scr_curve::discounts;
 use scr_flow::unit_loss;
 use scr_num::Span;
+use scr_yield_curve::discounts;
 
 // The rate of one year rises from 2 % to 3 %, and all others stay.
 fn loss_of(flows: &[i64; 100]) -> Span

@@ -1,7 +1,6 @@
 //! What the low crates answer can be shared by threads.
 
 use scr_agg::Picked;
-use scr_curve::{Discounts, Tilt};
 use scr_dates::Day;
 use scr_factors::Factors;
 use scr_funds::{FundOrder, Kept, OrderFault, Places};
@@ -9,6 +8,7 @@ use scr_market::Equity;
 use scr_names::{Name, Names, Series};
 use scr_num::Span;
 use scr_rate::Interest;
+use scr_yield_curve::{Discounts, Tilt};
 
 /// Compiles only where `T` can be shared by threads.
 fn shared<T: Send + Sync>() {}

@@ -8,9 +8,9 @@ use Rattle.scr_num.specs.Sums.{sum_ends}
 use Rattle.scr_num.proofs.Spreads.{narrow-wider, narrow-scale, narrow-max}
 use Rattle.scr_agg.specs.Unbeaten.{Alternative, HasSeveral, mask_of}
 use Rattle.scr_agg.proofs.ChoiceWidths.{narrow-chosen_gross, narrow-chosen_net}
-use Rattle.scr_curve.specs.Parts.{IsCurveInMillionths, rates_in_parts}
-use Rattle.scr_curve.specs.DiscountEnds.{table_ends}
-use Rattle.scr_curve.specs.declared.tilt.Tilt.TheVariants as tilts
+use Rattle.scr_yield_curve.specs.Parts.{IsCurveInMillionths, rates_in_parts}
+use Rattle.scr_yield_curve.specs.DiscountEnds.{table_ends}
+use Rattle.scr_yield_curve.specs.declared.tilt.Tilt.TheVariants as tilts
 use Rattle.scr_flow.specs.Due.{dues}
 use Rattle.scr_flow.proofs.SizeLemmas.{dues-within}
 use Rattle.scr_flow.proofs.WidthLemmas.{narrow-present}

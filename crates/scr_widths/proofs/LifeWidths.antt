@@ -9,9 +9,9 @@ use Rattle.scr_num.proofs.Spreads.{narrow-wider, narrow-scale, narrow-max}
 use Rattle.scr_agg.specs.Unbeaten.{Alternative, HasSeveral, mask_of}
 use Rattle.scr_agg.proofs.ChoiceWidths.{narrow-chosen_gross, narrow-chosen_net}
 use Rattle.scr_agg.proofs.RootWidths.{narrow-life, narrow-slt}
-use Rattle.scr_curve.specs.DiscountEnds.{table_ends}
-use Rattle.scr_curve.specs.Parts.{IsCurveInMillionths, rates_in_parts}
-use Rattle.scr_curve.specs.declared.tilt.Tilt.TheVariants as tilts
+use Rattle.scr_yield_curve.specs.DiscountEnds.{table_ends}
+use Rattle.scr_yield_curve.specs.Parts.{IsCurveInMillionths, rates_in_parts}
+use Rattle.scr_yield_curve.specs.declared.tilt.Tilt.TheVariants as tilts
 use Rattle.scr_dates.specs.declared.day.Day.{Day}
 use Rattle.scr_flow.specs.Due.{due_in}
 use Rattle.scr_flow.proofs.SizeLemmas.{dues-within}

@@ -1,8 +1,8 @@
 use Rattle.std.proofs.Common.{◌≡◌, ℤ, List, refl}
 use Rattle.scr_num.specs.Rounding.{Ends}
-use Rattle.scr_curve.specs.DiscountEnds.{table_ends}
-use Rattle.scr_curve.specs.Parts.{rates_in_parts}
-use Rattle.scr_curve.specs.declared.tilt.Tilt.TheVariants as tilts
+use Rattle.scr_yield_curve.specs.DiscountEnds.{table_ends}
+use Rattle.scr_yield_curve.specs.Parts.{rates_in_parts}
+use Rattle.scr_yield_curve.specs.declared.tilt.Tilt.TheVariants as tilts
 use Rattle.scr_discounts.specs.Discounts.{CurrencyDiscounts, discounts_at}
 use Rattle.scr_discounts.proofs.discounting.row.Goals as goal
 

@@ -1,5 +1,5 @@
 use Rattle.std.proofs.Common.{◌≤◌, length, subst, sym, arith}
-use Rattle.scr_curve.specs.Parts.{IsCurveInMillionths}
+use Rattle.scr_yield_curve.specs.Parts.{IsCurveInMillionths}
 use Rattle.scr_discounts.specs.Kept.{AreDiscountsAt, rows_of, tables}
 use Rattle.scr_discounts.proofs.FallRows.{place-within, discounts-there, row-there, rates-there, falls-next, falls-whole}
 use Rattle.scr_discounts.proofs.falling.all_falls.Goals as goal

@@ -1,6 +1,6 @@
 use Rattle.std.proofs.Common.{◌≡◌, length, subst, ap, rules}
 use Rattle.std.specs.Prelude.{All}
-use Rattle.scr_curve.specs.DiscountEnds.{IsDiscount}
+use Rattle.scr_yield_curve.specs.DiscountEnds.{IsDiscount}
 use Rattle.scr_discounts.specs.Discounts.{CurrencyDiscounts}
 use Rattle.scr_discounts.proofs.FallRows.{tables-are, falls-are}
 use Rattle.scr_discounts.proofs.falling.currency_falls.Goals as goal

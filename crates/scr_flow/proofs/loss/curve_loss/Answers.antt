@@ -1,13 +1,13 @@
 use Rattle.std.proofs.Common.{◌≡◌, pos, FitsSigned, w64, length, get_or, map, ap, sym, ◌∙◌, to_z, to_z-of_z, arith, rules}
 use Rattle.std.proofs.lemmas.List.{get_or-map, length-map}
 use Rattle.scr_num.specs.Rounding.{ends}
-use Rattle.scr_curve.specs.Parts.{rates_in_parts}
-use Rattle.scr_curve.specs.declared.tilt.Tilt.TheVariants as tilts
-use Rattle.scr_curve.proofs.RateLemmas.{length-rates_in_parts}
+use Rattle.scr_yield_curve.specs.Parts.{rates_in_parts}
+use Rattle.scr_yield_curve.specs.declared.tilt.Tilt.TheVariants as tilts
+use Rattle.scr_yield_curve.proofs.RateLemmas.{length-rates_in_parts}
 use Rattle.scr_flow.specs.Sums.{flow_ends, weighted_ends}
-use Rattle.scr_curve.specs.Falls.{difference, differences}
+use Rattle.scr_yield_curve.specs.Falls.{difference, differences}
 use Rattle.scr_flow.proofs.SumLemmas.{sum_more, sum_kept, all_added}
-use Rattle.scr_curve.proofs.FallLemmas.{length-differences, get_or-differences}
+use Rattle.scr_yield_curve.proofs.FallLemmas.{length-differences, get_or-differences}
 use Rattle.scr_flow.proofs.loss.curve_loss.Goals as goal
 use Rattle.scr_flow.proofs.loss.curve_loss.Goals.{then-flow-ne0, else-flow-ne0}
 

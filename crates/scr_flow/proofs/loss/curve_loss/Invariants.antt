@@ -1,8 +1,8 @@
 use Rattle.std.proofs.Common.{map}
 use Rattle.scr_num.specs.Rounding.{ends}
-use Rattle.scr_curve.specs.Parts.{rates_in_parts}
-use Rattle.scr_curve.specs.declared.tilt.Tilt.TheVariants as tilts
-use Rattle.scr_curve.specs.Falls.{differences}
+use Rattle.scr_yield_curve.specs.Parts.{rates_in_parts}
+use Rattle.scr_yield_curve.specs.declared.tilt.Tilt.TheVariants as tilts
+use Rattle.scr_yield_curve.specs.Falls.{differences}
 use Rattle.scr_flow.proofs.SumLemmas.{IsSumBefore}
 use Rattle.scr_flow.proofs.loss.curve_loss.Given as goal
 

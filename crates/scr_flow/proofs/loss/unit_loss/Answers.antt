@@ -2,9 +2,9 @@ use Rattle.std.proofs.Common.{◌≡◌, length, map, ap, sym, subst, ◌∙◌,
 use Rattle.scr_num.specs.Figure.{Frac}
 use Rattle.scr_num.specs.Rounding.{Ends, ends}
 use Rattle.scr_num.specs.Enclosure.{Encloses}
-use Rattle.scr_curve.specs.DiscountEnds.{one}
+use Rattle.scr_yield_curve.specs.DiscountEnds.{one}
 use Rattle.scr_flow.specs.Loss.{loss_exact, discount_fall}
-use Rattle.scr_curve.specs.Falls.{differences}
+use Rattle.scr_yield_curve.specs.Falls.{differences}
 use Rattle.scr_flow.specs.Sums.{weighted_ends}
 use Rattle.scr_flow.proofs.SumLemmas.{Encloses-weighted}
 use Rattle.scr_flow.proofs.LossLemmas.{differences_enclose}

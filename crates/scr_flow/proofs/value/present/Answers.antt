@@ -2,8 +2,8 @@ use Rattle.std.proofs.Common.{◌≡◌, ℕ, get_or, map, sym, subst, arith, li
 use Rattle.scr_num.specs.Figure.{Frac}
 use Rattle.scr_num.specs.Rounding.{Ends, ends}
 use Rattle.scr_num.specs.Enclosure.{Encloses}
-use Rattle.scr_curve.specs.Discount.{discount_exact, present_exact}
-use Rattle.scr_curve.specs.DiscountEnds.{one}
+use Rattle.scr_yield_curve.specs.Discount.{discount_exact, present_exact}
+use Rattle.scr_yield_curve.specs.DiscountEnds.{one}
 use Rattle.scr_flow.proofs.SumLemmas.{Encloses-weighted}
 use Rattle.scr_flow.proofs.SizeLemmas.{within-discount}
 use Rattle.scr_flow.proofs.value.present.Goals as goal

@@ -1,6 +1,6 @@
 use Rattle.std.proofs.Common.{◌≡◌, length, get_or, rules, subst, sym, ap, ◌∙◌}
 use Rattle.std.specs.Prelude.{All}
-use Rattle.scr_curve.specs.DiscountEnds.{IsDiscount}
+use Rattle.scr_yield_curve.specs.DiscountEnds.{IsDiscount}
 use Rattle.scr_flow.specs.LossEnds.{present_ends}
 use Rattle.scr_discounts.specs.Discounts.{CurrencyDiscounts}
 use Rattle.scr_discounts.proofs.FallRows.{tables-are, along-table}

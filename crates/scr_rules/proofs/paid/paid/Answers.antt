@@ -1,9 +1,9 @@
 use Rattle.std.proofs.Common.{◌≡◌, ◌≤◌, length, slice_get, subst, sym, ap, ◌∙◌, rules}
 use Rattle.std.proofs.lemmas.Option.{slice_get_within}
 use Rattle.scr_num.specs.Rounding.{ends}
-use Rattle.scr_curve.specs.Parts.{IsCurveInMillionths}
-use Rattle.scr_curve.specs.Rate.{rate}
-use Rattle.scr_curve.specs.declared.tilt.Tilt.TheVariants as tilts
+use Rattle.scr_yield_curve.specs.Parts.{IsCurveInMillionths}
+use Rattle.scr_yield_curve.specs.Rate.{rate}
+use Rattle.scr_yield_curve.specs.declared.tilt.Tilt.TheVariants as tilts
 use Rattle.scr_discounts.specs.Discounts.{CurrencyDiscounts}
 use Rattle.scr_discounts.specs.Kept.{IsTable, rows_of, tables}
 use Rattle.scr_rules.proofs.CodeLemmas.{row-found, paid-up, paid-down}

@@ -2,7 +2,7 @@
 use Rattle.std.proofs.Common.{pos, replicate, arith}
 use Rattle.std.proofs.lemmas.Int.{ints}
 use Rattle.std.proofs.lemmas.List.Elements.{All-replicate, All-set}
-use Rattle.scr_curve.specs.Parts.{IsRateInParts}
+use Rattle.scr_yield_curve.specs.Parts.{IsRateInParts}
 use Rattle.scr_tests.proofs.flow.loss_of.Goals as goal
 
 two_percent : IsRateInParts (pos 140000000)

@@ -1,0 +1,5 @@
+pub mod Rate
+pub mod Discount
+pub mod Parts
+pub mod DiscountEnds
+pub mod Falls
