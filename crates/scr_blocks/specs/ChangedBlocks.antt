@@ -1,11 +1,11 @@
--- Which Blocks of a list change where a member comes or leaves (this project's own): those that the list gains or loses, and
--- those that add up other figures than before.
+-- Which Blocks of a list change when a member is appended or swap-removed (own): Blocks that the list gains or loses, and Blocks
+-- that add up other nodes than before.
 use Rattle.std.specs.Prelude.{◌≡◌, ◌≢◌, ℕ, ◌+◌, ◌-◌, ◌/◌, ◌%◌, ◌<◌, ◌==◌, ◌&&◌, ◌||◌, Bool, IsTrue, List, [], ◌∷◌, if◌then◌else◌, length, nat_le, nat_lt, slice_get}
 use Rattle.scr_blocks.specs.Blocks.{is_block, is_block_over, block_sources}
 use Rattle.scr_blocks.specs.declared.blocks.Level.{Level}
 use Rattle.scr_blocks.specs.declared.blocks.Level.TheVariants as levels
 
--- The member at a place leaves: the last takes its place, unless it is the last itself, and nothing else moves.
+-- The member at `place` was swap-removed (own): the last takes its position, unless it is the last itself, and nothing else moves.
 pub record Leaves {Name : Type 0} (place : ℕ) (before after : List Name) : Type 0 where
   pub within : place < length before
   pub fewer : length before ≡ length after + 1
@@ -13,43 +13,44 @@ pub record Leaves {Name : Type 0} (place : ℕ) (before after : List Name) : Typ
   pub kept : (k : ℕ) → k < length after → k ≢ place → slice_get after k ≡ slice_get before k
 
 module _ {Name Node : Type 0} (member : Name → Node) (block : Level → ℕ → Node) (before after : List Name) (level : Level) (i : ℕ) where
-  -- both lists have the Block or lack it, and it adds up the same
+  -- Both lists have the Block, or neither has it, and it adds up equal nodes (own).
   pub record IsSameBlock : Type 0 where
     pub live : is_block (length before) level i ≡ is_block (length after) level i
     pub sources : block_sources member block before level i ≡ block_sources member block after level i
 
-  -- it is a Block of one of them, and not the same
+  -- At least one of the lists has the Block, and the lists differ in it (own).
   pub record IsChangedBlock : Type 0 where
     pub live : IsTrue (is_block (length before) level i || is_block (length after) level i)
     pub changed : ¬ IsSameBlock
 
--- where one more comes last to so many, a Block over them changes if the level begins with it, or if it is the Block of the new
--- place
+-- Block `i` directly over `count` neighbours changes when one is appended (own): the level begins with it, or it spans the new
+-- position.
 abbrev pub grew : ℕ → ℕ → Bool
 grew count i = is_block_over (count + 1) i && ((count == 32) || (i == count / 32))
 
--- where a member comes to so many: a Block of the second level sums up one Block more if the member begins a Block
+-- Block `i` of a level changes when a member is appended to `count` (own). On the second level it does only if the new member
+-- begins a Block of the first.
 abbrev pub came : ℕ → Level → ℕ → Bool
 came count levels.First i = grew count i
 came count levels.Second i = (count % 32 == 0) && grew (count / 32) i
 
--- where the member at a place of so many leaves: the level ends, or it is the Block of that place, or that of the last, which
--- takes the place; at the second level the same Blocks change as where a member came to one fewer, since only the last Block
--- of the first level comes or goes
+-- Block `i` of a level changes when the member at `place` of `count` is swap-removed (own). On the first level, the level ends, or
+-- the Block spans `place` or the last position. On the second it changes as if the last member were appended, since only the last
+-- Block below comes or goes.
 abbrev pub went : ℕ → ℕ → Level → ℕ → Bool
 went count place levels.First i = is_block_over count i && ((count == 33) || ((i == place / 32) || (i == (count - 1) / 32)))
 went count place levels.Second i = came (count - 1) levels.Second i
 
--- those Blocks one by one, each once: over so many where one more comes last
+-- The Blocks directly over `count` neighbours that change when one is appended, each once (own).
 abbrev pub grown : ℕ → List ℕ
 grown count = if nat_lt count 32 then [] else (if count == 32 then 0 ∷ 1 ∷ [] else count / 32 ∷ [])
 
--- of so many members to which one comes
+-- The Blocks of a level that change when a member is appended to `count`, each once (own).
 abbrev pub coming : ℕ → Level → List ℕ
 coming count levels.First = grown count
 coming count levels.Second = if count % 32 == 0 then grown (count / 32) else []
 
--- of so many that the member at a place leaves
+-- The Blocks of a level that change when the member at `place` of `count` is swap-removed, each once (own).
 abbrev pub leaving : ℕ → ℕ → Level → List ℕ
 leaving count place levels.First =
     if nat_le count 32 then []

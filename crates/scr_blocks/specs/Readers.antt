@@ -1,5 +1,5 @@
--- What adds up a member of a list, and what adds up a Block (this project's own): the Block above, if there is one, and else the
--- reader of the whole sum. It is the converse of what a Block adds up and of what is left at the top.
+-- The reader of a member or Block (own): the Block above that adds it up, or the whole sum if there is none. It is the converse of
+-- the nodes that a Block or the whole sum adds up.
 use Rattle.std.specs.Prelude.{◌≡◌, ℕ, ◌/◌, true, List, if◌then◌else◌, nat_le}
 use Rattle.scr_blocks.specs.Blocks.{is_block, parts, tops, block_sources}
 use Rattle.scr_blocks.specs.declared.blocks.Level.{Level}
@@ -7,26 +7,26 @@ use Rattle.scr_blocks.specs.declared.blocks.Level.TheVariants as levels
 use Rattle.scr_blocks.specs.declared.readers.Reader.{Reader}
 use Rattle.scr_blocks.specs.declared.readers.Reader.TheVariants as readers
 
--- of the member at a place of so many
+-- The reader of the member at `place` of `count` (own).
 abbrev pub reader_of_member : ℕ → ℕ → Reader
 reader_of_member count place = if nat_le count 32 then readers.Whole else readers.Block levels.First (place / 32)
 
--- of a Block of a list of so many members
+-- The reader of a Block of a list of `count` members (own).
 abbrev pub reader_of_block : ℕ → Level → ℕ → Reader
 reader_of_block count levels.First i = if nat_le (parts count) 32 then readers.Whole else readers.Block levels.Second (i / 32)
 reader_of_block count levels.Second i = readers.Whole
 
--- a list of so many members has this reader
+-- A list of `count` members has this reader: the whole sum always, a Block if the list has it (own).
 abbrev pub IsReader : ℕ → Reader → Type 0
 IsReader count readers.Whole = Unit {0}
 IsReader count (readers.Block level i) = is_block count level i ≡ true
 
--- what a reader adds up
+-- The nodes that a reader adds up (own).
 abbrev pub added_by : {Name Node : Type 0} → (Name → Node) → (Level → ℕ → Node) → List Name → Reader → List Node
 added_by member block list readers.Whole = tops member block list
 added_by member block list (readers.Block level i) = block_sources member block list level i
 
--- members and Blocks are told apart
+-- Members and Blocks are distinct nodes: no two members, no two Blocks, and no member and Block share one (own).
 pub record AreApart {Name Node : Type 0} (member : Name → Node) (block : Level → ℕ → Node) : Type 0 where
   pub members : (a b : Name) → member a ≡ member b → a ≡ b
   pub firsts : (i j : ℕ) → block levels.First i ≡ block levels.First j → i ≡ j

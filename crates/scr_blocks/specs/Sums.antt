@@ -1,20 +1,20 @@
--- Sums by an operator that may be applied in any order and with any grouping (this project's own).
+-- Sums by an operator that may be applied in any order and with any grouping (own).
 use Rattle.std.specs.Prelude.{◌≡◌, ℕ, true, List, [], ◌∷◌, length, map}
 use Rattle.scr_blocks.specs.Blocks.{is_block, block_sources}
 use Rattle.scr_blocks.specs.declared.blocks.Level.{Level}
 
--- the operator groups in any way, goes in any order, and leaves what is added to nothing
+-- The operator is associative and commutative, with `nothing` as its neutral element (own).
 pub record AddsUp {Sum : Type 0} (nothing : Sum) (add : Sum → Sum → Sum) : Type 0 where
   pub grouped : (a b c : Sum) → add (add a b) c ≡ add a (add b c)
   pub swapped : (a b : Sum) → add a b ≡ add b a
   pub empty : (a : Sum) → add nothing a ≡ a
 
--- the sum of a list
+-- The sum of a list (own).
 abbrev pub total : {Sum : Type 0} → Sum → (Sum → Sum → Sum) → List Sum → Sum
 total nothing add [] = nothing
 total nothing add (x ∷ xs) = add x (total nothing add xs)
 
--- each Block of the list is worth what its sources are worth together
+-- Each Block of the list is worth the sum of what its sources are worth (own).
 abbrev pub AreSums : {Name Node Sum : Type 0} → (List Sum → Sum) → (Node → Sum) → (Name → Node) → (Level → ℕ → Node)
     → List Name → Type 0
 AreSums sum worth member block list = (level : Level) (i : ℕ) → is_block (length list) level i ≡ true

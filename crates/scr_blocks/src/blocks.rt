@@ -1,27 +1,27 @@
-//! The Blocks of a list: how many there are, and which places each spans.
+//! The Blocks of a list: their number on each level, and the positions that each spans.
 ghost use Rattle.std.specs.Prelude.{◌≡◌};
 ghost use Rattle.scr_blocks.specs.Blocks as spec;
 
 use std::ops::Range;
 
-/// The level of a Block: one of the first adds up members, one of the second adds up Blocks of the first.
+/// The level of a Block: one of the first level adds up members, one of the second adds up Blocks of the first.
 #[derive(Clone, Copy, PartialEq, Eq)]
 pub enum Level {
     First,
     Second,
 }
 
-/// How many neighbours a Block adds up.
+/// The largest number of neighbours that a Block adds up.
 pub(crate) const WIDTH: usize = 32;
 
-/// In how many parts so many places fall.
+/// The number of parts of `count` positions: a 32nd, rounded up.
 pub fn parts(count: usize) -> usize
     ensures { result ≡ spec.parts count }
 {
     count.div_ceil(WIDTH)
 }
 
-/// The members of a part of a list: 32 neighbours, fewer at the end, and none where there is no such part.
+/// Part `index` (from 0) of a list: 32 neighbours, fewer at the end, and an empty slice past it.
 pub fn part<T>(list: &[T], index: usize) -> &[T]
     ensures { result.now ≡ spec.part index list.now }
 {
@@ -30,14 +30,14 @@ pub fn part<T>(list: &[T], index: usize) -> &[T]
     &list[start..end]
 }
 
-/// How many Blocks there are over so many: none where they are at most 32.
+/// The number of Blocks directly over `count` members or Blocks; 0 for at most 32.
 fn blocks_over(count: usize) -> usize
     ensures { result ≡ spec.blocks_over count }
 {
     if count > WIDTH { parts(count) } else { 0 }
 }
 
-/// How many Blocks of a level a list of so many members has. They are numbered from 0.
+/// The number of Blocks of a level over a list of `count` members. They are numbered from 0.
 pub fn blocks_at(count: usize, level: Level) -> usize
     ensures { result ≡ spec.blocks_at count level }
 {
@@ -47,7 +47,7 @@ pub fn blocks_at(count: usize, level: Level) -> usize
     }
 }
 
-/// Whether a list of so many members has this Block.
+/// Whether a list of `count` members has Block `index` on this level.
 pub fn is_block(count: usize, level: Level, index: usize) -> bool
     ensures { result ≡ spec.is_block count level index }
 {
@@ -57,7 +57,7 @@ pub fn is_block(count: usize, level: Level, index: usize) -> bool
     }
 }
 
-/// How many members or Blocks are left at the top of a list of so many members.
+/// The number of members or Blocks that the whole sum over `count` members adds up.
 pub fn top_count(count: usize) -> usize
     ensures { result ≡ spec.top_count count }
 {
@@ -70,7 +70,7 @@ pub fn top_count(count: usize) -> usize
     }
 }
 
-/// How many places a Block of the level spans, if it is whole.
+/// The number of positions that a full Block of the level spans, 32 or 1,024.
 fn width(level: Level) -> usize
     ensures { result ≡ spec.width level }
 {
@@ -80,7 +80,7 @@ fn width(level: Level) -> usize
     }
 }
 
-/// The Block of the level that spans the place, where a list has Blocks of the level.
+/// The Block of a level that spans position `place`, if the list has Blocks of the level.
 pub fn block_of(level: Level, place: usize) -> usize
     ensures { result ≡ spec.block_of level place }
 {
@@ -90,7 +90,7 @@ pub fn block_of(level: Level, place: usize) -> usize
     }
 }
 
-/// The places that a Block of a list of so many members spans.
+/// The positions that a Block of a list of `count` members spans; an empty range at `count` if it is past the end.
 pub fn places(count: usize, level: Level, index: usize) -> Range<usize>
     ensures start { result.start ≡ spec.start_of count level index }
     ensures end { result.end ≡ spec.end_of count level index }

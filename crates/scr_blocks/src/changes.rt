@@ -1,18 +1,19 @@
-//! Which Blocks of a list change where a member comes or leaves.
+//! Which Blocks of a list change when a member is appended or swap-removed.
 ghost use Rattle.std.specs.Prelude.{◌≡◌, slice_get};
 ghost use Rattle.scr_blocks.specs.ChangedBlocks as spec;
 
 use crate::blocks::{Level, WIDTH, is_block};
 
-/// Whether a Block over so many changes where one more comes last: the level begins, or it is the Block of the new place.
+/// Whether a Block directly over `count` neighbours changes when one is appended: the level begins, or the Block spans the new
+/// position.
 fn grew(count: usize, index: usize) -> bool
     ensures { result ≡ spec.grew count index }
 {
     count >= WIDTH && index <= count / WIDTH && (count == WIDTH || index == count / WIDTH)
 }
 
-/// Whether a Block changes where a member comes to so many, by `IsChangedBlock`: a level begins, or it is the Block of the new
-/// place.
+/// Whether a Block of `level` changes when a member is appended to `count`: the level begins, or the Block gains a member or
+/// Block.
 pub fn came(count: usize, level: Level, index: usize) -> bool
     ensures { result ≡ spec.came count level index }
 {
@@ -22,8 +23,8 @@ pub fn came(count: usize, level: Level, index: usize) -> bool
     }
 }
 
-/// Whether a Block changes where the member at a place of so many leaves, by `IsChangedBlock`: a level ends, or it is the Block of
-/// that place, or of the last, which takes the place.
+/// Whether a Block of `level` changes when the member at `place` of `count` is swap-removed. On the first level the level ends, or
+/// the Block spans `place` or the last position. On the second the level ends, or the Block loses a Block.
 pub fn went(count: usize, place: usize, level: Level, index: usize) -> bool
     ensures { result ≡ spec.went count place level index }
 {
@@ -38,7 +39,7 @@ pub fn went(count: usize, place: usize, level: Level, index: usize) -> bool
     }
 }
 
-/// The Blocks over so many that change where one more comes last, one by one.
+/// The `k`-th Block (from 0) directly over `count` neighbours that changes when one is appended; `None` past the last.
 fn grown(count: usize, k: usize) -> Option<usize>
     ensures { result ≡ slice_get (spec.grown count) k }
 {
@@ -51,7 +52,7 @@ fn grown(count: usize, k: usize) -> Option<usize>
     }
 }
 
-/// The Blocks of a level that change where a member comes to so many, one by one from 0, each once; none past the last.
+/// The `k`-th Block (from 0) of `level` that changes when a member is appended to `count`; `None` past the last.
 pub fn coming(count: usize, level: Level, k: usize) -> Option<usize>
     ensures { result ≡ slice_get (spec.coming count level) k }
 {
@@ -62,8 +63,7 @@ pub fn coming(count: usize, level: Level, k: usize) -> Option<usize>
     }
 }
 
-/// The Blocks of a level that change where the member at a place of so many leaves, one by one from 0, each once; none past the
-/// last.
+/// The `k`-th Block (from 0) of `level` that changes when the member at `place` of `count` is swap-removed; `None` past the last.
 pub fn leaving(count: usize, place: usize, level: Level, k: usize) -> Option<usize>
     ensures { result ≡ slice_get (spec.leaving count place level) k }
 {
@@ -73,7 +73,7 @@ pub fn leaving(count: usize, place: usize, level: Level, k: usize) -> Option<usi
     }
 }
 
-/// Those of the first level.
+/// The `k`-th Block (from 0) of the first level that changes when the member at `place` of `count` is swap-removed.
 fn gone(count: usize, place: usize, k: usize) -> Option<usize>
     ensures { result ≡ slice_get (spec.leaving count place Level.First) k }
 {

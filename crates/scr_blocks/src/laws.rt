@@ -1,5 +1,4 @@
-//! What the definitions of Blocks and sums come to, whatever a program does. Each law is a function that does nothing, whose contract
-//! is the law; a proof above cites it from here.
+//! Laws of Blocks and sums, for proofs above to cite.
 ghost use Rattle.std.specs.Prelude.{◌≡◌, ◌↔◌, ◌⊎◌, ℕ, ◌+◌, ◌-◌, ◌/◌, ◌<◌, ◌≤◌, ◌==◌, ◌++◌, ◌∷◌, [], Bool, List, Contains, Some, false, filter, flat_map, length, map, nat_eq, nat_lt, slice_get, true};
 ghost use Rattle.std.specs.Bool.{Decides};
 ghost use Rattle.std.specs.List.{IsDistinct, list_any, range_with_len};
@@ -19,8 +18,8 @@ ghost use Rattle.scr_blocks.specs.declared.readers.Reader.{Reader};
 
 use crate::{Level, Reader};
 
-/// The Blocks of a level are numbered from 0; a Block adds up 1 to 32 members or Blocks; of a list of at most 32,768 members at
-/// most 32 are left at the top; and a list has no more Blocks than members.
+/// Numbers of Blocks. They are numbered from 0 on each level, and each adds up 1 to 32 nodes. A list of at most 32,768 members
+/// leaves at most 32 at the top. No list has more Blocks than members.
 pub fn sizes<N, D>()
     ensures numbered { (count : ℕ) (level : Level) (i : ℕ) → is_block count level i ≡ nat_lt i (blocks_at count level) }
     ensures sources { (member : N → D) (block : Level → ℕ → D) (list : List N) (level : Level) (i : ℕ)
@@ -32,9 +31,8 @@ pub fn sizes<N, D>()
     ensures fewer { (count : ℕ) → blocks_at count levels.First + blocks_at count levels.Second ≤ count }
 {}
 
-/// Each place is spanned by just one Block of each level that there is; a Block of the second level spans what its Blocks span; and
-/// what the Blocks of a level add up, one Block after another, are all members, or all Blocks of the first level, each once in their
-/// order.
+/// The Blocks of a level partition the list: each position is spanned by exactly one. A Block of the second level spans what its
+/// Blocks span. The sources of a level's Blocks in order are all nodes below, each once.
 pub fn partition<N, D>()
     ensures own { (count : ℕ) (level : Level) (place : ℕ) → 0 < blocks_at count level → place < count
         → is_block count level (block_of level place) ≡ true }
@@ -46,9 +44,8 @@ pub fn partition<N, D>()
         ≡ below member block list level }
 {}
 
-/// What adds up a member, and what adds up a Block, exactly: it is among what that reader adds up, and among what no other does, where
-/// the list has no member twice, and members and Blocks are told apart. It adds up nothing twice. Nothing is added up but members
-/// and Blocks of the list.
+/// The reader of a node is the only reader that adds it up, if members and nodes are distinct. No reader adds up a node twice, or
+/// any but members and Blocks of the list.
 pub fn readers<N, D>()
     ensures there { (count : ℕ) (place : ℕ) → place < count → IsReader count (reader_of_member count place) }
     ensures above { (count : ℕ) (level : Level) (i : ℕ) → is_block count level i ≡ true → IsReader count (reader_of_block count level i) }
@@ -66,8 +63,8 @@ pub fn readers<N, D>()
         ⊎ ((level : Level) × (i : ℕ) × (is_block (length list) level i ≡ true) × (block level i ≡ node)) }
 {}
 
-/// Where each Block is worth what its sources are worth together, what is left at the top is worth what the members are: for
-/// each operator that may be applied in any order and grouping, for ends, and for whether one of several holds.
+/// The nodes at the top have the members' sum, if each Block is the sum of its sources. It holds for any operator that may be
+/// regrouped, for ends, and for whether one of several holds.
 pub fn regrouped<N, D, S>()
     ensures total { (nothing : S) (add : S → S → S) → AddsUp nothing add
         → (worth : D → S) (member : N → D) (block : Level → ℕ → D) (list : List N)
@@ -81,7 +78,8 @@ pub fn regrouped<N, D, S>()
         → list_any (λ b. b) (map holds (tops member block list)) ≡ list_any (λ b. b) (map holds (map member list)) }
 {}
 
-/// Then what is left at the top, and what a Block adds up, is together no further from 0 than the members are, without signs.
+/// A bound on the members' sum without signs also bounds the nodes at the top and each Block's sources. Each Block must be the sum
+/// of its sources.
 pub fn together<N, D>()
     ensures tops { (worth : D → Ends) (member : N → D) (block : Level → ℕ → D) (list : List N)
         → AreSums sum_ends worth member block list
@@ -94,9 +92,8 @@ pub fn together<N, D>()
         → AreTogether most (map worth (block_sources member block list level i)) }
 {}
 
-/// Two lists with the same names, each once, have one sum, in whatever order the names stand. So the sum over a list is that over
-/// the rows of a table that pass a test, where a name is a member exactly if its row passes: for each operator that may be applied
-/// in any order and grouping, for ends, and for whether one of several holds.
+/// Two lists of equal names, each once, have one sum in any order. So a member list has the sum of the rows that pass the list's
+/// test.
 pub fn orders<R, S>()
     ensures total { (nothing : S) (add : S → S → S) → AddsUp nothing add
         → (worth : List ℕ → S) (names others : List (List ℕ)) → IsDistinct same_name names → IsDistinct same_name others
@@ -117,8 +114,8 @@ pub fn orders<R, S>()
         → list_any (λ b. b) (map holds (map name_of (filter test rows))) ≡ list_any (λ b. b) (map holds list) }
 {}
 
-/// Which Blocks of a list change where a member comes or leaves, exactly, and whether what is left at the top changes with one
-/// member more. Where a member leaves, no figure of a member may stand twice; names that stand once have each once.
+/// The Blocks that change are exactly the ones that `came` and `went` name. The nodes at the top change only with their number.
+/// For swap-removal no member's node may occur twice.
 pub fn changes<N, D>()
     ensures came { (member : N → D) (block : Level → ℕ → D) (list : List N) (name : N) (level : Level) (i : ℕ)
         → Decides (came (length list) level i) (IsChangedBlock member block list (list ++ name ∷ []) level i) }
@@ -132,8 +129,8 @@ pub fn changes<N, D>()
         → (list : List (List ℕ)) → IsDistinct same_name list → HasEachOnce (map member list) }
 {}
 
-/// The lists of the Blocks that change have just these, each once: at most three where a member comes, at most four where one
-/// leaves, and so at most seven where one goes from one list to another.
+/// The lists of changing Blocks are exact and name each once: at most three when a member is appended, at most four when one is
+/// swap-removed.
 pub fn listed()
     ensures came { (count : ℕ) (level : Level) (i : ℕ) → Decides (came count level i) (Contains (coming count level) i) }
     ensures came_once { (count : ℕ) (level : Level) → IsDistinct nat_eq (coming count level) }
@@ -146,7 +143,7 @@ pub fn listed()
         → length (leaving count place levels.First) + length (leaving count place levels.Second) ≤ 4 }
 {}
 
-/// Threads may share what is said of Blocks, and hand it on.
+/// Levels and readers may be shared between threads and sent to them.
 pub fn sharing() {
     shared::<Level>();
     shared::<Reader>();

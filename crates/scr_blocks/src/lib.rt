@@ -1,6 +1,6 @@
-//! Blocks: how a sum over a long list is made of sums over at most 32 neighbours each, on two levels. Which Blocks a list of so many
-//! members has, what each adds up and what adds it up, and which of them change where a member comes or leaves. What the
-//! members are is no matter of this crate.
+//! Blocks: how a sum over a long list is made of sums over at most 32 neighbours each, on two levels. The length of a list says
+//! which Blocks it has, what each adds up, and what reads it. The crate also says which Blocks change with a member. It does not
+//! know what the members are.
 #![tactic(auto)]
 
 mod blocks;

@@ -1,19 +1,19 @@
-//! What adds up a member of a list, and what adds up a Block.
+//! The reader of a member or Block: the Block or whole sum that adds it up.
 ghost use Rattle.std.specs.Prelude.{◌≡◌};
 ghost use Rattle.scr_blocks.specs.Readers as spec;
 
 use crate::blocks::{Level, WIDTH, parts};
 
-/// What adds up a member or a Block.
+/// The reader of a member or Block.
 #[derive(Clone, Copy, PartialEq, Eq)]
 pub enum Reader {
-    /// The reader of the whole sum.
+    /// The whole sum over the list.
     Whole,
-    /// The Block of this number on its level.
+    /// The Block of this level and index, from 0.
     Block(Level, usize),
 }
 
-/// What adds up the member at a place of so many.
+/// The reader of the member at `place` of `count`: the whole sum if `count` is at most 32, else the Block that spans it.
 pub fn reader_of_member(count: usize, place: usize) -> Reader
     ensures { result ≡ spec.reader_of_member count place }
 {
@@ -24,7 +24,7 @@ pub fn reader_of_member(count: usize, place: usize) -> Reader
     }
 }
 
-/// What adds up a Block of a list of so many members. So at most two Blocks lie between a member and the reader of the whole sum.
+/// The reader of a Block of a list of `count` members. So at most two Blocks lie between a member and the whole sum.
 pub fn reader_of_block(count: usize, level: Level, index: usize) -> Reader
     ensures { result ≡ spec.reader_of_block count level index }
 {

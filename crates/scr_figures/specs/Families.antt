@@ -1,5 +1,5 @@
--- Of which row a figure is, and which of the row's figures (this project's own). Each table has families of figures, numbered from
--- 0, as many as its stride; a figure that no balance sheet can have has the stride for its family.
+-- The row of a figure, and the figure's family among the row's figures (own). The families of a table are numbered from 0 up to
+-- its stride. A figure that no balance sheet can have gets the stride as its family.
 use Rattle.std.specs.Prelude.{ℕ, ◌+◌, ◌*◌, List, [], if◌then◌else◌}
 use Rattle.scr_numbers.specs.declared.table.Table.{Table}
 use Rattle.scr_numbers.specs.declared.table.Table.TheVariants as tables
@@ -18,7 +18,7 @@ use Rattle.scr_nodes.specs.declared.node.OfLiability.TheVariants as of_liabiliti
 use Rattle.scr_nodes.specs.declared.node.OfSecurity.TheVariants as of_securities
 use Rattle.scr_nodes.specs.declared.node.Whole.TheVariants as wholes
 
--- the table of the row
+-- The table of a figure's row (own).
 abbrev pub table_of : Node → Table
 table_of (nodes.Fund name what) = tables.Fund
 table_of (nodes.Security name what) = tables.Security
@@ -27,7 +27,7 @@ table_of (nodes.Currency name what) = tables.Currency
 table_of (nodes.Group name what) = tables.Group
 table_of (nodes.Whole what) = tables.Whole
 
--- its name; the whole sheet has none
+-- The name of a figure's row; empty for the whole sheet (own).
 abbrev pub name_of : Node → List ℕ
 name_of (nodes.Fund name what) = name
 name_of (nodes.Security name what) = name
@@ -38,6 +38,7 @@ name_of (nodes.Whole what) = []
 
 -- ---- the families of each table
 
+-- The index of a biometric stress among a liability's loss figures, 0 to 8; the base projection counts as mortality (own).
 abbrev pub stress_place : Projection → ℕ
 stress_place projections.Base = 0
 stress_place projections.Mortality = 0
@@ -50,31 +51,37 @@ stress_place projections.LapseDown = 6
 stress_place projections.LapseMass = 7
 stress_place projections.Catastrophe = 8
 
+-- The family of a fund's figure, always 0 (own).
 abbrev pub fund_family : OfFund → ℕ
 fund_family of_funds.Total = 0
 
+-- The family of a security's figure, 0 to 5 (own).
 abbrev pub security_family : OfSecurity → ℕ
 security_family of_securities.Total = 0
 security_family (of_securities.UnitLoss direction) = 1 + direction_place direction
 security_family (of_securities.Rate direction) = 3 + direction_place direction
 security_family of_securities.Spread = 5
 
+-- The family of a liability's figure, 0 to 11; 12 for the loss of a projection that is no stress (own).
 abbrev pub liability_family : OfLiability → ℕ
 liability_family (of_liabilities.Rate direction) = direction_place direction
 liability_family of_liabilities.Present = 2
 liability_family (of_liabilities.Loss projection) = if is_stress projection then 3 + stress_place projection else 12
 
+-- The family of a group's figure, 0 to 2 (own).
 abbrev pub group_family : OfGroup → ℕ
 group_family of_groups.Total = 0
 group_family of_groups.ConcentrationSquare = 1
 group_family of_groups.Loss = 2
 
+-- The family of a currency's figure, 0 to 8 (own).
 abbrev pub currency_family : OfCurrency → ℕ
 currency_family (of_currencies.Loss direction) = direction_place direction
 currency_family (of_currencies.Scenario direction measure) = 2 + 2 * direction_place direction + measure_place measure
 currency_family of_currencies.Choice = 6
 currency_family (of_currencies.Picked measure) = 7 + measure_place measure
 
+-- The family of a figure of the whole sheet, 0 to 153; 154 for a scenario that has no stress (own).
 abbrev pub whole_family : Whole → ℕ
 whole_family (wholes.ClassSum class) = class_place class
 whole_family (wholes.EquityPart equities) = 10 + equities_place equities
@@ -118,6 +125,7 @@ whole_family (wholes.Adjust adjustment) = 150 + adjustment_place adjustment
 whole_family wholes.Scr = 152
 whole_family wholes.Assets = 153
 
+-- The family of a figure: its index among the figures of its row (own).
 abbrev pub family_of : Node → ℕ
 family_of (nodes.Fund name what) = fund_family what
 family_of (nodes.Security name what) = security_family what

@@ -1,4 +1,4 @@
--- The numbers of a balance sheet's figures (this project's own): that of a figure is the first number of its row and its family.
+-- The ids of a balance sheet's figures (own): the first id of the figure's row plus its family.
 use Rattle.std.specs.Prelude.{◌≡◌, ℕ, Bool, true, false, List, [], ◌∷◌, Some, length, map, slice_get}
 use Rattle.std.specs.List.{IsDistinct}
 use Rattle.scr_names.specs.Names.{same_name}
@@ -10,12 +10,13 @@ use Rattle.scr_sheet.specs.declared.sheet.BalanceSheet.{BalanceSheet}
 use Rattle.scr_nodes.specs.declared.node.Node.{Node}
 use Rattle.scr_figures.specs.Families.{family_of, name_of, table_of}
 
--- the table is one of rows of the sheet; the parts of member lists are none
+-- The table's rows are rows of the sheet; parts of member lists are not (own).
 abbrev pub is_of_sheet : Table → Bool
 is_of_sheet tables.Part = false
 is_of_sheet table = true
 
--- the names of a table's rows in order; the whole sheet is one row without a name, and a part has no name
+-- The names of a table's rows in order (own). The whole sheet is one row with an empty name, and the table of parts counts as
+-- empty.
 abbrev pub names_in : BalanceSheet → Table → List (List ℕ)
 names_in sheet tables.Whole = [] ∷ []
 names_in sheet tables.Fund = map stake_name sheet.funds
@@ -25,17 +26,17 @@ names_in sheet tables.Group = map group_name sheet.groups
 names_in sheet tables.Currency = map curve_name sheet.curves
 names_in sheet tables.Part = []
 
--- each row of the sheet has numbers, and the whole sheet has the first ones; how many parts of member lists have some is not told
+-- Each row of the sheet has a range of ids, and the whole sheet's begins at 0 (own). Nothing is said of parts of member lists.
 pub record IsNumbered (sheet : BalanceSheet) (places : Numbered) : Type 0 where
   pub rows : (table : Table) → is_of_sheet table ≡ true → count places table ≡ length (names_in sheet table)
   pub whole : first places tables.Whole 0 ≡ 0
 
--- the figure has this number
+-- The figure has id `number` (own).
 pub record StandsAt (sheet : BalanceSheet) (places : Numbered) (node : Node) (number : ℕ) : Type 0 where
   pub k : ℕ
   pub row : slice_get (names_in sheet (table_of node)) k ≡ Some (name_of node)
   pub at : IsAt places (table_of node) k (family_of node) number
 
--- no two rows of a table have one name
+-- No two rows of a table have one name (own).
 abbrev pub AreNamedOnce : BalanceSheet → Type 0
 AreNamedOnce sheet = (table : Table) → IsDistinct same_name (names_in sheet table)

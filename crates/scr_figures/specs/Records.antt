@@ -1,5 +1,5 @@
--- What each record does to the rows that have numbers (this project's own): one that makes a row of a new name lets a row come, one
--- that drops a row lets it go, and all others leave each row where it is.
+-- The effect of each record on the rows that have ids (own). A record that makes a row of a new name appends it, and one that
+-- drops a row removes it. All others leave every row where it is.
 use Rattle.std.specs.Prelude.{ℕ, ◌+◌, Bool, true, false, List, [], ◌∷◌, Option, Some, None, if◌then◌else◌, map}
 use Rattle.std.specs.Option.{option_map}
 use Rattle.scr_names.specs.Names.{same_name}
@@ -14,22 +14,22 @@ use Rattle.scr_sheet.specs.declared.keys.Table.TheVariants as sheet_tables
 use Rattle.scr_figures.specs.declared.steps.Step.{Step}
 use Rattle.scr_figures.specs.declared.steps.Step.TheVariants as steps
 
--- the first place of a name in a list
+-- The first position of a name in a list; `None` if it isn't there (own).
 abbrev pub place_in : List ℕ → List (List ℕ) → Option ℕ
 place_in name [] = None
 place_in name (first ∷ names) = if same_name name first then Some 0 else option_map (λ k. k + 1) (place_in name names)
 
--- a row takes the place of the one of its name, or comes
+-- The step of a record that makes a row: it replaces the row of its name, or is appended (own).
 abbrev pub made_step : Table → Bool → Step
 made_step table true = steps.Stays
 made_step table false = steps.Comes table
 
--- the row at this place goes, if there is one
+-- The step of removing the row at a position, if there is one (own).
 abbrev pub gone_step : Table → Option ℕ → Step
 gone_step table None = steps.Stays
 gone_step table (Some k) = steps.Goes table k
 
--- the row of this name goes; banks and reinsurers have no numbers
+-- The step of removing the row of a name; none for banks and reinsurers, which have no ids (own).
 abbrev pub drop_step : SheetTable → List ℕ → BalanceSheet → Step
 drop_step sheet_tables.Group name sheet = gone_step tables.Group (place_in name (map group_name sheet.groups))
 drop_step sheet_tables.Security name sheet = gone_step tables.Security (place_in name (map position_name sheet.securities))
@@ -39,6 +39,7 @@ drop_step sheet_tables.Curve name sheet = gone_step tables.Currency (place_in na
 drop_step sheet_tables.Bank name sheet = steps.Stays
 drop_step sheet_tables.Rein name sheet = steps.Stays
 
+-- The step of a record on a balance sheet (own).
 abbrev pub step_of : Edit → BalanceSheet → Step
 step_of (edits.Curve currency rates) sheet = made_step tables.Currency (has_row curve_name currency sheet.curves)
 step_of (edits.Group name kind step) sheet = made_step tables.Group (has_row group_name name sheet.groups)

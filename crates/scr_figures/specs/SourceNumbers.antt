@@ -1,4 +1,4 @@
--- The numbers of the sources of figures (this project's own).
+-- The ids of the sources of figures (own).
 use Rattle.std.specs.Prelude.{◌≡◌, ℕ, ◌+◌, ◌++◌, Bool, true, false, List, [], map}
 use Rattle.std.specs.List.{AllByRecursion, AllZip}
 use Rattle.scr_numbers.specs.Ranges.{Numbered, first}
@@ -16,33 +16,33 @@ use Rattle.scr_figures.specs.Families.{currency_family, fund_family, group_famil
 use Rattle.scr_figures.specs.Numbers.{StandsAt}
 use Rattle.scr_figures.specs.Places.{places_where}
 
--- the balance sheet has all of these figures
+-- The balance sheet has all of these figures (own).
 abbrev pub are_live : BalanceSheet → List Node → Type 0
 are_live sheet nodes = AllByRecursion (λ node. is_live sheet node ≡ true) nodes
 
--- the numbers of these figures stand behind what stood in the list
+-- The ids of these figures were appended to the list, in order (own).
 pub record AreAllPushed (sheet : BalanceSheet) (places : Numbered) (nodes : List Node) (before now : List ℕ) : Type 0 where
   pub more : List ℕ
   pub list : now ≡ before ++ more
   pub at : AllZip (λ number node. StandsAt sheet places node number) more nodes
 
--- the total of a fund or of a security, which is reckoned from no figure by name
+-- The figure is the total of a fund or a security, which has no source by name (own).
 abbrev pub is_total : Node → Bool
 is_total (nodes.Fund name what) = true
 is_total (nodes.Security name of_securities.Total) = true
 is_total node = false
 
--- those of all sources of a figure do
+-- The ids of all sources of a figure were appended to the list, in order (own).
 abbrev pub ArePushed : BalanceSheet → Numbered → Node → List ℕ → List ℕ → Type 0
 ArePushed sheet places node before now = AreAllPushed sheet places (sources_of sheet node) before now
 
--- ---- what is read off a table
+-- ---- sources read off a table
 
--- the numbers of one family's figures of the rows at these places
+-- The ids of figure `family` of the rows at these indexes (own).
 abbrev pub numbers_at : Numbered → Table → ℕ → List ℕ → List ℕ
 numbers_at places table family rows = map (λ row. first places table row + family) rows
 
--- the table that is read, which figures of its rows, and the places of these
+-- The table that a selection reads (own).
 abbrev pub selected_table : Selection → Table
 selected_table selections.None = tables.Whole
 selected_table (selections.Funds which what) = tables.Fund
@@ -51,6 +51,7 @@ selected_table (selections.Liabilities which what) = tables.Liability
 selected_table (selections.Currencies which what) = tables.Currency
 selected_table (selections.Groups which what) = tables.Group
 
+-- The family of the figures that a selection reads (own).
 abbrev pub selected_family : Selection → ℕ
 selected_family selections.None = 0
 selected_family (selections.Funds which what) = fund_family what
@@ -59,6 +60,7 @@ selected_family (selections.Liabilities which what) = liability_family what
 selected_family (selections.Currencies which what) = currency_family what
 selected_family (selections.Groups which what) = group_family what
 
+-- The indexes of the rows that a selection reads (own).
 abbrev pub selected_rows : BalanceSheet → Selection → List ℕ
 selected_rows sheet selections.None = []
 selected_rows sheet (selections.Funds which what) = places_where (is_holder which) 0 sheet.funds
@@ -67,6 +69,7 @@ selected_rows sheet (selections.Liabilities which what) = places_where (is_oblig
 selected_rows sheet (selections.Currencies which what) = places_where (is_currency sheet which) 0 sheet.curves
 selected_rows sheet (selections.Groups which what) = places_where (is_counterparty which) 0 sheet.groups
 
+-- The ids of the figures that a selection reads, in row order (own).
 abbrev pub selected_numbers : BalanceSheet → Numbered → Selection → List ℕ
 selected_numbers sheet places selection =
     numbers_at places (selected_table selection) (selected_family selection) (selected_rows sheet selection)

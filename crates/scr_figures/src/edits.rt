@@ -1,4 +1,4 @@
-//! What a record does to the rows that have numbers.
+//! The effect of a record on the rows that have ids.
 ghost use Rattle.std.specs.Prelude.{◌≡◌, map};
 ghost use Rattle.scr_figures.specs.Records.{drop_step, gone_step, made_step, place_in, step_of};
 
@@ -6,8 +6,7 @@ use crate::steps::Step;
 use scr_numbers::Table;
 use scr_sheet::{BalanceSheet, Edit, Name, Row, Rows};
 
-/// What the record does to the rows that have numbers, where it is applied to the sheet. A record that is refused makes no step,
-/// so this is asked of one that is accepted.
+/// The step of the record on the sheet, which accepts it: a row is appended or removed, or each stays.
 pub fn step_of(sheet: &BalanceSheet, edit: &Edit) -> Step
     ensures { result ≡ step_of edit.now sheet.now }
 {
@@ -24,7 +23,7 @@ pub fn step_of(sheet: &BalanceSheet, edit: &Edit) -> Step
     }
 }
 
-/// A row is made, or takes the place of the one of its name.
+/// The step of making a row: it replaces the row of its name, or is appended.
 fn made_step(table: Table, there: bool) -> Step
     ensures { result ≡ made_step table there }
 {
@@ -35,7 +34,7 @@ fn made_step(table: Table, there: bool) -> Step
     }
 }
 
-/// The row of a name is dropped; banks and reinsurers have no numbers.
+/// The step of removing the row of a name; none for banks and reinsurers, which have no ids.
 fn drop_step(sheet: &BalanceSheet, table: scr_sheet::Table, name: &Name) -> Step
     ensures { result ≡ drop_step table name.now sheet.now }
 {
@@ -60,11 +59,11 @@ fn gone_step(table: Table, row: Option<usize>) -> Step
     }
 }
 
-/// The place of the row of a name.
+/// The index of the row of a name; `None` if there is none.
 pub(crate) fn place_of<R: Row>(rows: &Rows<R>, name: &Name) -> Option<usize>
     ensures { result ≡ place_in name.now (map R.name_of rows.now) }
 {
-    // The length is what says that no two rows have one name.
+    // Brings the invariant into sight: no two rows share a name.
     let _len = rows.len();
     rows.place(name)
 }

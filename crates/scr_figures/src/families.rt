@@ -1,4 +1,4 @@
-//! Of which row a figure is, and which of the row's figures.
+//! The row of a figure, and the figure's family in it.
 ghost use Rattle.std.specs.Prelude.{◌≡◌, ◌<◌};
 ghost use Rattle.scr_nodes.specs.Numbers.{direction_place, measure_place};
 ghost use Rattle.scr_figures.specs.Families.{table_of, family_of, stress_place, security_family, liability_family, group_family, currency_family};
@@ -9,7 +9,7 @@ use scr_nodes::{Direction, Measure, Node, OfCurrency, OfFund, OfGroup, OfLiabili
 use scr_numbers::Table;
 use scr_sheet::Projection;
 
-/// The table of the row that the figure is of.
+/// The table of the figure's row.
 #[inline(always)]
 pub fn table(node: &Node) -> Table
     ensures { result ≡ table_of node.now }
@@ -24,7 +24,7 @@ pub fn table(node: &Node) -> Table
     }
 }
 
-/// Which of the row's figures it is, from 0; the stride of the table for a figure that no balance sheet can have.
+/// The figure's index among the figures of its row, from 0; the table's stride for a figure that no balance sheet can have.
 #[inline(always)]
 pub fn family(node: &Node) -> u32
     ensures { result ≡ family_of node.now }
@@ -39,6 +39,7 @@ pub fn family(node: &Node) -> u32
     }
 }
 
+/// The index of a direction: 0 for a rise, 1 for a fall.
 pub(crate) fn direction_place(direction: Direction) -> u32
     ensures place { result ≡ direction_place direction }
     ensures few { direction_place direction < 2 }
@@ -49,6 +50,7 @@ pub(crate) fn direction_place(direction: Direction) -> u32
     }
 }
 
+/// The index of a measure: 0 for gross, 1 for net.
 pub(crate) fn measure_place(measure: Measure) -> u32
     ensures place { result ≡ measure_place measure }
     ensures few { measure_place measure < 2 }
@@ -59,7 +61,7 @@ pub(crate) fn measure_place(measure: Measure) -> u32
     }
 }
 
-/// Which of a security's figures it is, from 0.
+/// The family of a security's figure, 0 to 5.
 pub fn security_family(what: OfSecurity) -> u32
     ensures { result ≡ security_family what }
 {
@@ -88,7 +90,7 @@ fn stress_place(projection: Projection) -> u32
     }
 }
 
-/// Which of a liability's figures it is, from 0; 12 for a figure that no balance sheet can have.
+/// The family of a liability's figure, 0 to 11; 12 for a figure that no balance sheet can have.
 pub fn liability_family(what: OfLiability) -> u32
     ensures { result ≡ liability_family what }
 {
@@ -105,7 +107,7 @@ pub fn liability_family(what: OfLiability) -> u32
     }
 }
 
-/// Which of a group's figures it is, from 0.
+/// The family of a group's figure, 0 to 2.
 pub fn group_family(what: OfGroup) -> u32
     ensures { result ≡ group_family what }
 {
@@ -116,7 +118,7 @@ pub fn group_family(what: OfGroup) -> u32
     }
 }
 
-/// Which of a currency's figures it is, from 0.
+/// The family of a currency's figure, 0 to 8.
 pub fn currency_family(what: OfCurrency) -> u32
     ensures { result ≡ currency_family what }
 {
@@ -130,7 +132,7 @@ pub fn currency_family(what: OfCurrency) -> u32
     }
 }
 
-/// The figure of a security with this family.
+/// The security's figure with this family.
 pub(crate) fn security_at(family: u32) -> OfSecurity
     requires { family < 6 }
     ensures { security_family result ≡ family }
@@ -145,7 +147,7 @@ pub(crate) fn security_at(family: u32) -> OfSecurity
     }
 }
 
-/// The figure of a liability with this family.
+/// The liability's figure with this family.
 pub(crate) fn liability_at(family: u32) -> OfLiability
     requires { family < 12 }
     ensures { liability_family result ≡ family }
@@ -166,7 +168,7 @@ pub(crate) fn liability_at(family: u32) -> OfLiability
     }
 }
 
-/// The figure of a group with this family.
+/// The group's figure with this family.
 pub(crate) fn group_at(family: u32) -> OfGroup
     requires { family < 3 }
     ensures { group_family result ≡ family }
@@ -178,7 +180,7 @@ pub(crate) fn group_at(family: u32) -> OfGroup
     }
 }
 
-/// The figure of a currency with this family.
+/// The currency's figure with this family.
 pub fn currency_at(family: u32) -> OfCurrency
     requires { family < 9 }
     ensures { currency_family result ≡ family }

@@ -1,4 +1,4 @@
-//! A figure's number, and the figure of a number.
+//! The id of a figure, and the figure of an id.
 ghost use Rattle.std.specs.Prelude.{◌≡◌, ℕ, ◌<◌, IfSome, IsNone, Some, length, slice_get};
 ghost use Rattle.scr_figures.specs.Families.{family_of, name_of, table_of};
 ghost use Rattle.scr_figures.specs.Numbers.{IsNumbered, StandsAt, is_of_sheet, names_in};
@@ -13,7 +13,7 @@ use scr_nodes::{Node, OfFund};
 use scr_numbers::{Place, Places, Table};
 use scr_sheet::{BalanceSheet, Row};
 
-/// The number of a figure, if its row has one. A look-up of the row by its name, and arithmetic.
+/// The id of a figure, by one look-up of its row; `None` if the sheet has no such row, or no sheet can have the figure.
 #[inline(always)]
 pub fn find(places: &Places, sheet: &BalanceSheet, node: &Node) -> Option<u32>
     requires { IsNumbered sheet.now places.now }
@@ -29,14 +29,14 @@ pub fn find(places: &Places, sheet: &BalanceSheet, node: &Node) -> Option<u32>
     Some(places.first(table, row) + family)
 }
 
-/// The figure of a number, if it is that of a row's. Two reads, and the row's name.
+/// The figure of an id, by two reads and the row's name; `None` if no row of the sheet has the id.
 pub fn node_at(places: &Places, sheet: &BalanceSheet, number: u32) -> Option<Node>
     requires { IsNumbered sheet.now places.now }
     ensures there { IfSome result (λ node. StandsAt sheet.now places.now node number) }
     ensures absent { IsNone result → (node : Node) → StandsAt sheet.now places.now node number → ⊥ }
 {
     let place = places.at(number)?;
-    // The size is what says that no number is that of two.
+    // Brings the invariant into sight: no id is of two rows.
     let _size = places.len();
     if !is_of_sheet(place.table) {
         return None;
@@ -44,7 +44,7 @@ pub fn node_at(places: &Places, sheet: &BalanceSheet, number: u32) -> Option<Nod
     Some(node_of(sheet, &place))
 }
 
-/// The place of the figure's row in its table.
+/// The index of the figure's row in its table.
 fn row_place(sheet: &BalanceSheet, node: &Node) -> Option<usize>
     ensures { result ≡ place_in (name_of node.now) (names_in sheet.now (table_of node.now)) }
 {
@@ -58,14 +58,14 @@ fn row_place(sheet: &BalanceSheet, node: &Node) -> Option<usize>
     }
 }
 
-/// Whether the rows of the table are rows of the sheet.
+/// Whether the table's rows are rows of the sheet.
 fn is_of_sheet(table: Table) -> bool
     ensures { result ≡ is_of_sheet table }
 {
     !matches!(table, Table::Part)
 }
 
-/// The figure with this family of the row at this place.
+/// The figure with this family of the row at this index.
 fn node_of(sheet: &BalanceSheet, place: &Place) -> Node
     requires row { place.now.row < length (names_in sheet.now place.now.table) }
     requires family { place.now.family < stride place.now.table }

@@ -1,4 +1,4 @@
-//! The rows that figures are linked by, gathered in one pass over each table.
+//! Row indexes for the sources of figures, gathered in one pass over each table.
 ghost use Rattle.std.specs.Prelude.{◌≡◌, ◌+◌, ◌<◌, IfOk, OnOk, length, map, take};
 ghost use Rattle.std.specs.List.{IsDistinct};
 ghost use Rattle.scr_names.specs.Names.{same_name};
@@ -14,8 +14,7 @@ use scr_profile::DefaultClass;
 use scr_sheet::{BalanceSheet, Stake};
 use std::alloc::{AllocError as NoMemory, Global};
 
-/// The rows of funds and groups that figures of a balance sheet are linked by, list by list. What the large sums add up is not among
-/// them.
+/// Funds and groups, listed as sources of figures of a balance sheet. Members of large sums are not among them.
 #[derive(Drop)]
 pub struct Members {
     pub funds: FundLists,
@@ -23,17 +22,17 @@ pub struct Members {
     pub groups: Lists,
 }
 
-/// Funds, by their places.
+/// Indexes of funds, listed by the rows that they hold.
 #[derive(Drop)]
 pub struct FundLists {
-    /// Those that hold a security, by the security's place (Article 84).
+    /// The funds that hold a security, by the security's index (Article 84).
     pub holding_securities: Lists,
-    /// Those that hold a fund, by that fund's place (Article 84).
+    /// The funds that hold a fund, by the held fund's index (Article 84).
     pub holding_funds: Lists,
 }
 
-/// The rows of the balance sheet. Only want of memory is refused, and as if for want of it more rows than there are numbers of 32
-/// bits. The cost is that of all components of funds and of all groups, and a place for each fund and security.
+/// The lists of a balance sheet. `NoMemory` if they don't fit, or a table has more rows than 32 bits count. It costs all
+/// components of funds and all groups, and an offset for each fund and security.
 pub fn members_of(alloc: Global, sheet: &BalanceSheet) -> Result<Members, NoMemory>
     requires { Valid sheet.now }
     ensures { IfOk result (λ members. AreMembersOf sheet.now members) }
@@ -61,7 +60,7 @@ fn fund_lists(alloc: Global, sheet: &BalanceSheet) -> Result<FundLists, NoMemory
     })
 }
 
-/// Enters the fund at place `k` after those before it.
+/// Enters fund `k` after the funds before it.
 fn enter_fund(
     securities: &mut Entries,
     funds: &mut Entries,
@@ -96,7 +95,7 @@ fn enter_holder(
     ensures funds { OnOk result (funds.new
         ≡ entered_where (λ name. holds name stake.now) (map stake_name sheet.now.funds) k funds.old) }
 {
-    // The numbers of rows are what says that no two of them have one name.
+    // Brings the invariant into sight: no two rows of a table share a name.
     let _securities = sheet.securities.len();
     let _funds = sheet.funds.len();
     for component in stake.fund.components.as_slice() {

@@ -1,4 +1,4 @@
-//! Laws of the numbers of figures, whatever a program does. Each is a function that does nothing, whose contract is the law.
+//! Laws of the ids of figures, for proofs above to cite.
 ghost use Rattle.std.specs.Prelude.{◌≡◌, ◌<◌, ℕ, true, Contains};
 ghost use Rattle.scr_numbers.specs.Moves.{IsSameBut};
 ghost use Rattle.scr_numbers.specs.Ranges.{IsApart, IsAt, Numbered};
@@ -20,7 +20,7 @@ ghost use Rattle.scr_figures.specs.Order.{turn_of};
 ghost use Rattle.scr_figures.specs.Records.{step_of};
 ghost use Rattle.scr_figures.specs.Steps.{CanTake, CanTakeBack, Takes, TakesBack};
 
-/// Each figure that a balance sheet has, has a number, and no other one; and no other figure has it.
+/// Each figure that a balance sheet has, has exactly one id, and no other figure has it.
 pub fn numbers()
     ensures live { (sheet : BalanceSheet) (places : Numbered) → IsNumbered sheet places → (node : Node)
         → is_live sheet node ≡ true → (number : ℕ) × StandsAt sheet places node number }
@@ -30,8 +30,7 @@ pub fn numbers()
         → StandsAt sheet places a number → StandsAt sheet places b number → a ≡ b }
 {}
 
-/// Where the numbers take the step of a record, the sheet that the record makes is numbered, and a figure that stands in both sheets
-/// has one number in both.
+/// If the ids take the step of a record, the new sheet is numbered. A figure that both sheets have keeps its id.
 pub fn records()
     ensures can { (edit : Edit) (sheet : BalanceSheet) (places : Numbered) → IsNumbered sheet places
         → CanTake (step_of edit sheet) places }
@@ -42,7 +41,7 @@ pub fn records()
         → StandsAt sheet before node n → StandsAt (applied edit sheet) now node m → n ≡ m }
 {}
 
-/// The step of a record can be taken back, and then each figure has the number that it had before.
+/// The step of a record can be undone, and then each figure has its old id.
 pub fn taken_back()
     ensures can { (edit : Edit) (sheet : BalanceSheet) (before now : Numbered) → IsNumbered sheet before
         → Takes (step_of edit sheet) before now → CanTakeBack (step_of edit sheet) now }
@@ -53,7 +52,7 @@ pub fn taken_back()
         → StandsAt sheet before node number → StandsAt sheet now node number }
 {}
 
-/// While parts of member lists come, each figure keeps its number; and no number is that of a figure and of a part.
+/// Each figure keeps its id while parts of member lists are added. No id is both a figure's and a part's.
 pub fn parts()
     ensures numbered { (sheet : BalanceSheet) (before now : Numbered) → IsSameBut tables.Part before now
         → IsNumbered sheet before → IsNumbered sheet now }
@@ -63,20 +62,19 @@ pub fn parts()
         → StandsAt sheet places node number → (k j : ℕ) → IsAt places tables.Part k j number → ⊥ }
 {}
 
-/// Whatever a figure at the lowest level is reckoned from is the total of a fund.
+/// Every source of a figure at level 0 is the total of a fund.
 pub fn lowest_level()
     ensures { (sheet : BalanceSheet) (node source : Node) → level node ≡ 0 → Contains (sources_of sheet node) source
         → table_of source ≡ tables.Fund }
 {}
 
-/// The family of a figure of the whole sheet is its place in the list of these.
+/// The family of a figure of the whole sheet is its index in the list of these figures.
 pub fn families()
     ensures { (sheet : BalanceSheet) (what : Whole) → is_live sheet (nodes.Whole what) ≡ true
         → whole_family what ≡ number_of_whole what }
 {}
 
-/// Each source of a figure of the whole sheet that is one of the whole sheet itself comes before it: the assets first, and then all
-/// others by their families. All its other sources are figures of rows.
+/// A source of a whole-sheet figure that is itself one comes before it: the assets first, all others by family.
 pub fn whole_order()
     ensures { (sheet : BalanceSheet) (what source : Whole) → Valid sheet → is_live sheet (nodes.Whole what) ≡ true
         → Contains (sources_of sheet (nodes.Whole what)) (nodes.Whole source) → turn_of source < turn_of what }

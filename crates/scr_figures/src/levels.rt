@@ -1,4 +1,4 @@
-//! The levels of figures by table and family: each source of a figure stands at a lower level.
+//! The topological levels of figures, by table and family: each source has a lower level.
 ghost use Rattle.std.specs.Prelude.{◌≡◌, ◌<◌};
 ghost use Rattle.scr_numbers.specs.Ranges.{stride};
 ghost use Rattle.scr_nodes.specs.Levels.{choice_level, currency_level, group_level, level, net_level, picked_level, security_level, whole_level};
@@ -12,11 +12,10 @@ use scr_nodes::{
 };
 use scr_numbers::Table;
 
-/// How many levels there are.
+/// The number of levels.
 pub const LEVELS: u32 = 14;
 
-/// The level of the figures of this family in this table. Totals of funds are all at level 0, though they have one another for
-/// sources.
+/// The level of figure `family` of a table, 0 to 13. Totals of funds are all at level 0, though one may be a source of another.
 pub fn level(table: Table, family: u32) -> u32
     requires { family < stride table }
     ensures level { (node : Node) → table_of node ≡ table → family_of node ≡ family → level node ≡ result }

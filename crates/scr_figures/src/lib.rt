@@ -1,8 +1,7 @@
-//! The numbers of a balance sheet's figures: that of a figure is the first number of its row and its family, so it is found by one
-//! look-up of the row and by arithmetic, and leads back to the figure without a table of figures. Which figures a number's row may
-//! have and which the sheet has (`scr_nodes`) are two things: a range has numbers for all of its families. The numbers of a figure's
-//! sources are read off rows that were gathered once, as lists of the places of a fund's or a security's holders and of the groups of
-//! a class, or by walks along the tables.
+//! The ids of a balance sheet's figures. A figure's id is the first id of its row plus its family. So it takes one look-up of the
+//! row and one addition. An id leads back to its figure without a table of figures. A range has ids for all families of its table,
+//! whether or not the sheet has the figure (`scr_nodes`). The ids of a figure's sources come from lists of row indexes, gathered
+//! once, or from walks along the tables.
 #![tactic(auto)]
 
 mod edits;

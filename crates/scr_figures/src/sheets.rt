@@ -1,4 +1,4 @@
-//! Numbers for all rows of a balance sheet.
+//! Ids for all rows of a balance sheet.
 ghost use Rattle.std.specs.Prelude.{◌≡◌, ◌+◌, IfOk, OnOk};
 ghost use Rattle.scr_figures.specs.Numbers.{IsNumbered};
 ghost use Rattle.scr_numbers.specs.Moves.{IsSameBut};
@@ -8,10 +8,11 @@ use scr_numbers::{Places, Table};
 use scr_sheet::BalanceSheet;
 use std::alloc::{AllocError as NoMemory, Global};
 
-/// For so many parts of lists there is room in any book, beside the whole sheet.
+/// Room in any book for this many ranges beyond its rows: the whole sheet, and parts of lists.
 const PARTS: usize = 256;
 
-/// Numbers for all rows, table by table in the order of the rows; those of securities and liabilities, which are most, come last.
+/// Ids for all rows, table by table in row order; securities and liabilities, the most numerous, come last. `NoMemory` if they
+/// don't fit.
 pub fn places_of(alloc: Global, sheet: &BalanceSheet) -> Result<Places, NoMemory>
     ensures { IfOk result (IsNumbered sheet.now) }
 {
@@ -24,7 +25,7 @@ pub fn places_of(alloc: Global, sheet: &BalanceSheet) -> Result<Places, NoMemory
     Ok(places)
 }
 
-/// For how many rows there is room at first: for those of all tables, and for parts of lists an eighth as many and some more.
+/// The number of ranges with room at first: one for each row, and for parts of lists an eighth of that and some more.
 fn expected(sheet: &BalanceSheet) -> usize {
     let rows = sheet
         .funds
@@ -36,7 +37,7 @@ fn expected(sheet: &BalanceSheet) -> usize {
     rows.saturating_add(rows / 8 + PARTS)
 }
 
-/// So many rows come.
+/// Appends `rows` rows to a table.
 fn fill(places: &mut Places, table: Table, rows: usize) -> Result<(), NoMemory>
     ensures others { IsSameBut table places.old places.new }
     ensures ok { OnOk result (count places.new table ≡ count places.old table + rows) }

@@ -1,4 +1,4 @@
-//! The numbers of a figure's sources: off the gathered rows, or by walks along the tables.
+//! The ids of a figure's sources, from gathered lists or by walks along the tables.
 ghost use Rattle.std.specs.Prelude.{◌≡◌, ◌+◌, ◌<◌, ◌≤◌, ◌++◌, true, IfSome, OnOk, Some, map, slice_get};
 ghost use Rattle.std.specs.List.{AllByRecursion};
 ghost use Rattle.scr_numbers.specs.Ranges.{count, stride};
@@ -29,17 +29,17 @@ use scr_numbers::{Places, Table};
 use scr_sheet::BalanceSheet;
 use std::alloc::AllocError as NoMemory;
 
-/// No figure is reckoned from more by name.
+/// The largest number of sources that a figure has by name.
 const MOST_WORDS: u32 = 12;
 
-/// A balance sheet with the numbers of its figures.
+/// A balance sheet with the ids of its figures.
 #[derive(Clone, Copy)]
 pub struct View<'a> {
     pub sheet: &'a BalanceSheet,
     pub places: &'a Places,
 }
 
-/// What the sources of a figure of the row at a place are read off: a balance sheet with its rows, gathered.
+/// A balance sheet with its gathered lists, and the index of a figure's row.
 #[derive(Clone, Copy)]
 struct Rows<'a> {
     sheet: &'a BalanceSheet,
@@ -47,9 +47,9 @@ struct Rows<'a> {
     row: usize,
 }
 
-/// Pushes the numbers of all sources of a figure of the row at a place, in the order of `scr_nodes::sources`, behind what the list
-/// has. The rows that are gathered are those of this very sheet. Only want of memory is refused. The cost is that of the sources alone
-/// where they are totals of funds or losses of a class of groups or come from no table; else each row of their table is looked at.
+/// Appends the ids of all sources of a figure of row `row`, in the order of `scr_nodes::sources`. The lists are the sheet's own.
+/// `NoMemory` if they don't fit. Totals of funds, losses of a class of groups, and sources given by name cost one step each. For
+/// others it costs each row of their table.
 pub fn push_gathered(
     list: &mut Vec<u32>,
     view: View<'_>,
@@ -76,8 +76,8 @@ pub fn push_gathered(
     push_words(list, view, node)
 }
 
-/// Pushes the same for any figure of the sheet, by walks along the tables: nothing need be gathered, but each row of a table that
-/// sources are read off is looked at. Only want of memory is refused.
+/// Appends the ids of all sources of any figure of the sheet, by walks along the tables, without gathered lists. `NoMemory` if
+/// they don't fit. It costs each row of a table that sources are read off.
 pub fn push_walked(list: &mut Vec<u32>, view: View<'_>, node: &Node) -> Result<(), NoMemory>
     requires valid { Valid view.sheet.now }
     requires numbered { IsNumbered view.sheet.now view.places.now }
@@ -89,7 +89,7 @@ pub fn push_walked(list: &mut Vec<u32>, view: View<'_>, node: &Node) -> Result<(
     push_words(list, view, node)
 }
 
-/// The number of a figure of the sheet.
+/// The id of a figure that the sheet has.
 fn number_of(view: View<'_>, node: &Node) -> u32
     requires numbered { IsNumbered view.sheet.now view.places.now }
     requires live { is_live view.sheet.now node.now ≡ true }
@@ -104,7 +104,7 @@ fn number_of(view: View<'_>, node: &Node) -> u32
     }
 }
 
-/// The sources that no table gives.
+/// Appends the ids of the sources that are given by name.
 fn push_words(list: &mut Vec<u32>, view: View<'_>, node: &Node) -> Result<(), NoMemory>
     requires numbered { IsNumbered view.sheet.now view.places.now }
     requires live { are_live view.sheet.now (words_of node.now) }
@@ -123,7 +123,7 @@ fn push_words(list: &mut Vec<u32>, view: View<'_>, node: &Node) -> Result<(), No
     Ok(())
 }
 
-/// Whether a figure is the total of a fund or a security, which is reckoned from no figure by name.
+/// Whether the figure is the total of a fund or a security, which has no source by name.
 fn is_total(node: &Node) -> bool
     ensures { result ≡ is_total node.now }
 {
@@ -133,8 +133,7 @@ fn is_total(node: &Node) -> bool
     )
 }
 
-/// The places of the rows that a figure is reckoned from first, the holders of a fund or a security among them, where they are
-/// gathered.
+/// The gathered indexes of the rows that a figure reads first; `None` if they aren't gathered.
 fn first_rows<'a>(from: Rows<'a>, node: &Node) -> Option<&'a [u32]>
     requires members { AreMembersOf from.sheet.now from.members.now }
     requires row { slice_get (names_in from.sheet.now (table_of node.now)) from.row ≡ Some (name_of node.now) }
@@ -147,7 +146,7 @@ fn first_rows<'a>(from: Rows<'a>, node: &Node) -> Option<&'a [u32]>
     }
 }
 
-/// The funds that hold a security are the sources of its total.
+/// The indexes of the funds that hold the security, for its total; `None` for its other figures.
 fn holding_rows<'a>(from: Rows<'a>, name: &Name, what: OfSecurity) -> Option<&'a [u32]>
     requires members { AreMembersOf from.sheet.now from.members.now }
     requires row { slice_get (map position_name from.sheet.now.securities) from.row ≡ Some name.now }
@@ -159,7 +158,7 @@ fn holding_rows<'a>(from: Rows<'a>, name: &Name, what: OfSecurity) -> Option<&'a
     }
 }
 
-/// The places of the rows that are read off a table, where they are gathered.
+/// The gathered indexes of the rows of a selection; `None` if they aren't gathered.
 fn gathered_rows<'a>(from: Rows<'a>, selection: &Selection) -> Option<&'a [u32]>
     requires { AreMembersOf from.sheet.now from.members.now }
     ensures { IfSome result (λ rows. rows.now ≡ selected_rows from.entry.sheet.now selection.now) }
@@ -180,7 +179,7 @@ fn group_rows<'a>(from: Rows<'a>, counterparties: Counterparties) -> Option<&'a 
     }
 }
 
-/// What is read off a table: the rows at these places, or by a walk along it.
+/// Appends the ids of a selection, from the row indexes `rows` or else by a walk along the table.
 fn push_places(
     list: &mut Vec<u32>,
     view: View<'_>,
@@ -201,7 +200,7 @@ fn push_places(
     }
 }
 
-/// The table that is read.
+/// The table that a selection reads.
 fn selected_table(selection: &Selection) -> Table
     ensures { result ≡ selected_table selection.now }
 {
@@ -215,7 +214,7 @@ fn selected_table(selection: &Selection) -> Table
     }
 }
 
-/// Which figures of its rows are read.
+/// The family of the figures that a selection reads.
 fn selected_family(selection: &Selection) -> u32
     ensures { result ≡ selected_family selection.now }
 {
@@ -229,7 +228,7 @@ fn selected_family(selection: &Selection) -> u32
     }
 }
 
-/// The numbers of one family of the rows at these places.
+/// Appends the ids of figure `own` of the rows at these indexes.
 fn push_rows(
     list: &mut Vec<u32>,
     places: &Places,
@@ -247,7 +246,7 @@ fn push_rows(
     Ok(())
 }
 
-/// What is read off a table, by a walk along it.
+/// Appends the ids of a selection, by a walk along its table.
 fn push_selected(list: &mut Vec<u32>, view: View<'_>, selection: &Selection) -> Result<(), NoMemory>
     requires { IsNumbered view.sheet.now view.places.now }
     ensures { OnOk result (list.new.items ≡ list.old.items

@@ -1,11 +1,11 @@
-//! What a record does to the rows that have numbers.
+//! One step of the rows that have ids, by a record.
 ghost use Rattle.std.specs.Prelude.{◌≡◌, OnOk, OnErr};
 ghost use Rattle.scr_figures.specs.Steps.{CanTake, CanTakeBack, Takes, TakesBack};
 
 use scr_numbers::{Places, Table};
 use std::alloc::AllocError as NoMemory;
 
-/// A row of a table comes, or the one at a place goes, or each stays where it is.
+/// A row is appended to a table, the row at an index is removed, or each stays where it is.
 #[derive(Clone, Copy, PartialEq, Eq)]
 pub enum Step {
     Stays,
@@ -13,7 +13,7 @@ pub enum Step {
     Goes(Table, usize),
 }
 
-/// The numbers take the step. Memory is taken for a row that comes alone; where it is refused all is as before.
+/// Takes the step. Only an appended row needs memory; `NoMemory` leaves all as it was.
 pub fn follow(places: &mut Places, step: Step) -> Result<(), NoMemory>
     requires { CanTake step places.old }
     ensures ok { OnOk result (Takes step places.old places.new) }
@@ -29,7 +29,7 @@ pub fn follow(places: &mut Places, step: Step) -> Result<(), NoMemory>
     }
 }
 
-/// The numbers take the step back. It takes no memory.
+/// Undoes the step, without memory.
 pub fn take_back(places: &mut Places, step: Step)
     requires { CanTakeBack step places.old }
     ensures { TakesBack step places.old places.new }

@@ -1,4 +1,4 @@
-//! The figures of the whole sheet, one by one.
+//! The figures of the whole sheet and their families.
 ghost use Rattle.std.specs.Prelude.{◌≡◌, ◌<◌, length};
 ghost use Rattle.std.specs.List.{slice_index_or};
 ghost use Rattle.scr_nodes.specs.Numbers.{adjustment_place, charge_place, choice_place, class_place, equities_place, operational_place, risk_place, scenario_place, scenarios_from, segments_from, set_place};
@@ -252,6 +252,7 @@ fn scenario_family(biometric: Biometric, projection: Projection, measure: Measur
     }
 }
 
+/// The index of a class of securities, 0 to 9.
 pub(crate) fn class_place(class: Class) -> u32
     ensures place { result ≡ class_place class }
     ensures few { class_place class < 10 }

@@ -1,5 +1,5 @@
--- How the edges are kept (this project's own): each at a place, which is in the list of the edges that stand, in
--- that of its source and in that of its dependant. A place without an edge is free.
+-- The stored form of edges (own). Each edge has a slot, which is in three lists: of all edges, of its source, and of its
+-- dependant. A slot without an edge is in the free list.
 use Rattle.std.specs.Prelude.{◌≡◌, ℕ, ◌==◌, ◌<◌, ◌≤◌, true, List, map, filter, length}
 use Rattle.scr_links.specs.Edges.{Edge, Linked, edge, linked}
 use Rattle.scr_links.specs.Places.{has, AreApart}
@@ -8,24 +8,32 @@ use Rattle.scr_links.specs.Ends.{pair_at}
 use Rattle.scr_links.specs.declared.links.Pair.{Pair}
 use Rattle.scr_links.specs.declared.links.Links.TheInside.{Inside}
 
+-- The edge in a slot, whose index is its id (own).
 abbrev pub edge_at : List Pair → ℕ → Edge
 edge_at pairs place = edge (pair_at pairs place).source (pair_at pairs place).dependant place
 
+-- The slots of all edges, in the order of joining (own).
 abbrev pub standing : Inside → List ℕ
 standing links = list_of links.tables.order 0
 
+-- The free slots (own).
 abbrev pub free : Inside → List ℕ
 free links = list_of links.tables.order 1
 
+-- The slots among `places` whose edges have this source (own).
 abbrev pub with_source : List Pair → ℕ → List ℕ → List ℕ
 with_source pairs number places = filter (λ place. (pair_at pairs place).source == number) places
 
+-- The slots among `places` whose edges have this dependant (own).
 abbrev pub with_dependant : List Pair → ℕ → List ℕ → List ℕ
 with_dependant pairs number places = filter (λ place. (pair_at pairs place).dependant == number) places
 
+-- What contracts see of the stored edges (own).
 abbrev pub linked_of : Inside → Linked
 linked_of links = linked (map (edge_at links.tables.pairs.items) (standing links)) links.spare links.size
 
+-- The invariant of stored edges (own). The lists by source and by dependant hold exactly the slots of their edges. All nodes are
+-- below the bound, and every table has room for all slots and nodes.
 pub record AreKept (links : Inside) : Type 0 where
   pub distinct : AreApart (standing links)
   pub placed : (number place : ℕ) → has place (list_of links.tables.order number) ≡ true → place < links.places

@@ -1,4 +1,4 @@
-//! Lists of places that are linked both ways.
+//! Doubly linked lists of slots.
 ghost use Rattle.std.specs.Prelude.{◌≡◌, ℕ, ◌<◌, ◌≤◌, ◌==◌, [], true, false, length, OnOk};
 ghost use Rattle.scr_links.specs.Places.{has};
 ghost use Rattle.scr_links.specs.Chains.{none, link_at, ends_at, list_of, places_from};
@@ -8,24 +8,24 @@ use crate::list_ends::ListEnds;
 use std::alloc::{AllocError as NoMemory, Global};
 use std::marker::Model;
 
-/// What no place follows or precedes links to it. No place has this number.
+/// The link where there is no neighbour. No slot has this index.
 pub(crate) const NONE: u32 = u32::MAX;
 
-/// The neighbours of a place in its list.
+/// The neighbours of a slot in its list; `NONE` where there is none.
 #[derive(Clone, Copy)]
 pub(crate) struct Link {
     pub(crate) next: u32,
     pub(crate) previous: u32,
 }
 
-/// The first place of a list and the last.
+/// The first and the last slot of a list; `NONE` if it is empty.
 #[derive(Clone, Copy)]
 pub(crate) struct Ends {
     pub(crate) first: u32,
     pub(crate) last: u32,
 }
 
-/// Lists by number, of places by number. A place is in one list at most.
+/// Lists by number, of slots by index. A slot is in one list at most.
 #[derive(Drop)]
 pub(crate) struct Chains {
     links: Vec<Link>,
@@ -45,7 +45,7 @@ impl Model for Chains {
 }
 
 impl Chains {
-    /// No places, and no lists.
+    /// No slot and no list.
     pub(crate) fn new(alloc: Global) -> Chains
         ensures lists { (number : ℕ) → list_of result number ≡ [] }
         ensures places { length result.links ≡ 0 }
@@ -56,7 +56,7 @@ impl Chains {
         }
     }
 
-    /// Room for so many places and so many lists. Every list stays.
+    /// Makes room for `places` slots and `lists` lists; `NoMemory` if there is none. Every list stays in either case.
     pub(crate) fn grow(&mut self, places: usize, lists: u32) -> Result<(), NoMemory>
         requires { places ≤ none }
         ensures lists { (number : ℕ) → list_of self.new number ≡ list_of self.old number }
@@ -69,7 +69,7 @@ impl Chains {
         self.ends.reserve(lists)
     }
 
-    /// Puts a place that is in no list at the end of one.
+    /// Appends a slot that is in no list to one.
     pub(crate) fn append(&mut self, list: u32, place: u32)
         requires list { list < self.old.room }
         requires place { place < length self.old.links }
@@ -85,7 +85,7 @@ impl Chains {
         self.ends.set(list, ends);
     }
 
-    /// Takes a place out of its list.
+    /// Removes a slot from its list.
     pub(crate) fn remove(&mut self, list: u32, place: u32)
         requires { has place (list_of self.old list) ≡ true }
         ensures { Removed self.old self.new list place }
@@ -97,7 +97,7 @@ impl Chains {
         self.ends.set(list, ends);
     }
 
-    /// The first place of a list, and `NONE` where it has none.
+    /// The first slot of a list; `NONE` if it is empty.
     pub(crate) fn first(&self, list: u32) -> u32
         ensures value { result ≡ (ends_at self.now.ends list).first }
         ensures listed { places_from self.now.links (length self.now.links) result
@@ -107,7 +107,7 @@ impl Chains {
         self.ends.at(list).first
     }
 
-    /// What follows a place in its list, and `NONE` after the last.
+    /// The slot after this one in its list; `NONE` after the last.
     pub(crate) fn next(&self, place: u32) -> u32
         requires { place < length self.now.links }
         ensures { result ≡ (link_at self.now.links place).next }
@@ -116,7 +116,7 @@ impl Chains {
     }
 }
 
-/// A link for each of so many places. Those that are new stand alone.
+/// Makes a link for each of `places` slots; new ones have no neighbour.
 fn grow_links(links: &mut Vec<Link>, places: usize) -> Result<(), NoMemory>
     requires { places ≤ none }
     ensures same { (place : ℕ) → link_at links.new.items place ≡ link_at links.old.items place }
@@ -134,7 +134,7 @@ fn grow_links(links: &mut Vec<Link>, places: usize) -> Result<(), NoMemory>
     links.resize(places, alone)
 }
 
-/// Links a place, or at `NONE` the list, to what follows.
+/// Sets the forward link of a slot, or the list's first slot for `NONE`.
 fn set_next(links: &mut Vec<Link>, ends: &mut Ends, place: u32, next: u32)
     requires { (place == none) ≡ false → place < length links.old.items }
     ensures { SetsNext place next links.old.items ends.old links.new.items ends.new }
@@ -146,7 +146,7 @@ fn set_next(links: &mut Vec<Link>, ends: &mut Ends, place: u32, next: u32)
     }
 }
 
-/// Links a place, or at `NONE` the list, to what goes before.
+/// Sets the backward link of a slot, or the list's last slot for `NONE`.
 fn set_previous(links: &mut Vec<Link>, ends: &mut Ends, place: u32, previous: u32)
     requires { (place == none) ≡ false → place < length links.old.items }
     ensures { SetsPrevious place previous links.old.items ends.old links.new.items ends.new }

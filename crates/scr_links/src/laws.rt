@@ -1,11 +1,10 @@
-//! What holds of the types, whatever a program does. Each law is a function that does nothing.
+//! Laws of the types, for proofs above to cite.
 
 use crate::{EdgeId, Links};
 
 fn shared<T: Send + Sync>() {}
 
-/// An arena of edges and the names of its edges may be handed to other threads, and be read by
-/// several at once.
+/// An arena of edges and the ids of its edges may be shared between threads and sent to them.
 pub fn sharing() {
     shared::<Links>();
     shared::<EdgeId>();

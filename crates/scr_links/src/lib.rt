@@ -1,6 +1,5 @@
-//! An arena of edges, each from a source to a dependant: which numbers are reckoned from which.
-//! An edge stands in the list of its source and in that of its dependant, each linked both ways, so
-//! it joins and leaves both by a constant number of writes, however many edges there are.
+//! An arena of edges, each from a source to a dependant, which is computed from it. An edge is in its source's list and in its
+//! dependant's, both doubly linked. So it joins and leaves both by a constant number of writes, however many edges there are.
 #![tactic(auto)]
 
 mod chains;

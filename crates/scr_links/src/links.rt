@@ -1,4 +1,4 @@
-//! Edges that join and leave the lists of their two numbers at a constant cost.
+//! Edges that join and leave the lists of their two nodes at a constant cost.
 ghost use Rattle.std.specs.Prelude.{◌≡◌, ℕ, ◌+◌, ◌-◌, ◌<◌, ◌≤◌, ◌==◌, ◌++◌, ◌∷◌, [], max};
 ghost use Rattle.std.specs.Prelude.{All, IsTrue, true, false, eqb, length, IfOk, OnOk, OnErr};
 ghost use Rattle.std.specs.List.{IsDistinct};
@@ -13,16 +13,16 @@ use crate::walk::{Towards, Walk};
 use std::alloc::{AllocError as NoMemory, Global};
 use std::marker::Model;
 
-/// The most places for edges: their names have 32 bits, of which two values are no names.
+/// The largest number of slots: edge ids have 32 bits, of which two values are none.
 const MAX_PLACES: u32 = u32::MAX - 1;
 
-/// The edges that stand are the places of this list, in the order in which they joined.
+/// The list of all edges, in the order of joining.
 const STANDING: u32 = 0;
 
-/// The places that an edge can join at.
+/// The list of free slots.
 const FREE: u32 = 1;
 
-/// The name of an edge, from `Links::join` to `Links::cut`. Contracts see it as a number.
+/// The id of an edge, from `Links::join` to `Links::cut`. Contracts see it as a number.
 #[derive(Clone, Copy, Debug, PartialEq, Eq)]
 pub struct EdgeId {
     place: u32,
@@ -39,7 +39,7 @@ impl Model for EdgeId {
 }
 
 impl EdgeId {
-    /// The name of the edge at a place.
+    /// The id of the edge in a slot.
     pub(crate) fn new(place: u32) -> EdgeId
         ensures { result ≡ place }
     {
@@ -47,15 +47,14 @@ impl EdgeId {
     }
 }
 
-/// The two numbers of an edge.
+/// The two nodes of an edge.
 #[derive(Clone, Copy)]
 pub(crate) struct Pair {
     pub(crate) source: u32,
     pub(crate) dependant: u32,
 }
 
-/// Where the edges are: all in one list, and each in that of its source and in that of its
-/// dependant.
+/// The edges by slot: the list of all, the lists by source and by dependant, and the nodes of each.
 #[derive(Drop)]
 struct Tables {
     order: Chains,
@@ -69,7 +68,7 @@ impl Tables {
     ghost use Rattle.scr_links.specs.Chains.{none};
     ghost use Rattle.scr_links.specs.Growth.{HasGrown, HasRoom};
 
-    /// Room for so many places, and for lists of so many numbers. What is in the lists stays.
+    /// Makes room for `places` slots and for lists of `size` nodes. Every list stays.
     fn grow(&mut self, places: u32, size: u32) -> Result<(), NoMemory>
         requires { places ≤ none }
         ensures grown { HasGrown self.old self.new }
@@ -86,15 +85,14 @@ impl Tables {
                 },
             )?;
         }
-        // Few numbers are sources: their lists come last, so that room which is not written keeps no page from what is.
+        // Few nodes are sources, so their lists come last: unwritten room then shares no page with written lists.
         self.by_dependant.grow(places, size)?;
         self.by_source.grow(places, size)
     }
 }
 
-/// Edges from sources to dependants. Contracts see the list of the edges in the order in which they
-/// joined, no two of one name, how many more can join without memory (`spare`), and the number that
-/// sources and dependants must be below (`size`).
+/// Edges from sources to dependants. Contracts see the edges in the order in which they joined, each with its own id. `spare` is
+/// the number of further edges that can join without memory, and `size` the bound of all nodes.
 #[derive(Drop)]
 pub struct Links {
     tables: Tables,
@@ -116,7 +114,7 @@ impl Model for Links {
 }
 
 impl Links {
-    /// No edges, and room for none.
+    /// No edge, and room for none; `NoMemory` if the arena can't be made.
     pub fn new(alloc: Global) -> Result<Links, NoMemory>
         ensures { IfOk result (λ links. links ≡ linked [] 0 0) }
     {
@@ -136,9 +134,8 @@ impl Links {
         })
     }
 
-    /// Makes room: for so many edges more, and for numbers below `size`. What room there was stays,
-    /// and so does every edge. Where memory is refused, all is as before; room for more than
-    /// 2^32 - 2 edges is refused as if for want of memory.
+    /// Makes room for `n` further edges, and for nodes below `size`; room never shrinks. `NoMemory` if memory is refused or there
+    /// would be more than 2^32 - 2 slots; all stays as it was.
     pub fn reserve(&mut self, alloc: Global, n: u32, size: u32) -> Result<(), NoMemory>
         ensures ok { OnOk result (self.new
             ≡ linked self.old.edges (max self.old.spare n) (max self.old.size size)) }
@@ -157,7 +154,7 @@ impl Links {
         Ok(())
     }
 
-    /// Joins an edge after the others, without memory. Its name is none of theirs.
+    /// Appends an edge and returns its id, which no other edge has. It uses reserved room, so it can't fail.
     pub fn join(&mut self, source: u32, dependant: u32) -> EdgeId
         requires room { 0 < self.old.spare }
         requires source { source < self.old.size }
@@ -176,8 +173,7 @@ impl Links {
         EdgeId::new(place)
     }
 
-    /// Takes an edge that stands out. The others stay in their order. Its place can be joined at
-    /// again, so from then on its name may be that of another edge.
+    /// Removes an edge; the others stay in order. Its slot is free, so a later edge may get its id.
     pub fn cut(&mut self, e: EdgeId)
         requires { IsTrue (is_edge self.old e) }
         ensures { self.new ≡ linked (edges_without self.old e) (self.old.spare + 1) self.old.size }
@@ -191,8 +187,7 @@ impl Links {
         self.spare += 1;
     }
 
-    /// What a number is reckoned from: each source with the name of its edge, in the order in which
-    /// the edges joined. A number at `size` or above has none.
+    /// The sources of a node, each with the id of its edge, in the order of joining. A node at `size` or above has none.
     pub fn sources(&self, n: u32) -> Walk<'_>
         ensures { result ≡ sources_of self.now n }
     {
@@ -204,8 +199,7 @@ impl Links {
         )
     }
 
-    /// What is reckoned from a number: each dependant with the name of its edge, in the order in
-    /// which the edges joined. A number at `size` or above has none.
+    /// The dependants of a node, each with the id of its edge, in the order of joining. A node at `size` or above has none.
     pub fn dependants(&self, n: u32) -> Walk<'_>
         ensures { result ≡ dependants_of self.now n }
     {
@@ -217,7 +211,7 @@ impl Links {
         )
     }
 
-    /// How many more edges can join without memory. No two edges have one name.
+    /// The number of further edges that can join without memory. No two edges share an id.
     pub fn spare(&self) -> u32
         ensures value { result ≡ self.now.spare }
         ensures apart { IsDistinct eqb (ids_of self.now) }
@@ -225,7 +219,7 @@ impl Links {
         self.spare
     }
 
-    /// The number that sources and dependants must be below. Those of every edge are.
+    /// The bound below which the nodes of every edge are.
     pub fn size(&self) -> u32
         ensures value { result ≡ self.now.size }
         ensures below { All (λ e. (e.source < self.now.size) × (e.dependant < self.now.size))
@@ -235,7 +229,7 @@ impl Links {
     }
 }
 
-/// How many places there are where so many are to be spare, of these places of which `spare` are.
+/// The number of slots that leaves `wanted` of them spare; `NoMemory` above 2^32 - 2.
 fn places_with(places: u32, spare: u32, wanted: u32) -> Result<u32, NoMemory>
     ensures count { IfOk result (λ count. count + spare ≡ places + max spare wanted) }
     ensures few { IfOk result (λ count. count < none) }
@@ -246,7 +240,7 @@ fn places_with(places: u32, spare: u32, wanted: u32) -> Result<u32, NoMemory>
     }
 }
 
-/// Frees the places from one number up to another.
+/// Appends slots `from` to `to` - 1 to the free list.
 fn free(order: &mut Chains, from: u32, to: u32)
     requires range { from ≤ to }
     requires places { to ≤ length order.old.links }

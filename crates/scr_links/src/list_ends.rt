@@ -1,4 +1,4 @@
-//! The ends of lists, of which few lists have any.
+//! The ends of lists, of which few have any.
 ghost use Rattle.std.specs.Prelude.{◌≡◌, ℕ, ◌+◌, ◌*◌, ◌^◌, ◌<◌, ◌≤◌, ◌==◌, ◌++◌, length, replicate, if◌then◌else◌, vec_capacity, OnOk};
 ghost use Rattle.scr_links.specs.Chains.{empty, ends_at, ends_in, written_at};
 ghost use Rattle.scr_links.specs.ListEnds.{AreSeated, HasSeat};
@@ -8,16 +8,16 @@ use crate::seats::{Seats, reserve_total};
 use std::alloc::{AllocError as NoMemory, Global};
 use std::marker::Model;
 
-/// So many neighbouring lists have their ends in one block.
+/// The number of neighbouring lists whose ends are one block.
 const BLOCK: usize = 4;
 
-/// The ends of lists by number, block by block of neighbours. A block is written when one of its lists first gets a place: there is room
-/// for all, and room that is not written takes no page of memory.
+/// The ends of lists by number, in blocks of neighbours. A block is written when one of its lists first gets a slot. There is room
+/// for all blocks, and room that is not written takes no page of memory.
 #[derive(Drop)]
 pub(crate) struct ListEnds {
     seats: Seats,
     ends: Vec<Ends>,
-    /// There is room for so many blocks.
+    /// The number of blocks with room.
     blocks: usize,
 }
 
@@ -45,7 +45,7 @@ impl ListEnds {
         }
     }
 
-    /// Room for the ends of so many lists. All ends stay.
+    /// Makes room for the ends of `lists` lists; `NoMemory` if there is none. All ends stay in either case.
     pub(crate) fn reserve(&mut self, lists: u32) -> Result<(), NoMemory>
         ensures at { (list : ℕ) → ends_at self.new list ≡ ends_at self.old list }
         ensures room { self.old.room ≤ self.new.room }
@@ -61,7 +61,7 @@ impl ListEnds {
         Ok(())
     }
 
-    /// The ends of a list. One for which there is no room has none.
+    /// The ends of a list; the ends of an empty one if there is no room for it.
     pub(crate) fn at(&self, list: u32) -> Ends
         ensures at { result ≡ ends_at self.now list }
         ensures past { self.now.room ≤ list → result ≡ empty }
@@ -70,7 +70,7 @@ impl ListEnds {
         written(&self.ends, seat as usize * BLOCK + list as usize % BLOCK)
     }
 
-    /// A list has these ends now.
+    /// Sets the ends of a list.
     pub(crate) fn set(&mut self, list: u32, ends: Ends)
         requires { list < self.old.room }
         ensures at { (number : ℕ) → ends_at self.new number ≡ (if number == list then ends else ends_at self.old number) }
@@ -81,7 +81,7 @@ impl ListEnds {
     }
 }
 
-/// The ends that are written there, if any are.
+/// The ends at an index of the written ones; the ends of an empty list past the end.
 fn written(ends: &[Ends], place: usize) -> Ends
     ensures { result ≡ written_at ends.now place }
 {
@@ -118,7 +118,7 @@ fn seat_for(seats: &mut Seats, ends: &mut Vec<Ends>, block: usize) -> u32
     next
 }
 
-/// One more block, of lists without a place. There is room for it.
+/// Writes one further block, of empty lists, into reserved room.
 fn write(ends: &mut Vec<Ends>)
     requires { length ends.old.items + 4 ≤ vec_capacity ends.old }
     ensures items { ends.new.items ≡ ends.old.items ++ replicate 4 empty }
@@ -128,7 +128,7 @@ fn write(ends: &mut Vec<Ends>)
     ends.resize(size + BLOCK, none_yet()).unwrap();
 }
 
-/// The ends of a list that has no place.
+/// The ends of an empty list.
 fn none_yet() -> Ends
     ensures { result ≡ empty }
 {

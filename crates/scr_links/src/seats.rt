@@ -1,4 +1,4 @@
-//! The seats of blocks: of each block its place among those that are written.
+//! The seats of blocks: each block's index among the written ones.
 ghost use Rattle.std.specs.Prelude.{◌≡◌, ◌+◌, ◌-◌, ◌<◌, ◌≤◌, ◌++◌, [], length, map, replicate, slice_set, vec_capacity, IfOk, OnOk, OnErr};
 ghost use Rattle.scr_links.specs.Chains.{none, seat_at};
 ghost use Rattle.scr_links.specs.Seats.{long_seat};
@@ -7,20 +7,20 @@ use crate::chains::NONE;
 use std::alloc::{AllocError as NoMemory, Global};
 use std::marker::Model;
 
-/// What 16 bits tell of a block that is not written.
+/// The 16 bits of a block that is not written.
 const SHORT_NONE: u16 = u16::MAX;
 
-/// A seat is below the number of blocks: where there is room for so many at most, no seat is `SHORT_NONE`.
+/// The largest number of blocks with seats of 16 bits: none of them is `SHORT_NONE`.
 const SHORT_ROOM: usize = SHORT_NONE as usize;
 
-/// Of each block its seat, and `NONE` if it is not written. How wide they are goes by the room and not by the blocks that are written,
-/// so that a block is given its seat without memory.
+/// The seat of each block, and `NONE` for one that is not written. The width follows the room, not the blocks that are written, so
+/// a block gets its seat without memory.
 #[derive(Drop)]
 pub(crate) struct Seats {
     kept: Kept,
 }
 
-/// Seats in 16 bits, of which `SHORT_NONE` stands for `NONE`, or in 32.
+/// Seats in 16 bits, where `SHORT_NONE` stands for `NONE`, or in 32.
 #[derive(Drop)]
 enum Kept {
     Short(Vec<u16>),
@@ -47,7 +47,7 @@ impl Seats {
         }
     }
 
-    /// Room for the seats of so many blocks. All seats stay, and where memory is refused all is as before.
+    /// Makes room for the seats of `blocks` blocks; `NoMemory` leaves all as it was.
     pub(crate) fn reserve(&mut self, blocks: usize) -> Result<(), NoMemory>
         ensures items { self.new.items ≡ self.old.items }
         ensures room { self.old.room ≤ self.new.room }
@@ -65,7 +65,7 @@ impl Seats {
         }
     }
 
-    /// The seat of a block.
+    /// The seat of a block; `NONE` if it isn't written.
     pub(crate) fn at(&self, block: usize) -> u32
         ensures { result ≡ seat_at self.now.items block }
     {
@@ -75,7 +75,7 @@ impl Seats {
         }
     }
 
-    /// There are seats up to that of this block, for which there is room. Those that are new are of blocks that are not written.
+    /// Adds seats up to this block, for which there is room. New ones are `NONE`.
     pub(crate) fn fill(&mut self, block: usize)
         requires { block < self.old.room }
         ensures filled { self.new.items ≡ self.old.items ++ replicate (block + 1 - length self.old.items) none }
@@ -87,7 +87,7 @@ impl Seats {
         }
     }
 
-    /// The block is written, at this seat.
+    /// Sets the seat of a block.
     pub(crate) fn set(&mut self, block: usize, seat: u32)
         requires block { block < length self.old.items }
         requires seat { seat < self.old.room }
@@ -101,7 +101,7 @@ impl Seats {
     }
 }
 
-/// Room for so many in all, those that there are among them.
+/// Makes room for `count` items in all.
 pub(crate) fn reserve_total<T>(items: &mut Vec<T>, count: usize) -> Result<(), NoMemory>
     ensures items { items.new.items ≡ items.old.items }
     ensures longer { vec_capacity items.old ≤ vec_capacity items.new }
@@ -114,7 +114,7 @@ pub(crate) fn reserve_total<T>(items: &mut Vec<T>, count: usize) -> Result<(), N
     Ok(())
 }
 
-/// The same seats in 32 bits, and room for so many.
+/// The seats in 32 bits, with room for `blocks`.
 fn long_seats(alloc: Global, seats: &[u16], blocks: usize) -> Result<Vec<u32>, NoMemory>
     ensures items { IfOk result (λ long. long.items ≡ map long_seat seats.now) }
     ensures room { IfOk result (λ long. blocks ≤ vec_capacity long) }
@@ -124,7 +124,7 @@ fn long_seats(alloc: Global, seats: &[u16], blocks: usize) -> Result<Vec<u32>, N
     Ok(long)
 }
 
-/// The seat that 16 bits tell.
+/// The seat that 16 bits stand for.
 fn long_of(seat: u16) -> u32
     ensures { result ≡ long_seat seat }
 {
@@ -135,7 +135,7 @@ fn long_of(seat: u16) -> u32
     }
 }
 
-/// The seat of a block, of seats in 16 bits.
+/// The seat of a block, from seats in 16 bits.
 fn short_at(seats: &[u16], block: usize) -> u32
     ensures { result ≡ seat_at (map long_seat seats.now) block }
 {
@@ -145,7 +145,7 @@ fn short_at(seats: &[u16], block: usize) -> u32
     }
 }
 
-/// The seat of a block, of seats in 32 bits.
+/// The seat of a block, from seats in 32 bits.
 fn long_at(seats: &[u32], block: usize) -> u32
     ensures { result ≡ seat_at seats.now block }
 {
@@ -155,7 +155,7 @@ fn long_at(seats: &[u32], block: usize) -> u32
     }
 }
 
-/// There are as many as blocks up to this one, for which there is room. Those that are new are of blocks that are not written.
+/// Adds `unwritten` up to this block, for which there is room.
 fn fill_up<T: Copy>(seats: &mut Vec<T>, block: usize, unwritten: T)
     requires { block < vec_capacity seats.old }
     ensures filled { seats.new.items ≡ seats.old.items ++ replicate (block + 1 - length seats.old.items) unwritten }

@@ -1,4 +1,4 @@
-//! A walk over the edges of one number.
+//! A walk over the edges of one node.
 ghost use Rattle.std.specs.Prelude.{◌≡◌, ℕ, ◌<◌, true, map, length};
 ghost use Rattle.scr_links.specs.Places.{has};
 ghost use Rattle.scr_links.specs.Chains.{list_of};
@@ -8,7 +8,7 @@ use crate::chains::{Chains, NONE};
 use crate::links::{EdgeId, Pair};
 use std::marker::Model;
 
-/// Which of its two numbers a walk gives of each edge.
+/// The node of each edge that a walk gives.
 #[derive(Clone, Copy)]
 pub(crate) enum Towards {
     Source,
@@ -26,8 +26,8 @@ impl Towards {
     }
 }
 
-/// The edges that are left of those of one number, in the order in which they joined: of each the
-/// other number, and its name. Contracts see the list of what is left.
+/// The rest of one node's edges, in the order of joining: for each the other node, and the edge's id. Contracts see the list of
+/// this rest.
 #[derive(Drop)]
 pub struct Walk<'a> {
     chains: &'a Chains,
@@ -49,7 +49,7 @@ impl<'a> Model for Walk<'a> {
 }
 
 impl<'a> Walk<'a> {
-    /// The edges whose places are in this list.
+    /// A walk over the edges whose slots are in this list.
     pub(crate) fn new(
         chains: &'a Chains,
         pairs: &'a [Pair],

@@ -1,4 +1,4 @@
--- How what stands beside the lists follows the row of a record (this project's own).
+-- How first ids and parts beside the lists follow the row of a record, and how that is undone (own).
 use Rattle.std.specs.Prelude.{◌≡◌, ◌≢◌, ℕ, ◌<◌, length}
 use Rattle.scr_blocks.specs.declared.blocks.Level.{Level}
 use Rattle.scr_rolls.specs.Seatings.{NOWHERE, place_in, roll_in}
@@ -12,8 +12,8 @@ use Rattle.scr_lists.specs.Parting.{AreExtended, AreSameParts, HaveLost, HavePar
 use Rattle.scr_lists.specs.declared.lists.Lists.{Lists}
 use Rattle.scr_lists.specs.declared.standing.Move.{Move}
 
--- the first number of the row stood where its seats said; to lists to which it comes it comes last; and the lists have the parts that their
--- Blocks are
+-- The move fits what stands beside the lists (own). The row's first id is at the old positions that its seats name. In lists that
+-- it joins its position is the end. And each list has one part for each Block.
 pub record CanMove (move : Move) (firsts : FirstLists) (parted : Parted) : Type 0 where
   pub seat_of : ℕ → ℕ
   pub few : (list : ℕ) → seat_of list < 11
@@ -27,14 +27,15 @@ pub record CanMove (move : Move) (firsts : FirstLists) (parted : Parted) : Type 
       → place_in seat move.after ≡ length (firsts_in (roll_in seat move.after) firsts)
   pub parts : HavePartsAt move.table firsts parted
 
--- the first number of the row has moved with its seats, and each list has the parts that its Blocks are
+-- The row's first id moved with its seats, and the lists of the table have one part for each Block (own). Lists of other tables
+-- keep their number of parts.
 pub record HasMoved (move : Move) (was now : FirstLists) (old new : Parted) : Type 0 where
   pub firsts : (seat_of : ℕ → ℕ) → AreSeatsOf seat_of move.before → AreSeatsOf seat_of move.after
       → HasFollowed seat_of move.before move.after move.first was now
   pub parts : HavePartsAt move.table now new
   pub others : (list : ℕ) → ((number : ℕ) → list ≢ list_in move.table number) → (level : Level) → count_of list level new ≡ count_of list level old
 
--- the row has moved, and can be taken back without memory
+-- The row moved, and all that undo needs without memory is at hand (own): freed slots in order, and room in the lists that shrank.
 pub record CanTakeBack (move : Move) (was now : FirstLists) (old new : Parted) : Type 0 where
   pub can : CanMove move was old
   pub moved : HasMoved move was now old new
@@ -45,24 +46,27 @@ pub record CanTakeBack (move : Move) (was now : FirstLists) (old new : Parted) :
   pub room : KeepsRoom between new
   pub beside : KeepsRoomBeside was now
 
--- all stands as it stood
+-- First ids and parts are as before, each part with its old slot (own).
 pub record IsStill (was now : FirstLists) (old new : Parted) : Type 0 where
   pub firsts : (list : ℕ) → firsts_in list now ≡ firsts_in list was
   pub parts : AreSameParts old new
 
--- the same of all tables
+-- The row's table has member lists, and the move fits what stands beside them (own).
 abbrev pub CanFollow : Move → Lists → Type 0
 CanFollow move lists = HasLists move.table × CanMove move (firsts_at move.table lists) lists.parts
 
+-- First ids and parts of the row's table followed the move; first ids of other tables stay (own).
 pub record AreFollowed (move : Move) (old new : Lists) : Type 0 where
   pub own : HasMoved move (firsts_at move.table old) (firsts_at move.table new) old.parts new.parts
   pub elsewhere : (table : Table) → HasLists table → table ≢ move.table → firsts_at table new ≡ firsts_at table old
 
+-- The move was followed and can be undone without memory; first ids of other tables stayed (own).
 pub record CanBeTakenBack (move : Move) (old new : Lists) : Type 0 where
   pub has : HasLists move.table
   pub own : CanTakeBack move (firsts_at move.table old) (firsts_at move.table new) old.parts new.parts
   pub elsewhere : (table : Table) → HasLists table → table ≢ move.table → firsts_at table new ≡ firsts_at table old
 
+-- First ids of all tables and all parts are as before, each part with its old slot (own).
 pub record AreStill (old new : Lists) : Type 0 where
   pub firsts : (table : Table) → HasLists table → (list : ℕ) → firsts_in list (firsts_at table new) ≡ firsts_in list (firsts_at table old)
   pub parts : AreSameParts old.parts new.parts

@@ -1,5 +1,4 @@
--- The member lists of a book by number (this project's own): beside each list stand the first numbers of its members' rows, and each of its
--- Blocks has a part with a slot.
+-- What stands beside the member lists of a book (own): the first ids of the members' rows, and a part with a slot for each Block.
 use Rattle.std.specs.Prelude.{◌≡◌, ℕ, ◌+◌, ◌*◌, ◌<◌, true, List, [], Some, length}
 use Rattle.std.specs.List.{position_or_len}
 use Rattle.std.specs.Option.{option_map_or}
@@ -23,52 +22,53 @@ use Rattle.scr_book.specs.RolledSheets.{RolledSheet}
 use Rattle.scr_book.specs.Rolls.{KeptRolls, number_of_roll, same_table, seated_in}
 use Rattle.scr_lists.specs.declared.lists.Lists.{Lists}
 
--- rows of the table are members of lists
+-- Rows of this table are members of lists: securities, liabilities, funds and groups (own).
 abbrev pub HasLists : Table → Type 0
 HasLists table = same_table table table ≡ true
 
--- the ranges of numbers of the rows of such a table
+-- The table of id ranges for the rows of this table (own).
 abbrev pub ranges_of : Table → Ranged
 ranges_of tables.Security = ranged.Security
 ranges_of tables.Liability = ranged.Liability
 ranges_of tables.Fund = ranged.Fund
 ranges_of table = ranged.Group
 
--- the number of a list among those of all tables, from its number among those of its own
+-- The index of a table among the four that have lists, 0 to 3 (own).
 abbrev pub table_place : Table → ℕ
 table_place tables.Security = 0
 table_place tables.Liability = 1
 table_place tables.Fund = 2
 table_place table = 3
 
+-- The number of a list among all tables, from its number among the lists of its own table (own).
 abbrev pub list_in : Table → ℕ → ℕ
 list_in table number = 4 * number + table_place table
 
--- the lists of a table
+-- The member lists of a table, by number (own).
 abbrev pub lists_in : Table → KeptRolls → List Numbered
 lists_in table kept = (seated_in table kept).rolls
 
--- the first numbers beside them
+-- The first ids beside the lists of a table (own).
 abbrev pub firsts_at : Table → Lists → FirstLists
 firsts_at tables.Security lists = lists.securities
 firsts_at tables.Liability lists = lists.liabilities
 firsts_at tables.Fund lists = lists.funds
 firsts_at table lists = lists.groups
 
--- those beside the list of a roll, none where it has no number
+-- The first ids beside one list; empty if the list has no number (own).
 abbrev pub members_of : Roll → KeptRolls → Lists → List ℕ
 members_of roll kept lists = option_map_or (λ number. firsts_in number (firsts_at (table_of roll) lists)) (number_of_roll roll kept) []
 
--- the first number of the row of a name
+-- The first id of the row of a name (own).
 abbrev pub first_of : BalanceSheet → Ranges → Table → List ℕ → ℕ
 first_of sheet places table name = first places (ranges_of table) (position_or_len (same_name name) (names_in table sheet))
 
--- each row that may be a member has a range
+-- Each row of a table with lists has a range of ids (own).
 abbrev pub HaveRanges : BalanceSheet → Ranges → Type 0
 HaveRanges sheet places = (table : Table) → HasLists table → count places (ranges_of table) ≡ length (names_in table sheet)
 
--- Beside each list stand, place by place, the first numbers of its members' rows; each list has just the parts that its Blocks are; and the
--- slot of each part has a row of numbers. A slot that is free may have none, where memory for one was refused.
+-- Beside each list stand the first ids of its members, by position (own). Each list has exactly one part for each Block, and the
+-- slot of each part has a row of ids. A free slot may lack one, if memory for it was refused.
 pub record AreListsOf (book : RolledSheet) (places : Ranges) (lists : Lists) : Type 0 where
   pub firsts : (table : Table) → HasLists table → AreFirsts (first_of book.sheet places table) (lists_in table book.rolls) (firsts_at table lists)
   pub parts : (table : Table) → HasLists table → (number : ℕ) (level : Level)

@@ -1,4 +1,4 @@
--- Where the row of a record stands in the lists of its table, before the record and after it (this project's own).
+-- The seats of the row of a record before and after the record (own).
 use Rattle.std.specs.Prelude.{ℕ, List, Option, Some, None, if◌then◌else◌}
 use Rattle.std.specs.Option.{option_and_then, option_map}
 use Rattle.scr_numbers.specs.Ranges.{Numbered as Ranges}
@@ -14,16 +14,16 @@ use Rattle.scr_lists.specs.Lists.{first_of}
 use Rattle.scr_lists.specs.declared.standing.Move.{Move}
 use Rattle.scr_lists.specs.declared.standing.Stood.{Stood}
 
--- the seats of the row of a name, nowhere where there is none
+-- The seats of the row of a name; free ones if there is no such row (own).
 abbrev pub seats_in : Table → List ℕ → RolledSheet → Seats
 seats_in table name book =
     if is_in table name book.sheet then seats_of (names_in table book.sheet) (seated_in table book.rolls).seats name else free
 
--- its first number, if it is there
+-- The first id of the row of a name; `None` if there is no such row (own).
 abbrev pub first_in : Table → List ℕ → RolledSheet → Ranges → Option ℕ
 first_in table name book places = if is_in table name book.sheet then Some (first_of book.sheet places table name) else None
 
--- where the row of a record stands; of a record that moves no row in a list none
+-- Table, name, seats and first id of the row that a record is about; `None` if rows of its kind are in no list (own).
 abbrev pub stood_of : Edit → RolledSheet → Ranges → Option Stood
 stood_of edit book places = option_map (λ (table : Table). record {
   table = table;
@@ -32,7 +32,8 @@ stood_of edit book places = option_map (λ (table : Table). record {
   first = first_in table (edit_name edit) book places;
 }) (moves_in edit)
 
--- from where to where it moves. Its first number is that of the row that is there, or of the one that was; none where there is neither.
+-- The row's move from its seats `stood` to its present ones (own). Its first id is the present one, or the old one if the row is
+-- gone; `None` if it has neither.
 abbrev pub moved_from : RolledSheet → Ranges → Stood → Option Move
 moved_from book places stood = option_map (λ (first : ℕ). record {
   table = stood.table;
@@ -41,5 +42,6 @@ moved_from book places stood = option_map (λ (first : ℕ). record {
   first = first;
 }) (if is_in stood.table stood.name book.sheet then first_in stood.table stood.name book places else stood.first)
 
+-- The move of the row that was kept before the record; `None` if none was kept, or the row neither was nor is there (own).
 abbrev pub move_of : Option Stood → RolledSheet → Ranges → Option Move
 move_of stood book places = option_and_then (moved_from book places) stood

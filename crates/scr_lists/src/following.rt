@@ -1,4 +1,4 @@
-//! What stands beside the lists follows the row of a record.
+//! Keeps the index of member lists in step with the row of a record.
 ghost use Rattle.std.specs.Prelude.{◌≡◌, ◌≤◌, OnErr, OnOk};
 ghost use Rattle.scr_numbers.specs.Ranges.{count};
 ghost use Rattle.scr_numbers.specs.declared.table.Table.TheVariants as ranged;
@@ -16,8 +16,8 @@ use scr_parts::{Firsts, Parts};
 use std::alloc::{AllocError as NoMemory, Global};
 
 impl Lists {
-    /// The lists follow the row: its first number leaves those in which it stood, and stands in those in which it stands now, and parts
-    /// come and go with it. Where memory is refused all is as before, but that there may be more rows of parts.
+    /// Moves the row's first id from its old lists to its new ones, and adds and removes parts with it. `NoMemory` leaves all as
+    /// before, but for further rows of ids.
     pub fn follow(
         &mut self,
         alloc: Global,
@@ -41,7 +41,7 @@ impl Lists {
         }
     }
 
-    /// All is as it was before the row moved, each part with the slot that it had. It takes no memory.
+    /// Undoes `follow`, without memory: each part has its old slot again.
     pub fn take_back(&mut self, change: &Move)
         requires { (before : TheLists) × CanBeTakenBack change.now before self.old }
         ensures { (before : TheLists) → CanBeTakenBack change.now before self.old → AreStill before self.new }
@@ -57,7 +57,7 @@ impl Lists {
     }
 }
 
-// The lists of the row's table follow it.
+// Moves the row's first id in the lists of its table, and adds and removes their parts.
 fn follow(
     alloc: Global,
     firsts: &mut Firsts,
@@ -79,7 +79,7 @@ fn follow(
     Ok(())
 }
 
-// The lists of the row's table are as they were.
+// Undoes `follow` in the lists of the row's table.
 fn take_back(firsts: &mut Firsts, parts: &mut Parts, change: &Move)
     requires { (was : FirstLists) × (old : Parted) × CanTakeBack change.now was firsts.old old parts.old }
     ensures { (was : FirstLists) (old : Parted) → CanTakeBack change.now was firsts.old old parts.old → IsStill was firsts.new old parts.new }

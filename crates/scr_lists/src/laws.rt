@@ -1,5 +1,4 @@
-//! What holds of what stands beside the lists of a book, whatever a program does. Each law is a function that does nothing, whose contract
-//! is the law.
+//! Laws of the index of member lists, for proofs above to cite.
 ghost use Rattle.std.specs.Prelude.{◌≡◌, map};
 ghost use Rattle.scr_numbers.specs.Ranges.{Numbered as Ranges};
 ghost use Rattle.scr_sheet.specs.Members.{table_of};
@@ -9,7 +8,7 @@ ghost use Rattle.scr_book.specs.Rolls.{roll_of};
 ghost use Rattle.scr_lists.specs.Lists.{AreListsOf, first_of, members_of};
 ghost use Rattle.scr_lists.specs.declared.lists.Lists.{Lists};
 
-/// Beside a list stand the first numbers of its members' rows, place by place.
+/// Beside a list stand the first ids of its members' rows, position by position.
 pub fn members()
     ensures { (book : RolledSheet) (places : Ranges) (lists : Lists) → AreListsOf book places lists → (roll : Roll)
         → members_of roll book.rolls lists ≡ map (first_of book.sheet places (table_of roll)) (roll_of roll book.rolls) }

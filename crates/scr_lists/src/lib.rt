@@ -1,4 +1,5 @@
-//! The member lists of the large sums by number: the first numbers of their members, and the slots of the parts into which they fall.
+//! An index of the member lists: first ids of the members beside each list, and a slot for each part of it. It is built once, and
+//! then follows each record and its undo.
 #![tactic(auto)]
 
 mod following;

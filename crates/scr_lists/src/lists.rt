@@ -1,11 +1,11 @@
-//! What is kept beside the member lists.
+//! The index of member lists.
 ghost use Rattle.std.specs.Prelude.{◌≡◌};
 ghost use Rattle.scr_lists.specs.Lists.{firsts_at, members_of};
 
 use scr_book::{Book, Roll, Table};
 use scr_parts::{Firsts, Parts};
 
-/// Beside each member list the first numbers of its members' rows, place by place, and of each part of a list a slot.
+/// Beside each member list of a table the first ids of its members' rows, by position; and a slot for each part of each list.
 #[derive(Drop)]
 pub struct Lists {
     pub(crate) securities: Firsts,
@@ -16,7 +16,7 @@ pub struct Lists {
 }
 
 impl Lists {
-    /// The first numbers beside the lists of a table.
+    /// The first ids beside the lists of a table.
     pub fn of(&self, table: Table) -> &Firsts
         ensures { result.now ≡ firsts_at table self.now }
     {
@@ -28,14 +28,14 @@ impl Lists {
         }
     }
 
-    /// The parts of all lists, and their slots.
+    /// The parts of all lists and their slots.
     pub fn parts(&self) -> &Parts
         ensures { result.now ≡ self.now.parts }
     {
         &self.parts
     }
 
-    /// The first numbers of the rows of a list's members, in the order of their places.
+    /// The first ids of a list's members, in the order of their positions; empty if the list has no number.
     pub fn members(&self, book: &Book, roll: Roll) -> &[u32]
         ensures { result.now ≡ members_of roll book.now.rolls self.now }
     {

@@ -1,4 +1,4 @@
-//! What stands beside the lists of a book is made from nothing.
+//! Builds the index of a book's member lists.
 ghost use Rattle.std.specs.Prelude.{◌≡◌, ℕ, IfOk, List, length};
 ghost use Rattle.std.specs.List.{IsDistinct, position_or_len};
 ghost use Rattle.scr_names.specs.Names.{same_name};
@@ -18,14 +18,14 @@ use scr_parts::{Firsts, Parts};
 use scr_rolls::Seating;
 use std::alloc::{AllocError as NoMemory, Global};
 
-/// What stands beside the member lists of a book: the first numbers of their members, and their parts, which have their rows among those of
-/// all numbers.
+/// The index of a book's member lists: first ids beside the lists, and parts, whose ids are appended to `places`. `NoMemory` if it
+/// doesn't fit.
 pub fn lists_of(alloc: Global, book: &Book, places: &mut Places) -> Result<Lists, NoMemory>
     requires { HaveRanges book.now.sheet places.old }
     ensures ok { IfOk result (AreListsOf book.now places.new) }
     ensures more { HasMoreParts places.old places.new }
 {
-    // The sheet is valid, so no two rows of a table have one name.
+    // Brings the invariant into sight: the sheet is valid, so no two rows of a table share a name.
     let _sheet = book.sheet();
     let mut parts = Parts::new(alloc)?;
     let securities = listed(
@@ -45,7 +45,7 @@ pub fn lists_of(alloc: Global, book: &Book, places: &mut Places) -> Result<Lists
     let funds = listed(alloc, &mut parts, book.fund_seats(), places, Table::Fund)?;
     let groups = listed(alloc, &mut parts, book.group_seats(), places, Table::Group)?;
     number_parts(&parts, places)?;
-    // The slot of each part is one of those that there are.
+    // Brings the invariant into sight: each part's slot is below the number of slots.
     let _slots = parts.len();
     Ok(Lists {
         securities,
@@ -56,7 +56,7 @@ pub fn lists_of(alloc: Global, book: &Book, places: &mut Places) -> Result<Lists
     })
 }
 
-// The first numbers beside the lists of a table, whose parts come.
+// The first ids beside the lists of a table, whose parts are added.
 fn listed<const N: usize>(
     alloc: Global,
     parts: &mut Parts,

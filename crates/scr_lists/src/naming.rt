@@ -1,11 +1,11 @@
-//! The numbers of lists among those of all tables.
+//! Numbers of lists, across the four tables that have any.
 ghost use Rattle.std.specs.Prelude.{◌≡◌, ◌<◌, ◌≤◌, ◌^◌, IfSome, IsNone};
 ghost use Rattle.scr_lists.specs.Lists as spec;
 
 use scr_book::Table;
 use scr_numbers::Table as Ranged;
 
-/// The ranges of numbers of a table's rows.
+/// The table of id ranges for the rows of a table.
 pub(crate) fn ranges_of(table: Table) -> Ranged
     ensures { result ≡ spec.ranges_of table }
 {
@@ -17,7 +17,7 @@ pub(crate) fn ranges_of(table: Table) -> Ranged
     }
 }
 
-/// The number of a list among those of all tables; none where it is so great that it would not be a number of 32 bits.
+/// The number of a list among the lists of all tables; `None` if it is 2^31 or more.
 pub(crate) fn list_in(table: Table, number: u32) -> Option<u32>
     ensures there { IfSome result (λ list. list ≡ spec.list_in table number) }
     ensures absent { IsNone result → 2 ^ 31 ≤ spec.list_in table number }
@@ -40,7 +40,7 @@ fn table_place(table: Table) -> u32
     }
 }
 
-/// The table of the members of a list, and the list's number among those of that table.
+/// The table of a list's members, and the list's number among the lists of that table.
 pub fn list_of(list: u32) -> (Table, u32)
     ensures number { spec.list_in result.0 result.1 ≡ list }
     ensures table { spec.HasLists result.0 }

@@ -1,4 +1,4 @@
-//! Parts come with the members of the lists.
+//! Adds and removes the parts of lists with their members.
 ghost use Rattle.std.specs.Prelude.{◌≡◌, ◌≤◌, ℕ, OnErr, OnOk};
 ghost use Rattle.scr_blocks.specs.declared.blocks.Level.{Level as TheLevel};
 ghost use Rattle.scr_numbers.specs.Ranges.{count};
@@ -17,8 +17,8 @@ use scr_parts::{Firsts, Parts};
 use scr_rolls::{NOWHERE, SEATS, Seats};
 use std::alloc::{AllocError as NoMemory, Global};
 
-/// The parts of a list with so many members come, as many as it has Blocks. A list of a number that is too great is refused as if for want
-/// of memory.
+/// Adds the parts that a list lacks for `members` members. `NoMemory` if memory is refused or the list's number is 2^31 or more;
+/// its parts stay as they were.
 pub(crate) fn grow(
     alloc: Global,
     parts: &mut Parts,
@@ -32,7 +32,7 @@ pub(crate) fn grow(
     ensures others { KeepsOthers (spec.list_in table number) parts.old parts.new }
     ensures kept { KeepsParts parts.old parts.new }
 {
-    // No list beyond a number has parts.
+    // Brings the invariant into sight: no list with a number of 2^31 or more has parts.
     let _slots = parts.len();
     match list_in(table, number) {
         Some(list) => parts.grow(alloc, list, members),
@@ -41,7 +41,7 @@ pub(crate) fn grow(
     }
 }
 
-/// The parts of all lists of a table come.
+/// Adds the parts that the lists of a table lack for their members.
 pub(crate) fn grow_all(
     alloc: Global,
     parts: &mut Parts,
@@ -60,7 +60,7 @@ pub(crate) fn grow_all(
     Ok(())
 }
 
-/// The parts that a list of so many members has no more go. It takes no memory.
+/// Removes the parts that a list does not need for `members` members. It needs no memory.
 pub(crate) fn shrink(parts: &mut Parts, table: Table, number: u32, members: usize)
     ensures cut { IsCut (spec.list_in table number) members parts.old parts.new }
     ensures others { KeepsOthers (spec.list_in table number) parts.old parts.new }
@@ -69,14 +69,14 @@ pub(crate) fn shrink(parts: &mut Parts, table: Table, number: u32, members: usiz
     ensures size { size_of parts.new ≡ size_of parts.old }
     ensures lost { HasLost (spec.list_in table number) parts.old parts.new }
 {
-    // No list beyond a number has parts.
+    // Brings the invariant into sight: no list with a number of 2^31 or more has parts.
     let _slots = parts.len();
     if let Some(list) = list_in(table, number) {
         parts.shrink(list, members);
     }
 }
 
-/// The lists in which a row with these seats stands have no more parts than Blocks. It takes no memory.
+/// Removes the parts that the lists of these seats do not need for their members. It needs no memory.
 pub(crate) fn cut(parts: &mut Parts, table: Table, firsts: &Firsts, at: &Seats)
     requires { (seat_of : ℕ → ℕ) × AreSeatsOf seat_of at.now }
     ensures cut { AreCut table firsts.now at.now 11 parts.old parts.new }
@@ -93,21 +93,21 @@ pub(crate) fn cut(parts: &mut Parts, table: Table, firsts: &Firsts, at: &Seats)
     }
 }
 
-/// The parts of a list that has so many members again come back, each with the slot that it had. It takes no memory.
+/// Adds the parts back that a list of `members` members had, each with its old slot. It needs no memory.
 pub(crate) fn regain(parts: &mut Parts, table: Table, number: u32, members: usize)
     requires { (before : Parted) × CanRegain (spec.list_in table number) members before parts.old }
     ensures slots { (before : Parted) → CanRegain (spec.list_in table number) members before parts.old → AreSameSlots before parts.new }
     ensures room { KeepsRoom parts.old parts.new }
     ensures size { size_of parts.new ≡ size_of parts.old }
 {
-    // No list beyond a number has parts.
+    // Brings the invariant into sight: no list with a number of 2^31 or more has parts.
     let _slots = parts.len();
     if let Some(list) = list_in(table, number) {
         parts.grow_back(list, members);
     }
 }
 
-/// The parts of the lists in which a row with these seats stands again come back, each with the slot that it had. It takes no memory.
+/// Adds the parts back that the lists of these seats had, each with its old slot. It needs no memory.
 pub(crate) fn regain_all(parts: &mut Parts, table: Table, firsts: &Firsts, at: &Seats)
     requires { (before : Parted) × CanRegainAll table firsts.now at.now before parts.old }
     ensures slots { (before : Parted) → CanRegainAll table firsts.now at.now before parts.old → AreSameSlots before parts.new }
@@ -121,7 +121,7 @@ pub(crate) fn regain_all(parts: &mut Parts, table: Table, firsts: &Firsts, at: &
     }
 }
 
-/// Parts for a member more come to each list to which a row comes. Where memory is refused, each list has the parts that it had.
+/// Adds the parts for one further member to each list that the row joins. `NoMemory` leaves each list the parts that it had.
 pub(crate) fn extend(
     alloc: Global,
     parts: &mut Parts,
@@ -144,7 +144,7 @@ pub(crate) fn extend(
     extended
 }
 
-// The lists have their parts, seat by seat, and then these have numbers.
+// Adds the parts seat by seat, and then rows of ids for new slots.
 fn extend_all(
     alloc: Global,
     parts: &mut Parts,
@@ -169,7 +169,7 @@ fn extend_all(
     number_parts(parts, places)
 }
 
-/// Each slot has a row of numbers. There are no more rows than there were, or than there are slots.
+/// Appends rows of ids until each slot has one.
 pub(crate) fn number_parts(parts: &Parts, places: &mut Places) -> Result<(), NoMemory>
     ensures ok { OnOk result (size_of parts.now ≤ count places.new ranged.Part) }
     ensures more { HasMoreParts places.old places.new }

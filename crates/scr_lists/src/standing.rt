@@ -1,4 +1,4 @@
-//! Where the row of a record stands in the member lists, before the record and after it.
+//! The seats of the row of a record, before the record and after it.
 ghost use Rattle.std.specs.Prelude.{◌≡◌, ℕ, IfSome, None, Some, if◌then◌else◌, length, map};
 ghost use Rattle.std.specs.List.{position_or_len};
 ghost use Rattle.std.specs.Option.{option_map};
@@ -16,7 +16,7 @@ use scr_names::{Row, Rows};
 use scr_numbers::{Places, Table as Ranged};
 use scr_rolls::{Seating, Seats};
 
-/// Where the row of a record stood, with its first number if it was there.
+/// The row of a record before it: its table, name and seats, and its first id if it was there.
 #[derive(Clone, Copy)]
 pub struct Stood {
     table: Table,
@@ -25,7 +25,7 @@ pub struct Stood {
     first: Option<u32>,
 }
 
-/// What a record does to the row of which it is: where the row stood, where it stands, and its first number.
+/// The move of a row through member lists by one record: the seats before and after, and the row's first id.
 #[derive(Clone, Copy)]
 pub struct Move {
     pub(crate) table: Table,
@@ -34,7 +34,7 @@ pub struct Move {
     pub(crate) first: u32,
 }
 
-/// Where the row of the record stands before it; of a record that moves no row in a list none.
+/// The row of the record before it is applied; `None` if rows of its kind are in no list.
 pub fn stood_of(book: &Book, places: &Places, edit: &Edit) -> Option<Stood>
     requires { HaveRanges book.now.sheet places.now }
     ensures { result ≡ spec.stood_of edit.now book.now places.now }
@@ -49,7 +49,7 @@ pub fn stood_of(book: &Book, places: &Places, edit: &Edit) -> Option<Stood>
     })
 }
 
-/// What the record, which the book has taken, does to the row in the lists; none where the row neither was there nor is.
+/// The move of the row by the record, which the book has applied; `None` if the row neither was nor is there.
 pub fn move_of(book: &Book, places: &Places, stood: &Option<Stood>) -> Option<Move>
     requires ranges { HaveRanges book.now.sheet places.now }
     requires table { IfSome stood.now (λ stood. HasLists stood.table) }
@@ -69,7 +69,7 @@ pub fn move_of(book: &Book, places: &Places, stood: &Option<Stood>) -> Option<Mo
     })
 }
 
-// The seats of the row of a name, and its first number if it is there.
+// The seats of the row of a name, and its first id if it is there.
 fn row_of(book: &Book, places: &Places, table: Table, name: &Name) -> (Seats, Option<u32>)
     requires ranges { HaveRanges book.now.sheet places.now }
     requires table { HasLists table }
@@ -125,7 +125,7 @@ fn row_at<R: Row, const N: usize>(
     }
 }
 
-// The row that the record makes, replaces, changes or drops, where it can be a member of a list.
+// Table and name of the row that the record is about; `None` if rows of its kind are in no list.
 fn moving_row(edit: &Edit) -> Option<(Table, Name)>
     ensures row { result ≡ option_map (λ table. (table, edit_name edit.now)) (moves_in edit.now) }
     ensures table { IfSome result (λ row. HasLists row.0) }
@@ -142,7 +142,7 @@ fn moving_row(edit: &Edit) -> Option<(Table, Name)>
     }
 }
 
-// Rows of the table may be members of lists.
+// Whether rows of the table are members of lists.
 fn has_lists(table: Table) -> bool
     ensures { result ≡ same_table table table }
 {

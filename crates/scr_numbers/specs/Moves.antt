@@ -1,30 +1,30 @@
--- What rows that come and go change of the numbers (this project's own): no row has other numbers than before.
+-- How the ranges of a table change when rows come and go (own): no other row changes its ids.
 use Rattle.std.specs.Prelude.{◌≡◌, ℕ, ◌+◌, ◌<◌, ◌≤◌, false, if◌then◌else◌, max, nat_lt}
 use Rattle.scr_numbers.specs.Ranges.{Numbered, count, made, first, stride, same_table}
 use Rattle.scr_numbers.specs.declared.table.Table.{Table}
 use Rattle.scr_numbers.specs.declared.table.Table.TheVariants as tables
 
--- what stood at place `low` stands at place `high` now, and what stood between them one place lower
+-- The entry at `low` moved to `high`, and the index of each entry between them fell by one (own).
 pub record Sunk (low high : ℕ) (was now : ℕ → ℕ) : Type 0 where
   pub below : (m : ℕ) → m < low → now m ≡ was m
   pub between : (m : ℕ) → low ≤ m → m < high → now m ≡ was (m + 1)
   pub moved : now high ≡ was low
   pub above : (m : ℕ) → high < m → now m ≡ was m
 
--- what stood at place `high` stands at place `low` now, and what stood between them one place higher
+-- The entry at `high` moved to `low`, and the index of each entry between them rose by one (own).
 pub record Risen (low high : ℕ) (was now : ℕ → ℕ) : Type 0 where
   pub below : (m : ℕ) → m < low → now m ≡ was m
   pub between : (m : ℕ) → low ≤ m → m < high → now (m + 1) ≡ was m
   pub moved : now low ≡ was high
   pub above : (m : ℕ) → high < m → now m ≡ was m
 
--- every other table has the ranges that it had
+-- Every other table keeps its rows and ranges (own).
 pub record IsSameBut (table : Table) (before now : Numbered) : Type 0 where
   pub counts : (other : Table) → same_table table other ≡ false → count now other ≡ count before other
   pub ranges : (other : Table) → same_table table other ≡ false → made now other ≡ made before other
   pub firsts : (other : Table) → same_table table other ≡ false → (k : ℕ) → first now other k ≡ first before other k
 
--- the whole sheet has the first numbers, and no table has a row
+-- The whole sheet has the ids from 0 on, as one row; no other table has a row or range (own).
 pub record IsNew (places : Numbered) : Type 0 where
   pub size : places.size ≡ stride tables.Whole
   pub counts : (table : Table) → same_table tables.Whole table ≡ false → count places table ≡ 0
@@ -33,7 +33,7 @@ pub record IsNew (places : Numbered) : Type 0 where
   pub whole_ranges : made places tables.Whole ≡ 1
   pub whole_first : first places tables.Whole 0 ≡ 0
 
--- a row came, last in its table, and took the first free range, or a new one where none is free
+-- A row was appended to a table, with the first free range, or a new one if none was free (own).
 pub record Came (table : Table) (before now : Numbered) : Type 0 where
   pub others : IsSameBut table before now
   pub within : count before table ≤ made before table
@@ -43,7 +43,7 @@ pub record Came (table : Table) (before now : Numbered) : Type 0 where
   pub size : now.size
       ≡ (if nat_lt (count before table) (made before table) then before.size else before.size + stride table)
 
--- the row at place `k` went, and its range is the first of those that are free
+-- Row `k` was removed, and its range is the first free one (own). The indexes of later rows fell by one.
 pub record Went (table : Table) (k : ℕ) (before now : Numbered) : Type 0 where
   pub others : IsSameBut table before now
   pub within : count before table ≤ made before table
@@ -52,7 +52,7 @@ pub record Went (table : Table) (k : ℕ) (before now : Numbered) : Type 0 where
   pub firsts : Sunk k (count now table) (first before table) (first now table)
   pub size : now.size ≡ before.size
 
--- the last row went
+-- The last row was removed, and its range is the first free one (own).
 pub record Retired (table : Table) (before now : Numbered) : Type 0 where
   pub others : IsSameBut table before now
   pub one_less : count now table + 1 ≡ count before table
@@ -60,7 +60,7 @@ pub record Retired (table : Table) (before now : Numbered) : Type 0 where
   pub firsts : (k : ℕ) → first now table k ≡ first before table k
   pub size : now.size ≡ before.size
 
--- a row stands at place `k` with the first free range
+-- A row was inserted as row `k` with the first free range (own). The indexes of later rows rose by one.
 pub record PutBack (table : Table) (k : ℕ) (before now : Numbered) : Type 0 where
   pub others : IsSameBut table before now
   pub one_more : count now table ≡ count before table + 1
@@ -68,12 +68,12 @@ pub record PutBack (table : Table) (k : ℕ) (before now : Numbered) : Type 0 wh
   pub firsts : Risen k (count before table) (first before table) (first now table)
   pub size : now.size ≡ before.size
 
--- every row has the numbers that it had
+-- Every row has the ids that it had (own).
 pub record IsAsBefore (before now : Numbered) : Type 0 where
   pub counts : (table : Table) → count now table ≡ count before table
   pub firsts : (table : Table) (k : ℕ) → k < count before table → first now table k ≡ first before table k
 
--- and what is free is so as it was
+-- Every row has the ids that it had, and the free ranges are in their old order (own).
 pub record IsWholeAsBefore (before now : Numbered) : Type 0 where
   pub counts : (table : Table) → count now table ≡ count before table
   pub ranges : (table : Table) → made now table ≡ made before table

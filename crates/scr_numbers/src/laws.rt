@@ -1,4 +1,4 @@
-//! What holds of numbers, whatever a program does. Each law is a function that does nothing, whose contract is the law.
+//! Laws of ids, for proofs above to cite.
 ghost use Rattle.std.specs.Prelude.{ℕ, ◌<◌};
 ghost use Rattle.scr_numbers.specs.Ranges.{Numbered, count};
 ghost use Rattle.scr_numbers.specs.Moves.{Came, IsAsBefore, IsWholeAsBefore, PutBack, Retired, Went};
@@ -6,8 +6,8 @@ ghost use Rattle.scr_numbers.specs.declared.table.Table.{Table};
 
 use crate::{Place, Places, Table};
 
-/// A row that came and was let go at once leaves all rows as they were, and so does one that went and was put back at its place,
-/// which leaves what is free as it was, too.
+/// Appending a row and dropping it leaves every row its ids. So does removing a row and putting it back at its index, which
+/// restores the free ranges too.
 pub fn moves_back()
     ensures came { (table : Table) (before between after : Numbered) → Came table before between → Retired table between after
         → IsAsBefore before after }
@@ -15,7 +15,7 @@ pub fn moves_back()
         → PutBack table k between after → IsWholeAsBefore before after }
 {}
 
-/// Numbers may be handed to other threads, and be read by several at once.
+/// Ids may be shared between threads and sent to them.
 pub fn sharing() {
     shared::<Places>();
     shared::<Place>();

@@ -1,5 +1,5 @@
-//! Numbers for the rows of tables: each row has a range of its own, as long as its table asks, which it keeps while it stands,
-//! wherever the row moves in its table. What the rows are, and what the numbers of a range stand for, is no matter of this crate.
+//! Ids for the rows of tables. Each row has a range of ids, as long as its table asks. It keeps the range while it exists,
+//! wherever it moves in its table. What a row is, and what each id of a range stands for, is not known here.
 #![tactic(auto)]
 
 pub mod laws;

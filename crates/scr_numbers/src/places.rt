@@ -1,4 +1,4 @@
-//! The numbers of all rows.
+//! The ids of all rows.
 ghost use Rattle.std.specs.Prelude.{◌≡◌, ℕ, ◌+◌, ◌<◌, ◌≤◌, ◌^◌, ◌++◌, ◌∷◌, [], length, IfOk, OnOk, OnErr, IfSome, IsNone, slice_index, slice_set};
 ghost use Rattle.std.specs.Vec.{vec_capacity, vec_len};
 ghost use Rattle.scr_numbers.specs.Ranges.{IsApart, IsAt, IsWithin, no_ranges, count, first, first_in, made, roll_at, stride};
@@ -12,13 +12,13 @@ use crate::table::Table;
 use std::alloc::{AllocError as NoMemory, Global};
 use std::marker::Model;
 
-/// For so many runs there is room at first: the rows of each table come one behind another, and so do the parts of lists.
+/// The number of runs with room at first: rows of a table mostly come one behind another, and so do parts of lists.
 const RUNS: usize = 16;
 
-/// How many tables there are.
+/// The number of tables.
 const TABLES: usize = 7;
 
-/// From a range on, and from its first number on, all ranges are of one table and lie one behind another, until the next run begins.
+/// A run of ranges, from range `id` and its first id on. Ranges of one table lie one behind another until the next run begins.
 #[derive(Clone, Copy)]
 pub(crate) struct Run {
     table: Table,
@@ -26,7 +26,7 @@ pub(crate) struct Run {
     id: u32,
 }
 
-/// The range of a number, the table of the range, and the place of the number in it.
+/// The range of an id, by its index, its table, and the id's place in it.
 #[derive(Clone, Copy)]
 pub(crate) struct Owner {
     table: Table,
@@ -34,7 +34,7 @@ pub(crate) struct Owner {
     family: u32,
 }
 
-/// What a number stands for: the table, the place of the row in it, and the place of the number in the row's range.
+/// What an id stands for: the table, the row's index in it, and the place of the id in the row's range, both from 0.
 #[derive(Clone, Copy, PartialEq, Eq)]
 pub struct Place {
     pub table: Table,
@@ -42,14 +42,14 @@ pub struct Place {
     pub family: u32,
 }
 
-/// The numbers of all rows of all tables. Contracts see the number below which all are (`size`), of each table how many rows it
-/// has (`count`) and how many ranges (`made`), and the first number of each range (`first`). Numbers are never given up: a row
-/// that comes takes the range that went last.
+/// The ids of all rows of all tables. Contracts see the bound of all ids (`size`). They see each table's number of rows (`count`)
+/// and of ranges (`made`), and each range's first id (`first`). Ids are never given up: a new row takes the range that was freed
+/// last.
 #[derive(Drop)]
 pub struct Places {
     rolls: Vec<Roll>,
     runs: Vec<Run>,
-    /// Of each range the place in its table.
+    /// For each range its position in its table.
     places: Vec<u32>,
     size: u32,
 }
@@ -67,14 +67,14 @@ impl Model for Places {
 }
 
 impl Places {
-    /// The first numbers are of the whole sheet, and no table has a row.
+    /// The ids of the whole sheet, and no row in any other table; `NoMemory` if they don't fit.
     pub fn new(alloc: Global) -> Result<Places, NoMemory>
         ensures { IfOk result IsNew }
     {
         Places::with_room(alloc, 0)
     }
 
-    /// The same, with room for so many ranges.
+    /// The ids of the whole sheet alone, with room for `ranges` ranges; `NoMemory` if they don't fit.
     pub fn with_room(alloc: Global, ranges: usize) -> Result<Places, NoMemory>
         ensures { IfOk result IsNew }
     {
@@ -92,7 +92,7 @@ impl Places {
         Ok(numbers)
     }
 
-    /// The number below which all are.
+    /// The bound of all ids: each is below it.
     pub fn len(&self) -> u32
         ensures size { result ≡ self.now.size }
         ensures within { IsWithin self.now }
@@ -101,7 +101,7 @@ impl Places {
         self.size
     }
 
-    /// How many rows a table has.
+    /// The number of rows of a table.
     pub fn count(&self, table: Table) -> usize
         ensures count { result ≡ count self.now table }
         ensures within { count self.now table ≤ made self.now table }
@@ -109,7 +109,7 @@ impl Places {
         roll_of(&self.rolls, table).live()
     }
 
-    /// The first number of a row.
+    /// The first id of row `k` of a table.
     pub fn first(&self, table: Table, k: usize) -> u32
         requires { k < count self.now table }
         ensures first { result ≡ first self.now table k }
@@ -118,7 +118,7 @@ impl Places {
         roll_of(&self.rolls, table).first(k)
     }
 
-    /// The first numbers of all rows of a table, in their order.
+    /// The first ids of all rows of a table, in row order.
     pub fn firsts(&self, table: Table) -> &[u32]
         ensures count { length result.now ≡ count self.now table }
         ensures each { (k : ℕ) → k < count self.now table → slice_index result.now k ≡ first self.now table k }
@@ -129,7 +129,7 @@ impl Places {
         &roll.firsts()[..live]
     }
 
-    /// What a number stands for, if it is that of a row.
+    /// The row and place that an id stands for; `None` if it is of no row.
     pub fn at(&self, number: u32) -> Option<Place>
         ensures there { IfSome result (λ p. IsAt self.now p.table p.row p.family number) }
         ensures absent { IsNone result → (table : Table) (k j : ℕ) → IsAt self.now table k j number → ⊥ }
@@ -149,8 +149,8 @@ impl Places {
         })
     }
 
-    /// A row comes, last in its table, with numbers that no row has. Where memory is refused all is as before; a number of 2^32 or
-    /// more is refused as if for want of memory.
+    /// Appends a row to a table, with a free range or new ids. `NoMemory` if memory is refused or ids would exceed 32 bits; all
+    /// stays as it was.
     pub fn come(&mut self, table: Table) -> Result<(), NoMemory>
         ensures ok { OnOk result (Came table self.old self.new) }
         ensures err { OnErr result (self.new ≡ self.old) }
@@ -162,7 +162,7 @@ impl Places {
         Ok(())
     }
 
-    /// The row at a place goes, and those after it move up. Every other row keeps its numbers. It takes no memory.
+    /// Removes row `k` of a table. The indexes of later rows fall by one. Every other row keeps its ids. It needs no memory.
     pub fn go(&mut self, table: Table, k: usize)
         requires { k < count self.old table }
         ensures { Went table k self.old self.new }
@@ -174,8 +174,8 @@ impl Places {
         self.retire(table);
     }
 
-    /// A row stands at a place with the range that went last, and those from there on move down. Every other row keeps its numbers.
-    /// It takes no memory.
+    /// Inserts a row as row `k` of a table, with the range that was freed last. The indexes of later rows rise by one. Every other
+    /// row keeps its ids. It needs no memory.
     pub fn put_back(&mut self, table: Table, k: usize)
         requires place { k ≤ count self.old table }
         requires free { count self.old table < made self.old table }
@@ -188,7 +188,7 @@ impl Places {
         }
     }
 
-    /// The last row of a table goes. It takes no memory.
+    /// Removes the last row of a table. It needs no memory.
     pub fn retire(&mut self, table: Table)
         requires { 0 < count self.old table }
         ensures { Retired table self.old self.new }
@@ -197,7 +197,7 @@ impl Places {
         set_live(&mut self.rolls, table, live);
     }
 
-    /// A row comes, last in its table, with the range that went last. It takes no memory.
+    /// Appends a row to a table with the range that was freed last.
     fn revive(&mut self, table: Table)
         requires { count self.old table < made self.old table }
         ensures { Revived table self.old self.new }
@@ -206,14 +206,14 @@ impl Places {
         set_live(&mut self.rolls, table, live);
     }
 
-    /// How many ranges a table has.
+    /// The number of ranges of a table, free ones included.
     fn made(&self, table: Table) -> usize
         ensures { result ≡ made self.now table }
     {
         roll_of(&self.rolls, table).len()
     }
 
-    /// The ranges of two neighbours change places.
+    /// Swaps the ranges at positions `k` and `k` + 1 of a table.
     fn exchange(&mut self, table: Table, k: usize)
         requires { k + 1 < made self.old table }
         ensures { Sinking table k (k + 1) self.old self.new }
@@ -226,7 +226,7 @@ impl Places {
         move_range(&mut self.places, high.id, k as u32);
     }
 
-    /// One more free range, of numbers that no range has.
+    /// Adds a free range of new ids to a table.
     fn make(&mut self, table: Table) -> Result<(), NoMemory>
         ensures ok { OnOk result (Made table self.old self.new) }
         ensures err { OnErr result (self.new ≡ self.old) }
@@ -252,7 +252,7 @@ impl Places {
     }
 }
 
-/// The rolls of all tables, without a range.
+/// The tables, none with a range.
 fn no_rolls(alloc: Global) -> Result<Vec<Roll>, NoMemory>
     ensures tables { IfOk result (λ rolls. length rolls.items ≡ 7) }
     ensures empty { IfOk result (λ rolls. (table : Table) → roll_at rolls.items table ≡ no_ranges) }
@@ -264,7 +264,7 @@ fn no_rolls(alloc: Global) -> Result<Vec<Roll>, NoMemory>
     Ok(rolls)
 }
 
-/// The roll of a table.
+/// The ranges of a table.
 fn roll_of(rolls: &[Roll], table: Table) -> &Roll
     requires { length rolls.now ≡ 7 }
     ensures { result.now ≡ roll_at rolls.now table }
@@ -272,7 +272,7 @@ fn roll_of(rolls: &[Roll], table: Table) -> &Roll
     &rolls[table.number()]
 }
 
-/// Says how many ranges of a table are of rows.
+/// Sets the number of rows of a table.
 fn set_live(rolls: &mut Vec<Roll>, table: Table, live: usize)
     requires { length rolls.old.items ≡ 7 }
     ensures others { IsRollsBut table rolls.old.items rolls.new.items }
@@ -282,7 +282,7 @@ fn set_live(rolls: &mut Vec<Roll>, table: Table, live: usize)
     rolls[table.number()].set_live(live);
 }
 
-/// One more free range of a table.
+/// Adds a free range to a table.
 fn push_first(rolls: &mut Vec<Roll>, table: Table, first: u32) -> Result<(), NoMemory>
     requires { length rolls.old.items ≡ 7 }
     ensures others { IsRollsBut table rolls.old.items rolls.new.items }
@@ -293,7 +293,7 @@ fn push_first(rolls: &mut Vec<Roll>, table: Table, first: u32) -> Result<(), NoM
     rolls[table.number()].push(first)
 }
 
-/// The ranges of two neighbours of a table change places.
+/// Swaps the ranges at positions `k` and `k` + 1 of a table.
 fn exchange_rolls(rolls: &mut Vec<Roll>, table: Table, k: usize)
     requires tables { length rolls.old.items ≡ 7 }
     requires place { k + 1 < length (roll_at rolls.old.items table).firsts }
@@ -306,7 +306,7 @@ fn exchange_rolls(rolls: &mut Vec<Roll>, table: Table, k: usize)
     rolls[table.number()].exchange(k);
 }
 
-/// Says at which place of its table a range stands.
+/// Sets the position of a range in its table.
 fn move_range(places: &mut Vec<u32>, id: usize, place: u32)
     requires { id < length places.old.items }
     ensures { places.new.items ≡ slice_set places.old.items id place }
@@ -314,7 +314,7 @@ fn move_range(places: &mut Vec<u32>, id: usize, place: u32)
     places[id] = place;
 }
 
-/// The run of the whole sheet, which has the first range and the first numbers.
+/// The run of the whole sheet alone.
 fn first_runs(alloc: Global) -> Result<Vec<Run>, NoMemory>
     ensures { IfOk result (λ runs. runs.items ≡ first_run ∷ []) }
 {
@@ -327,7 +327,7 @@ fn first_runs(alloc: Global) -> Result<Vec<Run>, NoMemory>
     Ok(runs)
 }
 
-/// A run begins, unless the last one is of the same table and goes on. There is room for it.
+/// Adds a run, unless the last one is of its table and goes on. Room is reserved.
 fn begin_run(runs: &mut Vec<Run>, run: Run)
     requires some { 0 < length runs.old.items }
     requires room { vec_len runs.old < vec_capacity runs.old }
@@ -340,7 +340,7 @@ fn begin_run(runs: &mut Vec<Run>, run: Run)
     }
 }
 
-/// The range of a number, found from the run that has the number.
+/// The range of an id, and the id's place in it.
 fn owner_of(runs: &[Run], number: u32) -> Owner
     requires { AreInTurn runs.now }
     ensures { IsOwner runs.now number result }
@@ -354,7 +354,7 @@ fn owner_of(runs: &[Run], number: u32) -> Owner
     }
 }
 
-/// The last run whose numbers begin at a number or below it, where those of the first do: found by halves.
+/// The last run that begins at the id or before it, by binary search.
 fn run_of(runs: &[Run], number: u32) -> usize
     requires some { 0 < length runs.now }
     requires first { (run_at runs.now 0).first ≤ number }

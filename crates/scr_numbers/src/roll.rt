@@ -6,8 +6,8 @@ ghost use Rattle.scr_numbers.specs.Moves.{Sunk};
 use std::alloc::{AllocError as NoMemory, Global};
 use std::marker::Model;
 
-/// The first numbers of a table's ranges: those of its rows in their order, then those that are free. Contracts see the list and
-/// how many are of rows.
+/// The first ids of a table's ranges: the ranges of its rows in row order, then the free ones. Contracts see the list and the
+/// number of rows.
 #[derive(Drop)]
 pub(crate) struct Roll {
     firsts: Vec<u32>,
@@ -23,7 +23,7 @@ impl Model for Roll {
 }
 
 impl Roll {
-    /// No range.
+    /// A table without ranges.
     pub(crate) fn new(alloc: Global) -> Roll
         ensures firsts { result.firsts ≡ [] }
         ensures live { result.live ≡ 0 }
@@ -34,21 +34,21 @@ impl Roll {
         }
     }
 
-    /// How many rows there are.
+    /// The number of rows.
     pub(crate) fn live(&self) -> usize
         ensures { result ≡ self.now.live }
     {
         self.live
     }
 
-    /// How many ranges there are.
+    /// The number of ranges, free ones included.
     pub(crate) fn len(&self) -> usize
         ensures { result ≡ length self.now.firsts }
     {
         self.firsts.as_slice().len()
     }
 
-    /// The first number of the range at a place.
+    /// The first id of the range at position `k`.
     pub(crate) fn first(&self, k: usize) -> u32
         requires { k < length self.now.firsts }
         ensures { result ≡ first_in self.now.firsts k }
@@ -56,14 +56,14 @@ impl Roll {
         self.firsts.as_slice()[k]
     }
 
-    /// The first numbers of all ranges.
+    /// The first ids of all ranges.
     pub(crate) fn firsts(&self) -> &[u32]
         ensures { result.now ≡ self.now.firsts }
     {
         self.firsts.as_slice()
     }
 
-    /// Says how many ranges are of rows.
+    /// Sets the number of rows.
     pub(crate) fn set_live(&mut self, live: usize)
         ensures firsts { self.new.firsts ≡ self.old.firsts }
         ensures live { self.new.live ≡ live }
@@ -71,7 +71,7 @@ impl Roll {
         self.live = live;
     }
 
-    /// One more free range.
+    /// Adds a free range; `NoMemory` leaves all as it was.
     pub(crate) fn push(&mut self, first: u32) -> Result<(), NoMemory>
         ensures ok { OnOk result (self.new.firsts ≡ self.old.firsts ++ first ∷ []) }
         ensures live { self.new.live ≡ self.old.live }
@@ -81,7 +81,7 @@ impl Roll {
         Ok(())
     }
 
-    /// The ranges at a place and at the next change places.
+    /// Swaps the ranges at positions `k` and `k` + 1.
     pub(crate) fn exchange(&mut self, k: usize)
         requires { k + 1 < length self.old.firsts }
         ensures moved { Sunk k (k + 1) (first_in self.old.firsts) (first_in self.new.firsts) }

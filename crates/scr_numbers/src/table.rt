@@ -1,9 +1,9 @@
-//! The tables whose rows have numbers.
+//! The tables whose rows have ids.
 ghost use Rattle.std.specs.Prelude.{◌≡◌, ◌<◌, ◌/◌, ◌%◌};
 ghost use Rattle.scr_numbers.specs.Ranges.{number_of, stride};
 
-/// A table whose rows have numbers; or the whole sheet, which is numbered as a table of one row; or the parts of the member lists of
-/// sums, of which each has one number for each sum that runs over its list.
+/// A table whose rows have ids. The whole sheet counts as a table of one row. The parts of member lists are rows too, with one id
+/// for each sum over the list.
 #[derive(Clone, Copy, PartialEq, Eq)]
 pub enum Table {
     Whole,
@@ -16,7 +16,7 @@ pub enum Table {
 }
 
 impl Table {
-    /// How many numbers a row of the table has: one for each figure that may be reckoned of it.
+    /// The number of ids of a row of the table: one for each figure that it may have.
     pub fn stride(self) -> u32
         ensures { result ≡ stride self }
     {
@@ -31,8 +31,8 @@ impl Table {
         }
     }
 
-    /// In how many rows so many numbers are used up, and how many are left of them. Each divisor is known to the compiler, which
-    /// then divides by a product.
+    /// The number of whole rows in `numbers` ids, and the ids that are left. Each divisor is a constant, so the compiler divides
+    /// by a product.
     pub(crate) fn split(self, numbers: u32) -> (u32, u32)
         ensures rows { result.0 ≡ numbers / stride self }
         ensures rest { result.1 ≡ numbers % stride self }
@@ -47,7 +47,7 @@ impl Table {
         }
     }
 
-    /// The place of the table's roll among the rolls.
+    /// The index of the table among the seven, from 0.
     pub(crate) fn number(self) -> usize
         ensures number { result ≡ number_of self }
         ensures few { number_of self < 7 }

@@ -1,15 +1,16 @@
--- The first numbers beside the lists of a table, made at once (this project's own): row by row, and in a row seat by seat.
+-- First ids beside the member lists of a table, filled in one pass over the rows and their seats (own).
 use Rattle.std.specs.Prelude.{◌≡◌, ◌≢◌, ℕ, ◌+◌, ◌<◌, ◌≤◌, List, length, map, max}
 use Rattle.scr_rolls.specs.Seatings.{NOWHERE, names_of, place_in, roll_in}
 use Rattle.scr_rolls.specs.declared.seating.Numbered.{Numbered}
 use Rattle.scr_rolls.specs.declared.seats.Seats.{Seats}
 use Rattle.scr_parts.specs.Firsts.{FirstLists, first_at, firsts_in}
 
--- beside each list stand, place by place, the first numbers of its members' rows
+-- Beside each member list stand the first ids of its members' rows, position by position (own).
 abbrev pub AreFirsts : (List ℕ → ℕ) → List Numbered → FirstLists → Type 0
 AreFirsts first_of rolls firsts = (list : ℕ) → firsts_in list firsts ≡ map first_of (names_of list rolls)
 
--- the number stands at a place of a list, which is as long as that takes; all else is as it was
+-- A first id was written at a position of a list (own). The list is extended to that position if it was shorter, with 0 in
+-- between; nothing else changes.
 pub record IsWritten (list place number : ℕ) (before now : FirstLists) : Type 0 where
   pub inside : place < length (firsts_in list now)
   pub is : first_at place (firsts_in list now) ≡ number
@@ -18,7 +19,8 @@ pub record IsWritten (list place number : ℕ) (before now : FirstLists) : Type 
   pub longer : (other : ℕ) → length (firsts_in other before) ≤ length (firsts_in other now)
   pub lengths : (other : ℕ) → other ≢ list → length (firsts_in other now) ≡ length (firsts_in other before)
 
--- the number stands wherever the first seats of a row say, so many of them; all else is as it was
+-- The first id of a row was written at the list and position of each taken seat below `many`; nothing else changes (own). No list
+-- is longer than its largest position asks.
 pub record IsEntered (seats : Seats) (first many : ℕ) (before now : FirstLists) : Type 0 where
   pub there : (seat : ℕ) → seat < many → roll_in seat seats ≢ NOWHERE
       → (place_in seat seats < length (firsts_in (roll_in seat seats) now))

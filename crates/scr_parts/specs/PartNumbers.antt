@@ -1,11 +1,11 @@
--- The numbers of parts (this project's own): each slot has a row of numbers, one for each sum that runs over the list of its part.
+-- The ids of parts (own): each slot has a row of three ids, one for each sum that runs over the list of its part.
 use Rattle.std.specs.Prelude.{◌≡◌, ℕ, Some}
 use Rattle.scr_numbers.specs.Ranges.{IsAt, Numbered}
 use Rattle.scr_numbers.specs.declared.table.Table.TheVariants as tables
 use Rattle.scr_parts.specs.Parts.{Parted, slot_of}
 use Rattle.scr_parts.specs.declared.parts.Part.{Part}
 
--- the part has this number at a place of the row of its slot
+-- The part has id `number` for sum `place` (0 to 2), from the row of its slot (own).
 pub record PartAt (parts : Parted) (places : Numbered) (part : Part) (place number : ℕ) : Type 0 where
   pub slot : ℕ
   pub held : slot_of part parts ≡ Some slot

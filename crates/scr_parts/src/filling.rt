@@ -1,4 +1,4 @@
-//! The first numbers of all members of a table's lists, made at once.
+//! Fills the first ids of all members of a table's lists.
 ghost use Rattle.std.specs.Prelude.{◌≡◌, ◌<◌, ◌≤◌, ℕ, List, [], length, IfOk, OnOk};
 ghost use Rattle.std.specs.List.{IsDistinct, position_or_len};
 ghost use Rattle.scr_names.specs.Names.{same_name};
@@ -13,8 +13,8 @@ use scr_rolls::{Bench, NOWHERE, SEATS, Seating};
 use std::alloc::{AllocError as NoMemory, Global};
 
 impl Firsts {
-    /// Beside each list of a table's rows, which is told by its number, stand the first numbers of its members. One pass over the rows
-    /// and their seats makes them.
+    /// The first ids beside all member lists of a table, from one pass over the rows and their seats. `NoMemory` if they don't
+    /// fit.
     pub fn of<const N: usize>(
         alloc: Global,
         seating: &Seating<N>,
@@ -25,7 +25,7 @@ impl Firsts {
         ensures { IfOk result (λ firsts. (names : List (List ℕ)) → AreSeated names seating.now → IsDistinct same_name names
             → AreFirsts (λ name. first places.now table (position_or_len (same_name name) names)) seating.now.rolls firsts) }
     {
-        // No seating has more seats to a row.
+        // Never so: a `Seating` has at most `SEATS` seats to a row.
         if N > SEATS {
             return Err(NoMemory);
         }
@@ -36,7 +36,7 @@ impl Firsts {
         Ok(firsts)
     }
 
-    // No number yet, and room beside each list for those of its members.
+    // Empty lists of first ids, each with room for one per member.
     fn with_room<const N: usize>(alloc: Global, seating: &Seating<N>) -> Result<Firsts, NoMemory>
         ensures none { IfOk result (λ firsts. (list : ℕ) → firsts_in list firsts ≡ []) }
         ensures room { IfOk result (λ firsts. (number : ℕ) → number < length seating.now.rolls
@@ -53,7 +53,7 @@ impl Firsts {
         Ok(firsts)
     }
 
-    // The first number of a row stands wherever its seats say.
+    // Writes the first id of a row at the list and position of each of its taken seats.
     fn enter<const N: usize>(
         &mut self,
         alloc: Global,

@@ -1,4 +1,4 @@
-//! The first numbers of members, beside the lists.
+//! The first ids of members, beside the member lists.
 ghost use Rattle.std.specs.Prelude.{◌≡◌, ℕ, ◌<◌, ◌≤◌, [], length, IfOk, OnOk};
 ghost use Rattle.scr_parts.specs.Filling.{IsWritten};
 ghost use Rattle.scr_parts.specs.Firsts.{Becomes, back_at, firsts_in, joined, left, room_beside};
@@ -7,8 +7,8 @@ use crate::numbers::{Numbers, leave, make_room, put_back, put_last, write};
 use std::alloc::{AllocError as NoMemory, Global};
 use std::marker::Model;
 
-/// Beside each list, place by place, the first number of the member's row. So the number of a member's figure costs one addition. The
-/// lists are those of the members, and move as these do.
+/// Beside each member list, position by position, the first id of the member's row. So a member's figure costs one addition. The
+/// lists move as the member lists do.
 #[derive(Drop)]
 pub struct Firsts {
     lists: Vec<Numbers>,
@@ -23,7 +23,7 @@ impl Model for Firsts {
 }
 
 impl Firsts {
-    /// No list has a member.
+    /// No first id in any list.
     pub fn new(alloc: Global) -> Firsts
         ensures { (list : ℕ) → firsts_in list result ≡ [] }
     {
@@ -32,7 +32,7 @@ impl Firsts {
         }
     }
 
-    /// No list has a member, and there is room for so many lists.
+    /// No first id in any list, and room for `lists` lists.
     pub(crate) fn with_capacity(alloc: Global, lists: usize) -> Result<Firsts, NoMemory>
         ensures { IfOk result (λ firsts. (list : ℕ) → firsts_in list firsts ≡ []) }
     {
@@ -40,14 +40,14 @@ impl Firsts {
         Ok(Firsts { lists })
     }
 
-    /// How many lists there are. No list beyond them has a member.
+    /// The number of lists that are stored; all beyond are empty.
     pub fn len(&self) -> usize
         ensures { result ≡ length self.now.lists }
     {
         self.lists.as_slice().len()
     }
 
-    /// The first numbers of a list's members, in the order of their places.
+    /// The first ids of a list's members, in the order of their positions; empty if the list is not stored.
     pub fn list(&self, list: u32) -> &[u32]
         ensures { result.now ≡ firsts_in list self.now }
     {
@@ -57,7 +57,7 @@ impl Firsts {
         }
     }
 
-    /// Makes room for a member more. The members stay, whether there is memory or not.
+    /// Makes room beside a list for one further first id. `NoMemory` if there is none; all first ids stay in either case.
     pub fn reserve(&mut self, alloc: Global, list: u32) -> Result<(), NoMemory>
         ensures ok { OnOk result (0 < room_beside list self.new) }
         ensures still { Becomes list (firsts_in list self.old) self.old self.new }
@@ -65,7 +65,7 @@ impl Firsts {
         make_room(&mut self.lists, alloc, list as usize, 1)
     }
 
-    /// Makes room for so many members more. The members stay, whether there is memory or not.
+    /// Makes room beside a list for `members` further first ids. `NoMemory` if there is none; all first ids stay in either case.
     pub(crate) fn reserve_many(
         &mut self,
         alloc: Global,
@@ -79,7 +79,7 @@ impl Firsts {
         make_room(&mut self.lists, alloc, list as usize, members)
     }
 
-    /// A member comes, last of its list, without memory.
+    /// Appends a first id. It uses reserved room, so it can't fail.
     pub fn come(&mut self, list: u32, first: u32)
         requires { 0 < room_beside list self.old }
         ensures { Becomes list (joined first (firsts_in list self.old)) self.old self.new }
@@ -87,7 +87,7 @@ impl Firsts {
         put_last(&mut self.lists, list as usize, first);
     }
 
-    /// The member at a place leaves, and the last one takes its place. There is room for one more.
+    /// Swap-removes the first id at a position. Room grows by one.
     pub fn leave(&mut self, list: u32, place: u32)
         requires { place < length (firsts_in list self.old) }
         ensures { Becomes list (left place (firsts_in list self.old)) self.old self.new }
@@ -95,7 +95,7 @@ impl Firsts {
         leave(&mut self.lists, list as usize, place);
     }
 
-    /// A member that left a place stands there again, and the one that took it goes last, without memory.
+    /// Undoes a swap-removal at a position; the first id that had taken it goes last. It uses reserved room, so it can't fail.
     pub fn put_back(&mut self, list: u32, place: u32, first: u32)
         requires place { place ≤ length (firsts_in list self.old) }
         requires room { 0 < room_beside list self.old }
@@ -104,7 +104,7 @@ impl Firsts {
         put_back(&mut self.lists, list as usize, place, first);
     }
 
-    /// A number stands at a place of a list, which is as long as that takes.
+    /// Writes a first id at a position of a list, extended with 0 up to it if it was shorter; `NoMemory` if it can't be.
     pub(crate) fn write(
         &mut self,
         alloc: Global,

@@ -1,4 +1,4 @@
-//! The first numbers beside the lists follow the seats of a row.
+//! Keeps the first ids beside the lists in step with the seats of a row.
 ghost use Rattle.std.specs.Prelude.{◌≡◌, ◌≢◌, ℕ, ◌<◌, ◌≤◌, length, OnOk};
 ghost use Rattle.scr_rolls.specs.Seatings.{NOWHERE, place_in, roll_in};
 ghost use Rattle.scr_parts.specs.Firsts.{firsts_in, room_beside};
@@ -9,7 +9,8 @@ use scr_rolls::{NOWHERE, SEATS, Seats};
 use std::alloc::{AllocError as NoMemory, Global};
 
 impl Firsts {
-    /// Makes room beside each list in which one with these seats stands. All numbers stay, whether there is memory or not.
+    /// Makes room for one further first id beside each list that the seats name. `NoMemory` if there is none; all first ids stay
+    /// in either case.
     pub fn make_room(&mut self, alloc: Global, seats: &Seats) -> Result<(), NoMemory>
         ensures ok { OnOk result ((seat : ℕ) → seat < 11 → roll_in seat seats.now ≢ NOWHERE
             → 0 < room_beside (roll_in seat seats.now) self.new) }
@@ -24,9 +25,8 @@ impl Firsts {
         Ok(())
     }
 
-    /// A row whose first number this is had these seats and has those: beside each list that it left its number goes, the last takes the
-    /// place, and beside each in which it stands now its number stands at its place. It takes no memory. The seats exchanged, it is taken
-    /// back.
+    /// Moves a row's first id from the lists of the seats `was` to the lists of the seats `now`, without memory. In a list that
+    /// both name it keeps its position. Calling it with the seats exchanged undoes it.
     pub fn follow(&mut self, was: &Seats, now: &Seats, first: u32)
         requires own { (seat_of : ℕ → ℕ) × AreSeatsOf seat_of was.now × AreSeatsOf seat_of now.now }
         requires can { (seat : ℕ) → seat < 11 → CanReseat was.now now.now seat self.old }
@@ -39,7 +39,7 @@ impl Firsts {
         }
     }
 
-    // The row moves in one seat.
+    // Moves the row's first id in one seat.
     fn reseat(&mut self, was: &Seats, now: &Seats, seat: usize, first: u32)
         requires seat { seat < 11 }
         requires can { CanReseat was.now now.now seat self.old }
@@ -52,7 +52,7 @@ impl Firsts {
         self.stand(now.roll(seat), now.place(seat), first);
     }
 
-    // The row leaves a list, if it stood in one.
+    // Swap-removes the row's first id from a list; nothing to do for `NOWHERE`.
     fn quit(&mut self, list: u32, place: u32)
         requires { list ≢ NOWHERE → place < length (firsts_in list self.old) }
         ensures { HasLeft list place self.old self.new }
@@ -63,7 +63,7 @@ impl Firsts {
         self.leave(list, place);
     }
 
-    // The row stands in a list, if it is to stand in one.
+    // Puts the row's first id at a position of a list; nothing to do for `NOWHERE`.
     fn stand(&mut self, list: u32, place: u32, first: u32)
         requires place { list ≢ NOWHERE → place ≤ length (firsts_in list self.old) }
         requires room { list ≢ NOWHERE → 0 < room_beside list self.old }

@@ -1,4 +1,4 @@
-//! What holds of slots, whatever a program does. Each law is a function that does nothing, whose contract is the law.
+//! Laws of slots and of first ids, for proofs above to cite.
 ghost use Rattle.std.specs.Prelude.{◌≡◌, ◌≢◌, ℕ, ◌<◌, ◌≤◌, List, Option, Some, length, map};
 ghost use Rattle.scr_rolls.specs.Members as members;
 ghost use Rattle.scr_parts.specs.Firsts.{back_at, joined, left};
@@ -8,26 +8,25 @@ ghost use Rattle.scr_parts.specs.declared.parts.Part.{Part};
 
 use crate::{Firsts, Part, Parts};
 
-/// No two parts have a slot in common, and none of them is free.
+/// No two parts share a slot, and no part's slot is free.
 pub fn apart()
     ensures own { (parts : Parted) → AreOwn parts → (one two : Part) (slot : ℕ) → slot_of one parts ≡ Some slot → slot_of two parts ≡ Some slot → one ≡ two }
     ensures free { (parts : Parted) → AreOwn parts → (part : Part) (slot : ℕ) → slot_of part parts ≡ Some slot → part_at slot parts ≢ Option.None }
 {}
 
-/// A slot that left a list and goes back leaves each list as it was.
+/// Moving a slot to another list and back leaves each list as it was.
 pub fn moves_back()
     ensures { (from to : ℕ) (before between after : Parted) → Moved from to before between → Moved to from between after
         → (key : ℕ) → slots_in key after ≡ slots_in key before }
 {}
 
-/// Parts that went and come back, as many on each level, have the slots that they had, and no other part has another one.
+/// Removing parts and adding the number removed on each level gives every part its old slot.
 pub fn comes_back()
     ensures { (list firsts seconds : ℕ) (before now after : Parted) → HaveGone list firsts seconds before now → HaveGone list firsts seconds after now
         → (key : ℕ) → slots_in key after ≡ slots_in key before }
 {}
 
-/// The first numbers beside a list are those of its members before a member comes, leaves or goes back, whatever number a row has: so
-/// they are afterwards.
+/// First ids agree with a list's members after one is appended, swap-removed or set back, if they did before.
 pub fn firsts()
     ensures came { (first : List ℕ → ℕ) (name : List ℕ) (roll : List (List ℕ))
         → map first (members.come name roll) ≡ joined (first name) (map first roll) }
@@ -37,7 +36,7 @@ pub fn firsts()
         → map first (members.back_at place name roll) ≡ back_at place (first name) (map first roll) }
 {}
 
-/// Slots may be handed to other threads, and be read by several at once.
+/// Slots and first ids may be shared between threads and sent to them.
 pub fn sharing() {
     shared::<Firsts>();
     shared::<Parts>();

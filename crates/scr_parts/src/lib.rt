@@ -1,5 +1,5 @@
-//! The parts into which long lists fall, 32 neighbours each: every part has a slot of its own while it is there. What the lists are, and
-//! what a slot stands for, is no matter of this crate: a list is told by a number. Beside the lists stand the first numbers of their members.
+//! Slots for the parts of long lists, and the first ids of members beside the lists. A part is 32 neighbouring members, or 32
+//! neighbouring parts of the first level. It keeps its slot while it exists. A list is known here by its number alone.
 #![tactic(auto)]
 
 mod filling;

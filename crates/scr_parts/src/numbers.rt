@@ -1,4 +1,4 @@
-//! One list of numbers.
+//! A list of 32-bit numbers, with swap-removal and its undo.
 ghost use Rattle.std.specs.Prelude.{◌≡◌, ◌≢◌, ℕ, ◌+◌, ◌-◌, ◌<◌, ◌≤◌, ◌++◌, ◌∷◌, [], length, replicate, slice_set, OnOk};
 ghost use Rattle.scr_parts.specs.Parts.{list_at};
 ghost use Rattle.scr_parts.specs.Firsts.{back_at, left};
@@ -7,10 +7,10 @@ ghost use Rattle.scr_parts.specs.Moves.{AreOthers, Roomier};
 use std::alloc::{AllocError as NoMemory, Global};
 use std::marker::Model;
 
-/// The most numbers that a list has.
+/// The largest length of a list.
 const MOST: usize = u32::MAX as usize;
 
-/// Numbers in order. Contracts see the list, and for how many more there is room.
+/// A list of numbers. Contracts see its items, and how many further ones fit without new memory.
 #[derive(Drop)]
 pub(crate) struct Numbers {
     numbers: Vec<u32>,
@@ -32,7 +32,7 @@ impl Model for Numbers {
 }
 
 impl Numbers {
-    /// No number.
+    /// An empty list.
     pub(crate) fn new(alloc: Global) -> Numbers
         ensures { result.items ≡ [] }
     {
@@ -41,14 +41,15 @@ impl Numbers {
         }
     }
 
-    /// The numbers in their order.
+    /// The numbers in order.
     pub(crate) fn as_slice(&self) -> &[u32]
         ensures { result.now ≡ self.now.items }
     {
         self.numbers.as_slice()
     }
 
-    /// Makes room for so many more. The numbers stay, whether there is memory or not.
+    /// Makes room for `more` further numbers; `NoMemory` if there is none or the list would exceed 2^32 - 1. The numbers stay in
+    /// either case.
     pub(crate) fn reserve(&mut self, more: usize) -> Result<(), NoMemory>
         ensures ok { OnOk result (more ≤ self.new.room) }
         ensures items { self.new.items ≡ self.old.items }
@@ -60,7 +61,7 @@ impl Numbers {
         self.numbers.try_reserve(more)
     }
 
-    /// One comes, and goes last. It takes a place of the room, and no memory. Its place is told.
+    /// Pushes a number and returns its position. It uses reserved room, so it can't fail.
     pub(crate) fn put(&mut self, number: u32) -> u32
         requires { 0 < self.old.room }
         ensures place { result ≡ length self.old.items }
@@ -72,7 +73,7 @@ impl Numbers {
         place
     }
 
-    /// The last one leaves, and there is room for one more.
+    /// Pops the last number. Room grows by one.
     pub(crate) fn take(&mut self) -> u32
         requires { 0 < length self.old.items }
         ensures items { self.old.items ≡ self.new.items ++ result ∷ [] }
@@ -84,13 +85,13 @@ impl Numbers {
         }
     }
 
-    /// A number stands at a place. Before it stand as many numbers as that takes.
+    /// Writes a number at a position, and extends the list up to it with 0 if it was shorter.
     fn write(&mut self, place: u32, number: u32) -> Result<(), NoMemory>
         ensures { OnOk result (self.new.items
             ≡ slice_set (self.old.items ++ replicate (place + 1 - length self.old.items) 0) place number) }
     {
         let size = self.numbers.len();
-        // Rows that come in the order of their places stand behind one another.
+        // Rows that come in the order of their positions append, the common case.
         if place as usize == size {
             return self.push(number);
         }
@@ -103,7 +104,7 @@ impl Numbers {
         Ok(())
     }
 
-    /// One comes, and goes last.
+    /// Appends a number; `NoMemory` at 2^32 - 1 numbers.
     fn push(&mut self, number: u32) -> Result<(), NoMemory>
         ensures { OnOk result (self.new.items ≡ self.old.items ++ number ∷ []) }
     {
@@ -114,7 +115,7 @@ impl Numbers {
         Ok(())
     }
 
-    /// The one at a place leaves, and the last takes its place. There is room for one more.
+    /// Swap-removes the number at a position. Room grows by one.
     fn leave(&mut self, place: u32)
         requires { place < length self.old.items }
         ensures items { self.new.items ≡ left place self.old.items }
@@ -123,7 +124,7 @@ impl Numbers {
         self.numbers.swap_remove(place as usize);
     }
 
-    /// One that left a place stands there again, and the one that took it goes last. It takes a place of the room, and no memory.
+    /// Undoes a swap-removal at a position; the number that had taken it goes last. It uses reserved room, so it can't fail.
     fn put_back(&mut self, place: u32, number: u32)
         requires place { place ≤ length self.old.items }
         requires room { 0 < self.old.room }
@@ -136,7 +137,7 @@ impl Numbers {
     }
 }
 
-/// There is such a list, with room for so many numbers more.
+/// Makes room for `more` further numbers in a list, and the list if there is none.
 pub(crate) fn make_room(
     lists: &mut Vec<Numbers>,
     alloc: Global,
@@ -150,7 +151,7 @@ pub(crate) fn make_room(
     room_for(lists, key, more)
 }
 
-/// There is such a list.
+/// Adds empty lists up to number `key`.
 fn reach(lists: &mut Vec<Numbers>, alloc: Global, key: usize) -> Result<(), NoMemory>
     ensures ok { OnOk result (key < length lists.new.items) }
     ensures roomier { Roomier lists.old.items lists.new.items }
@@ -165,7 +166,7 @@ fn reach(lists: &mut Vec<Numbers>, alloc: Global, key: usize) -> Result<(), NoMe
     Ok(())
 }
 
-/// There is room for so many numbers more in a list.
+/// Makes room for `more` further numbers in a list that exists.
 pub(crate) fn room_for(lists: &mut Vec<Numbers>, key: usize, more: usize) -> Result<(), NoMemory>
     requires { key < length lists.old.items }
     ensures ok { OnOk result (more ≤ (list_at key lists.new.items).room) }
@@ -174,7 +175,7 @@ pub(crate) fn room_for(lists: &mut Vec<Numbers>, key: usize, more: usize) -> Res
     lists[key].reserve(more)
 }
 
-/// The last number leaves a list.
+/// Pops the last number of a list.
 pub(crate) fn take_last(lists: &mut Vec<Numbers>, key: usize) -> u32
     requires { 0 < length (list_at key lists.old.items).items }
     ensures slots { (list_at key lists.old.items).items ≡ (list_at key lists.new.items).items ++ result ∷ [] }
@@ -184,7 +185,7 @@ pub(crate) fn take_last(lists: &mut Vec<Numbers>, key: usize) -> u32
     lists[key].take()
 }
 
-/// A number goes last in a list, which has room for it. Its place is told.
+/// Pushes a number to a list that has room, and returns its position there.
 pub(crate) fn put_last(lists: &mut Vec<Numbers>, key: usize, number: u32) -> u32
     requires { 0 < (list_at key lists.old.items).room }
     ensures place { result ≡ length (list_at key lists.old.items).items }
@@ -195,7 +196,7 @@ pub(crate) fn put_last(lists: &mut Vec<Numbers>, key: usize, number: u32) -> u32
     lists[key].put(number)
 }
 
-/// The number at a place leaves a list, and the last takes its place.
+/// Swap-removes the number at a position of a list.
 pub(crate) fn leave(lists: &mut Vec<Numbers>, key: usize, place: u32)
     requires { place < length (list_at key lists.old.items).items }
     ensures items { (list_at key lists.new.items).items ≡ left place (list_at key lists.old.items).items }
@@ -205,7 +206,7 @@ pub(crate) fn leave(lists: &mut Vec<Numbers>, key: usize, place: u32)
     lists[key].leave(place);
 }
 
-/// A number that left a place of a list stands there again, and the one that took it goes last.
+/// Undoes a swap-removal at a position of a list; the number that had taken it goes last.
 pub(crate) fn put_back(lists: &mut Vec<Numbers>, key: usize, place: u32, number: u32)
     requires place { place ≤ length (list_at key lists.old.items).items }
     requires room { 0 < (list_at key lists.old.items).room }
@@ -216,7 +217,7 @@ pub(crate) fn put_back(lists: &mut Vec<Numbers>, key: usize, place: u32, number:
     lists[key].put_back(place, number);
 }
 
-/// A number stands at a place of a list, which is as long as that takes.
+/// Writes a number at a position of a list, extended with 0 up to it if it was shorter.
 pub(crate) fn write(
     lists: &mut Vec<Numbers>,
     alloc: Global,

@@ -1,4 +1,4 @@
-//! The numbers of parts: those of their slots.
+//! The ids of parts, which are the ids of their slots.
 ghost use Rattle.std.specs.Prelude.{◌≡◌, ◌<◌, ℕ, IfSome, IsNone};
 ghost use Rattle.scr_parts.specs.PartNumbers.{PartAt};
 ghost use Rattle.scr_parts.specs.declared.parts.Part.{Part as ThePart};
@@ -7,7 +7,7 @@ use crate::{Part, Parts};
 use scr_numbers::{Places, Table};
 
 impl Parts {
-    /// The number of a part at a place of the row of its slot; none exactly where the part has none there.
+    /// The id of sum `place` (0 to 2) at tree node `part`; `None` if the list has no such part, or its slot has no ids.
     pub fn number(&self, places: &Places, part: &Part, place: u32) -> Option<u32>
         requires { place < 3 }
         ensures there { IfSome result (λ number. PartAt self.now places.now part.now place number) }
@@ -20,12 +20,12 @@ impl Parts {
         Some(places.first(Table::Part, slot) + place)
     }
 
-    /// The part that has a number, and at which place of the row of its slot; none exactly where it is no part's.
+    /// The part whose id this is, and the sum (0 to 2) that the id stands for; `None` if it is no part's id.
     pub fn numbered(&self, places: &Places, number: u32) -> Option<(Part, u32)>
         ensures there { IfSome result (λ found. PartAt self.now places.now found.0 found.1 number) }
         ensures absent { IsNone result → (part : ThePart) (place : ℕ) → PartAt self.now places.now part place number → ⊥ }
     {
-        // No number is of two rows.
+        // Brings the invariant of `places` into sight: no id is of two rows.
         let _numbers = places.len();
         let slots = self.len() as usize;
         let place = places.at(number)?;

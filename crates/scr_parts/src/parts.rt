@@ -1,4 +1,4 @@
-//! The parts of all lists, and their slots.
+//! The parts of all lists and their slots.
 ghost use Rattle.std.specs.Prelude.{◌≡◌, ◌≢◌, ℕ, ◌+◌, ◌-◌, ◌<◌, ◌≤◌, ◌^◌, ◌++◌, ◌∷◌, [], length, max, min, nat_eq, slice_set, IfOk, OnOk, OnErr, Some};
 ghost use Rattle.scr_blocks.specs.Blocks.{blocks_at};
 ghost use Rattle.scr_blocks.specs.declared.blocks.Level.{Level};
@@ -12,31 +12,32 @@ use scr_blocks::{Level, blocks_at};
 use std::alloc::{AllocError as NoMemory, Global};
 use std::marker::Model;
 
-/// The list of the free slots.
+/// The key of the free list.
 const FREE: usize = 0;
 
-/// A part of a list: one of 32 neighbours of it, or of 32 neighbouring parts of the first level.
+/// A node of the sum tree over a list: 32 neighbouring members (first level), or 32 neighbouring parts of the first level (second
+/// level).
 #[derive(Clone, Copy)]
 pub struct Part {
     /// The number of the list.
     pub list: u32,
     pub level: Level,
-    /// Its number on its level, from 0.
+    /// Its index on its level, from 0.
     pub index: u32,
 }
 
-/// Where a slot stands: at a place of a list of slots.
+/// The list of slots that holds a slot, by key, and the position there.
 #[derive(Clone, Copy)]
 pub(crate) struct Owner {
     list: u32,
     index: u32,
 }
 
-/// The slots of all parts. Contracts see of each list the slots of its parts in order, and of each slot the part that has it. Slots are
-/// never given up: that of a part which went is free, and serves the next one that comes.
+/// A slot for each part of each list. Slots are never given up: a removed part's slot goes to the free list and serves the next
+/// part. Contracts see the slots of each list's parts in order, and the part of each slot.
 #[derive(Drop)]
 pub struct Parts {
-    /// The free slots first, then those of the parts, by list and level.
+    /// The free list at key 0, then one list of slots for each list and level.
     lists: SlotLists,
     owner: Vec<Owner>,
 }
@@ -54,7 +55,7 @@ impl Model for Parts {
 }
 
 impl Parts {
-    /// No list has a part.
+    /// No part and no slot; `NoMemory` if the free list can't be made.
     pub fn new(alloc: Global) -> Result<Parts, NoMemory>
         ensures none { IfOk result (λ parts. (key : ℕ) → slots_in key parts ≡ []) }
         ensures size { IfOk result (λ parts. size_of parts ≡ 0) }
@@ -66,7 +67,7 @@ impl Parts {
         })
     }
 
-    /// How many slots there are, those of parts and free ones.
+    /// The number of slots, free ones included.
     pub fn len(&self) -> u32
         ensures size { result ≡ size_of self.now }
         ensures own { AreOwn self.now }
@@ -75,14 +76,14 @@ impl Parts {
         self.owner.as_slice().len() as u32
     }
 
-    /// How many parts a list has on a level.
+    /// The number of parts of a list on a level.
     pub fn count(&self, list: u32, level: Level) -> usize
         ensures { result ≡ count_of list level self.now }
     {
         self.lists.at(key_of(list, level)).len()
     }
 
-    /// The slot of a part, if it is there.
+    /// The slot of a part; `None` if the list has no such part.
     pub fn slot(&self, part: &Part) -> Option<u32>
         ensures { result ≡ slot_of part.now self.now }
     {
@@ -90,7 +91,7 @@ impl Parts {
         slots.get(part.index as usize).copied()
     }
 
-    /// The part that has a slot, none where it is free.
+    /// The part that has a slot; `None` if the slot is free or there is none such.
     pub fn part(&self, slot: u32) -> Option<Part>
         ensures { result ≡ part_at slot self.now }
     {
@@ -98,8 +99,8 @@ impl Parts {
         part_of(owner)
     }
 
-    /// The parts of a list that has so many members now, or will have, come: as many as it has Blocks, each last of its level. So two come
-    /// with the 33rd member, and then one with each member that begins one. Where memory is refused, each list has the parts that it had.
+    /// Adds the parts that a list of `members` members needs: one for each Block, appended on both levels; the 33rd member brings
+    /// the first two. `NoMemory` leaves the number of parts of each list as it was.
     pub fn grow(&mut self, alloc: Global, list: u32, members: usize) -> Result<(), NoMemory>
         ensures ok { OnOk result ((level : Level)
             → count_of list level self.new ≡ max (count_of list level self.old) (blocks_at members level)) }
@@ -117,7 +118,7 @@ impl Parts {
         grown
     }
 
-    /// The parts that a list of so many members has no more go, from the last on. It takes no memory, so it takes back what came.
+    /// Removes the last parts, those that a list of `members` members does not need. It needs no memory, so it can undo `grow`.
     pub fn shrink(&mut self, list: u32, members: usize)
         ensures count { (level : Level) → count_of list level self.new ≡ min (count_of list level self.old) (blocks_at members level) }
         ensures gone { HaveGone list (count_of list levels.First self.old - blocks_at members levels.First)
@@ -131,8 +132,8 @@ impl Parts {
         self.cut(list, Level::Second, blocks_at(members, Level::Second));
     }
 
-    /// The parts of a list that has so many members again come back, as many as it has Blocks, each with the slot that was free last. It
-    /// takes no memory: there are slots and room where parts went. So it takes back what went, and each part has the slot that it had.
+    /// Undoes `shrink`, without memory: adds parts up to what `members` members need, each with the slot that was freed last. So
+    /// each part has its old slot.
     pub fn grow_back(&mut self, list: u32, members: usize)
         requires free { (blocks_at members levels.First - count_of list levels.First self.old)
             + (blocks_at members levels.Second - count_of list levels.Second self.old) ≤ length (slots_in FREE self.old) }
@@ -149,17 +150,17 @@ impl Parts {
         self.regain(list, Level::First, blocks_at(members, Level::First));
     }
 
-    /// The last part of a list goes, and its slot is free, the last of the free ones. It takes no memory.
+    /// Removes the last part of a list on a level; its slot goes to the end of the free list. It needs no memory.
     pub fn go(&mut self, list: u32, level: Level)
         requires { 0 < count_of list level self.old }
         ensures { Moved (key_of list level) FREE self.old self.new }
     {
-        // The invariant says that there is room among the free ones.
+        // Brings the invariant into sight: the free list has room.
         let _ = &self.lists;
         self.move_last(key_of(list, level), FREE);
     }
 
-    /// A part comes, last of its list, with the slot that was free last. It takes no memory: there is room where one went.
+    /// Appends a part to a list on a level, with the slot that was freed last. It needs no memory where a part was removed before.
     pub fn go_back(&mut self, list: u32, level: Level)
         requires free { 0 < length (slots_in FREE self.old) }
         requires room { 0 < room_in (key_of list level) self.old }
@@ -168,7 +169,7 @@ impl Parts {
         self.move_last(FREE, key_of(list, level));
     }
 
-    /// A part comes, last of its list. Where memory is refused, each list has the parts that it had.
+    /// Appends a part to a list on a level, with the slot freed last or a new one. `NoMemory` leaves all parts as they were.
     pub fn come(&mut self, alloc: Global, list: u32, level: Level) -> Result<(), NoMemory>
         ensures ok { OnOk result (Came list level self.old self.new) }
         ensures err { OnErr result (AreSame self.old self.new) }
@@ -181,6 +182,7 @@ impl Parts {
         Ok(())
     }
 
+    // Appends parts on both levels until there is one for each Block of `members` members.
     fn add_both(&mut self, alloc: Global, list: u32, members: usize) -> Result<(), NoMemory>
         ensures ok { OnOk result ((level : Level)
             → count_of list level self.new ≡ max (count_of list level self.old) (blocks_at members level)) }
@@ -196,7 +198,7 @@ impl Parts {
         )
     }
 
-    // Parts of a level come until there are so many.
+    // Appends parts on a level until there are `many`.
     fn add(&mut self, alloc: Global, list: u32, level: Level, many: usize) -> Result<(), NoMemory>
         ensures ok { OnOk result (count_of list level self.new ≡ max (count_of list level self.old) many) }
         ensures front { IsFront (key_of list level) self.old self.new }
@@ -208,7 +210,7 @@ impl Parts {
         Ok(())
     }
 
-    // Parts of a level come back until there are so many.
+    // Appends parts on a level from freed slots until there are `many`.
     fn regain(&mut self, list: u32, level: Level, many: usize)
         requires free { many - count_of list level self.old ≤ length (slots_in FREE self.old) }
         requires room { many ≤ count_of list level self.old + room_in (key_of list level) self.old }
@@ -224,7 +226,7 @@ impl Parts {
         }
     }
 
-    // Parts of a level go until there are no more than so many.
+    // Removes the last parts on a level until at most `many` are left.
     fn cut(&mut self, list: u32, level: Level, many: usize)
         ensures count { count_of list level self.new ≡ min (count_of list level self.old) many }
         ensures front { IsFront (key_of list level) self.new self.old }
@@ -238,14 +240,14 @@ impl Parts {
         }
     }
 
-    // No slot is free.
+    // Whether no slot is free.
     fn is_full(&self) -> bool
         ensures { result ≡ nat_eq (length (slots_in FREE self.now)) 0 }
     {
         self.lists.at(FREE).is_empty()
     }
 
-    // There is room for a slot more in a list.
+    // Makes room for one further slot in a list.
     fn reserve(&mut self, alloc: Global, key: usize) -> Result<(), NoMemory>
         ensures ok { OnOk result (0 < room_in key self.new) }
         ensures same { AreSame self.old self.new }
@@ -253,7 +255,7 @@ impl Parts {
         self.lists.make_room(alloc, key, 1)
     }
 
-    // A slot more, which is free.
+    // Makes one new slot, which is free, and room in the free list for all slots.
     fn make(&mut self, alloc: Global) -> Result<(), NoMemory>
         requires { slots_in FREE self.old ≡ [] }
         ensures ok { OnOk result (Made self.old self.new) }
@@ -270,7 +272,7 @@ impl Parts {
         Ok(())
     }
 
-    // The last slot of a list goes to the end of another.
+    // Pops the last slot of a list and pushes it to another.
     fn move_last(&mut self, from: usize, to: usize)
         requires apart { from ≢ to }
         requires some { 0 < length (slots_in from self.old) }
@@ -290,7 +292,7 @@ impl Parts {
     }
 }
 
-/// The list of the slots of a list's parts of a level.
+/// The key of the slots of a list's parts on a level.
 fn key_of(list: u32, level: Level) -> usize
     ensures { result ≡ key_of list level }
 {
@@ -300,7 +302,7 @@ fn key_of(list: u32, level: Level) -> usize
     }
 }
 
-/// The part whose slot stands there.
+/// The part that an owner entry names; `None` if it is of the free list.
 fn part_of(owner: &Owner) -> Option<Part>
     ensures { result ≡ part_of owner.now }
 {
@@ -317,7 +319,7 @@ fn part_of(owner: &Owner) -> Option<Part>
     })
 }
 
-/// A slot stands there.
+/// Sets the owner entry of a slot.
 fn set_owner(owners: &mut Vec<Owner>, slot: u32, owner: Owner)
     requires { slot < length owners.old.items }
     ensures { owners.new.items ≡ slice_set owners.old.items slot owner }

@@ -1,4 +1,4 @@
-//! The lists of slots.
+//! Lists of slots by key, stored sparsely.
 ghost use Rattle.std.specs.Prelude.{◌≡◌, ℕ, ◌+◌, ◌<◌, ◌≤◌, ◌^◌, ◌++◌, ◌∷◌, [], length, IfOk, OnOk};
 ghost use Rattle.scr_parts.specs.Parts.{list_at};
 ghost use Rattle.scr_parts.specs.Moves.{AreOthers, Roomier};
@@ -8,16 +8,16 @@ use crate::numbers::{Numbers, put_last, room_for, take_last};
 use std::alloc::{AllocError as NoMemory, Global};
 use std::marker::Model;
 
-/// The place of a key that has no list.
+/// The position of a key that has no list.
 const NONE: u32 = 0;
 
-/// Lists of slots by their keys, few of which have a slot: a key takes 32 bits, and has a list once it needs room. Contracts see a list
+/// Lists of slots by key. Few keys have slots: a key costs 32 bits, and gets a list when it first needs room. Contracts see a list
 /// for each key.
 #[derive(Drop)]
 pub(crate) struct SlotLists {
-    /// Of each key the place of its list.
+    /// For each key the position of its list; 0 if it has none.
     places: Vec<u32>,
-    /// The first one has no slot: it is that of all keys which have none of their own.
+    /// The stored lists. List 0 is empty, and shared by all keys without a list.
     lists: Vec<Numbers>,
 }
 
@@ -46,7 +46,7 @@ impl SlotLists {
         })
     }
 
-    /// The slots of a key's list.
+    /// The slots in the list of a key.
     pub(crate) fn at(&self, key: usize) -> &[u32]
         ensures { result.now ≡ (list_at key self.now).items }
     {
@@ -56,7 +56,8 @@ impl SlotLists {
         }
     }
 
-    /// There is such a list, with room for so many slots more.
+    /// Makes room for `more` further slots in the list of a key, and the list if there is none; `NoMemory` keeps all slots as they
+    /// were.
     pub(crate) fn make_room(
         &mut self,
         alloc: Global,
@@ -70,7 +71,7 @@ impl SlotLists {
         room_for(&mut self.lists, place as usize, more)
     }
 
-    /// The last slot leaves a list.
+    /// Pops the last slot of a list.
     pub(crate) fn take_last(&mut self, key: usize) -> u32
         requires { 0 < length (list_at key self.old).items }
         ensures slots { (list_at key self.old).items ≡ (list_at key self.new).items ++ result ∷ [] }
@@ -81,7 +82,7 @@ impl SlotLists {
         take_last(&mut self.lists, place as usize)
     }
 
-    /// A slot goes last in a list, which has room for it. Its place is told.
+    /// Pushes a slot to a list that has room, and returns its position there.
     pub(crate) fn put_last(&mut self, key: usize, slot: u32) -> u32
         requires { 0 < (list_at key self.old).room }
         ensures place { result ≡ length (list_at key self.old).items }
@@ -94,7 +95,7 @@ impl SlotLists {
     }
 }
 
-/// The place of a key's list, which is there from now on.
+/// The position of a key's list, which is made if there is none.
 fn place_for(
     places: &mut Vec<u32>,
     lists: &mut Vec<Numbers>,
@@ -119,7 +120,7 @@ fn place_for(
     Ok(place)
 }
 
-/// There is such a key. Those that come have no list.
+/// Extends the keys up to `key`; new ones have no list.
 fn reach(places: &mut Vec<u32>, key: usize) -> Result<(), NoMemory>
     ensures there { OnOk result (key < length places.new.items) }
     ensures still { (other : ℕ) → place_of other places.new.items ≡ place_of other places.old.items }

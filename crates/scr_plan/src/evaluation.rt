@@ -1,4 +1,4 @@
-//! The figure of a node from those of its sources.
+//! The figure of a node from the figures of its sources.
 ghost use Rattle.std.specs.Prelude.{◌≡◌, ◌+◌, length, map};
 ghost use Rattle.scr_num.specs.Rounding.{ends};
 ghost use Rattle.scr_num.specs.Sums.{sum_ends};
@@ -29,8 +29,8 @@ use scr_rules::foreign_by_sums;
 use scr_sheet::{Name, Roll};
 use std::sync::ledger::Ledger;
 
-/// The figure of a node by its rule, from those of its sources in their order and from the discounts of the currencies: of a block the sum.
-/// From the worked figures of its sources and the discounts of all curves it is the worked one. It counts as one step.
+/// The figure of a node by its rule, from its sources' figures in order and the currencies' discounts; the sum for a block. Worked
+/// figures of its sources and the discounts of all curves give its worked figure. It counts as one step.
 pub fn evaluate<L: Ledger>(
     factors: &Factors,
     book: &Book,
@@ -52,7 +52,7 @@ pub fn evaluate<L: Ledger>(
     by_rule(factors, book, curves, &node, spans, steps)
 }
 
-/// Does nothing: its contract says what is known of the book.
+/// Brings the invariant of the book into sight: the sheet is valid, and the lists have its members.
 fn known(book: &Book)
     ensures valid { Valid book.now.sheet }
     ensures rolls { AreRollsOf book.now.sheet book.now.rolls }
@@ -61,7 +61,7 @@ fn known(book: &Book)
     book.roll_number(Roll::Groups);
 }
 
-/// The same by the rule alone.
+/// The figure of a node by its rule alone.
 fn by_rule<L: Ledger>(
     factors: &Factors,
     book: &Book,
@@ -85,7 +85,7 @@ fn by_rule<L: Ledger>(
     }
 }
 
-/// The same of a figure of the balance sheet.
+/// The figure of a node of the balance sheet by its rule. A foreign currency's scenario takes blocks among its sources.
 fn figure_of<L: Ledger>(
     factors: &Factors,
     book: &Book,
@@ -109,7 +109,7 @@ fn figure_of<L: Ledger>(
     }
 }
 
-/// What a change of a foreign currency costs: of the figures those left at the top of its securities come first, and then those of its
+/// The loss by a change of a foreign currency, in a direction: sources for its securities come first, then sources for its
 /// liabilities.
 fn foreign(book: &Book, currency: &Name, direction: Direction, spans: &[Span]) -> Span
     requires { FitsForeign (top_count (length (roll_in (rolled_of book.now) (sums.Assets currency.now)))) (map ends spans.now) }

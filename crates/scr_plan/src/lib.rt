@@ -1,5 +1,5 @@
-//! The figures of a balance sheet with the blocks under its large sums: which there are, from which others each is reckoned, by what rule,
-//! and which of them a record touches.
+//! The plan of computation of a book: the figures of its balance sheet and the blocks under its large sums. It gives the sources
+//! and the rule of each, and the nodes that a record touches.
 #![tactic(auto)]
 
 mod evaluation;

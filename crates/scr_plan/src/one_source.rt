@@ -6,8 +6,7 @@ ghost use Rattle.scr_sums.specs.Graph.{sources_in};
 use crate::Node;
 use scr_book::Book;
 
-/// The source of a node at place `k`, counted from 0, in the order in which its rule takes them; none exactly past the
-/// last.
+/// Source `k` of a node, from 0, in the order in which its rule takes them; `None` past the last.
 pub fn source(book: &Book, node: Node, k: u32) -> Option<Node>
     ensures { result ≡ slice_get (sources_in (rolled_of book.now) node) k }
 {

@@ -13,8 +13,8 @@ use scr_book::{Book, Edit};
 use scr_sums::touched_in;
 use std::alloc::{AllocError as NoMemory, Global};
 
-/// The figures and blocks whose own data or list of sources the record changes, or which it makes or takes away, each once. Of a record
-/// that would be refused nothing is told but that none stands twice. Only want of memory is refused.
+/// The figures and blocks that a record touches, each once: it changes their own data or sources, makes them or removes them. For
+/// a record that the book would refuse only freedom from repeats is promised. `NoMemory` if the list doesn't fit.
 pub fn touched(alloc: Global, book: &Book, edit: &Edit) -> Result<Vec<Node>, NoMemory>
     requires formed { Formed edit.now }
     ensures touched { IfOk result (λ list. (factors : FactorValues) (point : Point) → fault_of edit.now book.now.sheet ≡ None

@@ -1,5 +1,5 @@
-//! The links between the numbers of figures, and what an edit reaches along them. Which figures there are, which number each
-//! has, and how it is reckoned, is no matter of this crate.
+//! The edges between the numbers of figures, and the figures that an edit reaches along them. Which figures there are, and how
+//! each is computed, is not known here.
 #![tactic(auto)]
 
 mod linking;

@@ -1,4 +1,4 @@
-//! Links to single numbers.
+//! Edges to single numbers.
 ghost use Rattle.std.specs.Prelude.{◌≡◌, ◌<◌, ◌≤◌, All, length, IfOk};
 ghost use Rattle.scr_reach.specs.Linked.{sources_in};
 ghost use Rattle.scr_reach.specs.Relinking.{IsJoined};
@@ -6,7 +6,7 @@ ghost use Rattle.scr_reach.specs.Relinking.{IsJoined};
 use scr_links::Links;
 use std::alloc::{AllocError as NoMemory, Global};
 
-/// Links sources to a number, in their order and after those that are linked to it, without memory.
+/// Appends edges from `sources`, in order, to the edges to a number. Room is reserved, so it can't fail.
 pub fn link(links: &mut Links, number: u32, sources: &[u32])
     requires number { number < links.old.size }
     requires sources { All (λ source. source < links.old.size) sources.now }
@@ -18,8 +18,7 @@ pub fn link(links: &mut Links, number: u32, sources: &[u32])
     }
 }
 
-/// The numbers of the sources of the figure at a number, as they are linked. Only want of memory is
-/// refused.
+/// The sources that are linked to a number, in order; `NoMemory` if the list doesn't fit.
 pub fn linked_sources(alloc: Global, links: &Links, number: u32) -> Result<Vec<u32>, NoMemory>
     ensures { IfOk result (λ list. list.items ≡ sources_in links.now.edges number) }
 {

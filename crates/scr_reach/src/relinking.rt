@@ -1,4 +1,4 @@
-//! Links made anew, without memory.
+//! Edges that are made anew, without memory.
 ghost use Rattle.std.specs.Prelude.{◌≡◌, ◌≤◌, ◌+◌, [], eqb, slice_get};
 ghost use Rattle.std.specs.List.{AllByRecursion, IsDistinct};
 ghost use Rattle.std.specs.Option.{option_map};
@@ -12,8 +12,8 @@ use crate::linking::link;
 use scr_links::{EdgeId, Links};
 use scr_rounds::Due;
 
-/// Links to the number of each due the sources that it has, and nothing else, without memory. To all
-/// other numbers the links stay. It costs the links that are cut and made.
+/// Replaces all edges to the number of each due by edges from its sources. The edges to every other number stay. Room is reserved,
+/// so it can't fail. It costs one step for each edge cut or made.
 pub fn relink(links: &mut Links, dues: &[Due])
     requires { AreLinkable links.old dues.now }
     ensures links { AreRelinked dues.now links.old.edges links.new.edges }
@@ -24,7 +24,7 @@ pub fn relink(links: &mut Links, dues: &[Due])
     link_all(links, dues);
 }
 
-/// Cuts all links to the numbers of the dues.
+/// Cuts all edges to the numbers of the dues.
 fn unlink_all(links: &mut Links, dues: &[Due])
     ensures { AreUnlinked (numbers_of dues.now) links.old links.new }
 {
@@ -33,7 +33,7 @@ fn unlink_all(links: &mut Links, dues: &[Due])
     }
 }
 
-/// Cuts all links to a number.
+/// Cuts all edges to a number.
 fn unlink(links: &mut Links, number: u32)
     ensures { IsUnlinked number links.old links.new }
 {
@@ -42,7 +42,7 @@ fn unlink(links: &mut Links, number: u32)
     }
 }
 
-/// The first link to a number. No two links have one name.
+/// The first edge to a number; `None` if there is none. No two edges share an id.
 fn first_link(links: &Links, number: u32) -> Option<EdgeId>
     ensures first { result
         ≡ option_map (λ source. source.1) (slice_get (sources_of links.now number) 0) }
@@ -55,7 +55,7 @@ fn first_link(links: &Links, number: u32) -> Option<EdgeId>
     }
 }
 
-/// Links what is due, where nothing is linked.
+/// Links the dues to their sources, where there is no edge.
 fn link_all(links: &mut Links, dues: &[Due])
     requires linkable { AreLinkable links.old dues.now }
     requires free { AllByRecursion (λ (due : Due). edges_to links.old.edges due.number ≡ []) dues.now }

@@ -1,5 +1,4 @@
-//! What the definitions of rolls come to, whatever a program does. Each law is a function that does nothing,
-//! whose contract is the law; a proof above cites it from here.
+//! Laws of member lists, for proofs above to cite.
 ghost use Rattle.std.specs.Prelude.{◌≡◌, ℕ, ◌<◌, ◌≤◌, ◌==◌, ◌++◌, ◌∷◌, [], Bool, List, Option, Some, false, if◌then◌else◌, insert, is_some, length, map, remove, slice_get, true};
 ghost use Rattle.std.specs.List.{IsDistinct};
 ghost use Rattle.std.specs.Option.{option_map};
@@ -12,14 +11,14 @@ ghost use Rattle.scr_rolls.specs.declared.seats.Seats.{Seats};
 
 use crate::{Owners, Seating};
 
-/// The last of a roll leaves as it came, and what left a place stands there again as before, with all others at their places.
+/// Appending and then removing the last gives the list back. So does swap-removing at a position and undoing it.
 pub fn moves_back()
     ensures came { (name : List ℕ) (roll : List (List ℕ)) → left (length roll) (come name roll) ≡ roll }
     ensures left { (place : ℕ) (roll : List (List ℕ)) → place < length roll
         → back_at place (name_at place roll) (left place roll) ≡ roll }
 {}
 
-/// Who is a member of a roll in which no name stands twice, once a name has come or left, or stands again where it stood before.
+/// The members of a list without doubles, after a name joined or left, or was set back to where it was.
 pub fn members()
     ensures moved { (name other : List ℕ) (is : Bool) (roll : List (List ℕ)) → IsDistinct same_name roll
         → has other (moved name (has name roll) is roll) ≡ (if same_name name other then is else has other roll) }
@@ -28,9 +27,8 @@ pub fn members()
         → has other (returned name before roll) ≡ (if same_name name other then is_some before else has other roll) }
 {}
 
-/// The seats of a table's rows serve the rows of the table once it changes: where a row takes the place of the one of its name, and
-/// where one goes last and has free seats there; where one that stands in no roll is taken out with its seats; and where one is at a
-/// place again, and has free seats there.
+/// Lists and seats still agree after the table changes by one row. A row replaces the one of its name; a new row gets free seats;
+/// a row in no list goes with its seats; a removed row is inserted with free seats.
 pub fn tables<R>()
     ensures replaced { (name_of : R → List ℕ) (row : R) (rows : List R) (seated : Seated) → AreSeated (map name_of rows) seated
         → has_row name_of (name_of row) rows ≡ true → AreSeated (map name_of (with_row name_of row rows)) seated }
@@ -46,8 +44,7 @@ pub fn tables<R>()
         → AreSeated (map name_of (insert rows place row)) new }
 {}
 
-/// Where a row has come to rolls and left rolls since its seats were kept, and no other name has, each roll is as it was once the row
-/// stands again where they say, and it can go back there without memory.
+/// Setting a row back by its earlier seats undoes its own moves, if no other name moved since. It needs no memory.
 pub fn returns()
     ensures names { (names : List (List ℕ)) (old : Seated) (place : ℕ) → AreSeated names old → IsDistinct same_name names → place < length names
         → (number : ℕ) → number < length old.rolls → (is : Bool)
@@ -67,7 +64,7 @@ pub fn returns()
         → has (name_at place names) (names_of number old.rolls) ≡ (roll_in (seat_of number old.rolls) (seat_at place old.seats) == number) }
 {}
 
-/// Threads may share rolls, and hand them on.
+/// Member lists and owners may be shared between threads and sent to them.
 pub fn sharing() {
     shared::<Seating<1>>();
     shared::<Owners>();

@@ -1,4 +1,4 @@
-//! Rolls: lists of names in which each name has a place, as the large sums run over them.
+//! Member lists: the names over which each large sum runs, each at a position. For each row they say which lists hold it.
 #![tactic(auto)]
 
 pub mod laws;

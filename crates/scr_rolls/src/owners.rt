@@ -1,4 +1,4 @@
-//! Which numbers the rolls of an owner have.
+//! First list numbers of owners, which are groups and currencies.
 ghost use Rattle.std.specs.Prelude.{◌≡◌, [], Some, OnOk, OnErr};
 ghost use Rattle.scr_rolls.specs.Owned.{Gives, number_of};
 
@@ -7,7 +7,7 @@ use scr_names::Name;
 use std::alloc::{AllocError as NoMemory, Global};
 use std::marker::Model;
 
-/// The first number of the rolls of each owner that has any. An owner keeps it for good.
+/// The first number of the member lists of each owner that has any, by name. An owner keeps its number for good.
 #[derive(Drop)]
 pub struct Owners {
     numbers: IndexMap<Name, u32>,
@@ -24,7 +24,7 @@ impl Model for Owners {
 }
 
 impl Owners {
-    /// Nobody owns a roll.
+    /// An empty map: no owner has a list.
     pub fn new(alloc: Global) -> Owners
         ensures { result.numbers ≡ [] }
     {
@@ -33,14 +33,14 @@ impl Owners {
         }
     }
 
-    /// The first number of the owner's rolls.
+    /// The first number of the owner's lists; `None` if it owns none.
     pub fn number(&self, owner: &Name) -> Option<u32>
         ensures { result ≡ number_of owner.now self.now }
     {
         self.numbers.get(owner).copied()
     }
 
-    /// From now on the owner's rolls have this number.
+    /// Sets the first number of the owner's lists; `NoMemory` if the map can't grow, and it stays as it was.
     pub fn put(&mut self, _alloc: Global, owner: Name, number: u32) -> Result<(), NoMemory>
         ensures ok { OnOk result (Gives owner (Some number) self.old self.new) }
         ensures err { OnErr result (self.new.numbers ≡ self.old.numbers) }

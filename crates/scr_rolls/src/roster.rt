@@ -1,4 +1,4 @@
-//! The members of a roll as a plain list, which knows nothing of where each stands.
+//! One member list, without an index of where each name is.
 ghost use Rattle.std.specs.Prelude.{◌≡◌, ◌+◌, ◌<◌, ◌≤◌, [], length, OnOk};
 ghost use Rattle.scr_rolls.specs.Members.{come, left, back_at};
 ghost use Rattle.scr_rolls.specs.Rosters.{MOST, drawn_in, drawn_out};
@@ -7,10 +7,11 @@ use scr_names::Name;
 use std::alloc::{AllocError as NoMemory, Global};
 use std::marker::Model;
 
-/// The most members that a roll has.
+/// The largest number of members of a list.
 const MOST: usize = u32::MAX as usize;
 
-/// The members of a roll in the order of their places. Contracts see the list of their names, and for how many more there is room.
+/// The members of one list in the order of their positions. Contracts see the names, and how many further members fit without new
+/// memory.
 #[derive(Drop)]
 pub(crate) struct Roster {
     names: Vec<Name>,
@@ -33,7 +34,7 @@ impl Model for Roster {
 }
 
 impl Roster {
-    /// Nobody is a member.
+    /// A list without members.
     pub(crate) fn new(alloc: Global) -> Roster
         ensures { result.names ≡ [] }
     {
@@ -42,21 +43,21 @@ impl Roster {
         }
     }
 
-    /// The members in the order of their places.
+    /// The members in the order of their positions.
     pub(crate) fn as_slice(&self) -> &[Name]
         ensures { result.now ≡ self.now.names }
     {
         self.names.as_slice()
     }
 
-    /// How many members there are.
+    /// The number of members.
     pub(crate) fn len(&self) -> u32
         ensures { result ≡ length self.now.names }
     {
         self.names.len() as u32
     }
 
-    /// Makes room for a member more. The members stay, whether there is memory or not.
+    /// Makes room for one further member; `NoMemory` if there is none or the list is full. The members stay in either case.
     pub(crate) fn reserve(&mut self, _alloc: Global) -> Result<(), NoMemory>
         ensures ok { OnOk result (0 < self.new.room) }
         ensures names { self.new.names ≡ self.old.names }
@@ -68,7 +69,7 @@ impl Roster {
         self.names.try_reserve(1)
     }
 
-    /// One comes, and goes last. It takes a place of the room, and no memory. Its place is told.
+    /// Appends a name and returns its position. It uses reserved room, so it can't fail.
     pub(crate) fn come(&mut self, name: Name) -> u32
         requires { 0 < self.old.room }
         ensures place { result ≡ length self.old.names }
@@ -80,7 +81,8 @@ impl Roster {
         place
     }
 
-    /// The member at a place leaves, and the last takes its place, if that is another one: it is told. There is room for one more.
+    /// Swap-removes the member at a position. Returns the member that took the position; `None` if the last was removed. Room
+    /// grows by one.
     pub(crate) fn leave(&mut self, place: u32) -> Option<Name>
         requires { place < length self.old.names }
         ensures names { self.new.names ≡ left place self.old.names }
@@ -91,8 +93,8 @@ impl Roster {
         self.names.as_slice().get(place as usize).copied()
     }
 
-    /// Puts one that left a place back there. The one that took the place goes last again, if there is one: it is told. It takes a
-    /// place of the room, and no memory.
+    /// Undoes a swap-removal: the name has its position again. Returns the member that goes to the end for it; `None` if the
+    /// position is the end. It uses reserved room, so it can't fail.
     pub(crate) fn put_back(&mut self, place: u32, name: Name) -> Option<Name>
         requires place { place ≤ length self.old.names }
         requires room { 0 < self.old.room }

@@ -1,4 +1,5 @@
-//! The rolls of a table's rows by number, and where each row stands in them.
+//! The member lists of a table's rows by number, and for each row the lists and positions that hold it: an index in both
+//! directions.
 ghost use Rattle.std.specs.Prelude.{◌≡◌, ◌≢◌, ◌⊎◌, ℕ, ◌+◌, ◌-◌, ◌<◌, ◌≤◌, ◌==◌, List, [], ◌∷◌, ◌++◌, Some, None, false, true, insert, remove, length, map, slice_get, slice_index_or, IfOk, OnOk, OnErr, if◌then◌else◌};
 ghost use Rattle.std.specs.List.{IsDistinct};
 ghost use Rattle.std.specs.Option.{option_map};
@@ -14,16 +15,15 @@ use scr_names::{Name, Row, Rows};
 use std::alloc::{AllocError as NoMemory, Global};
 use std::marker::Model;
 
-/// A roll, whose members have it in this seat.
+/// A member list, and the seat in which its members have it.
 #[derive(Drop)]
 pub(crate) struct Numbered {
     seat: usize,
     roster: Roster,
 }
 
-/// The rolls of a table's rows, each under a number, and the seats of the rows, place by place. Contracts see the rolls in the order
-/// of their numbers, and the seats in the order of the table. Of a row's eleven seats the first `N` are kept: no roll has its members
-/// beyond them.
+/// The member lists of a table, by number from 0, and its rows' seats, by position in the table. Of a row's eleven seats the first
+/// `N` are stored, and no list is of a seat beyond.
 #[derive(Drop)]
 pub struct Seating<const N: usize> {
     rolls: Vec<Numbered>,
@@ -49,7 +49,7 @@ impl<const N: usize> Model for Seating<N> {
 }
 
 impl<const N: usize> Seating<N> {
-    /// No roll and no row.
+    /// No list and no row.
     pub fn new(alloc: Global) -> Seating<N>
         requires { N ≤ 11 }
         ensures rolls { result.rolls ≡ [] }
@@ -62,8 +62,8 @@ impl<const N: usize> Seating<N> {
         }
     }
 
-    /// So many rolls more as there are seats in a list, each for the seat at its place. The number of the first is told; they follow
-    /// one another.
+    /// Adds an empty list for each seat in `seats`, with consecutive numbers, and returns the first number. `NoMemory` if there is
+    /// no memory or the number would reach 2^32 - 1; then lists and members stay, and some of the new lists may be there.
     pub fn add_all(&mut self, alloc: Global, seats: &[usize]) -> Result<u32, NoMemory>
         requires eleven { (k : ℕ) → slice_index_or seats.now k 0 < 11 }
         requires width { (k : ℕ) → slice_index_or seats.now k 0 < N }
@@ -84,7 +84,7 @@ impl<const N: usize> Seating<N> {
         Ok(first as u32)
     }
 
-    // A roll more, without members, who are to have it in this seat. Its number is told.
+    // Adds an empty list for a seat and returns its number; `NoMemory` leaves all as it was.
     fn add(&mut self, alloc: Global, seat: usize) -> Result<u32, NoMemory>
         requires { seat < N }
         ensures number { IfOk result (λ number. number ≡ length self.old.rolls) }
@@ -109,7 +109,7 @@ impl<const N: usize> Seating<N> {
         Ok(number as u32)
     }
 
-    /// The members of a roll in the order of their places. No name stands twice.
+    /// The members of a list in the order of their positions, no name twice.
     pub fn roll(&self, number: u32) -> &[Name]
         requires { number < length self.now.rolls }
         ensures names { result.now ≡ names_of number self.now.rolls }
@@ -118,21 +118,21 @@ impl<const N: usize> Seating<N> {
         self.rolls[number as usize].roster.as_slice()
     }
 
-    /// How many rolls there are.
+    /// The number of lists.
     pub fn len(&self) -> usize
         ensures { result ≡ length self.now.rolls }
     {
         self.rolls.len()
     }
 
-    /// How many rows have seats.
+    /// The number of rows that have seats.
     pub fn rows(&self) -> usize
         ensures { result ≡ length self.now.seats }
     {
         self.seats.len()
     }
 
-    /// The seats of the row at a place, as they are kept.
+    /// The stored seats of the row at a position of the table.
     pub fn bench(&self, place: usize) -> &Bench<N>
         requires { place < length self.now.seats }
         ensures { result.now ≡ seat_at place self.now.seats }
@@ -140,7 +140,7 @@ impl<const N: usize> Seating<N> {
         &self.seats[place]
     }
 
-    /// The seats of the row at a place.
+    /// All eleven seats of the row at a position of the table.
     pub fn seats(&self, place: usize) -> Seats
         requires { place < length self.now.seats }
         ensures { result ≡ seat_at place self.now.seats }
@@ -148,8 +148,8 @@ impl<const N: usize> Seating<N> {
         self.seats[place].seats()
     }
 
-    /// Makes room for the seats of a row more, and for a member more in each roll of a list that is one; what is nowhere in the list
-    /// is passed over.
+    /// Makes room for the seats of one further row, and for one further member in each list that `rolls` names; `NOWHERE` is
+    /// skipped. `NoMemory` leaves all lists and seats as they were.
     pub fn make_room(&mut self, alloc: Global, rolls: &[u32]) -> Result<(), NoMemory>
         requires { (seat : ℕ) → target seat rolls.now ≢ NOWHERE → target seat rolls.now < length self.old.rolls }
         ensures ok { OnOk result ((seat : ℕ) → target seat rolls.now ≢ NOWHERE → 0 < room_of (target seat rolls.now) self.new.rolls) }
@@ -164,8 +164,8 @@ impl<const N: usize> Seating<N> {
         Ok(())
     }
 
-    /// Makes room for a member more in a roll; where the number is that of none, there is nothing to do. All rolls stay, whether there
-    /// is memory or not.
+    /// Makes room for one further member in a list; nothing to do for `NOWHERE`. `NoMemory` leaves all lists and seats as they
+    /// were.
     pub fn reserve(&mut self, alloc: Global, roll: u32) -> Result<(), NoMemory>
         requires { roll ≢ NOWHERE → roll < length self.old.rolls }
         ensures ok { OnOk result (roll ≢ NOWHERE → 0 < room_of roll self.new.rolls) }
@@ -179,7 +179,7 @@ impl<const N: usize> Seating<N> {
         self.reserve_in(alloc, roll)
     }
 
-    // Makes room for a member more in the roll of a number.
+    // Makes room for one further member in a list that exists.
     fn reserve_in(&mut self, alloc: Global, number: u32) -> Result<(), NoMemory>
         requires { number < length self.old.rolls }
         ensures ok { OnOk result (0 < room_of number self.new.rolls) }
@@ -192,7 +192,7 @@ impl<const N: usize> Seating<N> {
         self.rolls[number as usize].roster.reserve(alloc)
     }
 
-    // Makes room for the seats of a row more.
+    // Makes room for the seats of one further row.
     fn reserve_row(&mut self, _alloc: Global) -> Result<(), NoMemory>
         ensures ok { OnOk result (0 < self.new.room) }
         ensures rolls { self.new.rolls ≡ self.old.rolls }
@@ -202,7 +202,7 @@ impl<const N: usize> Seating<N> {
         self.seats.try_reserve(1)
     }
 
-    /// The row that came last has seats from now on, all of them free. It takes a place of the room, and no memory.
+    /// Stores free seats for the row that was appended to the table. It uses reserved room, so it can't fail.
     pub fn enter(&mut self)
         requires { 0 < self.old.room }
         ensures rolls { self.new.rolls ≡ self.old.rolls }
@@ -212,8 +212,8 @@ impl<const N: usize> Seating<N> {
         self.seats.push_reserved(Bench::free());
     }
 
-    /// The place of the row of a name. Where the table has one row more than there are seats for, it is that row, which came last: its
-    /// seats are free from now on, and no name is looked up.
+    /// The position of the row of a name in the table. A row without seats yet is the last one: it gets free seats, and no name is
+    /// looked up.
     pub fn placed<R: Row>(&mut self, rows: &Rows<R>, name: &Name) -> usize
         requires seated { AwaitsSeats R.name_of name.now rows.now self.old }
         requires there { has_row R.name_of name.now rows.now ≡ true }
@@ -232,8 +232,8 @@ impl<const N: usize> Seating<N> {
         rows.place(name).unwrap()
     }
 
-    /// The row of a name, which is about to go out of the table, leaves all its rolls and its seats, without memory. Nothing changes
-    /// where no row has the name.
+    /// Removes the row of a name, about to leave the table, from all its lists, and drops its seats. Nothing changes if no row has
+    /// the name. It needs no memory.
     pub fn release<R: Row>(&mut self, rows: &Rows<R>, name: &Name)
         requires { AreSeated (map R.name_of rows.now) self.old }
         ensures seated { AreSeated (map R.name_of (without R.name_of name.now rows.now)) self.new }
@@ -250,8 +250,8 @@ impl<const N: usize> Seating<N> {
         }
     }
 
-    /// The row of a name, which the table has as it was, stands again where seats that were kept say, without memory. Where it was gone
-    /// from the table, it has seats again.
+    /// Undoes an edit of the row of a name: sets it back to the seats `before`, and stores seats again if it had left the table.
+    /// It needs no memory.
     pub fn regain<R: Row>(&mut self, rows: &Rows<R>, name: &Name, before: &Seats)
         requires seated { RegainsSeats R.name_of name.now rows.now self.old }
         requires there { has_row R.name_of name.now rows.now ≡ true }
@@ -269,7 +269,7 @@ impl<const N: usize> Seating<N> {
         self.restore(rows, place, before);
     }
 
-    // The row of a name, at its place of the table, has free seats if it has none.
+    // Stores free seats for the row at its position of the table, if it has none.
     fn rejoin_if_gone<R: Row>(&mut self, rows: &Rows<R>, _name: &Name, place: usize)
         requires seated { RegainsSeats R.name_of _name.now rows.now self.old }
         requires place { option_map R.name_of (slice_get rows.now place) ≡ Some _name.now }
@@ -283,8 +283,8 @@ impl<const N: usize> Seating<N> {
         }
     }
 
-    /// The row at a place stands in this roll in a seat from now on, or nowhere: it leaves where it stood, the last there takes
-    /// its place, and it goes last.
+    /// Moves the row at a position of the table to list `roll` of a seat, or to none for `NOWHERE`. It is swap-removed from the
+    /// old list and appended to the new one; nothing changes if they are one list.
     pub fn seat<R: Row>(&mut self, rows: &Rows<R>, place: usize, seat: usize, roll: u32)
         requires seated { AreSeated (map R.name_of rows.now) self.old }
         requires place { place < length rows.now }
@@ -312,8 +312,8 @@ impl<const N: usize> Seating<N> {
         }
     }
 
-    /// The row at a place stands, seat by seat, in the roll that a list names for the seat, or nowhere; the seats beyond the list
-    /// stay. A roll in which it stands already is passed over. Each roll has lost the name, or has it last, or is as it was.
+    /// Moves the row at a position of the table to the lists that `rolls` names, seat by seat from 0; seats beyond its end stay. A
+    /// list that holds the row already keeps it where it is.
     pub fn arrange<R: Row>(&mut self, rows: &Rows<R>, place: usize, rolls: &[u32])
         requires seated { AreSeated (map R.name_of rows.now) self.old }
         requires place { place < length rows.now }
@@ -337,7 +337,7 @@ impl<const N: usize> Seating<N> {
         }
     }
 
-    /// The row at a place leaves all its rolls, without memory: the last of each takes its place.
+    /// Swap-removes the row at a position of the table from all its lists. It needs no memory.
     pub fn vacate<R: Row>(&mut self, rows: &Rows<R>, place: usize)
         requires seated { AreSeated (map R.name_of rows.now) self.old }
         requires place { place < length rows.now }
@@ -354,8 +354,8 @@ impl<const N: usize> Seating<N> {
         self.arrange(rows, place, &[NOWHERE; 11]);
     }
 
-    /// The row at a place stands again where seats that were kept say, without memory: it leaves each roll that they do not name,
-    /// and in one that it left it stands at its place again, from which who took it goes last.
+    /// Sets the row at a position of the table back to the seats `before`, without memory. It leaves each list that they do not
+    /// name. It gets its position back in each list that it had left; the member that had taken it goes last.
     pub fn restore<R: Row>(&mut self, rows: &Rows<R>, place: usize, before: &Seats)
         requires seated { AreSeated (map R.name_of rows.now) self.old }
         requires place { place < length rows.now }
@@ -373,7 +373,7 @@ impl<const N: usize> Seating<N> {
         }
     }
 
-    // The row at a place stands nowhere in a seat from now on.
+    // Removes the row at a position of the table from its list of a seat, if it has one.
     fn clear<R: Row>(&mut self, rows: &Rows<R>, place: usize, seat: usize)
         requires seated { AreSeated (map R.name_of rows.now) self.old }
         requires apart { IsDistinct same_name (map R.name_of rows.now) }
@@ -396,7 +396,7 @@ impl<const N: usize> Seating<N> {
         }
     }
 
-    // The row at a place leaves the roll in which it stands in a seat. Apart, since few records come here.
+    // Swap-removes the row from its list of a seat. Not inlined, since few records come here.
     #[inline(never)]
     fn quit<R: Row>(&mut self, rows: &Rows<R>, place: usize, seat: usize)
         requires seated { AreSeated (map R.name_of rows.now) self.old }
@@ -422,7 +422,7 @@ impl<const N: usize> Seating<N> {
         self.seats[place].set_free(seat);
     }
 
-    // The row at a place, which stands nowhere in a seat, comes to a roll.
+    // Appends the row, whose seat is free, to a list.
     fn occupy<R: Row>(&mut self, rows: &Rows<R>, place: usize, seat: usize, roll: u32)
         requires seated { AreSeated (map R.name_of rows.now) self.old }
         requires apart { IsDistinct same_name (map R.name_of rows.now) }
@@ -447,7 +447,7 @@ impl<const N: usize> Seating<N> {
         self.seats[place].put(seat, roll, at);
     }
 
-    /// The row that stood at a place of the table, and nowhere in a roll, is gone from it. There is room for one more.
+    /// Drops the seats of the row that was removed from a position of the table and was in no list. Room grows by one.
     pub fn gone(&mut self, place: usize)
         requires { place < length self.old.seats }
         ensures rolls { self.new.rolls ≡ self.old.rolls }
@@ -457,7 +457,7 @@ impl<const N: usize> Seating<N> {
         self.seats.remove(place);
     }
 
-    /// A row that was gone is at a place of its table again, without memory: its seats are free.
+    /// Stores free seats for a row that is back at a position of the table. It uses reserved room, so it can't fail.
     pub fn rejoin(&mut self, place: usize)
         requires place { place ≤ length self.old.seats }
         requires room { 0 < self.old.room }
@@ -468,8 +468,8 @@ impl<const N: usize> Seating<N> {
         self.seats.insert(place, Bench::free()).unwrap();
     }
 
-    /// In a seat the row at a place stands again at a place of this roll, or nowhere, without memory: it leaves another where it
-    /// stood, and who stands at its place goes last.
+    /// Sets one seat of the row back to list `roll` and position `at`, or to free for `NOWHERE`, without memory. The row leaves
+    /// its present list, and the member at position `at` goes last. Nothing changes if the row is in list `roll` already.
     pub fn put_back<R: Row>(
         &mut self,
         rows: &Rows<R>,
@@ -504,7 +504,7 @@ impl<const N: usize> Seating<N> {
         }
     }
 
-    // The row at a place, which stands nowhere in a seat, goes back to a place of a roll, and who stands there goes last.
+    // Undoes the row's swap-removal from a list; its seat is free before.
     fn go_back<R: Row>(&mut self, rows: &Rows<R>, place: usize, seat: usize, roll: u32, at: u32)
         requires seated { AreSeated (map R.name_of rows.now) self.old }
         requires apart { IsDistinct same_name (map R.name_of rows.now) }
@@ -530,7 +530,7 @@ impl<const N: usize> Seating<N> {
         self.seats[place].put(seat, roll, at);
     }
 
-    // A name goes back to a place of a roll, and who stands there goes last.
+    // Inserts a name at its old position of a list. The member there goes last, and its seat follows.
     fn give_back<R: Row>(
         &mut self,
         rows: &Rows<R>,
@@ -568,7 +568,7 @@ impl<const N: usize> Seating<N> {
         }
     }
 
-    // How many members a roll has. The rows of the table have its seat.
+    // The number of members of a list; its seat is one that is stored.
     fn count(&self, number: u32) -> u32
         requires { number < length self.now.rolls }
         ensures count { result ≡ length (names_of number self.now.rolls) }
@@ -577,7 +577,7 @@ impl<const N: usize> Seating<N> {
         self.rolls[number as usize].roster.len()
     }
 
-    // A name goes back to a place of a roll. Who stood there, if anyone, is told, and stands last.
+    // Inserts a name at its old position of a list. Returns the member that goes last for it; `None` if the position is the end.
     fn put_at(&mut self, number: u32, place: u32, name: Name) -> Option<Name>
         requires number { number < length self.old.rolls }
         requires place { place ≤ length (names_of number self.old.rolls) }
@@ -593,7 +593,7 @@ impl<const N: usize> Seating<N> {
         self.rolls[number as usize].roster.put_back(place, name)
     }
 
-    // The member at a place of a roll leaves, and the last takes its place.
+    // Swap-removes the member at a position of a list; the seat of the member that moves there follows.
     fn leave<R: Row>(&mut self, rows: &Rows<R>, seat: usize, number: u32, place: u32)
         requires beside { length self.old.seats ≡ length rows.now }
         requires apart { IsDistinct same_name (map R.name_of rows.now) }
@@ -622,8 +622,8 @@ impl<const N: usize> Seating<N> {
         }
     }
 
-    // The member at a place of a roll leaves. The last, which takes its place if it is another one, is told. The rows of the table have
-    // the roll's seat.
+    // Swap-removes the member at a position of a list. Returns the member that took the position; `None` if the last was removed.
+    // The list's seat is one that is stored.
     fn draw(&mut self, number: u32, place: u32) -> Option<Name>
         requires number { number < length self.old.rolls }
         requires place { place < length (names_of number self.old.rolls) }
@@ -639,7 +639,7 @@ impl<const N: usize> Seating<N> {
         self.rolls[number as usize].roster.leave(place)
     }
 
-    // A name comes to a roll. Its place there is told.
+    // Appends a name to a list and returns its position.
     fn come(&mut self, number: u32, name: Name) -> u32
         requires number { number < length self.old.rolls }
         requires room { 0 < room_of number self.old.rolls }
@@ -654,7 +654,7 @@ impl<const N: usize> Seating<N> {
         self.rolls[number as usize].roster.come(name)
     }
 
-    // The place of the row of a name in a seat is another one.
+    // Sets the position in a seat of the row of a name.
     fn move_to<R: Row>(&mut self, rows: &Rows<R>, name: &Name, seat: usize, place: u32)
         requires beside { length self.old.seats ≡ length rows.now }
         requires apart { IsDistinct same_name (map R.name_of rows.now) }

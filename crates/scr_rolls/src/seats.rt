@@ -1,16 +1,16 @@
-//! Where a row stands.
+//! The seats of a row: which lists hold it, and where.
 ghost use Rattle.std.specs.Prelude.{◌≡◌, ℕ, ◌<◌, ◌≤◌, ◌==◌, if◌then◌else◌};
 ghost use Rattle.scr_rolls.specs.Seatings.{NOWHERE, free, place_in, roll_in};
 
 use std::marker::Model;
 
-/// The number of no roll: a seat with it is free.
+/// The list number of a free seat.
 pub const NOWHERE: u32 = u32::MAX;
 
-/// How many seats a row has.
+/// The number of seats of a row.
 pub const SEATS: usize = 11;
 
-/// The seats of a row: in each it stands at a place of the roll of a number, or nowhere.
+/// The eleven seats of a row. Seat `s` (0 to 10) is free, or names one list of its kind and the row's position there.
 #[derive(Clone, Copy)]
 pub struct Seats {
     rolls: [u32; 11],
@@ -18,7 +18,7 @@ pub struct Seats {
 }
 
 impl Seats {
-    /// Nowhere in any seat.
+    /// Eleven free seats.
     pub fn free() -> Seats
         ensures { result ≡ free }
     {
@@ -28,7 +28,7 @@ impl Seats {
         }
     }
 
-    /// The number of the roll in which the row stands in a seat.
+    /// The number of the list that holds the row in a seat; `NOWHERE` if the seat is free.
     pub fn roll(&self, seat: usize) -> u32
         requires { seat < 11 }
         ensures { result ≡ roll_in seat self.now }
@@ -36,14 +36,14 @@ impl Seats {
         self.rolls[seat]
     }
 
-    /// The numbers of its rolls, seat by seat.
+    /// The list numbers of seats 0 to 10; `NOWHERE` for each free seat.
     pub fn rolls(&self) -> [u32; 11]
         ensures { result ≡ self.now.rolls }
     {
         self.rolls
     }
 
-    /// Its place there.
+    /// The row's position, counted from 0, in the list of a seat; without meaning if the seat is free.
     pub fn place(&self, seat: usize) -> u32
         requires { seat < 11 }
         ensures { result ≡ place_in seat self.now }
@@ -52,8 +52,7 @@ impl Seats {
     }
 }
 
-/// The seats of a row as they are kept: as many as the rows of its table use, the first ones. Contracts see eleven, of which those
-/// beyond are free.
+/// The seats of a row as they are stored: the first `N`, which its table uses. Contracts see all eleven, with the others free.
 #[derive(Drop)]
 pub struct Bench<const N: usize> {
     rolls: [u32; N],
@@ -74,7 +73,7 @@ impl<const N: usize> Model for Bench<N> {
 }
 
 impl<const N: usize> Bench<N> {
-    /// Nowhere in any seat.
+    /// `N` free seats.
     pub(crate) fn free() -> Bench<N>
         ensures { result ≡ free }
     {
@@ -84,17 +83,17 @@ impl<const N: usize> Bench<N> {
         }
     }
 
-    /// How many of the eleven are kept: the row stands nowhere in those beyond.
+    /// The number of seats that are stored, at most 11; all others are free.
     pub fn width(&self) -> usize
         ensures few { result ≤ 11 }
         ensures beyond { (seat : ℕ) → result ≤ seat → roll_in seat self.now ≡ NOWHERE }
     {
-        // What contracts see has eleven seats.
+        // Brings the invariant into sight: `N` seats are stored, and the view has eleven.
         let _ = &self.rolls;
         N.min(SEATS)
     }
 
-    /// The number of the roll in which the row stands in a seat.
+    /// The number of the list that holds the row in a seat; `NOWHERE` if the seat is free.
     pub fn roll(&self, seat: usize) -> u32
         requires { seat < 11 }
         ensures { result ≡ roll_in seat self.now }
@@ -102,7 +101,7 @@ impl<const N: usize> Bench<N> {
         if seat < N { self.rolls[seat] } else { NOWHERE }
     }
 
-    /// Its place there.
+    /// The row's position, counted from 0, in the list of a seat; without meaning if the seat is free.
     pub fn place(&self, seat: usize) -> u32
         requires { seat < 11 }
         ensures { result ≡ place_in seat self.now }
@@ -110,11 +109,11 @@ impl<const N: usize> Bench<N> {
         if seat < N { self.places[seat] } else { 0 }
     }
 
-    /// All eleven seats.
+    /// All eleven seats; free ones beyond the stored.
     pub(crate) fn seats(&self) -> Seats
         ensures { result ≡ self.now }
     {
-        // What contracts see has eleven seats.
+        // Brings the invariant into sight: `N` seats are stored, and the view has eleven.
         let _ = &self.rolls;
         let mut seats = Seats::free();
         for seat in 0..SEATS {
@@ -124,7 +123,7 @@ impl<const N: usize> Bench<N> {
         seats
     }
 
-    /// The row stands nowhere in a seat.
+    /// Frees a seat.
     pub(crate) fn set_free(&mut self, seat: usize)
         requires width { seat < N }
         requires seat { seat < 11 }
@@ -134,7 +133,7 @@ impl<const N: usize> Bench<N> {
         self.rolls[seat] = NOWHERE;
     }
 
-    /// The row stands at this place of a roll in a seat.
+    /// Sets list and position of a seat.
     pub(crate) fn put(&mut self, seat: usize, roll: u32, place: u32)
         requires width { seat < N }
         requires seat { seat < 11 }
@@ -145,7 +144,7 @@ impl<const N: usize> Bench<N> {
         self.places[seat] = place;
     }
 
-    /// The place in a seat is another one.
+    /// Sets the position of a seat and keeps its list.
     pub(crate) fn set_place(&mut self, seat: usize, place: u32)
         requires width { seat < N }
         requires seat { seat < 11 }

@@ -1,4 +1,4 @@
-//! What is reached along edges.
+//! Reachability along edges.
 ghost use Rattle.std.specs.Prelude.{◌≡◌, ◌<◌, ◌≤◌, [], All, OnOk, length, map, nat_eq, take};
 ghost use Rattle.std.specs.List.{IsDistinct};
 ghost use Rattle.indexmap.specs.IndexSet.{insert_all};
@@ -9,9 +9,8 @@ use crate::marks::Marked;
 use scr_links::Links;
 use std::alloc::AllocError as NoMemory;
 
-/// Marks all numbers that are among the starts or are reached from one of them along edges, each from a
-/// source to its dependant. Each comes once, and the starts come first in their order. It costs what
-/// is reached and the edges of that. Only want of memory is refused.
+/// Marks all numbers that are reached from the starts along edges, each from a source to its dependant. The starts come first in
+/// their order. `NoMemory` if the list can't grow. It costs one step for each reached number and each of its edges.
 pub fn mark_reached(marked: &mut Marked, links: &Links, starts: &[u32]) -> Result<(), NoMemory>
     requires none { marked.old.list ≡ [] }
     requires links { links.now.size ≤ marked.old.size }

@@ -1,14 +1,11 @@
-//! What the definitions of what is reached and of what ends come to, whatever a program does. Each
-//! law is a function that does nothing, whose contract is the law; a proof above cites it from
-//! here.
+//! Laws of reachability and of chains of dues, for proofs above to cite.
 ghost use Rattle.std.specs.Prelude.{ℕ, ◌≤◌, Bool, Contains, IsTrue, List};
 ghost use Rattle.scr_links.specs.Edges.{Edge};
 ghost use Rattle.scr_rounds.specs.declared.ranks.Due.{Due};
 ghost use Rattle.scr_rounds.specs.Dues.{EndsIn};
 ghost use Rattle.scr_rounds.specs.Reached.{AreReached};
 
-/// What is reached has the starts, has the dependant of each edge whose source it has, and has no
-/// more than anything that has both.
+/// The reached numbers are the least set with all starts, and with the dependant of each edge whose source it has.
 pub fn reached()
     ensures begun { (edges : List Edge) (starts list : List ℕ) → AreReached edges starts list
         → (n : ℕ) → Contains starts n → Contains list n }
@@ -21,7 +18,7 @@ pub fn reached()
         → IsTrue (test edge.dependant)) → (n : ℕ) → Contains list n → IsTrue (test n) }
 {}
 
-/// What ends within so many levels ends within more.
+/// A chain that ends within `k` levels ends within any larger number of them.
 pub fn ends()
     ensures { (dues : List Due) (k m n : ℕ) → k ≤ m → EndsIn dues k n → EndsIn dues m n }
 {}

@@ -1,5 +1,4 @@
-//! Rounds: what is reached along edges, and in which rounds what is reached can be reckoned. All go
-//! by plain numbers.
+//! Reachability along edges, and the rounds in which the reached numbers can be computed. Nodes are plain numbers.
 #![tactic(auto)]
 
 mod climbs;

@@ -1,4 +1,4 @@
-//! Numbers that are marked.
+//! A set of numbers with a list of them.
 ghost use Rattle.std.specs.Prelude.{◌≡◌, ◌<◌, ◌≤◌, [], All, IfSome, OnOk, OnErr};
 ghost use Rattle.std.specs.Prelude.{ℕ, Some, max, nat_eq, slice_get};
 ghost use Rattle.std.specs.List.{IsDistinct};
@@ -8,11 +8,10 @@ ghost use Rattle.scr_rounds.specs.Marks.{MarkedNumbers};
 use std::alloc::{AllocError as NoMemory, Global};
 use std::marker::Model;
 
-/// Numbers, each once, in the order in which they were marked. Contracts see the list and the number
-/// below which numbers can be marked (`size`).
+/// A sparse set of numbers, in the order in which they were marked. Contracts see the list, and the bound of numbers that can be
+/// marked (`size`).
 ///
-/// A number is marked where the list has it at the place that is kept of it. So all marks are taken
-/// away with the list.
+/// A number is marked if the list has it at the index that is stored for it. So clearing the list clears the set.
 #[derive(Drop)]
 pub struct Marked {
     list: Vec<u32>,
@@ -30,7 +29,7 @@ impl Model for Marked {
 }
 
 impl Marked {
-    /// No number, and none that can be marked.
+    /// The empty set, which can hold no number yet.
     pub fn new(alloc: Global) -> Marked
         ensures size { result.size ≡ 0 }
         ensures list { result.list ≡ [] }
@@ -41,7 +40,7 @@ impl Marked {
         }
     }
 
-    /// The number below which numbers can be marked.
+    /// The bound of numbers that can be marked.
     pub fn size(&self) -> usize
         ensures size { result ≡ self.now.size }
         ensures once { IsDistinct nat_eq self.now.list }
@@ -49,7 +48,7 @@ impl Marked {
         self.places.len()
     }
 
-    /// Numbers below `size` can be marked. Those that are marked stay so.
+    /// Raises the bound to `size`, if it is lower. `NoMemory` leaves the bound as it was. Marks stay in either case.
     pub fn grow(&mut self, size: usize) -> Result<(), NoMemory>
         ensures list { self.new.list ≡ self.old.list }
         ensures ok { OnOk result (self.new.size ≡ max self.old.size size) }
@@ -61,7 +60,7 @@ impl Marked {
         Ok(())
     }
 
-    /// The place of a number among those that are marked.
+    /// The index of a number among the marked ones; `None` if it is not marked.
     pub fn place(&self, number: u32) -> Option<u32>
         requires { number < self.now.size }
         ensures there { IfSome result (λ place. slice_get self.now.list place ≡ Some number) }
@@ -78,8 +77,7 @@ impl Marked {
         Some(place)
     }
 
-    /// Marks a number, where it is not marked. Where memory is refused, all is as before; room for more
-    /// than 2^32 numbers is refused as if for want of memory.
+    /// Marks a number, if it is not marked yet. `NoMemory` if the list can't grow or has 2^32 numbers; all stays as it was.
     pub fn insert(&mut self, number: u32) -> Result<(), NoMemory>
         requires { number < self.old.size }
         ensures size { self.new.size ≡ self.old.size }
@@ -97,7 +95,7 @@ impl Marked {
         Ok(())
     }
 
-    /// All numbers that are marked.
+    /// The marked numbers, in the order of marking.
     pub fn as_slice(&self) -> &[u32]
         ensures list { result.now ≡ self.now.list }
         ensures once { IsDistinct nat_eq self.now.list }
@@ -106,7 +104,7 @@ impl Marked {
         self.list.as_slice()
     }
 
-    /// Takes all marks away, without memory.
+    /// Clears all marks, without memory.
     pub fn clear(&mut self)
         ensures size { self.new.size ≡ self.old.size }
         ensures list { self.new.list ≡ [] }

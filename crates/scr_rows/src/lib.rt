@@ -1,4 +1,4 @@
-//! Rows of items that all lie in one list, so that making them costs no memory of their own.
+//! Rows of different lengths in one list of items, so that making a row needs no allocation of its own.
 #![tactic(auto)]
 
 mod bins;

@@ -1,17 +1,17 @@
-//! Rows in one list.
+//! Rows of items in one list.
 ghost use Rattle.std.specs.Prelude.{◌≡◌, ◌+◌, [], ◌∷◌, ◌++◌, IfOk, OnErr, OnOk, length, slice_get, slice_index_or};
 
 use std::alloc::{AllocError as NoMemory, Global};
 use std::marker::Model;
 
-/// Where a row lies in the list of all items: from one place up to another.
+/// The stretch of the list that a row takes: from index `from` up to `to`, which is excluded.
 #[derive(Clone, Copy)]
 pub(crate) struct Part {
     pub(crate) from: u32,
     pub(crate) to: u32,
 }
 
-/// Rows of items, all in one list. Contracts see the rows as lists.
+/// Rows of items in one list. Contracts see the rows as lists.
 #[derive(Drop)]
 pub struct Rows<T> {
     pub(crate) items: Vec<T>,
@@ -30,7 +30,7 @@ impl<T> Model for Rows<T> {
 }
 
 impl<T: Copy> Rows<T> {
-    /// No rows, with room for so many.
+    /// No rows, with room for `rows` of them.
     pub fn with_capacity(alloc: Global, rows: usize) -> Result<Rows<T>, NoMemory>
         ensures { IfOk result (λ rows. rows ≡ []) }
     {
@@ -39,14 +39,14 @@ impl<T: Copy> Rows<T> {
         Ok(Rows { items, parts })
     }
 
-    /// How many rows there are.
+    /// The number of rows.
     pub fn len(&self) -> usize
         ensures { result ≡ length self.now }
     {
         self.parts.len()
     }
 
-    /// The row at a place; an empty one past the last.
+    /// The items of the row at index `place`; an empty slice past the last.
     pub fn row(&self, place: usize) -> &[T]
         ensures { result.now ≡ slice_index_or self.now place [] }
     {
@@ -56,14 +56,14 @@ impl<T: Copy> Rows<T> {
         }
     }
 
-    /// The `k`-th item of the row at a place; nothing past the last.
+    /// Item `k` of the row at index `place`, both from 0; `None` past the last.
     pub fn get(&self, place: u32, k: u32) -> Option<T>
         ensures { result ≡ slice_get (slice_index_or self.now place []) k }
     {
         self.row(place as usize).get(k as usize).copied()
     }
 
-    /// A row more. Room for more than 2^32 items is refused as if for want of memory; the rows then stay as they are.
+    /// Appends a row. `NoMemory` if memory is refused or there would be more than 2^32 - 1 items; the rows then stay as they were.
     pub fn push(&mut self, row: &[T]) -> Result<(), NoMemory>
         ensures ok { OnOk result (self.new ≡ self.old ++ row.now ∷ []) }
         ensures err { OnErr result (self.new ≡ self.old) }
@@ -76,7 +76,7 @@ impl<T: Copy> Rows<T> {
     }
 }
 
-/// A count of items, where it fits.
+/// A count as 32 bits; `NoMemory` if it doesn't fit.
 fn count_of(count: usize) -> Result<u32, NoMemory>
     ensures { IfOk result (λ number. number ≡ count) }
 {
@@ -86,7 +86,7 @@ fn count_of(count: usize) -> Result<u32, NoMemory>
     }
 }
 
-/// The sum of two counts, where it fits.
+/// The sum of two counts; `NoMemory` if it doesn't fit 32 bits.
 pub(crate) fn added(count: u32, more: u32) -> Result<u32, NoMemory>
     ensures { IfOk result (λ sum. sum ≡ count + more) }
 {

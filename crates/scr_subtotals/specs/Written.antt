@@ -1,4 +1,4 @@
--- The blocks of one sum over a list, at their numbers (this project's own).
+-- The blocks of one sum over a list, stored under their ids (own).
 use Rattle.std.specs.Prelude.{◌≡◌, ℕ, ◌+◌, ◌<◌, ◌≤◌, Bool, false, List, Some, length, map, slice_get}
 use Rattle.std.specs.List.{list_any, range_with_len}
 use Rattle.std.specs.Option.{option_map_or}
@@ -16,12 +16,12 @@ use Rattle.scr_subtotals.specs.Figures.{ends_at, member_number, members_ends}
 use Rattle.scr_subtotals.specs.declared.figure.Figure.{Figure}
 use Rattle.scr_subtotals.specs.declared.writing.Subtotals.{Subtotals}
 
--- the number of a block
+-- The id of block `i` of a level: the first id of its slot's row plus the sum's place `own` (own).
 abbrev pub number_of : Subtotals → Level → ℕ → ℕ
 number_of s level i = first s.places.now tables.Part (slot_at (key_of s.list level) i s.parts.now) + s.own
 
--- A list of so many members, of which there are no more than securities in a book, has a part for each of its blocks, the slot of each part has
--- numbers of its own, and the sum has one of them.
+-- The blocks of the sum have ids (own). The list has at most 20,000 members, the most securities of a book, and one part for each
+-- block. Each part's slot has a row of ids, and `own` (0 to 2) is the sum's place in it.
 pub record AreNumbered (s : Subtotals) (members : ℕ) : Type 0 where
   pub own : s.own < 3
   pub few : members ≤ 20000
@@ -31,43 +31,44 @@ pub record AreNumbered (s : Subtotals) (members : ℕ) : Type 0 where
   pub apart : IsApart s.places.now
   pub within : IsWithin s.places.now
 
--- none of the blocks of the sum has the number
+-- The id is of no block of this sum (own).
 abbrev pub AreOffBlocks : Subtotals → ℕ → ℕ → Type 0
 AreOffBlocks s members number = (level : Level) (i : ℕ) → i < blocks_at members level → number ≡ number_of s level i → ⊥
 
--- a block rests on no choice
+-- A block's figure: its span, resting on no open choice (own).
 abbrev pub block_figure : Span → Figure
 block_figure span = record { span = span; close = false }
 
+-- The figure with this id rests on an open choice; no if there is none (own).
 abbrev pub is_open_at : List Figure → ℕ → Bool
 is_open_at figures number = option_map_or (λ (figure : Figure). figure.close) (slice_get figures number) false
 
--- one of the figures of members rests on an open choice, whose rows have these first numbers
+-- Figure `family` of some member rests on an open choice, for rows that begin at ids `firsts` (own).
 abbrev pub any_open : List Figure → ℕ → List ℕ → Bool
 any_open figures family firsts = list_any (λ first. is_open_at figures (member_number family first)) firsts
 
--- what the members of a part come to
+-- The sum of figure `family` over part `i` of the members (own).
 abbrev pub part_ends : List Figure → ℕ → List ℕ → ℕ → Ends
 part_ends figures family firsts i = sum_ends (members_ends figures family (part i firsts))
 
--- what blocks have, from one on, so many
+-- The ends of `many` blocks of a level, from block `from` on (own).
 abbrev pub blocks_ends : List Figure → Subtotals → Level → ℕ → ℕ → List Ends
 blocks_ends figures s level from many = map (λ i. ends_at figures (number_of s level i)) (range_with_len from many)
 
--- one of these blocks rests on an open choice
+-- Some of these `many` blocks, from block `from` on, rests on an open choice (own).
 abbrev pub any_block_open : List Figure → Subtotals → Level → ℕ → ℕ → Bool
 any_block_open figures s level from many = list_any (λ i. is_open_at figures (number_of s level i)) (range_with_len from many)
 
--- what the blocks of the first level come to that one of the second adds up
+-- The sum of the first-level blocks that second-level block `i` adds up (own).
 abbrev pub second_ends : List Figure → Subtotals → ℕ → ℕ → Ends
 second_ends figures s members i = sum_ends (part i (blocks_ends figures s levels.First 0 (blocks_at members levels.First)))
 
--- every other figure is as it was
+-- Every figure keeps its value but blocks 0 to `upto` - 1 of this level (own).
 pub record AreOthers (s : Subtotals) (level : Level) (upto : ℕ) (old new : List Figure) : Type 0 where
   pub long : length new ≡ length old
   pub others : (number : ℕ) → ((i : ℕ) → i < upto → number ≡ number_of s level i → ⊥) → slice_get new number ≡ slice_get old number
 
--- the first blocks of a level, so many, have these ends, and rest on no choice
+-- Blocks 0 to `upto` - 1 of a level are worth what `worth` gives and rest on no open choice; every other figure stays (own).
 pub record IsPut (s : Subtotals) (level : Level) (upto : ℕ) (worth : ℕ → Ends) (old new : List Figure) : Type 0 where
   pub kept : AreOthers s level upto old new
   pub there : (i : ℕ) → i < upto → ends_at new (number_of s level i) ≡ worth i

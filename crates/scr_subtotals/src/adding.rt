@@ -9,7 +9,7 @@ ghost use Rattle.scr_subtotals.specs.Written.{any_open};
 use crate::{Figure, Figures};
 use scr_num::{Span, add, exact};
 
-/// What the figures of one family of the rows with these first numbers come to.
+/// The sum of figure `family` over the rows whose ids begin at `firsts`.
 pub fn add_members(figures: &Figures, firsts: &[u32], family: u32) -> Span
     requires within { All (λ first. first + family < length figures.now) firsts.now }
     requires together { AreTogether (2 ^ 124) (members_ends figures.now family firsts.now) }
@@ -18,8 +18,7 @@ pub fn add_members(figures: &Figures, firsts: &[u32], family: u32) -> Span
     add_figures(figures, firsts, family).span
 }
 
-/// What the figures of one family of the rows with these first numbers come to together, as one figure, which rests on an open choice
-/// where one of theirs does.
+/// The sum of figure `family` over the rows whose ids begin at `firsts`, as a figure; open if any summand is.
 pub fn add_figures(figures: &Figures, firsts: &[u32], family: u32) -> Figure
     requires within { All (λ first. first + family < length figures.now) firsts.now }
     requires together { AreTogether (2 ^ 124) (members_ends figures.now family firsts.now) }

@@ -1,4 +1,4 @@
-//! What stands at a number of a table of figures.
+//! The cell of a figure in a table.
 ghost use Rattle.std.specs.Prelude.{◌≡◌, ◌+◌, ◌<◌, ◌^◌, ◌≤ℤ◌, ⊤, true, false, IfSome, IsNone};
 ghost use Rattle.scr_subtotals.specs.Cells.{IsNarrow, high_in, low_in};
 ghost use Rattle.scr_subtotals.specs.Tables.{IsOneAmount, nothing};
@@ -10,28 +10,28 @@ use scr_num::Span;
 use std::alloc::AllocError as NoMemory;
 use std::marker::Model;
 
-/// What the low end of a narrow figure, moved up by `HALF`, counts up to.
+/// The number of values of the low end's field.
 const LOWS: u128 = 1 << 90;
 
-/// How far the low end of a narrow figure is moved up, so that it is none below nothing.
+/// The offset of the low end in its field, so that negative ends fit.
 const HALF: i128 = 1 << 89;
 
-/// What the width of a narrow figure counts up to.
+/// The number of values of the width's field.
 const WIDTHS: u128 = 1 << 36;
 
-/// What a half of the bits counts up to.
+/// The number of values of half a cell's bits.
 const WORDS: u128 = 1 << 64;
 
-/// From this number on the bits are a place among the wide figures.
+/// The bits of the wide figure with index 0; further indexes follow.
 const APART: u128 = 1 << 127;
 
-/// A figure as it stands in a table: the figure itself where it is narrow, and of a wide one its place among those that stand apart.
+/// What a cell holds: a narrow figure itself, or the index of a wide one.
 pub(crate) enum Kept {
     Here(Figure),
     Apart(usize),
 }
 
-/// What stands at a number, in 16 bytes: a figure whose low end takes at most 90 bits and whose width takes 36, or where it stands apart.
+/// A figure's cell, 16 bytes. It holds a figure whose low end takes 90 bits and whose width takes 36, or the index of a wide one.
 /// Contracts see which.
 #[derive(Drop)]
 pub(crate) struct Cell {
@@ -61,7 +61,7 @@ impl Clone for Cell {
 }
 
 impl Cell {
-    /// A narrow figure.
+    /// The cell of a narrow figure; `None` if the figure is wide.
     pub(crate) fn here(figure: &Figure) -> Option<Cell>
         ensures there { IfSome result (λ cell. cell ≡ kept.Here figure.now) }
         ensures absent { IsNone result → IsNarrow figure.now → ⊥ }
@@ -78,14 +78,14 @@ impl Cell {
         })
     }
 
-    /// The figure that comes to nothing.
+    /// The cell of the figure 0.
     pub(crate) fn nothing() -> Cell
         ensures { result ≡ kept.Here nothing }
     {
         Cell { bits: HALF as u128 }
     }
 
-    /// It is the figure that comes to nothing, and does not stand apart.
+    /// Whether the cell holds the figure 0 itself.
     pub(crate) fn is_nothing(&self) -> bool
         ensures yes { result ≡ true → self.now ≡ kept.Here nothing }
         ensures not { result ≡ false → self.now ≡ kept.Here nothing → ⊥ }
@@ -93,20 +93,20 @@ impl Cell {
         self.bits == HALF as u128
     }
 
-    /// It is the figure of one amount, at most so many, and the next one is that which comes to nothing. Neither stands apart.
+    /// Whether the cell itself holds one exact amount from 0 to `most`, and `next` itself holds the figure 0.
     pub(crate) fn is_amount_before_nothing(&self, next: &Cell, most: u64) -> bool
         ensures yes { result ≡ true
             → ((figure : TheFigure) × (self.now ≡ kept.Here figure) × IsOneAmount most figure) × (next.now ≡ kept.Here nothing) }
         ensures not { result ≡ false → (figure : TheFigure) → self.now ≡ kept.Here figure → IsOneAmount most figure
             → next.now ≡ kept.Here nothing → ⊥ }
     {
-        // The bits of such an amount have the upper half of those of nothing.
+        // An amount below 2^64 shares the upper half of its bits with the figure 0.
         self.bits / WORDS == (HALF as u128) / WORDS
             && next.is_nothing()
             && (self.bits % WORDS) as u64 <= most
     }
 
-    /// The place of a wide one.
+    /// The cell of a wide figure, by its index.
     pub(crate) fn apart(place: usize) -> Cell
         ensures { result ≡ kept.Apart place }
     {
@@ -115,7 +115,7 @@ impl Cell {
         }
     }
 
-    /// Which of both it is.
+    /// What the cell holds.
     pub(crate) fn kept(&self) -> Kept
         ensures { result ≡ self.now }
     {
@@ -132,7 +132,7 @@ impl Cell {
     }
 }
 
-/// A narrow figure as it stands in a table, in 16 bytes: that it still stands there is told without reading it.
+/// A narrow figure in the bits of its cell, 16 bytes: a table compares it with a cell without decoding either.
 #[derive(Clone, Copy)]
 pub struct Mark {
     bits: u128,
@@ -146,7 +146,7 @@ impl Mark {
     ghost use Rattle.scr_subtotals.specs.Marks.{figure_of};
     ghost use Rattle.scr_subtotals.specs.declared.cell.Kept.TheVariants as kept;
 
-    /// The mark of a narrow figure. A wide one has none.
+    /// The mark of a narrow figure; `None` if the figure is wide.
     pub fn new(figure: &Figure) -> Option<Mark>
         ensures there { IfSome result (λ mark. figure_of mark ≡ figure.now) }
         ensures absent { IsNone result → IsNarrow figure.now → ⊥ }
@@ -155,7 +155,7 @@ impl Mark {
         Some(Mark { bits: cell.bits })
     }
 
-    /// The cell is the figure, which does not stand apart.
+    /// Whether the cell holds the mark's figure itself.
     pub(crate) fn is_of(&self, cell: &Cell) -> bool
         ensures yes { result ≡ true → cell.now ≡ kept.Here (figure_of self.now) }
         ensures not { result ≡ false → cell.now ≡ kept.Here (figure_of self.now) → ⊥ }
@@ -163,7 +163,7 @@ impl Mark {
         cell.bits == self.bits
     }
 
-    /// The figure is that of the mark.
+    /// Whether the figure is the mark's.
     pub(crate) fn is_same(&self, figure: &Figure) -> bool
         ensures yes { result ≡ true → figure.now ≡ figure_of self.now }
         ensures not { result ≡ false → figure.now ≡ figure_of self.now → ⊥ }

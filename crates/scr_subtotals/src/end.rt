@@ -1,12 +1,13 @@
-//! An end of a span as the table keeps it.
+//! An end of a span as a table stores it.
 ghost use Rattle.std.specs.Prelude.{◌≡◌};
 
 use std::marker::Model;
 
-/// How many numbers a word tells apart.
+/// The number of values of a word.
 const WORD: u128 = 1 << 32;
 
-/// An end of a span in four words of 32 bits, the lowest first, which may stand at each fourth byte. Contracts see the number.
+/// A signed 128-bit number in four words of 32 bits, the lowest first. So it can be aligned to four bytes. Contracts see the
+/// number.
 #[derive(Drop)]
 pub(crate) struct End {
     first: u32,
@@ -26,7 +27,7 @@ impl Model for End {
 }
 
 impl End {
-    /// The words of a number.
+    /// The number in its stored form.
     pub(crate) fn new(number: i128) -> End
         ensures { result ≡ number }
     {
@@ -41,7 +42,7 @@ impl End {
         }
     }
 
-    /// The number.
+    /// The number that is stored.
     pub(crate) fn number(&self) -> i128
         ensures { result ≡ self.now }
     {

@@ -1,17 +1,17 @@
-//! Figures by their numbers.
+//! Figures: a span, and whether it is open.
 ghost use Rattle.std.specs.Prelude.{◌≡◌, ◌≤ℤ◌, pos, true, false};
 ghost use Rattle.scr_subtotals.specs.Tables.{IsOneAmount, nothing};
 
 use scr_num::Span;
 
-/// A figure: its span, and whether it rests on a choice that is open.
+/// A figure: its span, and `close` if it rests on an open choice.
 #[derive(Clone, Copy)]
 pub struct Figure {
     pub span: Span,
     pub close: bool,
 }
 
-/// The figure comes to nothing, and rests on no choice that is open.
+/// Whether the figure is 0 exactly and rests on no open choice.
 pub fn is_nothing(figure: &Figure) -> bool
     ensures yes { result ≡ true → figure.now ≡ nothing }
     ensures not { result ≡ false → figure.now ≡ nothing → ⊥ }
@@ -19,7 +19,7 @@ pub fn is_nothing(figure: &Figure) -> bool
     !figure.close && is_nil(figure.span)
 }
 
-/// The figure is that of one amount, at most so many, and rests on no choice that is open.
+/// Whether the figure is one exact amount from 0 to `most` and rests on no open choice.
 pub(crate) fn is_amount(figure: &Figure, most: u64) -> bool
     ensures yes { result ≡ true → IsOneAmount most figure.now }
     ensures not { result ≡ false → IsOneAmount most figure.now → ⊥ }
@@ -27,7 +27,7 @@ pub(crate) fn is_amount(figure: &Figure, most: u64) -> bool
     !figure.close && is_one(figure.span) && is_within(figure.span.low, most)
 }
 
-/// Both ends are the same.
+/// Whether both ends are equal.
 fn is_one(span: Span) -> bool
     ensures yes { result ≡ true → span.low ≡ span.high }
     ensures not { result ≡ false → span.low ≡ span.high → ⊥ }
@@ -35,7 +35,7 @@ fn is_one(span: Span) -> bool
     span.low == span.high
 }
 
-/// From 0 to so many.
+/// Whether the number lies from 0 to `most`.
 fn is_within(number: i128, most: u64) -> bool
     ensures yes { result ≡ true → (pos 0 ≤ℤ number) × (number ≤ℤ pos most) }
     ensures not { result ≡ false → pos 0 ≤ℤ number → number ≤ℤ pos most → ⊥ }
@@ -43,7 +43,7 @@ fn is_within(number: i128, most: u64) -> bool
     number >= 0 && number <= i128::from(most)
 }
 
-/// Both ends are 0.
+/// Whether both ends are 0.
 fn is_nil(span: Span) -> bool
     ensures yes { result ≡ true → (span.low ≡ pos 0) × (span.high ≡ pos 0) }
     ensures not { result ≡ false → span.low ≡ pos 0 → span.high ≡ pos 0 → ⊥ }

@@ -1,4 +1,4 @@
-//! A table of figures by number.
+//! A table of figures by id.
 ghost use Rattle.std.specs.Prelude.{◌≡◌, ◌+◌, ◌<◌, ◌++◌, ◌∷◌, [], true, false, Some, IfOk, OnErr, OnOk, length, replicate, slice_get, slice_set};
 ghost use Rattle.scr_subtotals.specs.declared.figure.Figure.{Figure as TheFigure};
 ghost use Rattle.scr_subtotals.specs.Marks.{figure_of};
@@ -11,9 +11,9 @@ use scr_num::Span;
 use std::alloc::{AllocError as NoMemory, Global};
 use std::marker::Model;
 
-/// A table of figures by number, in 16 bytes each: there are many, and the least memory costs the least time. The few that are too wide
-/// stand apart, and stay there once they do: there is room for all, so that a figure can be written without asking for memory. Room that is
-/// not written takes no page of memory. Contracts see the list of the figures.
+/// A table of figures by id, 16 bytes each: there are many, so less memory is less time. The few wide figures are stored beside
+/// the cells, and stay there. Room for all of them is reserved, so writing a figure needs no memory. Reserved room that is not
+/// written takes no page. Contracts see the list of figures.
 #[derive(Drop)]
 pub struct Figures {
     cells: Vec<Cell>,
@@ -34,7 +34,7 @@ impl Model for Figures {
 }
 
 impl Figures {
-    /// So many figures that come to nothing.
+    /// A table of `size` figures that are 0; `NoMemory` if it doesn't fit.
     pub fn new(alloc: Global, size: usize) -> Result<Figures, NoMemory>
         ensures { IfOk result (λ figures. figures ≡ replicate size nothing) }
     {
@@ -43,14 +43,14 @@ impl Figures {
         Ok(Figures { cells, wide })
     }
 
-    /// How many there are.
+    /// The number of figures.
     pub fn len(&self) -> usize
         ensures { result ≡ length self.now }
     {
         self.cells.as_slice().len()
     }
 
-    /// The figure at a number.
+    /// The figure with id `number`.
     pub fn figure(&self, number: usize) -> Figure
         requires { number < length self.now }
         ensures { slice_get self.now number ≡ Some result }
@@ -61,7 +61,7 @@ impl Figures {
         }
     }
 
-    /// What the figure at a number comes to.
+    /// The span of the figure with id `number`.
     pub fn span(&self, number: usize) -> Span
         requires { number < length self.now }
         ensures { (figure : TheFigure) → slice_get self.now number ≡ Some figure → result ≡ figure.span }
@@ -69,7 +69,7 @@ impl Figures {
         self.figure(number).span
     }
 
-    /// The figure at a number rests on a choice that is open.
+    /// Whether the figure with id `number` rests on an open choice.
     pub fn is_close(&self, number: usize) -> bool
         requires { number < length self.now }
         ensures { (figure : TheFigure) → slice_get self.now number ≡ Some figure → result ≡ figure.close }
@@ -77,13 +77,13 @@ impl Figures {
         self.figure(number).close
     }
 
-    /// The figure at a number comes to nothing, and rests on no choice that is open.
+    /// Whether the figure with id `number` is 0 exactly and rests on no open choice.
     pub fn is_nothing(&self, number: usize) -> bool
         requires { number < length self.now }
         ensures yes { result ≡ true → slice_get self.now number ≡ Some nothing }
         ensures not { result ≡ false → slice_get self.now number ≡ Some nothing → ⊥ }
     {
-        // Of most cells this is told by their bits.
+        // The bits of a cell decide for most figures.
         let cell = &self.cells[number];
         if cell.is_nothing() {
             return true;
@@ -94,37 +94,36 @@ impl Figures {
         }
     }
 
-    /// The figure at a number is that of one amount, at most so many, and the next one comes to nothing. Neither rests on a choice that is
-    /// open.
+    /// Whether figure `number` is one exact amount from 0 to `most` and the next is 0, neither on an open choice.
     pub fn is_amount_before_nothing(&self, number: usize, most: u64) -> bool
         requires { number + 1 < length self.now }
         ensures yes { result ≡ true → IsAmountBeforeNothing most self.now number }
         ensures not { result ≡ false → IsAmountBeforeNothing most self.now number → ⊥ }
     {
-        // Of most cells this is told by their bits.
+        // The bits of both cells decide for most figures.
         let next = &self.cells[number + 1];
         self.cells[number].is_amount_before_nothing(next, most) || self.is_read_so(number, most)
     }
 
-    /// The same from the figures as they are read.
+    /// Decides `is_amount_before_nothing` from the decoded figures, the rare case.
     #[inline(never)]
     fn is_read_so(&self, number: usize, most: u64) -> bool
         requires { number + 1 < length self.now }
         ensures yes { result ≡ true → IsAmountBeforeNothing most self.now number }
         ensures not { result ≡ false → IsAmountBeforeNothing most self.now number → ⊥ }
     {
-        // The length is a number, and so is the next one.
+        // The length fits a `usize`, so the next id does.
         let _length = self.len();
         is_amount(&self.figure(number), most) && self.is_nothing(number + 1)
     }
 
-    /// The figure at a number is that of the mark.
+    /// Whether figure `number` is the mark's.
     pub fn is_marked(&self, number: usize, mark: &Mark) -> bool
         requires { number < length self.now }
         ensures yes { result ≡ true → slice_get self.now number ≡ Some (figure_of mark.now) }
         ensures not { result ≡ false → slice_get self.now number ≡ Some (figure_of mark.now) → ⊥ }
     {
-        // Of most cells this is told by their bits.
+        // The bits of a cell decide for most figures.
         let cell = &self.cells[number];
         if mark.is_of(cell) {
             return true;
@@ -135,7 +134,7 @@ impl Figures {
         }
     }
 
-    /// Writes a figure at a number. It takes no memory.
+    /// Writes figure `number`. It uses reserved room, so it can't fail.
     pub fn set(&mut self, number: usize, figure: Figure)
         requires { number < length self.old }
         ensures { self.new ≡ slice_set self.old number figure }
@@ -153,7 +152,7 @@ impl Figures {
         }
     }
 
-    /// One more figure, which comes to nothing.
+    /// Appends a figure that is 0; `NoMemory` leaves the table as it was.
     pub fn push(&mut self) -> Result<(), NoMemory>
         ensures ok { OnOk result (self.new ≡ self.old ++ nothing ∷ []) }
         ensures err { OnErr result (self.new ≡ self.old) }

@@ -1,4 +1,4 @@
-//! A figure as the table keeps it.
+//! A wide figure as a table stores it.
 ghost use Rattle.std.specs.Prelude.{◌≡◌, ◌≤ℤ◌};
 
 use crate::Figure;
@@ -6,7 +6,7 @@ use crate::end::End;
 use scr_num::Span;
 use std::marker::Model;
 
-/// A figure as the table keeps it: in 36 bytes, where one to reckon with takes 48, since there are many. Contracts see the figure.
+/// A stored figure of 36 bytes, where a `Figure` takes 48. Contracts see the figure.
 #[derive(Drop)]
 pub(crate) struct KeptFigure {
     low: End,
@@ -26,7 +26,7 @@ impl Model for KeptFigure {
 }
 
 impl KeptFigure {
-    /// What is kept of a figure.
+    /// The figure in its stored form.
     pub(crate) fn new(figure: Figure) -> KeptFigure
         ensures { result ≡ figure }
     {
@@ -39,7 +39,7 @@ impl KeptFigure {
         }
     }
 
-    /// The figure.
+    /// The figure that is stored.
     pub(crate) fn figure(&self) -> Figure
         ensures { result ≡ self.now }
     {
@@ -50,7 +50,7 @@ impl KeptFigure {
         }
     }
 
-    /// What the figure comes to.
+    /// The span of the stored figure.
     pub(crate) fn span(&self) -> Span
         ensures { result ≡ self.now.span }
     {

@@ -1,5 +1,5 @@
-//! What the figures of the members of a list come to: part by part, with the blocks of 32 neighbours written between the members and their
-//! sum. Which list it is, and of what the figures are, is no matter of this crate.
+//! A table of figures by id, and partial sums over a member list: blocks of 32 neighbours, stored between the members and their
+//! sum. Which list it is, and what the figures mean, is not known here.
 #![tactic(auto)]
 
 mod adding;

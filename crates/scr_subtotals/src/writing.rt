@@ -1,4 +1,4 @@
-//! The blocks of one sum over a list, written at their numbers.
+//! The blocks of one sum over a list, written and read under their ids.
 ghost use Rattle.std.specs.Prelude.{◌≡◌, ℕ, false, slice_get, ◌+◌, ◌-◌, ◌<◌, ◌≤◌, ◌^◌, All, length, slice_set};
 ghost use Rattle.scr_blocks.specs.Blocks.{blocks_at};
 ghost use Rattle.scr_blocks.specs.Sums.{AreSums};
@@ -16,8 +16,8 @@ use scr_num::{Span, add, exact};
 use scr_numbers::{Places, Table};
 use scr_parts::{Part, Parts};
 
-/// The blocks of one sum over a list: the parts of all lists with the numbers of their slots, the number of the list, and the place of the
-/// sum among those over it.
+/// The blocks of one sum over a list: all parts with the ids of their slots, and the list's number. `own` (0 to 2) is the sum's
+/// place in a slot's row.
 #[derive(Clone, Copy)]
 pub struct Subtotals<'a> {
     pub parts: &'a Parts,
@@ -27,7 +27,7 @@ pub struct Subtotals<'a> {
 }
 
 impl<'a> Subtotals<'a> {
-    /// The number of a block.
+    /// The id of block `index` of a level, of a list of `count` members.
     pub fn number(&self, count: usize, level: Level, index: usize) -> u32
         requires numbered { AreNumbered self.now count }
         requires there { index < blocks_at count level }
@@ -45,7 +45,7 @@ impl<'a> Subtotals<'a> {
         }
     }
 
-    /// Writes a block.
+    /// Writes the span of block `index` of a level.
     fn put(&self, figures: &mut Figures, count: usize, level: Level, index: usize, span: Span)
         requires numbered { AreNumbered self.now count }
         requires there { index < blocks_at count level }
@@ -56,7 +56,7 @@ impl<'a> Subtotals<'a> {
         figures.set(number as usize, Figure { span, close: false });
     }
 
-    /// Writes the blocks of the first level over members of which the rows have these first numbers.
+    /// Writes the first-level blocks over figure `family` of the rows whose ids begin at `firsts`.
     pub fn put_firsts(&self, figures: &mut Figures, firsts: &[u32], family: u32)
         requires numbered { AreNumbered self.now (length firsts.now) }
         requires room { self.now.places.now.size ≤ length figures.old }
@@ -72,8 +72,7 @@ impl<'a> Subtotals<'a> {
         }
     }
 
-    /// What blocks of a level come to together, from one up to another, as one figure, which rests on an open choice where one of theirs
-    /// does.
+    /// The sum of blocks `start` to `end` - 1 of a level, as a figure; open if any of them is.
     pub fn add_blocks(
         &self,
         figures: &Figures,
@@ -100,7 +99,7 @@ impl<'a> Subtotals<'a> {
         Figure { span, close }
     }
 
-    /// Writes the blocks of the second level over a list of so many members, where those of the first are there.
+    /// Writes the second-level blocks of a list of `count` members, from its first-level blocks.
     pub fn put_seconds(&self, figures: &mut Figures, count: usize)
         requires numbered { AreNumbered self.now count }
         requires room { self.now.places.now.size ≤ length figures.old }
@@ -115,7 +114,7 @@ impl<'a> Subtotals<'a> {
         }
     }
 
-    /// Writes all blocks over members of which the rows have these first numbers. No other figure changes.
+    /// Writes all blocks over figure `family` of the rows whose ids begin at `firsts`. No other figure changes.
     pub fn put_all(&self, figures: &mut Figures, firsts: &[u32], family: u32)
         requires numbered { AreNumbered self.now (length firsts.now) }
         requires room { self.now.places.now.size ≤ length figures.old }
@@ -132,8 +131,7 @@ impl<'a> Subtotals<'a> {
         self.put_seconds(figures, firsts.len());
     }
 
-    /// What a sum over members comes to of which the rows have these first numbers, where all its blocks are there. It adds up what is left
-    /// at the top.
+    /// The sum of figure `family` over the rows whose ids begin at `firsts`, read from the list's top blocks.
     pub fn sum(&self, figures: &Figures, firsts: &[u32], family: u32) -> Span
         requires numbered { AreNumbered self.now (length firsts.now) }
         requires room { self.now.places.now.size ≤ length figures.now }

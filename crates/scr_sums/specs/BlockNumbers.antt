@@ -1,5 +1,5 @@
--- The numbers of Blocks (this project's own): each part of a member list has a row of numbers, one for each sum that runs over the list. So
--- the Blocks of two sums over one list, which span the same members, stand in one row.
+-- The ids of Blocks (own): each part of a member list has a row of ids, one for each sum that runs over the list. So Blocks of two
+-- sums over one list, which span equal members, stand in one row.
 use Rattle.std.specs.Prelude.{◌≡◌, ℕ, ◌+◌, ◌*◌, ◌<◌, ◌≤◌, ◌==◌, ◌&&◌, Option, Some, None, if◌then◌else◌, length}
 use Rattle.scr_blocks.specs.Blocks.{blocks_at}
 use Rattle.scr_blocks.specs.declared.blocks.Level.{Level}
@@ -26,7 +26,7 @@ use Rattle.scr_sums.specs.declared.point.Point.TheVariants as points
 use Rattle.scr_sums.specs.declared.sum.Sum.{Sum}
 use Rattle.scr_sums.specs.declared.sum.Sum.TheVariants as sums
 
--- the place of a sum among those that run over its list, of which there are three at most
+-- The index of a sum among the sums over its list, 0 to 2 (own).
 abbrev pub place_of : Sum → ℕ
 place_of (sums.Rates currency directions.Down) = 1
 place_of (sums.Costs currency directions.Down) = 1
@@ -36,27 +36,28 @@ place_of sum = 0
 
 -- ---- member lists by number
 
--- The bonds are those of a class, and have one list with it.
+-- The list itself, with the list of all bonds counted as the list of the class of bonds (own).
 abbrev pub sole : Roll → Roll
 sole rolls.Bonds = rolls.Class classes.Bond
 sole roll = roll
 
--- The lists of each table are numbered, as far as they have had a member. Two lists of a table have two numbers.
+-- Two lists of one table have two numbers (own). A list has a number once it has had a member.
 pub record AreListsApart (numbers : Roll → Option ℕ) : Type 0 where
   pub apart : (one other : Roll) (number : ℕ) → numbers one ≡ Some number → numbers other ≡ Some number
       → table_of one ≡ table_of other → sole one ≡ sole other
 
--- the number of a list among those of all tables, from its number among those of its own
+-- The index of a table among the four that have lists, 0 to 3 (own).
 abbrev pub table_place : Table → ℕ
 table_place tables.Security = 0
 table_place tables.Liability = 1
 table_place tables.Fund = 2
 table_place table = 3
 
+-- The number of a list among all tables, from its number among the lists of its own table (own).
 abbrev pub list_number : Roll → ℕ → ℕ
 list_number roll number = 4 * number + table_place (table_of roll)
 
--- the sum that runs over a list at a place, if there is one; the bonds have those of their class
+-- The sum with index `place` over a list; `None` if no sum has it (own). The list of all bonds has the sums of the class of bonds.
 abbrev pub sum_at : Roll → ℕ → Option Sum
 sum_at (rolls.Class class) place =
     if place == 0 then Some (sums.Class class) else (if is_of_class classes.Bond class && (place == 1) then Some sums.Spreads else None)
@@ -75,7 +76,7 @@ sum_at (rolls.Losses kinds.Health projection) place = if place == 0 then Some (s
 sum_at (rolls.Losses kinds.Other projection) place = None
 sum_at rolls.Groups place = if place == 0 then Some sums.Squares else None
 
--- the sum stands at this place among those over the list that has this number among those of all tables
+-- The sum runs over the list with number `list` among all tables, and `place` is its index there (own).
 pub record SumAt (numbers : Roll → Option ℕ) (sum : Sum) (list place : ℕ) : Type 0 where
   pub roll : ℕ
   pub numbered : numbers (roll_of sum) ≡ Some roll
@@ -84,11 +85,11 @@ pub record SumAt (numbers : Roll → Option ℕ) (sum : Sum) (list place : ℕ) 
 
 -- ---- Blocks by number
 
--- the part of the list that a Block spans
+-- The part that a Block spans, of the list with this number in its table (own).
 abbrev pub part_of : ℕ → Block → Part
 part_of number block = record { list = list_number (roll_of block.sum) number; level = block.level; index = block.index }
 
--- the Block has this number
+-- The Block has id `number`: the one for its sum in the row of its part's slot (own).
 pub record BlockAt (numbers : Roll → Option ℕ) (parts : Parted) (places : Numbered) (block : Block) (number : ℕ) : Type 0 where
   pub roll : ℕ
   pub numbered : numbers (roll_of block.sum) ≡ Some roll
@@ -96,23 +97,24 @@ pub record BlockAt (numbers : Roll → Option ℕ) (parts : Parted) (places : Nu
   pub part : slot_of (part_of roll block) parts ≡ Some slot
   pub at : IsAt places numbered_tables.Part slot (place_of block.sum) number
 
--- the figure or the Block has this number, where figures have those that `At` says
+-- The point has id `number`: a figure by the relation `At`, a Block by its part (own).
 abbrev pub PointAt : (Node → ℕ → Type 0) → (Roll → Option ℕ) → Parted → Numbered → Point → ℕ → Type 0
 PointAt At numbers parts places (points.Figure node) number = At node number
 PointAt At numbers parts places (points.Block block) number = BlockAt numbers parts places block number
 
--- figures stand elsewhere than Blocks
+-- No id of a figure is in a row of a part's ids (own).
 abbrev pub AreOffParts : (Node → ℕ → Type 0) → Numbered → Type 0
 AreOffParts At places = (node : Node) (number : ℕ) → At node number → (k j : ℕ) → IsAt places numbered_tables.Part k j number → ⊥
 
--- each list that falls into Blocks has a number, and as many parts as Blocks; and the slot of each part has a row of numbers
+-- Each list of more than 32 members has a number (own). Each numbered list has one part for each Block, and each part's slot has a
+-- row of ids.
 pub record HaveParts (book : Rolled) (numbers : Roll → Option ℕ) (parts : Parted) (places : Numbered) : Type 0 where
   pub numbered : (roll : Roll) → 32 < length (book.rolls roll) → (number : ℕ) × (numbers roll ≡ Some number)
   pub counts : (roll : Roll) (number : ℕ) → numbers roll ≡ Some number → (level : Level)
       → count_of (list_number roll number) level parts ≡ blocks_at (length (book.rolls roll)) level
   pub rows : (part : Part) (slot : ℕ) → slot_of part parts ≡ Some slot → slot < count places numbered_tables.Part
 
--- rows that parts have stay, with their numbers, and so do parts and lists
+-- Lists keep their numbers, parts their slots, and rows of ids their ids; further ones may have come (own).
 pub record KeepsBlocks (numbers_before numbers_now : Roll → Option ℕ) (before now : Parted) (old new : Numbered) : Type 0 where
   pub numbers : (roll : Roll) (number : ℕ) → numbers_before roll ≡ Some number → numbers_now roll ≡ Some number
   pub parts : KeepsParts before now

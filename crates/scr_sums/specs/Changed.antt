@@ -1,5 +1,4 @@
--- What changes of a figure or a Block from one book to another (this project's own): whether the book has it, what it is reckoned from
--- besides others, and from which others.
+-- What changes of a figure or a Block from one book to another (own): its existence, its own data, or its sources.
 use Rattle.std.specs.Prelude.{◌≡◌, ◌||◌, IsTrue, length}
 use Rattle.scr_factors.specs.Values.{FactorValues}
 use Rattle.scr_blocks.specs.Blocks.{top_count}
@@ -14,21 +13,21 @@ use Rattle.scr_sums.specs.declared.point.Point.{Point}
 use Rattle.scr_sums.specs.declared.point.Point.TheVariants as points
 use Rattle.scr_sums.specs.declared.sum.Sum.TheVariants as sums
 
--- Of the sources of a currency's scenario the first are those of the securities: as many as are left at the top of their sum. So the
--- number of securities is no datum of it.
+-- The data besides its sources from which a point is computed (own). A currency's scenario lists securities first and then
+-- liabilities, so the number of nodes for securities is such a datum.
 abbrev pub own_in : FactorValues → Rolled → Point → Own
 own_in factors book (points.Figure (nodes.Currency currency (of_currencies.Scenario direction measures.Gross))) =
     Foreign direction (top_count (length (roll_in book (sums.Assets currency))))
 own_in factors book (points.Figure node) = own_of factors book.sheet node
 own_in factors book (points.Block block) = Added
 
--- both books have it or lack it, and it is reckoned from the same data and the same others
+-- Both books have the point or neither has it, with equal own data and equal sources (own).
 pub record IsSameIn (factors : FactorValues) (before after : Rolled) (point : Point) : Type 0 where
   pub live : is_live_in before point ≡ is_live_in after point
   pub own : own_in factors before point ≡ own_in factors after point
   pub sources : sources_in before point ≡ sources_in after point
 
--- one of the books has it, and it is not the same
+-- At least one of the books has the point, and the books differ in it (own).
 pub record IsChangedIn (factors : FactorValues) (before after : Rolled) (point : Point) : Type 0 where
   pub live : IsTrue (is_live_in before point || is_live_in after point)
   pub changed : ¬ IsSameIn factors before after point

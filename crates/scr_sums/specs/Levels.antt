@@ -1,5 +1,5 @@
--- At which level a figure or a Block stands in the graph of a book (this project's own): each source stands lower, but for totals of
--- funds, which are all at level 0. Between two levels of the figures there is room for the two levels of Blocks.
+-- The topological level of each point of a book's graph (own): each source has a lower level, but for totals of funds, all at
+-- level 0. Levels of figures are three apart, with room for two levels of Blocks.
 use Rattle.std.specs.Prelude.{ℕ, ◌*◌, ◌-◌}
 use Rattle.scr_blocks.specs.declared.blocks.Level.{Level}
 use Rattle.scr_blocks.specs.declared.blocks.Level.TheVariants as levels
@@ -9,10 +9,12 @@ use Rattle.scr_sums.specs.declared.point.Point.{Point}
 use Rattle.scr_sums.specs.declared.point.Point.TheVariants as points
 use Rattle.scr_sums.specs.declared.sum.Sum.{Sum}
 
+-- The level of a Block: two below its sum's reader on the first level, one below on the second (own).
 abbrev pub block_level : Sum → Level → ℕ
 block_level sum levels.First = 3 * level (reader_of sum) - 2
 block_level sum levels.Second = 3 * level (reader_of sum) - 1
 
+-- The level of a point (own).
 abbrev pub level_in : Point → ℕ
 level_in (points.Figure node) = 3 * level node
 level_in (points.Block block) = block_level block.sum block.level

@@ -1,5 +1,5 @@
--- The large sums: over which members each runs, which figure of each member it adds up, and which figures are reckoned from it
--- (Delegated Regulation (EU) 2015/35, Articles 165, 168, 175, 182 to 184 and 188; that they are regrouped is this project's own).
+-- The large sums (Delegated Regulation (EU) 2015/35, Articles 165, 168, 175, 182 to 184 and 188; that they are regrouped is own).
+-- Each has members, adds up one figure of each member, and is read by one figure or two.
 use Rattle.std.specs.Prelude.{ℕ, List, Option, Some, None, filter, map}
 use Rattle.scr_sheet.specs.BalanceSheet.{group_name, liability_name, position_name, stake_name}
 use Rattle.scr_sheet.specs.declared.rows.Class.TheVariants as classes
@@ -24,11 +24,12 @@ use Rattle.scr_nodes.specs.Rows.{has_class, has_group, is_closed, is_held_in, is
 use Rattle.scr_sums.specs.declared.sum.Sum.{Sum}
 use Rattle.scr_sums.specs.declared.sum.Sum.TheVariants as sums
 
+-- The kind of liabilities on which biometric stresses fall (Articles 136 and 151).
 abbrev pub kind_of : Biometric → LiabilityKind
 kind_of biometrics.Life = kinds.Life
 kind_of biometrics.Health = kinds.Health
 
--- the list whose members it runs over
+-- The member list over which the sum runs (own).
 abbrev pub roll_of : Sum → Roll
 roll_of (sums.Class class) = rolls.Class class
 roll_of sums.Closed = rolls.Closed
@@ -42,7 +43,7 @@ roll_of (sums.Presents currency) = rolls.Lines currency
 roll_of (sums.Losses biometric projection) = rolls.Losses (kind_of biometric) projection
 roll_of sums.Squares = rolls.Groups
 
--- the figure of a member that it adds up
+-- The figure of a member that the sum adds up (Articles 136, 151, 165, 168, 175, 182 to 184 and 188).
 abbrev pub member_of : Sum → List ℕ → Node
 member_of (sums.Class class) name = nodes.Security name of_securities.Total
 member_of sums.Closed name = nodes.Fund name of_funds.Total
@@ -56,7 +57,7 @@ member_of (sums.Presents currency) name = nodes.Liability name of_liabilities.Pr
 member_of (sums.Losses biometric projection) name = nodes.Liability name (of_liabilities.Loss projection)
 member_of sums.Squares name = nodes.Group name of_groups.ConcentrationSquare
 
--- the names of the rows whose figures it adds up, in the order of their table
+-- The names of the rows that the sum adds up, in table order (Articles 136, 151, 165, 168, 175, 182 to 184 and 188).
 abbrev pub names_listed : BalanceSheet → Sum → List (List ℕ)
 names_listed sheet (sums.Class class) = map position_name (filter (has_class class) sheet.securities)
 names_listed sheet sums.Closed = map stake_name (filter is_closed sheet.funds)
@@ -70,7 +71,8 @@ names_listed sheet (sums.Presents currency) = map liability_name (filter (is_owe
 names_listed sheet (sums.Losses biometric projection) = map liability_name (filter (is_stressed biometric projection) sheet.liabilities)
 names_listed sheet sums.Squares = map group_name sheet.groups
 
--- a figure that is reckoned from the sum; those of a currency's rise and of its fall are reckoned from the same two
+-- One figure that is computed from the sum (own). A currency's scenarios of rise and fall are computed from one pair of sums, and
+-- the rise stands for both.
 abbrev pub reader_of : Sum → Node
 reader_of (sums.Class class) = nodes.Whole (wholes.ClassSum class)
 reader_of sums.Closed = nodes.Whole (wholes.ClassSum classes.Type2Equity)
@@ -84,7 +86,7 @@ reader_of (sums.Presents currency) = nodes.Currency currency (of_currencies.Scen
 reader_of (sums.Losses biometric projection) = nodes.Whole (wholes.BioScenario biometric projection measures.Gross)
 reader_of sums.Squares = nodes.Whole wholes.Concentration
 
--- the sum that a figure is reckoned from, or the first of two; none of most figures
+-- The sum from which a figure is computed, the first if there are two; `None` for most figures (own).
 abbrev pub first_sum : Node → Option Sum
 first_sum (nodes.Group name of_groups.Total) = Some (sums.Group name)
 first_sum (nodes.Currency currency (of_currencies.Loss direction)) = Some (sums.Rates currency direction)
@@ -96,6 +98,7 @@ first_sum (nodes.Whole wholes.Concentration) = Some sums.Squares
 first_sum (nodes.Whole (wholes.BioScenario biometric projection measures.Gross)) = Some (sums.Losses biometric projection)
 first_sum node = None
 
+-- The second of two sums from which a figure is computed; `None` if there are not two (own).
 abbrev pub second_sum : Node → Option Sum
 second_sum (nodes.Currency currency (of_currencies.Loss direction)) = Some (sums.Costs currency direction)
 second_sum (nodes.Currency currency (of_currencies.Scenario direction measures.Gross)) = Some (sums.Presents currency)

@@ -1,5 +1,4 @@
--- Which figures and Blocks a record touches (this project's own): those whose own data or list of sources it changes, and those
--- which it makes or takes away.
+-- The points that a record touches (own): points whose own data or sources it changes, and points that it makes or removes.
 use Rattle.std.specs.Prelude.{◌≡◌, ◌⊎◌, true, Contains}
 use Rattle.scr_factors.specs.Values.{FactorValues}
 use Rattle.scr_book.specs.Rolls.{rolled}
@@ -13,18 +12,19 @@ use Rattle.scr_sums.specs.Changed.{IsChangedIn}
 use Rattle.scr_sums.specs.Graph.{Rolled}
 use Rattle.scr_sums.specs.declared.point.Point.{Point}
 
--- the book as the record leaves it
+-- The book after the record (own).
 abbrev pub applied_in : Edit → Rolled → Rolled
 applied_in edit book = record { sheet = applied edit book.sheet; rolls = λ roll. rolled edit book.sheet roll (book.rolls roll) }
 
+-- The record touches the point: the books before and after it differ in it (own).
 abbrev pub IsTouchedIn : FactorValues → Rolled → Edit → Point → Type 0
 IsTouchedIn factors book edit point = IsChangedIn factors book (applied_in edit book) point
 
--- a balance sheet has the figure, and it is reckoned from the other
+-- The balance sheet has the edge from `source` to the figure (own).
 abbrev pub IsPair : BalanceSheet → Node → Node → Type 0
 IsPair sheet node source = (is_live sheet node ≡ true) × Contains (sources_of sheet node) source
 
--- a pair of a figure and a source that one of two balance sheets has and the other has not
+-- Exactly one of two balance sheets has the edge from `source` to the figure (own).
 abbrev pub IsGainedOrLost : BalanceSheet → BalanceSheet → Node → Node → Type 0
 IsGainedOrLost before after node source =
     (IsPair before node source × ¬ IsPair after node source) ⊎ (IsPair after node source × ¬ IsPair before node source)

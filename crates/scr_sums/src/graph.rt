@@ -15,7 +15,7 @@ use scr_book::Book;
 use scr_nodes::{Node, is_live};
 use scr_sheet::{BalanceSheet, Name};
 
-/// The large sums that a figure is reckoned from: none of most figures, one, or two.
+/// The large sums from which a figure is computed: none for most figures, else one or two.
 pub fn sums_of(node: &Node) -> (Option<Sum>, Option<Sum>)
     ensures first { result.0 ≡ first_sum node.now }
     ensures second { result.1 ≡ second_sum node.now }
@@ -23,7 +23,7 @@ pub fn sums_of(node: &Node) -> (Option<Sum>, Option<Sum>)
     (first_sum(node), second_sum(node))
 }
 
-/// Whether the book has the figure or the Block. The cost is that of a look-up.
+/// Whether the book has the figure or the Block. It costs one look-up.
 pub fn is_live_in(book: &Book, point: &Point) -> bool
     ensures { result ≡ spec.is_live_in (rolled_of book.now) point.now }
 {
@@ -40,14 +40,14 @@ fn has_block(book: &Book, block: &Block) -> bool
     reads(book.sheet(), &block.sum) && is_block(count, block.level, block.index as usize)
 }
 
-/// Whether the balance sheet has a figure that is reckoned from the sum.
+/// Whether the balance sheet has a figure that is computed from the sum.
 pub(crate) fn reads(sheet: &BalanceSheet, sum: &Sum) -> bool
     ensures { result ≡ spec.reads sheet.now sum.now }
 {
     is_live(sheet, &sum.reader())
 }
 
-/// The members of a sum in the places of their list.
+/// The members of a sum, in the order of their list, at most 20,000.
 pub(crate) fn members<'a>(book: &'a Book, sum: &Sum) -> &'a [Name]
     ensures names { result.now ≡ spec.roll_in (rolled_of book.now) sum.now }
     ensures own { spec.IsRoll (rolled_of book.now) (roll_of sum.now) }
@@ -58,9 +58,8 @@ pub(crate) fn members<'a>(book: &'a Book, sum: &Sum) -> &'a [Name]
     book.roll(roll)
 }
 
-/// The point from which a point is reckoned that stands at a place of its list, counted from 0, in the order in which its rule takes
-/// them; none exactly past the last. The cost is that of a look-up, but for a figure that is reckoned from no large sum: there
-/// it is that of a walk along the tables that its list is read off.
+/// Source number `place` of a point, from 0, in the order of its rule; `None` past the last. It costs one look-up. For a figure
+/// without large sums it costs a walk along the tables that hold its sources.
 pub fn source(book: &Book, point: &Point, place: u32) -> Option<Point>
     ensures { result ≡ slice_get (spec.sources_in (rolled_of book.now) point.now) place }
 {
@@ -88,7 +87,7 @@ fn plain_source(sheet: &BalanceSheet, node: &Node, place: u32) -> Option<Point>
     }
 }
 
-/// What is left at the top of the first sum, and then what is left at that of the second, where there are two.
+/// The points at the top of the first sum, and then of the second if there is one.
 fn summed_source(book: &Book, node: &Node, first: &Sum, place: u32) -> Option<Point>
     ensures { result ≡ slice_get (spec.tops_of (rolled_of book.now) (Some first.now)
         ++ spec.tops_of (rolled_of book.now) (second_sum node.now)) place }
@@ -104,7 +103,7 @@ fn summed_source(book: &Book, node: &Node, first: &Sum, place: u32) -> Option<Po
     }
 }
 
-/// What stands at a place of what is left of a sum at the top of its Blocks.
+/// Point number `place`, from 0, at the top of a sum.
 fn top(book: &Book, sum: &Sum, place: u32) -> Option<Point>
     ensures { result ≡ slice_get (spec.tops_of (rolled_of book.now) (Some sum.now)) place }
 {
@@ -120,7 +119,7 @@ fn top(book: &Book, sum: &Sum, place: u32) -> Option<Point>
     }
 }
 
-/// The figure of the member at a place.
+/// The figure of the member at a position.
 fn member_at(sum: &Sum, names: &[Name], place: u32) -> Option<Point>
     ensures { result ≡ slice_get (map (spec.member_point sum.now) names.now) place }
 {
@@ -130,7 +129,7 @@ fn member_at(sum: &Sum, names: &[Name], place: u32) -> Option<Point>
     }
 }
 
-/// The Block of this number, of so many.
+/// Block `index` of a level with `count` Blocks; `None` past the last.
 fn block_at(sum: &Sum, level: Level, count: usize, index: u32) -> Option<Point>
     ensures { result ≡ slice_get (map (spec.block_point sum.now level) (range_with_len 0 count)) index }
 {
@@ -155,7 +154,7 @@ fn block_source(book: &Book, block: &Block, place: u32) -> Option<Point>
     }
 }
 
-/// The Block at a place of those that a Block of the second level adds up.
+/// First-level Block number `place`, from 0, among the ones that second-level Block `index` adds up.
 fn first_at(sum: &Sum, count: usize, index: u32, place: u32) -> Option<Point>
     requires { count ≤ 20000 }
     ensures { result ≡ slice_get (part index (map (spec.block_point sum.now levels.First) (range_with_len 0 count))) place }

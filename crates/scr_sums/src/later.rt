@@ -1,5 +1,5 @@
-//! What a record leaves, by what it exchanges and without a copy of the balance sheet: rows by their names, members, and readers of
-//! sums.
+//! The balance sheet after a record, read from the one before and the record's change, without a copy: rows by name, members, and
+//! readers of sums.
 ghost use Rattle.std.specs.Prelude.{◌≡◌, if◌then◌else◌};
 ghost use Rattle.std.specs.Option.{option_copied};
 ghost use Rattle.scr_names.specs.Names.{same_name};
@@ -20,7 +20,7 @@ use scr_sheet::{
     has_class, has_group, is_closed, is_held_in, is_of_group, is_owed_in, is_paying_in,
 };
 
-/// The row of a name, once another or none has taken the place of the one of a name.
+/// The row of a name, after the row of `own` was replaced by `new` or removed.
 fn row_after<'a, R: Row>(
     rows: &'a Rows<R>,
     own: &Name,
@@ -112,7 +112,7 @@ fn reporting_after<'a>(sheet: &'a BalanceSheet, change: &'a Change) -> &'a Name
     }
 }
 
-/// Whether the security is one of those over which the sum runs.
+/// Whether the security is a member of the sum.
 fn takes_security(sum: &Sum, position: &Position) -> bool
     ensures { result ≡ has_security (roll_of sum.now) position.now }
 {
@@ -127,7 +127,7 @@ fn takes_security(sum: &Sum, position: &Position) -> bool
     }
 }
 
-/// Whether the liability is one of those over which the sum runs.
+/// Whether the liability is a member of the sum.
 fn takes_liability(sum: &Sum, liability: &Liability) -> bool
     ensures { result ≡ has_liability (roll_of sum.now) liability.now }
 {
@@ -138,7 +138,7 @@ fn takes_liability(sum: &Sum, liability: &Liability) -> bool
     }
 }
 
-/// Whether the row of the name is then a member of the sum's list.
+/// Whether the row of a name is a member of the sum's list after the change.
 pub(crate) fn is_member_after(sheet: &BalanceSheet, change: &Change, sum: &Sum, name: &Name) -> bool
     requires valid { Valid sheet.now }
     requires named { IsNamed change.now }
@@ -162,7 +162,7 @@ pub(crate) fn is_member_after(sheet: &BalanceSheet, change: &Change, sum: &Sum, 
     }
 }
 
-/// Whether there is then a figure that is reckoned from the sum.
+/// Whether a figure that is computed from the sum exists after the change.
 pub(crate) fn reads_after(sheet: &BalanceSheet, change: &Change, sum: &Sum) -> bool
     requires valid { Valid sheet.now }
     requires named { IsNamed change.now }

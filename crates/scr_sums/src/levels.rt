@@ -1,4 +1,4 @@
-//! At which level a Block stands in the graph of a book.
+//! The topological level of a Block in the graph of a book.
 ghost use Rattle.std.specs.Prelude.{◌≡◌, ◌≤◌};
 ghost use Rattle.scr_nodes.specs.Levels.{level as level_of};
 ghost use Rattle.scr_sums.specs.Levels.{level_in};
@@ -8,8 +8,8 @@ ghost use Rattle.scr_sums.specs.declared.point.Point.TheVariants as points;
 use crate::{Block, Sum};
 use scr_blocks::Level;
 
-/// The level of a Block: above its sources, and below what is reckoned from it. A figure stands at three times its level among the
-/// figures of a balance sheet (`scr_figures::level`), so that there is room for two levels of Blocks.
+/// The level of a Block, above its sources and below its reader. A figure's level is three times its level in the balance sheet
+/// (`scr_figures::level`). That leaves room for two levels of Blocks.
 pub fn block_level(block: &Block) -> u32
     ensures { result ≡ level_in (points.Block block.now) }
 {
@@ -20,7 +20,7 @@ pub fn block_level(block: &Block) -> u32
     }
 }
 
-/// The level of the figures that are reckoned from the sum, among the figures of a balance sheet.
+/// The level, among the figures of a balance sheet, of the figures that are computed from the sum.
 fn reader_level(sum: &Sum) -> u32
     ensures level { result ≡ level_of (reader_of sum.now) }
     ensures some { 1 ≤ result }

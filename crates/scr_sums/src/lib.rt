@@ -1,6 +1,5 @@
-//! The large sums with the Blocks under them: of which members of a book's lists each is the sum, which Blocks lie between the members
-//! and the figure that reads the sum, and from which others each figure and each Block is reckoned. The figures of a balance
-//! sheet are as they were: a Block is no figure of it.
+//! The large sums and the Blocks under them. The crate gives the members of each sum, the Blocks between them and the sum's
+//! reader, and the sources of every point. The figures of a balance sheet stay as they were; a Block is none of them.
 #![tactic(auto)]
 
 mod graph;

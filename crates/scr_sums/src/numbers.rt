@@ -1,5 +1,5 @@
-//! The numbers of Blocks. Laws of them hold whatever a program does: each is a function that does nothing, whose contract is the law. Of
-//! figures and Blocks together (`PointAt`) they follow for every relation that tells the numbers of figures (proofs BlockNumbers).
+//! The ids of Blocks, and laws of them. Laws of figures and Blocks together (`PointAt`) follow for every relation that gives
+//! figures their ids (proofs BlockNumbers).
 ghost use Rattle.std.specs.Prelude.{◌≡◌, ◌<◌, ◌≤◌, ◌^◌, ◌==◌, ℕ, IfSome, IsNone, None, Option, Some, if◌then◌else◌, true};
 ghost use Rattle.scr_numbers.specs.Ranges.{IsApart, IsWithin, Numbered};
 ghost use Rattle.scr_parts.specs.Parts.{AreOwn, Parted};
@@ -21,14 +21,13 @@ use scr_numbers::Places;
 use scr_parts::{Part, Parts};
 use scr_sheet::{Class, LiabilityKind, Name, Projection, Roll, Table};
 
-/// The number of a Block: in the row of the slot of its part that at the place of its sum among those over the list. None exactly where no
-/// such Block has a number.
+/// The id of a Block: in the row of its part's slot, at the index of its sum; `None` if no Block like it has an id.
 pub fn block_number(book: &Book, parts: &Parts, places: &Places, block: &Block) -> Option<u32>
     ensures there { IfSome result (λ number. BlockAt (λ roll. number_of_roll roll book.now.rolls) parts.now places.now block.now number) }
     ensures absent { IsNone result → (number : ℕ)
         → BlockAt (λ roll. number_of_roll roll book.now.rolls) parts.now places.now block.now number → ⊥ }
 {
-    // No list beyond a number has parts.
+    // Brings the invariant into sight: no list with a number of 2^31 or more has parts.
     let _slots = parts.len();
     let found = sum_place(book, &block.sum)?;
     let part = Part {
@@ -39,8 +38,8 @@ pub fn block_number(book: &Book, parts: &Parts, places: &Places, block: &Block) 
     parts.number(places, &part, found.1)
 }
 
-/// Where a sum has the numbers of its Blocks: the number of its list among those of all tables, and its place among the sums over that
-/// list. None exactly where the list has no number, or none with which it can have parts.
+/// The number of a sum's list among all tables, and the sum's index (0 to 2) over it. `None` if the list has no number, or 2^31 or
+/// more.
 pub fn sum_place(book: &Book, sum: &Sum) -> Option<(u32, u32)>
     ensures there { IfSome result (λ found. SumAt (λ roll. number_of_roll roll book.now.rolls) sum.now found.0 found.1) }
     ensures few { IfSome result (λ found. found.1 < 3) }
@@ -53,7 +52,7 @@ pub fn sum_place(book: &Book, sum: &Sum) -> Option<(u32, u32)>
     Some((list, place_of(sum)))
 }
 
-/// The number of a list among those of all tables, if a list of that number can have parts.
+/// The number of a list among all tables; `None` if it is 2^31 or more.
 fn list_number(roll: &Roll, number: u32) -> Option<u32>
     ensures there { IfSome result (λ list. list ≡ spec.list_number roll.now number) }
     ensures absent { IsNone result → 2 ^ 31 ≤ spec.list_number roll.now number }
@@ -76,7 +75,7 @@ fn table_place(table: Table) -> u32
     }
 }
 
-/// The place of a sum among those over its list.
+/// The index of a sum among the sums over its list, 0 to 2.
 fn place_of(sum: &Sum) -> u32
     ensures place { result ≡ spec.place_of sum.now }
     ensures few { result < 3 }
@@ -88,7 +87,7 @@ fn place_of(sum: &Sum) -> u32
     }
 }
 
-/// The sum that runs over a list at a place of the numbers of its parts, if there is one.
+/// The sum with index `place` over a list; `None` if no sum has it.
 pub fn sum_at(roll: &Roll, place: u32) -> Option<Sum>
     ensures { result ≡ spec.sum_at roll.now place }
 {
@@ -106,7 +105,7 @@ pub fn sum_at(roll: &Roll, place: u32) -> Option<Sum>
     }
 }
 
-/// The one sum over a list.
+/// The only sum over a list, at index 0.
 fn sole(sum: Sum, place: u32) -> Option<Sum>
     ensures { result ≡ (if place == 0 then Some sum else None) }
 {
@@ -156,14 +155,14 @@ fn of_losses(kind: LiabilityKind, projection: Projection, place: u32) -> Option<
     }
 }
 
-/// Over the list of each sum it runs at its place, and no other one does.
+/// Each sum is the one with its index over its list, and no other sum is.
 pub fn sums()
     ensures there { (sum : TheSum) → spec.sum_at (roll_of sum) (spec.place_of sum) ≡ Some sum }
     ensures only { (roll : TheRoll) (place : ℕ) (sum : TheSum) → spec.sum_at roll place ≡ Some sum
         → (spec.sole (roll_of sum) ≡ spec.sole roll) × (spec.place_of sum ≡ place) }
 {}
 
-/// Each Block that a book has, has a number, and no other one; no other Block has it; and it is below the size of all numbers.
+/// Each Block of a book has exactly one id, below the size of all ids, and no other Block has it.
 pub fn blocks()
     ensures live { (book : Rolled) (numbers : TheRoll → Option ℕ) (parts : Parted) (places : Numbered) → HaveParts book numbers parts places → AreOwn parts
         → (block : TheBlock) → is_live_in book (points.Block block) ≡ true → (number : ℕ) × BlockAt numbers parts places block number }
@@ -175,14 +174,14 @@ pub fn blocks()
         → BlockAt numbers parts places block number → number < places.size }
 {}
 
-/// While parts come, each Block keeps its number.
+/// Each Block keeps its id while lists, parts and rows of ids are added.
 pub fn kept()
     ensures { (numbers_before numbers_now : TheRoll → Option ℕ) (before now : Parted) (old new : Numbered)
         → KeepsBlocks numbers_before numbers_now before now old new → (block : TheBlock) (number : ℕ)
         → BlockAt numbers_before before old block number → BlockAt numbers_now now new block number }
 {}
 
-/// The member lists that a book keeps are told apart by their numbers in their tables.
+/// The member lists of a book have distinct numbers within each table.
 pub fn lists()
     ensures { (kept : KeptRolls) → AreNumbered kept → AreListsApart (λ roll. number_of_roll roll kept) }
 {}

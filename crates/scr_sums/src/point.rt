@@ -1,16 +1,16 @@
-//! Figures and Blocks, as nodes of one graph.
+//! Points: the figures and Blocks as nodes of one graph.
 
 use crate::Sum;
 use scr_blocks::Level;
 use scr_nodes::Node;
 
-/// A Block: a sum over at most 32 neighbours.
+/// A Block: a partial sum over at most 32 neighbours.
 #[derive(Clone, Copy)]
 pub struct Block {
-    /// The sum that it lies under.
+    /// The large sum above it.
     pub sum: Sum,
     pub level: Level,
-    /// Its number on its level, from 0.
+    /// Its index on its level, from 0.
     pub index: u32,
 }
 

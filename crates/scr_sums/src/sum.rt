@@ -9,35 +9,35 @@ use scr_nodes::{
 };
 use scr_sheet::{Class, LiabilityKind, Name, Projection, Roll};
 
-/// A sum over the members of a list: of one figure of each.
+/// A sum of one figure of each member of a list.
 #[derive(Clone, Copy)]
 pub enum Sum {
-    /// What is held of the securities of a class (Article 168).
+    /// The values of the securities of a class (Article 168).
     Class(Class),
-    /// What is held of the funds without components, which count as type 2 equities (Article 168(3)).
+    /// The values of the funds without components, which count as type 2 equities (Article 168(3)).
     Closed,
-    /// What the bonds lose by spread risk (Article 175).
+    /// The losses of the bonds by spread risk (Article 175).
     Spreads,
-    /// What is held of the securities that have a group of counterparties (Article 184(2)).
+    /// The values of the securities that have a group of counterparties (Article 184(2)).
     Grouped,
-    /// What is held of the securities of a group (Article 182).
+    /// The values of the securities of a group (Article 182).
     Group(Name),
-    /// What is held of the securities in a currency (Article 188).
+    /// The values of the securities in a currency (Article 188).
     Assets(Name),
-    /// What the securities in a currency lose where rates change (Article 165).
+    /// The losses of the securities in a currency if rates change (Article 165).
     Rates(Name, Direction),
-    /// What the liabilities in a currency cost more where rates change (Article 165).
+    /// The losses by the liabilities in a currency if rates change (Article 165).
     Costs(Name, Direction),
-    /// What the liabilities in a currency are worth (Article 188).
+    /// The present values of the liabilities in a currency (Article 188).
     Presents(Name),
-    /// What liabilities lose under a biometric stress (Articles 136 and 151).
+    /// The losses by liabilities under a biometric stress (Articles 136 and 151).
     Losses(Biometric, Projection),
     /// The squares of the concentrations of all groups (Article 183).
     Squares,
 }
 
 impl Sum {
-    /// The list whose members it runs over.
+    /// The member list over which the sum runs.
     pub fn roll(&self) -> Roll
         ensures { result ≡ spec.roll_of self.now }
     {
@@ -55,7 +55,7 @@ impl Sum {
         }
     }
 
-    /// The figure of a member that it adds up.
+    /// The figure of a member that the sum adds up.
     pub fn member(&self, name: Name) -> Node
         ensures { result ≡ spec.member_of self.now name }
     {
@@ -73,8 +73,8 @@ impl Sum {
         }
     }
 
-    /// A figure that is reckoned from it. Those of a currency's rise and of its fall are reckoned from the same two sums, and the
-    /// rise is told.
+    /// One figure that is computed from the sum. A currency's scenarios of rise and fall are computed from one pair of sums, and
+    /// the rise stands for both.
     pub fn reader(&self) -> Node
         ensures { result ≡ spec.reader_of self.now }
     {
@@ -109,7 +109,7 @@ fn kind(biometric: Biometric) -> LiabilityKind
     }
 }
 
-/// The large sum that a figure is reckoned from, or the first of two.
+/// The large sum from which a figure is computed, the first if there are two; `None` for most figures.
 pub fn first_sum(node: &Node) -> Option<Sum>
     ensures { result ≡ spec.first_sum node.now }
 {
@@ -146,7 +146,7 @@ fn first_of_whole(what: Whole) -> Option<Sum>
     }
 }
 
-/// The second of two large sums that a figure is reckoned from.
+/// The second of two large sums from which a figure is computed; `None` if there are not two.
 pub fn second_sum(node: &Node) -> Option<Sum>
     ensures { result ≡ spec.second_sum node.now }
 {

@@ -1,4 +1,4 @@
-//! The figures and Blocks that a record touches.
+//! The points that a record touches.
 ghost use Rattle.std.specs.Prelude.{◌≡◌, ◌↔◌, ◌⊎◌, ◌++◌, ◌∷◌, [], Contains, IfOk, IfSome, None, OnOk, Some, false, flat_map, if◌then◌else◌, is_some};
 ghost use Rattle.std.specs.List.{list_any};
 ghost use Rattle.std.specs.Option.{option_map_or};
@@ -30,11 +30,11 @@ use scr_sheet::{Edit, fields_outside};
 use std::alloc::{AllocError as NoMemory, Global};
 use std::mem::drop;
 
-/// The figures and Blocks whose own data or list of sources the record changes, or which it makes or takes away, each once. Told
-/// are the figures of which that is so in the balance sheet alone, each once (`scr_touched::touched`). Of a record that would
-/// be refused nothing is told but that none stands twice. Only want of memory is refused. The cost is that of the row that the
-/// record makes, and for each figure that is told and is reckoned from large sums that of some look-ups; where a sum comes to be
-/// read or is read no more it is that of all Blocks under it.
+/// The figures and Blocks that the record touches, each once: it changes their own data or sources, makes them or removes them.
+/// The input `told` lists, each once, the figures that it changes in the balance sheet alone (`scr_touched::touched`). For a
+/// record that the book would refuse only freedom from repeats is promised. `NoMemory` if the list doesn't fit. It costs the
+/// making of the record's row and some look-ups for each figure computed from large sums. If a sum is first read or no longer
+/// read, it costs all Blocks under it.
 pub fn touched_in(
     alloc: Global,
     book: &Book,
@@ -63,15 +63,15 @@ pub fn touched_in(
     list
 }
 
-/// Whether one of the figures is reckoned from a large sum. Of a record that says how much is held none is, so that its row need not
-/// be made.
+/// Whether one of the figures is computed from a large sum. A record that only changes an amount held has none, so its row need
+/// not be made.
 fn have_sums(told: &[Node]) -> bool
     ensures { result ≡ list_any (λ node. is_some (first_sum node)) told.now }
 {
     told.iter().any(|node| first_sum(node).is_some())
 }
 
-/// The figures alone.
+/// The figures as points, without Blocks.
 fn figures(alloc: Global, told: &[Node]) -> Result<Vec<Point>, NoMemory>
     ensures { IfOk result (λ list. list.items ≡ flat_map (λ node. points.Figure node ∷ []) told.now) }
 {
@@ -100,7 +100,7 @@ fn touched_by(
     Ok(list)
 }
 
-/// Pushes the figure, if it changes in the graph of the book, too, and the Blocks that change under its sums.
+/// Pushes the figure, if it changes in the graph of the book too, and the changed Blocks under its sums.
 fn push_points(
     list: &mut Vec<Point>,
     book: &Book,
@@ -119,7 +119,7 @@ fn push_points(
     push_turned(list, node, &first, &second)
 }
 
-/// The same by what becomes of the sums from which the figure is reckoned.
+/// Pushes the figure and the Blocks, from the figure's sums before and after the record.
 fn push_turned(
     list: &mut Vec<Point>,
     node: &Node,
@@ -160,8 +160,8 @@ fn push_below(
     push_blocks(list, second)
 }
 
-/// Whether a figure that changes in the graph of the balance sheet changes in that of the book, too: one that is reckoned from no sum,
-/// or from one that moves.
+/// Whether a figure that changes in the balance sheet changes in the graph of the book: it is computed from no sum, or one of its
+/// sums moves.
 fn is_kept(first: &Option<Turn>, second: &Option<Turn>) -> bool
     requires first { IfSome first.now IsSmall }
     requires second { IfSome second.now IsSmall }
@@ -183,7 +183,8 @@ fn second_moves(second: &Option<Turn>) -> bool
     }
 }
 
-/// Whether it is the figure that is told of those that are reckoned from its sums: of a currency the rise.
+/// Whether the Blocks under a figure's sums are listed with this figure. A currency's two scenarios share their sums, and the rise
+/// lists them.
 fn is_reader(node: &Node) -> bool
     ensures { result ≡ spec.is_reader node.now }
 {

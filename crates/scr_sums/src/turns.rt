@@ -1,4 +1,4 @@
-//! How a sum stands before a record and after it, and which of the Blocks under it change.
+//! A sum before and after a record, and the Blocks under it that change.
 ghost use Rattle.std.specs.Prelude.{◌≡◌, ℕ, ◌≤◌, ◌++◌, ◌∷◌, [], IfSome, OnOk, Some, false, map, option_to_list, slice_get, true};
 ghost use Rattle.std.specs.List.{position_or_len, range_with_len};
 ghost use Rattle.scr_names.specs.Names.{same_name};
@@ -22,29 +22,29 @@ use scr_changes::Change;
 use scr_sheet::{Edit, Name, row_name};
 use std::alloc::AllocError as NoMemory;
 
-/// What becomes of the list of a sum's members.
+/// The change of a sum's member list by a record.
 #[derive(Clone, Copy)]
 pub(crate) enum Step {
     Stays,
-    /// One comes last.
+    /// A member is appended.
     Comes,
-    /// The one at a place leaves, and the last takes the place.
+    /// The member at this position is swap-removed.
     Leaves(usize),
 }
 
-/// A sum before a record and after it.
+/// A sum before and after a record.
 #[derive(Clone, Copy)]
 pub(crate) struct Turn {
     pub(crate) sum: Sum,
-    /// The balance sheet has a figure that is reckoned from it, before and after.
+    /// Whether the balance sheet has a figure computed from the sum, before and after.
     pub(crate) was_read: bool,
     pub(crate) is_read: bool,
-    /// How many members it has before.
+    /// The number of members before.
     pub(crate) count: usize,
     pub(crate) step: Step,
 }
 
-/// The sum, if there is one, before the record, which exchanges this, and after it.
+/// The sum, if there is one, before and after the record, whose change of rows is `change`.
 pub(crate) fn turn_at(book: &Book, edit: &Edit, change: &Change, sum: Option<Sum>) -> Option<Turn>
     requires { change.now ≡ the_change edit.now book.now.sheet }
     ensures turn { result ≡ turn_at edit.now (rolled_of book.now) sum }
@@ -74,7 +74,7 @@ fn turn_of(book: &Book, edit: &Edit, change: &Change, sum: &Sum) -> Turn
     }
 }
 
-/// What the record makes of the list of the sum's members: its row alone may come or leave.
+/// The change of the sum's member list by the record; only its own row can join or leave.
 fn step_of(book: &Book, edit: &Edit, change: &Change, sum: &Sum) -> Step
     requires { change.now ≡ the_change edit.now book.now.sheet }
     ensures { result ≡ spec.step_of (is_member (roll_of sum.now) (edit_name edit.now) book.now.sheet)
@@ -87,7 +87,7 @@ fn step_of(book: &Book, edit: &Edit, change: &Change, sum: &Sum) -> Step
     }
 }
 
-/// What becomes of the list if the row of a name comes or leaves: where it stands there is told by the book.
+/// The change of the list if the row of a name joins or leaves; its position is looked up in the book.
 fn named_step(book: &Book, change: &Change, sum: &Sum, name: &Name) -> Step
     requires { IsNamed change.now }
     ensures step { result ≡ spec.step_of (is_member (roll_of sum.now) name.now book.now.sheet)
@@ -111,7 +111,7 @@ fn is_later(book: &Book, change: &Change, sum: &Sum, name: &Name) -> bool
     is_member_after(book.sheet(), change, sum, name)
 }
 
-/// What becomes of the list where the row stood at a place.
+/// The change of a list that held the row at a position.
 fn left(place: u32, is: bool) -> Step
     ensures { result ≡ spec.step_of true is place }
 {
@@ -122,14 +122,14 @@ fn left(place: u32, is: bool) -> Step
     }
 }
 
-/// What becomes of it where the row was no member.
+/// The change of a list that did not hold the row.
 fn joined(is: bool) -> Step
     ensures { (place : ℕ) → result ≡ spec.step_of false is place }
 {
     if is { Step::Comes } else { Step::Stays }
 }
 
-/// How many members the sum has after the record.
+/// The number of members after the record.
 fn count_after(turn: &Turn) -> usize
     requires { spec.IsSmall turn.now }
     ensures { result ≡ spec.count_after turn.now.count turn.now.step }
@@ -141,7 +141,7 @@ fn count_after(turn: &Turn) -> usize
     }
 }
 
-/// Whether a figure that is reckoned from the sum comes or goes, or what is left at the top of the sum changes.
+/// Whether a figure computed from the sum comes or goes, or the points at the top of the sum change.
 pub(crate) fn moves(turn: &Turn) -> bool
     requires { spec.IsSmall turn.now }
     ensures { result ≡ moves turn.now }
@@ -163,7 +163,7 @@ pub(crate) fn push_blocks(list: &mut Vec<Point>, turn: &Option<Turn>) -> Result<
     }
 }
 
-/// Pushes those of a level.
+/// Pushes the Blocks of a level that change.
 fn push_level(list: &mut Vec<Point>, turn: &Turn, level: Level) -> Result<(), NoMemory>
     requires { spec.IsSmall turn.now }
     ensures { OnOk result (list.new.items ≡ list.old.items ++ map (block_point turn.now.sum level) (spec.changed_blocks turn.now level)) }
@@ -176,7 +176,7 @@ fn push_level(list: &mut Vec<Point>, turn: &Turn, level: Level) -> Result<(), No
     }
 }
 
-/// Pushes those where the sum is read before and after: four at most on both levels.
+/// Pushes the Blocks of a level that change while the sum is read before and after, at most four.
 fn push_steps(list: &mut Vec<Point>, turn: &Turn, level: Level) -> Result<(), NoMemory>
     requires { spec.IsSmall turn.now }
     ensures { OnOk result (list.new.items ≡ list.old.items
@@ -199,7 +199,7 @@ fn push_step(list: &mut Vec<Point>, turn: &Turn, level: Level, k: usize) -> Resu
     }
 }
 
-/// Pushes the first Blocks of a level, as many as there are.
+/// Pushes all `count` Blocks of a level.
 fn push_all(list: &mut Vec<Point>, turn: &Turn, level: Level, count: usize) -> Result<(), NoMemory>
     requires { count ≤ 20001 }
     ensures { OnOk result (list.new.items ≡ list.old.items ++ map (block_point turn.now.sum level) (range_with_len 0 count)) }
@@ -210,6 +210,7 @@ fn push_all(list: &mut Vec<Point>, turn: &Turn, level: Level, count: usize) -> R
     Ok(())
 }
 
+/// Pushes one point.
 pub(crate) fn push_point(list: &mut Vec<Point>, point: Point) -> Result<(), NoMemory>
     ensures { OnOk result (list.new.items ≡ list.old.items ++ point ∷ []) }
 {
@@ -226,7 +227,7 @@ fn block(turn: &Turn, level: Level, index: u32) -> Point
     })
 }
 
-/// The Blocks that change where the sum is read before and after, one by one from 0; none past the last.
+/// The `k`-th Block (from 0) of a level that changes while the sum is read before and after; `None` past the last.
 fn changed_at(turn: &Turn, level: Level, k: usize) -> Option<u32>
     requires { spec.IsSmall turn.now }
     ensures { result ≡ slice_get (spec.changed_at turn.now.count turn.now.step level) k }

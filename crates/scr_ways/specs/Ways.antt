@@ -1,5 +1,5 @@
--- What a record reaches in the graph of a balance sheet, and in that of a book with the Blocks under its large sums (this project's
--- own): what the record leaves there and from which a chain of sources leads to what it touches.
+-- What a record reaches in the graph of a balance sheet, and in a book's graph, which has Blocks besides (own). A node is reached
+-- if it exists after the record and a chain of sources leads from it to a touched node.
 use Rattle.std.specs.Prelude.{◌≡◌, ◌⊎◌, ℕ, ◌<◌, ◌≤◌, true, List, Contains, Some, length, slice_get}
 use Rattle.scr_blocks.specs.Blocks.{end_of, start_of}
 use Rattle.scr_factors.specs.Values.{FactorValues}
@@ -22,41 +22,45 @@ use Rattle.scr_sums.specs.declared.point.Point.TheVariants as points
 
 -- ---- the two graphs
 
+-- The figures of a balance sheet with their sources (own).
 abbrev pub sheet_graph : BalanceSheet → Graph Node
 sheet_graph sheet = record { live = is_live sheet; sources = sources_of sheet }
 
+-- The figures and Blocks of a book with their sources (own).
 abbrev pub book_graph : Rolled → Graph Point
 book_graph book = record { live = is_live_in book; sources = sources_in book }
 
--- ---- what is in reach
+-- ---- reached nodes
 
+-- The record reaches the figure in the graph of the balance sheet (own).
 abbrev pub IsFigureReached : FactorValues → BalanceSheet → Edit → Node → Type 0
 IsFigureReached factors sheet edit node = IsInReach (sheet_graph (applied edit sheet)) (IsChanged factors sheet (applied edit sheet)) node
 
+-- The record reaches the figure or Block in the graph of the book (own).
 abbrev pub IsPointReached : FactorValues → Rolled → Edit → Point → Type 0
 IsPointReached factors book edit point = IsInReach (book_graph (applied_in edit book)) (IsTouchedIn factors book edit) point
 
--- The balance sheet is valid before the record and after it, and the lists have just its members before, and so after.
+-- The balance sheet is valid before and after the record, and the lists have exactly its members before (own).
 pub record AreKept (edit : Edit) (book : Rolled) : Type 0 where
   pub valid : Valid book.sheet
   pub valid_after : Valid (applied edit book.sheet)
   pub rolls : AreRolls book
 
--- ---- what lies under a Block
+-- ---- members and Blocks under a Block
 
--- a member of its sum, at a place that the Block spans
+-- The name is a member of the Block's sum, at a position that the Block spans (own).
 pub record IsUnder (book : Rolled) (block : Block) (name : List ℕ) : Type 0 where
   pub place : ℕ
   pub at : slice_get (roll_in book block.sum) place ≡ Some name
   pub behind : start_of (length (roll_in book block.sum)) block.level block.index ≤ place
   pub before : place < end_of (length (roll_in book block.sum)) block.level block.index
 
--- the Block itself, or a Block that it adds up
+-- `part` is the Block itself, or a Block that it adds up (own).
 abbrev pub IsPartOf : Rolled → Block → Block → Type 0
 IsPartOf book block part = (part ≡ block) ⊎ Contains (sources_in book (points.Block block)) (points.Block part)
 
--- The Blocks in reach, told without chains through Blocks: the book has the Block after the record, and the record touches it or a Block
--- that it adds up, or reaches the figure of a member under it.
+-- The record reaches the Block, said without chains through Blocks (own). The book has it after the record. And the record touches
+-- it or a Block that it adds up, or reaches a member's figure under it.
 abbrev pub IsBlockReached : FactorValues → Rolled → Edit → Block → Type 0
 IsBlockReached factors book edit block =
     (is_live_in (applied_in edit book) (points.Block block) ≡ true)

@@ -1,5 +1,4 @@
-//! Laws of what a record reaches in the graph of a book, whatever a program does. Each is a function that does nothing, whose contract
-//! is the law.
+//! Laws of what a record reaches in the graph of a book, for proofs above to cite.
 ghost use Rattle.std.specs.Prelude.{◌≡◌, ◌↔◌, ◌⊎◌, ◌+◌, ℕ, true, Contains, Some};
 ghost use Rattle.scr_factors.specs.Values.{FactorValues};
 ghost use Rattle.scr_sheet.specs.Records.{applied};
@@ -16,19 +15,18 @@ ghost use Rattle.scr_sums.specs.declared.point.Point.{Point};
 ghost use Rattle.scr_sums.specs.declared.point.Point.TheVariants as points;
 ghost use Rattle.scr_ways.specs.Ways.{AreKept, IsBlockReached, IsFigureReached, IsPointReached};
 
-/// Where the lists of a book have just the members that its balance sheet has, each once, so have they as a record leaves them.
+/// If the lists of a book have exactly its balance sheet's members, each once, so do they after a record.
 pub fn lists()
     ensures { (edit : Edit) (book : Rolled) → AreRolls book → AreRolls (applied_in edit book) }
 {}
 
-/// A figure is in reach of the record in the graph of the book exactly where it is in that of the balance sheet, whatever the factors.
+/// A record reaches a figure in the book's graph exactly if it does in the balance sheet's, whatever the factors.
 pub fn figures()
     ensures { (factors : FactorValues) (edit : Edit) (book : Rolled) → AreKept edit book → (node : Node)
         → IsPointReached factors book edit (points.Figure node) ↔ IsFigureReached factors book.sheet edit node }
 {}
 
-/// A figure or a Block is in reach of the record exactly where the book has it after the record, and the record touches it or one of its
-/// sources is in reach.
+/// A record reaches a node exactly if it exists after the record, and is touched or has a reached source.
 pub fn sources()
     ensures { (factors : FactorValues) (edit : Edit) (book : Rolled) → AreKept edit book → (point : Point)
         → IsPointReached factors book edit point
@@ -37,14 +35,14 @@ pub fn sources()
         ⊎ ((source : Point) × Contains (sources_in (applied_in edit book) point) source × IsPointReached factors book edit source))) }
 {}
 
-/// A Block is in reach of the record exactly where the book has it after the record, and the record touches it or a Block that it adds up,
-/// or a member at a place that it spans is in reach with the figure that its sum adds up.
+/// A record reaches a Block exactly if the Block exists after it and one of two things holds. It touches the Block or a Block
+/// below, or it reaches the figure of a member that the Block spans.
 pub fn blocks()
     ensures { (factors : FactorValues) (edit : Edit) (book : Rolled) → AreKept edit book → (block : Block)
         → IsPointReached factors book edit (points.Block block) ↔ IsBlockReached factors book edit block }
 {}
 
-/// Where a Block is in reach, so is each figure that is reckoned from its sum and that the balance sheet has after the record.
+/// If a record reaches a Block, it reaches each figure computed from the Block's sum that exists after the record.
 pub fn readers()
     ensures { (factors : FactorValues) (edit : Edit) (book : Rolled) → AreKept edit book → (block : Block) (node : Node)
         → IsPointReached factors book edit (points.Block block)
@@ -52,8 +50,8 @@ pub fn readers()
         → IsFigureReached factors book.sheet edit node }
 {}
 
-/// In the graph of the book there are as many figures and Blocks in reach as figures in that of the balance sheet, and Blocks, together;
-/// in either graph there are so many and no other number.
+/// The reached nodes of the book are as numerous as its reached figures and reached Blocks together. In either graph the number is
+/// unique.
 pub fn counts()
     ensures together { (factors : FactorValues) (edit : Edit) (book : Rolled) → AreKept edit book → (figures blocks : ℕ)
         → IsCountOf (IsFigureReached factors book.sheet edit) figures

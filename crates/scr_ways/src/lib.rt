@@ -1,5 +1,5 @@
-//! What a record reaches in the graph of a book, by what it reaches in that of its balance sheet: the same figures, and beside them just
-//! the Blocks over a figure or a list that changes. So reckoning anew takes as many steps as figures and such Blocks are.
+//! Laws of what a record reaches in the graph of a book. It reaches the figures that it reaches in the balance sheet's graph, and
+//! the Blocks over a figure or list that changes. So recomputation takes exactly one step for each of these figures and Blocks.
 #![tactic(auto)]
 
 pub mod laws;
