@@ -22,6 +22,7 @@ pub record AreDone (board : Board) (round : BoardRound) (passes : List Pass) : T
 abbrev pub puts_of : ℕ → List Pass → ℕ
 puts_of n passes = sum_by (λ pass. times n (progress pass).put) passes
 
+-- The number of nodes that all passes have put (own).
 abbrev pub put_count : List Pass → ℕ
 put_count passes = sum_by (λ pass. length (progress pass).put) passes
 

@@ -13,6 +13,8 @@ abbrev pub node_words : List (List Spot) → List ℕ
 node_words [] = []
 node_words (row ∷ rows) = length (nodes_in row) ∷ 0 ∷ 0 ∷ 0 ∷ 0 ∷ node_words rows
 
+-- The words of a board before its round: ticket 0, then five words a node: the number of its sources and a figure of four zeros
+-- (own).
 abbrev pub opening_words : BoardRound → List ℕ
 opening_words round = 0 ∷ node_words round.places
 

@@ -14,6 +14,7 @@ use Rattle.scr_board.specs.declared.board.Board.{Board}
 use Rattle.scr_board.specs.declared.board.Pass.{Pass}
 use Rattle.scr_board.specs.Rounds.{BoardRound, IsBoardRound, lists_of}
 
+-- The view of the pass at a seat (own).
 abbrev pub seen_by : Seat ⊤ View → View
 seen_by seat = seat.me.0
 
@@ -21,6 +22,7 @@ seen_by seat = seat.me.0
 abbrev pub view : Pass → View
 view pass = pass.seat.me.0
 
+-- The progress of a pass, read from the view at its seat (own).
 abbrev pub progress : Pass → Progress
 progress pass = pass.seat.me.0.progress
 

@@ -18,11 +18,13 @@ pub record BoardRound : Type 0 where
   pub starts : List ℕ
   pub worked : List Ends
 
+-- Positions of the nodes in a row of places, in their order; fixed figures are left out (own).
 abbrev pub nodes_in : List Spot → List ℕ
 nodes_in [] = []
 nodes_in (Node m ∷ row) = m ∷ nodes_in row
 nodes_in (Fixed e ∷ row) = nodes_in row
 
+-- The row of places of node `n`, from 0; none past the last node (own).
 abbrev pub places_at : BoardRound → ℕ → List Spot
 places_at round n = slice_index_or round.places n []
 

@@ -39,6 +39,7 @@ pub record IsRunning (words : List ℕ) (views : List View) : Type 0 where
 abbrev pub IsUnopened : List ℕ → List View → Type 0
 IsUnopened words views = views ≡ blank words ∷ []
 
+-- Invariant of a board: its words and views are unopened, or those of a round under way (own).
 unfoldable pub Holds : table.State ⊤ View → Type 0
 Holds s = IsUnopened s.words s.views ⊎ IsRunning s.words s.views
 

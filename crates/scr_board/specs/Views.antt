@@ -17,9 +17,11 @@ blank words = record { progress = spent; round = no_round; workers = 0; opening 
 abbrev pub opened : Round → ℕ → View
 opened round workers = record { progress = fresh workers; round = round; workers = workers; opening = [] }
 
+-- The progress of the pass with this view (own).
 abbrev pub progress_of : View → Progress
 progress_of v = v.progress
 
+-- The view of the same round and number of workers, with this progress and no opening (own).
 abbrev pub with_progress : View → Progress → View
 with_progress v p = record { progress = p; round = v.round; workers = v.workers; opening = [] }
 

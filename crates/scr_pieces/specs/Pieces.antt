@@ -22,8 +22,10 @@ pub record IsPieceReckoned (is_row : Sort → ℕ → List Span → Type 0) (pie
 
 -- ---- a piece by its place
 
+-- An empty piece, in place of one past the last (own).
 abbrev pub no_piece : Piece
 no_piece = record { sort = sorts.Liability; from = 0; end = 0 }
 
+-- Piece `n` of a list, from 0; an empty one past the last (own).
 abbrev pub piece_at : List Piece → ℕ → Piece
 piece_at pieces n = slice_index_or pieces n no_piece

@@ -7,10 +7,12 @@ use Rattle.scr_pieces.specs.declared.rows.Piece.{Piece}
 use Rattle.scr_pieces.specs.declared.rows.Sort.{Sort}
 use Rattle.scr_pieces.specs.declared.rows.Sort.TheVariants as sorts
 
+-- A row of one sort, at its position from 0 (own).
 pub record Row : Type 0 where
   pub sort : Sort
   pub place : ℕ
 
+-- The row of this sort at this position (own).
 abbrev pub row : Sort → ℕ → Row
 row sort place = record { sort = sort; place = place }
 
@@ -20,9 +22,11 @@ row sort place = record { sort = sort; place = place }
 abbrev pub rows_from : Sort → ℕ → ℕ → List Row
 rows_from sort from many = map (row sort) (range_with_len from many)
 
+-- The rows of a piece, from its first position up to its end, which is excluded (own).
 abbrev pub rows_in : Piece → List Row
 rows_in piece = rows_from piece.sort piece.from (piece.end - piece.from)
 
+-- The rows of all pieces, in order (own).
 abbrev pub rows_of : List Piece → List Row
 rows_of pieces = flat_map rows_in pieces
 
@@ -34,14 +38,17 @@ all_rows count =
 
 -- ---- how often a row stands among rows
 
+-- The number of a sort, from 0, by which sorts are compared (own).
 abbrev pub sort_number : Sort → ℕ
 sort_number sorts.Liability = 0
 sort_number sorts.Security = 1
 sort_number sorts.Group = 2
 
+-- Whether two rows have the same sort and position (own).
 abbrev pub same_row : Row → Row → Bool
 same_row one other = nat_eq (sort_number one.sort) (sort_number other.sort) && nat_eq one.place other.place
 
+-- The number of times a row stands in a list (own).
 abbrev pub times_row : Row → List Row → ℕ
 times_row one rows = count_by (same_row one) rows
 
@@ -59,6 +66,7 @@ AreOfRows is_row [] spans = spans ≡ []
 AreOfRows is_row (one ∷ rows) spans =
     (own : List Span) × (rest : List Span) × (spans ≡ own ++ rest) × is_row one.sort one.place own × AreOfRows is_row rows rest
 
+-- The spans of a part are the figures of the rows of its pieces, in order (own).
 abbrev pub IsPart : (Sort → ℕ → List Span → Type 0) → Part → Type 0
 IsPart is_row part = AreOfRows is_row (rows_of part.pieces.items) part.spans.items
 
@@ -71,6 +79,7 @@ pub record IsWithin (count : Sort → ℕ) (piece : Piece) : Type 0 where
   pub ordered : piece.from ≤ piece.end
   pub low : piece.end ≤ count piece.sort
 
+-- Each piece of a part lies within the rows that there are of its sort (own).
 abbrev pub ArePiecesWithin : (Sort → ℕ) → Part → Type 0
 ArePiecesWithin count part = AllByRecursion (IsWithin count) part.pieces.items
 

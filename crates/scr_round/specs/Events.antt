@@ -58,15 +58,18 @@ joins p o = record {
 
 -- ---- what it makes of the state
 
+-- A function with value `x` at `n`, elsewhere as before (own).
 abbrev pub replaced : (ℕ → ℕ) → ℕ → ℕ → ℕ → ℕ
 replaced f n x m = if nat_eq m n then x else f m
 
+-- State after a pass draws the ticket: the ticket grows by one, and the pass has the start at it, if there is one (own).
 abbrev pub drawn : Round → State → ℕ → Progress → State
 drawn round s id p = record s {
   ticket = s.ticket + 1;
   passes = set s.passes id (draws (slice_get round.starts s.ticket) p);
 }
 
+-- State after a pass stores the next word of node `n` in its hand (own).
 abbrev pub stored : Round → State → ℕ → Progress → ℕ → State
 stored round s id p n = record s {
   word = λ m i. if nat_eq m n then replaced (s.word n) (stored_of n p.hand) (word_of round n (stored_of n p.hand)) i
@@ -74,15 +77,18 @@ stored round s id p n = record s {
   passes = set s.passes id (writes n p);
 }
 
+-- State after a pass delivers node `n` to `d`, its dependant at position `k`: `d` waits for one source fewer (own).
 abbrev pub delivered : State → ℕ → Progress → ℕ → ℕ → ℕ → State
 delivered s id p n k d = record s {
   left = replaced s.left d (s.left d - 1);
   passes = set s.passes id (delivers n k d (s.left d) p);
 }
 
+-- State after a pass splits its share: a new pass with share 1 stands last (own).
 abbrev pub split : State → ℕ → Progress → State
 split s id p = record s { passes = set s.passes id (splits p) ++ fresh 1 ∷ [] }
 
+-- State after a pass takes over the lists and share of pass `other`, which is then spent (own).
 abbrev pub joined : State → ℕ → Progress → ℕ → Progress → State
 joined s id p other o = record s { passes = set (set s.passes id (joins p o)) other spent }
 

@@ -1,10 +1,10 @@
--- A round of nodes, each reckoned from its sources.
+-- A round of nodes, each worked out from its sources (own).
 use Rattle.std.specs.Prelude.{◌≡◌, ℕ, ◌<◌, ◌≤◌, List, [], length, slice_index_or}
 use Rattle.scr_round.specs.declared.lists.Round.{Round}
 use Rattle.scr_round.specs.Counts.{times}
 
--- Each node's sources stand in the round, each once, and lead to no cycle: a rank falls from each node to its sources. A
--- node stands among the dependants of another exactly where that one stands among its sources. The starts are the nodes
+-- A graph of `count` nodes, numbered from 0, without a cycle (own). Each source is listed once, and a rank falls from each node
+-- to its sources. A node is among the dependants of another exactly if the other is among its sources. The starts are the nodes
 -- without a source, each once.
 pub record IsRound (count : ℕ) (sources dependants : ℕ → List ℕ) (starts : List ℕ) : Type 0 where
   pub within : (n m : ℕ) → 0 < times m (sources n) → (n < count) × (m < count)
@@ -17,18 +17,22 @@ pub record IsRound (count : ℕ) (sources dependants : ℕ → List ℕ) (starts
   pub rank : ℕ → ℕ
   pub falls : (n m : ℕ) → 0 < times m (sources n) → rank m < rank n
 
+-- The number of nodes of a round (own).
 abbrev pub count_of : Round → ℕ
 count_of round = length round.sources
 
+-- The sources of node `n`, from 0; none past the last node (own).
 abbrev pub sources_of : Round → ℕ → List ℕ
 sources_of round n = slice_index_or round.sources n []
 
+-- The dependants of node `n`, from 0; none past the last node (own).
 abbrev pub dependants_of : Round → ℕ → List ℕ
 dependants_of round n = slice_index_or round.dependants n []
 
--- word j of the figure that is listed for node n
+-- Word `j` of the figure listed for node `n`, both from 0; 0 past the last (own).
 abbrev pub word_of : Round → ℕ → ℕ → ℕ
 word_of round n j = slice_index_or (slice_index_or round.words n []) j 0
 
+-- The lists of a round form a graph without a cycle, as `IsRound` says (own).
 abbrev pub IsFormed : Round → Type 0
 IsFormed round = IsRound (count_of round) (sources_of round) (dependants_of round) round.starts

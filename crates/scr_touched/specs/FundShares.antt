@@ -9,6 +9,7 @@ use Rattle.scr_changes.specs.declared.change.Change.{Change}
 use Rattle.scr_changes.specs.declared.change.Change.TheVariants as changes
 use Rattle.scr_touched.specs.declared.component.Shares.{Shares}
 
+-- The shares of a fund are known before and after a change of its stake: `old` for the row there is, `new` for the next (own).
 pub record AreBothShares (shares : Shares) (old new : Option Stake) : Type 0 where
   pub old_shares : AreShares shares.old old
   pub new_shares : AreShares shares.new new

@@ -32,10 +32,13 @@ counts_in sheet group name = option_map_or (is_of_group group) (position_of name
 abbrev pub is_moved : Option Group → Option Group → Bool
 is_moved old new = is_touched (is_some old) (is_some new) true true
 
+-- Whether the concentration square of a group changes: the group comes or goes, or its kind or credit quality step changes
+-- (own).
 abbrev pub square_touched : Option Group → Option Group → Bool
 square_touched old new =
     is_touched (is_some old) (is_some new) (is_same_kind (kind_of old) (kind_of new) && same_step old new) true
 
+-- Whether the members of a class of default change: the group joins or leaves the class (own).
 abbrev pub class_touched : Option Group → Option Group → DefaultClass → Bool
 class_touched old new class = is_touched true true true (is_kept (is_of_default_class class) old new)
 
@@ -75,9 +78,12 @@ class_nodes (Some group) =
 abbrev pub spread_nodes : BalanceSheet → List ℕ → List Node
 spread_nodes sheet name = map security_spread (filter (is_of_group name) sheet.securities)
 
+-- The figures that a change of the group `name` may touch, with its class of default as in `old` (own).
 abbrev pub group_nodes : List ℕ → Option Group → List Node
 group_nodes name old = own_nodes name ++ class_nodes old
 
+-- The figures that the new state of the group `name` may touch besides: its class of default, and the spreads of its securities
+-- (own).
 abbrev pub later_group_nodes : BalanceSheet → List ℕ → Option Group → List Node
 later_group_nodes sheet name new = class_nodes new ++ spread_nodes sheet name
 

@@ -35,14 +35,18 @@ is_under projection liability = is_stress projection && passes (has_flows projec
 
 -- ---- families of figures of one liability
 
+-- Whether the best estimate has the same payments and is discounted at the same rates before and after (own).
 abbrev pub same_value : BalanceSheet → Option Liability → Option Liability → Bool
 same_value sheet old new =
     same_payments (best_estimate_of old) (best_estimate_of new)
     && same_rates (rates_for sheet old) (rates_for sheet new)
 
+-- Whether the value of a liability changes: it comes or goes, or its best estimate or the rates of its currency change (own).
 abbrev pub value_touched : BalanceSheet → Option Liability → Option Liability → Bool
 value_touched sheet old new = is_touched (is_some old) (is_some new) (same_value sheet old new) true
 
+-- Whether the loss under a stress changes: the liability begins or ceases to have flows under it, or its value or stressed
+-- payments change (own).
 abbrev pub loss_touched : BalanceSheet → Projection → Option Liability → Option Liability → Bool
 loss_touched sheet projection old new =
     is_touched (is_under projection old) (is_under projection new)
@@ -81,6 +85,7 @@ owed_nodes (Some liability) =
     ∷ nodes.Currency liability.currency (of_currencies.Scenario directions.Up measures.Gross)
     ∷ nodes.Currency liability.currency (of_currencies.Scenario directions.Down measures.Gross) ∷ []
 
+-- The figures that a change of the liability `name` may touch, with its currency as in `old` (own).
 abbrev pub liability_nodes : List ℕ → Option Liability → List Node
 liability_nodes name old =
     value_figures name ++ (loss_figures name ++ (stress_nodes biometrics.Life ++ (stress_nodes biometrics.Health

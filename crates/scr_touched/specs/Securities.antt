@@ -33,17 +33,22 @@ step_for sheet position = option_map_or (step_of sheet) position None
 
 -- ---- families of figures of one security
 
+-- Whether the total of a security changes: it comes or goes, or the amount held changes (own).
 abbrev pub total_touched : Option Position → Option Position → Bool
 total_touched old new = is_touched (is_some old) (is_some new) (position_held old == position_held new) true
 
+-- Whether the loss a unit changes: the security begins or ceases to pay, or its payments or the rates of its currency change
+-- (own).
 abbrev pub unit_touched : BalanceSheet → Option Position → Option Position → Bool
 unit_touched sheet old new =
     is_touched (passes is_paying old) (passes is_paying new)
     (same_payments (flows_of old) (flows_of new) && same_rates (rates_for sheet old) (rates_for sheet new)) true
 
+-- Whether the security begins or ceases to have a figure of rate risk, which only a paying one has (own).
 abbrev pub rate_touched : Option Position → Option Position → Bool
 rate_touched old new = is_touched (passes is_paying old) (passes is_paying new) true true
 
+-- Whether the spread figure changes: the bond comes or goes, or its credit quality step or duration changes (own).
 abbrev pub spread_touched : BalanceSheet → Option Position → Option Position → Bool
 spread_touched sheet old new =
     is_touched (passes (has_class classes.Bond) old) (passes (has_class classes.Bond) new)
@@ -82,6 +87,7 @@ own_nodes name =
     ∷ nodes.Security name (of_securities.Rate directions.Up) ∷ nodes.Security name (of_securities.Rate directions.Down)
     ∷ nodes.Security name of_securities.Spread ∷ nodes.Whole wholes.Spread ∷ nodes.Whole wholes.Assets ∷ []
 
+-- The total of the group of a security, as a list of nodes; none without a group (own).
 abbrev pub group_nodes : Option (List ℕ) → List Node
 group_nodes None = []
 group_nodes (Some group) = nodes.Group group of_groups.Total ∷ []
@@ -96,6 +102,7 @@ row_nodes (Some position) =
     ∷ nodes.Currency position.security.currency (of_currencies.Scenario directions.Down measures.Gross)
     ∷ nodes.Whole (wholes.ClassSum position.security.class) ∷ group_nodes position.security.group
 
+-- The figures that a change of the security `name` may touch, with its currency, class and group as in `old` (own).
 abbrev pub security_nodes : List ℕ → Option Position → List Node
 security_nodes name old = own_nodes name ++ row_nodes old
 

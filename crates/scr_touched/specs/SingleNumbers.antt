@@ -32,21 +32,27 @@ stress_cents biometric projection numbers =
 abbrev pub same_volume : ℕ × ℕ → ℕ × ℕ → Bool
 same_volume a b = (a.0 == b.0) && (a.1 == b.1)
 
+-- Whether the volumes of premium and of reserve risk are equal in every region, in the same order (own).
 abbrev pub same_volumes : List (ℕ × ℕ) → List (ℕ × ℕ) → Bool
 same_volumes xs ys = pointwise same_volume xs ys
 
+-- Earned premium number `place`, from 0; 0 past the last (own).
 abbrev pub earned_at : ℕ → Numbers → ℕ
 earned_at place numbers = slice_index_or numbers.earned place 0
 
+-- Whether earned premium number `place`, from 0, is equal before and after (own).
 abbrev pub same_earned : ℕ → Numbers → Numbers → Bool
 same_earned place old new = earned_at place old == earned_at place new
 
+-- Technical provision number `place`, from 0; 0 past the last (own).
 abbrev pub provision_at : ℕ → Numbers → ℤ
 provision_at place numbers = slice_index_or numbers.provisions place (pos 0)
 
+-- Whether technical provision number `place`, from 0, is equal before and after (own).
 abbrev pub same_provision : ℕ → Numbers → Numbers → Bool
 same_provision place old new = int_eq (provision_at place old) (provision_at place new)
 
+-- Whether amount due number `place`, from 0, is equal before and after (own).
 abbrev pub same_due : ℕ → Numbers → Numbers → Bool
 same_due place old new = slice_index_or old.due place 0 == slice_index_or new.due place 0
 
@@ -60,6 +66,7 @@ same_operations operations.Provisions old new =
 same_operations operations.Cap old new = true
 same_operations operations.Charge old new = same_earned 6 old new
 
+-- Whether a change of the single numbers of the balance sheet changes the figure: one that it reads directly differs (own).
 abbrev pub numbers_touch : Numbers → Numbers → Node → Bool
 numbers_touch old new (nodes.Whole (wholes.InterestScenario direction Net)) =
     not (absorbed (interest_key direction) old == absorbed (interest_key direction) new)
@@ -85,12 +92,14 @@ numbers_touch old new node = false
 
 -- ---- what may be touched
 
+-- Net requirements of the risk modules that read a single number, with type 2 default (own).
 abbrev pub risk_nodes : List Node
 risk_nodes =
     nodes.Whole (wholes.NetPart risks.Equity) ∷ nodes.Whole (wholes.NetPart risks.Property) ∷ nodes.Whole (wholes.NetPart risks.Spread)
     ∷ nodes.Whole (wholes.NetPart risks.Concentration) ∷ nodes.Whole (wholes.NetPart risks.Default) ∷ nodes.Whole (wholes.NetPart risks.HealthCatastrophe)
     ∷ nodes.Whole wholes.DefaultType2 ∷ []
 
+-- Net requirements under each stress of life or health obligations (own).
 abbrev pub stress_nodes : Biometric → List Node
 stress_nodes biometric =
     nodes.Whole (wholes.BioScenario biometric projections.Mortality Net) ∷ nodes.Whole (wholes.BioScenario biometric projections.Longevity Net)
@@ -98,12 +107,14 @@ stress_nodes biometric =
     ∷ nodes.Whole (wholes.BioScenario biometric projections.Revision Net) ∷ nodes.Whole (wholes.BioScenario biometric projections.Catastrophe Net)
     ∷ []
 
+-- Catastrophe charges, lapse and non-life figures that read a single number (own).
 abbrev pub charge_nodes : List Node
 charge_nodes =
     nodes.Whole (wholes.CatCharge cats.NonProportionalProperty) ∷ nodes.Whole (wholes.CatCharge cats.Other)
     ∷ nodes.Whole (wholes.Lapse sets.Nl) ∷ nodes.Whole (wholes.Lapse sets.Nslt) ∷ nodes.Whole (wholes.Nslt Gross) ∷ nodes.Whole (wholes.Nslt Net)
     ∷ nodes.Whole (wholes.Nonlife Gross) ∷ nodes.Whole (wholes.Nonlife Net) ∷ []
 
+-- Intangible, basic and operational requirements and adjustments that read a single number (own).
 abbrev pub requirement_nodes : List Node
 requirement_nodes =
     nodes.Whole wholes.Intangible ∷ nodes.Whole (wholes.Bscr Gross) ∷ nodes.Whole (wholes.Bscr Net) ∷ nodes.Whole (wholes.OpPart operations.Premiums)
@@ -111,15 +122,18 @@ requirement_nodes =
     ∷ nodes.Whole (wholes.Adjust adjustments.TechnicalProvisions) ∷ nodes.Whole (wholes.Adjust adjustments.DeferredTaxes) ∷ nodes.Whole wholes.Diversification
     ∷ []
 
+-- Figures of market, life and health scenarios that a change of the single numbers may touch (own).
 abbrev pub scenario_nodes : List Node
 scenario_nodes =
     interest_scenarios ++ (equity_parts ++ (risk_nodes ++ (stress_nodes biometrics.Life
     ++ (lapse_scenarios biometrics.Life ++ (stress_nodes biometrics.Health ++ lapse_scenarios biometrics.Health)))))
 
+-- Figures of segments, catastrophes and requirements that a change of the single numbers may touch (own).
 abbrev pub nonlife_nodes : List Node
 nonlife_nodes =
     segments_of sets.Nl ++ (segments_of sets.Nslt ++ (natural_perils ++ (man_made_perils ++ (health_perils
     ++ (charge_nodes ++ requirement_nodes)))))
 
+-- All figures that a change of the single numbers of the balance sheet may touch (own).
 abbrev pub number_nodes : List Node
 number_nodes = scenario_nodes ++ nonlife_nodes

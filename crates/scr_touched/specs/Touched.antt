@@ -11,6 +11,7 @@ use Rattle.scr_nodes.specs.declared.node.Node.{Node}
 -- what changes of a figure
 pub use Rattle.scr_nodes.specs.Changed.{IsChanged, IsSame}
 
+-- An edit touches a figure: it changes between the balance sheet before and after the edit, as `IsChanged` says (own).
 abbrev pub IsTouched : FactorValues → BalanceSheet → Edit → Node → Type 0
 IsTouched factors sheet edit node = IsChanged factors sheet (applied edit sheet) node
 

@@ -61,8 +61,8 @@ fn value_touched(sheet: &BalanceSheet, old: Option<&Liability>, new: Option<&Lia
     is_touched(old.is_some(), new.is_some(), own, true)
 }
 
-/// What is paid by the best estimate or under the stress changes, or the rates by which it is
-/// discounted, or the liability begins or ends to have flows under the stress.
+/// Whether the loss of a liability under a stress changes. It does if payments of the best estimate or under
+/// the stress change, or the rates that discount them. It does too if flows under the stress begin or cease.
 fn loss_touched(
     sheet: &BalanceSheet,
     projection: Projection,

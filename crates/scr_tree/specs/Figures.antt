@@ -21,6 +21,7 @@ pub record Worth : Type 0 where
   pub worked : Ends
   pub close : Bool
 
+-- The ends of a kept figure, and whether it rests on an open choice (own).
 abbrev pub worth_of : Figure → Worth
 worth_of figure = record { worked = ends figure.span; close = figure.close }
 

@@ -126,10 +126,11 @@ pub record AreDoneTo (ground : Ground) (figures : List Figure) (t u : Turn) : Ty
 abbrev pub AreRowsDone : Ground → List Figure → Type 0
 AreRowsDone ground figures = AreDoneTo ground figures (turn 6 0 0) (turn 5 0 0)
 
--- all figures before a turn are reckoned, with the Blocks under the sums that they read
+-- All figures before turn `t` are worked out, with the Blocks under the sums that they read (own).
 abbrev pub AreDone : Ground → List Figure → Turn → Type 0
 AreDone ground figures t = AreDoneTo ground figures t t
 
+-- `IsAllMade` for these figures and edges, with the factors, book and ids of a ground (own).
 abbrev pub IsWhole : Ground → List Figure → Linked → Type 0
 IsWhole ground figures links = IsAllMade ground.inputs.factors.now ground.inputs.book.now ground.places.now ground.lists.now figures links
 
@@ -167,6 +168,7 @@ abbrev pub IsBlockOf : (Sum → Type 0) → Point → Type 0
 IsBlockOf P (points.Figure node) = ⊥
 IsBlockOf P (points.Block block) = P block.sum
 
+-- The figures of all Blocks over sums with property `P` are known (own).
 abbrev pub AreBlocksThere : Ground → List Figure → (Sum → Type 0) → Type 0
 AreBlocksThere ground figures P =
     AreKnownOf (book_reckoning ground.inputs.factors.now (rolled_of ground.inputs.book.now)) (StandsIn ground.inputs.book.now ground.places.now ground.lists.now)

@@ -5,6 +5,7 @@ use Rattle.scr_tree.specs.declared.engine.Engine.TheInside.{Inside}
 use Rattle.scr_tree.specs.Changed.{IsStateOf}
 use Rattle.scr_tree.specs.Standing.{Standing, standing_on}
 
+-- Factors, balance sheet and member lists of an engine (own).
 abbrev pub standing_of : Inside → Standing
 standing_of e = standing_on e.factors e.book
 

@@ -11,6 +11,7 @@ use Rattle.scr_sums.specs.declared.point.Point.TheVariants as points
 use Rattle.scr_tree.specs.Points.{StandsIn}
 use Rattle.scr_tree.specs.declared.graph.Numbers.{Numbers}
 
+-- Whether a figure of the whole sheet is worked out after all rows: all but `Assets` are (own).
 abbrev pub is_after_rows : Whole → Bool
 is_after_rows wholes.Assets = false
 is_after_rows what = true

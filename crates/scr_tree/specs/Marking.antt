@@ -64,10 +64,11 @@ pub record IsAboveAt (book : RolledSheet) (places : Numbered) (lists : Lists) (s
   pub live : is_live_in (rolled_of book) point ≡ true
   pub leads : Leads (book_graph (rolled_of book)) (λ below. StandsIn book places lists below source) point
 
--- the square of the concentration of a group, and the assets of which concentrations are measured
+-- A point is the concentration square of some group (own).
 abbrev pub IsSquare : Point → Type 0
 IsSquare point = (name : List ℕ) × (point ≡ points.Figure (nodes.Group name of_groups.ConcentrationSquare))
 
+-- The point of the assets against which concentrations are measured, a figure of the whole sheet (own).
 abbrev pub assets : Point
 assets = points.Figure (nodes.Whole wholes.Assets)
 
@@ -76,6 +77,7 @@ abbrev pub is_squares : Sum → Bool
 is_squares sums.Squares = true
 is_squares sum = false
 
+-- Whether a point is the concentration square of a group, or a Block over such squares (own).
 abbrev pub is_of_squares : Point → Bool
 is_of_squares (points.Figure (nodes.Group name of_groups.ConcentrationSquare)) = true
 is_of_squares (points.Figure node) = false
@@ -128,6 +130,7 @@ pub record AreMarkedFrom (book : RolledSheet) (places : Numbered) (lists : Lists
 abbrev pub IsLinkedDependantAt : RolledSheet → Numbered → Lists → ℕ → ℕ → Type 0
 IsLinkedDependantAt book places lists source number = (is : IsDependantAt book places lists source number) × IsLinkedPoint is.point
 
+-- The point at `number` is a dependant of the one at `source`, and no linked point (own).
 abbrev pub IsPlainDependantAt : RolledSheet → Numbered → Lists → ℕ → ℕ → Type 0
 IsPlainDependantAt book places lists source number = (is : IsDependantAt book places lists source number) × (IsLinkedPoint is.point → ⊥)
 

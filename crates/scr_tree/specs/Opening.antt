@@ -8,6 +8,7 @@ use Rattle.scr_rules.specs.Close.{is_open_choice}
 use Rattle.scr_sums.specs.declared.point.Point.{Point}
 use Rattle.scr_sums.specs.declared.point.Point.TheVariants as points
 
+-- Whether a point is itself an open choice; a Block never is (own).
 abbrev pub opens_at : FactorValues → BalanceSheet → Point → Bool
 opens_at factors sheet (points.Figure node) = is_open_choice factors sheet node
 opens_at factors sheet (points.Block block) = false

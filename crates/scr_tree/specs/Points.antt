@@ -31,6 +31,7 @@ use Rattle.scr_tree.specs.Figures.{Reckoning, Worth}
 
 -- ---- the graph of a book, and what its points come to
 
+-- The graph of a book: its live points, each with its sources (own).
 abbrev pub book_graph : Rolled → Graph Point
 book_graph book = record { live = is_live_in book; sources = sources_in book }
 
@@ -41,6 +42,7 @@ point_worth factors book point = record {
   close = worth_in (list_any (λ b. b)) (close_under factors book.sheet) book point;
 }
 
+-- The graph of a book with the figure of each point under these factors (own).
 abbrev pub book_reckoning : FactorValues → Rolled → Reckoning Point
 book_reckoning factors book = record { graph = book_graph book; worth = point_worth factors book }
 
@@ -76,6 +78,7 @@ is_beside (nodes.Security name of_securities.Spread) = true
 is_beside (nodes.Group name of_groups.ConcentrationSquare) = true
 is_beside node = false
 
+-- A point is a figure of a linked node; a Block never is (own).
 abbrev pub IsLinkedPoint : Point → Type 0
 IsLinkedPoint (points.Figure node) = is_linked node ≡ true
 IsLinkedPoint (points.Block block) = ⊥

@@ -48,9 +48,11 @@ pub record IsUp {Node : Type 0} (graph : Graph Node) (At : Node → ℕ → Type
 
 -- ---- of what figures are reckoned from
 
+-- The book of a basis with the ids of its figures and Blocks (own).
 abbrev pub numbers_on : Basis → Numbers
 numbers_on b = record { book = b.inputs.book; places = b.places; lists = b.lists }
 
+-- The ids of a basis with the edges kept beside them (own).
 abbrev pub graph_on : Basis → TheGraph
 graph_on b = record { numbers = numbers_on b; links = b.links }
 
@@ -60,21 +62,27 @@ pub record IsBasis (b : Basis) : Type 0 where
   pub graph : IsGraphOf b.inputs.book.now b.places.now b.lists.now b.links.now.edges
   pub rates : AreOfBook b.inputs
 
+-- The graph of points of the book of a basis, with the figure of each (own).
 abbrev pub reckoning_on : Basis → Reckoning Point
 reckoning_on b = book_reckoning b.inputs.factors.now (rolled_of b.inputs.book.now)
 
+-- A point is kept at this id on a basis (own).
 abbrev pub StandsOn : Basis → Point → ℕ → Type 0
 StandsOn b = StandsIn b.inputs.book.now b.places.now b.lists.now
 
+-- `IsReady` for the graph, figures and ids of a basis (own).
 abbrev pub IsReadyOn : Basis → List Figure → ℕ → Type 0
 IsReadyOn b figures number = IsReady (reckoning_on b) (StandsOn b) figures number
 
+-- `IsRight` for the graph, figures and ids of a basis (own).
 abbrev pub IsRightOn : Basis → ℕ → Figure → Type 0
 IsRightOn b number figure = IsRight (reckoning_on b) (StandsOn b) number figure
 
+-- Some list of reached ids exists for which `IsOrder` holds on the graph and ids of a basis (own).
 abbrev pub IsOrderOn : Basis → List ℕ → List ℕ → Type 0
 IsOrderOn b numbers ends = (reached : List ℕ) × IsOrder (book_graph (rolled_of b.inputs.book.now)) (StandsOn b) reached numbers ends
 
+-- `AreInTurn` for the graph and ids of a basis (own).
 abbrev pub AreInTurnOn : Basis → List ℕ → Type 0
 AreInTurnOn b numbers = AreInTurn (book_graph (rolled_of b.inputs.book.now)) (StandsOn b) numbers
 
@@ -82,6 +90,7 @@ AreInTurnOn b numbers = AreInTurn (book_graph (rolled_of b.inputs.book.now)) (St
 abbrev pub AreKnownBut : Basis → List Figure → List ℕ → Type 0
 AreKnownBut b figures numbers = AreKnownOf (reckoning_on b) (StandsOn b) figures (IsNoneOf (StandsOn b) numbers)
 
+-- `AreSettled` for the graph, figures and ids of a basis (own).
 abbrev pub AreSettledOn : Basis → List Figure → Type 0
 AreSettledOn b figures = AreSettled (reckoning_on b) (StandsOn b) figures
 
@@ -91,5 +100,6 @@ AreSettledOn b figures = AreSettled (reckoning_on b) (StandsOn b) figures
 abbrev pub square_number : Basis → ℕ → ℕ
 square_number b row = first b.places.now ranged.Group row + 1
 
+-- The row at this position, from 0, is a group, and its concentration square is kept at this id (own).
 abbrev pub IsSquareOn : Basis → ℕ → ℕ → Type 0
 IsSquareOn b row number = (row < length b.inputs.book.now.sheet.groups) × (square_number b row ≡ number)

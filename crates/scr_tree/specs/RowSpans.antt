@@ -47,10 +47,11 @@ pub record IsRowGround (b : RowGround) : Type 0 where
   pub totals : b.totals.now ≡ map (λ p. total_of b.ground.inputs.book.now.sheet (position_name p)) b.ground.inputs.book.now.sheet.securities
   pub assets : ends b.assets ≡ worked b.ground.inputs.factors.now b.ground.inputs.book.now.sheet (nodes.Whole wholes.Assets)
 
--- the numbers of the security at a place begin with this one; so of some securities
+-- The figures of the security at position `row`, from 0, begin at this id (own).
 abbrev pub BeginsAt : Numbered → ℕ → ℕ → Type 0
 BeginsAt places number row = IsAt places tables.Security row 0 number
 
+-- The figures of the securities at these positions begin at these ids, pair by pair (own).
 abbrev pub BeginAt : Numbered → List ℕ → List ℕ → Type 0
 BeginAt places numbers rows = AllZip (BeginsAt places) numbers rows
 
@@ -86,6 +87,7 @@ pub record AreEstimates (factors : FactorValues) (sheet : BalanceSheet) (l : Lia
   pub rate_down : ends estimate.rate_down ≡ worked factors sheet (liability_rate Down l)
   pub present : ends estimate.present ≡ worked factors sheet (liability_present l)
 
+-- An estimate has the figures of the liability at position `k`, from 0; nothing is claimed past the last liability (own).
 abbrev pub IsEstimateAt : Ground → ℕ → Estimate → Type 0
 IsEstimateAt ground k estimate =
     (l : Liability) → slice_get ground.inputs.book.now.sheet.liabilities k ≡ Some l

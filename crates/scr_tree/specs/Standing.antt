@@ -23,6 +23,7 @@ pub record Standing : Type 0 where
   pub sheet : BalanceSheet
   pub rolls : KeptRolls
 
+-- Factors, balance sheet and member lists of an engine with these factors and this book (own).
 abbrev pub standing_on : FactorValues → RolledSheet → Standing
 standing_on factors book = record { factors = factors; sheet = book.sheet; rolls = book.rolls }
 

@@ -44,13 +44,15 @@ abbrev pub foreign_of : Node → Option Direction
 foreign_of (nodes.Currency currency (of_currencies.Scenario direction measures.Gross)) = Some direction
 foreign_of node = None
 
--- the first numbers of its members, and the family of the figure that it adds up of each
+-- The first ids of the member rows of a sum, in the order of its list (own).
 abbrev pub firsts_on : Numbers → Sum → List ℕ
 firsts_on numbers sum = members_of (roll_of sum) numbers.book.now.rolls numbers.lists.now
 
+-- The family of the figure that a sum takes from each member row (own).
 abbrev pub family_in : Sum → ℕ
 family_in sum = family_of (member_of sum [])
 
+-- The number of members in the list of a sum (own).
 abbrev pub count_on : Numbers → Sum → ℕ
 count_on numbers sum = length (roll_in (rolled_of numbers.book.now) sum)
 

@@ -49,27 +49,33 @@ block_number_in book places lists block =
     option_and_then (λ (list : ℕ). option_map (λ (slot : ℕ). first places ranged.Part slot + place_of block.sum) (slot_of (part_of list block) lists.parts))
     (list_numbers book.rolls (roll_of block.sum))
 
+-- The id at which a figure or a Block is kept; `None` if it has none (own).
 abbrev pub point_number : RolledSheet → Numbered → Lists → Point → Option ℕ
 point_number book places lists (points.Figure node) = number_in book.sheet places node
 point_number book places lists (points.Block block) = block_number_in book places lists block
 
 -- ---- all points of a book
 
+-- All Blocks of one level over the list of a sum, by position from 0 (own).
 abbrev pub blocks_of_level : Rolled → Sum → Level → List Point
 blocks_of_level book sum level = map (block_point sum level) (range_with_len 0 (blocks_at (length (roll_in book sum)) level))
 
+-- All Blocks over the list of a sum, first level before second; none without a sum (own).
 abbrev pub blocks_under : Rolled → Option Sum → List Point
 blocks_under book None = []
 blocks_under book (Some sum) = blocks_of_level book sum levels.First ++ blocks_of_level book sum levels.Second
 
+-- All Blocks under the two sums of a figure, the first sum before the second (own).
 abbrev pub blocks_below : Rolled → Node → List Point
 blocks_below book node = blocks_under book (first_sum node) ++ blocks_under book (second_sum node)
 
+-- All points of a book: the figures of its live nodes, then the Blocks under them (own).
 abbrev pub live_points : Rolled → List Point
 live_points book = map points.Figure (live_nodes book.sheet) ++ flat_map (blocks_below book) (live_nodes book.sheet)
 
 -- ---- the figure at a number
 
+-- Whether a point is kept at this id; false for a point without one (own).
 abbrev pub has_number : RolledSheet → Numbered → Lists → ℕ → Point → Bool
 has_number book places lists number point = option_map_or (nat_eq number) (point_number book places lists point) false
 
@@ -87,6 +93,7 @@ ends_at factors book places lists number =
 
 -- ---- of what figures are reckoned from
 
+-- The ends of the figure at an id, for the factors, book and lists of a basis (own).
 abbrev pub ends_on : Basis → ℕ → Ends
 ends_on b number = ends_at b.inputs.factors.now b.inputs.book.now b.places.now b.lists.now number
 
@@ -94,6 +101,7 @@ ends_on b number = ends_at b.inputs.factors.now b.inputs.book.now b.places.now b
 abbrev pub AreSpansOn : Basis → List ℕ → List Span → Type 0
 AreSpansOn b numbers spans = map ends spans ≡ map (ends_on b) numbers
 
+-- A span has the ends of the figure at this id on a basis (own).
 abbrev pub IsSpanOn : Basis → ℕ → Span → Type 0
 IsSpanOn b number span = ends span ≡ ends_on b number
 

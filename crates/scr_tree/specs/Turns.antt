@@ -9,8 +9,8 @@ use Rattle.scr_nodes.specs.declared.node.Node.TheVariants as nodes
 use Rattle.scr_nodes.specs.declared.node.OfSecurity.TheVariants as of_securities
 use Rattle.scr_nodes.specs.declared.node.Whole.TheVariants as wholes
 
--- The stages one after another: totals of funds, then of securities, the assets of which concentrations are measured, the other
--- figures of securities, those of liabilities, of groups, of currencies, and those of the whole sheet.
+-- Stage of a figure in the first run, from 0 (own). Totals of funds come first, then totals of securities, then the assets against
+-- which concentrations are measured. The other figures follow: of securities, liabilities, groups, currencies and the whole sheet.
 abbrev pub stage_of : Node → ℕ
 stage_of (nodes.Fund name what) = 0
 stage_of (nodes.Security name of_securities.Total) = 1
@@ -27,6 +27,7 @@ pub record Turn : Type 0 where
   pub row : ℕ
   pub family : ℕ
 
+-- The turn of figure `family` of the row at position `row`, from 0, in a stage of the first run (own).
 abbrev pub turn : ℕ → ℕ → ℕ → Turn
 turn stage row family = record { stage = stage; row = row; family = family }
 
@@ -34,6 +35,7 @@ turn stage row family = record { stage = stage; row = row; family = family }
 abbrev pub turn_of : Node → ℕ → Turn
 turn_of node row = turn (stage_of node) row (family_of node)
 
+-- The turn of the next family in the same row and stage (own).
 abbrev pub next : Turn → Turn
 next t = turn t.stage t.row (t.family + 1)
 
@@ -43,5 +45,6 @@ pub record IsEarlier (sheet : BalanceSheet) (t : Turn) (node : Node) : Type 0 wh
   pub named : slice_get (names_in sheet (table_of node)) k ≡ Some (name_of node)
   pub before : (k < t.row) ⊎ ((k ≡ t.row) × (family_of node < t.family))
 
+-- A figure comes before a turn: in an earlier stage, or in the same stage earlier by row and family (own).
 abbrev pub IsBefore : BalanceSheet → Turn → Node → Type 0
 IsBefore sheet t node = (stage_of node < t.stage) ⊎ ((stage_of node ≡ t.stage) × IsEarlier sheet t node)

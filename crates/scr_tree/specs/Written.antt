@@ -35,6 +35,7 @@ pub record IsOfRows (sheet : BalanceSheet) (rows : List Row) (node : Node) : Typ
   pub among : 0 < times_row one rows
   pub of_row : IsOfRow sheet one.sort one.place node
 
+-- A figure with this span that rests on no open choice (own).
 abbrev pub plain_of : Span → Figure
 plain_of span = record { span = span; close = false }
 

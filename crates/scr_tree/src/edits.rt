@@ -47,8 +47,8 @@ use std::mem::replace;
 use std::sync::ledger::Ledger;
 use std::thread::Threads;
 
-/// What an engine keeps beside factors and book: the rates of all currencies, the numbers of all figures and Blocks, the figures by
-/// number, the links that neither rows nor lists give, and room for marks, numbers and spans.
+/// State of an engine beside factors and book: the rates of all currencies, the ids of all figures and Blocks, and the figures by id.
+/// It also keeps the edges that neither rows nor lists give, and room for marks, ids and spans.
 #[derive(Drop)]
 pub(crate) struct State {
     pub(crate) rates: Rates,

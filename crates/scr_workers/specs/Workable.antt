@@ -1,4 +1,4 @@
--- What is due and can be reckoned by several workers, and its round (this project's own).
+-- Dues (figures to work out anew) that several workers can share, and their round (own).
 use Rattle.std.specs.Prelude.{◌≡◌, ℕ, ◌<◌, ◌^◌, List, Contains, Some, length, map, nat_eq, slice_get}
 use Rattle.std.specs.List.{AllByRecursion, IsDistinct}
 use Rattle.scr_num.specs.Rounding.{Ends}
@@ -9,8 +9,8 @@ use Rattle.scr_dues.specs.declared.round.Slot.TheVariants as slots
 use Rattle.scr_dues.specs.Slots.{IsRoundOf, Lists}
 use Rattle.scr_board.specs.Rounds.{BoardRound, Spot, Fixed, Node}
 
--- No number is due twice, and none has a source twice. What is reckoned from something that is due stands after it, and of
--- all other sources the figures are known.
+-- Dues that several workers can work out (own). No number is due twice, and none has a source twice. A due stands after each due
+-- that is its source; the figures of all other sources are known.
 pub record AreWorkable (is_known : ℕ → Type 0) (is_due : Due → Type 0) (dues : List Due) : Type 0 where
   pub once : IsDistinct nat_eq (numbers_of dues)
   pub single : AllByRecursion (λ (due : Due). IsDistinct nat_eq due.sources.items) dues
@@ -20,16 +20,16 @@ pub record AreWorkable (is_known : ℕ → Type 0) (is_due : Due → Type 0) (du
   pub known : (due : Due) (source : ℕ) → Contains dues due → Contains due.sources.items source
       → (Contains (numbers_of dues) source → ⊥) → is_known source
 
--- the figures of what is due
+-- The figures of all dues, in their order from position 0 (own).
 abbrev pub figures_of : (ℕ → Ends) → List Due → List Ends
 figures_of worked dues = map (λ (due : Due). worked due.number) dues
 
--- what stands at a place of a due: a known figure, or another due
+-- Content of one slot of a round: a known figure, or the position of another due (own).
 abbrev pub spot_for : (ℕ → Ends) → Slot → Spot
 spot_for worked (slots.Kept number) = Fixed (worked number)
 spot_for worked (slots.Due place) = Node place
 
--- the dues as the nodes of a round, with their figures
+-- The round in which the dues are nodes, by position from 0, with the figures that are worked out for them (own).
 abbrev pub round_for : (ℕ → Ends) → List Due → Lists → BoardRound
 round_for worked dues lists = record {
   places = map (map (spot_for worked)) lists.slots;
@@ -38,7 +38,7 @@ round_for worked dues lists = record {
   worked = figures_of worked dues;
 }
 
--- the lists are those of the dues, which can be reckoned and are few enough to be counted in 32 bits
+-- `lists` is the round of `dues`, which are workable; dues, and sources of each due, number fewer than 2^32 (own).
 pub record IsGraphOf (is_known : ℕ → Type 0) (is_due : Due → Type 0) (dues : List Due) (lists : Lists) : Type 0 where
   pub workable : AreWorkable is_known is_due dues
   pub of : IsRoundOf dues lists
