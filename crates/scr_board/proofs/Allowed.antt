@@ -7,22 +7,22 @@ use lib.ListN.{get_elem?}
 use Rattle.atomic_table.specs.Table.{Act, Allows, Joins, Me, Splits, Step, Valid, carried_after, keeps, stepped}
 use Rattle.atomic_table.specs.Table as table
 use Rattle.atomic_table.proofs.Lists.{set_again, set_else}
-use Rattle.scr_round.specs.declared.lists.Progress.{Progress}
-use Rattle.scr_round.specs.declared.lists.Round.{Round}
-use Rattle.scr_round.specs.Counts.{times, total}
-use Rattle.scr_round.specs.Rounds.{IsFormed, count_of, dependants_of, sources_of, word_of}
-use Rattle.scr_round.specs.States.{State, deliveries, fresh, holds, named, spent, stored_of}
-use Rattle.scr_round.specs.Events.{MayLoad, deliver, delivered, delivers, draw, drawn, draws, enters, first, gives, join, joined, joins, load, split, split_off, splits, store, stored, writes}
-use Rattle.scr_round.specs.Sound.{IsAtEnd, IsRun, IsSound, goes_on, opens}
-use Rattle.scr_round.proofs.Totals.{each_at, each_set, each_snoc, total_part}
-use Rattle.scr_round.proofs.Standing.{is_source, named_once, put_worked, some_left, source_worked}
-use Rattle.scr_round.proofs.Running.{run_sound}
-use Rattle.scr_round.proofs.Ending.{all_put, count_put, few_named, few_starts, named_node, ticket_most}
+use Rattle.scr_board.specs.declared.lists.Progress.{Progress}
+use Rattle.scr_board.specs.declared.lists.Round.{Round}
+use Rattle.scr_board.specs.Counts.{times, total}
+use Rattle.scr_board.specs.Rounds.{IsFormed, count_of, dependants_of, sources_of, word_of}
+use Rattle.scr_board.specs.States.{State, deliveries, fresh, holds, named, spent, stored_of}
+use Rattle.scr_board.specs.Events.{MayLoad, deliver, delivered, delivers, draw, drawn, draws, enters, first, gives, join, joined, joins, load, split, split_off, splits, store, stored, writes}
+use Rattle.scr_board.specs.Sound.{IsAtEnd, IsRun, IsSound, goes_on, opens}
+use Rattle.scr_board.proofs.Totals.{each_at, each_set, each_snoc, total_part}
+use Rattle.scr_board.proofs.Standing.{is_source, named_once, put_worked, some_left, source_worked}
+use Rattle.scr_board.proofs.Running.{run_sound}
+use Rattle.scr_board.proofs.Ending.{all_put, count_put, few_named, few_starts, named_node, ticket_most}
 use Rattle.scr_board.specs.declared.views.View.{View}
 use Rattle.scr_board.specs.Plays.{AreNamedOnce, CanRead, Sat, begun, drew, gave, loaded, wrote}
 use Rattle.scr_board.specs.Rule.{AreAllWorked, AreOpening, AreWordsOf, Carries, Holds, IsRunning, IsUnopened}
 use Rattle.scr_board.specs.Views.{blank, count_at, opened, progress_of, view_delivered, view_drawn, view_fresh, view_joined, view_split, view_stored, word_at}
-use Rattle.scr_board.proofs.Running.{alone, carries, has_pass, opened_before, proceeds, shown_delivered, shown_drawn, shown_stored, sound_of}
+use Rattle.scr_board.proofs.BoardRunning.{alone, carries, has_pass, opened_before, proceeds, shown_delivered, shown_drawn, shown_stored, sound_of}
 
 -- a step of a seat: its new view, an act on slots, and what the step tells
 abbrev Goes : table.State ⊤ View → ℕ → Sat → ℕ → ℕ → (Sat → Type 0) → Type 0

@@ -4,21 +4,21 @@ use Rattle.std.specs.Prelude.{MatchOption, vec_capacity, ⊤}
 use Rattle.atomic_table.specs.declared.shared.Seat.{Seat}
 use Rattle.std.specs.List.{AllByRecursion}
 use Rattle.std.proofs.lemmas.Bool.Decides.{eqb_tells}
-use Rattle.scr_round.specs.declared.lists.Held.{Held}
-use Rattle.scr_round.specs.declared.lists.Progress.{Progress}
-use Rattle.scr_round.specs.declared.lists.Round.{Round}
-use Rattle.scr_round.specs.Counts.{one_if, times}
-use Rattle.scr_round.specs.Rounds.{dependants_of, sources_of}
-use Rattle.scr_round.specs.States.{deliveries, held, holds, named}
-use Rattle.scr_round.specs.Events.{delivers, draws, enters, gives}
-use Rattle.scr_round.specs.Sound.{IsAtEnd}
-use Rattle.scr_round.proofs.Members.{get-below, same_number}
+use Rattle.scr_board.specs.declared.lists.Held.{Held}
+use Rattle.scr_board.specs.declared.lists.Progress.{Progress}
+use Rattle.scr_board.specs.declared.lists.Round.{Round}
+use Rattle.scr_board.specs.Counts.{one_if, times}
+use Rattle.scr_board.specs.Rounds.{dependants_of, sources_of}
+use Rattle.scr_board.specs.States.{deliveries, held, holds, named}
+use Rattle.scr_board.specs.Events.{delivers, draws, enters, gives}
+use Rattle.scr_board.specs.Sound.{IsAtEnd}
+use Rattle.scr_board.proofs.Members.{get-below, same_number}
 use Rattle.scr_board.specs.declared.board.Board.{Board}
 use Rattle.scr_board.specs.declared.board.Pass.{Pass}
 use Rattle.scr_board.specs.declared.views.View.{View}
 use Rattle.scr_board.specs.Passes.{IsPassOf, IsSameRoom, IsSeatOf, IsUnstored, last_of, progress, puts, view, without}
 use Rattle.scr_board.specs.Plays.{AreNamedOnce, CanRead}
-use Rattle.scr_board.specs.Rounds.{BoardRound, Spot, Fixed, Node, lists_of, nodes_in, places_at}
+use Rattle.scr_board.specs.BoardRounds.{BoardRound, Spot, Fixed, Node, lists_of, nodes_in, places_at}
 use Rattle.scr_board.specs.Views.{view_delivered, view_drawn, with_progress}
 use Rattle.scr_board.specs.Working.{HasTaken, IsBetween, IsDelivering, IsDone, stacked}
 use Rattle.scr_board.proofs.Reading.{same_count}

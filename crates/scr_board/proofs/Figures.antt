@@ -1,9 +1,9 @@
 -- The words that the round lists for a node are those of its figure.
 use Rattle.std.proofs.Common.{◌≡◌, ℕ, zero, suc, ◌<◌, List, [], ◌∷◌, Some, None, length, map, get_or, slice_get, refl, ap, ◌∙◌, arith}
 use Rattle.scr_num.specs.Rounding.{Ends}
-use Rattle.scr_round.specs.declared.lists.Round.{Round}
-use Rattle.scr_round.specs.Rounds.{word_of}
-use Rattle.scr_board.specs.Rounds.{BoardRound, IsBoardRound, lists_of}
+use Rattle.scr_board.specs.declared.lists.Round.{Round}
+use Rattle.scr_board.specs.Rounds.{word_of}
+use Rattle.scr_board.specs.BoardRounds.{BoardRound, IsBoardRound, lists_of}
 use Rattle.scr_board.specs.Words.{words_of}
 
 words-at : (worked : List Ends) (n : ℕ) (e : Ends) → slice_get worked n ≡ Some e → get_or (map words_of worked) n [] ≡ words_of e

@@ -1,25 +1,25 @@
 -- What the passes that are joined did is what all of them did.
 use Rattle.std.proofs.Common.{◌≡◌, ℕ, zero, suc, ◌+◌, ◌<◌, ◌&&◌, nat_eq, List, [], ◌∷◌, ◌++◌, length, refl, sym, ap, ◌∙◌, subst, arith}
-use Rattle.scr_round.specs.declared.lists.Progress.{Progress}
-use Rattle.scr_round.specs.declared.lists.Round.{Round}
-use Rattle.scr_round.specs.Counts.{one_if, times}
-use Rattle.scr_round.specs.States.{deliveries, named}
-use Rattle.scr_round.specs.Events.{joins}
-use Rattle.scr_round.specs.Sound.{IsAtEnd, IsOwn}
+use Rattle.scr_board.specs.declared.lists.Progress.{Progress}
+use Rattle.scr_board.specs.declared.lists.Round.{Round}
+use Rattle.scr_board.specs.Counts.{one_if, times}
+use Rattle.scr_board.specs.States.{deliveries, named}
+use Rattle.scr_board.specs.Events.{joins}
+use Rattle.scr_board.specs.Sound.{IsAtEnd, IsOwn}
 use Rattle.std.specs.Prelude.{⊤}
 use Rattle.std.specs.List.{AllByRecursion}
 use Rattle.std.proofs.lemmas.List.{length-append, length_push}
 use Rattle.std.proofs.lemmas.List.Sums.{sum_by_push}
 use Rattle.atomic_table.specs.declared.shared.Seat.{Seat}
-use Rattle.scr_round.proofs.Ending.{joined_end}
-use Rattle.scr_round.proofs.Totals.{total_append}
+use Rattle.scr_board.proofs.Ending.{joined_end}
+use Rattle.scr_board.proofs.Totals.{total_append}
 use Rattle.scr_board.specs.declared.board.Board.{Board}
 use Rattle.scr_board.specs.declared.board.Pass.{Pass}
 use Rattle.scr_board.specs.declared.views.View.{View}
 use Rattle.scr_board.specs.Closing.{AreDone, HasJoined, puts_of, put_count}
 use Rattle.scr_board.specs.Passes.{progress}
 use Rattle.scr_board.specs.Plays.{Sat}
-use Rattle.scr_board.specs.Rounds.{BoardRound}
+use Rattle.scr_board.specs.BoardRounds.{BoardRound}
 use Rattle.scr_board.specs.Views.{view_joined}
 use Rattle.scr_board.specs.Working.{IsDone}
 use Rattle.scr_board.proofs.Seats.{count-lists}

@@ -1,4 +1,4 @@
-pub mod Running
+pub mod BoardRunning
 pub mod Allowed
 pub mod Seats
 pub mod Puts
@@ -13,3 +13,13 @@ pub mod Unused
 pub mod Shown
 pub mod Reading
 pub mod Rows
+pub mod Totals
+pub mod Members
+pub mod Arriving
+pub mod Standing
+pub mod Drawing
+pub mod Storing
+pub mod Delivering
+pub mod Sharing
+pub mod Running
+pub mod Ending

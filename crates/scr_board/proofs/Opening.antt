@@ -2,7 +2,7 @@
 use Rattle.std.proofs.Common.{◌≡◌, ℕ, zero, suc, ◌+◌, ◌*◌, ◌<◌, List, [], ◌∷◌, ◌++◌, length, map, get_or, drop, refl, sym, ap, ◌∙◌, arith}
 use Rattle.std.proofs.lemmas.List.{append_assoc, length-map}
 use Rattle.scr_board.specs.Making.{node_words, opening_words}
-use Rattle.scr_board.specs.Rounds.{BoardRound, Spot, lists_of, nodes_in}
+use Rattle.scr_board.specs.BoardRounds.{BoardRound, Spot, lists_of, nodes_in}
 use Rattle.scr_board.specs.Rule.{AreOpening}
 use Rattle.scr_board.proofs.Rows.{drop-next, get-at}
 

@@ -2,10 +2,10 @@
 use Rattle.std.proofs.Common.{◌≡◌, ℕ, ◌<◌, List, [], ◌∷◌, Option, Some, None, get_or, slice_get, refl, sym, ap, ◌∙◌, subst, arith}
 use Rattle.std.specs.List.{AllByRecursion}
 use Rattle.scr_num.specs.Rounding.{Ends}
-use Rattle.scr_round.specs.declared.lists.Progress.{Progress}
-use Rattle.scr_round.specs.Rounds.{word_of}
-use Rattle.scr_round.specs.States.{holds, stored_of}
-use Rattle.scr_round.specs.Events.{draws}
+use Rattle.scr_board.specs.declared.lists.Progress.{Progress}
+use Rattle.scr_board.specs.Rounds.{word_of}
+use Rattle.scr_board.specs.States.{holds, stored_of}
+use Rattle.scr_board.specs.Events.{draws}
 use Rattle.scr_board.specs.declared.board.Board.{Board}
 use Rattle.scr_board.specs.declared.board.Pass.{Pass}
 use Rattle.scr_board.specs.declared.views.View.{View}

@@ -2,11 +2,11 @@
 use Rattle.std.proofs.Common.{◌≡◌, ℕ, suc, ◌+◌, ◌<◌, ◌≢◌, ◌⊎◌, Bool, true, false, nat_eq, nat_lt, if◌then◌else◌, List, [], ◌∷◌, refl, sym, ap, ◌∙◌, subst, inl, inr, arith}
 use Rattle.std.proofs.lemmas.Bool.Decides.{eqb_tells, nat_tests}
 use Rattle.std.specs.List.{AllByRecursion}
-use Rattle.scr_round.specs.declared.lists.Held.{Held}
-use Rattle.scr_round.specs.declared.lists.Progress.{Progress}
-use Rattle.scr_round.specs.Counts.{one_if}
-use Rattle.scr_round.specs.States.{held, holds, stored_of}
-use Rattle.scr_round.specs.Events.{advanced, writes}
+use Rattle.scr_board.specs.declared.lists.Held.{Held}
+use Rattle.scr_board.specs.declared.lists.Progress.{Progress}
+use Rattle.scr_board.specs.Counts.{one_if}
+use Rattle.scr_board.specs.States.{held, holds, stored_of}
+use Rattle.scr_board.specs.Events.{advanced, writes}
 use Rattle.scr_board.specs.Passes.{IsUnstored, puts, without}
 
 pub unstored : (n : ℕ) (hand : List Held) → AllByRecursion IsUnstored hand → stored_of n hand ≡ 0

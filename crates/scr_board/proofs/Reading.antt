@@ -4,8 +4,8 @@ use Rattle.std.specs.Prelude.{ℤ, ◌≤ℤ◌}
 use mathlib.Core.Option.{some, some-injective, some-ne-none}
 use lib.ListN.{get_elem?}
 use Rattle.scr_num.specs.Rounding.{Ends}
-use Rattle.scr_round.specs.declared.lists.Round.{Round}
-use Rattle.scr_board.specs.Rounds.{BoardRound, lists_of}
+use Rattle.scr_board.specs.declared.lists.Round.{Round}
+use Rattle.scr_board.specs.BoardRounds.{BoardRound, lists_of}
 use Rattle.scr_board.specs.Words.{AreEnds, IsWithin, lower, upper, words_of}
 use Rattle.scr_board.proofs.Fitting.{fits-ends, span-words}
 use Rattle.scr_board.proofs.Seats.{count-lists}

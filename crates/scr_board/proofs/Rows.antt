@@ -3,7 +3,7 @@ use Rattle.std.proofs.Common.{◌≡◌, ℕ, zero, suc, ◌+◌, ◌<◌, ◌�
 use Rattle.std.specs.Prelude.{MatchOption}
 use Rattle.std.specs.List.{All, AllByRecursion}
 use Rattle.std.proofs.lemmas.List.{map-append}
-use Rattle.scr_board.specs.Rounds.{Spot, Fixed, Node, nodes_in}
+use Rattle.scr_board.specs.BoardRounds.{Spot, Fixed, Node, nodes_in}
 
 module _ {A : Type 0} where
   pub take-past : (xs : List A) (k : ℕ) → length xs ≤ k → take k xs ≡ xs

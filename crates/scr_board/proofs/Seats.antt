@@ -4,20 +4,20 @@ use Rattle.std.specs.Prelude.{⊤}
 use Rattle.std.proofs.lemmas.List.{length-map}
 use Rattle.std.proofs.lemmas.Bool.Decides.{eqb_tells}
 use Rattle.atomic_table.specs.declared.shared.Seat.{Seat}
-use Rattle.scr_round.specs.declared.lists.Progress.{Progress}
-use Rattle.scr_round.specs.declared.lists.Round.{Round}
-use Rattle.scr_round.specs.Counts.{one_if, times}
-use Rattle.scr_round.specs.Rounds.{count_of, dependants_of, sources_of}
-use Rattle.scr_round.specs.States.{holds, named, stored_of}
-use Rattle.scr_round.specs.Events.{delivers, draws, enters, gives, writes}
-use Rattle.scr_round.specs.Sound.{IsOwn}
-use Rattle.scr_round.proofs.Members.{is_some_of-Some, place-times}
-use Rattle.scr_round.proofs.Storing.{named-writes, put-grows}
+use Rattle.scr_board.specs.declared.lists.Progress.{Progress}
+use Rattle.scr_board.specs.declared.lists.Round.{Round}
+use Rattle.scr_board.specs.Counts.{one_if, times}
+use Rattle.scr_board.specs.Rounds.{count_of, dependants_of, sources_of}
+use Rattle.scr_board.specs.States.{holds, named, stored_of}
+use Rattle.scr_board.specs.Events.{delivers, draws, enters, gives, writes}
+use Rattle.scr_board.specs.Sound.{IsOwn}
+use Rattle.scr_board.proofs.Members.{is_some_of-Some, place-times}
+use Rattle.scr_board.proofs.Storing.{named-writes, put-grows}
 use Rattle.scr_board.specs.declared.views.View.{View}
 use Rattle.scr_board.specs.declared.board.Board.{Board}
 use Rattle.scr_board.specs.Plays.{CanRead, Sat}
 use Rattle.scr_board.specs.Passes.{IsSeatOf}
-use Rattle.scr_board.specs.Rounds.{BoardRound, lists_of, nodes_in}
+use Rattle.scr_board.specs.BoardRounds.{BoardRound, lists_of, nodes_in}
 use Rattle.scr_board.specs.Views.{view_delivered, view_drawn, view_stored, with_progress}
 use Rattle.scr_board.proofs.Rows.{each_row}
 

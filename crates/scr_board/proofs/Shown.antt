@@ -4,13 +4,13 @@ use Rattle.std.specs.Prelude.{slice_index, ⊤}
 use Rattle.atomic_table.specs.Table.{Final, Seen}
 use Rattle.atomic_table.specs.declared.shared.Seat.{Seat}
 use Rattle.scr_num.specs.Rounding.{Ends}
-use Rattle.scr_round.specs.declared.lists.Round.{Round}
-use Rattle.scr_round.specs.Rounds.{count_of}
+use Rattle.scr_board.specs.declared.lists.Round.{Round}
+use Rattle.scr_board.specs.Rounds.{count_of}
 use Rattle.scr_board.specs.declared.board.Board.{Board}
 use Rattle.scr_board.specs.declared.board.Pass.{Pass}
 use Rattle.scr_board.specs.declared.views.View.{View}
 use Rattle.scr_board.specs.Closing.{HasJoined, IsShown, puts_of, put_count}
-use Rattle.scr_board.specs.Rounds.{BoardRound, IsBoardRound, lists_of}
+use Rattle.scr_board.specs.BoardRounds.{BoardRound, IsBoardRound, lists_of}
 use Rattle.scr_board.specs.Rule.{AreAllWorked, Holds}
 use Rattle.scr_board.specs.Views.{word_at}
 use Rattle.scr_board.specs.Words.{words_of}

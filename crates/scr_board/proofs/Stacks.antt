@@ -1,7 +1,7 @@
 -- The nodes of a hand that is worked from its end.
 use Rattle.std.proofs.Common.{◌≡◌, ℕ, ◌+◌, List, [], ◌∷◌, ◌++◌, length, refl, arith}
-use Rattle.scr_round.specs.declared.lists.Held.{Held}
-use Rattle.scr_round.specs.States.{held}
+use Rattle.scr_board.specs.declared.lists.Held.{Held}
+use Rattle.scr_board.specs.States.{held}
 use Rattle.scr_board.specs.Working.{stacked}
 
 pub stacked-push : (nodes : List ℕ) (n : ℕ) (hand : List Held) → stacked (nodes ++ n ∷ []) hand ≡ held n 0 ∷ stacked nodes hand

@@ -3,15 +3,15 @@ use Rattle.std.proofs.Common.{◌≡◌, ℕ, suc, ◌+◌, ◌*◌, ◌<◌, �
 use Rattle.std.specs.Prelude.{⊤}
 use Rattle.atomic_table.specs.declared.shared.Seat.{Seat}
 use Rattle.atomic_table.specs.Table.{Allows, Splits, Step}
-use Rattle.scr_round.specs.declared.lists.Progress.{Progress}
-use Rattle.scr_round.specs.declared.lists.Round.{Round}
-use Rattle.scr_round.specs.Sound.{IsOwn}
-use Rattle.scr_round.specs.States.{fresh, named}
+use Rattle.scr_board.specs.declared.lists.Progress.{Progress}
+use Rattle.scr_board.specs.declared.lists.Round.{Round}
+use Rattle.scr_board.specs.Sound.{IsOwn}
+use Rattle.scr_board.specs.States.{fresh, named}
 use Rattle.scr_board.specs.declared.board.Board.{Board}
 use Rattle.scr_board.specs.declared.views.View.{View}
 use Rattle.scr_board.specs.Making.{IsUnused, opening_words}
 use Rattle.scr_board.specs.Plays.{Sat, begun}
-use Rattle.scr_board.specs.Rounds.{BoardRound, IsBoardRound, lists_of}
+use Rattle.scr_board.specs.BoardRounds.{BoardRound, IsBoardRound, lists_of}
 use Rattle.scr_board.specs.Rule.{Holds}
 use Rattle.scr_board.specs.Views.{blank, opened, view_fresh, view_split}
 use Rattle.scr_board.proofs.Allowed.{first_allowed, split_allowed}

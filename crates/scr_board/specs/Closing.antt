@@ -3,13 +3,13 @@ use Rattle.std.specs.Prelude.{◌≡◌, ℕ, ◌+◌, ◌*◌, List, ⊤, lengt
 use Rattle.std.specs.List.{AllByRecursion}
 use Rattle.atomic_table.specs.declared.shared.Seat.{Seat}
 use Rattle.scr_num.specs.Rounding.{Ends}
-use Rattle.scr_round.specs.Counts.{times}
-use Rattle.scr_round.specs.Sound.{IsAtEnd}
+use Rattle.scr_board.specs.Counts.{times}
+use Rattle.scr_board.specs.Sound.{IsAtEnd}
 use Rattle.scr_board.specs.declared.board.Board.{Board}
 use Rattle.scr_board.specs.declared.board.Pass.{Pass}
 use Rattle.scr_board.specs.declared.views.View.{View}
 use Rattle.scr_board.specs.Passes.{IsSeatOf, progress}
-use Rattle.scr_board.specs.Rounds.{BoardRound, IsBoardRound, lists_of}
+use Rattle.scr_board.specs.BoardRounds.{BoardRound, IsBoardRound, lists_of}
 use Rattle.scr_board.specs.Words.{words_of}
 use Rattle.scr_board.specs.Working.{IsDone}
 

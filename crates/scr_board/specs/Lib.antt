@@ -2,9 +2,14 @@ pub mod Views
 pub mod Rule
 pub mod Plays
 pub mod Words
-pub mod Rounds
+pub mod BoardRounds
 pub mod Places
 pub mod Passes
 pub mod Working
 pub mod Making
 pub mod Closing
+pub mod Counts
+pub mod Rounds
+pub mod States
+pub mod Events
+pub mod Sound

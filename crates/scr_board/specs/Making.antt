@@ -2,11 +2,11 @@
 use Rattle.std.specs.Prelude.{◌≡◌, ℕ, ◌≤◌, List, [], ◌∷◌, ⊤, length}
 use Rattle.std.specs.List.{AllByRecursion}
 use Rattle.atomic_table.specs.declared.shared.Seat.{Seat}
-use Rattle.scr_round.specs.States.{fresh}
+use Rattle.scr_board.specs.States.{fresh}
 use Rattle.scr_board.specs.declared.board.Board.{Board}
 use Rattle.scr_board.specs.declared.views.View.{View}
 use Rattle.scr_board.specs.Passes.{IsSeatOf}
-use Rattle.scr_board.specs.Rounds.{BoardRound, Spot, lists_of, nodes_in}
+use Rattle.scr_board.specs.BoardRounds.{BoardRound, Spot, lists_of, nodes_in}
 
 -- the words of the nodes at the opening: how many sources each waits for, and room for its figure
 abbrev pub node_words : List (List Spot) → List ℕ

@@ -4,15 +4,15 @@ use Rattle.std.specs.Prelude.{slice_get}
 use Rattle.std.specs.List.{AllByRecursion}
 use Rattle.atomic_table.specs.declared.shared.Seat.{Seat}
 use Rattle.scr_num.specs.Rounding.{Ends}
-use Rattle.scr_round.specs.declared.lists.Held.{Held}
-use Rattle.scr_round.specs.declared.lists.Progress.{Progress}
-use Rattle.scr_round.specs.declared.lists.Round.{Round}
-use Rattle.scr_round.specs.States.{named}
-use Rattle.scr_round.specs.Sound.{IsOwn}
+use Rattle.scr_board.specs.declared.lists.Held.{Held}
+use Rattle.scr_board.specs.declared.lists.Progress.{Progress}
+use Rattle.scr_board.specs.declared.lists.Round.{Round}
+use Rattle.scr_board.specs.States.{named}
+use Rattle.scr_board.specs.Sound.{IsOwn}
 use Rattle.scr_board.specs.declared.views.View.{View}
 use Rattle.scr_board.specs.declared.board.Board.{Board}
 use Rattle.scr_board.specs.declared.board.Pass.{Pass}
-use Rattle.scr_board.specs.Rounds.{BoardRound, IsBoardRound, lists_of}
+use Rattle.scr_board.specs.BoardRounds.{BoardRound, IsBoardRound, lists_of}
 
 -- The view of the pass at a seat (own).
 abbrev pub seen_by : Seat ⊤ View → View

@@ -1,11 +1,11 @@
 -- What each step on the board tells: of the step, the seat before, the number found and the seat after.
 use Rattle.std.specs.Prelude.{◌≡◌, ℕ, ◌+◌, ◌-◌, ◌/◌, ◌%◌, ◌<◌, ◌≤◌, ◌⊎◌, Some, length, slice_get, ⊤}
 use Rattle.atomic_table.specs.Table.{Me, Step}
-use Rattle.scr_round.specs.declared.lists.Round.{Round}
-use Rattle.scr_round.specs.declared.lists.Progress.{Progress}
-use Rattle.scr_round.specs.Counts.{times}
-use Rattle.scr_round.specs.Rounds.{count_of, dependants_of, sources_of, word_of}
-use Rattle.scr_round.specs.States.{named}
+use Rattle.scr_board.specs.declared.lists.Round.{Round}
+use Rattle.scr_board.specs.declared.lists.Progress.{Progress}
+use Rattle.scr_board.specs.Counts.{times}
+use Rattle.scr_board.specs.Rounds.{count_of, dependants_of, sources_of, word_of}
+use Rattle.scr_board.specs.States.{named}
 use Rattle.scr_board.specs.declared.views.View.{View}
 use Rattle.scr_board.specs.Views.{opened, view_delivered, view_drawn, view_stored}
 

@@ -2,11 +2,11 @@
 use Rattle.std.specs.Prelude.{◌≡◌, ℕ, ◌+◌, ◌*◌, ◌^◌, ◌<◌, ◌≤◌, ◌⊎◌, List, [], ◌∷◌, length, map, slice_index, ⊤}
 use Rattle.std.specs.List.{AllByRecursion}
 use Rattle.atomic_table.specs.Table as table
-use Rattle.scr_round.specs.declared.lists.Round.{Round}
-use Rattle.scr_round.specs.Counts.{times}
-use Rattle.scr_round.specs.Rounds.{IsFormed, count_of, sources_of, word_of}
-use Rattle.scr_round.specs.States.{State}
-use Rattle.scr_round.specs.Sound.{IsRun}
+use Rattle.scr_board.specs.declared.lists.Round.{Round}
+use Rattle.scr_board.specs.Counts.{times}
+use Rattle.scr_board.specs.Rounds.{IsFormed, count_of, sources_of, word_of}
+use Rattle.scr_board.specs.States.{State}
+use Rattle.scr_board.specs.Sound.{IsRun}
 use Rattle.scr_board.specs.declared.views.View.{View}
 use Rattle.scr_board.specs.Views.{blank, count_at, progress_of, word_at}
 

@@ -1,9 +1,9 @@
 -- What a seat at the board knows, and what a step makes of it.
 use Rattle.std.specs.Prelude.{ℕ, ◌+◌, ◌*◌, List, [], slice_get}
-use Rattle.scr_round.specs.declared.lists.Progress.{Progress}
-use Rattle.scr_round.specs.declared.lists.Round.{Round}
-use Rattle.scr_round.specs.States.{fresh, spent}
-use Rattle.scr_round.specs.Events.{delivers, draws, joins, splits, writes}
+use Rattle.scr_board.specs.declared.lists.Progress.{Progress}
+use Rattle.scr_board.specs.declared.lists.Round.{Round}
+use Rattle.scr_board.specs.States.{fresh, spent}
+use Rattle.scr_board.specs.Events.{delivers, draws, joins, splits, writes}
 use Rattle.scr_board.specs.declared.views.View.{View}
 
 abbrev pub no_round : Round

@@ -1,17 +1,17 @@
 -- How far a worker has come with its pass.
 use Rattle.std.specs.Prelude.{◌≡◌, ℕ, ◌<◌, ◌≤◌, ◌⊎◌, ◌≢◌, false, List, [], ◌∷◌, Some, length, slice_get, vec_capacity}
 use Rattle.std.specs.List.{AllByRecursion}
-use Rattle.scr_round.specs.declared.lists.Held.{Held}
-use Rattle.scr_round.specs.declared.lists.Progress.{Progress}
-use Rattle.scr_round.specs.Counts.{times}
-use Rattle.scr_round.specs.Rounds.{dependants_of}
-use Rattle.scr_round.specs.States.{deliveries, fresh, held}
-use Rattle.scr_round.specs.Sound.{IsAtEnd}
+use Rattle.scr_board.specs.declared.lists.Held.{Held}
+use Rattle.scr_board.specs.declared.lists.Progress.{Progress}
+use Rattle.scr_board.specs.Counts.{times}
+use Rattle.scr_board.specs.Rounds.{dependants_of}
+use Rattle.scr_board.specs.States.{deliveries, fresh, held}
+use Rattle.scr_board.specs.Sound.{IsAtEnd}
 use Rattle.scr_board.specs.declared.board.Board.{Board}
 use Rattle.scr_board.specs.declared.board.Pass.{Pass}
 use Rattle.scr_board.specs.Passes.{IsPassOf, progress, view}
 use Rattle.scr_board.specs.Plays.{AreNamedOnce}
-use Rattle.scr_board.specs.Rounds.{BoardRound, IsBoardRound, lists_of}
+use Rattle.scr_board.specs.BoardRounds.{BoardRound, IsBoardRound, lists_of}
 
 -- the nodes of a hand that is worked from its end, none of their words stored
 abbrev pub stacked : List ℕ → List Held → List Held

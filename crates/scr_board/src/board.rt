@@ -4,8 +4,8 @@ ghost use Rattle.std.specs.Prelude.{◌<◌};
 use crate::rule::Rules;
 use crate::views::View;
 use atomic_table::{Seat, Table};
+use scr_jagged::Rows;
 use scr_num::Span;
-use scr_rows::Rows;
 use std::alloc::Global;
 
 pub(crate) type BoardTable = Table<(), View, Vec<u64>, Rules, Global>;

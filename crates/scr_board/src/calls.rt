@@ -1,12 +1,12 @@
 //! What a worker does on a board with its pass.
 ghost use Rattle.std.specs.Prelude.{◌≡◌, ℕ, ◌<◌, Some, false, length, slice_get};
 ghost use Rattle.scr_num.specs.Rounding.{ends};
-ghost use Rattle.scr_round.specs.Counts.{times};
-ghost use Rattle.scr_round.specs.Rounds.{dependants_of};
-ghost use Rattle.scr_round.specs.States.{deliveries, holds};
+ghost use Rattle.scr_board.specs.Counts.{times};
+ghost use Rattle.scr_board.specs.Rounds.{dependants_of};
+ghost use Rattle.scr_board.specs.States.{deliveries, holds};
 ghost use Rattle.scr_board.specs.Passes.{IsFigureAt, IsPassOf, IsSameRoom, last_of, progress, puts, view};
 ghost use Rattle.scr_board.specs.Plays.{AreNamedOnce, CanRead};
-ghost use Rattle.scr_board.specs.Rounds.{BoardRound, IsBoardRound, lists_of};
+ghost use Rattle.scr_board.specs.BoardRounds.{BoardRound, IsBoardRound, lists_of};
 ghost use Rattle.scr_board.specs.Views.{view_delivered, view_drawn, with_progress};
 
 use crate::board::{Board, Pass};

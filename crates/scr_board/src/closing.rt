@@ -3,7 +3,7 @@ ghost use Rattle.std.specs.Prelude.{◌≡◌, ℕ, ◌+◌, ◌*◌, ◌<◌, [
 ghost use Rattle.std.specs.Mem.Slots.{slots_items, slots_len, IsFull};
 ghost use Rattle.scr_num.specs.Rounding.{Ends, ends};
 ghost use Rattle.scr_board.specs.Closing.{AreDone, HasJoined, IsShown, puts_of, put_count};
-ghost use Rattle.scr_board.specs.Rounds.{BoardRound};
+ghost use Rattle.scr_board.specs.BoardRounds.{BoardRound};
 
 use crate::board::{Board, BoardSeat, Pass};
 use crate::rule::Whole;

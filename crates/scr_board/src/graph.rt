@@ -2,7 +2,7 @@
 ghost use Rattle.std.specs.Prelude.{◌≡◌, ℕ, ◌+◌, ◌<◌, List, length, map, option_map, slice_get, slice_index_or, []};
 ghost use Rattle.scr_num.specs.Rounding.{Ends, ends};
 ghost use Rattle.scr_board.specs.Places.{spot_of};
-ghost use Rattle.scr_board.specs.Rounds.{AreGiven, BoardRound, IsBoardRound, IsRoundWorked, places_at};
+ghost use Rattle.scr_board.specs.BoardRounds.{AreGiven, BoardRound, IsBoardRound, IsRoundWorked, places_at};
 
 use crate::places::Place;
 use scr_io::Steps;

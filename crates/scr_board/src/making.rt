@@ -3,7 +3,7 @@ ghost use Rattle.std.specs.Prelude.{◌≡◌, ◌<◌, ◌≤◌, ◌*◌, ◌+
 ghost use Rattle.std.specs.List.{AllByRecursion};
 ghost use Rattle.scr_board.specs.Making.{AreWithin, IsUnused, opening_words};
 ghost use Rattle.scr_board.specs.Places.{spot_of};
-ghost use Rattle.scr_board.specs.Rounds.{lists_of, nodes_in, places_at};
+ghost use Rattle.scr_board.specs.BoardRounds.{lists_of, nodes_in, places_at};
 ghost use Rattle.scr_board.specs.Views.{blank};
 ghost use Rattle.scr_board.specs.Working.{IsFresh};
 
@@ -12,7 +12,7 @@ use crate::graph::Graph;
 use crate::places::Place;
 use crate::rule::{First, Opening, Part};
 use atomic_table::Table;
-use scr_rows::Rows;
+use scr_jagged::Rows;
 use std::alloc::{AllocError as NoMemory, Global};
 use std::marker::Brand;
 

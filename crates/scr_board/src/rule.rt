@@ -1,6 +1,6 @@
 //! The rule of the board's table, and what its steps tell. These types are for the proofs alone.
 ghost use Rattle.std.specs.Prelude.{ℕ};
-ghost use Rattle.scr_round.specs.declared.lists.Round.{Round};
+ghost use Rattle.scr_board.specs.declared.lists.Round.{Round};
 ghost use Rattle.scr_board.specs.Plays.{begun, drew, gave, loaded, wrote};
 ghost use Rattle.scr_board.specs.Rule.{Holds};
 ghost use Rattle.scr_board.specs.Views.{blank, no_round, view_fresh, view_joined, view_split};

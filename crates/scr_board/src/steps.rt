@@ -1,8 +1,8 @@
 //! The steps of a pass on the board, each on one word.
 ghost use Rattle.std.specs.Prelude.{◌≡◌, ◌+◌, ◌<◌, Some, false, slice_get};
-ghost use Rattle.scr_round.specs.Counts.{times};
-ghost use Rattle.scr_round.specs.Rounds.{dependants_of, word_of};
-ghost use Rattle.scr_round.specs.States.{deliveries, holds, stored_of};
+ghost use Rattle.scr_board.specs.Counts.{times};
+ghost use Rattle.scr_board.specs.Rounds.{dependants_of, word_of};
+ghost use Rattle.scr_board.specs.States.{deliveries, holds, stored_of};
 ghost use Rattle.scr_board.specs.Passes.{IsSeatOf, seen_by};
 ghost use Rattle.scr_board.specs.Plays.{AreNamedOnce, CanRead};
 ghost use Rattle.scr_board.specs.Views.{view_delivered, view_drawn, view_stored};

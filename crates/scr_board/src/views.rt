@@ -1,6 +1,6 @@
 //! What a seat at the board knows, for the proofs alone.
 
-use scr_round::{Progress, Round};
+use crate::lists::{Progress, Round};
 use std::collections::LinkedList;
 
 /// What a pass has done, the round that it works on and the number of workers; before the first

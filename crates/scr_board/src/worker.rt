@@ -6,7 +6,7 @@ ghost use Rattle.std.specs.List.{AllByRecursion};
 ghost use Rattle.scr_num.specs.Rounding.{ends};
 ghost use Rattle.scr_board.specs.Passes.{IsPassOf, IsSameRoom, progress, view};
 ghost use Rattle.scr_board.specs.Places.{spot_of};
-ghost use Rattle.scr_board.specs.Rounds.{AreGiven, given, places_at};
+ghost use Rattle.scr_board.specs.BoardRounds.{AreGiven, given, places_at};
 ghost use Rattle.scr_board.specs.Working.{HasTaken, IsBetween, IsDelivering, IsDone, IsFresh};
 
 use crate::board::{Board, Pass};

@@ -4,10 +4,10 @@ use Rattle.std.specs.List.{AllByRecursion, IsDistinct}
 use Rattle.std.specs.Option.{option_map_or}
 use Rattle.scr_funds.proofs.Members.{IsMember-from_Contains}
 use Rattle.scr_funds.specs.Chains.{IsAcyclic, IsChain, LeadsTo}
-use Rattle.scr_graph.specs.Graph.{Graph, components_under, components_after}
-use Rattle.scr_names.specs.Names.{same_name}
-use Rattle.scr_names.specs.Tables.{row_of, has_row}
-use Rattle.scr_names.proofs.TableRows.{IsFresh, All-both, same_or_other, same_name-is, same_name-itself, same_name-flip, row_of-here, row_of-later}
+use Rattle.scr_fund_graph.specs.Graph.{Graph, components_under, components_after}
+use Rattle.scr_tables.specs.Names.{same_name}
+use Rattle.scr_tables.specs.Tables.{row_of, has_row}
+use Rattle.scr_tables.proofs.TableRows.{IsFresh, All-both, same_or_other, same_name-is, same_name-itself, same_name-flip, row_of-here, row_of-later}
 use Rattle.scr_sheet.proofs.Holds.{distinct-funds}
 use Rattle.scr_sheet.specs.BalanceSheet.{stake_name, components_of}
 use Rattle.scr_sheet.specs.Validity.{Valid}

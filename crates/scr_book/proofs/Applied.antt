@@ -6,7 +6,7 @@ use Rattle.scr_sheet.specs.Faults.{fault_of}
 use Rattle.scr_sheet.specs.Forms.{Formed}
 use Rattle.scr_sheet.specs.declared.rows.Curve.{Curve}
 use Rattle.scr_sheet.specs.Records.{applied, with_absorb}
-use Rattle.scr_names.specs.Tables.{row_of, has_row, with_row, changed}
+use Rattle.scr_tables.specs.Tables.{row_of, has_row, with_row, changed}
 use Rattle.scr_sheet.specs.Validity.{Valid}
 use Rattle.scr_sheet.specs.declared.edit.Edit.{Edit}
 use Rattle.scr_sheet.specs.declared.edit.Edit.TheVariants as edits
@@ -16,13 +16,13 @@ use Rattle.scr_book.specs.Verbs.{is_of_numbers}
 use Rattle.scr_sheet.specs.declared.numbers.Numbers.{Numbers}
 use Rattle.scr_sheet.proofs.Preserved.{Valid-applied, passes}
 use Rattle.scr_sheet.proofs.Projections.{or_false}
-use Rattle.scr_names.proofs.TableRows.{same_name-is, name_of-row_of}
+use Rattle.scr_tables.proofs.TableRows.{same_name-is, name_of-row_of}
 use Rattle.scr_book.proofs.Moved.{row_there, moves_a_sum, sums-same}
 use Rattle.scr_book.specs.Kept.{IsKept}
 use Rattle.scr_book.specs.Holders.{IsGraphOf}
 use Rattle.scr_book.specs.LastDays.{AreDaysOf}
 use Rattle.scr_book.proofs.LastDays.{moves_days, days-same}
-use Rattle.scr_graph.specs.Graph.{Graph}
+use Rattle.scr_fund_graph.specs.Graph.{Graph}
 use Rattle.scr_book.proofs.Holders.{is_of_graph, graph-same}
 use Rattle.scr_book.specs.Sums.{AreSumsOf}
 use Rattle.scr_book.specs.declared.ledger.Ledger.TheInside.{Inside}

@@ -2,8 +2,8 @@
 use Rattle.std.proofs.Common.{◌≡◌, ℕ, ℤ, ◌+◌, ◌^◌, ◌<◌, ◌≤◌, List, refl, arith}
 use Rattle.std.specs.Option.{option_map_or}
 use Rattle.scr_dates.specs.Civil.{IsDay}
-use Rattle.scr_names.specs.Tables.{row_of}
-use Rattle.scr_tally.specs.Days.{count_of}
+use Rattle.scr_tables.specs.Tables.{row_of}
+use Rattle.scr_counters.specs.Days.{count_of}
 use Rattle.scr_sheet.specs.BalanceSheet.{position_name, liability_name}
 use Rattle.scr_sheet.specs.Earlier.{with_earlier, FitsIn}
 use Rattle.scr_sheet.specs.Validity.{Valid}

@@ -4,9 +4,9 @@ use Rattle.std.specs.List.{IsDistinct}
 use Rattle.std.specs.Option.{option_map, option_map_or}
 use Rattle.std.proofs.lemmas.List.{length-map}
 use Rattle.scr_funds.specs.Chains.{LeadsTo}
-use Rattle.scr_graph.specs.Graph.{Graph, components_under, components_after}
-use Rattle.scr_names.specs.Names.{same_name}
-use Rattle.scr_names.specs.Tables.{has_row, without}
+use Rattle.scr_fund_graph.specs.Graph.{Graph, components_under, components_after}
+use Rattle.scr_tables.specs.Names.{same_name}
+use Rattle.scr_tables.specs.Tables.{has_row, without}
 use Rattle.scr_sheet.specs.BalanceSheet.{stake_name, components_of}
 use Rattle.scr_sheet.specs.declared.sheet.BalanceSheet.{BalanceSheet}
 use Rattle.scr_sheet.specs.Records.{applied, natural, with_fund}
@@ -20,7 +20,7 @@ use Rattle.scr_sheet.specs.declared.rows.Stake.{Stake}
 use Rattle.scr_sheet.proofs.FundChains.{holder-named, leads_not}
 use Rattle.scr_sheet.proofs.Holds.{distinct-funds}
 use Rattle.scr_sheet.proofs.Preserved.{passes}
-use Rattle.scr_names.proofs.TableRows.{same_or_other, same_name-is, same_name-itself, row_of-with_row_own, row_of-with_row_other, row_of-without_own, row_of-without_other, found-changed}
+use Rattle.scr_tables.proofs.TableRows.{same_or_other, same_name-is, same_name-itself, row_of-with_row_own, row_of-with_row_other, row_of-without_own, row_of-without_other, found-changed}
 use Rattle.scr_book.proofs.Moved.{none_there}
 use Rattle.scr_book.specs.Holders.{IsGraphOf}
 

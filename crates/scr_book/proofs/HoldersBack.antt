@@ -3,13 +3,13 @@ use Rattle.std.proofs.Common.{◌≡◌, ℕ, zero, suc, Bool, true, false, cond
 use Rattle.std.specs.List.{IsDistinct}
 use Rattle.std.specs.Option.{option_map_or}
 use Rattle.scr_funds.specs.Chains.{LeadsTo}
-use Rattle.scr_graph.specs.Graph.{Graph, components_under, components_after}
-use Rattle.scr_names.specs.Names.{same_name}
-use Rattle.scr_names.specs.Pasts.{restored, HasPlace}
-use Rattle.scr_names.specs.Tables.{row_of, has_row, with_row}
-use Rattle.scr_names.specs.declared.past.Past.{Past}
-use Rattle.scr_names.specs.declared.past.Past.TheVariants as pasts
-use Rattle.scr_names.proofs.TableRows.{same_or_other, same_name-is, same_name-itself, row_of-here, row_of-later, row_of-with_row_own, row_of-with_row_other}
+use Rattle.scr_fund_graph.specs.Graph.{Graph, components_under, components_after}
+use Rattle.scr_tables.specs.Names.{same_name}
+use Rattle.scr_tables.specs.Pasts.{restored, HasPlace}
+use Rattle.scr_tables.specs.Tables.{row_of, has_row, with_row}
+use Rattle.scr_tables.specs.declared.past.Past.{Past}
+use Rattle.scr_tables.specs.declared.past.Past.TheVariants as pasts
+use Rattle.scr_tables.proofs.TableRows.{same_or_other, same_name-is, same_name-itself, row_of-here, row_of-later, row_of-with_row_own, row_of-with_row_other}
 use Rattle.scr_sheet.specs.BalanceSheet.{stake_name, components_of}
 use Rattle.scr_sheet.specs.Earlier.{with_earlier, FitsIn}
 use Rattle.scr_sheet.specs.Validity.{Valid}

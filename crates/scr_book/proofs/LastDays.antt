@@ -5,9 +5,9 @@ use Rattle.std.specs.List.{AllByRecursion}
 use Rattle.std.specs.Option.{option_map_or}
 use Rattle.scr_dates.specs.declared.day.Day.{Day}
 use Rattle.scr_dates.specs.Civil.{IsDay}
-use Rattle.scr_names.specs.Tables.{row_of}
-use Rattle.scr_names.proofs.TableRows.{All-map, All-row_of, sum-with_row, sum-without, sum-changed}
-use Rattle.scr_tally.specs.Days.{count_of, ends_on, IsDayOrNone}
+use Rattle.scr_tables.specs.Tables.{row_of}
+use Rattle.scr_tables.proofs.TableRows.{All-map, All-row_of, sum-with_row, sum-without, sum-changed}
+use Rattle.scr_counters.specs.Days.{count_of, ends_on, IsDayOrNone}
 use Rattle.scr_sheet.specs.BalanceSheet.{position_name, liability_name}
 use Rattle.scr_sheet.specs.CashFlows.{last_day, flows_under, with_flows, no_flows, all_projections}
 use Rattle.scr_sheet.specs.Faults.{fault_of}

@@ -7,8 +7,8 @@ use Rattle.std.specs.List.{AllByRecursion}
 use Rattle.std.specs.Option.{option_map_or}
 use Rattle.scr_dates.specs.declared.day.Day.{Day}
 use Rattle.scr_dates.specs.Civil.{IsDay}
-use Rattle.scr_names.proofs.TableRows.{All-map, All-both}
-use Rattle.scr_tally.specs.Days.{count_of, ends_on, IsLast}
+use Rattle.scr_tables.proofs.TableRows.{All-map, All-both}
+use Rattle.scr_counters.specs.Days.{count_of, ends_on, IsLast}
 use Rattle.scr_sheet.specs.BalanceSheet.{greatest, security_years, liability_years}
 use Rattle.scr_sheet.specs.CashFlows.{last_day, flows_under, greatest_years, all_projections}
 use Rattle.scr_sheet.specs.Forms.{AreOnDays}
@@ -19,7 +19,7 @@ use Rattle.scr_sheet.specs.declared.sheet.BalanceSheet.{BalanceSheet}
 use Rattle.scr_sheet.proofs.Greatest.{greatest-le}
 use Rattle.scr_dates.proofs.LastDays.{years_at, years-last, last-on_day}
 use Rattle.scr_sheet.proofs.Projections.{every_projection}
-use Rattle.scr_tally.proofs.ByDay.{ends-own}
+use Rattle.scr_counters.proofs.ByDay.{ends-own}
 use Rattle.scr_book.specs.LastDays.{security_ends, liability_ends, lists_ending, AreDaysOf}
 use Rattle.scr_book.proofs.LastDays.{projection-le}
 

@@ -3,8 +3,8 @@ use Rattle.std.proofs.Common.{◌≡◌, ℕ, ℤ, ◌||◌, ◌&&◌, Bool, tru
 use Rattle.std.specs.List.{list_all}
 use Rattle.std.specs.Option.{option_or, option_map_or}
 use Rattle.std.proofs.lemmas.Bool.{true≢false}
-use Rattle.scr_names.specs.Names.{same_name}
-use Rattle.scr_names.specs.Tables.{row_of}
+use Rattle.scr_tables.specs.Names.{same_name}
+use Rattle.scr_tables.specs.Tables.{row_of}
 use Rattle.scr_sheet.specs.BalanceSheet.{is_in, is_named, liability_name}
 use Rattle.scr_sheet.specs.CashFlows.{has_projection}
 use Rattle.scr_sheet.specs.Faults.{first_fault, unknown_row, unknown_currency, unknown_component, unknown_name, misplaced, misplaced_component, lacking, wrong_kind}

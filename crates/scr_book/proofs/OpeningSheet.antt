@@ -7,8 +7,8 @@ use Rattle.scr_book.specs.Sums.{AreSumsOf}
 use Rattle.scr_book.specs.Holders.{IsGraphOf}
 use Rattle.scr_book.proofs.LastDays.{days-opening}
 use Rattle.scr_book.specs.LastDays.{AreDaysOf}
-use Rattle.scr_tally.specs.Days.{count_of}
-use Rattle.scr_graph.specs.Graph.{components_under}
+use Rattle.scr_counters.specs.Days.{count_of}
+use Rattle.scr_fund_graph.specs.Graph.{components_under}
 use Rattle.scr_book.specs.Kept.{IsKept}
 use Rattle.scr_book.specs.declared.sums.Sums.{Sums}
 use Rattle.scr_book.specs.declared.ledger.Ledger.TheInside.{Inside}

@@ -1,7 +1,7 @@
 -- What the tests of a record's own kind say of the first quantity of the whole book outside its limits.
 use Rattle.std.proofs.Common.{◌≡◌, ℕ, ℤ, List, ◌+◌, ◌-◌, Option, None, length, sym, ap, subst, ◌∙◌, arith}
 use Rattle.std.specs.Option.{option_or, option_map_or}
-use Rattle.scr_names.specs.Tables.{row_of, rows_with}
+use Rattle.scr_tables.specs.Tables.{row_of, rows_with}
 use Rattle.scr_sheet.specs.BalanceSheet.{bank_name, rein_name, defaults_total}
 use Rattle.scr_sheet.specs.declared.sheet.BalanceSheet.{BalanceSheet}
 use Rattle.scr_dates.specs.declared.day.Day.{Day}
@@ -14,7 +14,7 @@ use Rattle.scr_sheet.specs.declared.fault.Fault.{Fault}
 use Rattle.scr_sheet.specs.declared.fault.Quantity.{Quantity}
 use Rattle.scr_sheet.specs.declared.fault.Quantity.TheVariants as quantities
 use Rattle.scr_profile.specs.declared.limits.TheConstants.{MAX_AMOUNT, MAX_EXPOSURES}
-use Rattle.scr_names.proofs.TableRows.{added}
+use Rattle.scr_tables.proofs.TableRows.{added}
 use Rattle.scr_sheet.proofs.Sums.{rein_total}
 use Rattle.scr_sheet.proofs.Quiet.{added-is}
 

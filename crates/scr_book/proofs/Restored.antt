@@ -3,11 +3,11 @@ use Rattle.std.proofs.Common.{◌≡◌, ℕ, zero, suc, ◌+◌, List, [], ◌�
 use Rattle.std.proofs.lemmas.List.Sums.{sum_by-insert}
 use Rattle.std.specs.List.{AllByRecursion}
 use Rattle.std.specs.Option.{option_map_or}
-use Rattle.scr_names.specs.Tables.{row_of, with_row}
-use Rattle.scr_names.specs.Pasts.{restored, HasPlace}
-use Rattle.scr_names.specs.declared.past.Past.{Past}
-use Rattle.scr_names.specs.declared.past.Past.TheVariants as pasts
-use Rattle.scr_names.proofs.TableRows.{All-row_of, row_of-with_row_own, sum-with_row, sum-without}
+use Rattle.scr_tables.specs.Tables.{row_of, with_row}
+use Rattle.scr_tables.specs.Pasts.{restored, HasPlace}
+use Rattle.scr_tables.specs.declared.past.Past.{Past}
+use Rattle.scr_tables.specs.declared.past.Past.TheVariants as pasts
+use Rattle.scr_tables.proofs.TableRows.{All-row_of, row_of-with_row_own, sum-with_row, sum-without}
 use Rattle.scr_book.specs.Pasts.{name_in, row_in}
 use Rattle.scr_book.proofs.Moved.{none_there}
 

@@ -2,13 +2,13 @@
 use Rattle.std.proofs.Common.{◌≡◌, ◌≢◌, ◌⊎◌, inl, inr, ℕ, zero, suc, ℤ, ◌+◌, ◌<◌, ◌≤◌, Bool, true, false, ◌&&◌, List, [], ◌∷◌, length, map, set, eqb, Option, Some, None, is_some, refl, sym, ap, subst, ◌∙◌, arith}
 use Rattle.std.specs.Prelude.{if◌then◌else◌}
 use Rattle.std.specs.Option.{option_map, option_map_or}
-use Rattle.scr_names.specs.Names.{same_name}
-use Rattle.scr_names.specs.Tables.{has_row, row_of, with_row}
-use Rattle.scr_names.proofs.TableRows.{row_of-with_row_own, same_name-is, same_or_other}
-use Rattle.scr_rolls.specs.Members.{has}
-use Rattle.scr_rolls.specs.Owned.{number_of}
-use Rattle.scr_rolls.specs.declared.seating.Numbered.{Numbered}
-use Rattle.scr_rolls.specs.Seatings.{NOWHERE, AreSeated, AwaitsSeats, IsFor, Seated, room_of, target}
+use Rattle.scr_tables.specs.Names.{same_name}
+use Rattle.scr_tables.specs.Tables.{has_row, row_of, with_row}
+use Rattle.scr_tables.proofs.TableRows.{row_of-with_row_own, same_name-is, same_or_other}
+use Rattle.scr_member_lists.specs.Members.{has}
+use Rattle.scr_member_lists.specs.Owned.{number_of}
+use Rattle.scr_member_lists.specs.declared.seating.Numbered.{Numbered}
+use Rattle.scr_member_lists.specs.Seatings.{NOWHERE, AreSeated, AwaitsSeats, IsFor, Seated, room_of, target}
 use Rattle.scr_sheet.specs.BalanceSheet.{group_name, liability_name, position_name, position_of, stake_name}
 use Rattle.scr_sheet.specs.CashFlows.{no_flows}
 use Rattle.scr_sheet.specs.Members.{edit_name, has_flows, has_liability, has_security, is_closed, is_member, is_member_in, is_paying, table_of}

@@ -2,10 +2,10 @@
 use Rattle.std.proofs.Common.{◌≡◌, ◌⊎◌, inl, inr, ℕ, ◌+◌, ◌<◌, ◌≤◌, true, List, [], ◌∷◌, length, Option, Some, None, refl, sym, ap, subst, ◌∙◌, arith}
 use Rattle.std.specs.Option.{option_map, option_map_or}
 use Rattle.std.proofs.lemmas.Option.{slice_get_past}
-use Rattle.scr_rolls.specs.Members.{has}
-use Rattle.scr_rolls.specs.Owned.{Owned, number_of}
-use Rattle.scr_rolls.specs.Seatings.{Grows, Seated, names_of, seat_of}
-use Rattle.scr_rolls.specs.declared.seating.Numbered.{Numbered}
+use Rattle.scr_member_lists.specs.Members.{has}
+use Rattle.scr_member_lists.specs.Owned.{Owned, number_of}
+use Rattle.scr_member_lists.specs.Seatings.{Grows, Seated, names_of, seat_of}
+use Rattle.scr_member_lists.specs.declared.seating.Numbered.{Numbered}
 use Rattle.scr_sheet.specs.Members.{table_of}
 use Rattle.scr_sheet.specs.declared.{sheet.BalanceSheet.BalanceSheet, keys.Table.Table, roll.Roll.Roll}
 use Rattle.scr_sheet.specs.declared.keys.Table.TheVariants as tables

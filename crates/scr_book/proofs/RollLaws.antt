@@ -2,18 +2,18 @@
 use Rattle.std.proofs.Common.{◌≡◌, ◌≢◌, ℕ, ◌<◌, ◌≤◌, Bool, true, false, inl, List, [], length, eqb, get_or, Option, Some, None, is_some, refl, sym, ap, subst, ◌∙◌, arith}
 use Rattle.std.specs.Prelude.{if◌then◌else◌}
 use Rattle.std.specs.List.{IsDistinct}
-use Rattle.scr_names.specs.Names.{same_name}
-use Rattle.scr_names.proofs.TableRows.{same_name-itself}
-use Rattle.scr_rolls.specs.Members.{has, moved, returned}
-use Rattle.scr_rolls.specs.Seatings.{NOWHERE, AreSeated, CanReturn, KeepsRoom, KeepsSeats, Seated, StandsAt, free, names_of, place_in, roll_in, seat_at, seat_of, seats_of, stood}
-use Rattle.scr_rolls.specs.declared.seating.Numbered.{Numbered}
-use Rattle.scr_rolls.specs.declared.seats.Seats.{Seats}
-use Rattle.scr_rolls.proofs.SeatLists as lists_of_seats
-use Rattle.scr_rolls.proofs.SeatMoves as moves_of_seats
-use Rattle.scr_rolls.proofs.SeatReturns as returns_of_seats
-use Rattle.scr_rolls.proofs.SeatRolls as rolls_of_seats
-use Rattle.scr_rolls.proofs.SeatTables.{seats-none}
-use Rattle.scr_rolls.proofs.Settled.{after-none}
+use Rattle.scr_tables.specs.Names.{same_name}
+use Rattle.scr_tables.proofs.TableRows.{same_name-itself}
+use Rattle.scr_member_lists.specs.Members.{has, moved, returned}
+use Rattle.scr_member_lists.specs.Seatings.{NOWHERE, AreSeated, CanReturn, KeepsRoom, KeepsSeats, Seated, StandsAt, free, names_of, place_in, roll_in, seat_at, seat_of, seats_of, stood}
+use Rattle.scr_member_lists.specs.declared.seating.Numbered.{Numbered}
+use Rattle.scr_member_lists.specs.declared.seats.Seats.{Seats}
+use Rattle.scr_member_lists.proofs.SeatLists as lists_of_seats
+use Rattle.scr_member_lists.proofs.SeatMoves as moves_of_seats
+use Rattle.scr_member_lists.proofs.SeatReturns as returns_of_seats
+use Rattle.scr_member_lists.proofs.SeatRolls as rolls_of_seats
+use Rattle.scr_member_lists.proofs.SeatTables.{seats-none}
+use Rattle.scr_member_lists.proofs.Settled.{after-none}
 use Rattle.scr_book.proofs.RollNumbers.{nowhere-apart}
 
 -- no name stands twice in a roll

@@ -3,10 +3,10 @@ use Rattle.std.proofs.Common.{◌≡◌, ℕ, ◌+◌, ◌<◌, Bool, true, fals
 use Rattle.std.specs.Prelude.{if◌then◌else◌}
 use Rattle.std.specs.Option.{option_map, option_map_or}
 use Rattle.std.proofs.lemmas.Bool.Decides.{Decides-eqb, nat_tests}
-use Rattle.scr_names.specs.Names.{same_name}
-use Rattle.scr_names.proofs.TableRows.{same_name-is, same_name-itself, same_or_other}
-use Rattle.scr_rolls.specs.Owned.{Owned, number_of}
-use Rattle.scr_rolls.specs.Seatings.{NOWHERE, target}
+use Rattle.scr_tables.specs.Names.{same_name}
+use Rattle.scr_tables.proofs.TableRows.{same_name-is, same_name-itself, same_or_other}
+use Rattle.scr_member_lists.specs.Owned.{Owned, number_of}
+use Rattle.scr_member_lists.specs.Seatings.{NOWHERE, target}
 use Rattle.scr_sheet.specs.CashFlows.{all_projections}
 use Rattle.scr_sheet.specs.Members.{has_flows, has_group, has_liability, has_security, is_kind, is_of_class, is_paying, table_of}
 use Rattle.scr_sheet.specs.declared.{keys.Projection.Projection, roll.Roll.Roll, rows.Class.Class, rows.Liability.Liability, rows.LiabilityKind.LiabilityKind, rows.Position.Position}

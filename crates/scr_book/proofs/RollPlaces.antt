@@ -5,12 +5,12 @@ use Rattle.std.specs.List.{IsDistinct}
 use Rattle.std.specs.Option.{option_map_or}
 use Rattle.std.proofs.lemmas.List.Quantifiers.{position-Some}
 use Rattle.std.proofs.lemmas.Option.{same_Some}
-use Rattle.scr_names.specs.Names.{same_name}
-use Rattle.scr_names.proofs.TableRows.{same_name-is}
-use Rattle.scr_rolls.specs.Members.{has, name_at}
-use Rattle.scr_rolls.specs.Seatings.{AreSeated, Seated, names_of, place_in, roll_in, seat_of, seats_of, stood}
-use Rattle.scr_rolls.proofs.Settled.{has-position}
-use Rattle.scr_names.specs.Tables.{row_of}
+use Rattle.scr_tables.specs.Names.{same_name}
+use Rattle.scr_tables.proofs.TableRows.{same_name-is}
+use Rattle.scr_member_lists.specs.Members.{has, name_at}
+use Rattle.scr_member_lists.specs.Seatings.{AreSeated, Seated, names_of, place_in, roll_in, seat_of, seats_of, stood}
+use Rattle.scr_member_lists.proofs.Settled.{has-position}
+use Rattle.scr_tables.specs.Tables.{row_of}
 use Rattle.scr_sheet.specs.BalanceSheet.{is_in, liability_name, position_of, stake_of}
 use Rattle.scr_sheet.specs.Members.{has_liability, has_security, is_closed, is_member, is_member_in, table_of}
 use Rattle.scr_sheet.specs.Validity.{Valid}

@@ -6,14 +6,14 @@ use Rattle.std.specs.Option.{option_map, option_map_or}
 use Rattle.std.proofs.lemmas.Bool.Decides.{nat_tests}
 use Rattle.std.proofs.lemmas.List.{length-map}
 use Rattle.scr_dates.specs.declared.day.Day.{Day}
-use Rattle.scr_names.specs.Names.{same_name}
-use Rattle.scr_names.specs.Tables.{has_row, row_of, with_row}
-use Rattle.scr_names.proofs.PastRows.{at_place, missing}
-use Rattle.scr_rolls.specs.Members.{name_at}
-use Rattle.scr_rolls.specs.Owned.{number_of}
-use Rattle.scr_rolls.specs.Seatings.{NOWHERE, IsFor, roll_in, room_of, seat_at, target}
-use Rattle.scr_rolls.specs.declared.seats.Seats.{Seats}
-use Rattle.scr_rolls.proofs.SeatLists.{named-at}
+use Rattle.scr_tables.specs.Names.{same_name}
+use Rattle.scr_tables.specs.Tables.{has_row, row_of, with_row}
+use Rattle.scr_tables.proofs.PastRows.{at_place, missing}
+use Rattle.scr_member_lists.specs.Members.{name_at}
+use Rattle.scr_member_lists.specs.Owned.{number_of}
+use Rattle.scr_member_lists.specs.Seatings.{NOWHERE, IsFor, roll_in, room_of, seat_at, target}
+use Rattle.scr_member_lists.specs.declared.seats.Seats.{Seats}
+use Rattle.scr_member_lists.proofs.SeatLists.{named-at}
 use Rattle.scr_sheet.specs.BalanceSheet.{liability_name, position_name, position_of}
 use Rattle.scr_sheet.specs.CashFlows.{all_projections, is_empty, with_flows}
 use Rattle.scr_sheet.specs.Members.{is_closed}

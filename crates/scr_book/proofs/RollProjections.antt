@@ -5,14 +5,14 @@ use Rattle.std.specs.Option.{option_map_or}
 use Rattle.std.proofs.lemmas.Bool.Decides.{Decides-eqb}
 use Rattle.std.proofs.lemmas.List.{length-map}
 use Rattle.std.specs.List.{IsDistinct}
-use Rattle.scr_names.specs.Names.{same_name}
-use Rattle.scr_names.specs.Tables.{row_of, with_row}
-use Rattle.scr_names.proofs.TableRows.{name_of-row_of, names-changed, row_of-with_row_own, same_name-is}
+use Rattle.scr_tables.specs.Names.{same_name}
+use Rattle.scr_tables.specs.Tables.{row_of, with_row}
+use Rattle.scr_tables.proofs.TableRows.{name_of-row_of, names-changed, row_of-with_row_own, same_name-is}
 use Rattle.scr_dates.specs.declared.day.Day.{Day}
-use Rattle.scr_rolls.specs.Members.{has}
-use Rattle.scr_rolls.specs.Owned.{number_of}
-use Rattle.scr_rolls.specs.declared.seats.Seats.{Seats}
-use Rattle.scr_rolls.specs.Seatings.{NOWHERE, AreSeated, IsFor, names_of, roll_in, room_of, seat_at, seat_of, seats_of}
+use Rattle.scr_member_lists.specs.Members.{has}
+use Rattle.scr_member_lists.specs.Owned.{number_of}
+use Rattle.scr_member_lists.specs.declared.seats.Seats.{Seats}
+use Rattle.scr_member_lists.specs.Seatings.{NOWHERE, AreSeated, IsFor, names_of, roll_in, room_of, seat_at, seat_of, seats_of}
 use Rattle.std.proofs.lemmas.Bool.{cases_eq}
 use Rattle.scr_sheet.specs.BalanceSheet.{liability_name}
 use Rattle.scr_sheet.specs.CashFlows.{flows_under, is_empty, with_flows}

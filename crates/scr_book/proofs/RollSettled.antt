@@ -5,12 +5,12 @@ use Rattle.std.specs.List.{IsDistinct}
 use Rattle.std.specs.Option.{option_map_or}
 use Rattle.std.proofs.lemmas.Bool.{cases_lt}
 use Rattle.std.proofs.lemmas.Bool.Decides.{Decides-eqb}
-use Rattle.scr_names.specs.Names.{same_name}
-use Rattle.scr_names.proofs.TableRows.{same_name-is, same_or_other}
-use Rattle.scr_rolls.specs.Members.{has, moved}
-use Rattle.scr_rolls.specs.Owned.{number_of}
-use Rattle.scr_rolls.specs.Seatings.{NOWHERE, AreSeated, Seated, names_of, roll_in, seat_of}
-use Rattle.scr_rolls.proofs.Settled.{moved-same}
+use Rattle.scr_tables.specs.Names.{same_name}
+use Rattle.scr_tables.proofs.TableRows.{same_name-is, same_or_other}
+use Rattle.scr_member_lists.specs.Members.{has, moved}
+use Rattle.scr_member_lists.specs.Owned.{number_of}
+use Rattle.scr_member_lists.specs.Seatings.{NOWHERE, AreSeated, Seated, names_of, roll_in, seat_of}
+use Rattle.scr_member_lists.proofs.Settled.{moved-same}
 use Rattle.scr_sheet.specs.Members.{edit_name, is_member, table_of}
 use Rattle.scr_sheet.specs.Records.{applied}
 use Rattle.scr_sheet.specs.declared.{sheet.BalanceSheet.BalanceSheet, edit.Edit.Edit, keys.Table.Table, roll.Roll.Roll}

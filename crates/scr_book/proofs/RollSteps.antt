@@ -5,15 +5,15 @@ use Rattle.std.specs.List.{IsDistinct}
 use Rattle.std.specs.Option.{option_map, option_map_or}
 use Rattle.std.proofs.lemmas.Bool.Decides.{Decides-eqb}
 use Rattle.std.proofs.lemmas.List.{get_or_default, length-set}
-use Rattle.scr_names.specs.Names.{same_name}
-use Rattle.scr_names.specs.Tables.{row_of}
-use Rattle.scr_names.proofs.TableRows.{IsFresh, row_of-here, row_of-later, same_name-flip, same_name-itself}
-use Rattle.scr_rolls.specs.Members.{has, moved, name_at}
-use Rattle.scr_rolls.specs.Seatings.{NOWHERE, AreSeated, IsFor, KeepsRoom, KeepsSeats, Seated, names_of, roll_in, roll_then, room_of, seat_at, seat_of, seats_of, target}
-use Rattle.scr_rolls.specs.declared.seating.Numbered.{Numbered}
-use Rattle.scr_rolls.specs.declared.seats.Seats.{Seats}
-use Rattle.scr_rolls.proofs.SeatLists.{named-at}
-use Rattle.scr_rolls.proofs.Settled.{moved-same}
+use Rattle.scr_tables.specs.Names.{same_name}
+use Rattle.scr_tables.specs.Tables.{row_of}
+use Rattle.scr_tables.proofs.TableRows.{IsFresh, row_of-here, row_of-later, same_name-flip, same_name-itself}
+use Rattle.scr_member_lists.specs.Members.{has, moved, name_at}
+use Rattle.scr_member_lists.specs.Seatings.{NOWHERE, AreSeated, IsFor, KeepsRoom, KeepsSeats, Seated, names_of, roll_in, roll_then, room_of, seat_at, seat_of, seats_of, target}
+use Rattle.scr_member_lists.specs.declared.seating.Numbered.{Numbered}
+use Rattle.scr_member_lists.specs.declared.seats.Seats.{Seats}
+use Rattle.scr_member_lists.proofs.SeatLists.{named-at}
+use Rattle.scr_member_lists.proofs.Settled.{moved-same}
 use Rattle.scr_sheet.specs.BalanceSheet.{group_name, liability_name, position_name, stake_name}
 use Rattle.scr_sheet.specs.Members.{table_of}
 use Rattle.scr_sheet.specs.declared.{sheet.BalanceSheet.BalanceSheet, keys.Table.Table, roll.Roll.Roll}

@@ -3,13 +3,13 @@ use Rattle.std.proofs.Common.{◌≡◌, ◌⊎◌, inl, inr, ℕ, ℤ, Bool, tr
 use Rattle.std.specs.Prelude.{if◌then◌else◌}
 use Rattle.std.specs.Option.{option_map_or}
 use Rattle.scr_dates.specs.declared.day.Day.{Day}
-use Rattle.scr_names.specs.Names.{same_name}
-use Rattle.scr_names.specs.Tables.{changed, has_row, row_of, with_row, without}
-use Rattle.scr_names.proofs.PastRows.{back-new, missing}
-use Rattle.scr_names.proofs.TableRows.{names-changed, row_of-without_own}
+use Rattle.scr_tables.specs.Names.{same_name}
+use Rattle.scr_tables.specs.Tables.{changed, has_row, row_of, with_row, without}
+use Rattle.scr_tables.proofs.PastRows.{back-new, missing}
+use Rattle.scr_tables.proofs.TableRows.{names-changed, row_of-without_own}
 use Rattle.scr_profile.specs.declared.group_kind.GroupKind.{GroupKind}
-use Rattle.scr_rolls.specs.Seatings.{AreSeated}
-use Rattle.scr_rolls.specs.declared.seats.Seats.{Seats}
+use Rattle.scr_member_lists.specs.Seatings.{AreSeated}
+use Rattle.scr_member_lists.specs.declared.seats.Seats.{Seats}
 use Rattle.scr_sheet.specs.BalanceSheet.{group_name, is_in, liability_name, position_name, stake_name}
 use Rattle.scr_sheet.specs.CashFlows.{with_flows}
 use Rattle.scr_sheet.specs.Members.{edit_name, is_member, table_of}

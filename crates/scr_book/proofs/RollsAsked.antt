@@ -1,8 +1,8 @@
 -- The members of an owner's roll, by the first of its numbers.
 use Rattle.std.proofs.Common.{◌≡◌, ℕ, ◌+◌, ◌<◌, List, [], length, Option, Some, None, IfSome, refl, ap, arith}
 use Rattle.std.specs.Option.{option_map, option_map_or}
-use Rattle.scr_rolls.specs.Seatings.{names_of}
-use Rattle.scr_rolls.specs.declared.seating.Numbered.{Numbered}
+use Rattle.scr_member_lists.specs.Seatings.{names_of}
+use Rattle.scr_member_lists.specs.declared.seating.Numbered.{Numbered}
 
 -- a number that is one of the table's, and the one after it
 pub first-inside : (found : Option ℕ) (rolls : List Numbered) → ((n : ℕ) → found ≡ Some n → n < length rolls) → IfSome found (λ n. n + 0 < length rolls)

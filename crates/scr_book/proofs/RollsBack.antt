@@ -3,19 +3,19 @@ use Rattle.std.proofs.Common.{◌≡◌, ◌≢◌, ◌⊎◌, inl, ℕ, ◌<◌
 use Rattle.std.specs.Prelude.{if◌then◌else◌}
 use Rattle.std.specs.List.{IsDistinct, list_any}
 use Rattle.std.specs.Option.{option_map_or}
-use Rattle.scr_names.specs.Names.{same_name}
-use Rattle.scr_rolls.specs.Members.{has, returned}
-use Rattle.scr_rolls.specs.Seatings.{NOWHERE, AreSeated, CanReturn, Seated, free, names_of, place_in, roll_in, seat_of, seats_now, seats_of, stood}
-use Rattle.scr_rolls.specs.declared.seats.Seats.{Seats}
+use Rattle.scr_tables.specs.Names.{same_name}
+use Rattle.scr_member_lists.specs.Members.{has, returned}
+use Rattle.scr_member_lists.specs.Seatings.{NOWHERE, AreSeated, CanReturn, Seated, free, names_of, place_in, roll_in, seat_of, seats_now, seats_of, stood}
+use Rattle.scr_member_lists.specs.declared.seats.Seats.{Seats}
 use Rattle.scr_sheet.specs.BalanceSheet.{bank_name, curve_name, group_name, is_in, liability_name, position_name, rein_name, stake_name}
 use Rattle.scr_sheet.specs.Members.{is_member, table_of}
 use Rattle.scr_sheet.specs.declared.{sheet.BalanceSheet.BalanceSheet, keys.Table.Table, roll.Roll.Roll}
 use Rattle.scr_book.specs.Places.{names_in}
 use Rattle.scr_book.specs.Rolls.{AreRollsOf, GoesBack, GoesIn, IsOfRoll, IsSettled, KeptRolls, listed, number_of_roll, roll_back, roll_of, same_table, seat_of_roll, seated_in, seats_before, stands_in}
 use Rattle.scr_book.specs.declared.rolls.Standing.{Standing}
-use Rattle.scr_rolls.proofs.SeatMoves.{has_row-listed, nowhere}
-use Rattle.scr_rolls.proofs.SeatReturns.{has-at}
-use Rattle.scr_rolls.proofs.SeatTables.{seats-none}
+use Rattle.scr_member_lists.proofs.SeatMoves.{has_row-listed, nowhere}
+use Rattle.scr_member_lists.proofs.SeatReturns.{has-at}
+use Rattle.scr_member_lists.proofs.SeatTables.{seats-none}
 use Rattle.scr_sheet.specs.declared.keys.Table.TheVariants as tables
 use Rattle.scr_book.proofs.RollGrowth.{same-numbers}
 use Rattle.scr_book.proofs.RollLaws.{can-return, has-by-seat, returned-name}

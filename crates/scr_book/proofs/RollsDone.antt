@@ -5,10 +5,10 @@ use Rattle.std.specs.Prelude.{if◌then◌else◌}
 use Rattle.std.specs.List.{IsDistinct}
 use Rattle.std.specs.Option.{option_map}
 use Rattle.std.proofs.lemmas.Bool.Decides.{Decides-eqb}
-use Rattle.scr_names.specs.Names.{same_name}
-use Rattle.scr_rolls.specs.Members.{has, moved}
-use Rattle.scr_rolls.specs.Seatings.{free, names_of, seats_now, seats_of}
-use Rattle.scr_rolls.specs.declared.seats.Seats.{Seats}
+use Rattle.scr_tables.specs.Names.{same_name}
+use Rattle.scr_member_lists.specs.Members.{has, moved}
+use Rattle.scr_member_lists.specs.Seatings.{free, names_of, seats_now, seats_of}
+use Rattle.scr_member_lists.specs.declared.seats.Seats.{Seats}
 use Rattle.scr_sheet.specs.BalanceSheet.{is_in}
 use Rattle.scr_sheet.specs.Members.{edit_name, is_member}
 use Rattle.scr_sheet.specs.Records.{applied}

@@ -5,16 +5,16 @@ use Rattle.std.specs.List.{IsDistinct}
 use Rattle.std.specs.Option.{option_map}
 use Rattle.std.proofs.lemmas.Bool.Decides.{nat_tests}
 use Rattle.std.proofs.lemmas.List.{length-map}
-use Rattle.scr_names.specs.Names.{same_name}
-use Rattle.scr_names.specs.Tables.{has_row, row_of, without}
-use Rattle.scr_names.proofs.PastRows.{back-dropped, back-none, missing}
-use Rattle.scr_names.proofs.TableRows.{names-changed, row_of-later, row_of-without_own, same_name-is, same_or_other}
-use Rattle.scr_rolls.specs.Members.{has, moved}
-use Rattle.scr_rolls.specs.Seatings.{NOWHERE, AreSeated, KeepsRoom, KeepsSeats, Seated, free, names_of, roll_in, seat_of, seats_now, seats_of}
-use Rattle.scr_rolls.specs.declared.seats.Seats.{Seats}
-use Rattle.scr_rolls.proofs.SeatMoves.{nowhere}
-use Rattle.scr_rolls.proofs.SeatReturns.{never-member}
-use Rattle.scr_rolls.proofs.SeatTables.{seats-none}
+use Rattle.scr_tables.specs.Names.{same_name}
+use Rattle.scr_tables.specs.Tables.{has_row, row_of, without}
+use Rattle.scr_tables.proofs.PastRows.{back-dropped, back-none, missing}
+use Rattle.scr_tables.proofs.TableRows.{names-changed, row_of-later, row_of-without_own, same_name-is, same_or_other}
+use Rattle.scr_member_lists.specs.Members.{has, moved}
+use Rattle.scr_member_lists.specs.Seatings.{NOWHERE, AreSeated, KeepsRoom, KeepsSeats, Seated, free, names_of, roll_in, seat_of, seats_now, seats_of}
+use Rattle.scr_member_lists.specs.declared.seats.Seats.{Seats}
+use Rattle.scr_member_lists.proofs.SeatMoves.{nowhere}
+use Rattle.scr_member_lists.proofs.SeatReturns.{never-member}
+use Rattle.scr_member_lists.proofs.SeatTables.{seats-none}
 use Rattle.scr_sheet.specs.BalanceSheet.{group_name, is_in, liability_name, position_name, stake_name}
 use Rattle.scr_sheet.specs.Members.{edit_name, is_member, table_of}
 use Rattle.scr_sheet.specs.Records.{applied, natural}

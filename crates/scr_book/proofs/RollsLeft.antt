@@ -4,13 +4,13 @@ use Rattle.std.specs.Prelude.{if◌then◌else◌}
 use Rattle.std.specs.Option.{option_map_or}
 use Rattle.std.proofs.lemmas.Bool.Decides.{Decides-eqb, nat_tests}
 use Rattle.std.proofs.lemmas.List.{length-map}
-use Rattle.scr_names.proofs.TableRows.{same_name-is, same_or_other}
-use Rattle.scr_rolls.specs.Members.{has, moved, returned}
-use Rattle.scr_rolls.specs.Seatings.{NOWHERE, AreSeated, Rejoins, Seated, free, names_of, place_in, roll_in, seats_now, seats_of, stood}
-use Rattle.scr_rolls.specs.declared.seats.Seats.{Seats}
-use Rattle.scr_rolls.proofs.SeatMoves.{nowhere}
-use Rattle.scr_rolls.proofs.SeatReturns.{has-at}
-use Rattle.scr_rolls.proofs.Settled.{moved-same}
+use Rattle.scr_tables.proofs.TableRows.{same_name-is, same_or_other}
+use Rattle.scr_member_lists.specs.Members.{has, moved, returned}
+use Rattle.scr_member_lists.specs.Seatings.{NOWHERE, AreSeated, Rejoins, Seated, free, names_of, place_in, roll_in, seats_now, seats_of, stood}
+use Rattle.scr_member_lists.specs.declared.seats.Seats.{Seats}
+use Rattle.scr_member_lists.proofs.SeatMoves.{nowhere}
+use Rattle.scr_member_lists.proofs.SeatReturns.{has-at}
+use Rattle.scr_member_lists.proofs.Settled.{moved-same}
 use Rattle.scr_sheet.specs.BalanceSheet.{group_name, liability_name, position_name, stake_name}
 use Rattle.scr_sheet.specs.Members.{is_member, is_member_in, table_of}
 use Rattle.scr_sheet.specs.Records.{applied}

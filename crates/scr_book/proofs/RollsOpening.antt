@@ -3,10 +3,10 @@ use Rattle.std.proofs.Common.{◌≡◌, ℕ, zero, suc, ◌+◌, ◌<◌, Bool,
 use Rattle.std.proofs.lemmas.Bool.Decides.{Decides-ltb}
 use Rattle.std.specs.Map.{lookup}
 use Rattle.std.specs.Option.{option_map, option_map_or}
-use Rattle.scr_names.specs.Names.{same_name}
-use Rattle.scr_rolls.specs.Members.{has}
-use Rattle.scr_rolls.specs.Owned.{Owned, number_of}
-use Rattle.scr_rolls.specs.Seatings.{AreSeated, Seated, names_of, seat_of}
+use Rattle.scr_tables.specs.Names.{same_name}
+use Rattle.scr_member_lists.specs.Members.{has}
+use Rattle.scr_member_lists.specs.Owned.{Owned, number_of}
+use Rattle.scr_member_lists.specs.Seatings.{AreSeated, Seated, names_of, seat_of}
 use Rattle.scr_sheet.specs.BalanceSheet.{opening}
 use Rattle.scr_sheet.specs.Members.{is_member, table_of}
 use Rattle.scr_sheet.specs.declared.{keys.Projection.Projection, keys.Table.Table, roll.Roll.Roll, rows.Class.Class, rows.LiabilityKind.LiabilityKind}

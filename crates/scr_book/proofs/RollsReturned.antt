@@ -4,11 +4,11 @@ use Rattle.std.specs.Prelude.{if◌then◌else◌}
 use Rattle.std.specs.Option.{option_map_or}
 use Rattle.std.proofs.lemmas.Bool.{cases_lt}
 use Rattle.std.proofs.lemmas.Bool.Decides.{Decides-eqb}
-use Rattle.scr_names.specs.Names.{same_name}
-use Rattle.scr_names.proofs.TableRows.{same_name-is, same_or_other}
-use Rattle.scr_rolls.specs.Members.{has, returned}
-use Rattle.scr_rolls.specs.Owned.{number_of}
-use Rattle.scr_rolls.specs.Seatings.{AreSeated, Seated, names_of, place_in, roll_in, seat_of, stood}
+use Rattle.scr_tables.specs.Names.{same_name}
+use Rattle.scr_tables.proofs.TableRows.{same_name-is, same_or_other}
+use Rattle.scr_member_lists.specs.Members.{has, returned}
+use Rattle.scr_member_lists.specs.Owned.{number_of}
+use Rattle.scr_member_lists.specs.Seatings.{AreSeated, Seated, names_of, place_in, roll_in, seat_of, stood}
 use Rattle.scr_sheet.specs.Members.{is_member, table_of}
 use Rattle.scr_sheet.specs.declared.{sheet.BalanceSheet.BalanceSheet, keys.Table.Table, roll.Roll.Roll}
 use Rattle.scr_sheet.specs.declared.keys.Table.TheVariants as tables

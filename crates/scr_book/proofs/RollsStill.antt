@@ -2,11 +2,11 @@
 use Rattle.std.proofs.Common.{◌≡◌, ◌⊎◌, inl, inr, ℕ, ℤ, true, false, List, map, None, is_some, refl, sym, ap, subst, ◌∙◌}
 use Rattle.std.specs.List.{IsDistinct}
 use Rattle.std.specs.Option.{option_map_or}
-use Rattle.scr_names.specs.Names.{same_name}
-use Rattle.scr_names.proofs.TableRows.{found-changed, names-changed, row_of-without_own}
-use Rattle.scr_rolls.specs.Members.{has, moved}
-use Rattle.scr_rolls.specs.Seatings.{NOWHERE, AreSeated}
-use Rattle.scr_rolls.proofs.Settled.{moved-same}
+use Rattle.scr_tables.specs.Names.{same_name}
+use Rattle.scr_tables.proofs.TableRows.{found-changed, names-changed, row_of-without_own}
+use Rattle.scr_member_lists.specs.Members.{has, moved}
+use Rattle.scr_member_lists.specs.Seatings.{NOWHERE, AreSeated}
+use Rattle.scr_member_lists.proofs.Settled.{moved-same}
 use Rattle.scr_sheet.specs.BalanceSheet.{group_name, liability_name, position_name, stake_name}
 use Rattle.scr_sheet.specs.Members.{edit_name, has_liability, has_security, is_closed, is_member, is_member_in, table_of}
 use Rattle.scr_sheet.specs.Records.{applied, natural}

@@ -4,10 +4,10 @@ use Rattle.std.proofs.lemmas.List.Sums.{sum_by-cons}
 use Rattle.std.specs.Prelude.{filter}
 use Rattle.std.specs.List.{list_any}
 use Rattle.std.specs.Option.{option_or, option_map_or}
-use Rattle.scr_names.specs.Names.{same_name}
-use Rattle.scr_names.specs.Tables.{row_of, with_row, without}
-use Rattle.scr_names.proofs.TableRows.{passes_or_fails, sum-with_row, sum-without, sum-changed}
-use Rattle.scr_tally.specs.Users.{Tallied, Counts, Moves, IsFresh, IsUnused, uses, uses_one, uses_each, nothing}
+use Rattle.scr_tables.specs.Names.{same_name}
+use Rattle.scr_tables.specs.Tables.{row_of, with_row, without}
+use Rattle.scr_tables.proofs.TableRows.{passes_or_fails, sum-with_row, sum-without, sum-changed}
+use Rattle.scr_counters.specs.Users.{Tallied, Counts, Moves, IsFresh, IsUnused, uses, uses_one, uses_each, nothing}
 use Rattle.scr_sheet.specs.BalanceSheet.{position_name, stake_name, liability_name, bank_name, rein_name, held_of}
 use Rattle.scr_sheet.specs.Records.{applied, natural, kept_flows, kept_hold}
 use Rattle.scr_sheet.specs.CashFlows.{with_flows, no_flows}

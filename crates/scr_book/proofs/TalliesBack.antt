@@ -1,10 +1,10 @@
 -- How the tallies of names move back.
 use Rattle.std.proofs.Common.{◌≡◌, ℕ, ◌+◌, List, Option, Some, None, sum_by, refl, ap, arith}
 use Rattle.std.specs.Option.{option_map_or}
-use Rattle.scr_names.specs.Tables.{row_of}
-use Rattle.scr_names.specs.Pasts.{restored, HasPlace}
-use Rattle.scr_names.specs.declared.past.Past.{Past}
-use Rattle.scr_tally.specs.Users.{Tallied, Counts, Moves, nothing}
+use Rattle.scr_tables.specs.Tables.{row_of}
+use Rattle.scr_tables.specs.Pasts.{restored, HasPlace}
+use Rattle.scr_tables.specs.declared.past.Past.{Past}
+use Rattle.scr_counters.specs.Users.{Tallied, Counts, Moves, nothing}
 use Rattle.scr_sheet.specs.BalanceSheet.{position_name, stake_name, liability_name, bank_name, rein_name}
 use Rattle.scr_sheet.specs.Earlier.{with_earlier, FitsIn}
 use Rattle.scr_sheet.specs.Records.{applied}

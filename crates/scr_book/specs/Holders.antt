@@ -1,6 +1,6 @@
 -- The graph of the funds that a book keeps beside its rows (this project's own), so that no record looks at all funds anew.
 use Rattle.std.specs.Prelude.{◌≡◌}
-use Rattle.scr_graph.specs.Graph.{Graph, components_under}
+use Rattle.scr_fund_graph.specs.Graph.{Graph, components_under}
 use Rattle.scr_sheet.specs.BalanceSheet.{components_of}
 use Rattle.scr_sheet.specs.declared.sheet.BalanceSheet.{BalanceSheet}
 

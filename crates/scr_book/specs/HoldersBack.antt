@@ -1,8 +1,8 @@
 -- What the graph of the funds keeps of a row, and whether it can be moved back by it (this project's own).
 use Rattle.std.specs.Prelude.{Bool, true, false, Option, Some, None}
-use Rattle.scr_graph.specs.Graph.{Graph}
-use Rattle.scr_graph.specs.KeptNumbers.{AreNumbersOf, stands_for}
-use Rattle.scr_graph.specs.declared.kept.KeptComponents.{KeptComponents}
+use Rattle.scr_fund_graph.specs.Graph.{Graph}
+use Rattle.scr_fund_graph.specs.KeptNumbers.{AreNumbersOf, stands_for}
+use Rattle.scr_fund_graph.specs.declared.kept.KeptComponents.{KeptComponents}
 use Rattle.scr_sheet.specs.BalanceSheet.{stake_name}
 use Rattle.scr_sheet.specs.declared.earlier.Earlier.{Earlier}
 use Rattle.scr_sheet.specs.declared.earlier.Earlier.TheVariants as earlier

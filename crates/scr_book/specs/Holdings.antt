@@ -2,8 +2,8 @@
 use Rattle.std.specs.Prelude.{ℕ, ℤ, ◌||◌, ◌&&◌, not, Bool, true, false, List, Option, None, Some}
 use Rattle.std.specs.List.{list_all}
 use Rattle.std.specs.Option.{option_map_or}
-use Rattle.scr_names.specs.Names.{same_name}
-use Rattle.scr_names.specs.Tables.{row_of}
+use Rattle.scr_tables.specs.Names.{same_name}
+use Rattle.scr_tables.specs.Tables.{row_of}
 use Rattle.scr_sheet.specs.BalanceSheet.{is_in, is_named, liability_name}
 use Rattle.scr_sheet.specs.CashFlows.{has_projection}
 use Rattle.scr_sheet.specs.declared.edit.Edit.{Edit}

@@ -1,7 +1,7 @@
 -- The last days of all lists of payments, counted beside the rows (this project's own), so that a reference date looks at no row.
 use Rattle.std.specs.Prelude.{◌≡◌, ℕ, ℤ, ◌+◌, List, sum_by}
 use Rattle.scr_dates.specs.Civil.{IsDay}
-use Rattle.scr_tally.specs.Days.{count_of, ends_on}
+use Rattle.scr_counters.specs.Days.{count_of, ends_on}
 use Rattle.scr_sheet.specs.CashFlows.{last_day, flows_under, all_projections}
 use Rattle.scr_sheet.specs.declared.keys.Projection.{Projection}
 use Rattle.scr_sheet.specs.declared.rows.Liability.{Liability}

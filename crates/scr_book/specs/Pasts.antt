@@ -1,8 +1,8 @@
 -- What goes out of a table and what comes back where what stood before is put back (this project's own).
 use Rattle.std.specs.Prelude.{ℕ, ℤ, List, [], Option, Some, None}
 use Rattle.std.specs.Option.{option_map_or}
-use Rattle.scr_names.specs.declared.past.Past.{Past}
-use Rattle.scr_names.specs.declared.past.Past.TheVariants as pasts
+use Rattle.scr_tables.specs.declared.past.Past.{Past}
+use Rattle.scr_tables.specs.declared.past.Past.TheVariants as pasts
 use Rattle.scr_sheet.specs.declared.rows.Stake.{Stake}
 
 -- the name of the row

@@ -1,8 +1,8 @@
 -- What contracts see of a book (this project's own): its balance sheet, and the member lists of the large sums.
 use Rattle.std.specs.Prelude.{◌≡◌, ◌≢◌, ℕ, ◌==◌, Bool, true, List, Some}
-use Rattle.scr_rolls.specs.Members.{has, moved}
-use Rattle.scr_rolls.specs.Seatings.{NOWHERE, names_of, roll_in, seat_of, seats_of}
-use Rattle.scr_rolls.specs.declared.seating.Numbered.{Numbered}
+use Rattle.scr_member_lists.specs.Members.{has, moved}
+use Rattle.scr_member_lists.specs.Seatings.{NOWHERE, names_of, roll_in, seat_of, seats_of}
+use Rattle.scr_member_lists.specs.declared.seating.Numbered.{Numbered}
 use Rattle.scr_sheet.specs.Members.{edit_name}
 use Rattle.scr_sheet.specs.declared.edit.Edit.{Edit}
 use Rattle.scr_sheet.specs.declared.keys.Table.{Table}

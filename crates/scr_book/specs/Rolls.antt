@@ -2,13 +2,13 @@
 -- members of each, how a record moves them, and how one that is taken back moves them again.
 use Rattle.std.specs.Prelude.{◌≡◌, ◌≢◌, ◌⊎◌, ℕ, ◌+◌, ◌<◌, ◌≤◌, ◌==◌, ◌++◌, ◌∷◌, Bool, false, true, List, [], Option, Some, None, is_some, length, map, not, slice_index_or, slice_set, if◌then◌else◌}
 use Rattle.std.specs.Option.{option_map, option_map_or}
-use Rattle.scr_names.specs.Names.{same_name}
-use Rattle.scr_names.specs.Tables.{has_row, row_of, without}
-use Rattle.scr_rolls.specs.Members.{has, moved, name_at, returned}
-use Rattle.scr_rolls.specs.Owned.{Owned, number_of}
-use Rattle.scr_rolls.specs.Seatings.{NOWHERE, AreSeated, AwaitsSeats, CanReturn, Grows, IsFor, KeepsRoom, KeepsSeats, RegainsSeats, Seated, free, names_of, roll_in, room_of, seat_at, seat_of, seats_now, seats_of, stood, target}
-use Rattle.scr_rolls.specs.declared.seating.Numbered.{Numbered}
-use Rattle.scr_rolls.specs.declared.seats.Seats.{Seats}
+use Rattle.scr_tables.specs.Names.{same_name}
+use Rattle.scr_tables.specs.Tables.{has_row, row_of, without}
+use Rattle.scr_member_lists.specs.Members.{has, moved, name_at, returned}
+use Rattle.scr_member_lists.specs.Owned.{Owned, number_of}
+use Rattle.scr_member_lists.specs.Seatings.{NOWHERE, AreSeated, AwaitsSeats, CanReturn, Grows, IsFor, KeepsRoom, KeepsSeats, RegainsSeats, Seated, free, names_of, roll_in, room_of, seat_at, seat_of, seats_now, seats_of, stood, target}
+use Rattle.scr_member_lists.specs.declared.seating.Numbered.{Numbered}
+use Rattle.scr_member_lists.specs.declared.seats.Seats.{Seats}
 use Rattle.scr_sheet.specs.BalanceSheet.{group_name, is_in, liability_name, position_name, position_of, stake_name}
 use Rattle.scr_sheet.specs.CashFlows.{all_projections}
 use Rattle.scr_sheet.specs.Members.{edit_name, has_flows, is_member, is_paying, table_of}

@@ -1,8 +1,8 @@
 -- How often each name is used (this project's own), so that the drop of what nothing uses looks at no row.
 use Rattle.std.specs.Prelude.{ℕ, ℤ, ◌+◌, List, [], Option, Some, None, sum_by}
 use Rattle.std.specs.Option.{option_map_or}
-use Rattle.scr_names.specs.Tables.{row_of}
-use Rattle.scr_tally.specs.Users.{Counts, Moves, uses_each, uses_one}
+use Rattle.scr_tables.specs.Tables.{row_of}
+use Rattle.scr_counters.specs.Users.{Counts, Moves, uses_each, uses_one}
 use Rattle.scr_sheet.specs.BalanceSheet.{position_name, stake_name, liability_name, bank_name, rein_name}
 use Rattle.scr_sheet.specs.declared.edit.Edit.{Edit}
 use Rattle.scr_sheet.specs.declared.edit.Edit.TheVariants as edits

@@ -1,6 +1,6 @@
 -- What users go and come where what stood in a sheet before is put back (this project's own).
 use Rattle.std.specs.Option.{option_map_or}
-use Rattle.scr_names.specs.declared.past.Past.{Past}
+use Rattle.scr_tables.specs.declared.past.Past.{Past}
 use Rattle.scr_sheet.specs.BalanceSheet.{position_name, stake_name, liability_name, bank_name, rein_name}
 use Rattle.scr_sheet.specs.declared.earlier.Earlier.{Earlier}
 use Rattle.scr_sheet.specs.declared.earlier.Earlier.TheVariants as earlier

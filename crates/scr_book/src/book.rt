@@ -2,8 +2,8 @@
 ghost use Rattle.std.specs.Prelude.{◌≡◌, ◌<◌, ◌↔◌, ℕ, List, [], None, is_some, length, map, position, slice_get, Some, IsNone, IfOk, OnOk, OnErr, IfSome, IsTrue, false};
 ghost use Rattle.std.specs.List.{IsDistinct};
 ghost use Rattle.std.specs.Option.{option_map};
-ghost use Rattle.scr_names.specs.Names.{same_name};
-ghost use Rattle.scr_rolls.specs.Members.{has};
+ghost use Rattle.scr_tables.specs.Names.{same_name};
+ghost use Rattle.scr_member_lists.specs.Members.{has};
 ghost use Rattle.scr_sheet.specs.BalanceSheet.{opening, is_named, held_of};
 ghost use Rattle.scr_sheet.specs.Records.{applied};
 ghost use Rattle.scr_sheet.specs.Faults.{fault_of, Answers};
@@ -24,7 +24,7 @@ use crate::{
     BalanceSheet, Bank, Curve, Edit, Fault, Fund, Group, Liability, Name, Numbers, Rein, Roll,
     Security, Table,
 };
-use scr_rolls::Seating;
+use scr_member_lists::Seating;
 use std::alloc::{AllocError as NoMemory, Global};
 use std::marker::Model;
 use std::mem::drop;

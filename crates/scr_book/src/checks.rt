@@ -5,7 +5,7 @@ ghost use Rattle.scr_sheet.specs.Faults.{list_fault, unknown_name, wrong_kind, i
 ghost use Rattle.scr_sheet.specs.Users.{user_of, absorption_of};
 ghost use Rattle.scr_sheet.specs.Forms.{Formed};
 ghost use Rattle.scr_sheet.specs.declared.sheet.BalanceSheet.{BalanceSheet as Sheet};
-ghost use Rattle.scr_names.specs.Names.{same_name};
+ghost use Rattle.scr_tables.specs.Names.{same_name};
 ghost use Rattle.scr_book.specs.Holders.{IsGraphOf};
 ghost use Rattle.scr_book.specs.Holdings.{is_component, are_components, is_apart, is_group, is_projected, are_in_order};
 
@@ -13,7 +13,7 @@ use crate::due::graph_of;
 use crate::ranges::{check_ranges, is_within};
 use crate::recent::{recent_place, recent_row};
 use crate::{BalanceSheet, Book, Components, Edit, Fault, MAX_FLOWS, Name, Projection, Table};
-use scr_graph::{FundGraph, GraphFault};
+use scr_fund_graph::{FundGraph, GraphFault};
 use scr_sheet::{check_kinds, check_lists, check_names, check_uses};
 use std::alloc::{AllocError as NoMemory, Global};
 

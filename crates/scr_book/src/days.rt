@@ -2,7 +2,7 @@
 ghost use Rattle.std.specs.Prelude.{◌≡◌, ℤ, ◌+◌, ◌<◌, ◌≤◌, ◌^◌, IfSome};
 ghost use Rattle.std.specs.Option.{option_copied, option_map_or};
 ghost use Rattle.scr_dates.specs.Civil.{IsDay};
-ghost use Rattle.scr_tally.specs.Days.{count_of};
+ghost use Rattle.scr_counters.specs.Days.{count_of};
 ghost use Rattle.scr_sheet.specs.CashFlows.{flows_under};
 ghost use Rattle.scr_sheet.specs.Earlier.{with_earlier, FitsIn};
 ghost use Rattle.scr_sheet.specs.Validity.{Valid, IsSecurity, IsLiability, IsProjected};
@@ -10,8 +10,8 @@ ghost use Rattle.scr_book.specs.LastDays.{AreDaysOf, security_ends, projections_
 
 use crate::pasts::{name_in, row_in};
 use crate::{BalanceSheet, Liability, LiabilityFlows, Position, Projection};
+use scr_counters::DayTally;
 use scr_sheet::{Earlier, PROJECTIONS};
-use scr_tally::DayTally;
 
 /// Takes away the lists of the row that goes out where what stood before comes back, and counts those of the one that comes back,
 /// without memory.

@@ -2,9 +2,9 @@
 ghost use Rattle.std.specs.Prelude.{◌≡◌, ◌||◌, ℕ, [], List, map, true, false, not, IfOk, OnOk, OnErr};
 ghost use Rattle.std.specs.List.{IsDistinct};
 ghost use Rattle.scr_funds.specs.Chains.{IsAcyclic, LeadsTo};
-ghost use Rattle.scr_names.specs.Names.{same_name};
-ghost use Rattle.scr_graph.specs.Graph.{components_under, components_after};
-ghost use Rattle.scr_graph.specs.KeptNumbers.{stands_for};
+ghost use Rattle.scr_tables.specs.Names.{same_name};
+ghost use Rattle.scr_fund_graph.specs.Graph.{components_under, components_after};
+ghost use Rattle.scr_fund_graph.specs.KeptNumbers.{stands_for};
 ghost use Rattle.scr_sheet.specs.BalanceSheet.{stake_name, components_of};
 ghost use Rattle.scr_sheet.specs.Earlier.{with_earlier, FitsIn};
 ghost use Rattle.scr_sheet.specs.Validity.{Valid};
@@ -14,7 +14,7 @@ ghost use Rattle.scr_book.specs.Pasts.{name_in, components_in};
 
 use crate::pasts::{name_in, row_in};
 use crate::{BalanceSheet, Stake};
-use scr_graph::{FundGraph, KeptComponents};
+use scr_fund_graph::{FundGraph, KeptComponents};
 use scr_sheet::{Earlier, Past, Rows};
 use std::alloc::{AllocError as NoMemory, Global};
 

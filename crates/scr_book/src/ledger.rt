@@ -5,9 +5,9 @@ ghost use Rattle.scr_sheet.specs.Validity.{Valid};
 
 use crate::sums::{Sums, place_of};
 use crate::{BalanceSheet, Name, Projection};
-use scr_graph::FundGraph;
+use scr_counters::DayTally;
+use scr_fund_graph::FundGraph;
 use scr_profile::Set;
-use scr_tally::DayTally;
 use std::alloc::{AllocError as NoMemory, Global};
 use std::marker::Model;
 

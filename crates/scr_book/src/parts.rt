@@ -1,8 +1,8 @@
 //! What the row of a name is of a sum or a count that the ledger keeps.
 ghost use Rattle.std.specs.Prelude.{◌≡◌, ℤ, [], ◌+◌, ◌≤◌, length};
 ghost use Rattle.std.specs.Option.{option_map_or};
-ghost use Rattle.scr_names.specs.Tables.{row_of};
-ghost use Rattle.scr_tally.specs.Days.{ends_on, IsDayOrNone};
+ghost use Rattle.scr_tables.specs.Tables.{row_of};
+ghost use Rattle.scr_counters.specs.Days.{ends_on, IsDayOrNone};
 ghost use Rattle.scr_sheet.specs.CashFlows.{total, last_day, flows_under};
 ghost use Rattle.scr_sheet.specs.Records.{kept_flows};
 ghost use Rattle.scr_book.specs.LastDays.{lists_ending};

@@ -8,7 +8,7 @@ ghost use Rattle.scr_sheet.specs.Faults.{fault_of};
 ghost use Rattle.scr_sheet.specs.Forms.{Formed};
 ghost use Rattle.scr_sheet.specs.Records.{applied};
 ghost use Rattle.scr_sheet.specs.Validity.{Valid};
-ghost use Rattle.scr_names.specs.Tables.{row_of, changed};
+ghost use Rattle.scr_tables.specs.Tables.{row_of, changed};
 ghost use Rattle.scr_book.specs.Verbs.{is_of_numbers, takes_no_memory, hands_in_payments};
 
 use crate::days::take_projected;

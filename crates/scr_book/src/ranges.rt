@@ -3,7 +3,7 @@
 ghost use Rattle.std.specs.Prelude.{◌≡◌, ◌^◌, ◌+◌, ◌-◌, ◌<◌, ◌≤◌, ◌↔◌, [], IsTrue, None, pos, true, if◌then◌else◌, length, max};
 ghost use Rattle.std.specs.Option.{option_or, option_map_or};
 ghost use Rattle.scr_dates.specs.Civil.{IsDay};
-ghost use Rattle.scr_names.specs.Tables.{row_of, rows_with};
+ghost use Rattle.scr_tables.specs.Tables.{row_of, rows_with};
 ghost use Rattle.scr_sheet.specs.CashFlows as cash;
 ghost use Rattle.scr_sheet.specs.CashFlows.{greatest_years, flows_under};
 ghost use Rattle.scr_sheet.specs.BalanceSheet.{liability_name, bank_name, rein_name, held_of, held_total, liability_flows_total, volumes_total, defaults_total, components_total, stake_name, greatest, security_years, liability_years};

@@ -2,10 +2,10 @@
 //! is tried before any name is looked up, which costs a comparison in the place of a hash.
 ghost use Rattle.std.specs.Prelude.{◌≡◌, Some, IfSome, is_some, map, slice_get};
 ghost use Rattle.std.specs.Option.{option_copied, option_map};
-ghost use Rattle.scr_names.specs.Tables.{has_row, row_of};
+ghost use Rattle.scr_tables.specs.Tables.{has_row, row_of};
 
 use crate::Name;
-use scr_names::{Row, Rows};
+use scr_tables::{Row, Rows};
 
 // The place of the row of this name.
 pub(crate) fn recent_place<R: Row>(rows: &Rows<R>, name: &Name) -> Option<usize>

@@ -1,12 +1,12 @@
 //! The member lists of the large sums, as the book keeps them beside its rows.
 ghost use Rattle.std.specs.Prelude.{◌≡◌, ◌≢◌, ℕ, ℤ, ◌+◌, ◌<◌, ◌≤◌, ◌==◌, ◌++◌, true, false, [], ◌∷◌, Option, Some, None, IfOk, IfSome, OnErr, if◌then◌else◌, is_some, length, map, position, slice_index_or};
 ghost use Rattle.std.specs.Option.{option_map, option_map_or};
-ghost use Rattle.scr_names.specs.Names.{same_name};
-ghost use Rattle.scr_names.specs.Tables.{has_row, row_of};
+ghost use Rattle.scr_tables.specs.Names.{same_name};
+ghost use Rattle.scr_tables.specs.Tables.{has_row, row_of};
 ghost use Rattle.scr_profile.specs.declared.group_kind.GroupKind.{GroupKind};
-ghost use Rattle.scr_rolls.specs.Members.{has, moved};
-ghost use Rattle.scr_rolls.specs.Owned.{number_of};
-ghost use Rattle.scr_rolls.specs.Seatings.{NOWHERE, AreSeated, AwaitsSeats, IsFor, KeepsRoom, KeepsSeats, names_of, roll_in, room_of, seat_of, seats_of, stood, target};
+ghost use Rattle.scr_member_lists.specs.Members.{has, moved};
+ghost use Rattle.scr_member_lists.specs.Owned.{number_of};
+ghost use Rattle.scr_member_lists.specs.Seatings.{NOWHERE, AreSeated, AwaitsSeats, IsFor, KeepsRoom, KeepsSeats, names_of, roll_in, room_of, seat_of, seats_of, stood, target};
 ghost use Rattle.scr_sheet.specs.BalanceSheet.{liability_name, opening, position_of};
 ghost use Rattle.scr_sheet.specs.CashFlows.{all_projections};
 ghost use Rattle.scr_sheet.specs.Members.{edit_name, has_flows, table_of};
@@ -22,9 +22,9 @@ use crate::sums::place_of;
 use crate::{
     BalanceSheet, Class, Components, Edit, Flows, Liability, LiabilityKind, Name, Projection, Table,
 };
-use scr_names::{Row, Rows};
-use scr_rolls::{NOWHERE, Owners, Seating, Seats};
+use scr_member_lists::{NOWHERE, Owners, Seating, Seats};
 use scr_sheet::{Roll, has_flows, is_paying};
+use scr_tables::{Row, Rows};
 use std::alloc::{AllocError as NoMemory, Global};
 
 // The numbers of the rolls that have no owner: those of the ten classes come first among those of securities, and those of the

@@ -13,7 +13,7 @@ use crate::ledger::Ledger;
 use crate::rolls::Standing;
 use crate::sums::Sums;
 use crate::{Book, Edit, Fault, days, due};
-use scr_graph::KeptComponents;
+use scr_fund_graph::KeptComponents;
 use scr_sheet::Earlier;
 use std::alloc::{AllocError as NoMemory, Global};
 

@@ -1,7 +1,7 @@
 //! How often each name is used: a group by securities, banks and reinsurers, a security or a fund by funds, and a currency by
 //! securities and liabilities. Nothing is counted before the first record that drops a row.
 ghost use Rattle.std.specs.Prelude.{◌≡◌, List, [], Some, None, true};
-ghost use Rattle.scr_tally.specs.Users.{nothing, Moves};
+ghost use Rattle.scr_counters.specs.Users.{nothing, Moves};
 ghost use Rattle.scr_sheet.specs.Records.{applied};
 ghost use Rattle.scr_sheet.specs.declared.sheet.BalanceSheet.{BalanceSheet as Sheet};
 ghost use Rattle.scr_sheet.specs.Earlier.{with_earlier, FitsIn};
@@ -10,8 +10,8 @@ ghost use Rattle.scr_book.specs.UsersBack.{past_uses, used_now, used_then};
 
 use crate::pasts::{name_in, row_in};
 use crate::{BalanceSheet, Bank, Edit, Liability, Name, Position, Rein, Stake, Table};
+use scr_counters::NameTally;
 use scr_sheet::{Earlier, Past, Row, Rows};
-use scr_tally::NameTally;
 use std::alloc::Global;
 use std::marker::Model;
 

@@ -6,7 +6,7 @@ use Rattle.scr_num.specs.Enclosure.{Encloses}
 use Rattle.scr_num.specs.Figure.{Figure}
 use Rattle.scr_num.specs.Rounding.{Ends}
 use Rattle.scr_num.proofs.Enclosing.{Encloses-coarser}
-use Rattle.scr_names.proofs.TableRows.{All-both, All-map}
+use Rattle.scr_tables.proofs.TableRows.{All-both, All-map}
 use Rattle.scr_factors.specs.Values.{FactorValues, IsInForm}
 use Rattle.scr_sheet.specs.declared.sheet.BalanceSheet.{BalanceSheet}
 use Rattle.scr_sheet.specs.Validity.{Valid}

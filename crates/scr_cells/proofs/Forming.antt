@@ -5,8 +5,8 @@ use Rattle.std.proofs.lemmas.List.{append-nil, drop-drop, drop_all, drop_at, dro
 use Rattle.std.proofs.lemmas.Option.{get_or_from_slice_get, slice_get_within}
 use Rattle.scr_factors.specs.Values.{FactorValues}
 use Rattle.scr_sheet.specs.declared.sheet.BalanceSheet.{BalanceSheet}
-use Rattle.scr_subtotals.specs.Marks.{figure_of}
-use Rattle.scr_subtotals.specs.declared.cell.Mark.{Mark}
+use Rattle.scr_partial_sums.specs.Marks.{figure_of}
+use Rattle.scr_partial_sums.specs.declared.cell.Mark.{Mark}
 use Rattle.scr_cells.specs.Block.{block_text, cell_line}
 use Rattle.scr_cells.specs.Lines.{AreLines, IsBlock, IsLineOf, LineList, figure_line}
 use Rattle.scr_cells.specs.Table.{NamedFigure, table}

@@ -1,8 +1,8 @@
 -- Lines in their places, and which part of the text is that of each.
 use Rattle.std.proofs.Common.{◌≡◌, ◌∙◌, ℕ, zero, suc, ◌≤◌, ◌++◌, List, [], ◌∷◌, length, take, drop, Some, None, slice_get, refl, sym, ap, subst, arith}
 use Rattle.std.proofs.lemmas.List.{drop-append-le, drop_all, length-take, take-append-le, take_all}
-use Rattle.scr_figures.specs.Families.{family_of}
-use Rattle.scr_subtotals.specs.declared.cell.Mark.{Mark}
+use Rattle.scr_figure_ids.specs.Families.{family_of}
+use Rattle.scr_partial_sums.specs.declared.cell.Mark.{Mark}
 use Rattle.scr_cells.specs.Lines.{AreLines, IsLineOf, LineList}
 use Rattle.scr_cells.specs.Table.{NamedFigure}
 use Rattle.scr_cells.specs.declared.lines.Line.{Line}

@@ -3,7 +3,7 @@ use Rattle.std.proofs.Common.{◌≡◌, ℕ, zero, suc, true, false, Bool, List
 use Rattle.std.specs.Prelude.{◌==◌, slice_get}
 use Rattle.std.proofs.lemmas.Bool.{eqb-true}
 use Rattle.std.specs.List.{AllByRecursion, list_all}
-use Rattle.scr_names.proofs.TableRows.{All-map}
+use Rattle.scr_tables.proofs.TableRows.{All-map}
 use Rattle.scr_sheet.specs.declared.sheet.BalanceSheet.{BalanceSheet}
 use Rattle.scr_nodes.specs.Live.{is_live}
 use Rattle.scr_exact.specs.Exact.{unit_of}

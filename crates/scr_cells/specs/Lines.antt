@@ -2,10 +2,10 @@
 -- figure.
 use Rattle.std.specs.Prelude.{◌≡◌, ℕ, List, [], ◌∷◌, Some, drop, length, take}
 use Rattle.scr_num.specs.Rounding.{ends}
-use Rattle.scr_figures.specs.Families.{family_of}
-use Rattle.scr_subtotals.specs.Marks.{figure_of}
-use Rattle.scr_subtotals.specs.declared.cell.Mark.{Mark}
-use Rattle.scr_subtotals.specs.declared.figure.Figure.{Figure}
+use Rattle.scr_figure_ids.specs.Families.{family_of}
+use Rattle.scr_partial_sums.specs.Marks.{figure_of}
+use Rattle.scr_partial_sums.specs.declared.cell.Mark.{Mark}
+use Rattle.scr_partial_sums.specs.declared.figure.Figure.{Figure}
 use Rattle.scr_cells.specs.Block.{bounds_line, bounds_of}
 use Rattle.scr_cells.specs.Table.{NamedFigure, table}
 use Rattle.scr_cells.specs.declared.lines.Line.{Line}

@@ -9,9 +9,9 @@ use Rattle.std.proofs.lemmas.Bool.{cases_Bool, and_parts, or_parts, eqb-true}
 use Rattle.std.proofs.lemmas.List.{take_all}
 use Rattle.scr_dates.specs.declared.day.Day.{Day}
 use Rattle.scr_dates.specs.Text.{has_date_form, has_two_digits, day_of_text}
-use Rattle.scr_names.specs.Names.{is_name, is_name_byte}
-use Rattle.scr_spelling.specs.FieldForms.{name_of, group_of}
-use Rattle.scr_spelling.proofs.FormLemmas.{list_all-weaker}
+use Rattle.scr_tables.specs.Names.{is_name, is_name_byte}
+use Rattle.scr_fields.specs.FieldForms.{name_of, group_of}
+use Rattle.scr_fields.proofs.FormLemmas.{list_all-weaker}
 use Rattle.scr_csv.specs.Parts.{parts, behind, first_as}
 use Rattle.scr_csv.specs.declared.fault.LineFault.TheVariants.{Syntax}
 use Rattle.scr_csv.specs.Reading.{Rest, field, next, read_to}

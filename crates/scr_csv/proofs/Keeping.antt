@@ -13,9 +13,9 @@ use Rattle.scr_sheet.specs.declared.fault.Fault.{Fault}
 use Rattle.scr_sheet.specs.declared.fault.Fault.TheVariants as faults
 use Rattle.scr_sheet.specs.declared.sheet.BalanceSheet.{BalanceSheet}
 use Rattle.scr_sheet.specs.Faults.{too_long, rates_fault, components_fault, list_fault, fault_of}
-use Rattle.scr_spelling.specs.FieldForms.{name_of, currency_of, group_of, step_of, segment_of, region_of, absorb_key_of}
-use Rattle.scr_spelling.specs.Numbers.{number_value}
-use Rattle.scr_spelling.specs.Words.{value_of, table_word, all_tables, group_kind_word, all_group_kinds, class_word, all_classes, liability_kind_word, all_liability_kinds, projection_word, all_projections, set_word, all_sets, cat_key_word, all_cat_keys}
+use Rattle.scr_fields.specs.FieldForms.{name_of, currency_of, group_of, step_of, segment_of, region_of, absorb_key_of}
+use Rattle.scr_fields.specs.Numbers.{number_value}
+use Rattle.scr_fields.specs.Words.{value_of, table_word, all_tables, group_kind_word, all_group_kinds, class_word, all_classes, liability_kind_word, all_liability_kinds, projection_word, all_projections, set_word, all_sets, cat_key_word, all_cat_keys}
 use Rattle.scr_csv.specs.declared.{fault.LineFault.LineFault, verb.Verb.Verb}
 use Rattle.scr_csv.specs.declared.verb.Verb.TheVariants as verbs
 use Rattle.scr_csv.specs.Kept.{kept_members, kept, kept_record_of, any_kept_record}

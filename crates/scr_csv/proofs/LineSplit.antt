@@ -10,7 +10,7 @@ use Rattle.csv.specs.declared.parser.State.{State}
 use Rattle.csv.specs.declared.parser.State.TheVariants as state
 use Rattle.csv.specs.declared.parser.Action.{Action}
 use Rattle.csv.specs.declared.parser.Action.TheVariants as action
-use Rattle.scr_spelling.proofs.FormLemmas.{list_all-weaker}
+use Rattle.scr_fields.proofs.FormLemmas.{list_all-weaker}
 use Rattle.scr_csv.specs.LineFields.{fields_read, line_fields, is_printed, is_quote, is_plain}
 use Rattle.scr_csv.specs.Parts.{pieces}
 use Rattle.scr_csv.specs.Splits.{joined}

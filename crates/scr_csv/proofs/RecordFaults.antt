@@ -16,12 +16,12 @@ use Rattle.scr_sheet.specs.declared.keys.Projection.TheVariants as projections
 use Rattle.scr_sheet.specs.declared.keys.Table.TheVariants as tables
 use Rattle.scr_sheet.specs.declared.rows.Class.TheVariants as classes
 use Rattle.scr_sheet.specs.declared.rows.LiabilityKind.TheVariants as liabilities
-use Rattle.scr_spelling.specs.FieldForms.{name_of, currency_of, group_of, step_of, small_number, segment_of, region_of, absorb_key_of}
-use Rattle.scr_spelling.specs.Numbers.{number_value}
-use Rattle.scr_spelling.specs.Words.{value_of}
-use Rattle.scr_spelling.proofs.AbsorbKeys.{currency_found, key_read}
-use Rattle.scr_spelling.proofs.Spelled.{Spelled, spelled_table, spelled_group_kind, spelled_class, spelled_liability_kind, spelled_projection, spelled_set, spelled_cat_key}
-use Rattle.scr_spelling.proofs.WrittenForms.{name_read, group_read, step_read}
+use Rattle.scr_fields.specs.FieldForms.{name_of, currency_of, group_of, step_of, small_number, segment_of, region_of, absorb_key_of}
+use Rattle.scr_fields.specs.Numbers.{number_value}
+use Rattle.scr_fields.specs.Words.{value_of}
+use Rattle.scr_fields.proofs.AbsorbKeys.{currency_found, key_read}
+use Rattle.scr_fields.proofs.Spelled.{Spelled, spelled_table, spelled_group_kind, spelled_class, spelled_liability_kind, spelled_projection, spelled_set, spelled_cat_key}
+use Rattle.scr_fields.proofs.WrittenForms.{name_read, group_read, step_read}
 use Rattle.scr_csv.specs.declared.{fault.LineFault.LineFault, verb.Verb.Verb}
 use Rattle.scr_csv.specs.declared.fault.LineFault.TheVariants.{Syntax}
 use Rattle.scr_csv.specs.declared.verb.Verb.TheVariants as verbs

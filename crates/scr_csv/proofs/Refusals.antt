@@ -2,7 +2,7 @@
 use Rattle.std.proofs.Common.{◌≡◌, ℕ, suc, ℤ, pos, ◌+◌, ◌<◌, ◌≤◌, List, [], ◌∷◌, ◌++◌, length, take, Option, Some, None, Result, Ok, Err, refl, sym, ap, ◌∙◌, codes, arith}
 use Rattle.scr_csv.specs.declared.fault.LineFault.{LineFault}
 use Rattle.scr_csv.specs.declared.fault.LineFault.TheVariants.{Syntax}
-use Rattle.scr_spelling.specs.Numbers.{number_value}
+use Rattle.scr_fields.specs.Numbers.{number_value}
 use Rattle.scr_csv.specs.Reading.{Rest, ◌>>=◌, field, next, only, value_in, made, listed, both, numbers_from, pairs_from}
 
 -- the fields from number n on

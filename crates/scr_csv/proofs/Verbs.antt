@@ -1,7 +1,7 @@
 -- Each verb is read from its word, which has neither commas nor double quotes.
 use Rattle.std.proofs.Common.{rules}
-use Rattle.scr_spelling.specs.Words.{value_of}
-use Rattle.scr_spelling.proofs.Spelled.{Spelled}
+use Rattle.scr_fields.specs.Words.{value_of}
+use Rattle.scr_fields.proofs.Spelled.{Spelled}
 use Rattle.scr_csv.specs.Verbs.{verb_word, all_verbs}
 use Rattle.scr_csv.specs.declared.verb.Verb.{Verb}
 

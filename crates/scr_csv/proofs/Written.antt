@@ -10,16 +10,16 @@ use Rattle.scr_dates.specs.Text.{day_of_text}
 use Rattle.scr_sheet.specs.Forms.{IsNumber, AreFlows, AreComponents, Formed}
 use Rattle.scr_sheet.specs.declared.edit.Edit.{Edit}
 use Rattle.scr_sheet.specs.declared.edit.Edit.TheVariants as edits
-use Rattle.scr_spelling.specs.FieldForms.{name_of}
-use Rattle.scr_spelling.specs.Texts.{number_text}
-use Rattle.scr_spelling.specs.Words.{value_of}
-use Rattle.scr_spelling.proofs.AbsorbKeys.{currency_found, key_read}
-use Rattle.scr_spelling.proofs.FormLemmas.{list_all-weaker}
-use Rattle.scr_spelling.proofs.PlainTexts.{Plain, is_plain, name_plain, currency_plain, absorb_key_plain}
-use Rattle.scr_spelling.proofs.Spelled.{spelled_table, spelled_group_kind, spelled_class, spelled_liability_kind, spelled_projection, spelled_set, spelled_cat_key}
-use Rattle.scr_spelling.proofs.WrittenDays.{day_read, day_plain}
-use Rattle.scr_spelling.proofs.WrittenForms.{name_read, group_read, group_plain, step_read, step_plain, segment_fits, segment_read, region_read}
-use Rattle.scr_spelling.proofs.WrittenNumbers.{number_read, number_plain}
+use Rattle.scr_fields.specs.FieldForms.{name_of}
+use Rattle.scr_fields.specs.Texts.{number_text}
+use Rattle.scr_fields.specs.Words.{value_of}
+use Rattle.scr_fields.proofs.AbsorbKeys.{currency_found, key_read}
+use Rattle.scr_fields.proofs.FormLemmas.{list_all-weaker}
+use Rattle.scr_fields.proofs.PlainTexts.{Plain, is_plain, name_plain, currency_plain, absorb_key_plain}
+use Rattle.scr_fields.proofs.Spelled.{spelled_table, spelled_group_kind, spelled_class, spelled_liability_kind, spelled_projection, spelled_set, spelled_cat_key}
+use Rattle.scr_fields.proofs.WrittenDays.{day_read, day_plain}
+use Rattle.scr_fields.proofs.WrittenForms.{name_read, group_read, group_plain, step_read, step_plain, segment_fits, segment_read, region_read}
+use Rattle.scr_fields.proofs.WrittenNumbers.{number_read, number_plain}
 use Rattle.scr_csv.specs.declared.verb.Verb.{Verb}
 use Rattle.scr_csv.specs.LineFields.{is_printed, is_quote}
 use Rattle.scr_csv.specs.Reading.{next, field, only, numbers_from, pairs_from}

@@ -2,8 +2,8 @@
 use Rattle.std.specs.Prelude.{ℕ, List}
 use Rattle.scr_csv.specs.declared.write.Field.{Field}
 use Rattle.scr_csv.specs.declared.write.Field.TheVariants as fields
-use Rattle.scr_spelling.specs.KeyWords.{absorb_text}
-use Rattle.scr_spelling.specs.Texts.{number_text, day_text}
+use Rattle.scr_fields.specs.KeyWords.{absorb_text}
+use Rattle.scr_fields.specs.Texts.{number_text, day_text}
 
 abbrev pub field_text : Field → List ℕ
 field_text (fields.Word word) = word.now

@@ -4,8 +4,8 @@ use Rattle.scr_dates.specs.Text.{day_of_text}
 use Rattle.scr_profile.specs.declared.limits.TheConstants.{MAX_RATES, MAX_FLOWS, MAX_FUND_COMPONENTS}
 use Rattle.scr_sheet.specs.declared.edit.Edit.{Edit}
 use Rattle.scr_sheet.specs.declared.edit.Edit.TheVariants as edits
-use Rattle.scr_spelling.specs.FieldForms.{name_of, currency_of}
-use Rattle.scr_spelling.specs.Words.{value_of, projection_word, all_projections}
+use Rattle.scr_fields.specs.FieldForms.{name_of, currency_of}
+use Rattle.scr_fields.specs.Words.{value_of, projection_word, all_projections}
 use Rattle.scr_csv.specs.declared.verb.Verb.{Verb}
 use Rattle.scr_csv.specs.declared.verb.Verb.TheVariants as verbs
 use Rattle.scr_csv.specs.Reading.{◌>>=◌, next, numbers_from, pairs_from, made}

@@ -4,9 +4,9 @@ use Rattle.std.specs.Prelude.{ℕ, ℤ, pos, ◌++◌, ◌∷◌, List, [], map,
 use Rattle.scr_dates.specs.declared.day.Day.{Day}
 use Rattle.scr_sheet.specs.declared.edit.Edit.{Edit}
 use Rattle.scr_sheet.specs.declared.edit.Edit.TheVariants as edits
-use Rattle.scr_spelling.specs.KeyWords.{absorb_text}
-use Rattle.scr_spelling.specs.Texts.{number_text, day_text, or_dash, step_text}
-use Rattle.scr_spelling.specs.Words.{table_word, group_kind_word, class_word, liability_kind_word, projection_word, set_word, cat_key_word}
+use Rattle.scr_fields.specs.KeyWords.{absorb_text}
+use Rattle.scr_fields.specs.Texts.{number_text, day_text, or_dash, step_text}
+use Rattle.scr_fields.specs.Words.{table_word, group_kind_word, class_word, liability_kind_word, projection_word, set_word, cat_key_word}
 use Rattle.scr_csv.specs.declared.verb.Verb.{Verb}
 use Rattle.scr_csv.specs.declared.verb.Verb.TheVariants as verbs
 use Rattle.scr_csv.specs.Verbs.{verb_word}

@@ -7,11 +7,11 @@ use Rattle.scr_sheet.specs.declared.edit.Edit.TheVariants as edits
 use Rattle.scr_csv.specs.declared.{fault.LineFault.LineFault, verb.Verb.Verb}
 use Rattle.scr_csv.specs.declared.fault.LineFault.TheVariants.{Syntax}
 use Rattle.scr_csv.specs.declared.verb.Verb.TheVariants as verbs
-use Rattle.scr_spelling.specs.FieldForms.{name_of, currency_of, group_of, step_of, segment_of, region_of, absorb_key_of}
+use Rattle.scr_fields.specs.FieldForms.{name_of, currency_of, group_of, step_of, segment_of, region_of, absorb_key_of}
 use Rattle.scr_csv.specs.LineFields.{line_fields, is_printed}
-use Rattle.scr_spelling.specs.Numbers.{number_value}
+use Rattle.scr_fields.specs.Numbers.{number_value}
 use Rattle.scr_csv.specs.Reading.{Rest, ◌>>=◌, next, only, numbers_from, pairs_from, made}
-use Rattle.scr_spelling.specs.Words.{value_of, table_word, all_tables, group_kind_word, all_group_kinds, class_word, all_classes, liability_kind_word, all_liability_kinds, projection_word, all_projections, set_word, all_sets, cat_key_word, all_cat_keys}
+use Rattle.scr_fields.specs.Words.{value_of, table_word, all_tables, group_kind_word, all_group_kinds, class_word, all_classes, liability_kind_word, all_liability_kinds, projection_word, all_projections, set_word, all_sets, cat_key_word, all_cat_keys}
 use Rattle.scr_csv.specs.Verbs.{verb_word, all_verbs}
 
 -- what follows the verb: the fields that make the record

@@ -9,23 +9,23 @@ ghost use Rattle.scr_dates.specs.Text.{day_of_text};
 ghost use Rattle.scr_profile.specs.Segments.{segments};
 ghost use Rattle.scr_profile.specs.declared.limits.TheConstants as limits;
 ghost use Rattle.scr_sheet.specs.Forms as formed;
-ghost use Rattle.scr_spelling.specs.FieldForms as forms_of;
-ghost use Rattle.scr_spelling.specs.Numbers.{number_value};
+ghost use Rattle.scr_fields.specs.FieldForms as forms_of;
+ghost use Rattle.scr_fields.specs.Numbers.{number_value};
 ghost use Rattle.scr_csv.specs.Kept.{kept_members};
 ghost use Rattle.scr_csv.specs.Reading.{field, next, only, found_to, read_to, made, numbers_from};
 ghost use Rattle.scr_csv.specs.Reading.{pairs_from, Answers};
 ghost use Rattle.scr_csv.specs.LineFields.{line_fields, is_printed, is_quote};
 ghost use Rattle.scr_csv.specs.Parts.{parts};
 ghost use Rattle.scr_csv.specs.Verbs.{verb_word, all_verbs};
-ghost use Rattle.scr_spelling.specs.Words.{value_of, class_word, all_classes};
+ghost use Rattle.scr_fields.specs.Words.{value_of, class_word, all_classes};
 
 use crate::LineFault;
 use crate::source::Source;
 use crate::verb::{Verb, verb_of};
 use scr_dates::{Day, parse_day};
+use scr_fields::{Word, class, forms, read_number, value};
 use scr_profile::{MAX_FLOWS, MAX_FUND_COMPONENTS, MAX_RATES, Set};
 use scr_sheet::{AbsorbKey, Class, Components, Edit, Flows, Name, Rates};
-use scr_spelling::{Word, class, forms, read_number, value};
 use std::alloc::{AllocError as NoMemory, Global};
 use std::marker::Model;
 

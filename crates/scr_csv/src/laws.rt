@@ -5,7 +5,7 @@ ghost use Rattle.scr_sheet.specs.declared.edit.Edit.{Edit};
 ghost use Rattle.scr_sheet.specs.declared.sheet.BalanceSheet.{BalanceSheet};
 ghost use Rattle.scr_sheet.specs.Faults.{fault_of, list_fault};
 ghost use Rattle.scr_sheet.specs.Forms.{Formed};
-ghost use Rattle.scr_spelling.specs.Words.{value_of};
+ghost use Rattle.scr_fields.specs.Words.{value_of};
 ghost use Rattle.scr_csv.specs.RecordTexts.{edit_text};
 ghost use Rattle.scr_csv.specs.Kept.{kept};
 ghost use Rattle.scr_csv.specs.LineFields.{line_fields, is_printed};

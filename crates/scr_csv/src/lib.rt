@@ -16,6 +16,6 @@ mod write;
 pub use fault::LineFault;
 pub use file::lines;
 pub use read::read_line;
-pub use scr_spelling::push_absorb_key;
+pub use scr_fields::push_absorb_key;
 pub use walk::{Line, Lines};
 pub use write::write_edit;

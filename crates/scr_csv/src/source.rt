@@ -7,15 +7,15 @@ ghost use Rattle.scr_dates.specs.Civil.{IsDay};
 ghost use Rattle.scr_dates.specs.Text.{day_of_text};
 ghost use Rattle.scr_profile.specs.declared.limits.TheConstants as limits;
 ghost use Rattle.scr_sheet.specs.Forms as formed;
-ghost use Rattle.scr_spelling.specs.FieldForms as forms_of;
-ghost use Rattle.scr_spelling.specs.Numbers.{number_value};
+ghost use Rattle.scr_fields.specs.FieldForms as forms_of;
+ghost use Rattle.scr_fields.specs.Numbers.{number_value};
 ghost use Rattle.scr_csv.specs.LineFields.{line_fields, is_printed, is_quote};
 ghost use Rattle.scr_csv.specs.Parts.{parts, behind};
 
 use scr_dates::{Day, parse_day};
+use scr_fields::leading_number;
 use scr_profile::MAX_FLOWS;
 use scr_sheet::Name;
-use scr_spelling::leading_number;
 use std::alloc::{AllocError as NoMemory, Global};
 
 /// How many bytes the text of a day has.

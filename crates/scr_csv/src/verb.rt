@@ -1,9 +1,9 @@
 //! The verbs of records.
 ghost use Rattle.std.specs.Prelude.{◌≡◌};
-ghost use Rattle.scr_spelling.specs.Words.{value_of};
+ghost use Rattle.scr_fields.specs.Words.{value_of};
 ghost use Rattle.scr_csv.specs.Verbs.{verb_word, all_verbs};
 
-use scr_spelling::{Word, value};
+use scr_fields::{Word, value};
 
 /// The verbs of records.
 #[derive(Clone, Copy)]
@@ -58,7 +58,7 @@ const VERBS: [Verb; 22] = [
 ];
 
 /// The verb that the field is.
-#[tactic(auto, unfolding(scr_spelling::specs::Words::value_of))]
+#[tactic(auto, unfolding(scr_fields::specs::Words::value_of))]
 pub fn verb_of(text: &[u8]) -> Option<Verb>
     ensures { result ≡ value_of verb_word all_verbs text.now }
 {

@@ -2,16 +2,16 @@
 #![tactic(auto, unfolding(crate::specs::RecordTexts::edit_text, crate::specs::RecordTexts::record_text, crate::specs::RecordTexts::next_field))]
 
 ghost use Rattle.std.specs.Prelude.{◌≡◌, ◌++◌, ◌∷◌, [], map, flat_map, is_ok, OnOk, if◌then◌else◌};
-ghost use Rattle.scr_spelling.specs.Texts.{number_text, step_text, or_dash};
+ghost use Rattle.scr_fields.specs.Texts.{number_text, step_text, or_dash};
 ghost use Rattle.scr_csv.specs.FieldTexts.{field_text};
 ghost use Rattle.scr_csv.specs.RecordTexts.{edit_text, edit_verb, record_text, next_field};
 ghost use Rattle.scr_csv.specs.RecordTexts.{flow_fields, component_fields};
 
 use crate::verb::Verb;
 use scr_dates::Day;
+use scr_fields::{Word, push_absorb_key, push_day, push_number};
 use scr_profile::GroupKind;
 use scr_sheet::{AbsorbKey, Edit, LiabilityKind, Name, Projection, Table};
-use scr_spelling::{Word, push_absorb_key, push_day, push_number};
 use std::alloc::{AllocError as NoMemory, Global};
 
 /// What a field of a record says.

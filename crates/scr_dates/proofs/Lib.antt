@@ -3,3 +3,4 @@ pub mod Lanes
 pub mod Texts
 pub mod Anniversaries
 pub mod LastDays
+pub mod Found

@@ -12,9 +12,9 @@ use Rattle.scr_yield_curve.specs.Falls.{differences}
 use Rattle.scr_yield_curve.specs.Parts.{rates_in_parts}
 use Rattle.scr_yield_curve.specs.declared.table.Discounts.{Discounts}
 use Rattle.scr_yield_curve.specs.declared.tilt.Tilt.TheVariants as tilts
-use Rattle.scr_names.specs.Names.{same_name}
-use Rattle.scr_names.specs.Tables.{with_row}
-use Rattle.scr_names.proofs.TableRows.{same_name-itself}
+use Rattle.scr_tables.specs.Names.{same_name}
+use Rattle.scr_tables.specs.Tables.{with_row}
+use Rattle.scr_tables.proofs.TableRows.{same_name-itself}
 use Rattle.scr_sheet.specs.BalanceSheet.{curve_name}
 use Rattle.scr_sheet.specs.Validity.{IsCurve, Valid}
 use Rattle.scr_sheet.specs.declared.{rows.Curve.Curve, sheet.BalanceSheet.BalanceSheet}

@@ -6,7 +6,7 @@ use Rattle.scr_yield_curve.specs.DiscountEnds.{IsDiscount, EncloseDiscounts}
 use Rattle.scr_yield_curve.specs.Rate.{rate}
 use Rattle.scr_yield_curve.specs.declared.table.Discounts.{Discounts}
 use Rattle.scr_yield_curve.specs.declared.tilt.Tilt.TheVariants as tilts
-use Rattle.scr_names.specs.Names.{same_name}
+use Rattle.scr_tables.specs.Names.{same_name}
 use Rattle.scr_sheet.specs.declared.rows.Curve.{Curve}
 use Rattle.scr_sheet.specs.declared.sheet.BalanceSheet.{BalanceSheet}
 use Rattle.scr_discounts.specs.Discounts.{CurrencyDiscounts, discounts_at, no_discounts}

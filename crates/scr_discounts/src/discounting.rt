@@ -1,14 +1,14 @@
 //! The discounts of all currencies of a balance sheet.
 ghost use Rattle.std.specs.Prelude.{◌≡◌, false, Some, slice_get, IfOk};
-ghost use Rattle.scr_names.specs.Names.{same_name};
+ghost use Rattle.scr_tables.specs.Names.{same_name};
 ghost use Rattle.scr_sheet.specs.Validity.{IsCurve, Valid};
 ghost use Rattle.scr_discounts.specs.Discounts.{discounts_at};
 ghost use Rattle.scr_discounts.specs.Kept.{tables, rows_of, all_discounts};
 ghost use Rattle.scr_discounts.specs.KeptRates.{AreKeptBut};
 
 use crate::Curves;
-use scr_names::Name;
 use scr_sheet::{BalanceSheet, Curve};
+use scr_tables::Name;
 use scr_yield_curve::{Discounts, Tilt, discounts, yearly};
 use std::alloc::{AllocError as NoMemory, Global};
 

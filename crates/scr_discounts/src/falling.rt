@@ -11,9 +11,9 @@ ghost use Rattle.scr_discounts.specs.KeptRates.{AreKeptBut, falls_at, falls_of, 
 
 use crate::discounting::curves_after;
 use crate::{CurrencyFalls, Curves, Rates, curves_of};
-use scr_names::Name;
+use scr_dates::Years;
 use scr_sheet::BalanceSheet;
-use scr_years::Years;
+use scr_tables::Name;
 use scr_yield_curve::{Discounts, Falls, Tilt, yearly};
 use std::alloc::{AllocError as NoMemory, Global};
 

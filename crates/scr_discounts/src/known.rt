@@ -1,7 +1,7 @@
 //! What is kept of the reference date and of all rates, so that no figure finds it again.
 
 use crate::Curves;
-use scr_years::Years;
+use scr_dates::Years;
 use scr_yield_curve::Falls;
 
 /// The falls of a currency's discounts where its rates rise and where they fall (Delegated Regulation (EU) 2015/35, Articles

@@ -10,7 +10,7 @@ use Rattle.scr_num.specs.Rounding.{Ends}
 use Rattle.scr_num.proofs.Enclosing.{Encloses-wider}
 use Rattle.scr_factors.specs.Values.{FactorValues}
 use Rattle.scr_profile.specs.declared.group_kind.GroupKind.TheVariants as kinds
-use Rattle.scr_names.proofs.TableRows.{All-append}
+use Rattle.scr_tables.proofs.TableRows.{All-append}
 use Rattle.scr_sheet.specs.BalanceSheet.{position_of}
 use Rattle.scr_sheet.specs.Validity.{Valid}
 use Rattle.scr_sheet.specs.declared.{rows.Class.Class, rows.Group.Group, rows.Position.Position, sheet.BalanceSheet.BalanceSheet}

@@ -31,8 +31,8 @@ use Rattle.scr_rate.specs.InterestEnds.{EncloseLosses}
 use Rattle.scr_rate.proofs.Costs as costs
 use Rattle.scr_market.proofs.EquityBounds.{type1-encloses, type2-encloses, infra-encloses, infracorp-encloses, root-encloses}
 use Rattle.scr_factors.specs.Values.{FactorValues, IsInForm}
-use Rattle.scr_names.specs.Names.{same_name}
-use Rattle.scr_names.proofs.TableRows.{All-map, name_of-row_of, same_name-is}
+use Rattle.scr_tables.specs.Names.{same_name}
+use Rattle.scr_tables.proofs.TableRows.{All-map, name_of-row_of, same_name-is}
 use Rattle.scr_sheet.specs.Absorptions.{absorbed}
 use Rattle.scr_sheet.specs.BalanceSheet.{position_name, liability_name, group_name, position_of}
 use Rattle.scr_sheet.specs.CashFlows.{is_empty}

@@ -16,7 +16,7 @@ use Rattle.scr_agg.proofs.ChosenAmounts.{Encloses-counted, Encloses-left}
 use Rattle.scr_agg.proofs.Enclosed.{chosen_unbeaten, gross_encloses, net_encloses}
 use Rattle.scr_bio.proofs.BiometricBounds as bio
 use Rattle.scr_factors.specs.Values.{FactorValues}
-use Rattle.scr_names.proofs.TableRows.{All-map}
+use Rattle.scr_tables.proofs.TableRows.{All-map}
 use Rattle.scr_sheet.specs.BalanceSheet.{liability_name}
 use Rattle.scr_sheet.specs.CashFlows.{flows_under}
 use Rattle.scr_sheet.specs.Validity.{Valid}

@@ -29,7 +29,7 @@ use Rattle.scr_market.proofs.SpreadLemmas.{bond-encloses, spread-encloses}
 use Rattle.scr_conc.specs.Thresholds.{threshold_units, factor_units, threshold_exact, factor_exact}
 use Rattle.scr_conc.proofs.Squares.{square-exact, concentration-encloses}
 use Rattle.scr_conc.proofs.Table.{threshold-exact, factor-exact}
-use Rattle.scr_names.proofs.TableRows.{All-map, name_of-row_of, same_name-is}
+use Rattle.scr_tables.proofs.TableRows.{All-map, name_of-row_of, same_name-is}
 use Rattle.scr_sheet.specs.Absorptions.{absorbed}
 use Rattle.scr_sheet.specs.BalanceSheet.{position_name, liability_name, position_of}
 use Rattle.scr_sheet.specs.Totals.{total_of}

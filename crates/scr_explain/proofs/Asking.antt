@@ -6,7 +6,7 @@ use Rattle.clap.specs.Matches.{first_value}
 use Rattle.clap.specs.declared.parser.matches.Found.{Found}
 use Rattle.scr_explain.specs.Answer.{CanAsk, IsAsked, IsExtent, IsNamed}
 use Rattle.scr_cells.specs.declared.table.TheConstants.{CELL_COUNT}
-use Rattle.scr_account.specs.declared.account.Extent.{Extent}
+use Rattle.scr_explanation.specs.declared.account.Extent.{Extent}
 use Rattle.scr_explain.specs.declared.question.Asked.{Asked}
 use Rattle.scr_explain.specs.declared.question.Asked.TheVariants as asks
 

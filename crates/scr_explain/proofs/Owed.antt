@@ -1,10 +1,10 @@
 -- What is owed of an answer, and of the engine that gives it.
 use Rattle.std.proofs.Common.{◌≡◌, ℕ, Bool, List, ap, ap₂, subst}
 use Rattle.scr_factors.specs.Values.{FactorValues}
-use Rattle.scr_plans.specs.Moment.{Answer, Shelved, Sunk}
-use Rattle.scr_plans.specs.Owes.{Owes}
-use Rattle.scr_plans.specs.Plan.{Plan}
-use Rattle.scr_plans.specs.Plan.Plan.{Tell}
+use Rattle.scr_obligations.specs.Moment.{Answer, Shelved, Sunk}
+use Rattle.scr_obligations.specs.Owes.{Owes}
+use Rattle.scr_obligations.specs.Plan.{Plan}
+use Rattle.scr_obligations.specs.Plan.Plan.{Tell}
 use Rattle.scr_sheet.specs.declared.sheet.BalanceSheet.{BalanceSheet}
 use Rattle.scr_tree.specs.Standing.{Standing}
 use Rattle.scr_run.specs.Plans.{ended_status}

@@ -8,14 +8,14 @@ use Rattle.clap.specs.declared.parser.matches.Found.{Found}
 use Rattle.scr_factors.specs.Values.{FactorValues}
 use Rattle.scr_sheet.specs.declared.fault.Fault.{Fault}
 use Rattle.scr_sheet.specs.declared.sheet.BalanceSheet.{BalanceSheet}
-use Rattle.scr_account.specs.Account.{account}
-use Rattle.scr_account.specs.Moves.{all_bounds, moves}
-use Rattle.scr_account.specs.declared.account.Extent.{Extent}
+use Rattle.scr_explanation.specs.Account.{account}
+use Rattle.scr_explanation.specs.Moves.{all_bounds, moves}
+use Rattle.scr_explanation.specs.declared.account.Extent.{Extent}
 use Rattle.scr_cells.specs.Table.{NamedFigure, table}
 use Rattle.scr_cells.specs.declared.table.TheConstants.{CELL_COUNT}
 use Rattle.scr_drawing.specs.Drawing.{drawing}
-use Rattle.scr_plans.specs.Plan.{Plan, ask}
-use Rattle.scr_plans.specs.Plan.Plan.{Tell}
+use Rattle.scr_obligations.specs.Plan.{Plan, ask}
+use Rattle.scr_obligations.specs.Plan.Plan.{Tell}
 use Rattle.scr_run.specs.BookFile.{recorded}
 use Rattle.scr_run.specs.FaultTexts.{refusal_text}
 use Rattle.scr_run.specs.Plans.{ended_status}

@@ -1,16 +1,16 @@
 //! The answer to a question: it reads the factor file and the book as `scr` does, and writes what is asked of them.
 ghost use Rattle.std.specs.Prelude.{◌≡◌, ◌≤◌, ◌<◌, ◌++◌, length, IfOk, OnOk};
 ghost use Rattle.scr_cells.specs.declared.table.TheConstants.{CELL_COUNT};
-ghost use Rattle.scr_plans.specs.Moment.{Shelved, sunk, shelved};
-ghost use Rattle.scr_plans.specs.Owes.{Owes};
+ghost use Rattle.scr_obligations.specs.Moment.{Shelved, sunk, shelved};
+ghost use Rattle.scr_obligations.specs.Owes.{Owes};
 ghost use Rattle.scr_run.specs.BookFile.{recorded};
 ghost use Rattle.scr_run.specs.Statuses.{answer_of};
 ghost use Rattle.scr_explain.specs.Answer.{CanAsk, account_answer, answer_to, answered, ask_of, drawing_answer, heading, moves_answer, question_plan};
 
 use crate::question::{Asked, Question};
-use scr_account::{Extent, cell_bounds, push_account, push_moves};
 use scr_cells::{cell_name, cell_node};
 use scr_drawing::push_drawing;
+use scr_explanation::{Extent, cell_bounds, push_account, push_moves};
 use scr_io::{OpenGate, Shelf, Sink, write_all};
 use scr_run::{Crew, Status, edit, ended, file_book, file_factors, push_refusal};
 use scr_tree::{Engine, Refusal};

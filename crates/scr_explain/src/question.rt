@@ -3,12 +3,12 @@ ghost use Rattle.std.specs.Prelude.{◌≡◌, ◌<◌, ◌⊎◌, ℕ, IfSome, 
 ghost use Rattle.clap.specs.Matches.{first_value, found_of};
 ghost use Rattle.scr_cells.specs.Table.{table};
 ghost use Rattle.scr_cells.specs.declared.table.TheConstants.{CELL_COUNT};
-ghost use Rattle.scr_account.specs.declared.account.Extent.{Extent as ExtentSeen};
+ghost use Rattle.scr_explanation.specs.declared.account.Extent.{Extent as ExtentSeen};
 ghost use Rattle.scr_explain.specs.Answer.{AskNothing, CanAsk, HasNumber, IsAsked, IsExtent};
 
 use clap::ArgMatches;
-use scr_account::Extent;
 use scr_cells::{CELL_COUNT, cell_name};
+use scr_explanation::Extent;
 
 /// The most bytes of a record: those of a file.
 const MAX_RECORD: usize = 67_108_864;

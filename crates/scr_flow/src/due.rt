@@ -5,8 +5,7 @@ ghost use Rattle.scr_dates.specs.Civil.{IsDay};
 ghost use Rattle.scr_dates.specs.Payments.{total};
 ghost use Rattle.scr_flow.specs.Due.{dues, AreNear};
 
-use scr_dates::Day;
-use scr_years::Years;
+use scr_dates::{Day, Years};
 
 /// The sum of the amounts that fall due at each maturity of 1 to 100 years; a payment on or before the reference date
 /// counts nowhere. All days lie in the years 1900 to 2200, no payment lies further ahead than 100 years, and the

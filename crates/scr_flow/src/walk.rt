@@ -9,9 +9,8 @@ ghost use Rattle.scr_flow.specs.Due.{dues, AreNear};
 ghost use Rattle.scr_flow.specs.Sums.{weighted_ends};
 
 use crate::falls::with_lost;
-use scr_dates::Day;
+use scr_dates::{Day, Years};
 use scr_num::{Span, exact};
-use scr_years::Years;
 use scr_yield_curve::Falls;
 
 /// What payments of at least 0 lose by two lists of falls, found in one walk along the payments. They need not be summed by

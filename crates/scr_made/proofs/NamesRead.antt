@@ -6,8 +6,8 @@ use Rattle.std.specs.Char.{is_ascii_digit, is_ascii_alphanumeric}
 use Rattle.std.specs.List.{list_all}
 use Rattle.std.proofs.lemmas.Fmt.{digits_decimal, length-decimal-le}
 use Rattle.std.proofs.lemmas.Str.Parse.{IsNumeralModel, numerals_by_fold}
-use Rattle.scr_names.specs.Names.{is_name, is_name_byte}
-use Rattle.scr_spelling.proofs.FormLemmas.{list_all-weaker}
+use Rattle.scr_tables.specs.Names.{is_name, is_name_byte}
+use Rattle.scr_fields.proofs.FormLemmas.{list_all-weaker}
 use Rattle.scr_made.specs.Names.{IsLetter}
 
 own : IsNumeralModel (λ ds. list_all is_ascii_digit ds ≡ true)

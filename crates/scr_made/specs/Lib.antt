@@ -6,3 +6,4 @@ pub mod Made
 pub mod Rows
 pub mod Summary
 pub mod ReadBack
+pub mod Accepted

@@ -1,6 +1,8 @@
-//! A book and a script of edits that are made from a number, and what is printed of them.
+//! The book and the script of edits that are generated from a number, and the summary that is printed of them. By the module
+//! `acceptance` no record of them is refused, whatever the number.
 #![tactic(auto)]
 
+pub mod acceptance;
 mod days;
 mod draws;
 mod funds;

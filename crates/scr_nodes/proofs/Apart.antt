@@ -2,8 +2,8 @@
 use Rattle.std.proofs.Common.{◌≡◌, ◌⊎◌, inl, inr, ℕ, zero, suc, ◌<◌, Bool, true, false, cond, List, [], ◌∷◌, ◌++◌, map, take, filter, Some, slice_get, refl, sym, ap, subst, ◌∙◌, arith}
 use Rattle.std.specs.List.{AllByRecursion, IsDistinct}
 use Rattle.scr_funds.proofs.Members.{IsMember, IsMember-map, IsMember-cases}
-use Rattle.scr_names.specs.Names.{same_name}
-use Rattle.scr_names.proofs.TableRows.{passes_or_fails, same_name-itself}
+use Rattle.scr_tables.specs.Names.{same_name}
+use Rattle.scr_tables.proofs.TableRows.{passes_or_fails, same_name-itself}
 
 module _ {A : Type 0} where
   -- each is none of those behind it

@@ -2,7 +2,7 @@
 use Rattle.std.proofs.Common.{◌≡◌, Bool, true, cond, List, [], ◌∷◌, map, sym, ap, subst}
 use Rattle.std.specs.List.{AllByRecursion, filter, list_all}
 use Rattle.std.proofs.lemmas.Bool.{and_parts}
-use Rattle.scr_names.proofs.TableRows.{passes_or_fails}
+use Rattle.scr_tables.proofs.TableRows.{passes_or_fails}
 
 module _ {Row A : Type 0} (Fact : Row → Type 0) (P : A → Type 0) (test : Row → Bool) (node : Row → A) where
   -- each row that passes gives a node of which the fact holds

@@ -6,8 +6,8 @@ use Rattle.std.proofs.lemmas.Bool.{or_cases}
 use Rattle.std.proofs.lemmas.List.{length-map}
 use Rattle.scr_funds.proofs.Climbs.{IsClimb, climb_on, climb-short}
 use Rattle.scr_funds.proofs.Members.{IsMember, IsMember-mapped, Contains-from_IsMember, each_weaker}
-use Rattle.scr_names.specs.Names.{same_name}
-use Rattle.scr_names.proofs.TableRows.{same_name-is, same_name-itself}
+use Rattle.scr_tables.specs.Names.{same_name}
+use Rattle.scr_tables.proofs.TableRows.{same_name-is, same_name-itself}
 use Rattle.scr_sheet.specs.BalanceSheet.{stake_name, stake_of, components_of}
 use Rattle.scr_sheet.specs.declared.{sheet.BalanceSheet.BalanceSheet, rows.Stake.Stake}
 use Rattle.scr_sheet.specs.Validity.{Valid}

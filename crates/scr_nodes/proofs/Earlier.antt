@@ -1,7 +1,7 @@
 -- The sources of a figure stand in earlier families than it.
 use Rattle.std.proofs.Common.{◌≡◌, ℕ, ◌<◌, nat_lt, true, List, map, filter, refl, arith}
 use Rattle.std.specs.List.{list_all}
-use Rattle.scr_names.proofs.TableRows.{All-append}
+use Rattle.scr_tables.proofs.TableRows.{All-append}
 use Rattle.scr_profile.specs.declared.default_class.DefaultClass.{DefaultClass}
 use Rattle.scr_profile.specs.declared.set.Set.TheVariants as sets
 use Rattle.scr_sheet.specs.declared.{keys.Projection.Projection, sheet.BalanceSheet.BalanceSheet, rows.Class.Class, rows.Curve.Curve, rows.Liability.Liability, rows.Position.Position}

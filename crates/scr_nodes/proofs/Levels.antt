@@ -2,7 +2,7 @@
 use Rattle.std.proofs.Common.{◌≡◌, ℕ, ◌<◌, max, nat_lt, true, map, filter, Contains, refl, arith}
 use Rattle.std.specs.List.{list_all}
 use Rattle.scr_funds.proofs.Members.{IsMember-from_Contains, at_member}
-use Rattle.scr_names.proofs.TableRows.{All-append}
+use Rattle.scr_tables.proofs.TableRows.{All-append}
 use Rattle.scr_profile.specs.declared.set.Set.TheVariants as sets
 use Rattle.scr_sheet.specs.declared.sheet.BalanceSheet.{BalanceSheet}
 use Rattle.scr_sheet.specs.declared.rows.Class.{Class}

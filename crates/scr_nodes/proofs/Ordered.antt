@@ -3,9 +3,9 @@ use Rattle.std.proofs.Common.{◌≡◌, ◌⊎◌, ◌↔◌, inl, inr, ℕ, ze
 use Rattle.std.specs.List.{AllByRecursion, IsDistinct}
 use Rattle.std.specs.Option.{option_map_or}
 use Rattle.scr_funds.proofs.Members.{IsMember, IsMember-left, IsMember-right, IsMember-cases, IsMember-mapped, IsMember-from_Contains, Contains-from_IsMember, at_member}
-use Rattle.scr_names.specs.Names.{same_name}
-use Rattle.scr_names.specs.Tables.{row_of, has_row}
-use Rattle.scr_names.proofs.TableRows.{All-append, same_or_other, same_name-is, row_of-later}
+use Rattle.scr_tables.specs.Names.{same_name}
+use Rattle.scr_tables.specs.Tables.{row_of, has_row}
+use Rattle.scr_tables.proofs.TableRows.{All-append, same_or_other, same_name-is, row_of-later}
 use Rattle.scr_sheet.specs.BalanceSheet.{group_name, position_name, liability_name, stake_name, curve_name, position_of, stake_of}
 use Rattle.scr_sheet.specs.declared.{keys.Projection.Projection, sheet.BalanceSheet.BalanceSheet, rows.Curve.Curve, rows.Group.Group, rows.Liability.Liability, rows.Position.Position}
 use Rattle.scr_sheet.specs.declared.keys.Projection.TheVariants as projections

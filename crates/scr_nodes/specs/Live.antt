@@ -1,7 +1,7 @@
 -- Which figures a balance sheet has (this project's own).
 use Rattle.std.specs.Prelude.{ℕ, ◌&&◌, List, Bool, true, false}
 use Rattle.std.specs.Option.{option_map_or}
-use Rattle.scr_names.specs.Tables.{has_row, row_of}
+use Rattle.scr_tables.specs.Tables.{has_row, row_of}
 use Rattle.scr_sheet.specs.BalanceSheet.{group_name, position_name, stake_name, liability_name, curve_name, position_of}
 use Rattle.scr_sheet.specs.declared.keys.Projection.{Projection}
 use Rattle.scr_sheet.specs.declared.rows.Class.TheVariants as classes

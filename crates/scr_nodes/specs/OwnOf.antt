@@ -3,7 +3,7 @@ use Rattle.std.specs.Prelude.{ℕ, ◌-◌, ℤ, pos, List, [], Option, Some, No
 use Rattle.std.specs.Option.{option_map_or}
 use Rattle.scr_dates.specs.declared.day.Day.{Day}
 use Rattle.scr_factors.specs.Values.{FactorValues, sigma_of}
-use Rattle.scr_names.specs.Tables.{row_of}
+use Rattle.scr_tables.specs.Tables.{row_of}
 use Rattle.scr_profile.specs.Segments.{number_of, set_of}
 use Rattle.scr_profile.specs.declared.correlations.TheConstants.{NSLT}
 use Rattle.scr_profile.specs.declared.group_kind.GroupKind.TheVariants as group_kinds

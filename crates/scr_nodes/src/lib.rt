@@ -1,6 +1,6 @@
 //! The figures of a balance sheet as the nodes of a graph: which there are, what each reads of the
 //! sheet itself, and from which other figures it is reckoned, one by one or as a list. How it is
-//! reckoned is no matter of this crate, nor are numbers of figures (`scr_figures`).
+//! reckoned is no matter of this crate, nor are numbers of figures (`scr_figure_ids`).
 #![tactic(auto)]
 
 pub mod laws;

@@ -1,2 +1,11 @@
 pub mod Plain
 pub mod WorkedPoints
+pub mod Lists
+pub mod Rows
+pub mod Stale
+pub mod Up
+pub mod Alike
+pub mod ToSheet
+pub mod FromSheet
+pub mod Under
+pub mod Counted

@@ -18,11 +18,11 @@ use Rattle.scr_rules.specs.Fits.{Fits}
 use Rattle.scr_rules.specs.Rules.{rule}
 use Rattle.scr_rules.specs.Worked.{worked}
 use Rattle.scr_rules.proofs.KeptRows.{own-row}
-use Rattle.scr_sums.specs.Books.{rolled_of}
-use Rattle.scr_sums.specs.Changed.{own_in}
-use Rattle.scr_sums.specs.Graph.{AreRolls, sources_in, worth_in}
-use Rattle.scr_sums.specs.declared.point.Point.{Point}
-use Rattle.scr_sums.specs.declared.point.Point.TheVariants as points
+use Rattle.scr_block_graph.specs.Books.{rolled_of}
+use Rattle.scr_block_graph.specs.Changed.{own_in}
+use Rattle.scr_block_graph.specs.Graph.{AreRolls, sources_in, worth_in}
+use Rattle.scr_block_graph.specs.declared.point.Point.{Point}
+use Rattle.scr_block_graph.specs.declared.point.Point.TheVariants as points
 use Rattle.scr_tree.proofs.PointEquations.{obeys}
 use Rattle.scr_plan.specs.Rules.{discounts_at}
 

@@ -3,8 +3,8 @@ use Rattle.std.specs.Prelude.{List}
 use Rattle.scr_discounts.specs.Discounts.{CurrencyDiscounts, no_discounts}
 use Rattle.scr_rules.specs.Discounts.{discounts_in}
 use Rattle.scr_sheet.specs.declared.sheet.BalanceSheet.{BalanceSheet}
-use Rattle.scr_sums.specs.declared.point.Point.{Point}
-use Rattle.scr_sums.specs.declared.point.Point.TheVariants as points
+use Rattle.scr_block_graph.specs.declared.point.Point.{Point}
+use Rattle.scr_block_graph.specs.declared.point.Point.TheVariants as points
 
 -- The discounts that the rule of a node takes; none for a block (own).
 abbrev pub discounts_at : BalanceSheet → List CurrencyDiscounts → Point → CurrencyDiscounts

@@ -3,7 +3,7 @@ ghost use Rattle.std.specs.Prelude.{◌≡◌, ◌+◌, length, map};
 ghost use Rattle.scr_num.specs.Rounding.{ends};
 ghost use Rattle.scr_num.specs.Sums.{sum_ends};
 ghost use Rattle.scr_discounts.specs.Kept.{AreDiscountsOf, all_discounts, rows_of};
-ghost use Rattle.scr_blocks.specs.Blocks.{top_count};
+ghost use Rattle.scr_sum_tree.specs.Blocks.{top_count};
 ghost use Rattle.scr_rules.specs.Discounts.{discounts_in};
 ghost use Rattle.scr_rules.specs.Fits.{Fits};
 ghost use Rattle.scr_rules.specs.MarketFits.{FitsForeign};
@@ -12,21 +12,21 @@ ghost use Rattle.scr_rules.specs.Rules.{amount_of, first_sum, other_sum, rule};
 ghost use Rattle.scr_rules.specs.Worked.{worked};
 ghost use Rattle.scr_sheet.specs.Validity.{Valid};
 ghost use Rattle.scr_book.specs.Rolls.{AreRollsOf};
-ghost use Rattle.scr_sums.specs.Books.{rolled_of};
-ghost use Rattle.scr_sums.specs.Changed.{own_in};
-ghost use Rattle.scr_sums.specs.Graph.{roll_in, sources_in, worth_in};
-ghost use Rattle.scr_sums.specs.declared.point.Point.TheVariants as points;
-ghost use Rattle.scr_sums.specs.declared.sum.Sum.TheVariants as sums;
+ghost use Rattle.scr_block_graph.specs.Books.{rolled_of};
+ghost use Rattle.scr_block_graph.specs.Changed.{own_in};
+ghost use Rattle.scr_block_graph.specs.Graph.{roll_in, sources_in, worth_in};
+ghost use Rattle.scr_block_graph.specs.declared.point.Point.TheVariants as points;
+ghost use Rattle.scr_block_graph.specs.declared.sum.Sum.TheVariants as sums;
 ghost use Rattle.scr_plan.specs.Rules.{discounts_at};
 
 use crate::{Curves, Direction, Figure, Measure, Node, OfCurrency};
-use scr_blocks::top_count;
 use scr_book::Book;
 use scr_factors::Factors;
 use scr_io::Steps;
 use scr_num::{Span, total};
 use scr_rules::foreign_by_sums;
 use scr_sheet::{Name, Roll};
+use scr_sum_tree::top_count;
 use std::sync::ledger::Ledger;
 
 /// The figure of a node by its rule, from its sources' figures in order and the currencies' discounts; the sum for a block. Worked

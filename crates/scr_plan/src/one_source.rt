@@ -1,7 +1,7 @@
 //! The sources of a figure or a block.
 ghost use Rattle.std.specs.Prelude.{◌≡◌, slice_get};
-ghost use Rattle.scr_sums.specs.Books.{rolled_of};
-ghost use Rattle.scr_sums.specs.Graph.{sources_in};
+ghost use Rattle.scr_block_graph.specs.Books.{rolled_of};
+ghost use Rattle.scr_block_graph.specs.Graph.{sources_in};
 
 use crate::Node;
 use scr_book::Book;
@@ -10,5 +10,5 @@ use scr_book::Book;
 pub fn source(book: &Book, node: Node, k: u32) -> Option<Node>
     ensures { result ≡ slice_get (sources_in (rolled_of book.now) node) k }
 {
-    scr_sums::source(book, &node, k)
+    scr_block_graph::source(book, &node, k)
 }

@@ -1,16 +1,16 @@
 //! The figures and blocks that a record touches.
 ghost use Rattle.std.specs.Prelude.{◌≡◌, ◌↔◌, Contains, IfOk, None};
-ghost use Rattle.scr_blocks.specs.Blocks.{HasEachOnce};
+ghost use Rattle.scr_sum_tree.specs.Blocks.{HasEachOnce};
 ghost use Rattle.scr_factors.specs.Values.{FactorValues};
 ghost use Rattle.scr_sheet.specs.Faults.{fault_of};
 ghost use Rattle.scr_sheet.specs.Forms.{Formed};
-ghost use Rattle.scr_sums.specs.Books.{rolled_of};
-ghost use Rattle.scr_sums.specs.Touched.{IsTouchedIn};
-ghost use Rattle.scr_sums.specs.declared.point.Point.{Point};
+ghost use Rattle.scr_block_graph.specs.Books.{rolled_of};
+ghost use Rattle.scr_block_graph.specs.Touched.{IsTouchedIn};
+ghost use Rattle.scr_block_graph.specs.declared.point.Point.{Point};
 
 use crate::Node;
+use scr_block_graph::touched_in;
 use scr_book::{Book, Edit};
-use scr_sums::touched_in;
 use std::alloc::{AllocError as NoMemory, Global};
 
 /// The figures and blocks that a record touches, each once: it changes their own data or sources, makes them or removes them. For

@@ -17,9 +17,9 @@ use Rattle.scr_flow.specs.LossEnds.{loss_ends}
 use Rattle.scr_yield_curve.specs.declared.table.Discounts.{Discounts}
 use Rattle.scr_agg.specs.Unbeaten.{Alternative, alternative}
 use Rattle.scr_agg.specs.declared.scenario.Scenario.{Scenario}
-use Rattle.scr_names.specs.Names.{same_name}
-use Rattle.scr_names.specs.Tables.{row_of}
-use Rattle.scr_names.proofs.TableRows.{same_name-is, same_name-flip, same_name-itself}
+use Rattle.scr_tables.specs.Names.{same_name}
+use Rattle.scr_tables.specs.Tables.{row_of}
+use Rattle.scr_tables.proofs.TableRows.{same_name-is, same_name-flip, same_name-itself}
 use Rattle.scr_sheet.specs.Records.{natural}
 use Rattle.scr_sheet.specs.Forms.{IsName}
 use Rattle.scr_sheet.specs.Validity.{Valid, IsBetween, IsStake}

@@ -6,9 +6,9 @@ use Rattle.std.proofs.lemmas.List.{take_all, take_more, length-map}
 use Rattle.std.proofs.lemmas.List.Sums.{sum_by-cons, sum_by-append}
 use Rattle.std.proofs.lemmas.Option.{get_or_from_slice_get, slice_get-map, slice_get_within}
 use Rattle.scr_default.specs.declared.TheConstants.{MAX_LOSS}
-use Rattle.scr_names.specs.Names.{same_name}
-use Rattle.scr_names.specs.Tables.{has_row}
-use Rattle.scr_names.proofs.TableRows.{IsFresh, fresh_from_has_row, same_name-flip, same_name-itself}
+use Rattle.scr_tables.specs.Names.{same_name}
+use Rattle.scr_tables.specs.Tables.{has_row}
+use Rattle.scr_tables.proofs.TableRows.{IsFresh, fresh_from_has_row, same_name-flip, same_name-itself}
 use Rattle.scr_sheet.specs.BalanceSheet.{group_name}
 use Rattle.scr_sheet.specs.Validity.{Valid}
 use Rattle.scr_sheet.specs.declared.{rows.Bank.Bank, rows.Group.Group, rows.Rein.Rein, sheet.BalanceSheet.BalanceSheet}

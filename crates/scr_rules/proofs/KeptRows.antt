@@ -6,9 +6,9 @@ use Rattle.scr_num.specs.Rounding.{Ends}
 use Rattle.scr_yield_curve.specs.declared.tilt.Tilt.{Tilt}
 use Rattle.scr_yield_curve.specs.declared.tilt.Tilt.TheVariants as tilts
 use Rattle.scr_factors.specs.Values.{FactorValues}
-use Rattle.scr_names.specs.Names.{same_name}
+use Rattle.scr_tables.specs.Names.{same_name}
 use Rattle.scr_profile.specs.declared.group_kind.GroupKind.TheVariants as kinds
-use Rattle.scr_names.specs.Tables.{row_of}
+use Rattle.scr_tables.specs.Tables.{row_of}
 use Rattle.scr_sheet.specs.BalanceSheet.{curve_name, position_of}
 use Rattle.scr_sheet.specs.CashFlows.{flows_under}
 use Rattle.scr_sheet.specs.declared.{keys.Projection.Projection, rows.Curve.Curve, rows.Group.Group, rows.Liability.Liability, rows.Position.Position, sheet.BalanceSheet.BalanceSheet}

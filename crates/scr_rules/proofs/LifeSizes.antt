@@ -29,7 +29,7 @@ use Rattle.scr_rate.specs.InterestEnds.{gross_ends}
 use Rattle.scr_factors.specs.Values.{FactorValues}
 use Rattle.scr_funds.proofs.Members.{each-from_members}
 use Rattle.scr_funds.proofs.SplitSums.{sum_by-member}
-use Rattle.scr_names.proofs.TableRows.{All-map, All-row_of}
+use Rattle.scr_tables.proofs.TableRows.{All-map, All-row_of}
 use Rattle.scr_sheet.specs.BalanceSheet.{liability_name}
 use Rattle.scr_sheet.specs.CashFlows.{flows_under, greatest_years, total, all_projections}
 use Rattle.scr_sheet.specs.Validity.{Valid}

@@ -10,8 +10,8 @@ use Rattle.scr_num.proofs.AmountBounds.{amount-exact, amount-wider}
 use Rattle.scr_factors.specs.Values.{FactorValues}
 use Rattle.scr_market.specs.Spread.{row_of as factor_row}
 use Rattle.scr_conc.specs.Thresholds.{step_of as counted_step}
-use Rattle.scr_names.specs.Tables.{row_of, has_row}
-use Rattle.scr_names.proofs.TableRows.{All-row_of}
+use Rattle.scr_tables.specs.Tables.{row_of, has_row}
+use Rattle.scr_tables.proofs.TableRows.{All-row_of}
 use Rattle.scr_profile.specs.declared.group_kind.GroupKind.TheVariants as kinds
 use Rattle.scr_profile.specs.declared.limits.TheConstants.{MAX_HELD, MAX_AMOUNT}
 use Rattle.scr_sheet.specs.BalanceSheet.{position_name, liability_name, curve_name, group_name, position_of}

@@ -22,8 +22,8 @@ use Rattle.scr_agg.proofs.Enclosed.{one_unbeaten}
 use Rattle.scr_rate.proofs.SizeLemmas.{sum-within, gross-low}
 use Rattle.scr_factors.specs.Values.{FactorValues}
 use Rattle.scr_funds.proofs.SumsBy.{sum_by-add, sum_by-map}
-use Rattle.scr_names.specs.Names.{same_name}
-use Rattle.scr_names.proofs.TableRows.{All-map, All-append, name_of-row_of, same_name-is}
+use Rattle.scr_tables.specs.Names.{same_name}
+use Rattle.scr_tables.proofs.TableRows.{All-map, All-append, name_of-row_of, same_name-is}
 use Rattle.scr_profile.specs.declared.group_kind.GroupKind.TheVariants as kinds
 use Rattle.scr_profile.specs.declared.limits.TheConstants.{MAX_HELD}
 use Rattle.scr_market.specs.MarketEnds.{market_ends}

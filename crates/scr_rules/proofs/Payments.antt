@@ -21,7 +21,7 @@ use Rattle.scr_yield_curve.proofs.TableLemmas.{table_in_range}
 use Rattle.scr_flow.specs.Due.{dues, AreNear}
 use Rattle.scr_num.specs.Sizes.{IsWithin}
 use Rattle.scr_flow.proofs.SizeLemmas.{loss-within, dues-within}
-use Rattle.scr_names.proofs.TableRows.{All-row_of}
+use Rattle.scr_tables.proofs.TableRows.{All-row_of}
 use Rattle.scr_sheet.specs.BalanceSheet.{position_name, liability_name, curve_name, position_of, security_years, liability_years}
 use Rattle.scr_sheet.specs.CashFlows.{total, years_of, greatest_years}
 use Rattle.scr_sheet.specs.Forms.{AreOnDays}

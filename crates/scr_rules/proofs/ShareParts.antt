@@ -7,8 +7,8 @@ use Rattle.std.proofs.lemmas.List.Sums.{sum_by-cons, sum_by-append}
 use Rattle.scr_num.specs.Rounding.{Ends, exact_ends, or_zero}
 use Rattle.scr_funds.specs.LookThrough.{falling_to, part_in, parts_of}
 use Rattle.scr_funds.specs.Parts as funds
-use Rattle.scr_names.specs.Names.{same_name}
-use Rattle.scr_names.proofs.TableRows.{same_name-is, same_or_other}
+use Rattle.scr_tables.specs.Names.{same_name}
+use Rattle.scr_tables.proofs.TableRows.{same_name-is, same_or_other}
 use Rattle.scr_sheet.specs.Records.{natural}
 use Rattle.scr_sheet.specs.Forms.{IsName}
 use Rattle.scr_sheet.specs.Totals.{shared}

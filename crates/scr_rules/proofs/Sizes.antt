@@ -17,8 +17,8 @@ use Rattle.scr_flow.specs.LossEnds.{scaled_ends}
 use Rattle.scr_flow.proofs.SizeLemmas.{scaled-within}
 use Rattle.scr_factors.specs.Values.{FactorValues}
 use Rattle.scr_funds.proofs.SumsBy.{sum_by-add}
-use Rattle.scr_names.specs.Names.{same_name}
-use Rattle.scr_names.proofs.TableRows.{All-map}
+use Rattle.scr_tables.specs.Names.{same_name}
+use Rattle.scr_tables.proofs.TableRows.{All-map}
 use Rattle.scr_rate.specs.InterestEnds.{gross_ends}
 use Rattle.scr_rate.proofs.SizeLemmas.{sum-within, gross-within}
 use Rattle.scr_sheet.specs.BalanceSheet.{position_name, liability_name, stake_name, curve_name, position_of, stake_of}

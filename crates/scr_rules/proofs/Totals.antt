@@ -7,8 +7,8 @@ use Rattle.scr_num.proofs.AmountBounds.{amount-exact}
 use Rattle.scr_num.specs.Rounding.{Ends, exact_ends}
 use Rattle.scr_factors.specs.Values.{FactorValues}
 use Rattle.scr_funds.proofs.Members.{each-from_members}
-use Rattle.scr_names.specs.Tables.{has_row}
-use Rattle.scr_names.proofs.TableRows.{All-map}
+use Rattle.scr_tables.specs.Tables.{has_row}
+use Rattle.scr_tables.proofs.TableRows.{All-map}
 use Rattle.scr_sheet.specs.BalanceSheet.{stake_name, position_name, stake_of, held_of}
 use Rattle.scr_sheet.specs.declared.sheet.BalanceSheet.{BalanceSheet}
 use Rattle.scr_sheet.specs.Totals.{total_of}

@@ -8,7 +8,7 @@ ghost use Rattle.scr_num.specs.Sizes.{IsWithin};
 ghost use Rattle.scr_num.specs.Sums.{sum_ends};
 ghost use Rattle.scr_profile.specs.declared.limits.TheConstants.{MAX_HELD};
 ghost use Rattle.scr_factors.specs.Values.{FactorValues, IsInForm};
-ghost use Rattle.scr_names.specs.Tables.{has_row};
+ghost use Rattle.scr_tables.specs.Tables.{has_row};
 ghost use Rattle.scr_sheet.specs.BalanceSheet.{position_name, stake_name};
 ghost use Rattle.scr_sheet.specs.Totals.{total_of};
 ghost use Rattle.scr_sheet.specs.declared.sheet.BalanceSheet.{BalanceSheet};

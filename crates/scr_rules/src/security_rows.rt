@@ -1,7 +1,7 @@
 //! The figures of a security, from its row.
 ghost use Rattle.std.specs.Prelude.{◌≡◌, Some, [], ◌∷◌, is_some, slice_get, IfSome};
 ghost use Rattle.std.specs.Option.{option_map};
-ghost use Rattle.scr_names.specs.Tables.{has_row};
+ghost use Rattle.scr_tables.specs.Tables.{has_row};
 ghost use Rattle.scr_num.specs.Amounts.{IsAmount};
 ghost use Rattle.scr_num.specs.Rounding.{ends};
 ghost use Rattle.scr_num.specs.Sizes.{IsWithin};

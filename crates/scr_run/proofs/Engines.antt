@@ -2,9 +2,9 @@
 use Rattle.std.proofs.Common.{◌≡◌, ℕ, List, ap₂, subst, sym}
 use Rattle.scr_factors.specs.Values.{FactorValues}
 use Rattle.scr_io.specs.Content.{Content}
-use Rattle.scr_plans.specs.Moment.{Answer, Shelved, Sunk}
-use Rattle.scr_plans.specs.Outcome.{TellsNothing}
-use Rattle.scr_plans.specs.Owes.{Owes}
+use Rattle.scr_obligations.specs.Moment.{Answer, Shelved, Sunk}
+use Rattle.scr_obligations.specs.Outcome.{TellsNothing}
+use Rattle.scr_obligations.specs.Owes.{Owes}
 use Rattle.scr_sheet.specs.declared.sheet.BalanceSheet.{BalanceSheet}
 use Rattle.scr_tree.specs.Standing.{Standing}
 use Rattle.scr_run.specs.Plans.{plan_on}

@@ -12,7 +12,7 @@ use Rattle.scr_factors.specs.declared.key.Key.TheVariants.{Form, NlPremium, NlRe
 use Rattle.scr_factors.proofs.ReadLemmas.{correlations-form, matrix_of-correlation, matrix_of-not_negative, numbers-row, rows-all}
 use Rattle.scr_profile.specs.Matrix.{entry, IsCorrelation}
 use Rattle.scr_profile.specs.declared.matrix.Matrix.{Matrix}
-use Rattle.scr_plans.specs.Plan.{and_then}
+use Rattle.scr_obligations.specs.Plan.{and_then}
 use Rattle.scr_run.specs.Readings.{bytes_in, factors_in, values_or_fault}
 use Rattle.scr_run.specs.declared.files.Role.TheVariants as roles
 use Rattle.scr_run.specs.declared.status.Status.{Status}

@@ -5,12 +5,12 @@ use Rattle.scr_io.specs.Reading.{UnlessFailed}
 use Rattle.scr_io.specs.declared.reading.ReadFault.{ReadFault}
 use Rattle.scr_io.specs.declared.reading.ReadFault.TheVariants as read_faults
 use Rattle.scr_io.specs.declared.reading.TheConstants.{MAX_BYTES}
-use Rattle.scr_plans.specs.Moment.{Shelved, shelved}
-use Rattle.scr_plans.specs.Moment.Answer.{Due}
-use Rattle.scr_plans.specs.Owes.{FailedAt}
-use Rattle.scr_plans.specs.Plan.{and_then}
-use Rattle.scr_plans.specs.Steps.{Passed, Stopped}
-use Rattle.scr_plans.proofs.Walks.{exceeds, lacks_memory, passes_on, same_shelved, stops_on}
+use Rattle.scr_obligations.specs.Moment.{Shelved, shelved}
+use Rattle.scr_obligations.specs.Moment.Answer.{Due}
+use Rattle.scr_obligations.specs.Owes.{FailedAt}
+use Rattle.scr_obligations.specs.Plan.{and_then}
+use Rattle.scr_obligations.specs.Steps.{Passed, Stopped}
+use Rattle.scr_obligations.proofs.Walks.{exceeds, lacks_memory, passes_on, same_shelved, stops_on}
 use Rattle.scr_factors.specs.Reading.{Answers, values_in}
 use Rattle.scr_factors.specs.Values.{FactorValues}
 use Rattle.scr_factors.specs.declared.fault.FactorFault.{FactorFault}

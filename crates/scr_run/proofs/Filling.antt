@@ -1,8 +1,8 @@
 -- What the records of passages give, one passage after another.
 use Rattle.std.proofs.Common.{◌≡◌, ℕ, ◌+◌, ◌≤◌, List, [], ◌∷◌, ◌++◌, length, Result, Ok, Err, refl, ap, ◌∙◌, append_assoc, length-append, arith}
 use Rattle.std.specs.Global.{Vec}
-use Rattle.scr_passages.specs.Passages.{IsWhole, ended_lines, joined, records_behind}
-use Rattle.scr_passages.proofs.Marks.{behind-append}
+use Rattle.scr_line_chunks.specs.Passages.{IsWhole, ended_lines, joined, records_behind}
+use Rattle.scr_line_chunks.proofs.Marks.{behind-append}
 use Rattle.scr_sheet.specs.declared.sheet.BalanceSheet.{BalanceSheet}
 use Rattle.scr_sheet.specs.declared.fault.Fault.{Fault}
 use Rattle.scr_run.specs.BookAnswers.{Filled}

@@ -8,25 +8,25 @@ use Rattle.scr_dates.proofs.Texts.{day_of_text-range}
 use Rattle.scr_dates.specs.Civil.{IsDay}
 use Rattle.scr_dates.specs.Text.{day_of_text}
 use Rattle.scr_dates.specs.declared.day.Day.{Day}
-use Rattle.scr_names.specs.Names.{is_currency, is_name}
+use Rattle.scr_tables.specs.Names.{is_currency, is_name}
 use Rattle.scr_profile.specs.Segments.{segments}
 use Rattle.scr_profile.specs.declared.set.Set.{Set}
 use Rattle.scr_sheet.specs.declared.edit.Edit.{Edit}
 use Rattle.scr_sheet.specs.declared.edit.Edit.TheVariants as edits
 use Rattle.scr_sheet.specs.declared.keys.AbsorbKey.TheVariants as absorb
 use Rattle.scr_sheet.specs.Forms.{AreComponents, AreFlows, Formed, IsAbsorbKey, IsCurrency, IsName, IsNameOrNone, IsNumber, IsStepOrNone}
-use Rattle.scr_spelling.specs.FieldForms.{absorb_key_of, between, currency_key_of, currency_of, group_of, name_of, region_of, segment_of, small_number, step_of, turn_of}
-use Rattle.scr_spelling.specs.Numbers.{are_digits, decimal_value, digits_value, number_value}
+use Rattle.scr_fields.specs.FieldForms.{absorb_key_of, between, currency_key_of, currency_of, group_of, name_of, region_of, segment_of, small_number, step_of, turn_of}
+use Rattle.scr_fields.specs.Numbers.{are_digits, decimal_value, digits_value, number_value}
 use Rattle.scr_csv.specs.LineFields.{is_printed, line_fields}
 use Rattle.scr_csv.specs.Reading.{Rest, both, continued, field, last, listed, made, next, numbers_from, only, pairs_from, read_to, value_in}
 use Rattle.scr_csv.specs.Records as rules_of
-use Rattle.scr_spelling.specs.Words.{all_scenarios, is_text, scenario_word, value_of}
+use Rattle.scr_fields.specs.Words.{all_scenarios, is_text, scenario_word, value_of}
 use Rattle.scr_csv.specs.declared.fault.LineFault.{LineFault}
 use Rattle.scr_csv.specs.declared.fault.LineFault.TheVariants as line_faults
 use Rattle.scr_csv.specs.declared.verb.Verb.{Verb}
 use Rattle.scr_csv.specs.declared.verb.Verb.TheVariants as verbs
-use Rattle.scr_spelling.proofs.Decimals.{below_power, digit_at, powers_rise}
-use Rattle.scr_spelling.proofs.FormLemmas.{found_is}
+use Rattle.scr_fields.proofs.Decimals.{below_power, digit_at, powers_rise}
+use Rattle.scr_fields.proofs.FormLemmas.{found_is}
 use Rattle.scr_csv.proofs.Steps.{formed_if}
 
 -- ---- the forms of fields

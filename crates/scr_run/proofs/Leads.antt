@@ -4,9 +4,9 @@ use Rattle.scr_cells.specs.Block.{block_text}
 use Rattle.scr_csv.specs.Lines.{records}
 use Rattle.scr_factors.specs.Values.{FactorValues}
 use Rattle.scr_io.specs.Content.{Content, Holds}
-use Rattle.scr_plans.specs.Outcome.{outcome, outcome_at}
-use Rattle.scr_plans.specs.Outcome.Outcome.{Ends, Tells}
-use Rattle.scr_plans.specs.Plan.{Plan, ask, unless_refused}
+use Rattle.scr_obligations.specs.Outcome.{outcome, outcome_at}
+use Rattle.scr_obligations.specs.Outcome.Outcome.{Ends, Tells}
+use Rattle.scr_obligations.specs.Plan.{Plan, ask, unless_refused}
 use Rattle.scr_sheet.specs.declared.sheet.BalanceSheet.{BalanceSheet}
 use Rattle.scr_run.specs.Plans.{Names, book_plan, ended_status, made_plan, plan_on, report_plan, told}
 use Rattle.scr_run.specs.Readings.{book_in, edits_in, factors_in}

@@ -10,14 +10,14 @@ use Rattle.scr_io.specs.Content.{Absent, Content, Holds, Untold}
 use Rattle.scr_io.specs.declared.reading.TheConstants.{MAX_BYTES}
 use Rattle.scr_made.specs.Made.{book_text, made_book}
 use Rattle.scr_made.specs.ReadBack.{edits_read}
-use Rattle.scr_plans.specs.Outcome.{Calls}
-use Rattle.scr_plans.specs.Owes.{Allows}
-use Rattle.scr_plans.specs.Plan.{and_then, unless_refused}
-use Rattle.scr_plans.specs.Plan.Plan.{Tell}
+use Rattle.scr_obligations.specs.Outcome.{Calls}
+use Rattle.scr_obligations.specs.Owes.{Allows}
+use Rattle.scr_obligations.specs.Plan.{and_then, unless_refused}
+use Rattle.scr_obligations.specs.Plan.Plan.{Tell}
 use Rattle.scr_sheet.specs.BalanceSheet.{opening}
 use Rattle.scr_sheet.specs.Records.{applied}
 use Rattle.scr_sheet.specs.declared.{edit.Edit.Edit, sheet.BalanceSheet.BalanceSheet}
-use Rattle.scr_sound.specs.Accepted.{AreAccepted, IsSound, sheet_after}
+use Rattle.scr_made.specs.Accepted.{AreAccepted, IsSound, sheet_after}
 use Rattle.scr_run.proofs.ScriptSteps.{accepted-next}
 use Rattle.scr_run.specs.BookFile.{and_then_lines, read_edit, recorded, sheet_from, sheet_of, unless_faulty}
 use Rattle.scr_run.specs.Plans.{book_plan}

@@ -5,17 +5,17 @@ use Rattle.scr_csv.specs.Lines.{records}
 use Rattle.scr_factors.specs.Values.{FactorValues}
 use Rattle.scr_io.specs.Content.{Content}
 use Rattle.scr_made.specs.Made.{book_text, script_text}
-use Rattle.scr_plans.proofs.AllPlans.{wants_memory}
-use Rattle.scr_plans.specs.Moment.{Answer, Shelved, Sunk}
-use Rattle.scr_plans.specs.Moment.Answer.{Due, GaveUp}
-use Rattle.scr_plans.specs.Moment.Cause.{Memory, Reading, Writing}
-use Rattle.scr_plans.specs.Outcome.{TellsNothing}
-use Rattle.scr_plans.specs.Owes.{Owes}
-use Rattle.scr_plans.specs.Plan.{Plan, unless_refused}
-use Rattle.scr_plans.specs.Plan.Plan.{Tell}
+use Rattle.scr_obligations.proofs.AllPlans.{wants_memory}
+use Rattle.scr_obligations.specs.Moment.{Answer, Shelved, Sunk}
+use Rattle.scr_obligations.specs.Moment.Answer.{Due, GaveUp}
+use Rattle.scr_obligations.specs.Moment.Cause.{Memory, Reading, Writing}
+use Rattle.scr_obligations.specs.Outcome.{TellsNothing}
+use Rattle.scr_obligations.specs.Owes.{Owes}
+use Rattle.scr_obligations.specs.Plan.{Plan, unless_refused}
+use Rattle.scr_obligations.specs.Plan.Plan.{Tell}
 use Rattle.scr_sheet.specs.declared.sheet.BalanceSheet.{BalanceSheet}
 use Rattle.scr_tree.specs.Standing.{Standing}
-use Rattle.scr_words.specs.Forms.{Said}
+use Rattle.scr_args.specs.Forms.{Said}
 use Rattle.scr_run.specs.Plans.{book_plan, ended_status, plan_of, script_plan, summed}
 use Rattle.scr_run.specs.Readings.{CallsFor, book_in, edits_in}
 use Rattle.scr_run.specs.Report.{answers, any_refused}

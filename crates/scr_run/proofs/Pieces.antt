@@ -3,7 +3,7 @@ use Rattle.std.proofs.Common.{◌≡◌, ℕ, List, [], ◌++◌, refl, ap, sym,
 use Rattle.std.specs.Io.KnownBytes.{Appends}
 use Rattle.std.proofs.KnownBytes.{Appends-nil, Appends-trans}
 use Rattle.scr_io.specs.Front.{AppendsFront}
-use Rattle.scr_plans.specs.Moment.{Sunk}
+use Rattle.scr_obligations.specs.Moment.{Sunk}
 use Rattle.scr_run.specs.Writing.{Leaves}
 
 module _ (old : Sunk) (whole : List ℕ) where

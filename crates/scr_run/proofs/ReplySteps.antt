@@ -2,7 +2,7 @@
 use Rattle.std.proofs.Common.{◌≡◌, ℕ, List, [], ◌∷◌, ◌++◌, ◌||◌, Bool, true, false, is_err, refl, ap, sym, subst, ◌∙◌}
 use Rattle.std.specs.Io.KnownBytes.{Appends}
 use Rattle.scr_io.specs.Front.{AppendsFront}
-use Rattle.scr_plans.specs.Moment.{Sunk}
+use Rattle.scr_obligations.specs.Moment.{Sunk}
 use Rattle.scr_sheet.specs.declared.sheet.BalanceSheet.{BalanceSheet}
 use Rattle.scr_factors.specs.Values.{FactorValues}
 use Rattle.scr_cells.specs.Block.{block_text}

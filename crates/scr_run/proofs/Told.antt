@@ -3,13 +3,13 @@ use Rattle.std.proofs.Common.{◌≡◌, Bool, true, false, ℕ, List, Option, N
 use Rattle.scr_cells.specs.Block.{block_text}
 use Rattle.scr_csv.specs.Lines.{records}
 use Rattle.scr_factors.specs.Values.{FactorValues}
-use Rattle.scr_plans.specs.Moment.{Answer, Shelved, Sunk}
-use Rattle.scr_plans.specs.Moment.Cause.{Memory, Writing}
-use Rattle.scr_plans.specs.Moment.Answer.{GaveUp}
-use Rattle.scr_plans.specs.Plan.{Plan}
-use Rattle.scr_plans.specs.Plan.Plan.{Tell}
-use Rattle.scr_words.specs.Forms.{Said}
-use Rattle.scr_plans.specs.Owes.{Owes}
+use Rattle.scr_obligations.specs.Moment.{Answer, Shelved, Sunk}
+use Rattle.scr_obligations.specs.Moment.Cause.{Memory, Writing}
+use Rattle.scr_obligations.specs.Moment.Answer.{GaveUp}
+use Rattle.scr_obligations.specs.Plan.{Plan}
+use Rattle.scr_obligations.specs.Plan.Plan.{Tell}
+use Rattle.scr_args.specs.Forms.{Said}
+use Rattle.scr_obligations.specs.Owes.{Owes}
 use Rattle.scr_sheet.specs.declared.sheet.BalanceSheet.{BalanceSheet}
 use Rattle.scr_run.specs.Plans.{ended_status, plan_of, told}
 use Rattle.scr_run.specs.Report.{answers, any_refused, report_text}

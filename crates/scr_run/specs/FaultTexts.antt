@@ -7,7 +7,7 @@ use Rattle.scr_sheet.specs.declared.fault.Quantity.{Quantity}
 use Rattle.scr_sheet.specs.declared.fault.Quantity.TheVariants as quantities
 use Rattle.scr_sheet.specs.declared.fault.User.{User}
 use Rattle.scr_sheet.specs.declared.fault.User.TheVariants as users
-use Rattle.scr_spelling.specs.KeyWords.{absorb_text}
+use Rattle.scr_fields.specs.KeyWords.{absorb_text}
 
 -- the number of a fault
 abbrev pub fault_number : Fault → ℕ

@@ -5,14 +5,14 @@ use Rattle.scr_cells.specs.Block.{block_text, requirement_line}
 use Rattle.scr_factors.specs.Values.{FactorValues}
 use Rattle.scr_made.specs.Made.{book_text, script_text}
 use Rattle.scr_sheet.specs.declared.sheet.BalanceSheet.{BalanceSheet}
-use Rattle.scr_plans.specs.Plan.{Plan, ask, unless_refused}
-use Rattle.scr_plans.specs.Plan.Plan.{End, Tell}
+use Rattle.scr_obligations.specs.Plan.{Plan, ask, unless_refused}
+use Rattle.scr_obligations.specs.Plan.Plan.{End, Tell}
 use Rattle.scr_run.specs.Readings.{factors_in, book_in, edits_in}
 use Rattle.scr_run.specs.Report.{answers, any_refused, report_text}
 use Rattle.scr_run.specs.Summary.{summary_text}
 use Rattle.scr_run.specs.declared.status.Status.{Status}
 use Rattle.scr_run.specs.declared.status.Status.TheVariants as statuses
-use Rattle.scr_words.specs.Forms.{Said}
+use Rattle.scr_args.specs.Forms.{Said}
 
 -- the status of a run whose text is whole
 abbrev pub ended_status : Bool → Status

@@ -11,10 +11,10 @@ use Rattle.scr_factors.specs.Reading.{values_in}
 use Rattle.scr_factors.specs.Values.{FactorValues}
 use Rattle.scr_factors.specs.declared.fault.FactorFault.{FactorFault}
 use Rattle.scr_factors.specs.declared.fault.FactorFault.TheVariants as factor_faults
-use Rattle.scr_plans.specs.Moment.{Answer}
-use Rattle.scr_plans.specs.Moment.Answer.{Due, GaveUp}
-use Rattle.scr_plans.specs.Moment.Cause.{Memory, Reading, Writing}
-use Rattle.scr_plans.specs.Plan.{limited, and_then}
+use Rattle.scr_obligations.specs.Moment.{Answer}
+use Rattle.scr_obligations.specs.Moment.Answer.{Due, GaveUp}
+use Rattle.scr_obligations.specs.Moment.Cause.{Memory, Reading, Writing}
+use Rattle.scr_obligations.specs.Plan.{limited, and_then}
 use Rattle.scr_run.specs.Statuses.{answer_of}
 use Rattle.scr_run.specs.BookFile.{sheet_of}
 use Rattle.scr_run.specs.declared.files.Role.{Role}

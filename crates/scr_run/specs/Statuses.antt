@@ -1,8 +1,8 @@
 -- What each status says of how a run ended (this project's own).
 use Rattle.std.specs.Prelude.{◌≡◌, ◌⊎◌}
-use Rattle.scr_plans.specs.Moment.{Answer}
-use Rattle.scr_plans.specs.Moment.Cause.{Reading, Writing, Memory}
-use Rattle.scr_plans.specs.Moment.Answer.{Due, GaveUp}
+use Rattle.scr_obligations.specs.Moment.{Answer}
+use Rattle.scr_obligations.specs.Moment.Cause.{Reading, Writing, Memory}
+use Rattle.scr_obligations.specs.Moment.Answer.{Due, GaveUp}
 use Rattle.scr_factors.specs.declared.fault.FactorFault.TheVariants as factor_faults
 use Rattle.scr_sheet.specs.declared.fault.Fault.TheVariants as faults
 use Rattle.scr_run.specs.declared.status.Status.{Status}

@@ -3,7 +3,7 @@ use Rattle.std.specs.Prelude.{◌≡◌, ◌++◌, ℕ, List, Result, Ok, Err}
 use Rattle.std.specs.Io.KnownBytes.{Appends}
 use Rattle.scr_io.specs.Cause.{Rose}
 use Rattle.scr_io.specs.Front.{AppendsFront}
-use Rattle.scr_plans.specs.Moment.{Sunk}
+use Rattle.scr_obligations.specs.Moment.{Sunk}
 use Rattle.scr_run.specs.declared.report.WriteFault.{WriteFault}
 use Rattle.scr_run.specs.declared.report.WriteFault.TheVariants as faults
 

@@ -1,13 +1,13 @@
 //! What the program does: it runs, tells how the run ended, and says its exit code.
 ghost use Rattle.std.specs.Prelude.{◌≡◌, ◌≤◌, None, drop, IfOk};
-ghost use Rattle.scr_plans.specs.Moment.{shelved, sunk};
-ghost use Rattle.scr_plans.specs.Owes.{Owes};
+ghost use Rattle.scr_obligations.specs.Moment.{shelved, sunk};
+ghost use Rattle.scr_obligations.specs.Owes.{Owes};
 ghost use Rattle.scr_run.specs.Codes.{code_of};
 ghost use Rattle.scr_run.specs.Plans.{plan_of};
 ghost use Rattle.scr_run.specs.Statuses.{answer_of};
 ghost use Rattle.scr_run.specs.StatusTexts.{told_line};
 ghost use Rattle.scr_run.specs.Writing.{IsTold, TellsLine};
-ghost use Rattle.scr_words.specs.Forms.{said as words_say};
+ghost use Rattle.scr_args.specs.Forms.{said as words_say};
 ghost use Rattle.scr_run.specs.declared.status.Status.{Status as Ended};
 
 use crate::report::WriteFault;

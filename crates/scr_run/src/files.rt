@@ -1,10 +1,10 @@
 //! The files that a run reads: each is read whole, and its bytes are refused or stand for a value.
 ghost use Rattle.std.specs.Prelude.{◌≡◌, ◌≤◌, IfOk, IfErr, OnOk, vec_len, length};
 ghost use Rattle.std.specs.Io.KnownBytes.{IsAtEnd};
-ghost use Rattle.scr_passages.specs.Files.{bytes_of};
-ghost use Rattle.scr_passages.specs.Passages.{AreWhole};
-ghost use Rattle.scr_plans.specs.Moment.{shelved};
-ghost use Rattle.scr_plans.specs.Steps.{Passed, Stopped};
+ghost use Rattle.scr_line_chunks.specs.Files.{bytes_of};
+ghost use Rattle.scr_line_chunks.specs.Passages.{AreWhole};
+ghost use Rattle.scr_obligations.specs.Moment.{shelved};
+ghost use Rattle.scr_obligations.specs.Steps.{Passed, Stopped};
 ghost use Rattle.scr_run.specs.Readings.{Bears, IsLimited, too_long_of, bytes_in, factors_in, book_in, status_of_fault, status_unread};
 ghost use Rattle.scr_run.specs.Statuses.{answer_of, IsEarly};
 
@@ -13,7 +13,7 @@ use crate::status::{Status, Which};
 use scr_book::Book;
 use scr_factors::{FactorFault, Factors, read_factors};
 use scr_io::{MAX_BYTES, ReadFault, Shelf, read_all};
-use scr_passages::{Passages, read_passages};
+use scr_line_chunks::{Passages, read_passages};
 use std::alloc::Global;
 
 /// What a file is read for.

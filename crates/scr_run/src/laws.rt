@@ -9,16 +9,16 @@ ghost use Rattle.scr_cells.specs.Block.{block_text, requirement_line};
 ghost use Rattle.scr_cells.specs.Certified.{Certified, IsBounded};
 ghost use Rattle.scr_cells.specs.Table.{market_cells};
 ghost use Rattle.scr_io.specs.Content.{Content, Holds};
-ghost use Rattle.scr_plans.specs.Outcome.{Calls, outcome};
-ghost use Rattle.scr_plans.specs.Outcome.Outcome.{Ends, Tells};
-ghost use Rattle.scr_plans.specs.Plan.Plan.{Tell};
+ghost use Rattle.scr_obligations.specs.Outcome.{Calls, outcome};
+ghost use Rattle.scr_obligations.specs.Outcome.Outcome.{Ends, Tells};
+ghost use Rattle.scr_obligations.specs.Plan.Plan.{Tell};
 ghost use Rattle.scr_run.specs.BookFile.{sheet_of};
 ghost use Rattle.scr_run.specs.Plans.{Names, book_plan, ended_status, made_plan, report_plan};
 ghost use Rattle.scr_run.specs.Readings.{book_in, edits_in, factors_in};
 ghost use Rattle.scr_run.specs.Report.{answers, any_refused, printed, report_text};
 ghost use Rattle.scr_made.specs.Made.{made_book, script_text};
 ghost use Rattle.scr_sheet.specs.BalanceSheet.{opening};
-ghost use Rattle.scr_sound.specs.Accepted.{sheet_after};
+ghost use Rattle.scr_made.specs.Accepted.{sheet_after};
 ghost use Rattle.scr_run.specs.Summary.{accepted, summary_text};
 ghost use Rattle.scr_run.specs.declared.status.Status.{Status};
 ghost use Rattle.scr_run.specs.declared.status.Status.TheVariants as statuses;
@@ -95,6 +95,6 @@ pub fn made_outcomes()
         ≡ 20) }
 {
     scr_made::laws::read_as_made();
-    scr_sound::laws::without_fault();
-    scr_sound::laws::within_a_file()
+    scr_made::acceptance::without_fault();
+    scr_made::acceptance::within_a_file()
 }

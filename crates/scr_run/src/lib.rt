@@ -21,6 +21,6 @@ pub use files::{file_book, file_factors};
 pub use printing::push_refusal;
 pub use records::edit;
 pub use running::{ended, run};
-pub use scr_words::{Word, Words, WordsFault, parse_words};
+pub use scr_args::{Word, Words, WordsFault, parse_words};
 pub use status::{Status, Which};
 pub use telling::status_line;

@@ -2,7 +2,7 @@
 ghost use Rattle.std.specs.Prelude.{◌≡◌, ℕ, ◌++◌, decimal, OnOk};
 ghost use Rattle.std.specs.Fmt.{signed_decimal};
 ghost use Rattle.scr_run.specs.FaultTexts.{fault_number, fault_text, refusal_text, syntax_text, labelled_name, in_use_text, cycle_text, next_name, path_text, absorb_user, user_text, range_text, quantity_name};
-ghost use Rattle.scr_spelling.specs.KeyWords.{absorb_text};
+ghost use Rattle.scr_fields.specs.KeyWords.{absorb_text};
 
 use scr_book::{AbsorbKey, Fault, Name, Names, Quantity, User};
 use scr_csv::push_absorb_key;

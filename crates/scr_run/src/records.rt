@@ -8,14 +8,14 @@ ghost use Rattle.scr_run.specs.BookFile.{recorded, sheet_from, sheet_of};
 ghost use Rattle.scr_run.specs.BookAnswers.{Filled, Recorded, Replied, Read};
 ghost use Rattle.scr_csv.specs.Lines.{records};
 ghost use Rattle.scr_csv.specs.LineOrder.{lines_left};
-ghost use Rattle.scr_passages.specs.Files.{bytes_of};
-ghost use Rattle.scr_passages.specs.Passages.{AreWhole, records_behind};
+ghost use Rattle.scr_line_chunks.specs.Files.{bytes_of};
+ghost use Rattle.scr_line_chunks.specs.Passages.{AreWhole, records_behind};
 
 use crate::crew::Crew;
 use scr_book::{Book, Edit, Fault};
 use scr_csv::{LineFault, read_line};
 use scr_io::{Gate, Steps};
-use scr_passages::{Passages, lines_behind, passed_behind};
+use scr_line_chunks::{Passages, lines_behind, passed_behind};
 use scr_tree::{Engine, Refusal};
 use std::alloc::Global;
 use std::marker::Brand;

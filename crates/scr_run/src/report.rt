@@ -2,7 +2,7 @@
 ghost use Rattle.std.specs.Prelude.{◌≡◌, ℕ, ◌≤◌, length, IfOk};
 ghost use Rattle.scr_cells.specs.Block.{block_text};
 ghost use Rattle.scr_csv.specs.Lines.{records};
-ghost use Rattle.scr_plans.specs.Moment.{sunk};
+ghost use Rattle.scr_obligations.specs.Moment.{sunk};
 ghost use Rattle.scr_run.specs.Report.{answers, any_refused, report_text};
 ghost use Rattle.scr_run.specs.Writing.{WritesText};
 

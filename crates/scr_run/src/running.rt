@@ -1,24 +1,24 @@
 //! A run of the program: from its words to its status.
 ghost use Rattle.std.specs.Prelude.{◌≡◌, ◌≤◌, ℕ, None};
 ghost use Rattle.std.specs.Io.KnownBytes.{IsAtEnd};
-ghost use Rattle.scr_plans.specs.Moment.{shelved, sunk};
-ghost use Rattle.scr_plans.specs.Outcome.{TellsNothing};
-ghost use Rattle.scr_plans.specs.Owes.{Owes};
+ghost use Rattle.scr_obligations.specs.Moment.{shelved, sunk};
+ghost use Rattle.scr_obligations.specs.Outcome.{TellsNothing};
+ghost use Rattle.scr_obligations.specs.Owes.{Owes};
 ghost use Rattle.scr_factors.specs.declared.fault.FactorFault.TheVariants as factor_faults;
 ghost use Rattle.scr_sheet.specs.declared.fault.Fault.TheVariants as faults;
 ghost use Rattle.scr_run.specs.FileNames.{names_of};
 ghost use Rattle.scr_run.specs.Plans.{ended_status, plan_of, plan_on, report_plan};
 ghost use Rattle.scr_run.specs.Statuses.{answer_of, IsEnded, IsQuiet};
-ghost use Rattle.scr_words.specs.Forms.{said as words_say};
+ghost use Rattle.scr_args.specs.Forms.{said as words_say};
 
 use crate::crew::Crew;
 use crate::files::{Role, file_book, file_bytes, file_factors};
 use crate::making::run_made;
 use crate::report::{WriteFault, write_report};
 use crate::status::Status;
+use scr_args::{Words, WordsFault, parse_words};
 use scr_io::{Gate, Shelf, Sink};
 use scr_tree::Engine;
-use scr_words::{Words, WordsFault, parse_words};
 use std::alloc::Global;
 use std::thread::Threads;
 

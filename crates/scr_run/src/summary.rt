@@ -2,7 +2,7 @@
 ghost use Rattle.std.specs.Prelude.{◌≡◌, ◌≤◌, IfOk, OnOk, is_ok, length};
 ghost use Rattle.scr_cells.specs.Block.{requirement_line as line_of};
 ghost use Rattle.scr_csv.specs.Lines.{records};
-ghost use Rattle.scr_plans.specs.Moment.{sunk};
+ghost use Rattle.scr_obligations.specs.Moment.{sunk};
 ghost use Rattle.scr_tree.specs.Standing.{HasSheet};
 ghost use Rattle.scr_run.specs.Report.{after, answers, any_refused};
 ghost use Rattle.scr_run.specs.BookFile.{recorded};

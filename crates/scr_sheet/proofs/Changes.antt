@@ -2,12 +2,12 @@
 use Rattle.std.proofs.Common.{◌≡◌, ℕ, false, List, [], ◌++◌, map, sym, subst, append_assoc, append-nil}
 use Rattle.std.specs.List.{AllByRecursion, IsDistinct}
 use Rattle.scr_funds.specs.Chains.{IsAcyclic}
-use Rattle.scr_names.specs.Names.{same_name}
-use Rattle.scr_names.specs.Tables.{has_row, with_row, without}
+use Rattle.scr_tables.specs.Names.{same_name}
+use Rattle.scr_tables.specs.Tables.{has_row, with_row, without}
 use Rattle.scr_sheet.specs.BalanceSheet.{group_name, position_name, liability_name, bank_name, rein_name, curve_name, stake_name, names_of, components_of, is_named}
 use Rattle.scr_sheet.specs.declared.{sheet.BalanceSheet.BalanceSheet, rows.Group.Group, rows.Position.Position, rows.Stake.Stake, rows.Liability.Liability, rows.Bank.Bank, rows.Rein.Rein, rows.Curve.Curve, numbers.Numbers.Numbers}
 use Rattle.scr_sheet.specs.Validity.{Valid, AreWithin, AreNumbers, IsGroup, IsSecurity, IsStake, IsLiability, IsBank, IsRein, IsCurve, HasGroup, HasGroupOrNone, HasCurrency, IsHeld}
-use Rattle.scr_names.proofs.TableRows.{IsFresh, All-append, fresh_from_has_row, distinct-with_row, distinct-without}
+use Rattle.scr_tables.proofs.TableRows.{IsFresh, All-append, fresh_from_has_row, distinct-with_row, distinct-without}
 use Rattle.scr_sheet.proofs.Projections.{or_false}
 
 module _ (sheet : BalanceSheet) (valid : Valid sheet) where

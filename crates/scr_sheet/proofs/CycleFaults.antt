@@ -5,8 +5,8 @@ use Rattle.std.proofs.lemmas.List.{length-map}
 use Rattle.scr_funds.specs.Chains.{IsFirstShortest}
 use Rattle.scr_funds.specs.Paths.{path_within}
 use Rattle.scr_funds.proofs.EarliestPaths.{path_within-told, path_within-is}
-use Rattle.scr_names.specs.Names.{same_name}
-use Rattle.scr_names.proofs.TableRows.{same_name-is, same_name-itself}
+use Rattle.scr_tables.specs.Names.{same_name}
+use Rattle.scr_tables.proofs.TableRows.{same_name-is, same_name-itself}
 use Rattle.scr_sheet.specs.BalanceSheet.{stake_name, components_of, held_total, defaults_total, components_total, sheet_years}
 use Rattle.scr_sheet.specs.Faults.{above, outside, outside_weight, first_fault, fault_of, list_fault, unknown_name, wrong_kind, cycle, out_of_range}
 use Rattle.scr_sheet.specs.Records.{applied, with_fund}

@@ -1,11 +1,11 @@
 -- What stood in a sheet leads back to it from what a record leaves.
 use Rattle.std.proofs.Common.{◌≡◌, ℕ, ℤ, true, List, Option, Some, None, refl, sym, ap, ◌∙◌, arith}
 use Rattle.std.specs.Option.{option_map_or}
-use Rattle.scr_names.specs.Pasts.{restored, HasPlace, LeadsBack as RowsLeadBack}
-use Rattle.scr_names.specs.Tables.{row_of, has_row, with_row, changed}
-use Rattle.scr_names.proofs.PastRows.{missing}
-use Rattle.scr_names.proofs.TableRows.{same_name-is, name_of-row_of}
-use Rattle.scr_names.specs.declared.past.Past.{Past}
+use Rattle.scr_tables.specs.Pasts.{restored, HasPlace, LeadsBack as RowsLeadBack}
+use Rattle.scr_tables.specs.Tables.{row_of, has_row, with_row, changed}
+use Rattle.scr_tables.proofs.PastRows.{missing}
+use Rattle.scr_tables.proofs.TableRows.{same_name-is, name_of-row_of}
+use Rattle.scr_tables.specs.declared.past.Past.{Past}
 use Rattle.scr_sheet.specs.BalanceSheet.{position_name, liability_name, curve_name, stake_name}
 use Rattle.scr_sheet.specs.Earlier.{with_earlier, FitsIn, LeadsBack}
 use Rattle.scr_sheet.specs.Records.{natural}

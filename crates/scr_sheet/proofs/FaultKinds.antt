@@ -3,8 +3,8 @@ use Rattle.std.proofs.Common.{◌≡◌, ℕ, zero, suc, ℤ, pos, neg_ℤ, ◌+
 use Rattle.std.specs.List.{list_any}
 use Rattle.std.specs.Option.{option_or, option_map, option_map_or}
 use Rattle.scr_dates.specs.declared.day.Day.{Day}
-use Rattle.scr_names.specs.Names.{same_name}
-use Rattle.scr_names.specs.Tables.{row_of}
+use Rattle.scr_tables.specs.Names.{same_name}
+use Rattle.scr_tables.specs.Tables.{row_of}
 use Rattle.scr_sheet.specs.BalanceSheet.{liability_name, is_in, is_named, held_total, volumes_total, liability_flows_total, defaults_total, components_total, sheet_years}
 use Rattle.scr_sheet.specs.Faults.{first_fault, components_fault, list_fault, unknown_row, unknown_currency, unknown_component, unknown_name, misplaced, misplaced_group, misplaced_holding, misplaced_component, lacking, wrong_kind, in_use, cycle, outside, above, outside_rates, outside_weight, outside_promise, outside_amounts, outside_provisions, fields_outside, liability_flows_outside, volumes_outside, sheet_outside, out_of_range, fault_of}
 use Rattle.scr_sheet.specs.Records.{applied}

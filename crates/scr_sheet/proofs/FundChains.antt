@@ -8,13 +8,13 @@ use Rattle.scr_funds.specs.Paths.{path_within}
 use Rattle.scr_funds.proofs.Members.{IsMember-from_Contains, Contains-from_IsMember}
 use Rattle.scr_funds.proofs.Cycles.{acyclic_weaker, acyclic_still}
 use Rattle.scr_funds.proofs.EarliestPaths.{path_within-none}
-use Rattle.scr_names.specs.Names.{same_name}
-use Rattle.scr_names.specs.Tables.{row_of, without, changed}
+use Rattle.scr_tables.specs.Names.{same_name}
+use Rattle.scr_tables.specs.Tables.{row_of, without, changed}
 use Rattle.scr_sheet.specs.BalanceSheet.{stake_name, components_of}
 use Rattle.scr_sheet.specs.Records.{with_fund}
 use Rattle.scr_sheet.specs.declared.rows.Stake.{Stake}
 use Rattle.scr_sheet.proofs.HeldNames.{member-row}
-use Rattle.scr_names.proofs.TableRows.{same_or_other, same_name-itself, same_name-is, row_of-with_row_other, row_of-without_own, row_of-without_other, found-changed}
+use Rattle.scr_tables.proofs.TableRows.{same_or_other, same_name-itself, same_name-is, row_of-with_row_other, row_of-without_own, row_of-without_other, found-changed}
 
 -- the names of a fund's components
 abbrev names_in : Stake → List (List ℕ)

@@ -1,13 +1,13 @@
 -- What the fault of a fund's list says: the components up to one of them are still as those of a fund are, and with it they are not.
 use Rattle.std.proofs.Common.{◌≡◌, ◌↔◌, ℕ, zero, suc, ℤ, ◌+◌, ◌*◌, ◌<◌, ◌||◌, false, List, [], ◌∷◌, length, map, take, Some, None, if◌then◌else◌, refl, sym, ap, subst, ◌∙◌, arith}
 use Rattle.std.specs.List.{AllByRecursion, IsDistinct, list_any}
-use Rattle.scr_names.specs.Names.{same_name}
+use Rattle.scr_tables.specs.Names.{same_name}
 use Rattle.scr_sheet.specs.Faults.{components_fault}
 use Rattle.scr_sheet.specs.FundLists.{AreOfOneFund}
 use Rattle.scr_sheet.specs.declared.fault.Fault.{Fault}
 use Rattle.scr_sheet.specs.declared.fault.Fault.TheVariants as faults
 use Rattle.scr_profile.specs.declared.limits.TheConstants.{MAX_FUND_COMPONENTS}
-use Rattle.scr_names.proofs.TableRows.{IsFresh, same_name-flip, passes_or_fails}
+use Rattle.scr_tables.proofs.TableRows.{IsFresh, same_name-flip, passes_or_fails}
 use Rattle.scr_sheet.proofs.Preserved.{AreOnce, once, fresh_components}
 
 -- none is the name or one of those met before

@@ -3,11 +3,11 @@ use Rattle.std.proofs.Common.{◌≡◌, ℕ, ℤ, ◌≤◌, inl, inr, List, []
 use Rattle.std.specs.List.{AllByRecursion}
 use Rattle.std.specs.Option.{option_map_or}
 use Rattle.scr_dates.specs.declared.day.Day.{Day}
-use Rattle.scr_names.specs.Tables.{row_of, with_row, without, changed}
+use Rattle.scr_tables.specs.Tables.{row_of, with_row, without, changed}
 use Rattle.scr_sheet.specs.CashFlows.{greatest_years, flows_under, with_flows, all_projections}
 use Rattle.scr_sheet.specs.BalanceSheet.{greatest, liability_years}
 use Rattle.scr_sheet.specs.declared.{keys.Projection.Projection, rows.Liability.Liability}
-use Rattle.scr_names.proofs.TableRows.{All-map, All-with_row, All-without, All-row_of, All-changed}
+use Rattle.scr_tables.proofs.TableRows.{All-map, All-with_row, All-without, All-row_of, All-changed}
 use Rattle.scr_sheet.proofs.Projections.{each_projection, every_projection, one_or_other, under-with}
 
 module _ {Row : Type 0} (f : Row → ℕ) where

@@ -6,9 +6,9 @@ use Rattle.std.specs.Option.{option_map_or}
 use Rattle.std.proofs.lemmas.List.Sums.{sum_by-append}
 use Rattle.scr_funds.proofs.Members.{IsMember, IsMember-left, IsMember-right}
 use Rattle.scr_funds.proofs.SumsBy.{sum_by-map}
-use Rattle.scr_names.specs.Names.{same_name}
-use Rattle.scr_names.specs.Tables.{row_of, has_row}
-use Rattle.scr_names.proofs.TableRows.{IsFresh, All-append, All-map, All-row_of, same_name-flip, same_name-is, name_of-row_of, fresh_from_has_row}
+use Rattle.scr_tables.specs.Names.{same_name}
+use Rattle.scr_tables.specs.Tables.{row_of, has_row}
+use Rattle.scr_tables.proofs.TableRows.{IsFresh, All-append, All-map, All-row_of, same_name-flip, same_name-is, name_of-row_of, fresh_from_has_row}
 use Rattle.scr_sheet.specs.BalanceSheet.{names_of, position_name, stake_name, position_of, stake_of, held_of, held_total}
 use Rattle.scr_sheet.specs.declared.{sheet.BalanceSheet.BalanceSheet, rows.Position.Position}
 use Rattle.scr_sheet.specs.Validity.{Valid, IsHeld}

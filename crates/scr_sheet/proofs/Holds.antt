@@ -3,12 +3,12 @@ use Rattle.std.proofs.Common.{◌≡◌, ℕ, ◌+◌, zero, suc, false, List, [
 use Rattle.std.specs.List.{AllByRecursion, IsDistinct}
 use Rattle.std.specs.Option.{option_map_or}
 use Rattle.std.proofs.lemmas.List.Sums.{sum_by-cons}
-use Rattle.scr_names.specs.Names.{same_name}
-use Rattle.scr_names.specs.Tables.{row_of}
+use Rattle.scr_tables.specs.Names.{same_name}
+use Rattle.scr_tables.specs.Tables.{row_of}
 use Rattle.scr_sheet.specs.BalanceSheet.{group_name, position_name, liability_name, bank_name, rein_name, stake_name, names_of, position_of, stake_of, held_of, held_total}
 use Rattle.scr_sheet.specs.declared.{sheet.BalanceSheet.BalanceSheet, rows.Position.Position, rows.Stake.Stake}
 use Rattle.scr_sheet.specs.Validity.{Valid}
-use Rattle.scr_names.proofs.TableRows.{IsFresh, All-both, All-row_of, name_of-row_of, same_name-is, same_name-itself, same_name-flip, row_of-here, row_of-later, row_of-fresh}
+use Rattle.scr_tables.proofs.TableRows.{IsFresh, All-both, All-row_of, name_of-row_of, same_name-is, same_name-itself, same_name-flip, row_of-here, row_of-later, row_of-fresh}
 
 All-left : {X : Type 0} (P : X → Type 0) (xs ys : List X) → AllByRecursion P (xs ++ ys) → AllByRecursion P xs
 All-left P [] ys all = tt

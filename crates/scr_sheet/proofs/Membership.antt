@@ -1,9 +1,9 @@
 -- Which rows are members of which rolls before a record and after it.
 use Rattle.std.proofs.Common.{◌≡◌, ℕ, false, List, Option, Some, None, is_some, refl, sym, ap, ◌∙◌}
 use Rattle.std.specs.Option.{option_map_or}
-use Rattle.scr_names.specs.Names.{same_name}
-use Rattle.scr_names.specs.Tables.{row_of, with_row, changed}
-use Rattle.scr_names.proofs.TableRows.{name_of-row_of, same_name-is, same_name-flip, row_of-with_row_other, row_of-without_other}
+use Rattle.scr_tables.specs.Names.{same_name}
+use Rattle.scr_tables.specs.Tables.{row_of, with_row, changed}
+use Rattle.scr_tables.proofs.TableRows.{name_of-row_of, same_name-is, same_name-flip, row_of-with_row_other, row_of-without_other}
 use Rattle.scr_sheet.specs.BalanceSheet.{group_name, position_name, stake_name, liability_name, position_of, stake_of}
 use Rattle.scr_sheet.specs.CashFlows.{with_flows}
 use Rattle.scr_sheet.specs.Records.{applied, natural}

@@ -5,8 +5,8 @@ use Rattle.std.proofs.lemmas.Int.{ints}
 use Rattle.std.specs.List.{AllByRecursion, IsDistinct, list_any}
 use Rattle.std.specs.Option.{option_map, option_map_or}
 use Rattle.scr_dates.specs.declared.day.Day.{Day}
-use Rattle.scr_names.specs.Names.{same_name}
-use Rattle.scr_names.specs.Tables.{row_of, has_row, with_row, without, changed}
+use Rattle.scr_tables.specs.Names.{same_name}
+use Rattle.scr_tables.specs.Tables.{row_of, has_row, with_row, without, changed}
 use Rattle.scr_sheet.specs.CashFlows.{total, flows_under, with_flows, no_flows, has_projection, suits}
 use Rattle.scr_sheet.specs.BalanceSheet.{opening, no_volumes, group_name, position_name, liability_name, bank_name, rein_name, curve_name, stake_name, names_of, is_in, is_named, held_total, components_total, liability_flows_total, volumes_total, defaults_total, sheet_years}
 use Rattle.scr_sheet.specs.declared.{sheet.BalanceSheet.BalanceSheet, edit.Edit.Edit, fault.Fault.Fault, fault.User.User, keys.AbsorbKey.AbsorbKey, keys.Projection.Projection, keys.Table.Table, rows.Group.Group, rows.Position.Position, rows.Stake.Stake, rows.Liability.Liability, rows.LiabilityKind.LiabilityKind, rows.Bank.Bank, rows.Rein.Rein, rows.Curve.Curve}
@@ -23,7 +23,7 @@ use Rattle.scr_profile.specs.declared.set.Set.{Set}
 use Rattle.scr_profile.specs.declared.set.Set.TheVariants as sets
 use Rattle.scr_sheet.specs.declared.keys.Table.TheVariants as tables
 use Rattle.scr_profile.specs.declared.limits.TheConstants.{MIN_RATE, MAX_RATE, MAX_RATES, MAX_DURATION, MAX_FLOWS, MAX_PROMISED, MAX_AMOUNT, MAX_SYM, MAX_TAX, MAX_HELD, MAX_LIABILITY_FLOWS, MAX_YEARS, MAX_CURRENCIES, MAX_SECURITIES, MAX_FUNDS, MAX_COMPONENTS, MAX_FUND_COMPONENTS, MIN_WEIGHT, MAX_WEIGHT, MAX_LIABILITIES, MAX_GROUPS, MAX_EXPOSURES}
-use Rattle.scr_names.proofs.TableRows.{IsFresh, same_name-is, same_name-flip, row_of-with_row_own, All-map, All-both, All-with_row, All-without, All-row_of, All-changed, has_row-with_row, has_row-without, has_row-changed, names-changed, sum-with_row, sum-without, sum-changed}
+use Rattle.scr_tables.proofs.TableRows.{IsFresh, same_name-is, same_name-flip, row_of-with_row_own, All-map, All-both, All-with_row, All-without, All-row_of, All-changed, has_row-with_row, has_row-without, has_row-changed, names-changed, sum-with_row, sum-without, sum-changed}
 use Rattle.scr_sheet.proofs.Bounds.{neither, within_from_above, between_from_outside, all_from_first_fault, natural-le, natural-is}
 use Rattle.scr_sheet.proofs.Projections.{one_or_other, each-with_flows, suits-with_flows, suits-no_flows, under-no_flows, or_false}
 use Rattle.scr_sheet.proofs.Amounts.{All-set, All-placed, volumes-with_segment, with_asof, with_absorb as numbers-with_absorb, with_both_volumes, with_cats, with_lapse, with_due, with_op, with_sym, with_tax, with_fdb, with_intangible}

@@ -6,7 +6,7 @@ use Rattle.std.specs.Option.{option_or, option_map_or}
 use Rattle.std.proofs.lemmas.List.{length-map}
 use Rattle.scr_dates.specs.declared.day.Day.{Day}
 use Rattle.scr_profile.specs.declared.{set.Set.Set, group_kind.GroupKind.GroupKind}
-use Rattle.scr_names.specs.Tables.{row_of, with_row, without, changed}
+use Rattle.scr_tables.specs.Tables.{row_of, with_row, without, changed}
 use Rattle.scr_sheet.specs.CashFlows.{total, greatest_years, with_flows, no_flows}
 use Rattle.scr_sheet.specs.BalanceSheet.{group_name, position_name, stake_name, liability_name, bank_name, rein_name, curve_name, held_of, held_total, liability_flows_total, volumes_total, defaults_total, components_total, greatest, security_years, liability_years, sheet_years, is_in}
 use Rattle.scr_sheet.specs.declared.{sheet.BalanceSheet.BalanceSheet, edit.Edit.Edit, fault.Fault.Fault, fault.Quantity.Quantity, keys.AbsorbKey.AbsorbKey, keys.Projection.Projection, keys.Table.Table, rows.Bank.Bank, rows.Class.Class, rows.Curve.Curve, rows.Group.Group, rows.Liability.Liability, rows.LiabilityKind.LiabilityKind, rows.Position.Position, rows.Rein.Rein, rows.Stake.Stake}
@@ -18,7 +18,7 @@ use Rattle.scr_sheet.specs.declared.fault.Quantity.TheVariants as quantities
 use Rattle.scr_sheet.specs.declared.keys.AbsorbKey.TheVariants as absorb
 use Rattle.scr_sheet.specs.declared.keys.Table.TheVariants as tables
 use Rattle.scr_profile.specs.declared.limits.TheConstants.{MAX_AMOUNT, MAX_HELD, MAX_LIABILITY_FLOWS, MAX_YEARS, MAX_CURRENCIES, MAX_SECURITIES, MAX_FUNDS, MAX_COMPONENTS, MAX_LIABILITIES, MAX_GROUPS, MAX_EXPOSURES}
-use Rattle.scr_names.proofs.TableRows.{added, names-changed, sum-without, length-with_row}
+use Rattle.scr_tables.proofs.TableRows.{added, names-changed, sum-without, length-with_row}
 use Rattle.scr_sheet.proofs.Bounds.{above-within, option_or-none}
 use Rattle.scr_sheet.proofs.Greatest.{greatest-with_row-le, row_of-le-greatest, greatest-without-le, greatest-changed-le, le-greatest-changed, liability_years-with_flows-le, le-liability_years-with_flows}
 use Rattle.scr_sheet.proofs.Sums.{in_one_table, held-hold, held-part, held-same, stake_components, components-fund, components-drop, components-part, components-hold, liability_total, liability_flows-own, liability_flows-part, volumes-segment, volumes-part, rein_total, defaults-bank, defaults-rein, defaults-part_bank, defaults-part_rein}

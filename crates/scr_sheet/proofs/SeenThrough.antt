@@ -13,9 +13,9 @@ use Rattle.scr_funds.proofs.Cycles.{acyclic_weaker}
 use Rattle.scr_funds.proofs.LookThroughLaws.{total_is, totals_whole, names_in-own}
 use Rattle.scr_funds.proofs.Members.{IsMember, IsMember-left, IsMember-mapped, Contains-from_IsMember, at_member, each-from_members}
 use Rattle.scr_funds.proofs.SumsBy.{sum_by-same, sum_by-map, sum_by-filter}
-use Rattle.scr_names.specs.Names.{same_name}
-use Rattle.scr_names.specs.Tables.{has_row}
-use Rattle.scr_names.proofs.TableRows.{All-map, same_name-is, same_name-itself}
+use Rattle.scr_tables.specs.Names.{same_name}
+use Rattle.scr_tables.specs.Tables.{has_row}
+use Rattle.scr_tables.proofs.TableRows.{All-map, same_name-is, same_name-itself}
 use Rattle.scr_sheet.specs.Records.{natural}
 use Rattle.scr_sheet.specs.Forms.{IsName}
 use Rattle.scr_sheet.specs.Totals.{shared, shared_funds, total_of, parts_of_funds, closed_total, securities_total}

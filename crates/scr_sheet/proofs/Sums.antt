@@ -6,8 +6,8 @@ use Rattle.std.proofs.lemmas.Option.{get_or_from_slice_get}
 use Rattle.std.specs.List.{IsDistinct}
 use Rattle.std.specs.Option.{option_or, option_map, option_map_or}
 use Rattle.scr_dates.specs.declared.day.Day.{Day}
-use Rattle.scr_names.specs.Names.{same_name}
-use Rattle.scr_names.specs.Tables.{row_of, has_row, with_row, changed}
+use Rattle.scr_tables.specs.Names.{same_name}
+use Rattle.scr_tables.specs.Tables.{row_of, has_row, with_row, changed}
 use Rattle.scr_sheet.specs.CashFlows.{total, flows_under, with_flows, no_flows}
 use Rattle.scr_sheet.specs.BalanceSheet.{group_name, position_name, stake_name, liability_name, bank_name, rein_name, volumes_of, is_in, held_of, held_total, liability_flows_total, volumes_total, defaults_total, components_total}
 use Rattle.scr_sheet.specs.declared.{sheet.BalanceSheet.BalanceSheet, edit.Edit.Edit, keys.Projection.Projection, keys.Table.Table, numbers.Numbers.Numbers, rows.Bank.Bank, rows.Class.Class, rows.Liability.Liability, rows.LiabilityKind.LiabilityKind, rows.Position.Position, rows.Rein.Rein, rows.Stake.Stake}
@@ -22,7 +22,7 @@ use Rattle.scr_sheet.specs.declared.edit.Edit.TheVariants as edits
 use Rattle.scr_sheet.specs.declared.fault.Fault.TheVariants as faults
 use Rattle.scr_sheet.specs.declared.fault.User.TheVariants as users
 use Rattle.scr_sheet.specs.declared.keys.Table.TheVariants as tables
-use Rattle.scr_names.proofs.TableRows.{IsFresh, passes_or_fails, same_or_other, same_name-is, name_of-row_of, row_of-later, sum-with_row, sum-without, sum-changed}
+use Rattle.scr_tables.proofs.TableRows.{IsFresh, passes_or_fails, same_or_other, same_name-is, name_of-row_of, row_of-later, sum-with_row, sum-without, sum-changed}
 use Rattle.scr_sheet.proofs.Holds.{All-right, distinct-right}
 use Rattle.scr_sheet.proofs.Projections.{one_or_other, under-with, under-no_flows}
 

@@ -1,14 +1,14 @@
 -- What it says of a sheet that a row has no user.
 use Rattle.std.proofs.Common.{◌≡◌, ℕ, Bool, true, false, List, [], ◌∷◌, ◌++◌, Some, None, is_some, if◌then◌else◌, cond, map, refl, sym, ap, ◌∙◌, arith}
 use Rattle.std.specs.List.{fold, filter, list_any, AllByRecursion}
-use Rattle.scr_names.specs.Names.{same_name, earlier}
+use Rattle.scr_tables.specs.Names.{same_name, earlier}
 use Rattle.scr_sheet.specs.BalanceSheet.{position_name, liability_name, bank_name, rein_name, stake_name}
 use Rattle.scr_sheet.specs.declared.sheet.BalanceSheet.{BalanceSheet}
 use Rattle.scr_sheet.specs.Members.{is_of_group}
 use Rattle.scr_sheet.specs.Users.{names_of_group, names_in_currency, has_component, names_of_holders, holder_of, first_row, user_of}
 use Rattle.scr_sheet.specs.declared.fault.User.TheVariants as users
 use Rattle.scr_sheet.specs.declared.keys.Table.TheVariants as tables
-use Rattle.scr_names.proofs.TableRows.{All-map, passes_or_fails}
+use Rattle.scr_tables.proofs.TableRows.{All-map, passes_or_fails}
 use Rattle.scr_sheet.proofs.Bounds.{neither}
 use Rattle.scr_sheet.proofs.Projections.{or_false}
 

@@ -2,7 +2,7 @@
 -- names first came, and the single numbers.
 use Rattle.std.specs.Prelude.{ℕ, ℤ, pos, ◌+◌, ◌++◌, ◌||◌, Bool, List, [], ◌∷◌, Option, map, length, max, replicate, sum_by}
 use Rattle.std.specs.Option.{option_map_or}
-use Rattle.scr_names.specs.Tables.{row_of, has_row}
+use Rattle.scr_tables.specs.Tables.{row_of, has_row}
 use Rattle.scr_sheet.specs.CashFlows.{total, flows_under, greatest_years, all_projections}
 use Rattle.scr_profile.specs.declared.set.Set.{Set}
 use Rattle.scr_profile.specs.declared.set.Set.TheVariants as sets

@@ -1,6 +1,6 @@
 -- A balance sheet with what stood in it before a record put back (this project's own).
 use Rattle.std.specs.Prelude.{◌≡◌}
-use Rattle.scr_names.specs.Pasts.{restored, HasPlace}
+use Rattle.scr_tables.specs.Pasts.{restored, HasPlace}
 use Rattle.scr_sheet.specs.BalanceSheet.{group_name, position_name, liability_name, bank_name, rein_name, curve_name, stake_name}
 use Rattle.scr_sheet.specs.declared.{sheet.BalanceSheet.BalanceSheet, edit.Edit.Edit, earlier.Earlier.Earlier}
 use Rattle.scr_sheet.specs.Records.{applied}

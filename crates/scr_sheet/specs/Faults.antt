@@ -4,8 +4,8 @@ use Rattle.std.specs.List.{list_any}
 use Rattle.std.specs.Option.{option_or, option_map, option_map_or}
 use Rattle.scr_dates.specs.declared.day.Day.{Day}
 use Rattle.scr_funds.specs.Paths.{path_within}
-use Rattle.scr_names.specs.Names.{same_name}
-use Rattle.scr_names.specs.Tables.{row_of}
+use Rattle.scr_tables.specs.Names.{same_name}
+use Rattle.scr_tables.specs.Tables.{row_of}
 use Rattle.scr_sheet.specs.CashFlows.{total, has_projection, suits}
 use Rattle.scr_sheet.specs.BalanceSheet.{liability_name, is_in, is_named, held_total, liability_flows_total, volumes_total, defaults_total, components_total, components_of, sheet_years}
 use Rattle.scr_sheet.specs.declared.{sheet.BalanceSheet.BalanceSheet, edit.Edit.Edit, fault.Fault.Fault, fault.Quantity.Quantity, keys.AbsorbKey.AbsorbKey, keys.Projection.Projection, keys.Table.Table}

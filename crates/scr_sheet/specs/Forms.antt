@@ -4,7 +4,7 @@ use Rattle.std.specs.List.{AllByRecursion}
 use Rattle.scr_dates.specs.declared.day.Day.{Day}
 use Rattle.scr_dates.specs.Civil.{IsDay}
 pub use Rattle.scr_dates.specs.Payments.{AreOnDays}
-use Rattle.scr_names.specs.Names.{is_name, is_currency}
+use Rattle.scr_tables.specs.Names.{is_name, is_currency}
 use Rattle.scr_sheet.specs.declared.{edit.Edit.Edit, keys.AbsorbKey.AbsorbKey}
 use Rattle.scr_sheet.specs.declared.edit.Edit.TheVariants as edits
 use Rattle.scr_profile.specs.Segments.{segments}

@@ -2,8 +2,8 @@
 -- (Delegated Regulation (EU) 2015/35, Articles 84, 165, 168, 176, 182 and 188), and whose row a record changes.
 use Rattle.std.specs.Prelude.{ℕ, Bool, true, false, not, ◌&&◌, List, [], ◌∷◌, Option, Some, None, is_some}
 use Rattle.std.specs.Option.{option_map_or}
-use Rattle.scr_names.specs.Names.{same_name}
-use Rattle.scr_names.specs.Tables.{row_of, has_row}
+use Rattle.scr_tables.specs.Names.{same_name}
+use Rattle.scr_tables.specs.Tables.{row_of, has_row}
 use Rattle.scr_sheet.specs.CashFlows.{is_empty, flows_under}
 use Rattle.scr_sheet.specs.BalanceSheet.{group_name, liability_name, position_of, stake_of}
 use Rattle.scr_sheet.specs.declared.{sheet.BalanceSheet.BalanceSheet, edit.Edit.Edit, keys.Projection.Projection, keys.Table.Table, rows.Class.Class, rows.LiabilityKind.LiabilityKind, rows.Liability.Liability, rows.Position.Position, rows.Stake.Stake}

@@ -2,7 +2,7 @@
 -- (EU) 2015/35), in cents.
 use Rattle.std.specs.Prelude.{ℕ, List, map, sum_by, if◌then◌else◌}
 use Rattle.scr_funds.specs.LookThrough.{Shared, part_in, total}
-use Rattle.scr_names.specs.Names.{same_name}
+use Rattle.scr_tables.specs.Names.{same_name}
 use Rattle.scr_sheet.specs.BalanceSheet.{held_of}
 use Rattle.scr_sheet.specs.declared.{sheet.BalanceSheet.BalanceSheet, rows.Stake.Stake}
 use Rattle.scr_sheet.specs.Members.{is_closed}

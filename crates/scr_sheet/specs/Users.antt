@@ -2,8 +2,8 @@
 use Rattle.std.specs.Prelude.{ℕ, ◌++◌, ◌==◌, Bool, List, Option, Some, None, if◌then◌else◌, map, filter}
 use Rattle.std.specs.List.{list_any}
 use Rattle.std.specs.Option.{option_or, option_map, option_map_or}
-use Rattle.scr_names.specs.Names.{same_name, first_in_order}
-use Rattle.scr_names.specs.Tables.{row_of}
+use Rattle.scr_tables.specs.Names.{same_name, first_in_order}
+use Rattle.scr_tables.specs.Tables.{row_of}
 use Rattle.scr_sheet.specs.BalanceSheet.{position_name, liability_name, bank_name, rein_name, curve_name, stake_name, held_of}
 use Rattle.scr_sheet.specs.Members.{is_of_group}
 use Rattle.scr_sheet.specs.declared.{sheet.BalanceSheet.BalanceSheet, fault.User.User, keys.Table.Table, rows.Stake.Stake}

@@ -3,7 +3,7 @@ ghost use Rattle.std.specs.Prelude.{◌≡◌, ◌↔◌, ℕ, ℤ, false, ◌+�
 ghost use Rattle.scr_sheet.specs.BalanceSheet.{opening, held_of, held_total, components_of};
 ghost use Rattle.scr_sheet.specs.declared.sheet.BalanceSheet.{BalanceSheet};
 ghost use Rattle.scr_sheet.specs.Records.{applied, with_fund};
-ghost use Rattle.scr_names.specs.Names.{same_name};
+ghost use Rattle.scr_tables.specs.Names.{same_name};
 ghost use Rattle.scr_sheet.specs.Members.{is_member, edit_name};
 ghost use Rattle.scr_sheet.specs.declared.roll.Roll.{Roll};
 ghost use Rattle.scr_sheet.specs.Faults.{components_fault, fault_of, list_fault, unknown_name, wrong_kind};

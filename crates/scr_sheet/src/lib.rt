@@ -37,12 +37,12 @@ pub use rows::{
     Position, Rates, Rein, Security, Stake,
 };
 pub use scr_dates::Flows;
-pub use scr_names::{Copied, Name, Names, Past, Row, Rows};
 pub use scr_profile::{
     GroupKind, MAX_AMOUNT, MAX_COMPONENTS, MAX_CURRENCIES, MAX_DURATION, MAX_EXPOSURES, MAX_FLOWS,
     MAX_FUND_COMPONENTS, MAX_FUNDS, MAX_GROUPS, MAX_HELD, MAX_LIABILITIES, MAX_LIABILITY_FLOWS,
     MAX_PROMISED, MAX_RATE, MAX_RATES, MAX_SECURITIES, MAX_SYM, MAX_TAX, MAX_WEIGHT, MAX_YEARS,
     MIN_RATE, MIN_WEIGHT, OpInput,
 };
+pub use scr_tables::{Copied, Name, Names, Past, Row, Rows};
 pub use sheet::BalanceSheet;
 pub use writes::natural;

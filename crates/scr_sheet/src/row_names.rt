@@ -2,7 +2,7 @@
 ghost use Rattle.scr_sheet.specs.BalanceSheet.{group_name, position_name, liability_name, bank_name, rein_name, curve_name, stake_name};
 
 use crate::{Bank, Curve, Group, Liability, Name, Position, Rein, Stake};
-use scr_names::Row;
+use scr_tables::Row;
 
 impl Row for Group {
     ghost name_of = { group_name };

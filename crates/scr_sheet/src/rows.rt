@@ -1,8 +1,8 @@
 //! The rows of the tables.
 
 use crate::{Flows, Name};
-use scr_names::Series;
 use scr_profile::GroupKind;
+use scr_tables::Series;
 
 /// The yearly rates of a curve in millionths, from the maturity of one year on.
 pub type Rates = Series<i64>;

@@ -1,7 +1,7 @@
 //! What uses a row that a record would drop.
 ghost use Rattle.std.specs.Prelude.{◌≡◌};
 ghost use Rattle.std.specs.Option.{option_map};
-ghost use Rattle.scr_names.specs.Names.{first_in_order};
+ghost use Rattle.scr_tables.specs.Names.{first_in_order};
 ghost use Rattle.scr_sheet.specs.Users.{has_component, holder_of, names_of_group, names_in_currency, absorption_of, user_of};
 
 use crate::{AbsorbKey, BalanceSheet, Name, Stake, Table, User};

@@ -2,11 +2,11 @@
 use Rattle.std.proofs.Common.{◌≡◌, ◌≢◌, ◌⊎◌, inl, inr, ℕ, zero, suc, ◌+◌, ◌≤◌, false, true, nat_eq, Contains, List, [], ◌∷◌, ◌++◌, Some, length, slice_get, sym, subst, arith}
 use Rattle.std.specs.List.{AllByRecursion, IsDistinct}
 use Rattle.std.proofs.lemmas.Bool.Decides.{eqb_tells}
-use Rattle.scr_rounds.specs.declared.ranks.Due.{Due}
-use Rattle.scr_rounds.specs.Levels.{numbers_of}
-use Rattle.scr_rounds.proofs.Members.{IsMember, IsMember-from_Contains, each-from_members, place_of}
+use Rattle.scr_reachability.specs.declared.ranks.Due.{Due}
+use Rattle.scr_reachability.specs.Levels.{numbers_of}
+use Rattle.scr_reachability.proofs.Members.{IsMember, IsMember-from_Contains, each-from_members, place_of}
 use Rattle.scr_tests.specs.Ladders.{AreRungs, IsRung}
-use Rattle.scr_workers.specs.Workable.{AreWorkable}
+use Rattle.scr_parallel.specs.Workable.{AreWorkable}
 
 pub rungs-push : (k : ℕ) (dues : List Due) (due : Due) → AreRungs k dues → due.number ≡ k + length dues → IsRung due → AreRungs k (dues ++ due ∷ [])
 rungs-push k [] due are number is = (omega (arith, number), is, tt)

@@ -1,7 +1,7 @@
 -- What is due in the test of a board (this project's own).
 use Rattle.std.specs.Prelude.{◌≡◌, ℕ, suc, ◌+◌, ◌<◌, ◌%◌, ◌⊎◌, List, [], ◌∷◌, pos}
 use Rattle.scr_num.specs.Rounding.{Ends, exact_ends}
-use Rattle.scr_rounds.specs.declared.ranks.Due.{Due}
+use Rattle.scr_reachability.specs.declared.ranks.Due.{Due}
 
 -- the figure at a number: the number that is left of it by hundreds
 abbrev pub figure_of : ℕ → Ends

@@ -5,8 +5,8 @@ ghost use Rattle.scr_tests.specs.Ladders.{AreRungs, IsRung};
 
 use scr_io::{OpenGate, Steps};
 use scr_num::Span;
-use scr_rounds::Due;
-use scr_workers::{Plan, spans_by};
+use scr_parallel::{Plan, spans_by};
+use scr_reachability::Due;
 use std::alloc::{AllocError as NoMemory, Global};
 use std::sync::ledger::Ledger;
 use std::test::Fail;

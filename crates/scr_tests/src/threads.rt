@@ -5,9 +5,9 @@ use scr_dates::Day;
 use scr_factors::Factors;
 use scr_funds::{FundOrder, Kept, OrderFault, Places};
 use scr_market::Equity;
-use scr_names::{Name, Names, Series};
 use scr_num::Span;
 use scr_rate::Interest;
+use scr_tables::{Name, Names, Series};
 use scr_yield_curve::{Discounts, Tilt};
 
 /// Compiles only where `T` can be shared by threads.

@@ -3,7 +3,7 @@ use Rattle.std.proofs.Common.{◌≡◌, Bool, true, false, not, ◌&&◌, ◌||
 use Rattle.std.specs.Bool.{Decides}
 use Rattle.scr_factors.specs.Values.{FactorValues}
 use Rattle.scr_sheet.specs.declared.sheet.BalanceSheet.{BalanceSheet}
-use Rattle.scr_changes.proofs.Compared.{always}
+use Rattle.scr_row_change.proofs.Compared.{always}
 use Rattle.scr_nodes.specs.Live.{is_live}
 use Rattle.scr_nodes.specs.OwnOf.{own_of}
 use Rattle.scr_nodes.specs.Sources.{sources_of}

@@ -2,7 +2,7 @@
 use Rattle.std.proofs.Common.{◌≡◌, ◌⊎◌, inl, inr, ℕ, ◌==◌, Bool, true, false, not, cond, List, [], ◌∷◌, ◌++◌, map, filter, sym, ap, subst, ◌∙◌}
 use Rattle.std.proofs.lemmas.Bool.{eq-eqb}
 use Rattle.scr_funds.proofs.Members.{IsMember, IsMember-cases, IsMember-left, IsMember-right}
-use Rattle.scr_names.proofs.TableRows.{passes_or_fails}
+use Rattle.scr_tables.proofs.TableRows.{passes_or_fails}
 use Rattle.scr_nodes.proofs.Apart.{AreApart, apart-append}
 use Rattle.scr_nodes.proofs.Parts.{both, differ, is_none_of}
 

@@ -3,8 +3,8 @@ use Rattle.std.proofs.Common.{◌≡◌, ◌⊎◌, inl, inr, ℕ, ◌+◌, Bool
 use Rattle.std.specs.Option.{option_map_or}
 use Rattle.std.proofs.lemmas.Bool.Decides.{Decides-eqb}
 use Rattle.scr_funds.proofs.Members.{IsMember, IsMember-cases, IsMember-right}
-use Rattle.scr_names.specs.Names.{same_name}
-use Rattle.scr_names.proofs.TableRows.{same_name-is, same_name-itself}
+use Rattle.scr_tables.specs.Names.{same_name}
+use Rattle.scr_tables.proofs.TableRows.{same_name-is, same_name-itself}
 use Rattle.scr_profile.specs.DefaultClasses.{class_of_step, first_step}
 use Rattle.scr_profile.proofs.Words.{class-told}
 use Rattle.scr_sheet.specs.BalanceSheet.{position_name}
@@ -27,9 +27,9 @@ use Rattle.scr_nodes.specs.declared.node.Whole.TheVariants as wholes
 use Rattle.scr_nodes.proofs.Apart.{AreApart, apart-append, apart-chosen, chosen-member}
 use Rattle.scr_nodes.proofs.Parts.{loss_place, part_of}
 use Rattle.scr_nodes.proofs.Told.{told-spread}
-use Rattle.scr_changes.specs.Comparisons.{passes}
-use Rattle.scr_changes.specs.Debts.{is_owed_by}
-use Rattle.scr_changes.specs.declared.debts.Debt.{Debt}
+use Rattle.scr_row_change.specs.Comparisons.{passes}
+use Rattle.scr_row_change.specs.Debts.{is_owed_by}
+use Rattle.scr_row_change.specs.declared.debts.Debt.{Debt}
 use Rattle.scr_touched.specs.Debts.{debt_losses, is_of_debtor}
 use Rattle.scr_touched.specs.Groups as groups
 use Rattle.scr_touched.specs.Groups.{class_nodes, is_of_class_of, later_group_nodes, spread_nodes}

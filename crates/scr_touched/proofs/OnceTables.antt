@@ -6,9 +6,9 @@ use Rattle.std.specs.List.{AllByRecursion, IsDistinct, list_all, list_any}
 use Rattle.std.specs.Option.{option_map, option_map_or}
 use Rattle.scr_dates.specs.declared.day.Day.{Day}
 use Rattle.scr_funds.proofs.Members.{IsMember, IsMember-cases, IsMember-mapped, IsMember-right, Contains-from_IsMember, at_member}
-use Rattle.scr_names.specs.Names.{same_name}
-use Rattle.scr_names.specs.Tables.{row_of}
-use Rattle.scr_names.proofs.TableRows.{passes_or_fails, same_name-is, same_name-itself}
+use Rattle.scr_tables.specs.Names.{same_name}
+use Rattle.scr_tables.specs.Tables.{row_of}
+use Rattle.scr_tables.proofs.TableRows.{passes_or_fails, same_name-is, same_name-itself}
 use Rattle.scr_sheet.specs.BalanceSheet.{liability_name, position_name, position_of, stake_name, stake_of}
 use Rattle.scr_sheet.specs.Faults.{list_fault}
 use Rattle.scr_sheet.specs.Records.{natural}
@@ -35,12 +35,12 @@ use Rattle.scr_nodes.specs.declared.node.Whole.TheVariants as wholes
 use Rattle.scr_nodes.proofs.Apart.{AreApart, apart-append}
 use Rattle.scr_nodes.proofs.OwnRows.{distinct-liabilities}
 use Rattle.scr_nodes.proofs.Chosen.{each-tested}
-use Rattle.scr_changes.specs.Changes.{change_of, hold_change}
-use Rattle.scr_changes.specs.Comparisons.{same_rates}
-use Rattle.scr_changes.specs.Readings.{rates_by}
-use Rattle.scr_changes.specs.declared.change.Change.{Change}
-use Rattle.scr_changes.specs.declared.change.Change.TheVariants as changes
-use Rattle.scr_changes.proofs.LookedUp.{found-member}
+use Rattle.scr_row_change.specs.Changes.{change_of, hold_change}
+use Rattle.scr_row_change.specs.Comparisons.{same_rates}
+use Rattle.scr_row_change.specs.Readings.{rates_by}
+use Rattle.scr_row_change.specs.declared.change.Change.{Change}
+use Rattle.scr_row_change.specs.declared.change.Change.TheVariants as changes
+use Rattle.scr_row_change.proofs.LookedUp.{found-member}
 use Rattle.scr_touched.specs.Curves.{currency_nodes, curve_nodes, foreign_nodes, moved_nodes}
 use Rattle.scr_touched.specs.Funds.{component_nodes, fund_nodes, is_of_stake, share_of, totals_of}
 use Rattle.scr_touched.specs.Payments.{liability_figures, payment_figures, security_figures}

@@ -22,10 +22,10 @@ use Rattle.scr_nodes.specs.declared.node.Node.{Node}
 use Rattle.scr_nodes.specs.declared.node.Node.TheVariants as nodes
 use Rattle.scr_nodes.specs.declared.node.OfSecurity.TheVariants as of_securities
 use Rattle.scr_nodes.specs.declared.node.OfLiability.TheVariants as of_liabilities
-use Rattle.scr_changes.specs.Comparisons.{same_payments, same_rates}
+use Rattle.scr_row_change.specs.Comparisons.{same_payments, same_rates}
 use Rattle.scr_touched.specs.Payments.{liability_figures, loss_figures, payment_figures, security_figures, stresses, value_figures}
-use Rattle.scr_changes.proofs.Compared.{Decides-payments, Decides-rates}
-use Rattle.scr_changes.proofs.LookedUp.{found-figure, found-name}
+use Rattle.scr_row_change.proofs.Compared.{Decides-payments, Decides-rates}
+use Rattle.scr_row_change.proofs.LookedUp.{found-figure, found-name}
 
 -- ---- own data of payments
 

@@ -5,9 +5,9 @@ use Rattle.std.specs.Option.{option_map_or}
 use Rattle.std.proofs.lemmas.Bool.Decides.{Decides-eqb, Decides-like}
 use Rattle.scr_factors.specs.Values.{FactorValues}
 use Rattle.scr_funds.proofs.Members.{IsMember, IsMember-left, IsMember-right}
-use Rattle.scr_names.specs.Names.{same_name}
-use Rattle.scr_names.specs.Tables.{row_of}
-use Rattle.scr_names.proofs.TableRows.{same_name-is}
+use Rattle.scr_tables.specs.Names.{same_name}
+use Rattle.scr_tables.specs.Tables.{row_of}
+use Rattle.scr_tables.proofs.TableRows.{same_name-is}
 use Rattle.scr_sheet.specs.BalanceSheet.{curve_name, position_of}
 use Rattle.scr_sheet.specs.Validity.{Valid}
 use Rattle.scr_sheet.specs.declared.keys.Projection.{Projection}
@@ -32,19 +32,19 @@ use Rattle.scr_nodes.specs.declared.node.OfSecurity.TheVariants as of_securities
 use Rattle.scr_nodes.specs.declared.node.OfLiability.TheVariants as of_liabilities
 use Rattle.scr_nodes.specs.declared.node.OfCurrency.TheVariants as of_currencies
 use Rattle.scr_nodes.specs.declared.node.Whole.TheVariants as wholes
-use Rattle.scr_changes.specs.Readings.{keeps_liability, keeps_rates, keeps_security, rates_by}
+use Rattle.scr_row_change.specs.Readings.{keeps_liability, keeps_rates, keeps_security, rates_by}
 use Rattle.scr_touched.specs.Curves.{absorption_by, currency_nodes, currency_touched, curve_nodes, curve_touches, foreign_nodes, foreign_touched, loss_moved, moved_nodes, net_touched, unit_moved, value_moved}
-use Rattle.scr_changes.specs.Changes.{after}
-use Rattle.scr_changes.specs.Comparisons.{passes, is_kept, same_rates}
+use Rattle.scr_row_change.specs.Changes.{after}
+use Rattle.scr_row_change.specs.Comparisons.{passes, is_kept, same_rates}
 use Rattle.scr_touched.specs.Comparisons.{is_touched}
-use Rattle.scr_changes.specs.Exchanges.{HasName}
+use Rattle.scr_row_change.specs.Exchanges.{HasName}
 use Rattle.scr_touched.specs.Liabilities.{is_under}
 use Rattle.scr_touched.specs.Payments.{payment_figures, value_figures}
-use Rattle.scr_changes.specs.declared.change.Change.TheVariants as changes
-use Rattle.scr_changes.proofs.Compared.{always, Decides-rates, first_of_both}
+use Rattle.scr_row_change.specs.declared.change.Change.TheVariants as changes
+use Rattle.scr_row_change.proofs.Compared.{always, Decides-rates, first_of_both}
 use Rattle.scr_touched.proofs.Decided.{Tells, Tells-at, told-by, unread, untouched}
-use Rattle.scr_changes.proofs.Exchanged.{listed, listed_all, one-row}
-use Rattle.scr_changes.proofs.LookedUp.{looked-up}
+use Rattle.scr_row_change.proofs.Exchanged.{listed, listed_all, one-row}
+use Rattle.scr_row_change.proofs.LookedUp.{looked-up}
 use Rattle.scr_touched.proofs.PaidFigures.{cost-told, excess-told, loss-listed, loss-told, paid-rates, present-in, rate-in, unit-listed, value-listed, worth, worth-rates, worth-told}
 
 net-told : (a b : ℕ) → Decides (a == b) (Net a ≡ Net b)

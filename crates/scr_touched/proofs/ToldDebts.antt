@@ -6,20 +6,20 @@ use Rattle.std.specs.Prelude.{◌==◌}
 use Rattle.std.proofs.lemmas.Bool.Decides.{Decides-and, Decides-at, Decides-eqb, Decides-like}
 use Rattle.scr_factors.specs.Values.{FactorValues}
 use Rattle.scr_funds.proofs.Members.{IsMember}
-use Rattle.scr_names.specs.Tables.{row_of}
-use Rattle.scr_names.proofs.TableRows.{same_name-is}
+use Rattle.scr_tables.specs.Tables.{row_of}
+use Rattle.scr_tables.proofs.TableRows.{same_name-is}
 use Rattle.scr_sheet.specs.BalanceSheet.{bank_name, rein_name}
 use Rattle.scr_sheet.specs.declared.rows.Bank.{Bank}
 use Rattle.scr_sheet.specs.declared.rows.Rein.{Rein}
 use Rattle.scr_sheet.specs.declared.sheet.BalanceSheet.{BalanceSheet}
-use Rattle.scr_changes.specs.Changes.{after}
-use Rattle.scr_changes.specs.Debts.{bank_debt, debt_of_bank, debt_of_rein, is_owed_by, rein_debt, same_debt}
-use Rattle.scr_changes.specs.Exchanges.{exchanged, HasName}
-use Rattle.scr_changes.specs.Parts.{gives_same}
-use Rattle.scr_changes.specs.declared.change.Change.TheVariants as changes
-use Rattle.scr_changes.specs.declared.debts.Debt.{Debt}
-use Rattle.scr_changes.proofs.Compared.{always}
-use Rattle.scr_changes.proofs.Given.{given, given-in-form, in-given}
+use Rattle.scr_row_change.specs.Changes.{after}
+use Rattle.scr_row_change.specs.Debts.{bank_debt, debt_of_bank, debt_of_rein, is_owed_by, rein_debt, same_debt}
+use Rattle.scr_row_change.specs.Exchanges.{exchanged, HasName}
+use Rattle.scr_row_change.specs.Parts.{gives_same}
+use Rattle.scr_row_change.specs.declared.change.Change.TheVariants as changes
+use Rattle.scr_row_change.specs.declared.debts.Debt.{Debt}
+use Rattle.scr_row_change.proofs.Compared.{always}
+use Rattle.scr_row_change.proofs.Given.{given, given-in-form, in-given}
 use Rattle.scr_nodes.specs.Live.{is_group}
 use Rattle.scr_nodes.specs.Own.{Own, Reinsured}
 use Rattle.scr_nodes.specs.Own.Own.{Losses}

@@ -6,9 +6,9 @@ use Rattle.std.specs.Option.{option_eq}
 use Rattle.std.proofs.lemmas.Bool.Decides.{Decides-and, Decides-at, Decides-eqb, Decides-like}
 use Rattle.scr_factors.specs.Values.{FactorValues}
 use Rattle.scr_funds.proofs.Members.{IsMember}
-use Rattle.scr_names.specs.Names.{same_name}
-use Rattle.scr_names.specs.Tables.{has_row, row_of}
-use Rattle.scr_names.proofs.TableRows.{same_name-is, same_or_other}
+use Rattle.scr_tables.specs.Names.{same_name}
+use Rattle.scr_tables.specs.Tables.{has_row, row_of}
+use Rattle.scr_tables.proofs.TableRows.{same_name-is, same_or_other}
 use Rattle.scr_sheet.specs.BalanceSheet.{position_name, stake_name}
 use Rattle.scr_sheet.specs.Validity.{Valid}
 use Rattle.scr_sheet.specs.declared.rows.Class.TheVariants as classes
@@ -24,19 +24,19 @@ use Rattle.scr_nodes.specs.declared.node.Node.TheVariants as nodes
 use Rattle.scr_nodes.specs.declared.node.OfFund.TheVariants as of_funds
 use Rattle.scr_nodes.specs.declared.node.OfSecurity.TheVariants as of_securities
 use Rattle.scr_nodes.specs.declared.node.Whole.TheVariants as wholes
-use Rattle.scr_changes.specs.Readings.{held_kept, stake_held, is_fund_after}
+use Rattle.scr_row_change.specs.Readings.{held_kept, stake_held, is_fund_after}
 use Rattle.scr_touched.specs.Funds.{component_nodes, fund_nodes, fund_touches, share_kept, is_same_share, holder_kept, share_of, totals_of}
-use Rattle.scr_changes.specs.Parts.{gives_same}
-use Rattle.scr_changes.specs.Changes.{after}
-use Rattle.scr_changes.specs.Comparisons.{is_kept, passes}
+use Rattle.scr_row_change.specs.Parts.{gives_same}
+use Rattle.scr_row_change.specs.Changes.{after}
+use Rattle.scr_row_change.specs.Comparisons.{is_kept, passes}
 use Rattle.scr_touched.specs.Comparisons.{is_touched}
-use Rattle.scr_changes.specs.Exchanges.{HasName}
-use Rattle.scr_changes.specs.declared.change.Change.TheVariants as changes
-use Rattle.scr_changes.proofs.Covered.{in-either}
-use Rattle.scr_changes.proofs.Compared.{always}
+use Rattle.scr_row_change.specs.Exchanges.{HasName}
+use Rattle.scr_row_change.specs.declared.change.Change.TheVariants as changes
+use Rattle.scr_row_change.proofs.Covered.{in-either}
+use Rattle.scr_row_change.proofs.Compared.{always}
 use Rattle.scr_touched.proofs.Decided.{Tells, told-by, unread, moved}
-use Rattle.scr_changes.proofs.Exchanged.{listed, preceded, row-other, row-own}
-use Rattle.scr_changes.proofs.Given.{given, in-given}
+use Rattle.scr_row_change.proofs.Exchanged.{listed, preceded, row-other, row-own}
+use Rattle.scr_row_change.proofs.Given.{given, in-given}
 
 -- ---- what totals read
 

@@ -5,9 +5,9 @@ use Rattle.std.specs.Option.{option_map_or}
 use Rattle.std.proofs.lemmas.Bool.Decides.{Decides-and, Decides-eqb, Decides-like}
 use Rattle.scr_factors.specs.Values.{FactorValues}
 use Rattle.scr_funds.proofs.Members.{IsMember, IsMember-left, IsMember-right}
-use Rattle.scr_names.specs.Names.{same_name}
-use Rattle.scr_names.specs.Tables.{row_of}
-use Rattle.scr_names.proofs.TableRows.{same_name-is, same_name-flip, same_or_other}
+use Rattle.scr_tables.specs.Names.{same_name}
+use Rattle.scr_tables.specs.Tables.{row_of}
+use Rattle.scr_tables.proofs.TableRows.{same_name-is, same_name-flip, same_or_other}
 use Rattle.scr_profile.specs.declared.group_kind.GroupKind.{GroupKind}
 use Rattle.scr_profile.specs.declared.group_kind.GroupKind.TheVariants as group_kinds
 use Rattle.scr_profile.specs.DefaultClasses.{class_of_step, first_step}
@@ -29,18 +29,18 @@ use Rattle.scr_nodes.specs.declared.node.Node.TheVariants as nodes
 use Rattle.scr_nodes.specs.declared.node.OfSecurity.TheVariants as of_securities
 use Rattle.scr_nodes.specs.declared.node.OfGroup.TheVariants as of_groups
 use Rattle.scr_nodes.specs.declared.node.Whole.TheVariants as wholes
-use Rattle.scr_changes.specs.Readings.{is_same_kind, kind_of, step_of, same_step}
+use Rattle.scr_row_change.specs.Readings.{is_same_kind, kind_of, step_of, same_step}
 use Rattle.scr_touched.specs.Groups.{group_touches, group_nodes, later_group_nodes, own_nodes, class_nodes, spread_nodes, counts_in, is_moved, square_touched}
-use Rattle.scr_changes.specs.Changes.{after}
-use Rattle.scr_changes.specs.Comparisons.{is_kept}
+use Rattle.scr_row_change.specs.Changes.{after}
+use Rattle.scr_row_change.specs.Comparisons.{is_kept}
 use Rattle.scr_touched.specs.Comparisons.{is_touched}
-use Rattle.scr_changes.specs.Exchanges.{HasName}
-use Rattle.scr_changes.specs.declared.change.Change.TheVariants as changes
-use Rattle.scr_changes.proofs.Compared.{always, Decides-number_or_none, first_of_both}
+use Rattle.scr_row_change.specs.Exchanges.{HasName}
+use Rattle.scr_row_change.specs.declared.change.Change.TheVariants as changes
+use Rattle.scr_row_change.proofs.Compared.{always, Decides-number_or_none, first_of_both}
 use Rattle.scr_touched.proofs.Decided.{Tells, Tells-at, told-by, unread, untouched, moved}
-use Rattle.scr_changes.proofs.Exchanged.{one-row, row-own, row-other, listed, listed_all}
-use Rattle.scr_changes.proofs.Covered.{in-either}
-use Rattle.scr_changes.proofs.Given.{in-chosen}
+use Rattle.scr_row_change.proofs.Exchanged.{one-row, row-own, row-other, listed, listed_all}
+use Rattle.scr_row_change.proofs.Covered.{in-either}
+use Rattle.scr_row_change.proofs.Given.{in-chosen}
 use Rattle.scr_touched.proofs.Given.{same-class, own-moved}
 
 Decides-kinds : (a b : GroupKind) → Decides (is_same_kind a b) (a ≡ b)

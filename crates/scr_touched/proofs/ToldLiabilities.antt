@@ -5,9 +5,9 @@ use Rattle.std.specs.Option.{option_map_or}
 use Rattle.std.proofs.lemmas.Bool.Decides.{Decides-like}
 use Rattle.scr_factors.specs.Values.{FactorValues}
 use Rattle.scr_funds.proofs.Members.{IsMember, IsMember-left, IsMember-mapped, IsMember-right}
-use Rattle.scr_names.specs.Names.{same_name}
-use Rattle.scr_names.specs.Tables.{has_row, row_of}
-use Rattle.scr_names.proofs.TableRows.{same_name-is}
+use Rattle.scr_tables.specs.Names.{same_name}
+use Rattle.scr_tables.specs.Tables.{has_row, row_of}
+use Rattle.scr_tables.proofs.TableRows.{same_name-is}
 use Rattle.scr_sheet.specs.BalanceSheet.{curve_name, liability_name}
 use Rattle.scr_sheet.specs.Validity.{Valid}
 use Rattle.scr_sheet.specs.declared.keys.Projection.{Projection}
@@ -33,18 +33,18 @@ use Rattle.scr_nodes.specs.declared.node.Node.TheVariants as nodes
 use Rattle.scr_nodes.specs.declared.node.OfLiability.TheVariants as of_liabilities
 use Rattle.scr_nodes.specs.declared.node.OfCurrency.TheVariants as of_currencies
 use Rattle.scr_nodes.specs.declared.node.Whole.TheVariants as wholes
-use Rattle.scr_changes.specs.Changes.{after}
-use Rattle.scr_changes.specs.Comparisons.{is_kept, same_payments}
+use Rattle.scr_row_change.specs.Changes.{after}
+use Rattle.scr_row_change.specs.Comparisons.{is_kept, same_payments}
 use Rattle.scr_touched.specs.Comparisons.{is_touched}
-use Rattle.scr_changes.specs.Exchanges.{HasName}
-use Rattle.scr_changes.specs.Readings.{best_estimate_of, paid_for}
+use Rattle.scr_row_change.specs.Exchanges.{HasName}
+use Rattle.scr_row_change.specs.Readings.{best_estimate_of, paid_for}
 use Rattle.scr_touched.specs.Liabilities.{is_under, liability_nodes, liability_touches, loss_touched, owed_nodes, rates_for, same_value, stress_nodes, value_touched}
 use Rattle.scr_touched.specs.Payments.{loss_figures, stresses, value_figures}
-use Rattle.scr_changes.specs.declared.change.Change.TheVariants as changes
-use Rattle.scr_changes.proofs.Covered.{in-either}
-use Rattle.scr_changes.proofs.Compared.{always, first_of_both, second_of_both}
+use Rattle.scr_row_change.specs.declared.change.Change.TheVariants as changes
+use Rattle.scr_row_change.proofs.Covered.{in-either}
+use Rattle.scr_row_change.proofs.Compared.{always, first_of_both, second_of_both}
 use Rattle.scr_touched.proofs.Decided.{Tells, Tells-at, moved, told-by, unread, untouched}
-use Rattle.scr_changes.proofs.Exchanged.{listed, one-row, preceded}
+use Rattle.scr_row_change.proofs.Exchanged.{listed, one-row, preceded}
 use Rattle.scr_touched.proofs.PaidFigures.{cost-told, excess-both, loss-in, paid, paid-compared, present-in, rate-in, stress-in, worth, worth-compared, worth-told}
 
 module _ (factors : FactorValues) (sheet : BalanceSheet) (name : List ℕ) (new : Option Liability)

@@ -7,9 +7,9 @@ use Rattle.std.proofs.lemmas.Bool.Decides.{Decides-int_eq}
 use Rattle.scr_dates.specs.declared.day.Day.{Day}
 use Rattle.scr_factors.specs.Values.{FactorValues}
 use Rattle.scr_funds.proofs.Members.{IsMember, IsMember-left, IsMember-right}
-use Rattle.scr_names.specs.Names.{same_name}
-use Rattle.scr_names.specs.Tables.{row_of}
-use Rattle.scr_names.proofs.TableRows.{same_name-is, same_name-itself}
+use Rattle.scr_tables.specs.Names.{same_name}
+use Rattle.scr_tables.specs.Tables.{row_of}
+use Rattle.scr_tables.proofs.TableRows.{same_name-is, same_name-itself}
 use Rattle.scr_profile.specs.declared.segment.Segment.TheVariants as segments
 use Rattle.scr_sheet.specs.BalanceSheet.{curve_name, position_of}
 use Rattle.scr_sheet.specs.Validity.{Valid}
@@ -37,17 +37,17 @@ use Rattle.scr_nodes.specs.declared.node.OfLiability.TheVariants as of_liabiliti
 use Rattle.scr_nodes.specs.declared.node.OfCurrency.TheVariants as of_currencies
 use Rattle.scr_nodes.specs.declared.node.Whole.TheVariants as wholes
 use Rattle.scr_nodes.specs.declared.node.Operational.TheVariants as operations
-use Rattle.scr_changes.specs.Changes.{after}
-use Rattle.scr_changes.specs.Comparisons.{passes}
+use Rattle.scr_row_change.specs.Changes.{after}
+use Rattle.scr_row_change.specs.Comparisons.{passes}
 use Rattle.scr_touched.specs.Comparisons.{is_touched}
 use Rattle.scr_touched.specs.Curves.{foreign_nodes, moved_nodes}
 use Rattle.scr_touched.specs.Liabilities.{is_under}
 use Rattle.scr_touched.specs.Payments.{payment_figures, value_figures}
 use Rattle.scr_touched.specs.ReferenceDates.{date_nodes, reporting_nodes, date_touches, dated_touched, same_date}
-use Rattle.scr_changes.specs.declared.change.Change.TheVariants as changes
-use Rattle.scr_changes.proofs.Compared.{always}
+use Rattle.scr_row_change.specs.declared.change.Change.TheVariants as changes
+use Rattle.scr_row_change.proofs.Compared.{always}
 use Rattle.scr_touched.proofs.Decided.{Tells, told-by, unread}
-use Rattle.scr_changes.proofs.LookedUp.{found-member, found-name}
+use Rattle.scr_row_change.proofs.LookedUp.{found-member, found-name}
 use Rattle.scr_touched.proofs.PaidFigures.{cost-told, excess-told, loss-listed, loss-told, paid-dated, present-in, rate-in, unit-listed, value-listed, worth, worth-dated, worth-told}
 use Rattle.scr_touched.proofs.ToldCurves.{moved-in, not-same, under-stress}
 

@@ -6,9 +6,9 @@ use Rattle.std.proofs.lemmas.Bool.Decides.{Decides-and, Decides-eqb, Decides-lik
 use Rattle.scr_dates.specs.declared.day.Day.{Day}
 use Rattle.scr_factors.specs.Values.{FactorValues}
 use Rattle.scr_funds.proofs.Members.{IsMember, IsMember-right}
-use Rattle.scr_names.specs.Names.{same_name}
-use Rattle.scr_names.specs.Tables.{has_row}
-use Rattle.scr_names.proofs.TableRows.{same_name-is}
+use Rattle.scr_tables.specs.Names.{same_name}
+use Rattle.scr_tables.specs.Tables.{has_row}
+use Rattle.scr_tables.proofs.TableRows.{same_name-is}
 use Rattle.scr_sheet.specs.BalanceSheet.{curve_name, position_name, position_of}
 use Rattle.scr_sheet.specs.Validity.{Valid}
 use Rattle.scr_sheet.specs.declared.rows.Class.{Class}
@@ -32,17 +32,17 @@ use Rattle.scr_nodes.specs.declared.node.OfSecurity.TheVariants as of_securities
 use Rattle.scr_nodes.specs.declared.node.OfCurrency.TheVariants as of_currencies
 use Rattle.scr_nodes.specs.declared.node.OfGroup.TheVariants as of_groups
 use Rattle.scr_nodes.specs.declared.node.Whole.TheVariants as wholes
-use Rattle.scr_changes.specs.Changes.{after}
-use Rattle.scr_changes.specs.Comparisons.{passes, is_kept, same_payments, same_rates}
+use Rattle.scr_row_change.specs.Changes.{after}
+use Rattle.scr_row_change.specs.Comparisons.{passes, is_kept, same_payments, same_rates}
 use Rattle.scr_touched.specs.Comparisons.{is_touched}
-use Rattle.scr_changes.specs.Exchanges.{HasName}
-use Rattle.scr_changes.specs.Readings.{duration_of, flows_of, position_held}
+use Rattle.scr_row_change.specs.Exchanges.{HasName}
+use Rattle.scr_row_change.specs.Readings.{duration_of, flows_of, position_held}
 use Rattle.scr_touched.specs.Securities.{group_nodes, rates_for, rate_touched, row_nodes, own_nodes, security_nodes, security_touches, spread_touched, step_for, total_touched, unit_touched}
-use Rattle.scr_changes.specs.declared.change.Change.TheVariants as changes
-use Rattle.scr_changes.proofs.Compared.{always, Decides-number_or_none, Decides-payments, Decides-rates, first_of_both}
+use Rattle.scr_row_change.specs.declared.change.Change.TheVariants as changes
+use Rattle.scr_row_change.proofs.Compared.{always, Decides-number_or_none, Decides-payments, Decides-rates, first_of_both}
 use Rattle.scr_touched.proofs.Decided.{Tells, Tells-at, moved, told-by, unread, untouched}
-use Rattle.scr_changes.proofs.Covered.{in-either}
-use Rattle.scr_changes.proofs.Exchanged.{counted, followed, listed, one-row}
+use Rattle.scr_row_change.proofs.Covered.{in-either}
+use Rattle.scr_row_change.proofs.Exchanged.{counted, followed, listed, one-row}
 
 -- ---- what of a security's own data is read
 

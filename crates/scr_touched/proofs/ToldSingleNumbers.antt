@@ -35,10 +35,10 @@ use Rattle.scr_nodes.specs.declared.node.Whole.TheVariants as wholes
 use Rattle.scr_nodes.specs.declared.node.Operational.TheVariants as operations
 use Rattle.scr_nodes.specs.declared.node.Risk.TheVariants as risks
 use Rattle.scr_nodes.proofs.Apart.{member-at}
-use Rattle.scr_changes.specs.Changes.{after}
+use Rattle.scr_row_change.specs.Changes.{after}
 use Rattle.scr_touched.specs.SingleNumbers.{earned_at, number_nodes, numbers_touch, provision_at, same_earned, same_operations, same_provision, same_volume, same_volumes, stress_cents}
-use Rattle.scr_changes.specs.declared.change.Change.TheVariants as changes
-use Rattle.scr_changes.proofs.Compared.{always}
+use Rattle.scr_row_change.specs.declared.change.Change.TheVariants as changes
+use Rattle.scr_row_change.proofs.Compared.{always}
 use Rattle.scr_touched.proofs.Decided.{Tells, told-always, told-moved, unread}
 
 -- ---- own data that is the same where its numbers are

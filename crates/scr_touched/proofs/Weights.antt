@@ -4,9 +4,9 @@ use Rattle.std.specs.List.{list_any}
 use Rattle.std.proofs.lemmas.List.{take_more}
 use Rattle.std.proofs.lemmas.List.Sums.{sum_by-append, sum_by-cons}
 use Rattle.std.specs.Option.{option_map}
-use Rattle.scr_names.specs.Names.{same_name}
-use Rattle.scr_names.specs.Tables.{has_row, row_of, with_row}
-use Rattle.scr_names.proofs.TableRows.{passes_or_fails, same_name-is, same_or_other, row_of-with_row_own, row_of-with_row_other}
+use Rattle.scr_tables.specs.Names.{same_name}
+use Rattle.scr_tables.specs.Tables.{has_row, row_of, with_row}
+use Rattle.scr_tables.proofs.TableRows.{passes_or_fails, same_name-is, same_or_other, row_of-with_row_own, row_of-with_row_other}
 use Rattle.scr_sheet.specs.Records.{natural}
 use Rattle.scr_sheet.specs.declared.rows.Stake.{Stake}
 use Rattle.scr_nodes.specs.Own.{Share}

@@ -3,8 +3,8 @@ use Rattle.std.proofs.Common.{IfOk, Result, Ok, Err, ◌≡◌, ◌↔◌, ◌||
 use Rattle.std.specs.Option.{option_or}
 use Rattle.scr_factors.specs.Values.{FactorValues}
 use Rattle.scr_funds.proofs.Members.{IsMember, IsMember-left, IsMember-from_Contains, Contains-from_IsMember}
-use Rattle.scr_names.specs.Tables.{row_of}
-use Rattle.scr_names.proofs.TableRows.{passes_or_fails}
+use Rattle.scr_tables.specs.Tables.{row_of}
+use Rattle.scr_tables.proofs.TableRows.{passes_or_fails}
 use Rattle.scr_sheet.specs.BalanceSheet.{curve_name}
 use Rattle.scr_sheet.specs.Faults.{fault_of, fields_outside, list_fault, unknown_name, wrong_kind, in_use, cycle, sheet_outside}
 use Rattle.scr_sheet.specs.Records.{applied}
@@ -16,7 +16,7 @@ use Rattle.scr_nodes.specs.Live.{is_live}
 use Rattle.scr_nodes.specs.LiveNodes.{HasNoRepeats}
 use Rattle.scr_nodes.specs.declared.node.Node.{Node}
 use Rattle.scr_touched.specs.Candidates.{touches, candidates, first_candidates, later_candidates, is_of_row}
-use Rattle.scr_changes.specs.Changes.{after, change_of, IsNamed}
+use Rattle.scr_row_change.specs.Changes.{after, change_of, IsNamed}
 use Rattle.scr_touched.specs.Touched.{IsChanged, IsSame, IsTold, AreTouched}
 use Rattle.scr_touched.specs.SingleNumbers.{number_nodes}
 use Rattle.scr_touched.proofs.Decided.{Tells}
@@ -25,9 +25,9 @@ use Rattle.scr_touched.proofs.OnceRows.{debt-split, group-split, liability-split
 use Rattle.scr_touched.proofs.OnceTables.{HasDistinct, curve-split, date-split, distinct-change, fund-split, none-twice}
 use Rattle.scr_nodes.proofs.Apart.{one-place}
 use Rattle.scr_nodes.proofs.Parts.{apart-by_parts}
-use Rattle.scr_changes.specs.declared.change.Change.{Change}
-use Rattle.scr_changes.specs.declared.change.Change.TheVariants as changes
-use Rattle.scr_changes.proofs.AsExchanged.{as-change, named-change}
+use Rattle.scr_row_change.specs.declared.change.Change.{Change}
+use Rattle.scr_row_change.specs.declared.change.Change.TheVariants as changes
+use Rattle.scr_row_change.proofs.AsExchanged.{as-change, named-change}
 use Rattle.scr_touched.proofs.ToldSecurities as securities
 use Rattle.scr_touched.proofs.ToldFunds as funds
 use Rattle.scr_touched.proofs.ToldGroups as groups

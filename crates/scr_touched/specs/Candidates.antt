@@ -1,6 +1,6 @@
 -- Which figures what is exchanged touches (this project's own).
 use Rattle.std.specs.Prelude.{Bool, false, not, List, [], ◌++◌, filter, Option, None}
-use Rattle.scr_names.specs.Tables.{row_of}
+use Rattle.scr_tables.specs.Tables.{row_of}
 use Rattle.scr_sheet.specs.BalanceSheet.{group_name, position_name, stake_name, liability_name, bank_name, rein_name, curve_name}
 use Rattle.scr_sheet.specs.declared.sheet.BalanceSheet.{BalanceSheet}
 use Rattle.scr_sheet.specs.declared.rows.Position.{Position}
@@ -8,14 +8,14 @@ use Rattle.scr_nodes.specs.declared.node.Node.{Node}
 use Rattle.scr_touched.specs.Securities.{security_touches, security_nodes, row_nodes, is_of_position}
 use Rattle.scr_touched.specs.Funds.{fund_touches, fund_nodes, component_nodes, is_of_stake}
 use Rattle.scr_touched.specs.Groups.{group_touches, group_nodes, later_group_nodes, is_of_class_of}
-use Rattle.scr_changes.specs.Debts.{bank_debt, rein_debt}
+use Rattle.scr_row_change.specs.Debts.{bank_debt, rein_debt}
 use Rattle.scr_touched.specs.Debts.{debt_touches, debt_losses, is_of_debtor}
 use Rattle.scr_touched.specs.Liabilities.{liability_touches, liability_nodes, owed_nodes, is_of_liability}
 use Rattle.scr_touched.specs.Curves.{curve_touches, curve_nodes}
 use Rattle.scr_touched.specs.ReferenceDates.{date_touches, date_nodes, reporting_nodes, is_of_currency}
 use Rattle.scr_touched.specs.SingleNumbers.{numbers_touch, number_nodes}
-use Rattle.scr_changes.specs.declared.change.Change.{Change}
-use Rattle.scr_changes.specs.declared.change.Change.TheVariants as changes
+use Rattle.scr_row_change.specs.declared.change.Change.{Change}
+use Rattle.scr_row_change.specs.declared.change.Change.TheVariants as changes
 
 abbrev pub touches : BalanceSheet → Change → Node → Bool
 touches sheet (changes.Security name new) node =

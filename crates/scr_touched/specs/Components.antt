@@ -1,6 +1,6 @@
 -- The components of funds in a table of names (this project's own).
 use Rattle.std.specs.Prelude.{ℕ, List, if◌then◌else◌}
-use Rattle.scr_names.specs.Tables.{has_row, with_row}
+use Rattle.scr_tables.specs.Tables.{has_row, with_row}
 use Rattle.scr_touched.specs.declared.component.Component.{Component}
 
 abbrev pub component_name : Component → List ℕ

@@ -1,14 +1,14 @@
 -- Which figures an exchanged bank or reinsurance arrangement touches (this project's own).
 use Rattle.std.specs.Prelude.{Bool, true, false, List, [], ◌∷◌, Option, Some, None}
 use Rattle.scr_sheet.specs.declared.sheet.BalanceSheet.{BalanceSheet}
-use Rattle.scr_changes.specs.Debts.{is_owed_by, same_debt}
-use Rattle.scr_changes.specs.Parts.{gives_same}
-use Rattle.scr_changes.specs.declared.debts.Debt.{Debt}
+use Rattle.scr_row_change.specs.Debts.{is_owed_by, same_debt}
+use Rattle.scr_row_change.specs.Parts.{gives_same}
+use Rattle.scr_row_change.specs.declared.debts.Debt.{Debt}
 use Rattle.scr_nodes.specs.Live.{is_group}
 use Rattle.scr_nodes.specs.declared.node.Node.{Node}
 use Rattle.scr_nodes.specs.declared.node.Node.TheVariants as nodes
 use Rattle.scr_nodes.specs.declared.node.OfGroup.TheVariants as of_groups
-use Rattle.scr_changes.specs.Comparisons.{passes}
+use Rattle.scr_row_change.specs.Comparisons.{passes}
 use Rattle.scr_touched.specs.Comparisons.{is_touched}
 
 -- what a bank or a reinsurer owes becomes another debt, or comes or goes

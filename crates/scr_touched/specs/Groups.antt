@@ -2,7 +2,7 @@
 use Rattle.std.specs.Prelude.{ℕ, ◌&&◌, ◌||◌, ◌++◌, Bool, true, false, not, List, [], ◌∷◌, Option, Some, None, is_some, filter, map}
 use Rattle.std.specs.Bool.{beq}
 use Rattle.std.specs.Option.{option_map_or}
-use Rattle.scr_names.specs.Names.{same_name}
+use Rattle.scr_tables.specs.Names.{same_name}
 use Rattle.scr_profile.specs.DefaultClasses.{class_of_step}
 use Rattle.scr_profile.specs.declared.default_class.DefaultClass.{DefaultClass}
 use Rattle.scr_sheet.specs.BalanceSheet.{position_of}
@@ -16,8 +16,8 @@ use Rattle.scr_nodes.specs.declared.node.Node.TheVariants as nodes
 use Rattle.scr_nodes.specs.declared.node.OfSecurity.TheVariants as of_securities
 use Rattle.scr_nodes.specs.declared.node.OfGroup.TheVariants as of_groups
 use Rattle.scr_nodes.specs.declared.node.Whole.TheVariants as wholes
-use Rattle.scr_changes.specs.Comparisons.{is_kept, passes}
-use Rattle.scr_changes.specs.Readings.{is_same_kind, kind_of, same_step}
+use Rattle.scr_row_change.specs.Comparisons.{is_kept, passes}
+use Rattle.scr_row_change.specs.Readings.{is_same_kind, kind_of, same_step}
 use Rattle.scr_touched.specs.Comparisons.{is_touched}
 
 -- ---- what is read of a group, if there is one

@@ -1,8 +1,8 @@
 -- Which figures an exchanged liability touches (this project's own).
 use Rattle.std.specs.Prelude.{ℕ, ℤ, ◌&&◌, ◌++◌, Bool, true, false, List, [], ◌∷◌, Option, Some, None, is_some, map}
 use Rattle.std.specs.Option.{option_map_or}
-use Rattle.scr_names.specs.Names.{same_name}
-use Rattle.scr_names.specs.Tables.{has_row}
+use Rattle.scr_tables.specs.Names.{same_name}
+use Rattle.scr_tables.specs.Tables.{has_row}
 use Rattle.scr_sheet.specs.BalanceSheet.{curve_name}
 use Rattle.scr_sheet.specs.declared.keys.Projection.{Projection}
 use Rattle.scr_sheet.specs.declared.rows.Liability.{Liability}
@@ -18,8 +18,8 @@ use Rattle.scr_nodes.specs.declared.node.Node.TheVariants as nodes
 use Rattle.scr_nodes.specs.declared.node.OfLiability.TheVariants as of_liabilities
 use Rattle.scr_nodes.specs.declared.node.OfCurrency.TheVariants as of_currencies
 use Rattle.scr_nodes.specs.declared.node.Whole.TheVariants as wholes
-use Rattle.scr_changes.specs.Comparisons.{passes, is_kept, same_payments, same_rates}
-use Rattle.scr_changes.specs.Readings.{best_estimate_of, paid_for}
+use Rattle.scr_row_change.specs.Comparisons.{passes, is_kept, same_payments, same_rates}
+use Rattle.scr_row_change.specs.Readings.{best_estimate_of, paid_for}
 use Rattle.scr_touched.specs.Comparisons.{is_touched}
 use Rattle.scr_touched.specs.Payments.{loss_figures, stresses, value_figures}
 

@@ -1,8 +1,8 @@
 -- Which figures an exchanged security touches (this project's own).
 use Rattle.std.specs.Prelude.{ℕ, ℤ, ◌==◌, ◌&&◌, ◌++◌, Bool, true, false, List, [], ◌∷◌, Option, Some, None, nat_eq, is_some}
 use Rattle.std.specs.Option.{option_eq, option_map_or}
-use Rattle.scr_names.specs.Names.{same_name}
-use Rattle.scr_names.specs.Tables.{has_row}
+use Rattle.scr_tables.specs.Names.{same_name}
+use Rattle.scr_tables.specs.Tables.{has_row}
 use Rattle.scr_sheet.specs.BalanceSheet.{curve_name}
 use Rattle.scr_sheet.specs.declared.rows.Class.TheVariants as classes
 use Rattle.scr_sheet.specs.declared.rows.Position.{Position}
@@ -17,8 +17,8 @@ use Rattle.scr_nodes.specs.declared.node.OfSecurity.TheVariants as of_securities
 use Rattle.scr_nodes.specs.declared.node.OfCurrency.TheVariants as of_currencies
 use Rattle.scr_nodes.specs.declared.node.OfGroup.TheVariants as of_groups
 use Rattle.scr_nodes.specs.declared.node.Whole.TheVariants as wholes
-use Rattle.scr_changes.specs.Comparisons.{passes, is_kept, same_payments, same_rates}
-use Rattle.scr_changes.specs.Readings.{duration_of, flows_of, position_held}
+use Rattle.scr_row_change.specs.Comparisons.{passes, is_kept, same_payments, same_rates}
+use Rattle.scr_row_change.specs.Readings.{duration_of, flows_of, position_held}
 use Rattle.scr_touched.specs.Comparisons.{is_touched}
 
 -- ---- what is read of a security, if there is one

@@ -2,7 +2,7 @@
 use Rattle.std.specs.Prelude.{◌≡◌, ℕ, ℤ, List, Option, Some, None, if◌then◌else◌}
 use Rattle.std.specs.List.{list_any}
 use Rattle.std.specs.Option.{option_map}
-use Rattle.scr_names.specs.Tables.{row_of}
+use Rattle.scr_tables.specs.Tables.{row_of}
 use Rattle.scr_sheet.specs.declared.rows.Stake.{Stake}
 use Rattle.scr_nodes.specs.Own.{Share}
 use Rattle.scr_nodes.specs.Rows.{is_component, weights_before, weights_through}

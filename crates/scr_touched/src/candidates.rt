@@ -19,9 +19,9 @@ use crate::reference_dates::{date_nodes, date_touches, is_of_currency, reporting
 use crate::securities::{is_of_position, row_nodes, security_nodes, security_touches};
 use crate::single_numbers::{number_nodes, numbers_touch};
 use scr_book::Book;
-use scr_changes::debts::{bank_debt, rein_debt};
-use scr_changes::{Change, change_of};
 use scr_nodes::Node;
+use scr_row_change::debts::{bank_debt, rein_debt};
+use scr_row_change::{Change, change_of};
 use scr_sheet::{BalanceSheet, Edit, Fault, Position, check_lists, fields_outside};
 use std::alloc::{AllocError as NoMemory, Global};
 use std::mem::drop;

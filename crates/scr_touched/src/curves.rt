@@ -2,18 +2,18 @@
 ghost use Rattle.std.specs.Prelude.{◌≡◌, ◌++◌, IfOk, OnOk};
 ghost use Rattle.std.specs.Option.{option_copied};
 ghost use Rattle.scr_nodes.specs.Rows.{is_foreign};
-ghost use Rattle.scr_changes.specs.Comparisons.{passes};
-ghost use Rattle.scr_changes.specs.Readings.{rates_by, keeps_security, keeps_liability};
+ghost use Rattle.scr_row_change.specs.Comparisons.{passes};
+ghost use Rattle.scr_row_change.specs.Readings.{rates_by, keeps_security, keeps_liability};
 ghost use Rattle.scr_touched.specs.Curves.{absorption_by, unit_moved, value_moved, loss_moved, foreign_touched, net_touched, curve_touches, currency_nodes, foreign_nodes, moved_nodes, curve_nodes};
 
 use crate::comparisons::is_touched;
 use crate::liabilities::is_under;
 use crate::payments::payment_figures;
 use crate::securities::pays;
-use scr_changes::comparisons::same_rates;
-use scr_changes::readings::{keeps_liability, keeps_security, rates_by};
 use scr_nodes::rows::{is_foreign, is_paying};
 use scr_nodes::{Direction, Measure, Node, OfCurrency, OfLiability, OfSecurity, Whole};
+use scr_row_change::comparisons::same_rates;
+use scr_row_change::readings::{keeps_liability, keeps_security, rates_by};
 use scr_sheet::{BalanceSheet, Curve, Liability, Name, Position, Projection};
 use std::alloc::{AllocError as NoMemory, Global};
 

@@ -4,8 +4,8 @@ ghost use Rattle.std.specs.Option.{option_copied};
 ghost use Rattle.scr_touched.specs.Debts.{debt_touches, debt_losses, is_of_debtor};
 
 use crate::comparisons::is_touched;
-use scr_changes::debts::{Debt, owes_same};
 use scr_nodes::{Node, OfGroup};
+use scr_row_change::debts::{Debt, owes_same};
 use scr_sheet::BalanceSheet;
 use std::alloc::{AllocError as NoMemory, Global};
 

@@ -3,16 +3,16 @@ ghost use Rattle.std.specs.Prelude.{◌≡◌, ◌++◌, IfOk, OnOk};
 ghost use Rattle.std.specs.Option.{option_copied};
 ghost use Rattle.scr_nodes.specs.Live.{is_bond};
 ghost use Rattle.scr_nodes.specs.Rows.{is_of_default_class, is_of_group};
-ghost use Rattle.scr_changes.specs.Comparisons.{passes};
-ghost use Rattle.scr_changes.specs.Readings.{same_step, kind_of};
+ghost use Rattle.scr_row_change.specs.Comparisons.{passes};
+ghost use Rattle.scr_row_change.specs.Readings.{same_step, kind_of};
 ghost use Rattle.scr_touched.specs.Groups.{group_touches, group_nodes, later_group_nodes, is_of_class_of, is_moved, square_touched, class_touched, step_touched, counts_in, class_nodes, spread_nodes};
 
 use crate::comparisons::is_touched;
-use scr_changes::readings::{kind_of, same_step};
 use scr_nodes::live::is_bond;
 use scr_nodes::rows::{is_of_default_class, is_of_group};
 use scr_nodes::{Node, OfGroup, OfSecurity, Whole};
 use scr_profile::DefaultClass;
+use scr_row_change::readings::{kind_of, same_step};
 use scr_sheet::{BalanceSheet, Group, Name};
 use std::alloc::{AllocError as NoMemory, Global};
 

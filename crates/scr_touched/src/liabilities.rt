@@ -2,18 +2,18 @@
 ghost use Rattle.std.specs.Prelude.{◌≡◌, ◌++◌, IfOk, OnOk};
 ghost use Rattle.std.specs.Option.{option_copied};
 ghost use Rattle.scr_nodes.specs.Rows.{has_stress, is_owed_in, is_stress, is_stressed};
-ghost use Rattle.scr_changes.specs.Comparisons.{is_kept, passes};
-ghost use Rattle.scr_changes.specs.Readings.{best_estimate_of, paid_for};
+ghost use Rattle.scr_row_change.specs.Comparisons.{is_kept, passes};
+ghost use Rattle.scr_row_change.specs.Readings.{best_estimate_of, paid_for};
 ghost use Rattle.scr_touched.specs.Liabilities.{rates_for, is_under, same_value, value_touched, loss_touched, liability_touches, stress_nodes, owed_nodes, liability_nodes, is_of_liability};
 
 use crate::comparisons::is_touched;
 use crate::lookups::rates_of;
 use crate::payments::{push_losses, push_values};
-use scr_changes::comparisons::{same_payments, same_rates};
-use scr_changes::readings::{best_estimate_of, paid_for};
 use scr_nodes::live::{has_stress, is_foreign_currency, is_stress};
 use scr_nodes::rows::{has_flows, is_owed_in, is_stressed};
 use scr_nodes::{Biometric, Direction, Measure, Node, OfCurrency, OfLiability, Whole};
+use scr_row_change::comparisons::{same_payments, same_rates};
+use scr_row_change::readings::{best_estimate_of, paid_for};
 use scr_sheet::{BalanceSheet, Liability, Name, Projection};
 use std::alloc::{AllocError as NoMemory, Global};
 

@@ -4,18 +4,18 @@ ghost use Rattle.std.specs.Option.{option_copied};
 ghost use Rattle.scr_nodes.specs.Rows.{is_paying, is_paying_in};
 ghost use Rattle.scr_nodes.specs.Selections.{is_counted};
 ghost use Rattle.scr_sheet.specs.declared.rows.Class.TheVariants as classes;
-ghost use Rattle.scr_changes.specs.Comparisons.{is_kept, passes};
-ghost use Rattle.scr_changes.specs.Readings.{flows_of, duration_of, position_held};
+ghost use Rattle.scr_row_change.specs.Comparisons.{is_kept, passes};
+ghost use Rattle.scr_row_change.specs.Readings.{flows_of, duration_of, position_held};
 ghost use Rattle.scr_touched.specs.Securities.{rates_for, step_for, total_touched, unit_touched, spread_touched, security_touches, own_nodes, row_nodes, security_nodes, is_of_position};
 
 use crate::comparisons::is_touched;
 use crate::lookups::{rates_of, step_of};
-use scr_changes::comparisons::{same_payments, same_rates};
-use scr_changes::readings::{duration_of, flows_of, position_held};
 use scr_nodes::live::is_foreign_currency;
 use scr_nodes::rows::{has_class, is_paying, is_paying_in};
 use scr_nodes::selections::{Holdings, is_counted};
 use scr_nodes::{Direction, Measure, Node, OfCurrency, OfGroup, OfSecurity, Whole};
+use scr_row_change::comparisons::{same_payments, same_rates};
+use scr_row_change::readings::{duration_of, flows_of, position_held};
 use scr_sheet::{BalanceSheet, Class, Name, Position};
 use std::alloc::{AllocError as NoMemory, Global};
 

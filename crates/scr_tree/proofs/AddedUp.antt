@@ -6,25 +6,25 @@ use Rattle.scr_num.specs.Rounding.{Ends, ends, exact_ends}
 use Rattle.scr_num.specs.Sizes.{AreTogether}
 use Rattle.scr_num.specs.Sums.{sum_ends}
 use Rattle.scr_num.specs.declared.span.Span.{Span}
-use Rattle.scr_blocks.specs.Blocks.{part}
-use Rattle.scr_blocks.proofs.Regrouped.{map-map}
+use Rattle.scr_sum_tree.specs.Blocks.{part}
+use Rattle.scr_sum_tree.proofs.Regrouped.{map-map}
 use Rattle.scr_nodes.proofs.SingleSources.{sources-once as plain-once}
-use Rattle.scr_blocks.specs.declared.blocks.Level.TheVariants as levels
+use Rattle.scr_sum_tree.specs.declared.blocks.Level.TheVariants as levels
 use Rattle.scr_factors.specs.Values.{IsInForm}
-use Rattle.scr_figures.specs.Families.{family_of}
-use Rattle.scr_lists.specs.Lists.{first_of}
+use Rattle.scr_figure_ids.specs.Families.{family_of}
+use Rattle.scr_member_index.specs.Lists.{first_of}
 use Rattle.scr_sheet.specs.Members.{table_of}
-use Rattle.scr_reach.specs.Linked.{AreAt}
-use Rattle.scr_subtotals.specs.Figures.{ends_at, members_ends}
-use Rattle.scr_subtotals.specs.Written.{any_open, is_open_at}
-use Rattle.scr_subtotals.specs.declared.figure.Figure.{Figure}
-use Rattle.scr_sums.specs.Books.{rolled_of}
-use Rattle.scr_sums.specs.Graph.{is_live_in, roll_in, sources_in}
-use Rattle.scr_sums.specs.Sums.{member_of, roll_of}
-use Rattle.scr_sums.proofs.Once.{sources-once}
-use Rattle.scr_sums.specs.declared.point.Block.{Block}
-use Rattle.scr_sums.specs.declared.point.Point.{Point}
-use Rattle.scr_sums.specs.declared.point.Point.TheVariants as points
+use Rattle.scr_reachability.specs.Linked.{AreAt}
+use Rattle.scr_partial_sums.specs.Figures.{ends_at, members_ends}
+use Rattle.scr_partial_sums.specs.Written.{any_open, is_open_at}
+use Rattle.scr_partial_sums.specs.declared.figure.Figure.{Figure}
+use Rattle.scr_block_graph.specs.Books.{rolled_of}
+use Rattle.scr_block_graph.specs.Graph.{is_live_in, roll_in, sources_in}
+use Rattle.scr_block_graph.specs.Sums.{member_of, roll_of}
+use Rattle.scr_block_graph.proofs.Once.{sources-once}
+use Rattle.scr_block_graph.specs.declared.point.Block.{Block}
+use Rattle.scr_block_graph.specs.declared.point.Point.{Point}
+use Rattle.scr_block_graph.specs.declared.point.Point.TheVariants as points
 use Rattle.scr_tree.specs.Figures.{HasFigure, HaveFigures, Reckoning, Worth, worth_of}
 use Rattle.scr_tree.specs.Ready.{IsBasis, IsReadyOn, StandsOn, graph_on, reckoning_on}
 use Rattle.scr_tree.specs.Renewed.{IsSumOf}

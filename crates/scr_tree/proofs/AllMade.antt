@@ -4,21 +4,21 @@ use Rattle.std.proofs.Common.{◌≡◌, inl, ℕ, ◌+◌, ◌++◌, Bool, true
 use Rattle.std.specs.Option.{option_map}
 use Rattle.std.specs.Prelude.{not}
 use Rattle.std.proofs.lemmas.Bool.{and_parts}
-use Rattle.scr_blocks.specs.Blocks.{is_block}
-use Rattle.scr_figures.specs.Numbers.{StandsAt}
-use Rattle.scr_figures.proofs.Standing.{stands}
+use Rattle.scr_sum_tree.specs.Blocks.{is_block}
+use Rattle.scr_figure_ids.specs.Numbers.{StandsAt}
+use Rattle.scr_figure_ids.proofs.Standing.{stands}
 use Rattle.scr_links.specs.Edges.{Edge, Linked}
 use Rattle.scr_nodes.specs.Sources.{sources_of}
 use Rattle.scr_nodes.specs.declared.node.Node.{Node}
 use Rattle.scr_nodes.specs.declared.node.Node.TheVariants as nodes
 use Rattle.scr_nodes.specs.declared.node.Whole.TheVariants as wholes
-use Rattle.scr_reach.specs.Linked.{AreAt, AreLinkedOf, sources_in as linked_in}
-use Rattle.scr_sums.specs.Books.{rolled_of}
-use Rattle.scr_sums.specs.Graph.{is_live_in, reads, roll_in, sources_in, tops_of}
-use Rattle.scr_sums.specs.Sums.{first_sum, reader_of, second_sum}
-use Rattle.scr_sums.specs.declared.point.Point.{Point}
-use Rattle.scr_sums.specs.declared.point.Point.TheVariants as points
-use Rattle.scr_subtotals.specs.declared.figure.Figure.{Figure}
+use Rattle.scr_reachability.specs.Linked.{AreAt, AreLinkedOf, sources_in as linked_in}
+use Rattle.scr_block_graph.specs.Books.{rolled_of}
+use Rattle.scr_block_graph.specs.Graph.{is_live_in, reads, roll_in, sources_in, tops_of}
+use Rattle.scr_block_graph.specs.Sums.{first_sum, reader_of, second_sum}
+use Rattle.scr_block_graph.specs.declared.point.Point.{Point}
+use Rattle.scr_block_graph.specs.declared.point.Point.TheVariants as points
+use Rattle.scr_partial_sums.specs.declared.figure.Figure.{Figure}
 use Rattle.scr_tree.specs.Figures.{AreKnownOf, AreSettled, HasFigure, worth_at, worth_of}
 use Rattle.scr_tree.specs.First.{AreDone, AreLinkedTo, AreReckonedTo, IsGround, IsLinkedBefore, IsWhole, link_ground}
 use Rattle.scr_tree.specs.Graphs.{graph_of}

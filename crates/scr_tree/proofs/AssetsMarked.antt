@@ -1,10 +1,10 @@
 -- The place of the assets among the marks tells whether all squares are reached.
 use Rattle.std.proofs.Common.{◌≡◌, ℕ, true, List, Option, Some, None, slice_get, refl, ap, ◌∙◌}
 use Rattle.std.specs.Prelude.{IfSome, is_some}
-use Rattle.scr_lists.specs.declared.lists.Lists.{Lists}
-use Rattle.scr_numbers.specs.Ranges.{Numbered}
+use Rattle.scr_member_index.specs.declared.lists.Lists.{Lists}
+use Rattle.scr_ids.specs.Ranges.{Numbered}
 use Rattle.scr_book.specs.RolledSheets.{RolledSheet}
-use Rattle.scr_reach.proofs.Placed.{placed-get}
+use Rattle.scr_reachability.proofs.Placed.{placed-get}
 use Rattle.scr_tree.specs.Marking.{AreAssetsMarked}
 use Rattle.scr_tree.specs.Points.{AreNumbersOf}
 use Rattle.scr_tree.proofs.MarkedMore.{marked-here}

@@ -1,12 +1,12 @@
 -- What stands at a number, by the table of the row that has it.
 use Rattle.std.proofs.Common.{◌≡◌, ◌⊎◌, inl, inr, ℕ, zero, suc, ◌<◌, true, List, length, map, Some, slice_get, refl, subst, ◌∙◌, arith}
-use Rattle.scr_figures.specs.Families.{family_of, table_of}
-use Rattle.scr_figures.specs.Numbers.{StandsAt}
-use Rattle.scr_figures.proofs.Standing.{figure-or-part}
-use Rattle.scr_lists.specs.declared.lists.Lists.{Lists}
-use Rattle.scr_numbers.specs.Ranges.{IsApart, IsAt, Numbered, count}
-use Rattle.scr_numbers.specs.declared.table.Table.{Table}
-use Rattle.scr_numbers.specs.declared.table.Table.TheVariants as ranged
+use Rattle.scr_figure_ids.specs.Families.{family_of, table_of}
+use Rattle.scr_figure_ids.specs.Numbers.{StandsAt}
+use Rattle.scr_figure_ids.proofs.Standing.{figure-or-part}
+use Rattle.scr_member_index.specs.declared.lists.Lists.{Lists}
+use Rattle.scr_ids.specs.Ranges.{IsApart, IsAt, Numbered, count}
+use Rattle.scr_ids.specs.declared.table.Table.{Table}
+use Rattle.scr_ids.specs.declared.table.Table.TheVariants as ranged
 use Rattle.scr_book.specs.RolledSheets.{RolledSheet}
 use Rattle.scr_sheet.specs.BalanceSheet.{group_name}
 use Rattle.scr_nodes.specs.declared.node.Node.{Node}
@@ -15,13 +15,13 @@ use Rattle.scr_nodes.specs.declared.node.OfGroup.{OfGroup}
 use Rattle.scr_nodes.specs.declared.node.OfGroup.TheVariants as of_groups
 use Rattle.scr_nodes.specs.declared.node.Whole.{Whole}
 use Rattle.scr_nodes.specs.declared.node.Whole.TheVariants as wholes
-use Rattle.scr_reach.specs.Dues.{IsLiveAt}
-use Rattle.scr_sums.specs.BlockNumbers.{place_of}
-use Rattle.scr_sums.specs.Books.{rolled_of}
-use Rattle.scr_sums.specs.Graph.{is_live_in}
-use Rattle.scr_sums.specs.declared.point.Block.{Block}
-use Rattle.scr_sums.specs.declared.point.Point.{Point}
-use Rattle.scr_sums.specs.declared.point.Point.TheVariants as points
+use Rattle.scr_reachability.specs.LinkedDues.{IsLiveAt}
+use Rattle.scr_block_graph.specs.BlockNumbers.{place_of}
+use Rattle.scr_block_graph.specs.Books.{rolled_of}
+use Rattle.scr_block_graph.specs.Graph.{is_live_in}
+use Rattle.scr_block_graph.specs.declared.point.Block.{Block}
+use Rattle.scr_block_graph.specs.declared.point.Point.{Point}
+use Rattle.scr_block_graph.specs.declared.point.Point.TheVariants as points
 use Rattle.scr_tree.specs.Marking.{AreMarkedMore, IsPlainDependantAt, assets}
 use Rattle.scr_tree.specs.Points.{AreNumbersOf, StandsIn, book_graph}
 use Rattle.scr_tree.proofs.Dependants.{ByMember, ByRow, plain-cases}

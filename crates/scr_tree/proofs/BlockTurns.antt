@@ -2,20 +2,20 @@
 use Rattle.std.proofs.Common.{◌≡◌, ◌⊎◌, inl, inr, ℕ, ◌<◌, Bool, true, false, is_some, List, slice_get, refl, ap, ◌∙◌, arith}
 use Rattle.std.specs.Option.{option_map}
 use Rattle.std.specs.Prelude.{not}
-use Rattle.scr_figures.specs.Families.{family_of}
-use Rattle.scr_numbers.specs.Ranges.{IsAt}
-use Rattle.scr_numbers.specs.declared.table.Table.TheVariants as tables
+use Rattle.scr_figure_ids.specs.Families.{family_of}
+use Rattle.scr_ids.specs.Ranges.{IsAt}
+use Rattle.scr_ids.specs.declared.table.Table.TheVariants as tables
 use Rattle.scr_nodes.specs.declared.node.{Node.Node, OfCurrency.OfCurrency, Whole.Whole}
 use Rattle.scr_nodes.specs.declared.node.Node.TheVariants as nodes
-use Rattle.scr_sums.specs.BlockNumbers.{place_of}
-use Rattle.scr_sums.specs.Books.{rolled_of}
-use Rattle.scr_sums.specs.Graph.{is_live_in}
-use Rattle.scr_sums.specs.Sums.{first_sum, reader_of}
-use Rattle.scr_sums.specs.declared.point.Point.{Point}
-use Rattle.scr_sums.specs.declared.point.Point.TheVariants as points
-use Rattle.scr_sums.specs.declared.sum.Sum.{Sum}
-use Rattle.scr_sums.specs.declared.sum.Sum.TheVariants as sums
-use Rattle.scr_subtotals.specs.declared.figure.Figure.{Figure}
+use Rattle.scr_block_graph.specs.BlockNumbers.{place_of}
+use Rattle.scr_block_graph.specs.Books.{rolled_of}
+use Rattle.scr_block_graph.specs.Graph.{is_live_in}
+use Rattle.scr_block_graph.specs.Sums.{first_sum, reader_of}
+use Rattle.scr_block_graph.specs.declared.point.Point.{Point}
+use Rattle.scr_block_graph.specs.declared.point.Point.TheVariants as points
+use Rattle.scr_block_graph.specs.declared.sum.Sum.{Sum}
+use Rattle.scr_block_graph.specs.declared.sum.Sum.TheVariants as sums
+use Rattle.scr_partial_sums.specs.declared.figure.Figure.{Figure}
 use Rattle.scr_tree.specs.Figures.{AreKnownOf, HasFigure, Reckoning, worth_of}
 use Rattle.scr_tree.specs.First.{IsBlockBefore, IsGround}
 use Rattle.scr_tree.specs.Points.{StandsIn, book_reckoning, is_linked}

@@ -3,17 +3,17 @@ use Rattle.std.proofs.Common.{◌≡◌, ℕ, zero, suc, ◌+◌, ◌<◌, ◌�
 use Rattle.std.specs.List.{range_with_len}
 use Rattle.std.proofs.lemmas.Bool.Decides.{Decides-ltb}
 use Rattle.std.proofs.lemmas.List.{length-map}
-use Rattle.scr_blocks.specs.Blocks.{block_sources, blocks_at, is_block, part, parts}
-use Rattle.scr_blocks.specs.Sums.{AreSums}
-use Rattle.scr_blocks.specs.declared.blocks.Level.{Level}
-use Rattle.scr_blocks.specs.declared.blocks.Level.TheVariants as levels
-use Rattle.scr_blocks.proofs.BlockTests.{Decides-is_block_over}
-use Rattle.scr_blocks.proofs.PartLemmas.{part-map}
-use Rattle.scr_blocks.proofs.Regrouped.{map-map}
+use Rattle.scr_sum_tree.specs.Blocks.{block_sources, blocks_at, is_block, part, parts}
+use Rattle.scr_sum_tree.specs.Sums.{AreSums}
+use Rattle.scr_sum_tree.specs.declared.blocks.Level.{Level}
+use Rattle.scr_sum_tree.specs.declared.blocks.Level.TheVariants as levels
+use Rattle.scr_sum_tree.proofs.BlockTests.{Decides-is_block_over}
+use Rattle.scr_sum_tree.proofs.PartLemmas.{part-map}
+use Rattle.scr_sum_tree.proofs.Regrouped.{map-map}
 use Rattle.scr_num.specs.Rounding.{Ends}
 use Rattle.scr_num.specs.Sums.{sum_ends}
-use Rattle.scr_subtotals.specs.Figures.{ends_at, member_number, members_ends}
-use Rattle.scr_subtotals.specs.declared.figure.Figure.{Figure}
+use Rattle.scr_partial_sums.specs.Figures.{ends_at, member_number, members_ends}
+use Rattle.scr_partial_sums.specs.declared.figure.Figure.{Figure}
 use Rattle.scr_tree.specs.Summed.{spanned_ends}
 
 pub map-range : {X : Type 0} (f g : ℕ → X) (a n : ℕ) → ((j : ℕ) → a ≤ j → j < a + n → f j ≡ g j) → map f (range_with_len a n) ≡ map g (range_with_len a n)

@@ -2,16 +2,16 @@
 use Rattle.std.proofs.Common.{◌≡◌, ◌≢◌, ℕ, ◌*◌, Bool, true, false, List, [], Some, None, length, refl, sym, ap, subst, ◌∙◌, arith}
 use Rattle.std.specs.Prelude.{nat_lt}
 use Rattle.std.proofs.lemmas.Bool.{and_parts, ltb-true}
-use Rattle.scr_blocks.specs.Blocks.{is_block}
-use Rattle.scr_blocks.specs.declared.blocks.Level.{Level}
-use Rattle.scr_blocks.specs.declared.blocks.Level.TheVariants as levels
-use Rattle.scr_numbers.specs.Ranges.{IsApart, IsAt, IsOne, Numbered}
-use Rattle.scr_numbers.specs.declared.table.Table.{Table as Ranged}
-use Rattle.scr_numbers.specs.declared.table.Table.TheVariants as ranged
-use Rattle.scr_parts.specs.PartNumbers.{PartAt}
-use Rattle.scr_parts.specs.Parts.{AreOwn, part_at, slot_of}
-use Rattle.scr_parts.specs.declared.parts.Part.{Part}
-use Rattle.scr_parts.proofs.Views.{no-some, one-some}
+use Rattle.scr_sum_tree.specs.Blocks.{is_block}
+use Rattle.scr_sum_tree.specs.declared.blocks.Level.{Level}
+use Rattle.scr_sum_tree.specs.declared.blocks.Level.TheVariants as levels
+use Rattle.scr_ids.specs.Ranges.{IsApart, IsAt, IsOne, Numbered}
+use Rattle.scr_ids.specs.declared.table.Table.{Table as Ranged}
+use Rattle.scr_ids.specs.declared.table.Table.TheVariants as ranged
+use Rattle.scr_sum_slots.specs.PartNumbers.{PartAt}
+use Rattle.scr_sum_slots.specs.Parts.{AreOwn, part_at, slot_of}
+use Rattle.scr_sum_slots.specs.declared.parts.Part.{Part}
+use Rattle.scr_sum_slots.proofs.Views.{no-some, one-some}
 use Rattle.scr_sheet.specs.Members.{table_of}
 use Rattle.scr_sheet.specs.declared.roll.Roll.{Roll}
 use Rattle.scr_sheet.specs.declared.roll.Roll.TheVariants as rolls
@@ -20,21 +20,21 @@ use Rattle.scr_book.specs.Rolls.{number_of_roll, roll_of}
 use Rattle.scr_book.proofs.RollSettled.{own-table}
 use Rattle.scr_nodes.specs.Levels.{level}
 use Rattle.scr_nodes.specs.declared.node.Node.{Node}
-use Rattle.scr_figures.specs.Families.{family_of, table_of as table_of_figure}
-use Rattle.scr_figures.specs.Numbers.{is_of_sheet}
-use Rattle.scr_figures.proofs.Standing.{of-sheet}
-use Rattle.scr_lists.specs.declared.lists.Lists.{Lists}
-use Rattle.scr_sums.specs.BlockNumbers.{list_number, part_of, place_of, sole, sum_at}
-use Rattle.scr_sums.specs.Books.{rolled_of}
-use Rattle.scr_sums.specs.Graph.{is_live_in, reads, roll_in}
-use Rattle.scr_sums.specs.Levels.{level_in}
-use Rattle.scr_sums.specs.Sums.{roll_of as sum_roll}
-use Rattle.scr_sums.specs.declared.point.Block.{Block}
-use Rattle.scr_sums.specs.declared.point.Point.{Point}
-use Rattle.scr_sums.specs.declared.point.Point.TheVariants as points
-use Rattle.scr_sums.specs.declared.sum.Sum.{Sum}
-use Rattle.scr_sums.proofs.ListNumbers.{lists-apart}
-use Rattle.scr_sums.proofs.SumsAt.{at-own, only-own}
+use Rattle.scr_figure_ids.specs.Families.{family_of, table_of as table_of_figure}
+use Rattle.scr_figure_ids.specs.Numbers.{is_of_sheet}
+use Rattle.scr_figure_ids.proofs.Standing.{of-sheet}
+use Rattle.scr_member_index.specs.declared.lists.Lists.{Lists}
+use Rattle.scr_block_graph.specs.BlockNumbers.{list_number, part_of, place_of, sole, sum_at}
+use Rattle.scr_block_graph.specs.Books.{rolled_of}
+use Rattle.scr_block_graph.specs.Graph.{is_live_in, reads, roll_in}
+use Rattle.scr_block_graph.specs.Levels.{level_in}
+use Rattle.scr_block_graph.specs.Sums.{roll_of as sum_roll}
+use Rattle.scr_block_graph.specs.declared.point.Block.{Block}
+use Rattle.scr_block_graph.specs.declared.point.Point.{Point}
+use Rattle.scr_block_graph.specs.declared.point.Point.TheVariants as points
+use Rattle.scr_block_graph.specs.declared.sum.Sum.{Sum}
+use Rattle.scr_block_graph.proofs.ListNumbers.{lists-apart}
+use Rattle.scr_block_graph.proofs.SumsAt.{at-own, only-own}
 use Rattle.scr_tree.specs.Marking.{is_of_squares}
 use Rattle.scr_tree.specs.Points.{AreNumbersOf, StandsIn}
 use Rattle.scr_tree.specs.Reading.{IsRollOf}

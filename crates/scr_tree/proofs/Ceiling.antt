@@ -4,18 +4,18 @@ use Rattle.std.specs.Prelude.{slice_index}
 use Rattle.std.specs.Option.{option_map}
 use Rattle.std.proofs.lemmas.Bool.{cases_eq}
 use Rattle.std.proofs.lemmas.Option.{slice_get_within}
-use Rattle.scr_numbers.specs.Ranges.{Numbered, count, first}
-use Rattle.scr_numbers.specs.declared.table.Table.TheVariants as ranged
-use Rattle.scr_figures.specs.Steps.{Takes}
-use Rattle.scr_figures.specs.declared.steps.Step.{Step}
-use Rattle.scr_figures.specs.declared.steps.Step.TheVariants as steps
+use Rattle.scr_ids.specs.Ranges.{Numbered, count, first}
+use Rattle.scr_ids.specs.declared.table.Table.TheVariants as ranged
+use Rattle.scr_figure_ids.specs.Steps.{Takes}
+use Rattle.scr_figure_ids.specs.declared.steps.Step.{Step}
+use Rattle.scr_figure_ids.specs.declared.steps.Step.TheVariants as steps
 use Rattle.scr_sheet.specs.BalanceSheet.{group_name}
 use Rattle.scr_sheet.specs.declared.rows.Group.{Group}
 use Rattle.scr_nodes.specs.Sources.{concentration_square, group_total}
-use Rattle.scr_subtotals.specs.Tables.{IsAmountBeforeNothing, nothing}
-use Rattle.scr_subtotals.specs.declared.figure.Figure.{Figure}
-use Rattle.scr_sums.specs.declared.point.Point.{Point}
-use Rattle.scr_sums.specs.declared.point.Point.TheVariants as points
+use Rattle.scr_partial_sums.specs.Tables.{IsAmountBeforeNothing, nothing}
+use Rattle.scr_partial_sums.specs.declared.figure.Figure.{Figure}
+use Rattle.scr_block_graph.specs.declared.point.Point.{Point}
+use Rattle.scr_block_graph.specs.declared.point.Point.TheVariants as points
 use Rattle.scr_tree.specs.Ceiling.{IsCeiling, IsWithinAt, ceiling_after}
 use Rattle.scr_tree.specs.Figures.{AreKnownOf, Worth, worth_of}
 use Rattle.scr_tree.specs.Order.{IsJournaled, undone}

@@ -5,16 +5,16 @@ use Rattle.std.proofs.lemmas.Bool.{cases_lt}
 use Rattle.std.proofs.lemmas.Option.{slice_get_within}
 use Rattle.scr_funds.proofs.Members.{IsMember, IsMember-from_Contains, Contains-from_IsMember}
 use Rattle.scr_book.specs.RolledSheets.{RolledSheet}
-use Rattle.scr_numbers.specs.Ranges.{Numbered}
-use Rattle.scr_lists.specs.declared.lists.Lists.{Lists}
-use Rattle.scr_reach.specs.Graph.{Graph}
-use Rattle.scr_reach.specs.Leading.{IsCountOf, IsInReach, Leads}
-use Rattle.scr_reach.specs.Leading.Leads.{touched, above}
-use Rattle.scr_reach.proofs.Counting.{counted}
-use Rattle.scr_reach.proofs.Placed.{get-contains, placed-get}
-use Rattle.scr_subtotals.specs.declared.figure.Figure.{Figure}
-use Rattle.scr_sums.specs.Books.{rolled_of}
-use Rattle.scr_sums.specs.declared.point.Point.{Point}
+use Rattle.scr_ids.specs.Ranges.{Numbered}
+use Rattle.scr_member_index.specs.declared.lists.Lists.{Lists}
+use Rattle.scr_reachability.specs.Graph.{Graph}
+use Rattle.scr_reachability.specs.Leading.{IsCountOf, IsInReach, Leads}
+use Rattle.scr_reachability.specs.Leading.Leads.{touched, above}
+use Rattle.scr_reachability.proofs.Counting.{counted}
+use Rattle.scr_reachability.proofs.Placed.{get-contains, placed-get}
+use Rattle.scr_partial_sums.specs.declared.figure.Figure.{Figure}
+use Rattle.scr_block_graph.specs.Books.{rolled_of}
+use Rattle.scr_block_graph.specs.declared.point.Point.{Point}
 use Rattle.scr_tree.specs.Changed.{AreReachedMarks}
 use Rattle.scr_tree.specs.Figures.{AreKnownOf, Reckoning}
 use Rattle.scr_tree.specs.Marking.{AreAssetsMarked, AreMarkedFrom, AreReached, IsAboveAt, IsAboveSquares, IsDependantAt, IsLeftToAssets, IsSquareOfAssets, IsSquaresAt, assets, is_of_squares}

@@ -1,22 +1,22 @@
 -- What is reckoned from the point at a number, of the points whose sources are not linked, by their numbers.
 use Rattle.std.proofs.Common.{◌≡◌, ◌⊎◌, inl, inr, ℕ, true, Contains, List, length, refl, sym, ap, subst}
 use Rattle.std.proofs.lemmas.Option.{get_or_from_slice_get, slice_get_within}
-use Rattle.scr_blocks.specs.Readers.{reader_of_member}
-use Rattle.scr_figures.specs.Numbers.{StandsAt}
-use Rattle.scr_lists.specs.declared.lists.Lists.{Lists}
-use Rattle.scr_numbers.specs.Ranges.{Numbered}
+use Rattle.scr_sum_tree.specs.Readers.{reader_of_member}
+use Rattle.scr_figure_ids.specs.Numbers.{StandsAt}
+use Rattle.scr_member_index.specs.declared.lists.Lists.{Lists}
+use Rattle.scr_ids.specs.Ranges.{Numbered}
 use Rattle.scr_book.specs.RolledSheets.{RolledSheet}
 use Rattle.scr_nodes.specs.Live.{is_live}
 use Rattle.scr_nodes.specs.declared.node.Node.{Node}
 use Rattle.scr_nodes.specs.declared.node.Node.TheVariants as nodes
 use Rattle.scr_nodes.specs.declared.node.Whole.TheVariants as wholes
-use Rattle.scr_reach.specs.Dues.{IsLiveAt}
-use Rattle.scr_sums.specs.Books.{rolled_of}
-use Rattle.scr_sums.specs.Graph.{AreRolls, block_point, is_live_in, member_point, roll_in, sources_in}
-use Rattle.scr_sums.specs.Sums.{member_of}
-use Rattle.scr_sums.specs.declared.point.Point.{Point}
-use Rattle.scr_sums.specs.declared.point.Point.TheVariants as points
-use Rattle.scr_sums.specs.declared.sum.Sum.{Sum}
+use Rattle.scr_reachability.specs.LinkedDues.{IsLiveAt}
+use Rattle.scr_block_graph.specs.Books.{rolled_of}
+use Rattle.scr_block_graph.specs.Graph.{AreRolls, block_point, is_live_in, member_point, roll_in, sources_in}
+use Rattle.scr_block_graph.specs.Sums.{member_of}
+use Rattle.scr_block_graph.specs.declared.point.Point.{Point}
+use Rattle.scr_block_graph.specs.declared.point.Point.TheVariants as points
+use Rattle.scr_block_graph.specs.declared.sum.Sum.{Sum}
 use Rattle.scr_tree.specs.Marking.{IsMemberReaderAt, IsPlainDependantAt}
 use Rattle.scr_tree.specs.Points.{AreNumbersOf, StandsIn, book_graph, is_linked}
 use Rattle.scr_tree.proofs.PlainReaders.{Adds, PlainlyReads, RowReads, added-by, member-read, plainly-reads, reading-summed, summed-plain}

@@ -3,8 +3,8 @@ use Rattle.std.proofs.Common.{◌≡◌, ℕ, ◌<◌, Bool, List, Option, Some,
 use Rattle.std.specs.Option.{option_map}
 use Rattle.std.proofs.lemmas.Option.{slice_get-get_or, slice_get_within}
 use Rattle.scr_num.specs.declared.span.Span.{Span}
-use Rattle.scr_subtotals.specs.declared.figure.Figure.{Figure}
-use Rattle.scr_subtotals.proofs.KeptSpans.{one_span}
+use Rattle.scr_partial_sums.specs.declared.figure.Figure.{Figure}
+use Rattle.scr_partial_sums.proofs.KeptSpans.{one_span}
 use Rattle.scr_tree.specs.Figures.{Worth, worth_of}
 
 -- the number is one of the table

@@ -6,14 +6,14 @@ use Rattle.std.specs.Option.{option_map_or}
 use Rattle.std.proofs.lemmas.Bool.{cases_lt}
 use Rattle.std.proofs.lemmas.List.{get_or_past}
 use Rattle.std.proofs.lemmas.Option.{same_Some}
-use Rattle.scr_names.specs.Names.{same_name}
-use Rattle.scr_names.proofs.TableRows.{same_name-itself}
-use Rattle.scr_numbers.specs.Ranges.{IsApart, IsAt, Numbered as Ranges, count, stride}
-use Rattle.scr_numbers.specs.declared.table.Table.{Table as Ranged}
-use Rattle.scr_rolls.specs.Members.{has, name_at}
-use Rattle.scr_rolls.specs.Seatings.{AreSeated, NOWHERE, Seated, StandsAt, free, names_of, place_in, roll_in, seat_at, seat_of, seats_of}
-use Rattle.scr_rolls.proofs.SeatLists.{name-there}
-use Rattle.scr_rolls.proofs.SeatMoves.{nowhere}
+use Rattle.scr_tables.specs.Names.{same_name}
+use Rattle.scr_tables.proofs.TableRows.{same_name-itself}
+use Rattle.scr_ids.specs.Ranges.{IsApart, IsAt, Numbered as Ranges, count, stride}
+use Rattle.scr_ids.specs.declared.table.Table.{Table as Ranged}
+use Rattle.scr_member_lists.specs.Members.{has, name_at}
+use Rattle.scr_member_lists.specs.Seatings.{AreSeated, NOWHERE, Seated, StandsAt, free, names_of, place_in, roll_in, seat_at, seat_of, seats_of}
+use Rattle.scr_member_lists.proofs.SeatLists.{name-there}
+use Rattle.scr_member_lists.proofs.SeatMoves.{nowhere}
 use Rattle.scr_sheet.specs.Members.{is_member, table_of}
 use Rattle.scr_sheet.specs.declared.{keys.Table.Table, roll.Roll.Roll, sheet.BalanceSheet.BalanceSheet}
 use Rattle.scr_sheet.specs.declared.keys.Table.TheVariants as tables
@@ -24,11 +24,11 @@ use Rattle.scr_book.specs.Rolls.{listed, roll_of, same_table, seat_of_roll, seat
 use Rattle.scr_book.proofs.RollGrowth.{names-past}
 use Rattle.scr_book.proofs.RollSettled.{own-table}
 use Rattle.scr_book.proofs.RollSteps.{seated-in}
-use Rattle.scr_figures.specs.Numbers.{is_of_sheet, names_in as rows_in}
-use Rattle.scr_parts.specs.Firsts.{firsts_in}
-use Rattle.scr_lists.specs.Lists.{first_of, firsts_at, list_in, ranges_of, table_place}
-use Rattle.scr_lists.specs.declared.lists.Lists.{Lists}
-use Rattle.scr_sums.specs.BlockNumbers.{list_number, sole, table_place as block_table_place}
+use Rattle.scr_figure_ids.specs.Numbers.{is_of_sheet, names_in as rows_in}
+use Rattle.scr_sum_slots.specs.Firsts.{firsts_in}
+use Rattle.scr_member_index.specs.Lists.{first_of, firsts_at, list_in, ranges_of, table_place}
+use Rattle.scr_member_index.specs.declared.lists.Lists.{Lists}
+use Rattle.scr_block_graph.specs.BlockNumbers.{list_number, sole, table_place as block_table_place}
 use Rattle.scr_tree.specs.Points.{AreNumbersOf}
 use Rattle.scr_tree.specs.Reading.{IsRollAt, IsRollOf}
 use Rattle.scr_tree.proofs.RollSeats.{sole-number}

@@ -1,9 +1,9 @@
 -- The figures of a row in the first reckoning.
 use Rattle.std.proofs.Common.{◌≡◌, ℕ, zero, suc, ◌<◌, true, List, [], ◌∷◌, map, length, Some, None, is_some, Result, Ok, Err, OnOk, slice_get, refl, ap, subst, arith}
 use Rattle.std.specs.List.{AllByRecursion}
-use Rattle.scr_names.specs.Tables.{row_of}
-use Rattle.scr_figures.specs.Numbers.{IsNumbered}
-use Rattle.scr_numbers.specs.Ranges.{Numbered}
+use Rattle.scr_tables.specs.Tables.{row_of}
+use Rattle.scr_figure_ids.specs.Numbers.{IsNumbered}
+use Rattle.scr_ids.specs.Ranges.{Numbered}
 use Rattle.scr_sheet.specs.BalanceSheet.{group_name, liability_name, position_name, position_of}
 use Rattle.scr_sheet.specs.declared.{keys.Projection.Projection, rows.Group.Group, rows.Liability.Liability, rows.Position.Position, sheet.BalanceSheet.BalanceSheet}
 use Rattle.scr_sheet.specs.Validity.{Valid}

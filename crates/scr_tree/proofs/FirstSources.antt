@@ -1,13 +1,13 @@
 -- In the first reckoning every source of a figure comes before it.
 use Rattle.std.proofs.Common.{◌≡◌, inl, inr, ℕ, ◌+◌, ◌<◌, ◌≤◌, true, List, [], map, filter, Some, slice_get, refl, arith}
 use Rattle.std.specs.List.{AllByRecursion}
-use Rattle.scr_names.proofs.TableRows.{All-append}
+use Rattle.scr_tables.proofs.TableRows.{All-append}
 use Rattle.scr_funds.proofs.Members.{IsMember, Contains-from_IsMember, each-from_members, each_weaker}
-use Rattle.scr_figures.specs.Families.{family_of, name_of, table_of, whole_family}
-use Rattle.scr_figures.specs.Numbers.{names_in}
-use Rattle.scr_figures.specs.Order as order
-use Rattle.scr_figures.proofs.WholeOrder.{turn-before}
-use Rattle.scr_numbers.specs.declared.table.Table.TheVariants as tables
+use Rattle.scr_figure_ids.specs.Families.{family_of, name_of, table_of, whole_family}
+use Rattle.scr_figure_ids.specs.Numbers.{names_in}
+use Rattle.scr_figure_ids.specs.Order as order
+use Rattle.scr_figure_ids.proofs.WholeOrder.{turn-before}
+use Rattle.scr_ids.specs.declared.table.Table.TheVariants as tables
 use Rattle.scr_sheet.specs.declared.sheet.BalanceSheet.{BalanceSheet}
 use Rattle.scr_sheet.specs.Validity.{Valid}
 use Rattle.scr_nodes.specs.Live.{is_live}

@@ -1,8 +1,8 @@
 -- A record that is taken up: rows and lists follow it, and each figure and Block that is there before and after keeps its number.
 use Rattle.std.proofs.Common.{◌≡◌, ◌≢◌, ◌⊎◌, inl, inr, ◌++◌, ℕ, zero, suc, ◌+◌, ◌<◌, ◌≤◌, true, List, [], ◌∷◌, length, reverse, Option, Some, None, Vec, Global, slice_get, IfSome, refl, sym, ap, subst, ◌∙◌, arith}
 use Rattle.std.proofs.lemmas.Bool.{cases_eq}
-use Rattle.scr_blocks.specs.declared.blocks.Level.{Level}
-use Rattle.scr_blocks.specs.declared.blocks.Level.TheVariants as levels
+use Rattle.scr_sum_tree.specs.declared.blocks.Level.{Level}
+use Rattle.scr_sum_tree.specs.declared.blocks.Level.TheVariants as levels
 use Rattle.scr_links.specs.Edges.{Linked}
 use Rattle.scr_factors.specs.Values.{FactorValues}
 use Rattle.scr_sheet.specs.Validity.{Valid}
@@ -13,42 +13,42 @@ use Rattle.scr_sheet.specs.declared.keys.Table.TheVariants as row_tables
 use Rattle.scr_sheet.specs.declared.sheet.BalanceSheet.{BalanceSheet}
 use Rattle.scr_nodes.specs.Live.{is_live}
 use Rattle.scr_nodes.specs.declared.node.Node.{Node}
-use Rattle.scr_numbers.specs.Moves.{IsSameBut}
-use Rattle.scr_numbers.specs.Ranges.{IsApart, IsWithin, Numbered, count, first}
-use Rattle.scr_numbers.specs.declared.table.Table.TheVariants as tables
+use Rattle.scr_ids.specs.Moves.{IsSameBut}
+use Rattle.scr_ids.specs.Ranges.{IsApart, IsWithin, Numbered, count, first}
+use Rattle.scr_ids.specs.declared.table.Table.TheVariants as tables
 use Rattle.scr_book.specs.RolledSheets.{RolledSheet}
 use Rattle.scr_book.specs.Rolls.{AreRollsOf, number_of_roll}
-use Rattle.scr_figures.specs.Families.{family_of, table_of}
-use Rattle.scr_figures.specs.Numbers.{IsNumbered, StandsAt}
-use Rattle.scr_figures.specs.Records.{step_of}
-use Rattle.scr_figures.specs.Steps.{CanTake, CanTakeBack, LeadsTo, Takes, TakesBack}
-use Rattle.scr_figures.specs.declared.steps.Step.{Step}
-use Rattle.scr_figures.specs.declared.steps.Step.TheVariants as steps
-use Rattle.scr_figures.proofs.Live.{live-stands, named-once}
-use Rattle.scr_figures.proofs.Moved.{came-keeps, step-can, step-keeps, step-numbered, went-kept}
-use Rattle.scr_figures.proofs.Recorded.{record-leads}
-use Rattle.scr_figures.proofs.Standing.{exact, only, parts-keep, parts-numbered}
+use Rattle.scr_figure_ids.specs.Families.{family_of, table_of}
+use Rattle.scr_figure_ids.specs.Numbers.{IsNumbered, StandsAt}
+use Rattle.scr_figure_ids.specs.Records.{step_of}
+use Rattle.scr_figure_ids.specs.Steps.{CanTake, CanTakeBack, LeadsTo, Takes, TakesBack}
+use Rattle.scr_figure_ids.specs.declared.steps.Step.{Step}
+use Rattle.scr_figure_ids.specs.declared.steps.Step.TheVariants as steps
+use Rattle.scr_figure_ids.proofs.Live.{live-stands, named-once}
+use Rattle.scr_figure_ids.proofs.Moved.{came-keeps, step-can, step-keeps, step-numbered, went-kept}
+use Rattle.scr_figure_ids.proofs.Recorded.{record-leads}
+use Rattle.scr_figure_ids.proofs.Standing.{exact, only, parts-keep, parts-numbered}
 use Rattle.scr_discounts.specs.KeptRates.{known_of}
-use Rattle.scr_parts.specs.Moves.{Freed, KeepsParts}
-use Rattle.scr_parts.specs.Parts.{AreOwn, Parted, key_of, slot_of, slots_in}
-use Rattle.scr_parts.specs.declared.parts.Part.{Part}
-use Rattle.scr_lists.specs.Following.{AreStill}
-use Rattle.scr_lists.specs.Lists.{AreListsOf, HasLists}
-use Rattle.scr_lists.specs.Parting.{HasLost, HasLostIn, HasMoreParts, HaveLost}
-use Rattle.scr_lists.specs.Standing.{move_of, stood_of}
-use Rattle.scr_lists.specs.declared.lists.Lists.{Lists}
-use Rattle.scr_lists.specs.declared.standing.Move.{Move}
-use Rattle.scr_lists.specs.declared.standing.Stood.{Stood}
-use Rattle.scr_rolls.specs.declared.seats.Seats.{Seats}
-use Rattle.scr_reach.specs.Linked.{AreNumbers, sources_in as linked_in}
-use Rattle.scr_rounds.specs.Marks.{MarkedNumbers}
-use Rattle.scr_subtotals.specs.declared.figure.Figure.{Figure}
-use Rattle.scr_sums.specs.BlockNumbers.{BlockAt, part_of, place_of}
-use Rattle.scr_sums.specs.Books.{rolled_of}
-use Rattle.scr_sums.specs.Graph.{is_live_in}
-use Rattle.scr_sums.specs.declared.point.Block.{Block}
-use Rattle.scr_sums.specs.declared.point.Point.{Point}
-use Rattle.scr_sums.specs.declared.point.Point.TheVariants as points
+use Rattle.scr_sum_slots.specs.Moves.{Freed, KeepsParts}
+use Rattle.scr_sum_slots.specs.Parts.{AreOwn, Parted, key_of, slot_of, slots_in}
+use Rattle.scr_sum_slots.specs.declared.parts.Part.{Part}
+use Rattle.scr_member_index.specs.Following.{AreStill}
+use Rattle.scr_member_index.specs.Lists.{AreListsOf, HasLists}
+use Rattle.scr_member_index.specs.Parting.{HasLost, HasLostIn, HasMoreParts, HaveLost}
+use Rattle.scr_member_index.specs.Standing.{move_of, stood_of}
+use Rattle.scr_member_index.specs.declared.lists.Lists.{Lists}
+use Rattle.scr_member_index.specs.declared.standing.Move.{Move}
+use Rattle.scr_member_index.specs.declared.standing.Stood.{Stood}
+use Rattle.scr_member_lists.specs.declared.seats.Seats.{Seats}
+use Rattle.scr_reachability.specs.Linked.{AreNumbers, sources_in as linked_in}
+use Rattle.scr_reachability.specs.Marks.{MarkedNumbers}
+use Rattle.scr_partial_sums.specs.declared.figure.Figure.{Figure}
+use Rattle.scr_block_graph.specs.BlockNumbers.{BlockAt, part_of, place_of}
+use Rattle.scr_block_graph.specs.Books.{rolled_of}
+use Rattle.scr_block_graph.specs.Graph.{is_live_in}
+use Rattle.scr_block_graph.specs.declared.point.Block.{Block}
+use Rattle.scr_block_graph.specs.declared.point.Point.{Point}
+use Rattle.scr_block_graph.specs.declared.point.Point.TheVariants as points
 use Rattle.scr_tree.specs.Ceiling.{IsCeiling, ceiling_after}
 use Rattle.scr_tree.specs.Changed.{CanFollowLists, CanPutBack, HaveFollowed, IsFollowed, IsMoved, IsRecorded, IsStateOf, IsTakenFrom, IsUndone, IsUnchanged, KeepsAllButLists, KeepsState, StandsYet}
 use Rattle.scr_tree.specs.Figures.{AreSettled}

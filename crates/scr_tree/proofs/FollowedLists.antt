@@ -7,25 +7,25 @@ use Rattle.std.proofs.lemmas.Bool.{cases_Bool, cases_eq}
 use Rattle.std.proofs.lemmas.Bool.Decides.{Decides-eqb}
 use Rattle.std.proofs.lemmas.List.{get_or-map, get_or_at, length-map, length_push}
 use Rattle.std.proofs.lemmas.Option.{slice_get-get_or, slice_get_within}
-use Rattle.scr_names.specs.Names.{same_name}
-use Rattle.scr_names.proofs.TableRows.{same_or_other}
-use Rattle.scr_blocks.specs.Blocks.{blocks_at}
-use Rattle.scr_blocks.specs.declared.blocks.Level.{Level}
-use Rattle.scr_numbers.specs.Ranges.{IsAt, Numbered as Ranges, count, first, same_table as is_one}
-use Rattle.scr_numbers.specs.declared.table.Table.{Table as Ranged}
-use Rattle.scr_numbers.specs.declared.table.Table.TheVariants as ranged
-use Rattle.scr_numbers.proofs.Tables.{same_table-is, stride-some}
-use Rattle.scr_rolls.specs.Members.{come, has, moved, name_at, left as left_of}
-use Rattle.scr_rolls.specs.Seatings.{NOWHERE, AreSeated, Seated, StandsAt as Stands, free, names_of, place_in, roll_in, seat_of, seats_of}
-use Rattle.scr_rolls.specs.declared.seats.Seats.{Seats}
-use Rattle.scr_rolls.proofs.SeatLists.{place-of}
-use Rattle.scr_rolls.proofs.SeatReturns.{at-has, has-at, never-member}
-use Rattle.scr_rolls.proofs.SeatTables.{seats-none}
-use Rattle.scr_parts.specs.Firsts.{FirstLists, first_at, firsts_in, joined}
-use Rattle.scr_parts.specs.Following.{AreSeatsOf, HasFollowed, reseated}
-use Rattle.scr_parts.specs.Parts.{AreOwn, count_of, size_of}
-use Rattle.scr_parts.proofs.Members as beside
-use Rattle.scr_parts.proofs.Views.{no-some, one-some}
+use Rattle.scr_tables.specs.Names.{same_name}
+use Rattle.scr_tables.proofs.TableRows.{same_or_other}
+use Rattle.scr_sum_tree.specs.Blocks.{blocks_at}
+use Rattle.scr_sum_tree.specs.declared.blocks.Level.{Level}
+use Rattle.scr_ids.specs.Ranges.{IsAt, Numbered as Ranges, count, first, same_table as is_one}
+use Rattle.scr_ids.specs.declared.table.Table.{Table as Ranged}
+use Rattle.scr_ids.specs.declared.table.Table.TheVariants as ranged
+use Rattle.scr_ids.proofs.Tables.{same_table-is, stride-some}
+use Rattle.scr_member_lists.specs.Members.{come, has, moved, name_at, left as left_of}
+use Rattle.scr_member_lists.specs.Seatings.{NOWHERE, AreSeated, Seated, StandsAt as Stands, free, names_of, place_in, roll_in, seat_of, seats_of}
+use Rattle.scr_member_lists.specs.declared.seats.Seats.{Seats}
+use Rattle.scr_member_lists.proofs.SeatLists.{place-of}
+use Rattle.scr_member_lists.proofs.SeatReturns.{at-has, has-at, never-member}
+use Rattle.scr_member_lists.proofs.SeatTables.{seats-none}
+use Rattle.scr_sum_slots.specs.Firsts.{FirstLists, first_at, firsts_in, joined}
+use Rattle.scr_sum_slots.specs.Following.{AreSeatsOf, HasFollowed, reseated}
+use Rattle.scr_sum_slots.specs.Parts.{AreOwn, count_of, size_of}
+use Rattle.scr_sum_slots.proofs.Members as beside
+use Rattle.scr_sum_slots.proofs.Views.{no-some, one-some}
 use Rattle.scr_sheet.specs.BalanceSheet.{is_in}
 use Rattle.scr_sheet.specs.Members.{edit_name}
 use Rattle.scr_sheet.specs.Records.{applied}
@@ -49,23 +49,23 @@ use Rattle.scr_nodes.specs.declared.node.OfFund.TheVariants as of_funds
 use Rattle.scr_nodes.specs.declared.node.OfGroup.TheVariants as of_groups
 use Rattle.scr_nodes.specs.declared.node.OfLiability.TheVariants as of_liabilities
 use Rattle.scr_nodes.specs.declared.node.OfSecurity.TheVariants as of_securities
-use Rattle.scr_figures.specs.Numbers.{IsNumbered, StandsAt, is_of_sheet}
-use Rattle.scr_figures.specs.Numbers as figures
-use Rattle.scr_figures.specs.Records.{step_of}
-use Rattle.scr_figures.specs.Steps.{IsRowLess, IsRowMore, LeadsTo, Takes}
-use Rattle.scr_figures.specs.declared.steps.Step.{Step}
-use Rattle.scr_figures.specs.declared.steps.Step.TheVariants as steps
-use Rattle.scr_figures.proofs.Live.{named-once}
-use Rattle.scr_figures.proofs.Moved.{step-keeps, step-numbered}
-use Rattle.scr_figures.proofs.Recorded.{record-leads}
-use Rattle.scr_lists.specs.Following.{AreFollowed, CanFollow, CanMove}
-use Rattle.scr_lists.specs.Lists.{AreListsOf, HasLists, first_of, firsts_at, list_in, ranges_of, table_place}
-use Rattle.scr_lists.specs.Parting.{HasMoreParts}
-use Rattle.scr_lists.specs.Standing.{first_in, move_of, moved_from, seats_in, stood_of}
-use Rattle.scr_lists.specs.declared.lists.Lists.{Lists}
-use Rattle.scr_lists.specs.declared.standing.Move.{Move}
-use Rattle.scr_lists.specs.declared.standing.Stood.{Stood}
-use Rattle.scr_lists.proofs.Counting.{table-apart}
+use Rattle.scr_figure_ids.specs.Numbers.{IsNumbered, StandsAt, is_of_sheet}
+use Rattle.scr_figure_ids.specs.Numbers as figures
+use Rattle.scr_figure_ids.specs.Records.{step_of}
+use Rattle.scr_figure_ids.specs.Steps.{IsRowLess, IsRowMore, LeadsTo, Takes}
+use Rattle.scr_figure_ids.specs.declared.steps.Step.{Step}
+use Rattle.scr_figure_ids.specs.declared.steps.Step.TheVariants as steps
+use Rattle.scr_figure_ids.proofs.Live.{named-once}
+use Rattle.scr_figure_ids.proofs.Moved.{step-keeps, step-numbered}
+use Rattle.scr_figure_ids.proofs.Recorded.{record-leads}
+use Rattle.scr_member_index.specs.Following.{AreFollowed, CanFollow, CanMove}
+use Rattle.scr_member_index.specs.Lists.{AreListsOf, HasLists, first_of, firsts_at, list_in, ranges_of, table_place}
+use Rattle.scr_member_index.specs.Parting.{HasMoreParts}
+use Rattle.scr_member_index.specs.Standing.{first_in, move_of, moved_from, seats_in, stood_of}
+use Rattle.scr_member_index.specs.declared.lists.Lists.{Lists}
+use Rattle.scr_member_index.specs.declared.standing.Move.{Move}
+use Rattle.scr_member_index.specs.declared.standing.Stood.{Stood}
+use Rattle.scr_member_index.proofs.Counting.{table-apart}
 
 -- ---- rows of parts, which no record moves
 

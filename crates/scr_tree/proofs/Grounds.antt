@@ -6,11 +6,11 @@ use Rattle.std.proofs.lemmas.List.{length-map}
 use Rattle.std.proofs.lemmas.Option.{slice_get_within}
 use Rattle.scr_factors.specs.Values.{FactorValues}
 use Rattle.std.specs.Option.{option_map}
-use Rattle.scr_figures.specs.Families.{currency_family, family_of, name_of, table_of, whole_family}
-use Rattle.scr_figures.specs.Numbers.{StandsAt, names_in}
-use Rattle.scr_figures.proofs.Standing.{of-sheet, stands}
-use Rattle.scr_numbers.specs.Ranges.{Numbered, count, first, stride}
-use Rattle.scr_numbers.specs.declared.table.Table.TheVariants as tables
+use Rattle.scr_figure_ids.specs.Families.{currency_family, family_of, name_of, table_of, whole_family}
+use Rattle.scr_figure_ids.specs.Numbers.{StandsAt, names_in}
+use Rattle.scr_figure_ids.proofs.Standing.{of-sheet, stands}
+use Rattle.scr_ids.specs.Ranges.{Numbered, count, first, stride}
+use Rattle.scr_ids.specs.declared.table.Table.TheVariants as tables
 use Rattle.scr_sheet.specs.BalanceSheet.{position_name, stake_name, stake_of}
 use Rattle.scr_sheet.specs.Totals.{total_of}
 use Rattle.scr_sheet.specs.declared.{rows.Position.Position, rows.Stake.Stake, sheet.BalanceSheet.BalanceSheet}
@@ -23,16 +23,16 @@ use Rattle.scr_tree.specs.Figures.{AreKnownOf, HaveFigures, reckoning_of, total_
 use Rattle.scr_tree.specs.First.{AreDone, AreDoneTo, AreLinkedTo, AreReckonedTo, IsBlockBefore, IsGround, IsLinkGround, link_ground}
 use Rattle.scr_tree.specs.Points.{StandsIn, book_reckoning, is_linked}
 use Rattle.scr_tree.specs.Turns.{IsBefore, Turn, next, stage_of, turn, turn_of}
-use Rattle.scr_figures.specs.SourceNumbers.{ArePushed}
+use Rattle.scr_figure_ids.specs.SourceNumbers.{ArePushed}
 use Rattle.scr_links.specs.Edges.{Linked}
-use Rattle.scr_reach.specs.Linked.{sources_in}
-use Rattle.scr_sums.specs.Books.{rolled_of}
-use Rattle.scr_sums.specs.Graph.{is_live_in}
-use Rattle.scr_sums.specs.Sums.{reader_of}
-use Rattle.scr_sums.specs.declared.point.Point.{Point}
-use Rattle.scr_sums.specs.declared.point.Point.TheVariants as points
+use Rattle.scr_reachability.specs.Linked.{sources_in}
+use Rattle.scr_block_graph.specs.Books.{rolled_of}
+use Rattle.scr_block_graph.specs.Graph.{is_live_in}
+use Rattle.scr_block_graph.specs.Sums.{reader_of}
+use Rattle.scr_block_graph.specs.declared.point.Point.{Point}
+use Rattle.scr_block_graph.specs.declared.point.Point.TheVariants as points
 use Rattle.scr_tree.proofs.BlocksMade.{blocks-beside, blocks-next, blocks-none, reader-unlinked}
-use Rattle.scr_subtotals.specs.declared.figure.Figure.{Figure}
+use Rattle.scr_partial_sums.specs.declared.figure.Figure.{Figure}
 use Rattle.scr_tree.specs.declared.making.Ground.{Ground}
 use Rattle.scr_tree.specs.declared.making.LinkGround.{LinkGround}
 use Rattle.scr_tree.proofs.FirstRows.{each-get, got-map, got-row, security-named, total-live}

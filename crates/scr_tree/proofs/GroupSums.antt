@@ -8,12 +8,12 @@ use Rattle.std.proofs.lemmas.Option.{slice_get_within}
 use Rattle.scr_num.specs.Rounding.{add_ends, exact_ends}
 use Rattle.scr_num.specs.Sums.{sum_ends}
 use Rattle.scr_factors.specs.Values.{FactorValues}
-use Rattle.scr_figures.specs.Numbers.{StandsAt}
+use Rattle.scr_figure_ids.specs.Numbers.{StandsAt}
 use Rattle.scr_funds.proofs.Members.{Contains-from_IsMember, IsMember}
-use Rattle.scr_lists.specs.Lists.{first_of, members_of}
-use Rattle.scr_numbers.specs.Ranges.{IsAt}
-use Rattle.scr_numbers.specs.declared.table.Table.TheVariants as ranged
-use Rattle.scr_parts.proofs.Views.{one-some}
+use Rattle.scr_member_index.specs.Lists.{first_of, members_of}
+use Rattle.scr_ids.specs.Ranges.{IsAt}
+use Rattle.scr_ids.specs.declared.table.Table.TheVariants as ranged
+use Rattle.scr_sum_slots.proofs.Views.{one-some}
 use Rattle.scr_sheet.specs.BalanceSheet.{position_name, position_of}
 use Rattle.scr_sheet.specs.declared.keys.Table.TheVariants as tables
 use Rattle.scr_sheet.specs.declared.{rows.Group.Group, rows.Position.Position, sheet.BalanceSheet.BalanceSheet}
@@ -25,12 +25,12 @@ use Rattle.scr_nodes.proofs.OwnRows.{own-securities}
 use Rattle.scr_rules.specs.Worked.{worked}
 use Rattle.scr_rules.proofs.Equations.{worked-equation}
 use Rattle.scr_rules.proofs.Totals.{security-worked}
-use Rattle.scr_sums.specs.Books.{rolled_of}
-use Rattle.scr_sums.specs.Graph.{listed, roll_in}
-use Rattle.scr_sums.specs.Sums.{member_of, roll_of}
-use Rattle.scr_sums.specs.declared.sum.Sum.{Sum}
-use Rattle.scr_sums.specs.declared.sum.Sum.TheVariants as sums
-use Rattle.scr_sums.proofs.Listed.{sources-listed}
+use Rattle.scr_block_graph.specs.Books.{rolled_of}
+use Rattle.scr_block_graph.specs.Graph.{listed, roll_in}
+use Rattle.scr_block_graph.specs.Sums.{member_of, roll_of}
+use Rattle.scr_block_graph.specs.declared.sum.Sum.{Sum}
+use Rattle.scr_block_graph.specs.declared.sum.Sum.TheVariants as sums
+use Rattle.scr_block_graph.proofs.Listed.{sources-listed}
 use Rattle.scr_tree.specs.Points.{AreNumbersOf}
 use Rattle.scr_tree.specs.RowSpans.{BeginAt, BeginsAt}
 use Rattle.scr_tree.specs.Summed.{family_in}

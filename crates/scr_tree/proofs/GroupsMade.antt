@@ -2,32 +2,32 @@
 use Rattle.std.proofs.Common.{◌≡◌, ◌⊎◌, inl, inr, ℕ, ◌+◌, ◌<◌, ◌≤◌, ◌&&◌, Bool, true, false, List, [], Option, None, Some, length, refl, sym, ap, ap₂, subst, ◌∙◌, arith}
 use Rattle.std.specs.Prelude.{IfSome, IsNone, is_some}
 use Rattle.std.proofs.lemmas.Bool.{and_parts, cases_eq, cases_lt}
-use Rattle.scr_blocks.specs.Blocks.{is_block, parts}
-use Rattle.scr_blocks.proofs.BlockTests.{Decides-is_block_over}
+use Rattle.scr_sum_tree.specs.Blocks.{is_block, parts}
+use Rattle.scr_sum_tree.proofs.BlockTests.{Decides-is_block_over}
 use Rattle.scr_book.specs.RolledSheets.{RolledSheet}
 use Rattle.scr_book.specs.Rolls.{number_of_roll}
 use Rattle.scr_book.proofs.RollSettled.{own-table}
-use Rattle.scr_lists.specs.declared.lists.Lists.{Lists}
-use Rattle.scr_numbers.specs.Ranges.{Numbered}
-use Rattle.scr_parts.specs.Parts.{AreOwn, size_of, slot_of}
-use Rattle.scr_parts.specs.declared.parts.Part.{Part}
-use Rattle.scr_parts.proofs.Views.{one-some}
-use Rattle.scr_blocks.specs.declared.blocks.Level.{Level}
-use Rattle.scr_blocks.specs.declared.blocks.Level.TheVariants as levels
+use Rattle.scr_member_index.specs.declared.lists.Lists.{Lists}
+use Rattle.scr_ids.specs.Ranges.{Numbered}
+use Rattle.scr_sum_slots.specs.Parts.{AreOwn, size_of, slot_of}
+use Rattle.scr_sum_slots.specs.declared.parts.Part.{Part}
+use Rattle.scr_sum_slots.proofs.Views.{one-some}
+use Rattle.scr_sum_tree.specs.declared.blocks.Level.{Level}
+use Rattle.scr_sum_tree.specs.declared.blocks.Level.TheVariants as levels
 use Rattle.scr_sheet.specs.Members.{table_of}
 use Rattle.scr_sheet.specs.declared.roll.Roll.{Roll}
 use Rattle.scr_sheet.specs.declared.roll.Roll.TheVariants as rolls
-use Rattle.scr_sums.specs.BlockNumbers.{list_number, sole}
-use Rattle.scr_sums.specs.Books.{rolled_of}
-use Rattle.scr_sums.specs.Graph.{is_live_in, reads, roll_in}
-use Rattle.scr_sums.specs.Sums.{member_of, reader_of}
-use Rattle.scr_sums.specs.declared.point.Block.{Block}
-use Rattle.scr_sums.specs.declared.point.Point.{Point}
-use Rattle.scr_sums.specs.declared.point.Point.TheVariants as points
-use Rattle.scr_sums.specs.declared.sum.Sum.{Sum}
-use Rattle.scr_sums.specs.declared.sum.Sum.TheVariants as sums
-use Rattle.scr_sums.proofs.ListNumbers.{lists-apart}
-use Rattle.scr_subtotals.specs.declared.figure.Figure.{Figure}
+use Rattle.scr_block_graph.specs.BlockNumbers.{list_number, sole}
+use Rattle.scr_block_graph.specs.Books.{rolled_of}
+use Rattle.scr_block_graph.specs.Graph.{is_live_in, reads, roll_in}
+use Rattle.scr_block_graph.specs.Sums.{member_of, reader_of}
+use Rattle.scr_block_graph.specs.declared.point.Block.{Block}
+use Rattle.scr_block_graph.specs.declared.point.Point.{Point}
+use Rattle.scr_block_graph.specs.declared.point.Point.TheVariants as points
+use Rattle.scr_block_graph.specs.declared.sum.Sum.{Sum}
+use Rattle.scr_block_graph.specs.declared.sum.Sum.TheVariants as sums
+use Rattle.scr_block_graph.proofs.ListNumbers.{lists-apart}
+use Rattle.scr_partial_sums.specs.declared.figure.Figure.{Figure}
 use Rattle.scr_tree.specs.Figures.{AreKnownOf, HasFigure}
 use Rattle.scr_tree.specs.First.{AreBlocksThere, AreDone, AreGroupsDone, AreMembersThere, AreRowsDone, IsBlockBefore, IsBlockBelow, IsGround, IsGroupAt, IsGroupBelow, KeepsOffBlocks}
 use Rattle.scr_tree.specs.Points.{AreNumbersOf, StandsIn, book_reckoning}

@@ -4,9 +4,9 @@ use Rattle.std.specs.Prelude.{is_some}
 use Rattle.std.specs.List.{AllByRecursion, list_any}
 use Rattle.std.specs.Option.{option_map_or}
 use Rattle.std.proofs.lemmas.Bool.{not-true}
-use Rattle.scr_names.specs.Names.{same_name}
-use Rattle.scr_names.specs.Tables.{changed, has_row, row_of, with_row}
-use Rattle.scr_names.proofs.TableRows.{All-row_of, name_of-row_of, row_of-here, row_of-later, same_name-is, same_or_other, with_row-here, with_row-later}
+use Rattle.scr_tables.specs.Names.{same_name}
+use Rattle.scr_tables.specs.Tables.{changed, has_row, row_of, with_row}
+use Rattle.scr_tables.proofs.TableRows.{All-row_of, name_of-row_of, row_of-here, row_of-later, same_name-is, same_or_other, with_row-here, with_row-later}
 use Rattle.scr_sheet.specs.BalanceSheet.{position_name, stake_name, stake_of}
 use Rattle.scr_sheet.specs.Records.{applied, natural}
 use Rattle.scr_sheet.specs.Validity.{IsHeld, Valid}

@@ -3,15 +3,15 @@ use Rattle.std.proofs.Common.{◌≡◌, ◌++◌, ◌<◌, ℕ, All, List, [], 
 use Rattle.std.specs.List.{AllByRecursion}
 use Rattle.scr_funds.proofs.Members.{All-from_members, at_member}
 use Rattle.scr_sheet.specs.Validity.{Valid}
-use Rattle.scr_reach.specs.Dues.{IsLiveAt}
-use Rattle.scr_reach.specs.Linked.{AreAt}
-use Rattle.scr_subtotals.specs.declared.figure.Figure.{Figure}
-use Rattle.scr_sums.specs.Books.{rolled_of}
-use Rattle.scr_sums.specs.Graph.{is_live_in, sources_in}
+use Rattle.scr_reachability.specs.LinkedDues.{IsLiveAt}
+use Rattle.scr_reachability.specs.Linked.{AreAt}
+use Rattle.scr_partial_sums.specs.declared.figure.Figure.{Figure}
+use Rattle.scr_block_graph.specs.Books.{rolled_of}
+use Rattle.scr_block_graph.specs.Graph.{is_live_in, sources_in}
 use Rattle.scr_nodes.specs.declared.node.Node.{Node}
-use Rattle.scr_sums.specs.declared.point.Block.{Block}
-use Rattle.scr_sums.specs.declared.point.Point.{Point}
-use Rattle.scr_sums.specs.declared.point.Point.TheVariants as points
+use Rattle.scr_block_graph.specs.declared.point.Block.{Block}
+use Rattle.scr_block_graph.specs.declared.point.Point.{Point}
+use Rattle.scr_block_graph.specs.declared.point.Point.TheVariants as points
 use Rattle.scr_tree.specs.Figures.{HaveFigures}
 use Rattle.scr_tree.specs.Points.{AreNumbersOf, IsGraphOf, StandsIn, book_graph}
 use Rattle.scr_tree.specs.Ready.{IsBasis, IsReadyOn, StandsOn, graph_on, numbers_on, reckoning_on}

@@ -4,8 +4,8 @@ use Rattle.std.proofs.lemmas.List.{length-set, set-get_or, set-set}
 use Rattle.std.proofs.lemmas.Option.{get_or_from_slice_get, slice_get_within}
 use Rattle.scr_num.specs.Rounding.{Ends, ends}
 use Rattle.scr_num.specs.declared.span.Span.{Span}
-use Rattle.scr_subtotals.specs.declared.figure.Figure.{Figure}
-use Rattle.scr_subtotals.proofs.KeptSpans.{one_span}
+use Rattle.scr_partial_sums.specs.declared.figure.Figure.{Figure}
+use Rattle.scr_partial_sums.proofs.KeptSpans.{one_span}
 use Rattle.scr_tree.specs.Order.{AreWithin, IsJournalKept, IsJournaled, undone}
 use Rattle.scr_tree.specs.declared.journal.Former.{Former}
 

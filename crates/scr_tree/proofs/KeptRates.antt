@@ -1,8 +1,8 @@
 -- All that is kept of rates stays where a record leaves the reference date and the rates of all currencies as they are.
 use Rattle.std.proofs.Common.{◌≡◌, ℕ, ℤ, true, List, [], ◌∷◌, map, Option, Some, None, refl, sym, ap, subst, ◌∙◌}
 use Rattle.std.specs.Option.{option_map_or}
-use Rattle.scr_names.specs.Tables.{row_of, with_row, changed}
-use Rattle.scr_names.proofs.TableRows.{same_or_other, same_name-is, name_of-row_of, row_of-here, row_of-later, with_row-here, with_row-later}
+use Rattle.scr_tables.specs.Tables.{row_of, with_row, changed}
+use Rattle.scr_tables.proofs.TableRows.{same_or_other, same_name-is, name_of-row_of, row_of-here, row_of-later, with_row-here, with_row-later}
 use Rattle.scr_sheet.specs.BalanceSheet.{curve_name}
 use Rattle.scr_sheet.specs.Records.{applied, with_absorb}
 use Rattle.scr_sheet.specs.declared.edit.Edit.{Edit}

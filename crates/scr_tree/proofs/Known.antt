@@ -4,7 +4,7 @@ use Rattle.std.specs.List.{AllByRecursion, AllZip, list_any}
 use Rattle.std.specs.Option.{option_map}
 use Rattle.std.proofs.lemmas.Bool.{eqb-true, eq-eqb}
 use Rattle.std.proofs.lemmas.List.{map-append}
-use Rattle.scr_names.proofs.TableRows.{passes_or_fails}
+use Rattle.scr_tables.proofs.TableRows.{passes_or_fails}
 use Rattle.scr_num.specs.Rounding.{ends}
 use Rattle.scr_num.specs.declared.span.Span.{Span}
 use Rattle.scr_factors.specs.Values.{FactorValues}
@@ -15,10 +15,10 @@ use Rattle.scr_nodes.specs.declared.node.OfCurrency.TheVariants as of_currencies
 use Rattle.scr_nodes.specs.declared.node.Whole.TheVariants as wholes
 use Rattle.scr_rules.specs.Close.{is_open_choice}
 use Rattle.scr_rules.specs.Worked.{worked}
-use Rattle.scr_reach.specs.Linked.{AreAt, AreNumbers}
+use Rattle.scr_reachability.specs.Linked.{AreAt, AreNumbers}
 use Rattle.scr_tree.specs.Figures.{AreKnownOf, AreReadAt, AreSpansOf, HasFigure, HaveFigures, IsPutRight, Reckoning, Worth, opens, worth_of}
 use Rattle.scr_tree.specs.declared.figures.Below.{Below}
-use Rattle.scr_subtotals.specs.declared.figure.Figure.{Figure}
+use Rattle.scr_partial_sums.specs.declared.figure.Figure.{Figure}
 
 -- ---- along a list
 

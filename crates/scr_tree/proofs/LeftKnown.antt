@@ -1,19 +1,19 @@
 -- What is left of the first reckoning once rows, currencies and Blocks are reckoned: it is linked, and all else is known.
 use Rattle.std.proofs.Common.{◌≡◌, inl, ℕ, ◌<◌, true, false, Contains, List, length, ◌∙◌, arith}
 use Rattle.std.proofs.lemmas.Bool.{and_parts}
-use Rattle.scr_blocks.specs.Blocks.{is_block}
+use Rattle.scr_sum_tree.specs.Blocks.{is_block}
 use Rattle.scr_links.specs.Edges.{Linked}
-use Rattle.scr_names.proofs.TableRows.{passes_or_fails}
+use Rattle.scr_tables.proofs.TableRows.{passes_or_fails}
 use Rattle.scr_nodes.specs.declared.node.Node.{Node}
 use Rattle.scr_nodes.specs.declared.node.Node.TheVariants as nodes
 use Rattle.scr_nodes.specs.declared.node.OfSecurity.TheVariants as of_securities
 use Rattle.scr_nodes.specs.declared.node.Whole.TheVariants as wholes
-use Rattle.scr_subtotals.specs.declared.figure.Figure.{Figure}
-use Rattle.scr_sums.specs.Books.{rolled_of}
-use Rattle.scr_sums.specs.Graph.{is_live_in, reads, roll_in}
-use Rattle.scr_sums.specs.Sums.{reader_of}
-use Rattle.scr_sums.specs.declared.point.Point.{Point}
-use Rattle.scr_sums.specs.declared.point.Point.TheVariants as points
+use Rattle.scr_partial_sums.specs.declared.figure.Figure.{Figure}
+use Rattle.scr_block_graph.specs.Books.{rolled_of}
+use Rattle.scr_block_graph.specs.Graph.{is_live_in, reads, roll_in}
+use Rattle.scr_block_graph.specs.Sums.{reader_of}
+use Rattle.scr_block_graph.specs.declared.point.Point.{Point}
+use Rattle.scr_block_graph.specs.declared.point.Point.TheVariants as points
 use Rattle.scr_tree.specs.Figures.{AreKnownOf, AreSettled, HasFigure}
 use Rattle.scr_tree.specs.First.{AreDoneTo, AreLinkedTo, IsGround, IsWhole, link_ground, numbers_of}
 use Rattle.scr_tree.specs.Left.{AreLeft, is_left}

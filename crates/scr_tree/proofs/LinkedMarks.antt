@@ -3,14 +3,14 @@ use Rattle.std.proofs.Common.{◌≡◌, ◌⊎◌, inl, inr, ℕ, ◌<◌, Bool
 use Rattle.std.specs.Prelude.{◌==◌}
 use Rattle.std.specs.List.{AllZip, IsDistinct}
 use Rattle.std.proofs.lemmas.Bool.{eqb-true, eq-eqb}
-use Rattle.scr_rounds.proofs.Members.{Contains-from_IsMember, IsMember, IsMember-from_Contains, IsMember-map}
+use Rattle.scr_reachability.proofs.Members.{Contains-from_IsMember, IsMember, IsMember-from_Contains, IsMember-map}
 use Rattle.scr_links.specs.Edges.{Edge, Linked, dependants_of}
-use Rattle.scr_lists.specs.declared.lists.Lists.{Lists}
-use Rattle.scr_numbers.specs.Ranges.{Numbered}
+use Rattle.scr_member_index.specs.declared.lists.Lists.{Lists}
+use Rattle.scr_ids.specs.Ranges.{Numbered}
 use Rattle.scr_book.specs.RolledSheets.{RolledSheet}
-use Rattle.scr_reach.specs.Linked.{edges_to, sources_in as linked_in}
-use Rattle.scr_sums.specs.Books.{rolled_of}
-use Rattle.scr_sums.specs.Graph.{sources_in}
+use Rattle.scr_reachability.specs.Linked.{edges_to, sources_in as linked_in}
+use Rattle.scr_block_graph.specs.Books.{rolled_of}
+use Rattle.scr_block_graph.specs.Graph.{sources_in}
 use Rattle.scr_tree.specs.Marking.{AreMarkedMore, IsLinkedDependantAt}
 use Rattle.scr_tree.specs.Points.{IsGraphOf, StandsIn}
 

@@ -1,18 +1,18 @@
 -- The links of all figures, table by table: what is linked after each.
 use Rattle.std.proofs.Common.{◌≡◌, inl, inr, ℕ, ◌+◌, ◌<◌, ◌≤◌, true, false, List, [], length, Some, slice_get, refl, sym, subst, ◌∙◌, arith}
 use Rattle.std.proofs.lemmas.List.Elements.{All-from_recursion}
-use Rattle.scr_names.proofs.TableRows.{passes_or_fails}
-use Rattle.scr_figures.specs.Families.{family_of, name_of, table_of}
-use Rattle.scr_figures.specs.Numbers.{StandsAt, names_in}
+use Rattle.scr_tables.proofs.TableRows.{passes_or_fails}
+use Rattle.scr_figure_ids.specs.Families.{family_of, name_of, table_of}
+use Rattle.scr_figure_ids.specs.Numbers.{StandsAt, names_in}
 use Rattle.scr_links.specs.Edges.{Linked}
-use Rattle.scr_numbers.specs.Ranges.{first}
+use Rattle.scr_ids.specs.Ranges.{first}
 use Rattle.scr_nodes.specs.Live.{is_live}
 use Rattle.scr_nodes.specs.Sources.{sources_of}
 use Rattle.scr_nodes.specs.declared.node.Node.{Node}
 use Rattle.scr_nodes.specs.declared.node.Node.TheVariants as nodes
 use Rattle.scr_nodes.specs.declared.node.OfSecurity.TheVariants as of_securities
 use Rattle.scr_nodes.specs.declared.node.Whole.TheVariants as wholes
-use Rattle.scr_reach.specs.Linked.{AreAt}
+use Rattle.scr_reachability.specs.Linked.{AreAt}
 use Rattle.scr_tree.specs.First.{AreLinkedTo, IsLinkGround, IsLinkedNext}
 use Rattle.scr_tree.specs.Points.{is_linked}
 use Rattle.scr_tree.specs.Turns.{IsBefore, Turn, next, turn, turn_of}

@@ -2,25 +2,25 @@
 use Rattle.std.proofs.Common.{◌≡◌, ◌⊎◌, inl, inr, ℕ, ◌≤◌, ◌++◌, Bool, true, false, nat_eq, List, [], ◌∷◌, map, filter, Some, Contains, slice_get, if◌then◌else◌, refl, sym, ap, subst, ◌∙◌}
 use Rattle.std.specs.List.{AllByRecursion}
 use Rattle.std.proofs.lemmas.Bool.{eqb-true, eq-eqb, ne_eqb}
-use Rattle.scr_names.proofs.TableRows.{passes_or_fails}
+use Rattle.scr_tables.proofs.TableRows.{passes_or_fails}
 use Rattle.scr_funds.proofs.Members.{IsMember, Contains-from_IsMember, IsMember-from_Contains}
 use Rattle.scr_factors.specs.Values.{FactorValues}
-use Rattle.scr_figures.specs.Families.{name_of, table_of}
-use Rattle.scr_figures.specs.Numbers.{IsNumbered, StandsAt, names_in}
+use Rattle.scr_figure_ids.specs.Families.{name_of, table_of}
+use Rattle.scr_figure_ids.specs.Numbers.{IsNumbered, StandsAt, names_in}
 use Rattle.scr_links.specs.Edges.{Edge}
-use Rattle.scr_numbers.specs.Ranges.{Numbered}
+use Rattle.scr_ids.specs.Ranges.{Numbered}
 use Rattle.scr_sheet.specs.declared.sheet.BalanceSheet.{BalanceSheet}
 use Rattle.scr_sheet.specs.Validity.{Valid}
 use Rattle.scr_nodes.specs.Live.{is_live}
 use Rattle.scr_nodes.specs.Sources.{sources_of}
 use Rattle.scr_nodes.specs.declared.node.Node.{Node}
 use Rattle.scr_nodes.proofs.LiveSources.{IsLive, sources-live}
-use Rattle.scr_reach.specs.Linked.{AreAt, AreLinkedOf, AreNumbers, edges_to, sources_in}
+use Rattle.scr_reachability.specs.Linked.{AreAt, AreLinkedOf, AreNumbers, edges_to, sources_in}
 use Rattle.scr_tree.specs.Figures.{AreKnownOf, HaveFigures, IsPutRight, reckoning_of}
 use Rattle.scr_tree.specs.First.{IsLinkedBefore}
 use Rattle.scr_tree.specs.Points.{is_linked}
 use Rattle.scr_tree.specs.Turns.{IsBefore, Turn, next, stage_of, turn, turn_of}
-use Rattle.scr_subtotals.specs.declared.figure.Figure.{Figure}
+use Rattle.scr_partial_sums.specs.declared.figure.Figure.{Figure}
 use Rattle.scr_tree.proofs.FirstSources.{sources-before}
 use Rattle.scr_tree.proofs.Known.{known-have, known-put, known-weaker}
 use Rattle.scr_tree.proofs.Turns.{TakesTurn, all-done, family-within, its-turn, later, none-done, not-before, one-turn, step-back}

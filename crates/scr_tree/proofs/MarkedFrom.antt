@@ -1,18 +1,18 @@
 -- All that is marked as reckoned from a point: what is linked to it, and then what rows and lists give.
 use Rattle.std.proofs.Common.{◌≡◌, ◌⊎◌, inl, inr, ℕ, Bool, true, false, nat_eq, Contains, List, refl, sym, ap, subst, ◌∙◌}
 use Rattle.std.specs.List.{list_any}
-use Rattle.scr_rounds.proofs.Members as numbers_in
-use Rattle.scr_figures.specs.Numbers.{StandsAt}
-use Rattle.scr_lists.specs.declared.lists.Lists.{Lists}
-use Rattle.scr_numbers.specs.Ranges.{Numbered}
+use Rattle.scr_reachability.proofs.Members as numbers_in
+use Rattle.scr_figure_ids.specs.Numbers.{StandsAt}
+use Rattle.scr_member_index.specs.declared.lists.Lists.{Lists}
+use Rattle.scr_ids.specs.Ranges.{Numbered}
 use Rattle.scr_book.specs.RolledSheets.{RolledSheet}
 use Rattle.scr_nodes.specs.declared.node.Node.TheVariants as nodes
 use Rattle.scr_nodes.specs.declared.node.OfGroup.{OfGroup}
 use Rattle.scr_nodes.specs.declared.node.OfGroup.TheVariants as of_groups
 use Rattle.scr_nodes.specs.declared.node.Whole.TheVariants as wholes
-use Rattle.scr_reach.specs.Leading.Leads.{above, touched}
-use Rattle.scr_sums.specs.declared.point.Point.{Point}
-use Rattle.scr_sums.specs.declared.point.Point.TheVariants as points
+use Rattle.scr_reachability.specs.Leading.Leads.{above, touched}
+use Rattle.scr_block_graph.specs.declared.point.Point.{Point}
+use Rattle.scr_block_graph.specs.declared.point.Point.TheVariants as points
 use Rattle.scr_tree.specs.Marking.{AreMarkedFrom, AreMarkedMore, IsAboveAt, IsAboveSquares, IsDependantAt, IsLeftToAssets, IsLinkedDependantAt, IsPlainDependantAt, IsSquare, IsSquareOfAssets, assets}
 use Rattle.scr_tree.specs.Points.{AreNumbersOf, IsLinkedPoint, StandsIn}
 use Rattle.scr_tree.proofs.Dependants.{ByMember, ByRow, plain-cases}

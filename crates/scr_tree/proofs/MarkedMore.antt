@@ -6,7 +6,7 @@ use Rattle.std.proofs.lemmas.List.Elements.{Contains-append_left, Contains-push,
 use Rattle.std.proofs.lemmas.Cmp.{nat_eq_equiv}
 use Rattle.std.proofs.lemmas.Option.{get_or_from_slice_get, none-some, same_Some, slice_get-get_or, slice_get_within}
 use Rattle.std.proofs.lemmas.Map.Keys.{IsDistinct-push}
-use Rattle.scr_rounds.proofs.Members.{Contains-from_IsMember, member-from_any}
+use Rattle.scr_reachability.proofs.Members.{Contains-from_IsMember, member-from_any}
 use Rattle.scr_tree.specs.Marking.{AreMarkedMore}
 
 -- the marks after that of a number, which is marked once

@@ -3,8 +3,8 @@ use Rattle.std.proofs.Common.{◌≡◌, ℕ, ◌<◌, true, Contains, List, [],
 use Rattle.std.specs.Option.{option_map_or}
 use Rattle.std.proofs.lemmas.Option.{get_or_from_slice_get, slice_get-get_or, slice_get_within}
 use Rattle.scr_funds.proofs.Members.{Contains-from_IsMember, IsMember-from_Contains}
-use Rattle.scr_rolls.specs.Members.{name_at}
-use Rattle.scr_rolls.specs.Seatings.{AreSeated, Seated, names_of, place_in, roll_in as roll_at, seat_at, seat_of, seats_of}
+use Rattle.scr_member_lists.specs.Members.{name_at}
+use Rattle.scr_member_lists.specs.Seatings.{AreSeated, Seated, names_of, place_in, roll_in as roll_at, seat_at, seat_of, seats_of}
 use Rattle.scr_sheet.specs.Members.{is_member, table_of}
 use Rattle.scr_sheet.specs.Validity.{Valid}
 use Rattle.scr_sheet.specs.declared.roll.Roll.{Roll}
@@ -15,11 +15,11 @@ use Rattle.scr_book.proofs.RollLaws.{own-before}
 use Rattle.scr_book.proofs.RollSettled.{own-table}
 use Rattle.scr_book.proofs.RollSteps.{seated-in}
 use Rattle.scr_book.proofs.RollsStill.{once-in}
-use Rattle.scr_sums.specs.Books.{rolled_of}
-use Rattle.scr_sums.specs.Graph.{roll_in}
-use Rattle.scr_sums.specs.Sums.{roll_of as sum_roll}
-use Rattle.scr_sums.specs.declared.sum.Sum.{Sum}
-use Rattle.scr_sums.proofs.Lives.{is-named, named}
+use Rattle.scr_block_graph.specs.Books.{rolled_of}
+use Rattle.scr_block_graph.specs.Graph.{roll_in}
+use Rattle.scr_block_graph.specs.Sums.{roll_of as sum_roll}
+use Rattle.scr_block_graph.specs.declared.sum.Sum.{Sum}
+use Rattle.scr_block_graph.proofs.Lives.{is-named, named}
 use Rattle.scr_tree.specs.Reading.{seats_at}
 
 module _ (book : RolledSheet) (rolls : AreRollsOf book.sheet book.rolls) where

@@ -5,8 +5,8 @@ use Rattle.std.specs.List.{AllByRecursion, IsDistinct}
 use Rattle.std.specs.Option.{option_map_or}
 use Rattle.scr_funds.proofs.Members.{All-from_members, IsMember, IsMember-from_Contains, IsMember-mapped, Contains-from_IsMember, at_member, each-from_members}
 use Rattle.scr_links.specs.Edges.{Edge, Linked}
-use Rattle.scr_rounds.specs.Marks.{MarkedNumbers}
-use Rattle.scr_rounds.specs.declared.ranks.Due.{Due}
+use Rattle.scr_reachability.specs.Marks.{MarkedNumbers}
+use Rattle.scr_reachability.specs.declared.ranks.Due.{Due}
 use Rattle.scr_factors.specs.Values.{FactorValues}
 use Rattle.scr_sheet.specs.Records.{applied}
 use Rattle.scr_sheet.specs.Validity.{Valid}
@@ -16,27 +16,27 @@ use Rattle.scr_nodes.specs.Live.{is_live}
 use Rattle.scr_nodes.specs.Sources.{sources_of}
 use Rattle.scr_nodes.specs.declared.node.Node.{Node}
 use Rattle.scr_book.specs.RolledSheets.{RolledSheet}
-use Rattle.scr_figures.specs.Numbers.{StandsAt}
-use Rattle.scr_figures.specs.declared.steps.Step.{Step}
-use Rattle.scr_figures.specs.declared.steps.Step.TheVariants as steps
+use Rattle.scr_figure_ids.specs.Numbers.{StandsAt}
+use Rattle.scr_figure_ids.specs.declared.steps.Step.{Step}
+use Rattle.scr_figure_ids.specs.declared.steps.Step.TheVariants as steps
 use Rattle.scr_discounts.specs.declared.known.Rates.{Rates}
 use Rattle.scr_discounts.specs.KeptRates.{all_rates, known_of}
-use Rattle.scr_subtotals.specs.declared.figure.Figure.{Figure}
-use Rattle.scr_reach.specs.Dues.{AreDuesFor, AreRelinked, AreStarts, IsDueAt, IsLiveAt, numbers_of, sources_count}
-use Rattle.scr_reach.specs.Leading.{IsInReach}
-use Rattle.scr_reach.specs.Leading.Leads.{touched, above}
-use Rattle.scr_reach.specs.Linked.{AreAt, linked_to, sources_in as linked_in}
-use Rattle.scr_reach.specs.Relinking.{AreLinkable, IsWithin}
-use Rattle.scr_reach.proofs.Placed.{at-weaker, edge-from, number-or, source-of, standing}
-use Rattle.scr_reach.proofs.Reaching.{or-left, or-right}
-use Rattle.scr_reach.proofs.Relinked.{due-linked, kept-sources, relinked-back}
-use Rattle.scr_sums.specs.Books.{rolled_of}
-use Rattle.scr_sums.specs.Changed.{IsSameIn}
-use Rattle.scr_sums.specs.Graph.{AreRolls, Rolled, is_live_in, sources_in}
-use Rattle.scr_sums.specs.declared.point.Point.{Point}
-use Rattle.scr_sums.specs.declared.point.Point.TheVariants as points
-use Rattle.scr_sums.proofs.Lives.{sources-live-in}
-use Rattle.scr_sums.proofs.Once.{node_in}
+use Rattle.scr_partial_sums.specs.declared.figure.Figure.{Figure}
+use Rattle.scr_reachability.specs.LinkedDues.{AreDuesFor, AreRelinked, AreStarts, IsDueAt, IsLiveAt, numbers_of, sources_count}
+use Rattle.scr_reachability.specs.Leading.{IsInReach}
+use Rattle.scr_reachability.specs.Leading.Leads.{touched, above}
+use Rattle.scr_reachability.specs.Linked.{AreAt, linked_to, sources_in as linked_in}
+use Rattle.scr_reachability.specs.Relinking.{AreLinkable, IsWithin}
+use Rattle.scr_reachability.proofs.Placed.{at-weaker, edge-from, number-or, source-of, standing}
+use Rattle.scr_reachability.proofs.LinkedReaching.{or-left, or-right}
+use Rattle.scr_reachability.proofs.Relinked.{due-linked, kept-sources, relinked-back}
+use Rattle.scr_block_graph.specs.Books.{rolled_of}
+use Rattle.scr_block_graph.specs.Changed.{IsSameIn}
+use Rattle.scr_block_graph.specs.Graph.{AreRolls, Rolled, is_live_in, sources_in}
+use Rattle.scr_block_graph.specs.declared.point.Point.{Point}
+use Rattle.scr_block_graph.specs.declared.point.Point.TheVariants as points
+use Rattle.scr_block_graph.proofs.Lives.{sources-live-in}
+use Rattle.scr_block_graph.proofs.Once.{node_in}
 use Rattle.scr_tree.specs.Changed.{AreGone, AreRowsFor, IsMoved, IsRelinkedFor, StandsYet}
 use Rattle.scr_tree.specs.Figures.{AreKnownOf, AreSettled}
 use Rattle.scr_tree.specs.Graphs.{graph_of}

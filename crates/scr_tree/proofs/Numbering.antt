@@ -1,12 +1,12 @@
 -- The numbers of a balance sheet's figures are numbers of figures.
-use Rattle.scr_numbers.specs.Ranges.{IsApart, IsWithin, Numbered}
+use Rattle.scr_ids.specs.Ranges.{IsApart, IsWithin, Numbered}
 use Rattle.scr_sheet.specs.Validity.{Valid}
 use Rattle.scr_sheet.specs.declared.sheet.BalanceSheet.{BalanceSheet}
-use Rattle.scr_figures.specs.Families.{family_of, table_of}
-use Rattle.scr_figures.specs.Numbers.{IsNumbered, StandsAt}
-use Rattle.scr_figures.proofs.Live.{live-stands, named-once}
-use Rattle.scr_figures.proofs.Standing.{exact, only}
-use Rattle.scr_reach.specs.Linked.{AreNumbers}
+use Rattle.scr_figure_ids.specs.Families.{family_of, table_of}
+use Rattle.scr_figure_ids.specs.Numbers.{IsNumbered, StandsAt}
+use Rattle.scr_figure_ids.proofs.Live.{live-stands, named-once}
+use Rattle.scr_figure_ids.proofs.Standing.{exact, only}
+use Rattle.scr_reachability.specs.Linked.{AreNumbers}
 use Rattle.scr_tree.specs.Graphs.{graph_of}
 
 pub are-numbers : (sheet : BalanceSheet) (places : Numbered) → Valid sheet → IsNumbered sheet places → IsWithin places → IsApart places

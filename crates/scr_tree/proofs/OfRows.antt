@@ -2,12 +2,12 @@
 use Rattle.std.proofs.Common.{◌≡◌, ◌⊎◌, inl, inr, ℕ, zero, suc, ◌+◌, ◌<◌, ◌≤◌, true, false, ◌&&◌, Contains, List, map, Some, slice_get, refl, sym, ap, subst, ◌∙◌, arith}
 use Rattle.std.specs.Option.{option_map_or}
 use Rattle.std.proofs.lemmas.Bool.{and_parts}
-use Rattle.scr_names.proofs.TableRows.{same_name-is, same_name-itself}
-use Rattle.scr_figures.specs.Families.{group_family, liability_family}
-use Rattle.scr_figures.specs.Numbers.{StandsAt}
-use Rattle.scr_lists.specs.declared.lists.Lists.{Lists}
-use Rattle.scr_numbers.specs.Ranges.{IsAt, Numbered, count, first}
-use Rattle.scr_numbers.specs.declared.table.Table.TheVariants as ranged
+use Rattle.scr_tables.proofs.TableRows.{same_name-is, same_name-itself}
+use Rattle.scr_figure_ids.specs.Families.{group_family, liability_family}
+use Rattle.scr_figure_ids.specs.Numbers.{StandsAt}
+use Rattle.scr_member_index.specs.declared.lists.Lists.{Lists}
+use Rattle.scr_ids.specs.Ranges.{IsAt, Numbered, count, first}
+use Rattle.scr_ids.specs.declared.table.Table.TheVariants as ranged
 use Rattle.scr_book.specs.RolledSheets.{RolledSheet}
 use Rattle.scr_book.specs.Sums.{place_of}
 use Rattle.scr_sheet.specs.BalanceSheet.{group_name, liability_name, stake_name, stake_of}
@@ -36,12 +36,12 @@ use Rattle.scr_nodes.specs.declared.node.OfGroup.TheVariants as of_groups
 use Rattle.scr_nodes.specs.declared.node.OfLiability.{OfLiability}
 use Rattle.scr_nodes.specs.declared.node.OfLiability.TheVariants as of_liabilities
 use Rattle.scr_nodes.proofs.OwnRows.{own-funds, own-liabilities}
-use Rattle.scr_sums.specs.Books.{rolled_of}
-use Rattle.scr_sums.specs.Graph.{roll_in}
-use Rattle.scr_sums.specs.Sums.{kind_of, member_of, roll_of}
-use Rattle.scr_sums.specs.declared.point.Point.TheVariants as points
-use Rattle.scr_sums.specs.declared.sum.Sum.{Sum}
-use Rattle.scr_sums.specs.declared.sum.Sum.TheVariants as sums
+use Rattle.scr_block_graph.specs.Books.{rolled_of}
+use Rattle.scr_block_graph.specs.Graph.{roll_in}
+use Rattle.scr_block_graph.specs.Sums.{kind_of, member_of, roll_of}
+use Rattle.scr_block_graph.specs.declared.point.Point.TheVariants as points
+use Rattle.scr_block_graph.specs.declared.sum.Sum.{Sum}
+use Rattle.scr_block_graph.specs.declared.sum.Sum.TheVariants as sums
 use Rattle.scr_tree.specs.Marking.{AreMarkedMore, IsLeftToAssets, IsMemberReaderAt, IsPlainDependantAt, assets}
 use Rattle.scr_tree.specs.Points.{AreNumbersOf, StandsIn}
 use Rattle.scr_tree.proofs.Dependants.{ByMember, ByRow, member-as, plain-cases, plain-member, plain-row, reader-as}

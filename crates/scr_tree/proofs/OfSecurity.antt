@@ -3,13 +3,13 @@ use Rattle.std.proofs.Common.{◌≡◌, ◌⊎◌, inl, inr, ℕ, ◌+◌, ◌<
 use Rattle.std.specs.Option.{option_map_or}
 use Rattle.std.proofs.lemmas.Bool.{and_parts}
 use Rattle.std.proofs.lemmas.Option.{same_Some}
-use Rattle.scr_names.specs.Names.{same_name}
-use Rattle.scr_names.proofs.TableRows.{same_name-is, same_name-itself}
-use Rattle.scr_figures.specs.Families.{security_family}
-use Rattle.scr_figures.specs.Numbers.{StandsAt}
-use Rattle.scr_lists.specs.declared.lists.Lists.{Lists}
-use Rattle.scr_numbers.specs.Ranges.{IsAt, Numbered}
-use Rattle.scr_numbers.specs.declared.table.Table.TheVariants as ranged
+use Rattle.scr_tables.specs.Names.{same_name}
+use Rattle.scr_tables.proofs.TableRows.{same_name-is, same_name-itself}
+use Rattle.scr_figure_ids.specs.Families.{security_family}
+use Rattle.scr_figure_ids.specs.Numbers.{StandsAt}
+use Rattle.scr_member_index.specs.declared.lists.Lists.{Lists}
+use Rattle.scr_ids.specs.Ranges.{IsAt, Numbered}
+use Rattle.scr_ids.specs.declared.table.Table.TheVariants as ranged
 use Rattle.scr_book.specs.RolledSheets.{RolledSheet}
 use Rattle.scr_sheet.specs.BalanceSheet.{position_name, position_of}
 use Rattle.scr_sheet.specs.Members.{has_class, has_security, is_member, is_member_in, is_of_class, is_paying, table_of}
@@ -28,12 +28,12 @@ use Rattle.scr_nodes.specs.declared.node.Node.TheVariants as nodes
 use Rattle.scr_nodes.specs.declared.node.OfSecurity.{OfSecurity}
 use Rattle.scr_nodes.specs.declared.node.OfSecurity.TheVariants as of_securities
 use Rattle.scr_nodes.proofs.OwnRows.{own-securities}
-use Rattle.scr_sums.specs.Books.{rolled_of}
-use Rattle.scr_sums.specs.Graph.{roll_in}
-use Rattle.scr_sums.specs.Sums.{member_of, roll_of}
-use Rattle.scr_sums.specs.declared.point.Point.TheVariants as points
-use Rattle.scr_sums.specs.declared.sum.Sum.{Sum}
-use Rattle.scr_sums.specs.declared.sum.Sum.TheVariants as sums
+use Rattle.scr_block_graph.specs.Books.{rolled_of}
+use Rattle.scr_block_graph.specs.Graph.{roll_in}
+use Rattle.scr_block_graph.specs.Sums.{member_of, roll_of}
+use Rattle.scr_block_graph.specs.declared.point.Point.TheVariants as points
+use Rattle.scr_block_graph.specs.declared.sum.Sum.{Sum}
+use Rattle.scr_block_graph.specs.declared.sum.Sum.TheVariants as sums
 use Rattle.scr_tree.specs.Marking.{AreMarkedMore, IsMemberReaderAt, IsPlainDependantAt}
 use Rattle.scr_tree.specs.Points.{AreNumbersOf}
 use Rattle.scr_tree.proofs.Dependants.{ByMember, ByRow, member-as, plain-cases, plain-member, plain-row, reader-as}

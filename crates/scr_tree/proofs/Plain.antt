@@ -4,9 +4,9 @@ use Rattle.std.proofs.Common.{◌≡◌, ◌||◌, ℕ, zero, suc, Bool, true, f
 use Rattle.std.specs.List.{AllByRecursion, list_any}
 use Rattle.scr_num.specs.Rounding.{Ends, ends}
 use Rattle.scr_factors.specs.Values.{FactorValues}
-use Rattle.scr_names.specs.Names.{same_name}
-use Rattle.scr_names.specs.Tables.{row_of, has_row}
-use Rattle.scr_names.proofs.TableRows.{same_name-itself}
+use Rattle.scr_tables.specs.Names.{same_name}
+use Rattle.scr_tables.specs.Tables.{row_of, has_row}
+use Rattle.scr_tables.proofs.TableRows.{same_name-itself}
 use Rattle.scr_sheet.specs.BalanceSheet.{position_name, stake_name}
 use Rattle.scr_sheet.specs.Totals.{total_of}
 use Rattle.scr_sheet.specs.declared.rows.{Position.Position, Stake.Stake}
@@ -26,7 +26,7 @@ use Rattle.scr_rules.specs.Close.{close_under, is_open_choice}
 use Rattle.scr_rules.specs.Worked.{worked}
 use Rattle.scr_rules.proofs.Totals.{fund-worked, security-worked}
 use Rattle.scr_tree.specs.Figures.{total_worth, worth_at, worth_of}
-use Rattle.scr_subtotals.specs.declared.figure.Figure.{Figure}
+use Rattle.scr_partial_sums.specs.declared.figure.Figure.{Figure}
 
 -- ---- no choice lies under them
 

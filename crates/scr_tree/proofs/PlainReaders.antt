@@ -3,9 +3,9 @@
 use Rattle.std.proofs.Common.{◌≡◌, ◌⊎◌, inl, inr, ℕ, Bool, true, false, cond, not, Contains, List, [], ◌∷◌, ◌++◌, length, map, Some, refl, sym, ap, subst}
 use Rattle.std.specs.Prelude.{is_some}
 use Rattle.std.proofs.lemmas.Bool.{false_from_ne_true}
-use Rattle.scr_blocks.specs.Readers.{reader_of_block, reader_of_member}
-use Rattle.scr_blocks.specs.declared.readers.Reader.{Reader}
-use Rattle.scr_blocks.specs.declared.readers.Reader.TheVariants as readers
+use Rattle.scr_sum_tree.specs.Readers.{reader_of_block, reader_of_member}
+use Rattle.scr_sum_tree.specs.declared.readers.Reader.{Reader}
+use Rattle.scr_sum_tree.specs.declared.readers.Reader.TheVariants as readers
 use Rattle.scr_funds.proofs.Members.{IsMember, IsMember-from_Contains, IsMember-map}
 use Rattle.scr_sheet.specs.declared.rows.Class.{Class}
 use Rattle.scr_sheet.specs.declared.sheet.BalanceSheet.{BalanceSheet}
@@ -21,14 +21,14 @@ use Rattle.scr_nodes.specs.declared.node.OfGroup.TheVariants as of_groups
 use Rattle.scr_nodes.specs.declared.node.OfLiability.TheVariants as of_liabilities
 use Rattle.scr_nodes.specs.declared.node.OfSecurity.TheVariants as of_securities
 use Rattle.scr_nodes.specs.declared.node.Whole.TheVariants as wholes
-use Rattle.scr_sums.specs.Graph.{AreRolls, Rolled, is_live_in, roll_in, sources_in, tops_of}
-use Rattle.scr_sums.specs.Reading.{IsReading, IsSummed, ReadsBlock, ReadsMember}
-use Rattle.scr_sums.specs.Sums.{first_sum, member_of, second_sum}
-use Rattle.scr_sums.specs.declared.point.Point.{Point}
-use Rattle.scr_sums.specs.declared.point.Point.TheVariants as points
-use Rattle.scr_sums.specs.declared.sum.Sum.{Sum}
-use Rattle.scr_sums.specs.declared.sum.Sum.TheVariants as sums
-use Rattle.scr_sums.proofs.ReadSums.{summed-read}
+use Rattle.scr_block_graph.specs.Graph.{AreRolls, Rolled, is_live_in, roll_in, sources_in, tops_of}
+use Rattle.scr_block_graph.specs.Reading.{IsReading, IsSummed, ReadsBlock, ReadsMember}
+use Rattle.scr_block_graph.specs.Sums.{first_sum, member_of, second_sum}
+use Rattle.scr_block_graph.specs.declared.point.Point.{Point}
+use Rattle.scr_block_graph.specs.declared.point.Point.TheVariants as points
+use Rattle.scr_block_graph.specs.declared.sum.Sum.{Sum}
+use Rattle.scr_block_graph.specs.declared.sum.Sum.TheVariants as sums
+use Rattle.scr_block_graph.proofs.ReadSums.{summed-read}
 use Rattle.scr_tree.specs.Points.{IsLinkedPoint, is_linked}
 
 -- ---- the two ways

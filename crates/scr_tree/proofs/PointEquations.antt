@@ -5,9 +5,9 @@ use Rattle.std.specs.List.{list_any}
 use Rattle.std.proofs.lemmas.List.{length-map, map-append}
 use Rattle.scr_num.specs.Rounding.{Ends}
 use Rattle.scr_num.specs.Sums.{sum_ends}
-use Rattle.scr_blocks.specs.Blocks.{top_count}
-use Rattle.scr_blocks.proofs.Regrouped.{map-map}
-use Rattle.scr_blocks.proofs.TopChanges.{length-tops}
+use Rattle.scr_sum_tree.specs.Blocks.{top_count}
+use Rattle.scr_sum_tree.proofs.Regrouped.{map-map}
+use Rattle.scr_sum_tree.proofs.TopChanges.{length-tops}
 use Rattle.scr_factors.specs.Values.{FactorValues}
 use Rattle.scr_sheet.specs.Validity.{Valid}
 use Rattle.scr_nodes.specs.Own.Own.{Foreign}
@@ -28,14 +28,14 @@ use Rattle.scr_rules.specs.Rules.{amount_of, rule}
 use Rattle.scr_rules.specs.Worked.{worked}
 use Rattle.scr_rules.proofs.BySums.{rule-by-sum, rule-by-two-sums}
 use Rattle.scr_rules.proofs.Equations.{close-equation, worked-equation}
-use Rattle.scr_sums.specs.Changed.{own_in}
-use Rattle.scr_sums.specs.Graph.{AreRolls, Rolled, block_point, listed, member_point, roll_in, sources_in, tops_of, worth_in}
-use Rattle.scr_sums.specs.Sums.{first_sum, second_sum}
-use Rattle.scr_sums.specs.declared.point.Point.{Point}
-use Rattle.scr_sums.specs.declared.point.Point.TheVariants as points
-use Rattle.scr_sums.specs.declared.sum.Sum.TheVariants as sums
-use Rattle.scr_sums.proofs.Listed.{sources-listed}
-use Rattle.scr_sums.proofs.Worth.{any-summed, block-sources, ends-summed, ends-tops}
+use Rattle.scr_block_graph.specs.Changed.{own_in}
+use Rattle.scr_block_graph.specs.Graph.{AreRolls, Rolled, block_point, listed, member_point, roll_in, sources_in, tops_of, worth_in}
+use Rattle.scr_block_graph.specs.Sums.{first_sum, second_sum}
+use Rattle.scr_block_graph.specs.declared.point.Point.{Point}
+use Rattle.scr_block_graph.specs.declared.point.Point.TheVariants as points
+use Rattle.scr_block_graph.specs.declared.sum.Sum.TheVariants as sums
+use Rattle.scr_block_graph.proofs.Listed.{sources-listed}
+use Rattle.scr_block_graph.proofs.Worth.{any-summed, block-sources, ends-summed, ends-tops}
 use Rattle.scr_tree.specs.Opening.{opens_at}
 
 module _ (factors : FactorValues) (book : Rolled) (valid : Valid book.sheet) (rolls : AreRolls book) where

@@ -1,26 +1,26 @@
 -- The numbers of the points of a book: each figure and each Block that it has, has one, and no other.
 use Rattle.std.proofs.Common.{◌≡◌, ℕ, ◌<◌, true, false, [], length, Option, Some, None, refl, sym, ap, ◌∙◌, arith}
 use Rattle.std.specs.Option.{option_map_or}
-use Rattle.scr_blocks.specs.Blocks.{blocks_at}
-use Rattle.scr_numbers.specs.Ranges.{IsApart, IsWithin, Numbered}
-use Rattle.scr_numbers.specs.declared.table.Table.TheVariants as ranged
-use Rattle.scr_parts.specs.Parts.{AreOwn, count_of}
-use Rattle.scr_rolls.specs.Seatings.{names_of}
+use Rattle.scr_sum_tree.specs.Blocks.{blocks_at}
+use Rattle.scr_ids.specs.Ranges.{IsApart, IsWithin, Numbered}
+use Rattle.scr_ids.specs.declared.table.Table.TheVariants as ranged
+use Rattle.scr_sum_slots.specs.Parts.{AreOwn, count_of}
+use Rattle.scr_member_lists.specs.Seatings.{names_of}
 use Rattle.scr_sheet.specs.Members.{table_of}
 use Rattle.scr_sheet.specs.declared.{roll.Roll.Roll, sheet.BalanceSheet.BalanceSheet}
 use Rattle.scr_sheet.specs.declared.keys.Table.TheVariants as tables
 use Rattle.scr_sheet.specs.declared.roll.Roll.TheVariants as rolls
 use Rattle.scr_book.specs.RolledSheets.{RolledSheet}
 use Rattle.scr_book.specs.Rolls.{AreRollsOf, KeptRolls, listed, number_of_roll, roll_of}
-use Rattle.scr_figures.specs.Numbers.{IsNumbered, StandsAt}
-use Rattle.scr_figures.proofs.Standing.{figure-or-part}
-use Rattle.scr_lists.specs.Lists.{AreListsOf, HasLists, HaveRanges, list_in, lists_in}
-use Rattle.scr_lists.specs.declared.lists.Lists.{Lists}
-use Rattle.scr_sums.specs.BlockNumbers.{HaveParts, list_number}
-use Rattle.scr_sums.specs.Books.{rolled_of}
-use Rattle.scr_sums.proofs.BlockNumbers.{point-exact, point-lives, point-only, point-within}
-use Rattle.scr_sums.proofs.ListNumbers.{lists-apart}
-use Rattle.scr_reach.specs.Linked.{AreNumbers}
+use Rattle.scr_figure_ids.specs.Numbers.{IsNumbered, StandsAt}
+use Rattle.scr_figure_ids.proofs.Standing.{figure-or-part}
+use Rattle.scr_member_index.specs.Lists.{AreListsOf, HasLists, HaveRanges, list_in, lists_in}
+use Rattle.scr_member_index.specs.declared.lists.Lists.{Lists}
+use Rattle.scr_block_graph.specs.BlockNumbers.{HaveParts, list_number}
+use Rattle.scr_block_graph.specs.Books.{rolled_of}
+use Rattle.scr_block_graph.proofs.BlockNumbers.{point-exact, point-lives, point-only, point-within}
+use Rattle.scr_block_graph.proofs.ListNumbers.{lists-apart}
+use Rattle.scr_reachability.specs.Linked.{AreNumbers}
 use Rattle.scr_tree.specs.Graphs.{graph_of}
 use Rattle.scr_tree.specs.Points.{StandsIn, book_graph, list_numbers}
 

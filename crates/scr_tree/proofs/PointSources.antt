@@ -6,19 +6,19 @@ use Rattle.std.proofs.lemmas.List.{length-map, same_lists}
 use Rattle.std.proofs.lemmas.List.FromFn.{get_or-map-range_with_len, length-map-range_with_len, map-range_with_len_more}
 use Rattle.std.proofs.lemmas.Option.{get_or_from_slice_get, slice_get_within}
 use Rattle.scr_funds.proofs.Members.{All-from_members, Contains-from_IsMember, IsMember, IsMember-from_Contains, IsMember-left, IsMember-map, IsMember-mapped, IsMember-right}
-use Rattle.scr_names.specs.Names.{same_name}
+use Rattle.scr_tables.specs.Names.{same_name}
 use Rattle.scr_links.specs.Edges.{Edge}
-use Rattle.scr_blocks.specs.Blocks.{block_sources, blocks_at, blocks_over, end_of, firsts, is_block, part, parts, seconds, start_of, tops}
-use Rattle.scr_blocks.specs.declared.blocks.Level.{Level}
-use Rattle.scr_blocks.specs.declared.blocks.Level.TheVariants as levels
-use Rattle.scr_blocks.proofs.BlockTests.{over-many}
-use Rattle.scr_blocks.proofs.PartLemmas.{get_or-part, length-part, part-map}
+use Rattle.scr_sum_tree.specs.Blocks.{block_sources, blocks_at, blocks_over, end_of, firsts, is_block, part, parts, seconds, start_of, tops}
+use Rattle.scr_sum_tree.specs.declared.blocks.Level.{Level}
+use Rattle.scr_sum_tree.specs.declared.blocks.Level.TheVariants as levels
+use Rattle.scr_sum_tree.proofs.BlockTests.{over-many}
+use Rattle.scr_sum_tree.proofs.PartLemmas.{get_or-part, length-part, part-map}
 use Rattle.scr_sheet.specs.Validity.{Valid}
 use Rattle.scr_sheet.specs.Members.{table_of}
 use Rattle.scr_sheet.specs.declared.rows.Class.TheVariants as classes
 use Rattle.scr_sheet.specs.declared.roll.Roll.{Roll}
 use Rattle.scr_sheet.specs.declared.sheet.BalanceSheet.{BalanceSheet}
-use Rattle.scr_rolls.proofs.SeatLists.{place-of}
+use Rattle.scr_member_lists.proofs.SeatLists.{place-of}
 use Rattle.scr_book.specs.Places.{names_in}
 use Rattle.scr_book.specs.RolledSheets.{RolledSheet}
 use Rattle.scr_nodes.specs.Live.{is_live}
@@ -31,27 +31,27 @@ use Rattle.scr_nodes.specs.declared.node.OfCurrency.TheVariants as of_currencies
 use Rattle.scr_nodes.specs.declared.node.OfGroup.TheVariants as of_groups
 use Rattle.scr_nodes.specs.declared.node.OfSecurity.TheVariants as of_securities
 use Rattle.scr_nodes.specs.declared.node.Whole.TheVariants as wholes
-use Rattle.scr_numbers.specs.Ranges.{Numbered, count, first, stride}
-use Rattle.scr_figures.specs.Families.{family_of, name_of, table_of as figure_table}
-use Rattle.scr_figures.specs.Numbers.{StandsAt, names_in as figure_names}
-use Rattle.scr_figures.proofs.Live.{live-stands, named-once}
-use Rattle.scr_figures.proofs.Zipped.{whole-stands, zip-append}
-use Rattle.scr_lists.specs.Lists.{first_of, members_of, ranges_of}
-use Rattle.scr_lists.specs.declared.lists.Lists.{Lists}
-use Rattle.scr_lists.proofs.Members.{members-own}
-use Rattle.scr_reach.specs.Linked.{AreAt, sources_in as linked_in}
-use Rattle.scr_reach.proofs.Placed.{edge-from}
-use Rattle.scr_sums.specs.Books.{rolled_of}
-use Rattle.scr_sums.specs.Graph.{block_point, is_live_in, member_point, reads, roll_in, sources_in, tops_of}
-use Rattle.scr_sums.specs.Sums.{first_sum, member_of, reader_of, roll_of, second_sum}
-use Rattle.scr_sums.specs.declared.point.Block.{Block}
-use Rattle.scr_sums.specs.declared.point.Point.{Point}
-use Rattle.scr_sums.specs.declared.point.Point.TheVariants as points
-use Rattle.scr_sums.specs.declared.sum.Sum.{Sum}
-use Rattle.scr_sums.specs.declared.sum.Sum.TheVariants as sums
-use Rattle.scr_sums.proofs.Counts.{few_members}
-use Rattle.scr_sums.proofs.Lives.{own-sum, sources-live-in, summed-reader}
-use Rattle.scr_sums.proofs.Small.{blocks-small}
+use Rattle.scr_ids.specs.Ranges.{Numbered, count, first, stride}
+use Rattle.scr_figure_ids.specs.Families.{family_of, name_of, table_of as figure_table}
+use Rattle.scr_figure_ids.specs.Numbers.{StandsAt, names_in as figure_names}
+use Rattle.scr_figure_ids.proofs.Live.{live-stands, named-once}
+use Rattle.scr_figure_ids.proofs.Zipped.{whole-stands, zip-append}
+use Rattle.scr_member_index.specs.Lists.{first_of, members_of, ranges_of}
+use Rattle.scr_member_index.specs.declared.lists.Lists.{Lists}
+use Rattle.scr_member_index.proofs.Members.{members-own}
+use Rattle.scr_reachability.specs.Linked.{AreAt, sources_in as linked_in}
+use Rattle.scr_reachability.proofs.Placed.{edge-from}
+use Rattle.scr_block_graph.specs.Books.{rolled_of}
+use Rattle.scr_block_graph.specs.Graph.{block_point, is_live_in, member_point, reads, roll_in, sources_in, tops_of}
+use Rattle.scr_block_graph.specs.Sums.{first_sum, member_of, reader_of, roll_of, second_sum}
+use Rattle.scr_block_graph.specs.declared.point.Block.{Block}
+use Rattle.scr_block_graph.specs.declared.point.Point.{Point}
+use Rattle.scr_block_graph.specs.declared.point.Point.TheVariants as points
+use Rattle.scr_block_graph.specs.declared.sum.Sum.{Sum}
+use Rattle.scr_block_graph.specs.declared.sum.Sum.TheVariants as sums
+use Rattle.scr_block_graph.proofs.Counts.{few_members}
+use Rattle.scr_block_graph.proofs.Lives.{own-sum, sources-live-in, summed-reader}
+use Rattle.scr_block_graph.proofs.Small.{blocks-small}
 use Rattle.scr_tree.specs.Points.{AreNumbersOf, IsGraphOf, IsLinkedPoint, StandsIn, is_beside, is_linked}
 use Rattle.scr_tree.proofs.Known.{zip-next}
 use Rattle.scr_tree.proofs.Upright.{rolls-are}

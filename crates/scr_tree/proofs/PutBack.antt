@@ -7,16 +7,16 @@ use Rattle.std.proofs.lemmas.Option.{get_or_from_slice_get, slice_get-get_or, sl
 use Rattle.std.proofs.lemmas.List.{get_or-replicate, get_or_past}
 use Rattle.scr_funds.proofs.Members.{IsMember, IsMember-from_Contains, Contains-from_IsMember, each-from_members}
 use Rattle.scr_links.specs.Edges.{Edge}
-use Rattle.scr_names.specs.Names.{same_name}
-use Rattle.scr_numbers.specs.Moves.{Came, PutBack, Retired, Risen, Went}
-use Rattle.scr_numbers.specs.Ranges.{Numbered, count, first, made, same_table, stride}
-use Rattle.scr_numbers.specs.declared.table.Table.{Table}
-use Rattle.scr_numbers.specs.declared.table.Table.TheVariants as tables
-use Rattle.scr_numbers.proofs.Back.{sunk-risen}
-use Rattle.scr_numbers.proofs.Views.{of_all}
-use Rattle.scr_rolls.specs.Members.{name_at}
-use Rattle.scr_rolls.specs.Seatings.{AreSeated, NOWHERE, Seated, free, names_of, roll_in, seat_of, seats_of}
-use Rattle.scr_rolls.specs.declared.seating.Numbered.{Numbered as RollNumbered}
+use Rattle.scr_tables.specs.Names.{same_name}
+use Rattle.scr_ids.specs.Moves.{Came, PutBack, Retired, Risen, Went}
+use Rattle.scr_ids.specs.Ranges.{Numbered, count, first, made, same_table, stride}
+use Rattle.scr_ids.specs.declared.table.Table.{Table}
+use Rattle.scr_ids.specs.declared.table.Table.TheVariants as tables
+use Rattle.scr_ids.proofs.Back.{sunk-risen}
+use Rattle.scr_ids.proofs.Views.{of_all}
+use Rattle.scr_member_lists.specs.Members.{name_at}
+use Rattle.scr_member_lists.specs.Seatings.{AreSeated, NOWHERE, Seated, free, names_of, roll_in, seat_of, seats_of}
+use Rattle.scr_member_lists.specs.declared.seating.Numbered.{Numbered as RollNumbered}
 use Rattle.scr_sheet.specs.declared.keys.Table.{Table as RowTable}
 use Rattle.scr_sheet.specs.declared.keys.Table.TheVariants as row_tables
 use Rattle.scr_sheet.specs.declared.sheet.BalanceSheet.{BalanceSheet}
@@ -25,26 +25,26 @@ use Rattle.scr_book.specs.Places.{names_in as row_names}
 use Rattle.scr_book.specs.RolledSheets.{RolledSheet}
 use Rattle.scr_book.specs.Rolls.{seated_in}
 use Rattle.scr_book.proofs.RollSteps.{seated-in}
-use Rattle.scr_figures.specs.Families.{family_of, table_of}
-use Rattle.scr_figures.specs.Numbers.{IsNumbered, is_of_sheet}
-use Rattle.scr_figures.specs.Steps.{CanTakeBack, IsRowLess, IsRowMore, LeadsTo, Takes, TakesBack}
-use Rattle.scr_figures.specs.declared.steps.Step.{Step}
-use Rattle.scr_figures.specs.declared.steps.Step.TheVariants as steps
-use Rattle.scr_figures.proofs.Moved.{step-can, step-can_back}
-use Rattle.scr_figures.proofs.Standing.{not-part}
-use Rattle.scr_parts.specs.Parts.{key_of, slot_of, slots_in}
-use Rattle.scr_parts.specs.declared.parts.Part.{Part}
-use Rattle.scr_lists.specs.Following.{AreStill}
-use Rattle.scr_lists.specs.Lists.{AreListsOf, first_of, lists_in, ranges_of}
-use Rattle.scr_lists.specs.Parting.{HasMoreParts}
-use Rattle.scr_lists.specs.declared.lists.Lists.{Lists}
-use Rattle.scr_reach.specs.Linked.{AreAt, AreLinkedOf, sources_in as linked_in}
-use Rattle.scr_reach.proofs.Placed.{at-weaker, edge-from, source-of}
-use Rattle.scr_subtotals.specs.declared.figure.Figure.{Figure}
-use Rattle.scr_sums.specs.BlockNumbers.{place_of}
-use Rattle.scr_sums.specs.Books.{rolled_of}
-use Rattle.scr_sums.specs.declared.point.Point.{Point}
-use Rattle.scr_sums.specs.declared.point.Point.TheVariants as points
+use Rattle.scr_figure_ids.specs.Families.{family_of, table_of}
+use Rattle.scr_figure_ids.specs.Numbers.{IsNumbered, is_of_sheet}
+use Rattle.scr_figure_ids.specs.Steps.{CanTakeBack, IsRowLess, IsRowMore, LeadsTo, Takes, TakesBack}
+use Rattle.scr_figure_ids.specs.declared.steps.Step.{Step}
+use Rattle.scr_figure_ids.specs.declared.steps.Step.TheVariants as steps
+use Rattle.scr_figure_ids.proofs.Moved.{step-can, step-can_back}
+use Rattle.scr_figure_ids.proofs.Standing.{not-part}
+use Rattle.scr_sum_slots.specs.Parts.{key_of, slot_of, slots_in}
+use Rattle.scr_sum_slots.specs.declared.parts.Part.{Part}
+use Rattle.scr_member_index.specs.Following.{AreStill}
+use Rattle.scr_member_index.specs.Lists.{AreListsOf, first_of, lists_in, ranges_of}
+use Rattle.scr_member_index.specs.Parting.{HasMoreParts}
+use Rattle.scr_member_index.specs.declared.lists.Lists.{Lists}
+use Rattle.scr_reachability.specs.Linked.{AreAt, AreLinkedOf, sources_in as linked_in}
+use Rattle.scr_reachability.proofs.Placed.{at-weaker, edge-from, source-of}
+use Rattle.scr_partial_sums.specs.declared.figure.Figure.{Figure}
+use Rattle.scr_block_graph.specs.BlockNumbers.{place_of}
+use Rattle.scr_block_graph.specs.Books.{rolled_of}
+use Rattle.scr_block_graph.specs.declared.point.Point.{Point}
+use Rattle.scr_block_graph.specs.declared.point.Point.TheVariants as points
 use Rattle.scr_tree.specs.Figures.{AreKnownOf, AreSettled, Reckoning}
 use Rattle.scr_tree.proofs.PointNumbers.{have-ranges}
 use Rattle.scr_tree.specs.Points.{AreNumbersOf, IsLinkedPoint, StandsIn, book_graph}

@@ -9,9 +9,9 @@ use Rattle.std.proofs.lemmas.List.{at_drop_all, at_drop_more}
 use Rattle.scr_funds.proofs.Members.{IsMember, IsMember-from_Contains, IsMember-map, IsMember-mapped, Contains-any, Contains-from_IsMember, at_member, not_contains-any}
 use Rattle.scr_num.specs.Rounding.{Ends, add_ends, ends, exact_ends}
 use Rattle.scr_num.specs.Sums.{sum_ends}
-use Rattle.scr_subtotals.specs.Figures.{ends_at}
-use Rattle.scr_subtotals.specs.Written.{is_open_at}
-use Rattle.scr_subtotals.specs.declared.figure.Figure.{Figure}
+use Rattle.scr_partial_sums.specs.Figures.{ends_at}
+use Rattle.scr_partial_sums.specs.Written.{is_open_at}
+use Rattle.scr_partial_sums.specs.declared.figure.Figure.{Figure}
 use Rattle.scr_tree.specs.Order.{undone}
 use Rattle.scr_tree.specs.Renewed.{family_numbers, sum_at}
 use Rattle.scr_tree.specs.Together.{any_close}

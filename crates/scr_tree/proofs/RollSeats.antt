@@ -2,10 +2,10 @@
 use Rattle.std.proofs.Common.{◌≡◌, ◌≢◌, ℕ, true, false, List, Option, Some, None, slice_get, refl, sym, ap, ◌∙◌, arith}
 use Rattle.std.specs.Option.{option_map_or}
 use Rattle.std.proofs.lemmas.Bool.{and_parts}
-use Rattle.scr_names.proofs.TableRows.{same_name-is}
-use Rattle.scr_names.specs.Names.{same_name}
-use Rattle.scr_names.specs.Tables.{row_of}
-use Rattle.scr_rolls.specs.Members.{name_at}
+use Rattle.scr_tables.proofs.TableRows.{same_name-is}
+use Rattle.scr_tables.specs.Names.{same_name}
+use Rattle.scr_tables.specs.Tables.{row_of}
+use Rattle.scr_member_lists.specs.Members.{name_at}
 use Rattle.scr_sheet.specs.BalanceSheet.{liability_name, position_name, position_of}
 use Rattle.scr_sheet.specs.Members.{has_flows, has_liability, has_security, is_kind, is_member_in, is_of_class, is_paying, table_of}
 use Rattle.scr_sheet.specs.Validity.{Valid}
@@ -20,7 +20,7 @@ use Rattle.scr_book.specs.Rolls.{KeptRolls, number_of_roll, seat_of_roll}
 use Rattle.scr_book.specs.Sums.{place_of}
 use Rattle.scr_book.proofs.RollSteps.{row-at}
 use Rattle.scr_book.proofs.RollsStill.{once-in}
-use Rattle.scr_sums.specs.BlockNumbers.{sole}
+use Rattle.scr_block_graph.specs.BlockNumbers.{sole}
 use Rattle.scr_tree.specs.Reading.{IsRollAt}
 
 -- ---- the bonds have one list with their class

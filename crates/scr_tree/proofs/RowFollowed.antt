@@ -2,20 +2,20 @@
 use Rattle.std.proofs.Common.{◌≡◌, ◌≤◌, Option, Some, IfSome, sym, ap, subst, ◌∙◌}
 use Rattle.scr_factors.specs.Values.{FactorValues}
 use Rattle.scr_sheet.specs.Validity.{Valid}
-use Rattle.scr_numbers.specs.Ranges.{Numbered, count}
-use Rattle.scr_numbers.specs.declared.table.Table.TheVariants as ranged
+use Rattle.scr_ids.specs.Ranges.{Numbered, count}
+use Rattle.scr_ids.specs.declared.table.Table.TheVariants as ranged
 use Rattle.scr_book.specs.RolledSheets.{RolledSheet}
 use Rattle.scr_book.specs.Rolls.{AreRollsOf}
-use Rattle.scr_figures.specs.Numbers.{IsNumbered}
-use Rattle.scr_figures.specs.Steps.{Takes}
-use Rattle.scr_figures.specs.declared.steps.Step.{Step}
-use Rattle.scr_lists.specs.Following.{AreFollowed, CanFollow}
-use Rattle.scr_lists.specs.Lists.{AreListsOf}
-use Rattle.scr_lists.specs.Parting.{HasMoreParts}
-use Rattle.scr_lists.specs.Standing.{move_of, stood_of}
-use Rattle.scr_lists.specs.declared.lists.Lists.{Lists}
-use Rattle.scr_lists.specs.declared.standing.Move.{Move}
-use Rattle.scr_parts.specs.Parts.{AreOwn, size_of}
+use Rattle.scr_figure_ids.specs.Numbers.{IsNumbered}
+use Rattle.scr_figure_ids.specs.Steps.{Takes}
+use Rattle.scr_figure_ids.specs.declared.steps.Step.{Step}
+use Rattle.scr_member_index.specs.Following.{AreFollowed, CanFollow}
+use Rattle.scr_member_index.specs.Lists.{AreListsOf}
+use Rattle.scr_member_index.specs.Parting.{HasMoreParts}
+use Rattle.scr_member_index.specs.Standing.{move_of, stood_of}
+use Rattle.scr_member_index.specs.declared.lists.Lists.{Lists}
+use Rattle.scr_member_index.specs.declared.standing.Move.{Move}
+use Rattle.scr_sum_slots.specs.Parts.{AreOwn, size_of}
 use Rattle.scr_tree.specs.Changed.{HaveFollowed, IsTakenFrom}
 use Rattle.scr_tree.specs.declared.edits.State.{State}
 use Rattle.scr_tree.specs.declared.edits.Taken.{Taken}

@@ -3,14 +3,14 @@ use Rattle.std.proofs.Common.{◌≡◌, ℕ, ◌<◌, ◌≤◌, List, [], leng
 use Rattle.std.specs.Option.{option_map_or}
 use Rattle.std.proofs.lemmas.List.{length-map}
 use Rattle.std.proofs.lemmas.Option.{same_Some, slice_get_within}
-use Rattle.scr_blocks.specs.Readers.{IsReader, reader_of_member}
-use Rattle.scr_blocks.specs.declared.readers.Reader.{Reader}
-use Rattle.scr_blocks.proofs.Read.{member-reader}
-use Rattle.scr_lists.specs.Lists.{first_of, firsts_at}
-use Rattle.scr_lists.specs.declared.lists.Lists.{Lists}
-use Rattle.scr_numbers.specs.Ranges.{Numbered}
-use Rattle.scr_parts.specs.Firsts.{firsts_in}
-use Rattle.scr_rolls.specs.Seatings.{AreSeated, NOWHERE, names_of, place_in, roll_in as roll_at}
+use Rattle.scr_sum_tree.specs.Readers.{IsReader, reader_of_member}
+use Rattle.scr_sum_tree.specs.declared.readers.Reader.{Reader}
+use Rattle.scr_sum_tree.proofs.Read.{member-reader}
+use Rattle.scr_member_index.specs.Lists.{first_of, firsts_at}
+use Rattle.scr_member_index.specs.declared.lists.Lists.{Lists}
+use Rattle.scr_ids.specs.Ranges.{Numbered}
+use Rattle.scr_sum_slots.specs.Firsts.{firsts_in}
+use Rattle.scr_member_lists.specs.Seatings.{AreSeated, NOWHERE, names_of, place_in, roll_in as roll_at}
 use Rattle.scr_sheet.specs.Members.{table_of}
 use Rattle.scr_sheet.specs.Validity.{Valid}
 use Rattle.scr_sheet.specs.declared.roll.Roll.{Roll}
@@ -19,10 +19,10 @@ use Rattle.scr_book.specs.RolledSheets.{RolledSheet}
 use Rattle.scr_book.specs.Rolls.{listed, number_of_roll, seat_of_roll, seated_in}
 use Rattle.scr_book.proofs.RollSettled.{own-table}
 use Rattle.scr_book.proofs.RollSteps.{seated-in}
-use Rattle.scr_sums.specs.Books.{rolled_of}
-use Rattle.scr_sums.specs.Graph.{roll_in}
-use Rattle.scr_sums.specs.Sums.{roll_of}
-use Rattle.scr_sums.specs.declared.sum.Sum.{Sum}
+use Rattle.scr_block_graph.specs.Books.{rolled_of}
+use Rattle.scr_block_graph.specs.Graph.{roll_in}
+use Rattle.scr_block_graph.specs.Sums.{roll_of}
+use Rattle.scr_block_graph.specs.declared.sum.Sum.{Sum}
 use Rattle.scr_tree.specs.Marking.{AreMarkedMore, AreRowMarked, IsMemberAt, IsMemberReaderAt, IsReaderAt}
 use Rattle.scr_tree.specs.Points.{AreNumbersOf}
 use Rattle.scr_tree.specs.Reading.{seats_at}

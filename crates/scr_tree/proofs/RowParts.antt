@@ -7,10 +7,10 @@ use Rattle.scr_num.specs.Rounding.{Ends, ends}
 use Rattle.scr_num.specs.declared.span.Span.{Span}
 use Rattle.scr_factors.specs.Values.{FactorValues, IsInForm}
 use Rattle.scr_profile.specs.declared.limits.TheConstants.{MAX_HELD}
-use Rattle.scr_numbers.specs.Ranges.{Numbered, stride}
-use Rattle.scr_figures.specs.Families.{family_of, name_of, table_of}
-use Rattle.scr_figures.specs.Numbers.{IsNumbered, names_in}
-use Rattle.scr_figures.proofs.Told.{told}
+use Rattle.scr_ids.specs.Ranges.{Numbered, stride}
+use Rattle.scr_figure_ids.specs.Families.{family_of, name_of, table_of}
+use Rattle.scr_figure_ids.specs.Numbers.{IsNumbered, names_in}
+use Rattle.scr_figure_ids.proofs.Told.{told}
 use Rattle.scr_sheet.specs.BalanceSheet.{position_of}
 use Rattle.scr_sheet.specs.declared.{keys.Projection.Projection, rows.Group.Group, rows.Liability.Liability, rows.Position.Position, sheet.BalanceSheet.BalanceSheet}
 use Rattle.scr_sheet.specs.declared.keys.Projection.TheVariants as projections
@@ -24,8 +24,8 @@ use Rattle.scr_nodes.proofs.LiveSources.{passes-own}
 use Rattle.scr_nodes.specs.declared.node.Node.{Node}
 use Rattle.scr_nodes.specs.declared.node.Direction.{Direction}
 use Rattle.scr_nodes.specs.declared.node.Direction.TheVariants.{Up, Down}
-use Rattle.scr_pieces.specs.declared.rows.Sort.{Sort}
-use Rattle.scr_pieces.specs.declared.rows.Sort.TheVariants as sorts
+use Rattle.scr_parallel.specs.declared.rows.Sort.{Sort}
+use Rattle.scr_parallel.specs.declared.rows.Sort.TheVariants as sorts
 use Rattle.scr_discounts.specs.Discounts.{CurrencyDiscounts}
 use Rattle.scr_discounts.specs.Kept.{all_discounts}
 use Rattle.scr_rules.specs.ByRow.{by_rule}

@@ -8,51 +8,51 @@ use Rattle.std.proofs.lemmas.List.{length-map, map-append}
 use Rattle.std.proofs.lemmas.Option.{slice_get-map, slice_get_within}
 use Rattle.scr_num.specs.Rounding.{Ends, ends, exact_ends}
 use Rattle.scr_num.specs.declared.span.Span.{Span}
-use Rattle.scr_blocks.specs.Blocks.{HasEachOnce, blocks_at, is_block}
-use Rattle.scr_blocks.specs.declared.blocks.Level.{Level}
-use Rattle.scr_blocks.specs.declared.blocks.Level.TheVariants as levels
-use Rattle.scr_rounds.specs.declared.ranks.Due.{Due}
+use Rattle.scr_sum_tree.specs.Blocks.{HasEachOnce, blocks_at, is_block}
+use Rattle.scr_sum_tree.specs.declared.blocks.Level.{Level}
+use Rattle.scr_sum_tree.specs.declared.blocks.Level.TheVariants as levels
+use Rattle.scr_reachability.specs.declared.ranks.Due.{Due}
 use Rattle.scr_nodes.specs.declared.node.Node.{Node}
 use Rattle.scr_nodes.specs.Live.{is_live}
 use Rattle.scr_nodes.specs.LiveNodes.{live_nodes}
 use Rattle.scr_nodes.proofs.Ordered.{live_nodes-live}
 use Rattle.scr_nodes.proofs.SingleSources.{sources-once as plain-once}
 use Rattle.scr_funds.proofs.Members.{IsMember, IsMember-cases, IsMember-from_Contains, IsMember-left, IsMember-map, IsMember-mapped, IsMember-right, Contains-from_IsMember, at_member, each-from_members, each_push}
-use Rattle.scr_numbers.specs.Ranges.{first}
-use Rattle.scr_numbers.specs.declared.table.Table.TheVariants as ranged
-use Rattle.scr_figures.specs.Families.{family_of, name_of, table_of}
-use Rattle.scr_figures.specs.Numbers.{names_in}
-use Rattle.scr_figures.proofs.Live.{named-once}
-use Rattle.scr_figures.proofs.RowNames.{placed-at}
-use Rattle.scr_parts.specs.Parts.{slot_of}
-use Rattle.scr_reach.specs.Dues.{IsDue, IsLiveAt, numbers_of}
-use Rattle.scr_reach.specs.Graph.{IsLive}
-use Rattle.scr_reach.specs.Linked.{AreAt}
-use Rattle.scr_reach.proofs.Placed.{get-member, placed-get, standing}
-use Rattle.scr_sums.specs.BlockNumbers.{part_of, place_of}
-use Rattle.scr_sums.specs.Books.{rolled_of}
-use Rattle.scr_sums.specs.Graph.{Rolled, block_point, is_live_in, reads, roll_in, sources_in}
-use Rattle.scr_sums.specs.Sums.{first_sum, reader_of, second_sum}
-use Rattle.scr_sums.specs.declared.point.Point.{Point}
-use Rattle.scr_sums.specs.declared.point.Point.TheVariants as points
-use Rattle.scr_sums.specs.declared.sum.Sum.{Sum}
-use Rattle.scr_sums.proofs.Listing.{in-flat, of-flat}
-use Rattle.scr_sums.proofs.Lives.{own-sum}
-use Rattle.scr_sums.proofs.Once.{sources-once}
-use Rattle.scr_sums.proofs.Turned.{blocks-in}
-use Rattle.scr_subtotals.specs.declared.figure.Figure.{Figure}
+use Rattle.scr_ids.specs.Ranges.{first}
+use Rattle.scr_ids.specs.declared.table.Table.TheVariants as ranged
+use Rattle.scr_figure_ids.specs.Families.{family_of, name_of, table_of}
+use Rattle.scr_figure_ids.specs.Numbers.{names_in}
+use Rattle.scr_figure_ids.proofs.Live.{named-once}
+use Rattle.scr_figure_ids.proofs.RowNames.{placed-at}
+use Rattle.scr_sum_slots.specs.Parts.{slot_of}
+use Rattle.scr_reachability.specs.LinkedDues.{IsDue, IsLiveAt, numbers_of}
+use Rattle.scr_reachability.specs.Graph.{IsLive}
+use Rattle.scr_reachability.specs.Linked.{AreAt}
+use Rattle.scr_reachability.proofs.Placed.{get-member, placed-get, standing}
+use Rattle.scr_block_graph.specs.BlockNumbers.{part_of, place_of}
+use Rattle.scr_block_graph.specs.Books.{rolled_of}
+use Rattle.scr_block_graph.specs.Graph.{Rolled, block_point, is_live_in, reads, roll_in, sources_in}
+use Rattle.scr_block_graph.specs.Sums.{first_sum, reader_of, second_sum}
+use Rattle.scr_block_graph.specs.declared.point.Point.{Point}
+use Rattle.scr_block_graph.specs.declared.point.Point.TheVariants as points
+use Rattle.scr_block_graph.specs.declared.sum.Sum.{Sum}
+use Rattle.scr_block_graph.proofs.Listing.{in-flat, of-flat}
+use Rattle.scr_block_graph.proofs.Lives.{own-sum}
+use Rattle.scr_block_graph.proofs.Once.{sources-once}
+use Rattle.scr_block_graph.proofs.Turned.{blocks-in}
+use Rattle.scr_partial_sums.specs.declared.figure.Figure.{Figure}
 use Rattle.scr_tree.specs.Figures.{HasFigure, HaveFigures, Reckoning, Worth, worth_of}
 use Rattle.scr_tree.specs.Opening.{opens_at, opens_in}
 use Rattle.scr_tree.specs.Points.{book_graph, point_worth}
 use Rattle.scr_tree.specs.Ready.{AreInTurnOn, AreKnownBut, IsBasis, IsNoneOf, StandsOn, reckoning_on}
-use Rattle.scr_subtotals.specs.Written.{is_open_at}
+use Rattle.scr_partial_sums.specs.Written.{is_open_at}
 use Rattle.scr_tree.specs.Together.{AreDuesOn, AreSpansOn, IsDueOn, IsKnownOn, IsSpanOn, any_close, blocks_below, blocks_of_level, blocks_under, ends_at, ends_on, has_number, live_points, point_number, point_with}
 use Rattle.scr_tree.specs.declared.basis.Basis.{Basis}
 use Rattle.scr_tree.proofs.Known.{known-have, opens-is}
 use Rattle.scr_tree.proofs.PointEquations.{opens}
 use Rattle.scr_tree.proofs.SumsRead.{first-reads, second-reads}
 use Rattle.scr_tree.proofs.Upright.{book-up, rolls-are}
-use Rattle.scr_workers.specs.Workable.{AreWorkable}
+use Rattle.scr_parallel.specs.Workable.{AreWorkable}
 
 -- ---- all points of a book
 

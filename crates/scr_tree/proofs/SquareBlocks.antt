@@ -1,15 +1,15 @@
 -- The Blocks of the first level over the squares of all groups, by their numbers.
 use Rattle.std.proofs.Common.{◌≡◌, ◌+◌, ◌-◌, ◌<◌, ◌≤◌, ℕ, true, List, length, Some, slice_get, sym, ap, subst, ◌∙◌, arith}
-use Rattle.scr_blocks.specs.Blocks.{blocks_at}
-use Rattle.scr_blocks.specs.declared.blocks.Level.TheVariants as levels
+use Rattle.scr_sum_tree.specs.Blocks.{blocks_at}
+use Rattle.scr_sum_tree.specs.declared.blocks.Level.TheVariants as levels
 use Rattle.scr_sheet.specs.Validity.{Valid}
-use Rattle.scr_subtotals.specs.Written.{AreNumbered, number_of}
-use Rattle.scr_subtotals.specs.declared.figure.Figure.{Figure}
-use Rattle.scr_subtotals.specs.declared.writing.Subtotals.{Subtotals}
-use Rattle.scr_sums.specs.Books.{rolled_of}
-use Rattle.scr_sums.specs.Graph.{block_point, is_live_in}
-use Rattle.scr_sums.specs.declared.point.Point.{Point}
-use Rattle.scr_sums.specs.declared.sum.Sum.TheVariants as sums
+use Rattle.scr_partial_sums.specs.Written.{AreNumbered, number_of}
+use Rattle.scr_partial_sums.specs.declared.figure.Figure.{Figure}
+use Rattle.scr_partial_sums.specs.declared.writing.Subtotals.{Subtotals}
+use Rattle.scr_block_graph.specs.Books.{rolled_of}
+use Rattle.scr_block_graph.specs.Graph.{block_point, is_live_in}
+use Rattle.scr_block_graph.specs.declared.point.Point.{Point}
+use Rattle.scr_block_graph.specs.declared.sum.Sum.TheVariants as sums
 use Rattle.scr_tree.specs.Figures.{worth_of}
 use Rattle.scr_tree.specs.Points.{StandsIn}
 use Rattle.scr_tree.specs.Ready.{IsBasis, IsReadyOn, IsRightOn, StandsOn, numbers_on, reckoning_on}

@@ -2,32 +2,32 @@
 use Rattle.std.proofs.Common.{◌≡◌, ◌⊎◌, inl, inr, ℕ, ◌+◌, ◌/◌, ◌<◌, Bool, true, false, cond, ◌++◌, Contains, List, length, map, refl, sym, ap, subst, ◌∙◌, arith}
 use Rattle.std.proofs.lemmas.Bool.{and_parts}
 use Rattle.scr_funds.proofs.Members.{IsMember, IsMember-from_Contains, IsMember-map}
-use Rattle.scr_blocks.specs.Blocks.{is_block, parts}
-use Rattle.scr_blocks.specs.Readers.{reader_of_block, reader_of_member}
-use Rattle.scr_blocks.specs.declared.blocks.Level.{Level}
-use Rattle.scr_blocks.specs.declared.blocks.Level.TheVariants as levels
-use Rattle.scr_blocks.specs.declared.readers.Reader.{Reader}
-use Rattle.scr_blocks.specs.declared.readers.Reader.TheVariants as readers
-use Rattle.scr_blocks.proofs.BlockTests.{Decides-is_block_over}
-use Rattle.scr_figures.specs.Numbers.{StandsAt}
-use Rattle.scr_lists.specs.declared.lists.Lists.{Lists}
-use Rattle.scr_numbers.specs.Ranges.{Numbered}
+use Rattle.scr_sum_tree.specs.Blocks.{is_block, parts}
+use Rattle.scr_sum_tree.specs.Readers.{reader_of_block, reader_of_member}
+use Rattle.scr_sum_tree.specs.declared.blocks.Level.{Level}
+use Rattle.scr_sum_tree.specs.declared.blocks.Level.TheVariants as levels
+use Rattle.scr_sum_tree.specs.declared.readers.Reader.{Reader}
+use Rattle.scr_sum_tree.specs.declared.readers.Reader.TheVariants as readers
+use Rattle.scr_sum_tree.proofs.BlockTests.{Decides-is_block_over}
+use Rattle.scr_figure_ids.specs.Numbers.{StandsAt}
+use Rattle.scr_member_index.specs.declared.lists.Lists.{Lists}
+use Rattle.scr_ids.specs.Ranges.{Numbered}
 use Rattle.scr_book.specs.RolledSheets.{RolledSheet}
 use Rattle.scr_nodes.specs.Live.{is_live}
-use Rattle.scr_reach.specs.Dues.{IsLiveAt}
+use Rattle.scr_reachability.specs.LinkedDues.{IsLiveAt}
 use Rattle.scr_nodes.specs.Sources.{sources_of}
 use Rattle.scr_nodes.specs.declared.node.Node.{Node}
 use Rattle.scr_nodes.specs.declared.node.Node.TheVariants as nodes
 use Rattle.scr_nodes.specs.declared.node.OfGroup.TheVariants as of_groups
-use Rattle.scr_sums.specs.Books.{rolled_of}
-use Rattle.scr_sums.specs.Graph.{is_live_in, reads, roll_in, sources_in, tops_of}
-use Rattle.scr_sums.specs.Reading.{IsReading}
-use Rattle.scr_sums.specs.Sums.{first_sum, second_sum}
-use Rattle.scr_sums.specs.declared.point.Block.{Block}
-use Rattle.scr_sums.specs.declared.point.Point.{Point}
-use Rattle.scr_sums.specs.declared.point.Point.TheVariants as points
-use Rattle.scr_sums.specs.declared.sum.Sum.{Sum}
-use Rattle.scr_sums.specs.declared.sum.Sum.TheVariants as sums
+use Rattle.scr_block_graph.specs.Books.{rolled_of}
+use Rattle.scr_block_graph.specs.Graph.{is_live_in, reads, roll_in, sources_in, tops_of}
+use Rattle.scr_block_graph.specs.Reading.{IsReading}
+use Rattle.scr_block_graph.specs.Sums.{first_sum, second_sum}
+use Rattle.scr_block_graph.specs.declared.point.Block.{Block}
+use Rattle.scr_block_graph.specs.declared.point.Point.{Point}
+use Rattle.scr_block_graph.specs.declared.point.Point.TheVariants as points
+use Rattle.scr_block_graph.specs.declared.sum.Sum.{Sum}
+use Rattle.scr_block_graph.specs.declared.sum.Sum.TheVariants as sums
 use Rattle.scr_tree.specs.Marking.{IsAboveSquares, IsDependantAt, IsSquare, IsSquareOrAbove, IsSquaresAt, is_of_squares, is_squares}
 use Rattle.scr_tree.specs.Points.{AreNumbersOf, IsLinkedPoint, StandsIn, book_graph, is_linked}
 use Rattle.scr_tree.proofs.Dependants.{ByMember, ByRow, member-as, plain-cases}

@@ -8,8 +8,8 @@ use Rattle.scr_factors.specs.Values.{IsInForm}
 use Rattle.scr_profile.specs.declared.limits.TheConstants.{MAX_HELD}
 use Rattle.scr_sheet.specs.BalanceSheet.{group_name}
 use Rattle.scr_sheet.specs.declared.rows.Group.{Group}
-use Rattle.scr_numbers.specs.Ranges.{count}
-use Rattle.scr_numbers.specs.declared.table.Table.TheVariants as ranged
+use Rattle.scr_ids.specs.Ranges.{count}
+use Rattle.scr_ids.specs.declared.table.Table.TheVariants as ranged
 use Rattle.scr_nodes.specs.Live.{is_live}
 use Rattle.scr_nodes.specs.OwnOf.{own_of}
 use Rattle.scr_nodes.specs.Rows.{group_of}
@@ -25,11 +25,11 @@ use Rattle.scr_rules.specs.Rules.{amount_of}
 use Rattle.scr_rules.specs.Worked.{worked}
 use Rattle.scr_rules.proofs.GroupRows.{square-fits as group-fits}
 use Rattle.scr_rules.proofs.Ranges.{node-fits}
-use Rattle.scr_reach.specs.Linked.{AreAt}
-use Rattle.scr_subtotals.specs.declared.figure.Figure.{Figure}
-use Rattle.scr_sums.specs.Books.{rolled_of}
-use Rattle.scr_sums.specs.Graph.{sources_in}
-use Rattle.scr_sums.specs.declared.point.Point.TheVariants as points
+use Rattle.scr_reachability.specs.Linked.{AreAt}
+use Rattle.scr_partial_sums.specs.declared.figure.Figure.{Figure}
+use Rattle.scr_block_graph.specs.Books.{rolled_of}
+use Rattle.scr_block_graph.specs.Graph.{sources_in}
+use Rattle.scr_block_graph.specs.declared.point.Point.TheVariants as points
 use Rattle.scr_tree.specs.Figures.{HaveFigures, Worth, worth_of}
 use Rattle.scr_tree.specs.AssetScales.{IsScaleOn}
 use Rattle.scr_tree.specs.Ready.{IsBasis, IsReadyOn, IsRightOn, IsSquareOn, StandsOn, reckoning_on}

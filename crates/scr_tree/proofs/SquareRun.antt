@@ -1,8 +1,8 @@
 -- Figures that are written next, where all that is written comes in turn, and squares among them that come row by row.
 use Rattle.std.proofs.Common.{◌≡◌, ◌⊎◌, inl, inr, ℕ, ◌+◌, ◌-◌, ◌<◌, ◌≤◌, List, [], ◌∷◌, zero, suc, drop, length, set, Some, None, slice_get, subst, arith}
 use Rattle.std.proofs.lemmas.Bool.{cases_lt}
-use Rattle.scr_subtotals.specs.declared.figure.Figure.{Figure}
-use Rattle.scr_reach.proofs.Placed.{get-contains}
+use Rattle.scr_partial_sums.specs.declared.figure.Figure.{Figure}
+use Rattle.scr_reachability.proofs.Placed.{get-contains}
 use Rattle.scr_tree.specs.Ready.{AreInTurnOn, AreKnownBut, IsBasis, IsReadyOn, IsRightOn, StandsOn, reckoning_on}
 use Rattle.scr_tree.specs.SquareRun.{IsSquareAtOn, IsSquareRunOn}
 use Rattle.scr_tree.specs.declared.basis.Basis.{Basis}

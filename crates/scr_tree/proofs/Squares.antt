@@ -3,20 +3,20 @@ use Rattle.std.proofs.Common.{◌≡◌, ◌⊎◌, inl, inr, ℕ, ◌+◌, ◌*
 use Rattle.std.specs.Prelude.{if◌then◌else◌, is_some, nat_le}
 use Rattle.std.proofs.lemmas.Bool.{cases_lt, le-leb, lt-leb, lt-ltb}
 use Rattle.std.proofs.lemmas.List.{length-map}
-use Rattle.scr_blocks.specs.Blocks.{blocks_at, is_block, parts}
-use Rattle.scr_blocks.specs.Readers.{reader_of_block, reader_of_member}
-use Rattle.scr_blocks.specs.Sums.{AddsUp, total}
-use Rattle.scr_blocks.specs.declared.blocks.Level.{Level}
-use Rattle.scr_blocks.specs.declared.blocks.Level.TheVariants as levels
-use Rattle.scr_blocks.specs.declared.readers.Reader.{Reader}
-use Rattle.scr_blocks.specs.declared.readers.Reader.TheVariants as readers
-use Rattle.scr_blocks.proofs.BlockTests.{Decides-is_block_over}
-use Rattle.scr_blocks.proofs.Partition.{is_block-numbered}
-use Rattle.scr_blocks.proofs.SameMembers.{total-same}
-use Rattle.scr_figures.specs.Numbers.{StandsAt}
-use Rattle.scr_lists.specs.declared.lists.Lists.{Lists}
-use Rattle.scr_numbers.specs.Ranges.{Numbered, count as count_of, first}
-use Rattle.scr_numbers.specs.declared.table.Table.TheVariants as ranged
+use Rattle.scr_sum_tree.specs.Blocks.{blocks_at, is_block, parts}
+use Rattle.scr_sum_tree.specs.Readers.{reader_of_block, reader_of_member}
+use Rattle.scr_sum_tree.specs.Sums.{AddsUp, total}
+use Rattle.scr_sum_tree.specs.declared.blocks.Level.{Level}
+use Rattle.scr_sum_tree.specs.declared.blocks.Level.TheVariants as levels
+use Rattle.scr_sum_tree.specs.declared.readers.Reader.{Reader}
+use Rattle.scr_sum_tree.specs.declared.readers.Reader.TheVariants as readers
+use Rattle.scr_sum_tree.proofs.BlockTests.{Decides-is_block_over}
+use Rattle.scr_sum_tree.proofs.Partition.{is_block-numbered}
+use Rattle.scr_sum_tree.proofs.SameMembers.{total-same}
+use Rattle.scr_figure_ids.specs.Numbers.{StandsAt}
+use Rattle.scr_member_index.specs.declared.lists.Lists.{Lists}
+use Rattle.scr_ids.specs.Ranges.{Numbered, count as count_of, first}
+use Rattle.scr_ids.specs.declared.table.Table.TheVariants as ranged
 use Rattle.scr_book.specs.RolledSheets.{RolledSheet}
 use Rattle.scr_sheet.specs.BalanceSheet.{group_name}
 use Rattle.scr_sheet.specs.Validity.{Valid}
@@ -26,16 +26,16 @@ use Rattle.scr_nodes.specs.Rows.{group_of}
 use Rattle.scr_nodes.specs.declared.node.Node.TheVariants as nodes
 use Rattle.scr_nodes.specs.declared.node.OfGroup.TheVariants as of_groups
 use Rattle.scr_nodes.proofs.OwnRows.{own-groups}
-use Rattle.scr_reach.specs.Leading.{Leads}
-use Rattle.scr_reach.specs.Leading.Leads.{above, touched}
-use Rattle.scr_sums.specs.Books.{rolled_of}
-use Rattle.scr_sums.specs.Graph.{block_point, is_live_in, member_point, reads, roll_in}
-use Rattle.scr_sums.specs.Reading.{IsReading}
-use Rattle.scr_sums.specs.declared.point.Block.{Block}
-use Rattle.scr_sums.specs.declared.point.Point.{Point}
-use Rattle.scr_sums.specs.declared.point.Point.TheVariants as points
-use Rattle.scr_sums.specs.declared.sum.Sum.TheVariants as sums
-use Rattle.scr_sums.proofs.Members.{listed-members, once-groups}
+use Rattle.scr_reachability.specs.Leading.{Leads}
+use Rattle.scr_reachability.specs.Leading.Leads.{above, touched}
+use Rattle.scr_block_graph.specs.Books.{rolled_of}
+use Rattle.scr_block_graph.specs.Graph.{block_point, is_live_in, member_point, reads, roll_in}
+use Rattle.scr_block_graph.specs.Reading.{IsReading}
+use Rattle.scr_block_graph.specs.declared.point.Block.{Block}
+use Rattle.scr_block_graph.specs.declared.point.Point.{Point}
+use Rattle.scr_block_graph.specs.declared.point.Point.TheVariants as points
+use Rattle.scr_block_graph.specs.declared.sum.Sum.TheVariants as sums
+use Rattle.scr_block_graph.proofs.Members.{listed-members, once-groups}
 use Rattle.scr_tree.specs.Marking.{AreMarkedMore, IsAboveAt, IsAboveSquares, IsReaderAt, IsSquare, IsSquareOrAbove, assets}
 use Rattle.scr_tree.specs.Points.{AreNumbersOf, StandsIn, book_graph}
 use Rattle.scr_tree.proofs.Dependants.{rolls-of}

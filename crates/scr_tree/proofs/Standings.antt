@@ -2,7 +2,7 @@
 use Rattle.std.proofs.Common.{◌≡◌, ◌↔◌, ℕ, true, List, Contains, Some, None, slice_get, sym, subst}
 use Rattle.std.specs.Option.{option_map}
 use Rattle.std.specs.Prelude.{Ok}
-use Rattle.scr_blocks.specs.Blocks.{HasEachOnce}
+use Rattle.scr_sum_tree.specs.Blocks.{HasEachOnce}
 use Rattle.scr_factors.specs.Values.{FactorValues}
 use Rattle.scr_sheet.specs.Faults.{fault_of}
 use Rattle.scr_sheet.specs.Records.{applied}
@@ -10,20 +10,20 @@ use Rattle.scr_sheet.specs.Validity.{Valid}
 use Rattle.scr_sheet.specs.declared.edit.Edit.{Edit}
 use Rattle.scr_book.specs.Rolls.{KeepsNumbers}
 use Rattle.scr_book.specs.RolledSheets.{AreRolled, RolledSheet}
-use Rattle.scr_figures.specs.Numbers.{StandsAt}
-use Rattle.scr_figures.specs.Records.{step_of}
-use Rattle.scr_numbers.specs.Ranges.{Numbered}
-use Rattle.scr_lists.specs.declared.lists.Lists.{Lists}
-use Rattle.scr_reach.specs.Graph.{Graph}
-use Rattle.scr_reach.specs.Leading.{IsCountOf, IsInReach, Leads}
-use Rattle.scr_reach.specs.Leading.Leads.{above, touched}
-use Rattle.scr_reach.specs.Linked.{AreNumbers}
-use Rattle.scr_sums.specs.Books.{rolled_of}
-use Rattle.scr_sums.specs.Graph.{Rolled, is_live_in}
-use Rattle.scr_sums.specs.Touched.{IsTouchedIn, applied_in}
-use Rattle.scr_sums.specs.declared.point.Point.{Point}
-use Rattle.scr_sums.specs.declared.point.Point.TheVariants as points
-use Rattle.scr_subtotals.specs.declared.figure.Figure.{Figure}
+use Rattle.scr_figure_ids.specs.Numbers.{StandsAt}
+use Rattle.scr_figure_ids.specs.Records.{step_of}
+use Rattle.scr_ids.specs.Ranges.{Numbered}
+use Rattle.scr_member_index.specs.declared.lists.Lists.{Lists}
+use Rattle.scr_reachability.specs.Graph.{Graph}
+use Rattle.scr_reachability.specs.Leading.{IsCountOf, IsInReach, Leads}
+use Rattle.scr_reachability.specs.Leading.Leads.{above, touched}
+use Rattle.scr_reachability.specs.Linked.{AreNumbers}
+use Rattle.scr_block_graph.specs.Books.{rolled_of}
+use Rattle.scr_block_graph.specs.Graph.{Rolled, is_live_in}
+use Rattle.scr_block_graph.specs.Touched.{IsTouchedIn, applied_in}
+use Rattle.scr_block_graph.specs.declared.point.Point.{Point}
+use Rattle.scr_block_graph.specs.declared.point.Point.TheVariants as points
+use Rattle.scr_partial_sums.specs.declared.figure.Figure.{Figure}
 use Rattle.scr_tree.specs.Changed.{IsTakenFrom, StepsReach}
 use Rattle.scr_tree.specs.Figures.{AreKnownOf, AreSettled, worth_of}
 use Rattle.scr_tree.specs.Graphs.{graph_of}

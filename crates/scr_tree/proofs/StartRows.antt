@@ -5,19 +5,19 @@ use Rattle.std.specs.List.{IsDistinct, list_any}
 use Rattle.std.proofs.lemmas.List.{append-nil, map-append, take_more}
 use Rattle.std.proofs.lemmas.Option.{slice_get-get_or}
 use Rattle.scr_funds.proofs.Members.{IsMember, IsMember-cases, IsMember-from_Contains, IsMember-left, IsMember-right, Contains-from_IsMember, each_push}
-use Rattle.scr_blocks.specs.Blocks.{HasEachOnce}
+use Rattle.scr_sum_tree.specs.Blocks.{HasEachOnce}
 use Rattle.scr_links.specs.Edges.{Edge}
-use Rattle.scr_rounds.specs.declared.ranks.Due.{Due}
+use Rattle.scr_reachability.specs.declared.ranks.Due.{Due}
 use Rattle.scr_sheet.specs.declared.edit.Edit.{Edit}
 use Rattle.scr_nodes.specs.declared.node.Node.{Node}
-use Rattle.scr_reach.specs.Graph.{Graph}
-use Rattle.scr_reach.specs.Dues.{AreDuesFor, AreStarts, IsDueAt, IsLiveAt}
-use Rattle.scr_reach.specs.Linked.{AreAt, AreNumbers, linked_to, sources_in}
-use Rattle.scr_reach.proofs.Ranks.{has-member}
-use Rattle.scr_reach.proofs.Starting.{starts-more, starts-once, starts-skip}
-use Rattle.scr_sums.specs.declared.point.Block.{Block}
-use Rattle.scr_sums.specs.declared.point.Point.{Point}
-use Rattle.scr_sums.specs.declared.point.Point.TheVariants as points
+use Rattle.scr_reachability.specs.Graph.{Graph}
+use Rattle.scr_reachability.specs.LinkedDues.{AreDuesFor, AreStarts, IsDueAt, IsLiveAt}
+use Rattle.scr_reachability.specs.Linked.{AreAt, AreNumbers, linked_to, sources_in}
+use Rattle.scr_reachability.proofs.DistinctDues.{has-member}
+use Rattle.scr_reachability.proofs.Starting.{starts-more, starts-once, starts-skip}
+use Rattle.scr_block_graph.specs.declared.point.Block.{Block}
+use Rattle.scr_block_graph.specs.declared.point.Point.{Point}
+use Rattle.scr_block_graph.specs.declared.point.Point.TheVariants as points
 use Rattle.scr_tree.specs.Points.{is_linked}
 use Rattle.scr_tree.specs.Starts.{AreFormer, AreMarked, IsMarkedOf, IsNumberPushed, IsPointPushed, IsPushedIf, keeps_links, relinked}
 

@@ -3,30 +3,30 @@
 use Rattle.std.proofs.Common.{◌≡◌, ℕ, List, [], ◌∷◌, map, length, Option, Some, None, slice_get, refl, sym, ap, subst, ◌∙◌, arith}
 use Rattle.std.specs.Option.{option_map_or}
 use Rattle.std.proofs.lemmas.Option.{slice_get_within}
-use Rattle.scr_blocks.specs.Blocks.{blocks_at}
-use Rattle.scr_blocks.specs.declared.blocks.Level.{Level}
-use Rattle.scr_blocks.specs.declared.blocks.Level.TheVariants as levels
+use Rattle.scr_sum_tree.specs.Blocks.{blocks_at}
+use Rattle.scr_sum_tree.specs.declared.blocks.Level.{Level}
+use Rattle.scr_sum_tree.specs.declared.blocks.Level.TheVariants as levels
 use Rattle.scr_factors.specs.Values.{FactorValues}
-use Rattle.scr_numbers.specs.Ranges.{Numbered}
-use Rattle.scr_parts.specs.Parts.{count_of, slots_of}
-use Rattle.scr_rolls.specs.Seatings.{names_of}
+use Rattle.scr_ids.specs.Ranges.{Numbered}
+use Rattle.scr_sum_slots.specs.Parts.{count_of, slots_of}
+use Rattle.scr_member_lists.specs.Seatings.{names_of}
 use Rattle.scr_sheet.specs.Members.{table_of}
 use Rattle.scr_sheet.specs.declared.{keys.Table.Table, roll.Roll.Roll}
 use Rattle.scr_book.specs.RolledSheets.{AreStill, RolledSheet}
 use Rattle.scr_book.specs.Rolls.{AreRollsOf, listed, number_of_roll, roll_of}
 use Rattle.scr_discounts.specs.KeptRates.{all_rates}
-use Rattle.scr_figures.specs.Numbers.{IsNumbered, StandsAt}
-use Rattle.scr_lists.specs.Lists.{AreListsOf, first_of, lists_in}
-use Rattle.scr_lists.specs.declared.lists.Lists.{Lists}
+use Rattle.scr_figure_ids.specs.Numbers.{IsNumbered, StandsAt}
+use Rattle.scr_member_index.specs.Lists.{AreListsOf, first_of, lists_in}
+use Rattle.scr_member_index.specs.declared.lists.Lists.{Lists}
 use Rattle.scr_links.specs.Edges.{Edge}
-use Rattle.scr_reach.specs.Linked.{AreAt, AreLinkedOf, AreNumbers}
-use Rattle.scr_sums.specs.BlockNumbers.{list_number}
-use Rattle.scr_sums.specs.Books.{rolled_of}
-use Rattle.scr_sums.specs.Graph.{Rolled}
-use Rattle.scr_sums.specs.Sums.{roll_of as sum_roll}
-use Rattle.scr_sums.specs.declared.point.Point.{Point}
-use Rattle.scr_sums.specs.declared.point.Point.TheVariants as points
-use Rattle.scr_subtotals.specs.declared.figure.Figure.{Figure}
+use Rattle.scr_reachability.specs.Linked.{AreAt, AreLinkedOf, AreNumbers}
+use Rattle.scr_block_graph.specs.BlockNumbers.{list_number}
+use Rattle.scr_block_graph.specs.Books.{rolled_of}
+use Rattle.scr_block_graph.specs.Graph.{Rolled}
+use Rattle.scr_block_graph.specs.Sums.{roll_of as sum_roll}
+use Rattle.scr_block_graph.specs.declared.point.Point.{Point}
+use Rattle.scr_block_graph.specs.declared.point.Point.TheVariants as points
+use Rattle.scr_partial_sums.specs.declared.figure.Figure.{Figure}
 use Rattle.scr_tree.specs.Changed.{IsStateOf}
 use Rattle.scr_tree.specs.Figures.{AreKnownOf, AreSettled}
 use Rattle.scr_tree.specs.Points.{AreNumbersOf, IsLinkedPoint, StandsIn, book_graph, book_reckoning}

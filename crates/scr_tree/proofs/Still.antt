@@ -12,16 +12,16 @@ use Rattle.scr_conc.specs.Thresholds.{factor_units, step_of, threshold_units}
 use Rattle.scr_conc.specs.ConcentrationEnds.{square_units}
 use Rattle.scr_conc.proofs.Scales.{free-square}
 use Rattle.scr_sheet.specs.declared.rows.Group.{Group}
-use Rattle.scr_numbers.specs.Ranges.{first}
-use Rattle.scr_numbers.specs.declared.table.Table.TheVariants as ranged
+use Rattle.scr_ids.specs.Ranges.{first}
+use Rattle.scr_ids.specs.declared.table.Table.TheVariants as ranged
 use Rattle.scr_nodes.specs.Sources.{concentration_square}
-use Rattle.scr_reach.proofs.Placed.{get-contains}
+use Rattle.scr_reachability.proofs.Placed.{get-contains}
 use Rattle.scr_rules.specs.ByRow.{by_rule}
 use Rattle.scr_rules.specs.Rules.{amount_of}
 use Rattle.scr_rules.proofs.GroupRows.{square-by-rule, square-fits as group-fits}
-use Rattle.scr_subtotals.specs.Tables.{IsAmountBeforeNothing, nothing}
-use Rattle.scr_subtotals.specs.declared.figure.Figure.{Figure}
-use Rattle.scr_sums.specs.declared.point.Point.TheVariants as points
+use Rattle.scr_partial_sums.specs.Tables.{IsAmountBeforeNothing, nothing}
+use Rattle.scr_partial_sums.specs.declared.figure.Figure.{Figure}
+use Rattle.scr_block_graph.specs.declared.point.Point.TheVariants as points
 use Rattle.scr_tree.specs.AssetScales.{IsScaleOn}
 use Rattle.scr_tree.specs.Ready.{AreInTurnOn, AreKnownBut, IsBasis, IsReadyOn, IsRightOn, IsSquareOn, reckoning_on, square_number}
 use Rattle.scr_tree.specs.SquareRun.{IsSquareAtOn, IsSquareRunOn}

@@ -3,24 +3,24 @@ use Rattle.std.proofs.Common.{◌≡◌, ◌||◌, ℕ, ◌+◌, Bool, true, fal
 use Rattle.std.specs.Option.{option_map, option_map_or}
 use Rattle.scr_num.specs.Rounding.{add_ends, exact_ends}
 use Rattle.scr_num.specs.Sums.{sum_ends}
-use Rattle.scr_blocks.specs.Blocks.{part}
-use Rattle.scr_blocks.specs.declared.blocks.Level.TheVariants as levels
-use Rattle.scr_figures.specs.Families.{family_of}
-use Rattle.scr_lists.specs.Lists.{first_of}
+use Rattle.scr_sum_tree.specs.Blocks.{part}
+use Rattle.scr_sum_tree.specs.declared.blocks.Level.TheVariants as levels
+use Rattle.scr_figure_ids.specs.Families.{family_of}
+use Rattle.scr_member_index.specs.Lists.{first_of}
 use Rattle.scr_sheet.specs.Members.{table_of}
 use Rattle.scr_nodes.specs.declared.node.Node.TheVariants as nodes
 use Rattle.scr_nodes.specs.declared.node.OfGroup.TheVariants as of_groups
-use Rattle.scr_reach.specs.Linked.{AreAt}
-use Rattle.scr_subtotals.specs.Figures.{members_ends}
-use Rattle.scr_subtotals.specs.Tables.{nothing}
-use Rattle.scr_subtotals.specs.Written.{any_open, is_open_at}
-use Rattle.scr_subtotals.specs.declared.figure.Figure.{Figure}
-use Rattle.scr_sums.specs.Books.{rolled_of}
-use Rattle.scr_sums.specs.Graph.{block_point, is_live_in, member_point, roll_in, sources_in}
-use Rattle.scr_sums.specs.Sums.{member_of, roll_of}
-use Rattle.scr_sums.specs.declared.point.Block.{Block}
-use Rattle.scr_sums.specs.declared.point.Point.TheVariants as points
-use Rattle.scr_sums.specs.declared.sum.Sum.TheVariants as sums
+use Rattle.scr_reachability.specs.Linked.{AreAt}
+use Rattle.scr_partial_sums.specs.Figures.{members_ends}
+use Rattle.scr_partial_sums.specs.Tables.{nothing}
+use Rattle.scr_partial_sums.specs.Written.{any_open, is_open_at}
+use Rattle.scr_partial_sums.specs.declared.figure.Figure.{Figure}
+use Rattle.scr_block_graph.specs.Books.{rolled_of}
+use Rattle.scr_block_graph.specs.Graph.{block_point, is_live_in, member_point, roll_in, sources_in}
+use Rattle.scr_block_graph.specs.Sums.{member_of, roll_of}
+use Rattle.scr_block_graph.specs.declared.point.Block.{Block}
+use Rattle.scr_block_graph.specs.declared.point.Point.TheVariants as points
+use Rattle.scr_block_graph.specs.declared.sum.Sum.TheVariants as sums
 use Rattle.scr_tree.specs.Figures.{HaveFigures, Worth, worth_of}
 use Rattle.scr_tree.specs.Ready.{IsBasis, IsReadyOn, IsRightOn, IsSquareOn, StandsOn, reckoning_on}
 use Rattle.scr_tree.specs.Still.{AreNothingOn}

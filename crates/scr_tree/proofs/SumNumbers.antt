@@ -5,23 +5,23 @@ use Rattle.std.specs.List.{position_or_len}
 use Rattle.std.specs.Option.{option_map, option_map_or}
 use Rattle.std.proofs.lemmas.List.{length-map}
 use Rattle.std.proofs.lemmas.Option.{slice_get-get_or}
-use Rattle.scr_names.specs.Names.{same_name}
+use Rattle.scr_tables.specs.Names.{same_name}
 use Rattle.scr_funds.proofs.Members.{All-from_members, IsMember, IsMember-from_Contains, IsMember-left, IsMember-map, IsMember-mapped, IsMember-right, at_member, Contains-from_IsMember}
-use Rattle.scr_blocks.specs.Blocks.{blocks_at}
-use Rattle.scr_blocks.specs.Sums.{AreSums}
-use Rattle.scr_blocks.specs.declared.blocks.Level.{Level}
-use Rattle.scr_blocks.specs.declared.blocks.Level.TheVariants as levels
-use Rattle.scr_figures.specs.Families.{family_of, name_of, table_of}
-use Rattle.scr_figures.specs.Numbers.{StandsAt, names_in}
-use Rattle.scr_figures.specs.Records.{place_in}
-use Rattle.scr_figures.proofs.Live.{live-stands, named-once}
-use Rattle.scr_figures.proofs.RowNames.{placed-at}
+use Rattle.scr_sum_tree.specs.Blocks.{blocks_at}
+use Rattle.scr_sum_tree.specs.Sums.{AreSums}
+use Rattle.scr_sum_tree.specs.declared.blocks.Level.{Level}
+use Rattle.scr_sum_tree.specs.declared.blocks.Level.TheVariants as levels
+use Rattle.scr_figure_ids.specs.Families.{family_of, name_of, table_of}
+use Rattle.scr_figure_ids.specs.Numbers.{StandsAt, names_in}
+use Rattle.scr_figure_ids.specs.Records.{place_in}
+use Rattle.scr_figure_ids.proofs.Live.{live-stands, named-once}
+use Rattle.scr_figure_ids.proofs.RowNames.{placed-at}
 use Rattle.scr_num.specs.Sizes.{AreTogether}
 use Rattle.scr_num.specs.Sums.{sum_ends}
-use Rattle.scr_numbers.specs.Ranges.{IsApart, IsAt, IsWithin, Numbered, count, first}
-use Rattle.scr_numbers.specs.declared.table.Table.TheVariants as ranged
-use Rattle.scr_parts.specs.Parts.{AreOwn, Parted, count_of, key_of, slot_at, slot_of, slots_of}
-use Rattle.scr_parts.proofs.Views.{no-some, one-some}
+use Rattle.scr_ids.specs.Ranges.{IsApart, IsAt, IsWithin, Numbered, count, first}
+use Rattle.scr_ids.specs.declared.table.Table.TheVariants as ranged
+use Rattle.scr_sum_slots.specs.Parts.{AreOwn, Parted, count_of, key_of, slot_at, slot_of, slots_of}
+use Rattle.scr_sum_slots.proofs.Views.{no-some, one-some}
 use Rattle.scr_sheet.specs.Members.{table_of as roll_table}
 use Rattle.scr_sheet.specs.Validity.{Valid}
 use Rattle.scr_sheet.specs.declared.keys.Table.{Table}
@@ -36,26 +36,26 @@ use Rattle.scr_book.specs.Places.{names_in as names_of_table}
 use Rattle.scr_book.specs.RolledSheets.{RolledSheet}
 use Rattle.scr_book.specs.Rolls.{listed as rolls_listed, number_of_roll, roll_of as kept_roll}
 use Rattle.scr_book.proofs.RollSettled.{own-table}
-use Rattle.scr_lists.specs.Lists.{first_of, ranges_of, table_place as list_place}
-use Rattle.scr_lists.proofs.Members.{members-own}
-use Rattle.scr_rolls.specs.Seatings.{names_of}
-use Rattle.scr_subtotals.specs.Figures.{ends_at, member_number, members_ends}
-use Rattle.scr_subtotals.specs.Written.{AreNumbered, AreOffBlocks, is_open_at, number_of}
-use Rattle.scr_subtotals.specs.declared.figure.Figure.{Figure}
-use Rattle.scr_subtotals.proofs.Members.{members-same}
-use Rattle.scr_subtotals.specs.declared.writing.Subtotals.{Subtotals}
-use Rattle.scr_sums.specs.BlockNumbers.{list_number, place_of, table_place}
-use Rattle.scr_sums.specs.Books.{rolled_of}
-use Rattle.scr_sums.specs.Graph.{AreRolls, Rolled, block_point, listed, member_point, reads, roll_in}
-use Rattle.scr_sums.specs.Sums.{first_sum, member_of, names_listed, reader_of, roll_of, second_sum}
-use Rattle.scr_sums.specs.declared.point.Point.{Point}
-use Rattle.scr_sums.specs.declared.sum.Sum.{Sum}
-use Rattle.scr_sums.specs.declared.sum.Sum.TheVariants as sums
+use Rattle.scr_member_index.specs.Lists.{first_of, ranges_of, table_place as list_place}
+use Rattle.scr_member_index.proofs.Members.{members-own}
+use Rattle.scr_member_lists.specs.Seatings.{names_of}
+use Rattle.scr_partial_sums.specs.Figures.{ends_at, member_number, members_ends}
+use Rattle.scr_partial_sums.specs.Written.{AreNumbered, AreOffBlocks, is_open_at, number_of}
+use Rattle.scr_partial_sums.specs.declared.figure.Figure.{Figure}
+use Rattle.scr_partial_sums.proofs.Members.{members-same}
+use Rattle.scr_partial_sums.specs.declared.writing.Subtotals.{Subtotals}
+use Rattle.scr_block_graph.specs.BlockNumbers.{list_number, place_of, table_place}
+use Rattle.scr_block_graph.specs.Books.{rolled_of}
+use Rattle.scr_block_graph.specs.Graph.{AreRolls, Rolled, block_point, listed, member_point, reads, roll_in}
+use Rattle.scr_block_graph.specs.Sums.{first_sum, member_of, names_listed, reader_of, roll_of, second_sum}
+use Rattle.scr_block_graph.specs.declared.point.Point.{Point}
+use Rattle.scr_block_graph.specs.declared.sum.Sum.{Sum}
+use Rattle.scr_block_graph.specs.declared.sum.Sum.TheVariants as sums
 use Rattle.scr_nodes.specs.declared.node.Direction.TheVariants as directions
-use Rattle.scr_sums.proofs.Counts.{few_members}
-use Rattle.scr_sums.proofs.Listed.{sources-listed}
-use Rattle.scr_sums.proofs.Lives.{is-named, named, own-sum, summed-reader}
-use Rattle.scr_sums.proofs.Members.{listed-members}
+use Rattle.scr_block_graph.proofs.Counts.{few_members}
+use Rattle.scr_block_graph.proofs.Listed.{sources-listed}
+use Rattle.scr_block_graph.proofs.Lives.{is-named, named, own-sum, summed-reader}
+use Rattle.scr_block_graph.proofs.Members.{listed-members}
 use Rattle.scr_tree.specs.Points.{AreNumbersOf, StandsIn}
 use Rattle.scr_tree.specs.Summed.{AreBlocksOn, AreMembersOn, AreOwnBlocks, KeepsOffBlocksOn, count_on, family_in, firsts_on, spanned_ends}
 use Rattle.scr_tree.specs.declared.graph.Numbers.{Numbers}

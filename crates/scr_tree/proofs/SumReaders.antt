@@ -4,16 +4,16 @@ use Rattle.std.specs.Prelude.{IfSome, IsNone, is_some}
 use Rattle.std.proofs.lemmas.Bool.{and_parts, cases_lt, ltb-true}
 use Rattle.std.proofs.lemmas.Option.{same_Some, slice_get_within}
 use Rattle.scr_funds.proofs.Members.{IsMember-from_Contains, IsMember-map}
-use Rattle.scr_blocks.specs.Blocks.{HasEachOnce, blocks_at, is_block}
-use Rattle.scr_blocks.specs.Readers.{reader_of_block, reader_of_member}
-use Rattle.scr_blocks.specs.declared.blocks.Level.{Level}
-use Rattle.scr_blocks.specs.declared.readers.Reader.{Reader}
-use Rattle.scr_blocks.specs.declared.readers.Reader.TheVariants as readers
-use Rattle.scr_blocks.proofs.Partition.{is_block-numbered}
-use Rattle.scr_blocks.proofs.SameMembers.{names-once}
-use Rattle.scr_figures.specs.Numbers.{StandsAt}
-use Rattle.scr_lists.specs.declared.lists.Lists.{Lists}
-use Rattle.scr_numbers.specs.Ranges.{Numbered}
+use Rattle.scr_sum_tree.specs.Blocks.{HasEachOnce, blocks_at, is_block}
+use Rattle.scr_sum_tree.specs.Readers.{reader_of_block, reader_of_member}
+use Rattle.scr_sum_tree.specs.declared.blocks.Level.{Level}
+use Rattle.scr_sum_tree.specs.declared.readers.Reader.{Reader}
+use Rattle.scr_sum_tree.specs.declared.readers.Reader.TheVariants as readers
+use Rattle.scr_sum_tree.proofs.Partition.{is_block-numbered}
+use Rattle.scr_sum_tree.proofs.SameMembers.{names-once}
+use Rattle.scr_figure_ids.specs.Numbers.{StandsAt}
+use Rattle.scr_member_index.specs.declared.lists.Lists.{Lists}
+use Rattle.scr_ids.specs.Ranges.{Numbered}
 use Rattle.scr_book.specs.RolledSheets.{RolledSheet}
 use Rattle.scr_sheet.specs.Validity.{Valid}
 use Rattle.scr_sheet.specs.declared.rows.Class.TheVariants as classes
@@ -27,20 +27,20 @@ use Rattle.scr_nodes.specs.declared.node.Node.TheVariants as nodes
 use Rattle.scr_nodes.specs.declared.node.OfCurrency.TheVariants as of_currencies
 use Rattle.scr_nodes.specs.declared.node.OfGroup.TheVariants as of_groups
 use Rattle.scr_nodes.specs.declared.node.Whole.TheVariants as wholes
-use Rattle.scr_sums.specs.Books.{rolled_of}
-use Rattle.scr_sums.specs.Graph.{block_point, is_live_in, reads, roll_in, sources_in, tops_of}
-use Rattle.scr_sums.specs.Reading.{IsReading, ReadsBlock, ReadsMember}
-use Rattle.scr_sums.specs.Sums.{first_sum, member_of, reader_of, roll_of, second_sum}
-use Rattle.scr_sums.specs.declared.point.Block.{Block}
-use Rattle.scr_sums.specs.declared.point.Point.{Point}
-use Rattle.scr_sums.specs.declared.point.Point.TheVariants as points
-use Rattle.scr_sums.specs.declared.sum.Sum.{Sum}
-use Rattle.scr_sums.specs.declared.sum.Sum.TheVariants as sums
-use Rattle.scr_sums.proofs.Apart.{points-apart}
-use Rattle.scr_sums.proofs.Counts.{few_members}
-use Rattle.scr_sums.proofs.Lives.{own-sum}
-use Rattle.scr_sums.proofs.ReadSums.{summed-read}
-use Rattle.scr_sums.proofs.Small.{blocks-small}
+use Rattle.scr_block_graph.specs.Books.{rolled_of}
+use Rattle.scr_block_graph.specs.Graph.{block_point, is_live_in, reads, roll_in, sources_in, tops_of}
+use Rattle.scr_block_graph.specs.Reading.{IsReading, ReadsBlock, ReadsMember}
+use Rattle.scr_block_graph.specs.Sums.{first_sum, member_of, reader_of, roll_of, second_sum}
+use Rattle.scr_block_graph.specs.declared.point.Block.{Block}
+use Rattle.scr_block_graph.specs.declared.point.Point.{Point}
+use Rattle.scr_block_graph.specs.declared.point.Point.TheVariants as points
+use Rattle.scr_block_graph.specs.declared.sum.Sum.{Sum}
+use Rattle.scr_block_graph.specs.declared.sum.Sum.TheVariants as sums
+use Rattle.scr_block_graph.proofs.Apart.{points-apart}
+use Rattle.scr_block_graph.proofs.Counts.{few_members}
+use Rattle.scr_block_graph.proofs.Lives.{own-sum}
+use Rattle.scr_block_graph.proofs.ReadSums.{summed-read}
+use Rattle.scr_block_graph.proofs.Small.{blocks-small}
 use Rattle.scr_tree.specs.Marking.{AreMarkedMore, IsDependantAt, IsMemberReaderAt, IsReaderAt}
 use Rattle.scr_tree.specs.Points.{AreNumbersOf, StandsIn}
 use Rattle.scr_tree.specs.Reading.{fall_of}

@@ -5,7 +5,7 @@ use Rattle.std.specs.List.{list_any}
 use Rattle.std.proofs.lemmas.Bool.{and_parts}
 use Rattle.std.proofs.lemmas.List.{drop_at, length-append, length-map, map-append, take_at}
 use Rattle.std.proofs.lemmas.List.Sums.{sum_by-append, sum_by-cons}
-use Rattle.scr_names.specs.Names.{same_name}
+use Rattle.scr_tables.specs.Names.{same_name}
 use Rattle.scr_num.specs.Amounts.{IsAmount}
 use Rattle.scr_num.specs.Rounding.{Ends, add_ends, exact_ends}
 use Rattle.scr_num.specs.Sizes.{AreTogether, IsWithin}
@@ -13,16 +13,16 @@ use Rattle.scr_num.specs.Sums.{sum_ends}
 use Rattle.scr_num.proofs.AddedEnds.{zero-add_ends}
 use Rattle.scr_num.proofs.SumLemmas.{add_ends-swap, sum_ends-append}
 use Rattle.scr_profile.specs.declared.limits.TheConstants.{MAX_HELD}
-use Rattle.scr_blocks.specs.Blocks.{is_block, top_count}
-use Rattle.scr_blocks.specs.Sums.{AddsUp, total}
-use Rattle.scr_blocks.specs.declared.blocks.Level.{Level}
-use Rattle.scr_blocks.proofs.BlockSizes.{sources-together, tops-together}
-use Rattle.scr_blocks.proofs.ListedSums.{ends-add_up, sum-same, total-ends}
-use Rattle.scr_blocks.proofs.Regrouped.{map-map}
-use Rattle.scr_blocks.proofs.TopChanges.{length-tops}
+use Rattle.scr_sum_tree.specs.Blocks.{is_block, top_count}
+use Rattle.scr_sum_tree.specs.Sums.{AddsUp, total}
+use Rattle.scr_sum_tree.specs.declared.blocks.Level.{Level}
+use Rattle.scr_sum_tree.proofs.BlockSizes.{sources-together, tops-together}
+use Rattle.scr_sum_tree.proofs.ListedSums.{ends-add_up, sum-same, total-ends}
+use Rattle.scr_sum_tree.proofs.Regrouped.{map-map}
+use Rattle.scr_sum_tree.proofs.TopChanges.{length-tops}
 use Rattle.scr_discounts.specs.Discounts.{CurrencyDiscounts}
 use Rattle.scr_factors.specs.Values.{FactorValues, IsInForm}
-use Rattle.scr_figures.specs.Families.{name_of}
+use Rattle.scr_figure_ids.specs.Families.{name_of}
 use Rattle.scr_sheet.specs.declared.sheet.BalanceSheet.{BalanceSheet}
 use Rattle.scr_sheet.specs.Validity.{Valid}
 use Rattle.scr_nodes.specs.Live.{is_live}
@@ -48,18 +48,18 @@ use Rattle.scr_rules.proofs.BySums.{fits-by-sums, fits-by-two-sums, rule-by-sum,
 use Rattle.scr_rules.proofs.Equations.{worked-equation}
 use Rattle.scr_rules.proofs.Ranges.{node-fits}
 use Rattle.scr_book.specs.RolledSheets.{RolledSheet}
-use Rattle.scr_sums.specs.Books.{rolled_of}
-use Rattle.scr_sums.specs.Graph.{AreRolls, Rolled, block_point, is_live_in, listed, member_point, reads, roll_in, sources_in, tops_of, worth_in}
-use Rattle.scr_sums.specs.Sums.{first_sum, member_of, names_listed, reader_of, roll_of, second_sum}
-use Rattle.scr_sums.specs.declared.point.Block.{Block}
-use Rattle.scr_sums.specs.declared.point.Point.{Point}
-use Rattle.scr_sums.specs.declared.point.Point.TheVariants as points
-use Rattle.scr_sums.specs.declared.sum.Sum.{Sum}
-use Rattle.scr_sums.specs.declared.sum.Sum.TheVariants as sums
-use Rattle.scr_sums.proofs.Listed.{sources-listed}
-use Rattle.scr_sums.proofs.Lives.{own-sum, summed-reader}
-use Rattle.scr_sums.proofs.Members.{listed-members, listed-once}
-use Rattle.scr_sums.proofs.Worth.{block-sources, ends-tops}
+use Rattle.scr_block_graph.specs.Books.{rolled_of}
+use Rattle.scr_block_graph.specs.Graph.{AreRolls, Rolled, block_point, is_live_in, listed, member_point, reads, roll_in, sources_in, tops_of, worth_in}
+use Rattle.scr_block_graph.specs.Sums.{first_sum, member_of, names_listed, reader_of, roll_of, second_sum}
+use Rattle.scr_block_graph.specs.declared.point.Block.{Block}
+use Rattle.scr_block_graph.specs.declared.point.Point.{Point}
+use Rattle.scr_block_graph.specs.declared.point.Point.TheVariants as points
+use Rattle.scr_block_graph.specs.declared.sum.Sum.{Sum}
+use Rattle.scr_block_graph.specs.declared.sum.Sum.TheVariants as sums
+use Rattle.scr_block_graph.proofs.Listed.{sources-listed}
+use Rattle.scr_block_graph.proofs.Lives.{own-sum, summed-reader}
+use Rattle.scr_block_graph.proofs.Members.{listed-members, listed-once}
+use Rattle.scr_block_graph.proofs.Worth.{block-sources, ends-tops}
 use Rattle.scr_tree.specs.Summed.{foreign_of, summed_in}
 
 -- ---- sizes

@@ -9,18 +9,18 @@ use Rattle.scr_num.specs.Sums.{sum_ends}
 use Rattle.scr_factors.specs.Values.{FactorValues}
 use Rattle.scr_sheet.specs.Validity.{Valid}
 use Rattle.scr_book.specs.RolledSheets.{RolledSheet}
-use Rattle.scr_reach.specs.Linked.{AreAt}
+use Rattle.scr_reachability.specs.Linked.{AreAt}
 use Rattle.scr_rules.specs.Close.{close_under}
-use Rattle.scr_subtotals.specs.Figures.{ends_at}
-use Rattle.scr_subtotals.specs.Written.{is_open_at}
-use Rattle.scr_subtotals.specs.declared.figure.Figure.{Figure}
-use Rattle.scr_sums.specs.Books.{rolled_of}
-use Rattle.scr_sums.specs.Graph.{AreRolls, is_live_in, sources_in}
-use Rattle.scr_sums.specs.declared.point.Block.{Block}
-use Rattle.scr_sums.specs.declared.point.Point.{Point}
-use Rattle.scr_sums.specs.declared.point.Point.TheVariants as points
-use Rattle.scr_sums.proofs.Lives.{sources-live-in}
-use Rattle.scr_sums.proofs.Worth.{block-sources}
+use Rattle.scr_partial_sums.specs.Figures.{ends_at}
+use Rattle.scr_partial_sums.specs.Written.{is_open_at}
+use Rattle.scr_partial_sums.specs.declared.figure.Figure.{Figure}
+use Rattle.scr_block_graph.specs.Books.{rolled_of}
+use Rattle.scr_block_graph.specs.Graph.{AreRolls, is_live_in, sources_in}
+use Rattle.scr_block_graph.specs.declared.point.Block.{Block}
+use Rattle.scr_block_graph.specs.declared.point.Point.{Point}
+use Rattle.scr_block_graph.specs.declared.point.Point.TheVariants as points
+use Rattle.scr_block_graph.proofs.Lives.{sources-live-in}
+use Rattle.scr_block_graph.proofs.Worth.{block-sources}
 use Rattle.scr_tree.specs.Figures.{AreKnownOf, AreSettled, HasFigure, HaveFigures, Reckoning, Worth, worth_of}
 use Rattle.scr_tree.specs.Points.{book_reckoning}
 use Rattle.scr_tree.specs.Renewed.{IsSumAt}

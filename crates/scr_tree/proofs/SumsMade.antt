@@ -6,18 +6,18 @@ use Rattle.std.specs.Option.{option_map, option_map_or}
 use Rattle.std.proofs.lemmas.Bool.{and_parts}
 use Rattle.std.proofs.lemmas.List.{length-map, map-append}
 use Rattle.scr_funds.proofs.Members.{IsMember, Contains-from_IsMember, at_member}
-use Rattle.scr_parts.proofs.Views.{no-some, one-some}
-use Rattle.scr_blocks.specs.Blocks.{blocks_at, is_block, part, parts}
-use Rattle.scr_blocks.specs.declared.blocks.Level.{Level}
-use Rattle.scr_blocks.specs.declared.blocks.Level.TheVariants as levels
-use Rattle.scr_blocks.proofs.PartLemmas.{part-map}
-use Rattle.scr_blocks.proofs.Regrouped.{map-map}
+use Rattle.scr_sum_slots.proofs.Views.{no-some, one-some}
+use Rattle.scr_sum_tree.specs.Blocks.{blocks_at, is_block, part, parts}
+use Rattle.scr_sum_tree.specs.declared.blocks.Level.{Level}
+use Rattle.scr_sum_tree.specs.declared.blocks.Level.TheVariants as levels
+use Rattle.scr_sum_tree.proofs.PartLemmas.{part-map}
+use Rattle.scr_sum_tree.proofs.Regrouped.{map-map}
 use Rattle.scr_num.specs.Rounding.{Ends, ends, exact_ends}
 use Rattle.scr_num.specs.Sizes.{AreTogether}
 use Rattle.scr_num.specs.Sums.{sum_ends}
-use Rattle.scr_figures.specs.Families.{family_of, name_of, table_of}
-use Rattle.scr_figures.specs.Numbers.{StandsAt, names_in}
-use Rattle.scr_lists.specs.Lists.{first_of}
+use Rattle.scr_figure_ids.specs.Families.{family_of, name_of, table_of}
+use Rattle.scr_figure_ids.specs.Numbers.{StandsAt, names_in}
+use Rattle.scr_member_index.specs.Lists.{first_of}
 use Rattle.scr_sheet.specs.Members.{table_of as roll_table}
 use Rattle.scr_sheet.specs.Validity.{Valid}
 use Rattle.scr_sheet.specs.declared.rows.Class.TheVariants as classes
@@ -35,22 +35,22 @@ use Rattle.scr_factors.specs.Values.{FactorValues}
 use Rattle.scr_rules.specs.Close.{close_under, is_open_choice}
 use Rattle.scr_rules.specs.Worked.{worked}
 use Rattle.scr_rules.proofs.Equations.{close-equation}
-use Rattle.scr_sums.specs.Books.{rolled_of}
-use Rattle.scr_sums.specs.Graph.{AreRolls, Rolled, block_point, is_live_in, listed, member_point, reads, roll_in, worth_in}
-use Rattle.scr_sums.specs.Sums.{first_sum, member_of, names_listed, reader_of, roll_of, second_sum}
-use Rattle.scr_sums.specs.Told.{is_reader}
-use Rattle.scr_sums.specs.declared.point.Point.{Point}
-use Rattle.scr_sums.specs.declared.point.Point.TheVariants as points
-use Rattle.scr_sums.specs.declared.sum.Sum.{Sum}
-use Rattle.scr_sums.specs.declared.sum.Sum.TheVariants as sums
-use Rattle.scr_sums.proofs.Listed.{sources-listed}
-use Rattle.scr_sums.proofs.Lives.{own-sum}
-use Rattle.scr_subtotals.specs.Figures.{ends_at, member_number, members_ends}
-use Rattle.scr_subtotals.specs.Written.{is_open_at}
-use Rattle.scr_subtotals.specs.declared.figure.Figure.{Figure}
+use Rattle.scr_block_graph.specs.Books.{rolled_of}
+use Rattle.scr_block_graph.specs.Graph.{AreRolls, Rolled, block_point, is_live_in, listed, member_point, reads, roll_in, worth_in}
+use Rattle.scr_block_graph.specs.Sums.{first_sum, member_of, names_listed, reader_of, roll_of, second_sum}
+use Rattle.scr_block_graph.specs.Told.{is_reader}
+use Rattle.scr_block_graph.specs.declared.point.Point.{Point}
+use Rattle.scr_block_graph.specs.declared.point.Point.TheVariants as points
+use Rattle.scr_block_graph.specs.declared.sum.Sum.{Sum}
+use Rattle.scr_block_graph.specs.declared.sum.Sum.TheVariants as sums
+use Rattle.scr_block_graph.proofs.Listed.{sources-listed}
+use Rattle.scr_block_graph.proofs.Lives.{own-sum}
+use Rattle.scr_partial_sums.specs.Figures.{ends_at, member_number, members_ends}
+use Rattle.scr_partial_sums.specs.Written.{is_open_at}
+use Rattle.scr_partial_sums.specs.declared.figure.Figure.{Figure}
 use Rattle.scr_tree.specs.Figures.{AreKnownOf, HasFigure, Worth, reckoning_of, worth_at, worth_of}
 use Rattle.scr_tree.specs.First.{AreBlocksThere, AreDoneTo, AreMembersThere, IsBlockBefore, IsBlockOf, IsGround, IsMemberOf, IsSumOf, KeepsOffBlocks, link_ground, numbers_of}
-use Rattle.scr_numbers.specs.Ranges.{first}
+use Rattle.scr_ids.specs.Ranges.{first}
 use Rattle.scr_tree.specs.Points.{StandsIn, book_reckoning, point_worth}
 use Rattle.scr_tree.specs.Summed.{AreBlocksOn, AreMembersOn, KeepsOffBlocksOn, family_in, firsts_on, spanned_ends}
 use Rattle.scr_tree.specs.Turns.{IsBefore, Turn, next, stage_of, turn_of}

@@ -10,8 +10,8 @@ use Rattle.scr_nodes.specs.declared.node.Node.TheVariants as nodes
 use Rattle.scr_nodes.specs.declared.node.OfCurrency.TheVariants as of_currencies
 use Rattle.scr_nodes.specs.declared.node.OfGroup.TheVariants as of_groups
 use Rattle.scr_nodes.specs.declared.node.Whole.TheVariants as wholes
-use Rattle.scr_sums.specs.Graph.{reads}
-use Rattle.scr_sums.specs.Sums.{first_sum, second_sum}
+use Rattle.scr_block_graph.specs.Graph.{reads}
+use Rattle.scr_block_graph.specs.Sums.{first_sum, second_sum}
 
 pub first-reads : (sheet : BalanceSheet) (node : Node) → is_live sheet node ≡ true → option_map_or (reads sheet) (first_sum node) true ≡ true
 first-reads sheet (nodes.Group name of_groups.Total) live = live

@@ -4,16 +4,16 @@ use Rattle.std.specs.Prelude.{Result, Ok, Err, OnOk, OnErr}
 use Rattle.std.specs.Option.{option_map}
 use Rattle.std.proofs.lemmas.Option.{slice_get_within}
 use Rattle.scr_links.specs.Edges.{Linked}
-use Rattle.scr_rounds.specs.Marks.{MarkedNumbers}
+use Rattle.scr_reachability.specs.Marks.{MarkedNumbers}
 use Rattle.scr_factors.specs.Values.{FactorValues}
 use Rattle.scr_book.specs.RolledSheets.{RolledSheet}
-use Rattle.scr_numbers.specs.Ranges.{Numbered}
+use Rattle.scr_ids.specs.Ranges.{Numbered}
 use Rattle.scr_discounts.specs.declared.known.Rates.{Rates}
 use Rattle.scr_discounts.specs.KeptRates.{all_rates, known_of}
-use Rattle.scr_subtotals.specs.declared.figure.Figure.{Figure}
-use Rattle.scr_lists.specs.declared.lists.Lists.{Lists}
-use Rattle.scr_reach.specs.Linked.{sources_in}
-use Rattle.scr_sums.specs.Books.{rolled_of}
+use Rattle.scr_partial_sums.specs.declared.figure.Figure.{Figure}
+use Rattle.scr_member_index.specs.declared.lists.Lists.{Lists}
+use Rattle.scr_reachability.specs.Linked.{sources_in}
+use Rattle.scr_block_graph.specs.Books.{rolled_of}
 use Rattle.scr_tree.specs.Ceiling.{IsCeiling}
 use Rattle.scr_tree.specs.Changed.{IsStateOf, IsUnchanged}
 use Rattle.scr_tree.specs.Figures.{AreKnownOf, AreSettled, HasFigure, Reckoning, worth_of}

@@ -7,13 +7,13 @@ use Rattle.scr_num.specs.Rounding.{Ends, ends, exact_ends}
 use Rattle.scr_num.specs.Sizes.{AreTogether}
 use Rattle.scr_num.specs.Sums.{sum_ends}
 use Rattle.scr_num.specs.declared.span.Span.{Span}
-use Rattle.scr_blocks.specs.Blocks.{blocks_at, blocks_over, parts}
-use Rattle.scr_blocks.specs.declared.blocks.Level.{Level}
-use Rattle.scr_blocks.specs.declared.blocks.Level.TheVariants as levels
+use Rattle.scr_sum_tree.specs.Blocks.{blocks_at, blocks_over, parts}
+use Rattle.scr_sum_tree.specs.declared.blocks.Level.{Level}
+use Rattle.scr_sum_tree.specs.declared.blocks.Level.TheVariants as levels
 use Rattle.scr_factors.specs.Values.{IsInForm}
-use Rattle.scr_figures.specs.Families.{family_of}
-use Rattle.scr_figures.proofs.Zipped.{all-back, all-front, zip-append}
-use Rattle.scr_lists.specs.Lists.{first_of}
+use Rattle.scr_figure_ids.specs.Families.{family_of}
+use Rattle.scr_figure_ids.proofs.Zipped.{all-back, all-front, zip-append}
+use Rattle.scr_member_index.specs.Lists.{first_of}
 use Rattle.scr_sheet.specs.Members.{table_of}
 use Rattle.scr_nodes.specs.Live.{is_live}
 use Rattle.scr_nodes.specs.Sources.{sources_of}
@@ -23,18 +23,18 @@ use Rattle.scr_nodes.specs.declared.node.Node.TheVariants as nodes
 use Rattle.scr_nodes.specs.declared.node.OfCurrency.TheVariants as of_currencies
 use Rattle.scr_nodes.specs.declared.node.OfGroup.TheVariants as of_groups
 use Rattle.scr_nodes.specs.declared.node.Whole.TheVariants as wholes
-use Rattle.scr_reach.specs.Graph.{IsLive}
-use Rattle.scr_reach.specs.Linked.{AreAt}
-use Rattle.scr_subtotals.specs.Figures.{ends_at, members_ends}
-use Rattle.scr_subtotals.specs.Written.{any_block_open, any_open, blocks_ends, is_open_at, number_of}
-use Rattle.scr_subtotals.specs.declared.figure.Figure.{Figure}
-use Rattle.scr_subtotals.specs.declared.writing.Subtotals.{Subtotals}
-use Rattle.scr_sums.specs.Books.{rolled_of}
-use Rattle.scr_sums.specs.Graph.{block_point, member_point, reads, roll_in, sources_in, tops_of}
-use Rattle.scr_sums.specs.Sums.{first_sum, member_of, roll_of, second_sum}
-use Rattle.scr_sums.specs.declared.point.Point.{Point}
-use Rattle.scr_sums.specs.declared.point.Point.TheVariants as points
-use Rattle.scr_sums.specs.declared.sum.Sum.{Sum}
+use Rattle.scr_reachability.specs.Graph.{IsLive}
+use Rattle.scr_reachability.specs.Linked.{AreAt}
+use Rattle.scr_partial_sums.specs.Figures.{ends_at, members_ends}
+use Rattle.scr_partial_sums.specs.Written.{any_block_open, any_open, blocks_ends, is_open_at, number_of}
+use Rattle.scr_partial_sums.specs.declared.figure.Figure.{Figure}
+use Rattle.scr_partial_sums.specs.declared.writing.Subtotals.{Subtotals}
+use Rattle.scr_block_graph.specs.Books.{rolled_of}
+use Rattle.scr_block_graph.specs.Graph.{block_point, member_point, reads, roll_in, sources_in, tops_of}
+use Rattle.scr_block_graph.specs.Sums.{first_sum, member_of, roll_of, second_sum}
+use Rattle.scr_block_graph.specs.declared.point.Point.{Point}
+use Rattle.scr_block_graph.specs.declared.point.Point.TheVariants as points
+use Rattle.scr_block_graph.specs.declared.sum.Sum.{Sum}
 use Rattle.scr_tree.specs.Adding.{AreKnownAt, IsAddedUp, blocks_among, worked_of}
 use Rattle.scr_tree.specs.Figures.{HasFigure, HaveFigures, Reckoning, opens, worth_of}
 use Rattle.scr_tree.specs.Points.{book_graph}

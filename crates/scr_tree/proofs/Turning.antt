@@ -6,14 +6,14 @@ use Rattle.std.proofs.lemmas.Bool.{cases_Bool, cases_lt, eq-eqb, eqb-true}
 use Rattle.std.proofs.lemmas.List.{drop_all, drop_more}
 use Rattle.std.proofs.lemmas.Option.{get_or_from_slice_get, slice_get_within}
 use Rattle.scr_funds.proofs.Members.{IsMember, IsMember-from_Contains, Contains-from_IsMember, at_member, each-from_members}
-use Rattle.scr_reach.specs.Dues.{IsLiveAt}
-use Rattle.scr_reach.specs.Graph.{Graph, IsLive}
-use Rattle.scr_reach.specs.Linked.{AreAt}
-use Rattle.scr_reach.proofs.Placed.{get-contains}
+use Rattle.scr_reachability.specs.LinkedDues.{IsLiveAt}
+use Rattle.scr_reachability.specs.Graph.{Graph, IsLive}
+use Rattle.scr_reachability.specs.Linked.{AreAt}
+use Rattle.scr_reachability.proofs.Placed.{get-contains}
 use Rattle.scr_tree.specs.Figures.{AreKnownOf, AreSettled, HasFigure, HaveFigures, Reckoning, worth_of}
 use Rattle.scr_tree.specs.Order.{IsOrder, start_of}
 use Rattle.scr_tree.specs.Ready.{AreInTurn, IsNoneOf, IsReady, IsRight, IsUp}
-use Rattle.scr_subtotals.specs.declared.figure.Figure.{Figure}
+use Rattle.scr_partial_sums.specs.declared.figure.Figure.{Figure}
 use Rattle.scr_tree.proofs.Known.{known-have, known-put, known-weaker}
 
 -- ---- places in a list

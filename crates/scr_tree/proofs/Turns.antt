@@ -2,15 +2,15 @@
 use Rattle.std.proofs.Common.{◌≡◌, ◌⊎◌, inl, inr, ℕ, zero, suc, ◌+◌, ◌<◌, ◌≤◌, true, false, nat_eq, Some, length, slice_get, refl, sym, ap, subst, ◌∙◌, arith}
 use Rattle.std.proofs.lemmas.Bool.{eqb-true, eq-eqb}
 use Rattle.std.proofs.lemmas.Option.{slice_get_within}
-use Rattle.scr_names.proofs.TableRows.{passes_or_fails}
-use Rattle.scr_figures.specs.Families.{family_of, name_of, table_of, whole_family}
-use Rattle.scr_figures.specs.Numbers.{IsNumbered, names_in}
-use Rattle.scr_figures.proofs.Live.{live-stands, named-once}
-use Rattle.scr_figures.proofs.RowNames.{placed-at}
-use Rattle.scr_figures.proofs.Told.{told}
-use Rattle.scr_numbers.specs.Ranges.{Numbered, stride}
-use Rattle.scr_numbers.specs.declared.table.Table.{Table}
-use Rattle.scr_numbers.specs.declared.table.Table.TheVariants as tables
+use Rattle.scr_tables.proofs.TableRows.{passes_or_fails}
+use Rattle.scr_figure_ids.specs.Families.{family_of, name_of, table_of, whole_family}
+use Rattle.scr_figure_ids.specs.Numbers.{IsNumbered, names_in}
+use Rattle.scr_figure_ids.proofs.Live.{live-stands, named-once}
+use Rattle.scr_figure_ids.proofs.RowNames.{placed-at}
+use Rattle.scr_figure_ids.proofs.Told.{told}
+use Rattle.scr_ids.specs.Ranges.{Numbered, stride}
+use Rattle.scr_ids.specs.declared.table.Table.{Table}
+use Rattle.scr_ids.specs.declared.table.Table.TheVariants as tables
 use Rattle.scr_sheet.specs.declared.sheet.BalanceSheet.{BalanceSheet}
 use Rattle.scr_sheet.specs.Validity.{Valid}
 use Rattle.scr_nodes.specs.Live.{is_live}

@@ -1,15 +1,15 @@
 -- Securities that no fund holds: nothing is linked to their totals.
 use Rattle.std.proofs.Common.{◌≡◌, ℕ, suc, ◌+◌, ◌==◌, ◌||◌, Bool, true, false, cond, not, List, [], ◌∷◌, filter, length, map, Some, slice_get, refl, sym, ap, subst, append-nil, arith}
 use Rattle.std.specs.List.{list_any}
-use Rattle.scr_figures.specs.Numbers.{StandsAt}
-use Rattle.scr_figures.specs.Places.{places_where}
+use Rattle.scr_figure_ids.specs.Numbers.{StandsAt}
+use Rattle.scr_figure_ids.specs.Places.{places_where}
 use Rattle.scr_links.specs.Edges.{Linked}
-use Rattle.scr_numbers.specs.Ranges.{first}
-use Rattle.scr_numbers.specs.declared.table.Table.TheVariants as tables
+use Rattle.scr_ids.specs.Ranges.{first}
+use Rattle.scr_ids.specs.declared.table.Table.TheVariants as tables
 use Rattle.scr_sheet.specs.declared.rows.Position.{Position}
 use Rattle.scr_nodes.specs.Rows.{holds}
 use Rattle.scr_nodes.specs.Sources.{fund_total, security_total}
-use Rattle.scr_reach.specs.Linked.{AreAt, sources_in}
+use Rattle.scr_reachability.specs.Linked.{AreAt, sources_in}
 use Rattle.scr_tree.specs.First.{AreLinkedTo, IsLinkGround}
 use Rattle.scr_tree.specs.Turns.{turn}
 use Rattle.scr_tree.specs.declared.making.LinkGround.{LinkGround}

@@ -5,7 +5,7 @@ use Rattle.scr_funds.proofs.Members.{IsMember, IsMember-map, Contains-from_IsMem
 use Rattle.scr_num.specs.Rounding.{Ends}
 use Rattle.scr_num.specs.Sums.{sum_ends}
 use Rattle.scr_factors.specs.Values.{FactorValues}
-use Rattle.scr_numbers.specs.declared.table.Table.TheVariants as tables
+use Rattle.scr_ids.specs.declared.table.Table.TheVariants as tables
 use Rattle.scr_sheet.specs.Validity.{Valid}
 use Rattle.scr_nodes.specs.declared.node.Node.{Node}
 use Rattle.scr_nodes.specs.declared.node.Node.TheVariants as nodes
@@ -13,16 +13,16 @@ use Rattle.scr_nodes.specs.declared.node.OfFund.{OfFund}
 use Rattle.scr_nodes.specs.Sources.{sources_of}
 use Rattle.scr_nodes.proofs.Depth.{EndsIn, sources-end}
 use Rattle.scr_nodes.proofs.Reckoning.{map-same}
-use Rattle.scr_figures.specs.Families.{table_of}
+use Rattle.scr_figure_ids.specs.Families.{table_of}
 use Rattle.scr_rules.specs.Close.{close_under}
 use Rattle.scr_rules.specs.Discounts.{own_discounts}
 use Rattle.scr_rules.specs.Rules.{rule}
 use Rattle.scr_rules.specs.Worked.{worked}
-use Rattle.scr_sums.specs.Changed.{IsSameIn}
-use Rattle.scr_sums.specs.Graph.{AreRolls, Rolled, sources_in, worth_in}
-use Rattle.scr_sums.specs.Levels.{level_in}
-use Rattle.scr_sums.specs.declared.point.Point.{Point}
-use Rattle.scr_sums.specs.declared.point.Point.TheVariants as points
+use Rattle.scr_block_graph.specs.Changed.{IsSameIn}
+use Rattle.scr_block_graph.specs.Graph.{AreRolls, Rolled, sources_in, worth_in}
+use Rattle.scr_block_graph.specs.Levels.{level_in}
+use Rattle.scr_block_graph.specs.declared.point.Point.{Point}
+use Rattle.scr_block_graph.specs.declared.point.Point.TheVariants as points
 use Rattle.scr_tree.specs.Figures.{opens}
 use Rattle.scr_tree.specs.Opening.{opens_at}
 use Rattle.scr_tree.specs.Points.{IsFundPoint, point_worth}

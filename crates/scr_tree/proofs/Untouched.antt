@@ -10,12 +10,12 @@ use Rattle.scr_nodes.specs.declared.node.Node.{Node}
 use Rattle.scr_book.specs.RolledSheets.{RolledSheet}
 use Rattle.scr_touched.specs.Touched.{AreTouched}
 use Rattle.scr_touched.proofs.Whole.{all-touched}
-use Rattle.scr_sums.specs.Books.{rolled_of}
-use Rattle.scr_sums.specs.Changed.{IsSameIn}
-use Rattle.scr_sums.specs.Graph.{AreRolls, Rolled, is_live_in}
-use Rattle.scr_sums.specs.Touched.{applied_in}
-use Rattle.scr_sums.specs.declared.point.Point.{Point}
-use Rattle.scr_sums.proofs.Untouched.{untouched-same}
+use Rattle.scr_block_graph.specs.Books.{rolled_of}
+use Rattle.scr_block_graph.specs.Changed.{IsSameIn}
+use Rattle.scr_block_graph.specs.Graph.{AreRolls, Rolled, is_live_in}
+use Rattle.scr_block_graph.specs.Touched.{applied_in}
+use Rattle.scr_block_graph.specs.declared.point.Point.{Point}
+use Rattle.scr_block_graph.proofs.Untouched.{untouched-same}
 use Rattle.scr_tree.specs.Changed.{IsTakenFrom}
 use Rattle.scr_tree.specs.declared.edits.Taken.{Taken}
 

@@ -3,10 +3,10 @@ use Rattle.scr_funds.proofs.Members.{Contains-from_IsMember, each-from_members}
 use Rattle.scr_book.specs.RolledSheets.{RolledSheet}
 use Rattle.scr_book.specs.Rolls.{AreRollsOf}
 use Rattle.scr_book.proofs.RollSteps.{distinct-kept}
-use Rattle.scr_sums.specs.Books.{rolled_of}
-use Rattle.scr_sums.specs.Graph.{AreRolls, sources_in}
-use Rattle.scr_sums.proofs.Lives.{sources-live-in}
-use Rattle.scr_reach.specs.Graph.{IsLive}
+use Rattle.scr_block_graph.specs.Books.{rolled_of}
+use Rattle.scr_block_graph.specs.Graph.{AreRolls, sources_in}
+use Rattle.scr_block_graph.proofs.Lives.{sources-live-in}
+use Rattle.scr_reachability.specs.Graph.{IsLive}
 use Rattle.scr_tree.specs.Points.{book_graph}
 use Rattle.scr_tree.specs.Ready.{IsBasis, IsUp, StandsOn}
 use Rattle.scr_tree.specs.declared.basis.Basis.{Basis}

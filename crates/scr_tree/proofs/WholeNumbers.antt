@@ -2,20 +2,20 @@
 use Rattle.std.proofs.Common.{◌≡◌, ℕ, ◌<◌, true, List, Some, slice_get, subst, sym, ap, arith, refl}
 use Rattle.std.specs.Option.{option_map}
 use Rattle.scr_factors.specs.Values.{FactorValues}
-use Rattle.scr_numbers.specs.Ranges.{IsAt, Numbered, count, first}
-use Rattle.scr_numbers.specs.declared.table.Table.TheVariants as tables
+use Rattle.scr_ids.specs.Ranges.{IsAt, Numbered, count, first}
+use Rattle.scr_ids.specs.declared.table.Table.TheVariants as tables
 use Rattle.scr_sheet.specs.declared.sheet.BalanceSheet.{BalanceSheet}
 use Rattle.scr_book.specs.RolledSheets.{RolledSheet}
-use Rattle.scr_lists.specs.declared.lists.Lists.{Lists}
+use Rattle.scr_member_index.specs.declared.lists.Lists.{Lists}
 use Rattle.scr_nodes.specs.Live.{is_live}
 use Rattle.scr_nodes.specs.declared.node.Node.TheVariants as nodes
 use Rattle.scr_nodes.specs.declared.node.Whole.{Whole}
-use Rattle.scr_figures.specs.Families.{whole_family}
-use Rattle.scr_figures.specs.Numbers.{IsNumbered, StandsAt}
-use Rattle.scr_figures.proofs.Live.{live-stands}
-use Rattle.scr_subtotals.specs.declared.figure.Figure.{Figure}
-use Rattle.scr_sums.specs.Books.{rolled_of}
-use Rattle.scr_sums.specs.declared.point.Point.TheVariants as points
+use Rattle.scr_figure_ids.specs.Families.{whole_family}
+use Rattle.scr_figure_ids.specs.Numbers.{IsNumbered, StandsAt}
+use Rattle.scr_figure_ids.proofs.Live.{live-stands}
+use Rattle.scr_partial_sums.specs.declared.figure.Figure.{Figure}
+use Rattle.scr_block_graph.specs.Books.{rolled_of}
+use Rattle.scr_block_graph.specs.declared.point.Point.TheVariants as points
 use Rattle.scr_tree.specs.Figures.{AreSettled, worth_at, worth_of}
 use Rattle.scr_tree.specs.Points.{StandsIn, book_reckoning}
 use Rattle.scr_tree.specs.Standing.{Standing, standing_on}

@@ -7,12 +7,12 @@ use Rattle.std.proofs.lemmas.List.{append-nil, append_assoc, drop_more, flat_map
 use Rattle.std.proofs.lemmas.Option.{get_or_from_slice_get, slice_get_within}
 use Rattle.scr_num.specs.Rounding.{ends}
 use Rattle.scr_num.specs.declared.span.Span.{Span}
-use Rattle.scr_figures.specs.Families.{family_of, name_of, table_of}
-use Rattle.scr_figures.specs.Numbers.{IsNumbered, StandsAt, names_in}
-use Rattle.scr_figures.proofs.Live.{live-stands}
-use Rattle.scr_figures.proofs.Standing.{stands}
-use Rattle.scr_numbers.specs.Ranges.{IsApart, IsAt, IsOne, IsWithin, Numbered, count, first, stride}
-use Rattle.scr_numbers.specs.declared.table.Table.TheVariants as tables
+use Rattle.scr_figure_ids.specs.Families.{family_of, name_of, table_of}
+use Rattle.scr_figure_ids.specs.Numbers.{IsNumbered, StandsAt, names_in}
+use Rattle.scr_figure_ids.proofs.Live.{live-stands}
+use Rattle.scr_figure_ids.proofs.Standing.{stands}
+use Rattle.scr_ids.specs.Ranges.{IsApart, IsAt, IsOne, IsWithin, Numbered, count, first, stride}
+use Rattle.scr_ids.specs.declared.table.Table.TheVariants as tables
 use Rattle.scr_sheet.specs.BalanceSheet.{group_name, liability_name, position_name}
 use Rattle.scr_sheet.specs.declared.sheet.BalanceSheet.{BalanceSheet}
 use Rattle.scr_nodes.specs.Live.{is_live}
@@ -20,20 +20,20 @@ use Rattle.scr_nodes.specs.declared.node.Node.{Node}
 use Rattle.scr_nodes.specs.declared.node.Node.TheVariants as nodes
 use Rattle.scr_nodes.specs.declared.node.OfSecurity.TheVariants as of_securities
 use Rattle.scr_nodes.specs.declared.node.Whole.TheVariants as wholes
-use Rattle.scr_pieces.specs.Rows.{AreAllRows, Row, all_rows, row, rows_from, rows_in, rows_of, same_row, sort_number, times_row}
-use Rattle.scr_pieces.specs.Rows as in_pieces
-use Rattle.scr_pieces.specs.declared.rows.Part.{Part}
-use Rattle.scr_pieces.specs.declared.rows.Piece.{Piece}
-use Rattle.scr_pieces.specs.declared.rows.Sort.{Sort}
-use Rattle.scr_pieces.specs.declared.rows.Sort.TheVariants as sorts
-use Rattle.scr_pieces.proofs.Counted.{all-once, times_row-append}
+use Rattle.scr_parallel.specs.Rows.{AreAllRows, Row, all_rows, row, rows_from, rows_in, rows_of, same_row, sort_number, times_row}
+use Rattle.scr_parallel.specs.Rows as in_pieces
+use Rattle.scr_parallel.specs.declared.rows.Part.{Part}
+use Rattle.scr_parallel.specs.declared.rows.Piece.{Piece}
+use Rattle.scr_parallel.specs.declared.rows.Sort.{Sort}
+use Rattle.scr_parallel.specs.declared.rows.Sort.TheVariants as sorts
+use Rattle.scr_parallel.proofs.Counted.{all-once, times_row-append}
 use Rattle.scr_rules.specs.Worked.{worked}
 use Rattle.scr_tree.specs.Figures.{AreKnownOf, HasFigure, reckoning_of, worth_of}
 use Rattle.scr_tree.specs.First.{AreDoneTo, AreReckonedTo, AreRowsDone, IsGround}
 use Rattle.scr_tree.specs.RowSpans.{IsOfRow, IsRowOf, row_count, sort_table}
 use Rattle.scr_tree.specs.Turns.{IsBefore, turn}
 use Rattle.scr_tree.specs.Written.{IsOfRows, IsWrittenAt, IsWrittenOf, is_by_row, plain_of, rows_among}
-use Rattle.scr_subtotals.specs.declared.figure.Figure.{Figure}
+use Rattle.scr_partial_sums.specs.declared.figure.Figure.{Figure}
 use Rattle.scr_tree.specs.declared.making.Ground.{Ground}
 use Rattle.scr_tree.proofs.BlockTurns.{blocks-kept, blocks-rows}
 use Rattle.scr_tree.proofs.Grounds.{late}

@@ -1,14 +1,14 @@
 -- What points come to together whose figures are known (this project's own).
 use Rattle.std.specs.Prelude.{◌≡◌, ◌-◌, ℕ, List, map}
 use Rattle.std.specs.List.{list_any, range_with_len}
-use Rattle.scr_blocks.specs.declared.blocks.Level.{Level}
+use Rattle.scr_sum_tree.specs.declared.blocks.Level.{Level}
 use Rattle.scr_num.specs.Rounding.{Ends, ends}
 use Rattle.scr_num.specs.Sums.{sum_ends}
-use Rattle.scr_reach.specs.Linked.{AreAt}
-use Rattle.scr_subtotals.specs.declared.figure.Figure.{Figure}
-use Rattle.scr_sums.specs.Graph.{block_point}
-use Rattle.scr_sums.specs.declared.point.Point.{Point}
-use Rattle.scr_sums.specs.declared.sum.Sum.{Sum}
+use Rattle.scr_reachability.specs.Linked.{AreAt}
+use Rattle.scr_partial_sums.specs.declared.figure.Figure.{Figure}
+use Rattle.scr_block_graph.specs.Graph.{block_point}
+use Rattle.scr_block_graph.specs.declared.point.Point.{Point}
+use Rattle.scr_block_graph.specs.declared.sum.Sum.{Sum}
 use Rattle.scr_tree.specs.Figures.{HaveFigures}
 use Rattle.scr_tree.specs.Ready.{StandsOn, reckoning_on}
 use Rattle.scr_tree.specs.declared.basis.Basis.{Basis}

@@ -4,8 +4,8 @@ use Rattle.scr_num.specs.Rounding.{ends}
 use Rattle.scr_nodes.specs.declared.node.Node.TheVariants as nodes
 use Rattle.scr_nodes.specs.declared.node.Whole.TheVariants as wholes
 use Rattle.scr_rules.specs.Rules.{amount_of}
-use Rattle.scr_subtotals.specs.declared.figure.Figure.{Figure}
-use Rattle.scr_sums.specs.declared.point.Point.TheVariants as points
+use Rattle.scr_partial_sums.specs.declared.figure.Figure.{Figure}
+use Rattle.scr_block_graph.specs.declared.point.Point.TheVariants as points
 use Rattle.scr_tree.specs.Figures.{worth_of}
 use Rattle.scr_tree.specs.Ready.{reckoning_on}
 use Rattle.scr_tree.specs.declared.basis.Basis.{Basis}

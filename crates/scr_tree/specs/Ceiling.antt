@@ -1,11 +1,11 @@
 -- A ceiling of what is held of each group, which is kept from one edit to the next (this project's own).
 use Rattle.std.specs.Prelude.{◌≡◌, ℕ, ◌<◌, List, Option, Some, None}
-use Rattle.scr_figures.specs.declared.steps.Step.{Step}
-use Rattle.scr_figures.specs.declared.steps.Step.TheVariants as steps
-use Rattle.scr_numbers.specs.Ranges.{IsAt, Numbered, count, first}
-use Rattle.scr_numbers.specs.declared.table.Table.TheVariants as ranged
-use Rattle.scr_subtotals.specs.Tables.{IsAmountBeforeNothing}
-use Rattle.scr_subtotals.specs.declared.figure.Figure.{Figure}
+use Rattle.scr_figure_ids.specs.declared.steps.Step.{Step}
+use Rattle.scr_figure_ids.specs.declared.steps.Step.TheVariants as steps
+use Rattle.scr_ids.specs.Ranges.{IsAt, Numbered, count, first}
+use Rattle.scr_ids.specs.declared.table.Table.TheVariants as ranged
+use Rattle.scr_partial_sums.specs.Tables.{IsAmountBeforeNothing}
+use Rattle.scr_partial_sums.specs.declared.figure.Figure.{Figure}
 use Rattle.scr_tree.specs.Order.{IsJournaled}
 use Rattle.scr_tree.specs.declared.journal.Former.{Former}
 

@@ -3,7 +3,7 @@ use Rattle.std.specs.Prelude.{◌≡◌, ◌↔◌, ◌⊎◌, ℕ, ◌+◌, ◌
 use Rattle.std.specs.Global.{Global}
 use Rattle.std.specs.List.{IsDistinct}
 use Rattle.std.specs.Option.{option_map_or}
-use Rattle.scr_blocks.specs.Blocks.{HasEachOnce}
+use Rattle.scr_sum_tree.specs.Blocks.{HasEachOnce}
 use Rattle.scr_factors.specs.Values.{FactorValues}
 use Rattle.scr_sheet.specs.Faults.{fault_of}
 use Rattle.scr_sheet.specs.Records.{applied}
@@ -14,30 +14,30 @@ use Rattle.scr_nodes.specs.declared.node.Node.{Node}
 use Rattle.scr_book.specs.RolledSheets.{AreRolled, RolledSheet}
 use Rattle.scr_book.specs.Rolls.{number_of_roll}
 use Rattle.scr_sheet.specs.declared.roll.Roll.{Roll}
-use Rattle.scr_numbers.specs.Ranges.{Numbered, count}
-use Rattle.scr_figures.specs.Numbers.{StandsAt}
-use Rattle.scr_figures.specs.Records.{step_of}
-use Rattle.scr_figures.specs.Steps.{Takes}
-use Rattle.scr_figures.specs.declared.steps.Step.{Step}
-use Rattle.scr_figures.specs.declared.steps.Step.TheVariants as steps
+use Rattle.scr_ids.specs.Ranges.{Numbered, count}
+use Rattle.scr_figure_ids.specs.Numbers.{StandsAt}
+use Rattle.scr_figure_ids.specs.Records.{step_of}
+use Rattle.scr_figure_ids.specs.Steps.{Takes}
+use Rattle.scr_figure_ids.specs.declared.steps.Step.{Step}
+use Rattle.scr_figure_ids.specs.declared.steps.Step.TheVariants as steps
 use Rattle.scr_discounts.specs.declared.known.Rates.{Rates}
 use Rattle.scr_discounts.specs.KeptRates.{all_rates, known_of}
-use Rattle.scr_lists.specs.Following.{AreFollowed, AreStill, CanBeTakenBack, CanFollow}
-use Rattle.scr_lists.specs.Lists.{HasLists, HaveRanges}
-use Rattle.scr_lists.specs.declared.standing.Move.{Move}
-use Rattle.scr_lists.specs.declared.standing.Stood.{Stood}
-use Rattle.scr_numbers.specs.declared.table.Table.TheVariants as ranged
-use Rattle.scr_parts.specs.Parts.{size_of}
-use Rattle.scr_lists.specs.Parting.{HasMoreParts}
-use Rattle.scr_lists.specs.Standing.{move_of, stood_of}
-use Rattle.scr_lists.specs.declared.lists.Lists.{Lists}
-use Rattle.scr_reach.specs.Dues.{AreStarts}
-use Rattle.scr_reach.specs.Leading.{IsCountOf, IsInReach}
-use Rattle.scr_reach.specs.Linked.{sources_in}
-use Rattle.scr_sums.specs.Books.{rolled_of}
-use Rattle.scr_sums.specs.Graph.{Rolled, is_live_in}
-use Rattle.scr_sums.specs.Touched.{IsTouchedIn}
-use Rattle.scr_sums.specs.declared.point.Point.{Point}
+use Rattle.scr_member_index.specs.Following.{AreFollowed, AreStill, CanBeTakenBack, CanFollow}
+use Rattle.scr_member_index.specs.Lists.{HasLists, HaveRanges}
+use Rattle.scr_member_index.specs.declared.standing.Move.{Move}
+use Rattle.scr_member_index.specs.declared.standing.Stood.{Stood}
+use Rattle.scr_ids.specs.declared.table.Table.TheVariants as ranged
+use Rattle.scr_sum_slots.specs.Parts.{size_of}
+use Rattle.scr_member_index.specs.Parting.{HasMoreParts}
+use Rattle.scr_member_index.specs.Standing.{move_of, stood_of}
+use Rattle.scr_member_index.specs.declared.lists.Lists.{Lists}
+use Rattle.scr_reachability.specs.LinkedDues.{AreStarts}
+use Rattle.scr_reachability.specs.Leading.{IsCountOf, IsInReach}
+use Rattle.scr_reachability.specs.Linked.{sources_in}
+use Rattle.scr_block_graph.specs.Books.{rolled_of}
+use Rattle.scr_block_graph.specs.Graph.{Rolled, is_live_in}
+use Rattle.scr_block_graph.specs.Touched.{IsTouchedIn}
+use Rattle.scr_block_graph.specs.declared.point.Point.{Point}
 use Rattle.scr_tree.specs.Ceiling.{IsCeiling}
 use Rattle.scr_tree.specs.Figures.{AreKnownOf, AreSettled}
 use Rattle.scr_tree.specs.KeptRates.{keeps_rates}

@@ -11,10 +11,10 @@ use Rattle.scr_nodes.specs.declared.node.OfCurrency.TheVariants as of_currencies
 use Rattle.scr_nodes.specs.declared.node.Whole.TheVariants as wholes
 use Rattle.scr_rules.specs.Close.{close_under, is_open}
 use Rattle.scr_rules.specs.Worked.{worked}
-use Rattle.scr_reach.specs.Graph.{Graph}
+use Rattle.scr_reachability.specs.Graph.{Graph}
 use Rattle.scr_tree.specs.Graphs.{graph_of}
 use Rattle.scr_tree.specs.declared.figures.Below.{Below}
-use Rattle.scr_subtotals.specs.declared.figure.Figure.{Figure}
+use Rattle.scr_partial_sums.specs.declared.figure.Figure.{Figure}
 
 -- what a figure comes to, and whether it rests on an open choice
 pub record Worth : Type 0 where

@@ -2,10 +2,10 @@
 use Rattle.std.specs.Prelude.{◌≡◌, ◌⊎◌, ℕ, ◌<◌, ◌≤◌, ◌++◌, true, false, All, Contains, List, None, Option, Some, length, map, nat_eq, slice_get}
 use Rattle.scr_discounts.specs.KeptRates.{all_rates, known_of}
 use Rattle.scr_factors.specs.Values.{FactorValues, IsInForm}
-use Rattle.scr_figures.specs.Numbers.{IsNumbered, StandsAt}
-use Rattle.scr_figures.specs.Gathered.{AreMembersOf}
+use Rattle.scr_figure_ids.specs.Numbers.{IsNumbered, StandsAt}
+use Rattle.scr_figure_ids.specs.Gathered.{AreMembersOf}
 use Rattle.scr_links.specs.Edges.{Linked}
-use Rattle.scr_numbers.specs.Ranges.{Numbered}
+use Rattle.scr_ids.specs.Ranges.{Numbered}
 use Rattle.scr_rules.specs.ByRow.{IsEstimateOf}
 use Rattle.scr_rules.specs.GroupLosses.{AreLossesOf}
 use Rattle.scr_rules.specs.declared.liability_rows.Estimate.{Estimate}
@@ -13,13 +13,13 @@ use Rattle.scr_sheet.specs.declared.rows.Liability.{Liability}
 use Rattle.scr_sheet.specs.declared.sheet.BalanceSheet.{BalanceSheet}
 use Rattle.scr_sheet.specs.Totals.{total_of}
 use Rattle.scr_sheet.specs.Validity.{Valid}
-use Rattle.scr_totals.specs.ByNumber.{names_by_number}
+use Rattle.scr_look_through.specs.ByNumber.{names_by_number}
 use Rattle.scr_nodes.specs.declared.node.Node.{Node}
-use Rattle.scr_reach.specs.Linked.{AreLinkedOf, AreNumbers, edges_to, sources_in}
+use Rattle.scr_reachability.specs.Linked.{AreLinkedOf, AreNumbers, edges_to, sources_in}
 use Rattle.scr_tree.specs.Figures.{AreKnownOf, AreSettled, reckoning_of}
 use Rattle.scr_tree.specs.Inputs.{AreOfBook}
 use Rattle.scr_tree.specs.Turns.{IsBefore, Turn, turn}
-use Rattle.scr_subtotals.specs.declared.figure.Figure.{Figure}
+use Rattle.scr_partial_sums.specs.declared.figure.Figure.{Figure}
 use Rattle.scr_tree.specs.declared.first.{Found.Found, Gathered.Gathered, Numbering.Numbering}
 use Rattle.scr_tree.specs.declared.graph.Numbers.{Numbers}
 use Rattle.scr_tree.specs.declared.making.Ground.{Ground}
@@ -27,21 +27,21 @@ use Rattle.scr_tree.specs.declared.making.LinkGround.{LinkGround}
 use Rattle.scr_tree.specs.declared.making.LinkedGround.{LinkedGround}
 use Rattle.scr_tree.specs.Graphs.{graph_of}
 use Rattle.scr_book.specs.RolledSheets.{RolledSheet}
-use Rattle.scr_blocks.specs.declared.blocks.Level.TheVariants as levels
-use Rattle.scr_lists.specs.Lists.{AreListsOf}
-use Rattle.scr_parts.specs.Parts.{Parted, slot_of}
+use Rattle.scr_sum_tree.specs.declared.blocks.Level.TheVariants as levels
+use Rattle.scr_member_index.specs.Lists.{AreListsOf}
+use Rattle.scr_sum_slots.specs.Parts.{Parted, slot_of}
 use Rattle.scr_sheet.specs.declared.roll.Roll.{Roll}
 use Rattle.scr_sheet.specs.declared.roll.Roll.TheVariants as rolls
 use Rattle.scr_tree.specs.Reading.{IsRollOf}
-use Rattle.scr_lists.specs.declared.lists.Lists.{Lists}
-use Rattle.scr_sums.specs.Books.{rolled_of}
-use Rattle.scr_sums.specs.Graph.{Rolled, member_point, roll_in}
-use Rattle.scr_sums.specs.Sums.{first_sum, reader_of, second_sum}
-use Rattle.scr_sums.specs.declared.point.Block.{Block}
-use Rattle.scr_sums.specs.declared.point.Point.{Point}
-use Rattle.scr_sums.specs.declared.point.Point.TheVariants as points
-use Rattle.scr_sums.specs.declared.sum.Sum.{Sum}
-use Rattle.scr_sums.specs.declared.sum.Sum.TheVariants as sums
+use Rattle.scr_member_index.specs.declared.lists.Lists.{Lists}
+use Rattle.scr_block_graph.specs.Books.{rolled_of}
+use Rattle.scr_block_graph.specs.Graph.{Rolled, member_point, roll_in}
+use Rattle.scr_block_graph.specs.Sums.{first_sum, reader_of, second_sum}
+use Rattle.scr_block_graph.specs.declared.point.Block.{Block}
+use Rattle.scr_block_graph.specs.declared.point.Point.{Point}
+use Rattle.scr_block_graph.specs.declared.point.Point.TheVariants as points
+use Rattle.scr_block_graph.specs.declared.sum.Sum.{Sum}
+use Rattle.scr_block_graph.specs.declared.sum.Sum.TheVariants as sums
 use Rattle.scr_tree.specs.Points.{AreNumbersOf, IsLinkedPoint, StandsIn, book_graph, book_reckoning, is_linked}
 
 -- ---- what is made

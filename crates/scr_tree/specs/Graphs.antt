@@ -1,12 +1,12 @@
 -- The figures of a balance sheet as a graph (this project's own).
 use Rattle.std.specs.Prelude.{◌≡◌}
-use Rattle.scr_numbers.specs.declared.table.Table.TheVariants as tables
+use Rattle.scr_ids.specs.declared.table.Table.TheVariants as tables
 use Rattle.scr_sheet.specs.declared.sheet.BalanceSheet.{BalanceSheet}
 use Rattle.scr_nodes.specs.declared.node.Node.{Node}
 use Rattle.scr_nodes.specs.Live.{is_live}
 use Rattle.scr_nodes.specs.Sources.{sources_of}
-use Rattle.scr_figures.specs.Families.{table_of}
-use Rattle.scr_reach.specs.Graph.{Graph}
+use Rattle.scr_figure_ids.specs.Families.{table_of}
+use Rattle.scr_reachability.specs.Graph.{Graph}
 
 -- which figures the balance sheet has, and what each is reckoned from
 abbrev pub graph_of : BalanceSheet → Graph Node

@@ -1,25 +1,25 @@
 -- What is marked as reckoned from a point (this project's own).
 use Rattle.std.specs.Prelude.{◌≡◌, ◌↔◌, ◌⊎◌, ◌<◌, ℕ, Bool, true, false, List, Contains, Some, nat_eq, length, slice_get}
 use Rattle.std.specs.List.{IsDistinct}
-use Rattle.scr_blocks.specs.declared.readers.Reader.{Reader}
-use Rattle.scr_blocks.specs.declared.readers.Reader.TheVariants as readers
+use Rattle.scr_sum_tree.specs.declared.readers.Reader.{Reader}
+use Rattle.scr_sum_tree.specs.declared.readers.Reader.TheVariants as readers
 use Rattle.scr_book.specs.RolledSheets.{RolledSheet}
-use Rattle.scr_numbers.specs.Ranges.{Numbered}
+use Rattle.scr_ids.specs.Ranges.{Numbered}
 use Rattle.scr_nodes.specs.declared.node.Node.TheVariants as nodes
 use Rattle.scr_nodes.specs.declared.node.OfGroup.TheVariants as of_groups
 use Rattle.scr_nodes.specs.declared.node.Whole.TheVariants as wholes
-use Rattle.scr_lists.specs.declared.lists.Lists.{Lists}
-use Rattle.scr_reach.specs.Leading.{Leads}
-use Rattle.scr_sums.specs.Books.{rolled_of}
-use Rattle.scr_sums.specs.Graph.{is_live_in, member_point, roll_in, sources_in}
-use Rattle.scr_sums.specs.Reading.{IsReading, ReadsMember}
-use Rattle.scr_sums.specs.Sums.{roll_of}
-use Rattle.scr_sums.specs.declared.sum.Sum.TheVariants as sums
+use Rattle.scr_member_index.specs.declared.lists.Lists.{Lists}
+use Rattle.scr_reachability.specs.Leading.{Leads}
+use Rattle.scr_block_graph.specs.Books.{rolled_of}
+use Rattle.scr_block_graph.specs.Graph.{is_live_in, member_point, roll_in, sources_in}
+use Rattle.scr_block_graph.specs.Reading.{IsReading, ReadsMember}
+use Rattle.scr_block_graph.specs.Sums.{roll_of}
+use Rattle.scr_block_graph.specs.declared.sum.Sum.TheVariants as sums
 use Rattle.scr_book.specs.Places.{names_in}
 use Rattle.scr_sheet.specs.Members.{table_of}
-use Rattle.scr_sums.specs.declared.point.Point.{Point}
-use Rattle.scr_sums.specs.declared.point.Point.TheVariants as points
-use Rattle.scr_sums.specs.declared.sum.Sum.{Sum}
+use Rattle.scr_block_graph.specs.declared.point.Point.{Point}
+use Rattle.scr_block_graph.specs.declared.point.Point.TheVariants as points
+use Rattle.scr_block_graph.specs.declared.sum.Sum.{Sum}
 use Rattle.scr_tree.specs.Points.{IsLinkedPoint, StandsIn, book_graph}
 
 -- just those are marked more of which it holds, each once; what was marked stands where it stood

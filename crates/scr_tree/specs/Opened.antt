@@ -4,7 +4,7 @@ use Rattle.scr_factors.specs.Values.{FactorValues}
 use Rattle.scr_sheet.specs.Validity.{Valid}
 use Rattle.scr_book.specs.RolledSheets.{RolledSheet}
 use Rattle.scr_discounts.specs.KeptRates.{known_of, all_rates}
-use Rattle.scr_sums.specs.Books.{rolled_of}
+use Rattle.scr_block_graph.specs.Books.{rolled_of}
 use Rattle.scr_tree.specs.Figures.{AreSettled}
 use Rattle.scr_tree.specs.Points.{IsGraphOf, StandsIn, book_reckoning}
 use Rattle.scr_tree.specs.declared.first.Opened.{Opened}

@@ -5,8 +5,8 @@ use Rattle.scr_tree.specs.Figures.{opens}
 use Rattle.scr_factors.specs.Values.{FactorValues}
 use Rattle.scr_sheet.specs.declared.sheet.BalanceSheet.{BalanceSheet}
 use Rattle.scr_rules.specs.Close.{is_open_choice}
-use Rattle.scr_sums.specs.declared.point.Point.{Point}
-use Rattle.scr_sums.specs.declared.point.Point.TheVariants as points
+use Rattle.scr_block_graph.specs.declared.point.Point.{Point}
+use Rattle.scr_block_graph.specs.declared.point.Point.TheVariants as points
 
 -- Whether a point is itself an open choice; a Block never is (own).
 abbrev pub opens_at : FactorValues → BalanceSheet → Point → Bool

@@ -1,9 +1,9 @@
 -- The order in which an edit reckons figures anew, and the old figures of those that it has (this project's own).
 use Rattle.std.specs.Prelude.{◌≡◌, ℕ, zero, suc, ◌<◌, ◌≤◌, List, [], ◌∷◌, Contains, Some, length, nat_eq, slice_get, slice_index_or, slice_set}
 use Rattle.std.specs.List.{AllByRecursion, IsDistinct}
-use Rattle.scr_reach.specs.Dues.{IsLiveAt}
-use Rattle.scr_reach.specs.Graph.{Graph}
-use Rattle.scr_subtotals.specs.declared.figure.Figure.{Figure}
+use Rattle.scr_reachability.specs.LinkedDues.{IsLiveAt}
+use Rattle.scr_reachability.specs.Graph.{Graph}
+use Rattle.scr_partial_sums.specs.declared.figure.Figure.{Figure}
 use Rattle.scr_tree.specs.declared.journal.Former.{Former}
 
 -- the numbers are cut into slices, each of which begins where the one before ends

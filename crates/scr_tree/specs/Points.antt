@@ -11,22 +11,22 @@ use Rattle.scr_nodes.specs.declared.node.Node.{Node}
 use Rattle.scr_nodes.specs.declared.node.Node.TheVariants as nodes
 use Rattle.scr_nodes.specs.declared.node.OfGroup.TheVariants as of_groups
 use Rattle.scr_nodes.specs.declared.node.OfSecurity.TheVariants as of_securities
-use Rattle.scr_numbers.specs.Ranges.{Numbered}
-use Rattle.scr_numbers.specs.declared.table.Table.TheVariants as tables
-use Rattle.scr_figures.specs.Families.{table_of}
-use Rattle.scr_figures.specs.Numbers.{IsNumbered, StandsAt}
-use Rattle.scr_lists.specs.Lists.{AreListsOf}
-use Rattle.scr_lists.specs.declared.lists.Lists.{Lists}
-use Rattle.scr_reach.specs.Graph.{Graph}
-use Rattle.scr_reach.specs.Linked.{AreLinkedOf, AreNumbers}
+use Rattle.scr_ids.specs.Ranges.{Numbered}
+use Rattle.scr_ids.specs.declared.table.Table.TheVariants as tables
+use Rattle.scr_figure_ids.specs.Families.{table_of}
+use Rattle.scr_figure_ids.specs.Numbers.{IsNumbered, StandsAt}
+use Rattle.scr_member_index.specs.Lists.{AreListsOf}
+use Rattle.scr_member_index.specs.declared.lists.Lists.{Lists}
+use Rattle.scr_reachability.specs.Graph.{Graph}
+use Rattle.scr_reachability.specs.Linked.{AreLinkedOf, AreNumbers}
 use Rattle.scr_rules.specs.Close.{close_under}
 use Rattle.scr_rules.specs.Worked.{worked}
-use Rattle.scr_sums.specs.Books.{rolled_of}
-use Rattle.scr_sums.specs.BlockNumbers.{PointAt}
-use Rattle.scr_sums.specs.Graph.{Rolled, is_live_in, sources_in, worth_in}
-use Rattle.scr_sums.specs.Sums.{first_sum}
-use Rattle.scr_sums.specs.declared.point.Point.{Point}
-use Rattle.scr_sums.specs.declared.point.Point.TheVariants as points
+use Rattle.scr_block_graph.specs.Books.{rolled_of}
+use Rattle.scr_block_graph.specs.BlockNumbers.{PointAt}
+use Rattle.scr_block_graph.specs.Graph.{Rolled, is_live_in, sources_in, worth_in}
+use Rattle.scr_block_graph.specs.Sums.{first_sum}
+use Rattle.scr_block_graph.specs.declared.point.Point.{Point}
+use Rattle.scr_block_graph.specs.declared.point.Point.TheVariants as points
 use Rattle.scr_tree.specs.Figures.{Reckoning, Worth}
 
 -- ---- the graph of a book, and what its points come to

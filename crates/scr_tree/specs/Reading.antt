@@ -9,15 +9,15 @@ use Rattle.scr_nodes.specs.declared.node.OfCurrency.TheVariants as of_currencies
 use Rattle.scr_sheet.specs.declared.keys.Table.{Table}
 use Rattle.scr_sheet.specs.declared.roll.Roll.{Roll}
 use Rattle.scr_sheet.specs.declared.sheet.BalanceSheet.{BalanceSheet}
-use Rattle.scr_rolls.specs.Members.{name_at}
-use Rattle.scr_rolls.specs.Seatings.{seat_at}
-use Rattle.scr_rolls.specs.declared.seats.Seats.{Seats}
+use Rattle.scr_member_lists.specs.Members.{name_at}
+use Rattle.scr_member_lists.specs.Seatings.{seat_at}
+use Rattle.scr_member_lists.specs.declared.seats.Seats.{Seats}
 use Rattle.scr_book.specs.Places.{names_in}
 use Rattle.scr_book.specs.Rolls.{KeptRolls, number_of_roll, seat_of_roll, seated_in}
-use Rattle.scr_sums.specs.BlockNumbers.{list_number}
-use Rattle.scr_sums.specs.Sums.{reader_of}
-use Rattle.scr_sums.specs.declared.sum.Sum.{Sum}
-use Rattle.scr_sums.specs.declared.sum.Sum.TheVariants as sums
+use Rattle.scr_block_graph.specs.BlockNumbers.{list_number}
+use Rattle.scr_block_graph.specs.Sums.{reader_of}
+use Rattle.scr_block_graph.specs.declared.sum.Sum.{Sum}
+use Rattle.scr_block_graph.specs.declared.sum.Sum.TheVariants as sums
 
 -- the seats of the row at a place of a table
 abbrev pub seats_at : Table → ℕ → KeptRolls → Seats

@@ -2,14 +2,14 @@
 use Rattle.std.specs.Prelude.{◌≡◌, ℕ, ◌+◌, ◌<◌, true, List, Contains, Some, length, nat_eq, slice_get}
 use Rattle.std.specs.List.{IsDistinct}
 use Rattle.scr_sheet.specs.Validity.{Valid}
-use Rattle.scr_numbers.specs.Ranges.{first}
-use Rattle.scr_numbers.specs.declared.table.Table.TheVariants as ranged
-use Rattle.scr_reach.specs.Dues.{IsLiveAt}
-use Rattle.scr_reach.specs.Graph.{Graph, IsClosed}
-use Rattle.scr_reach.specs.Linked.{AreAt, AreNumbers}
-use Rattle.scr_subtotals.specs.declared.figure.Figure.{Figure}
-use Rattle.scr_sums.specs.Books.{rolled_of}
-use Rattle.scr_sums.specs.declared.point.Point.{Point}
+use Rattle.scr_ids.specs.Ranges.{first}
+use Rattle.scr_ids.specs.declared.table.Table.TheVariants as ranged
+use Rattle.scr_reachability.specs.LinkedDues.{IsLiveAt}
+use Rattle.scr_reachability.specs.Graph.{Graph, IsClosed}
+use Rattle.scr_reachability.specs.Linked.{AreAt, AreNumbers}
+use Rattle.scr_partial_sums.specs.declared.figure.Figure.{Figure}
+use Rattle.scr_block_graph.specs.Books.{rolled_of}
+use Rattle.scr_block_graph.specs.declared.point.Point.{Point}
 use Rattle.scr_tree.specs.Figures.{AreKnownOf, AreSettled, HaveFigures, Reckoning, worth_of}
 use Rattle.scr_tree.specs.Inputs.{AreOfBook}
 use Rattle.scr_tree.specs.Order.{IsOrder}

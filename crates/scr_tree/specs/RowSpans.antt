@@ -5,11 +5,11 @@ use Rattle.std.specs.Option.{option_map}
 use Rattle.scr_num.specs.Rounding.{ends}
 use Rattle.scr_num.specs.declared.span.Span.{Span}
 use Rattle.scr_factors.specs.Values.{FactorValues}
-use Rattle.scr_numbers.specs.Ranges.{IsAt, Numbered, stride}
-use Rattle.scr_numbers.specs.declared.table.Table.{Table}
-use Rattle.scr_numbers.specs.declared.table.Table.TheVariants as tables
-use Rattle.scr_figures.specs.Families.{family_of, name_of, table_of}
-use Rattle.scr_figures.specs.Numbers.{names_in}
+use Rattle.scr_ids.specs.Ranges.{IsAt, Numbered, stride}
+use Rattle.scr_ids.specs.declared.table.Table.{Table}
+use Rattle.scr_ids.specs.declared.table.Table.TheVariants as tables
+use Rattle.scr_figure_ids.specs.Families.{family_of, name_of, table_of}
+use Rattle.scr_figure_ids.specs.Numbers.{names_in}
 use Rattle.scr_sheet.specs.BalanceSheet.{position_name}
 use Rattle.scr_sheet.specs.Totals.{total_of}
 use Rattle.scr_sheet.specs.declared.rows.{Liability.Liability, Position.Position}
@@ -20,8 +20,8 @@ use Rattle.scr_nodes.specs.declared.node.Direction.TheVariants.{Up, Down}
 use Rattle.scr_nodes.specs.declared.node.Node.{Node}
 use Rattle.scr_nodes.specs.declared.node.Node.TheVariants as nodes
 use Rattle.scr_nodes.specs.declared.node.Whole.TheVariants as wholes
-use Rattle.scr_pieces.specs.declared.rows.Sort.{Sort}
-use Rattle.scr_pieces.specs.declared.rows.Sort.TheVariants as sorts
+use Rattle.scr_parallel.specs.declared.rows.Sort.{Sort}
+use Rattle.scr_parallel.specs.declared.rows.Sort.TheVariants as sorts
 use Rattle.scr_rules.specs.Worked.{worked}
 use Rattle.scr_rules.specs.declared.liability_rows.Estimate.{Estimate}
 use Rattle.scr_rules.specs.declared.security_rows.SecurityLosses.{SecurityLosses}

@@ -1,9 +1,9 @@
 -- The squares of groups, and the Blocks over them, that come one after another among the numbers that are reckoned (this project's own).
 use Rattle.std.specs.Prelude.{◌≡◌, ℕ, ◌+◌, ◌-◌, ◌<◌, ◌≤◌, List, Some, length, slice_get}
-use Rattle.scr_blocks.specs.Blocks.{blocks_at}
-use Rattle.scr_blocks.specs.declared.blocks.Level.TheVariants as levels
-use Rattle.scr_sums.specs.Graph.{block_point}
-use Rattle.scr_sums.specs.declared.sum.Sum.TheVariants as sums
+use Rattle.scr_sum_tree.specs.Blocks.{blocks_at}
+use Rattle.scr_sum_tree.specs.declared.blocks.Level.TheVariants as levels
+use Rattle.scr_block_graph.specs.Graph.{block_point}
+use Rattle.scr_block_graph.specs.declared.sum.Sum.TheVariants as sums
 use Rattle.scr_tree.specs.Ready.{StandsOn, numbers_on, square_number}
 use Rattle.scr_tree.specs.Summed.{count_on}
 use Rattle.scr_tree.specs.declared.basis.Basis.{Basis}

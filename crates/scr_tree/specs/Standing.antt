@@ -8,12 +8,12 @@ use Rattle.scr_sheet.specs.declared.fault.Fault.TheVariants as faults
 use Rattle.scr_sheet.specs.Records.{applied}
 use Rattle.scr_book.specs.RolledSheets.{RolledSheet}
 use Rattle.scr_book.specs.Rolls.{AreMoved, AreSame, KeptRolls}
-use Rattle.scr_sums.specs.Books.{rolled_of}
-use Rattle.scr_sums.specs.Graph.{Rolled}
-use Rattle.scr_sums.specs.Touched.{IsTouchedIn, applied_in}
-use Rattle.scr_sums.specs.declared.point.Point.{Point}
+use Rattle.scr_block_graph.specs.Books.{rolled_of}
+use Rattle.scr_block_graph.specs.Graph.{Rolled}
+use Rattle.scr_block_graph.specs.Touched.{IsTouchedIn, applied_in}
+use Rattle.scr_block_graph.specs.declared.point.Point.{Point}
 use Rattle.scr_tree.specs.Points.{book_graph}
-use Rattle.scr_reach.specs.Leading.{IsCountOf, IsInReach}
+use Rattle.scr_reachability.specs.Leading.{IsCountOf, IsInReach}
 use Rattle.scr_tree.specs.declared.refusal.Refusal.{Refusal}
 use Rattle.scr_tree.specs.declared.refusal.Refusal.TheVariants as refusals
 

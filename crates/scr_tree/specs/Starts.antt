@@ -2,17 +2,17 @@
 use Rattle.std.specs.Prelude.{◌≡◌, ◌↔◌, ◌⊎◌, ◌++◌, ◌∷◌, ◌&&◌, ℕ, Bool, true, false, not, Contains, List, [], if◌then◌else◌}
 use Rattle.std.specs.List.{AllByRecursion}
 use Rattle.scr_links.specs.Edges.{Edge}
-use Rattle.scr_rounds.specs.declared.ranks.Due.{Due}
+use Rattle.scr_reachability.specs.declared.ranks.Due.{Due}
 use Rattle.scr_sheet.specs.declared.edit.Edit.{Edit}
 use Rattle.scr_sheet.specs.declared.edit.Edit.TheVariants as edits
 use Rattle.scr_sheet.specs.declared.keys.Table.TheVariants as tables
 use Rattle.scr_nodes.specs.declared.node.Node.{Node}
 use Rattle.scr_nodes.specs.declared.node.Node.TheVariants as nodes
-use Rattle.scr_reach.specs.Dues.{IsLiveAt, numbers_of}
-use Rattle.scr_reach.specs.Graph.{Graph}
-use Rattle.scr_reach.specs.Linked.{sources_in}
-use Rattle.scr_sums.specs.declared.point.Point.{Point}
-use Rattle.scr_sums.specs.declared.point.Point.TheVariants as points
+use Rattle.scr_reachability.specs.LinkedDues.{IsLiveAt, numbers_of}
+use Rattle.scr_reachability.specs.Graph.{Graph}
+use Rattle.scr_reachability.specs.Linked.{sources_in}
+use Rattle.scr_block_graph.specs.declared.point.Point.{Point}
+use Rattle.scr_block_graph.specs.declared.point.Point.TheVariants as points
 use Rattle.scr_tree.specs.Points.{is_linked}
 
 -- ---- whose links a record may change

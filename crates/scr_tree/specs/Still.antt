@@ -1,10 +1,10 @@
 -- Squares of groups that came to nothing before and do so now, and stay as they are (this project's own).
 use Rattle.std.specs.Prelude.{◌≡◌, ℕ, ◌+◌, ◌<◌, ◌≤◌, false, List, Some, length, slice_get, slice_index}
 use Rattle.scr_conc.specs.Scales.{IsFree}
-use Rattle.scr_numbers.specs.Ranges.{first}
-use Rattle.scr_numbers.specs.declared.table.Table.TheVariants as ranged
-use Rattle.scr_subtotals.specs.Tables.{IsAmountBeforeNothing, IsOneAmount, nothing}
-use Rattle.scr_subtotals.specs.declared.figure.Figure.{Figure}
+use Rattle.scr_ids.specs.Ranges.{first}
+use Rattle.scr_ids.specs.declared.table.Table.TheVariants as ranged
+use Rattle.scr_partial_sums.specs.Tables.{IsAmountBeforeNothing, IsOneAmount, nothing}
+use Rattle.scr_partial_sums.specs.declared.figure.Figure.{Figure}
 use Rattle.scr_tree.specs.Ready.{IsRightOn, IsSquareOn}
 use Rattle.scr_tree.specs.declared.basis.Basis.{Basis}
 use Rattle.scr_tree.specs.declared.reckoning.AssetScale.{AssetScale}

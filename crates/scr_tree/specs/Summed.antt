@@ -2,9 +2,9 @@
 use Rattle.std.specs.Prelude.{◌≡◌, ℕ, ◌<◌, ◌^◌, false, List, [], Option, Some, None, length, map, pos, slice_get}
 use Rattle.std.specs.List.{range_with_len}
 use Rattle.std.specs.Option.{option_map_or}
-use Rattle.scr_blocks.specs.Blocks.{blocks_at, part, parts}
-use Rattle.scr_blocks.specs.declared.blocks.Level.{Level}
-use Rattle.scr_blocks.specs.declared.blocks.Level.TheVariants as levels
+use Rattle.scr_sum_tree.specs.Blocks.{blocks_at, part, parts}
+use Rattle.scr_sum_tree.specs.declared.blocks.Level.{Level}
+use Rattle.scr_sum_tree.specs.declared.blocks.Level.TheVariants as levels
 use Rattle.scr_num.specs.Rounding.{Ends, exact_ends}
 use Rattle.scr_num.specs.Sizes.{AreTogether}
 use Rattle.scr_num.specs.Sums.{sum_ends}
@@ -16,18 +16,18 @@ use Rattle.scr_nodes.specs.declared.node.Node.{Node}
 use Rattle.scr_nodes.specs.declared.node.Node.TheVariants as nodes
 use Rattle.scr_nodes.specs.declared.node.OfCurrency.TheVariants as of_currencies
 use Rattle.scr_rules.specs.Worked.{worked}
-use Rattle.scr_lists.specs.Lists.{members_of}
-use Rattle.scr_subtotals.specs.Figures.{ends_at, members_ends}
-use Rattle.scr_subtotals.specs.Written.{AreNumbered, is_open_at, number_of}
-use Rattle.scr_subtotals.specs.declared.figure.Figure.{Figure}
-use Rattle.scr_subtotals.specs.declared.writing.Subtotals.{Subtotals}
-use Rattle.scr_sums.specs.Books.{rolled_of}
-use Rattle.scr_sums.specs.Graph.{block_point, roll_in}
-use Rattle.scr_sums.specs.Sums.{member_of, roll_of}
-use Rattle.scr_sums.specs.declared.point.Block.{Block}
-use Rattle.scr_sums.specs.declared.point.Point.TheVariants as points
-use Rattle.scr_sums.specs.declared.sum.Sum.{Sum}
-use Rattle.scr_figures.specs.Families.{family_of}
+use Rattle.scr_member_index.specs.Lists.{members_of}
+use Rattle.scr_partial_sums.specs.Figures.{ends_at, members_ends}
+use Rattle.scr_partial_sums.specs.Written.{AreNumbered, is_open_at, number_of}
+use Rattle.scr_partial_sums.specs.declared.figure.Figure.{Figure}
+use Rattle.scr_partial_sums.specs.declared.writing.Subtotals.{Subtotals}
+use Rattle.scr_block_graph.specs.Books.{rolled_of}
+use Rattle.scr_block_graph.specs.Graph.{block_point, roll_in}
+use Rattle.scr_block_graph.specs.Sums.{member_of, roll_of}
+use Rattle.scr_block_graph.specs.declared.point.Block.{Block}
+use Rattle.scr_block_graph.specs.declared.point.Point.TheVariants as points
+use Rattle.scr_block_graph.specs.declared.sum.Sum.{Sum}
+use Rattle.scr_figure_ids.specs.Families.{family_of}
 use Rattle.scr_tree.specs.Points.{StandsIn}
 use Rattle.scr_tree.specs.declared.graph.Numbers.{Numbers}
 

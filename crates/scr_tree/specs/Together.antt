@@ -4,33 +4,33 @@ use Rattle.std.specs.List.{AllByRecursion, list_any, range_with_len}
 use Rattle.std.specs.Option.{option_and_then, option_map, option_map_or}
 use Rattle.scr_num.specs.Rounding.{Ends, ends, exact_ends}
 use Rattle.scr_num.specs.declared.span.Span.{Span}
-use Rattle.scr_blocks.specs.Blocks.{blocks_at}
-use Rattle.scr_blocks.specs.declared.blocks.Level.{Level}
-use Rattle.scr_blocks.specs.declared.blocks.Level.TheVariants as levels
-use Rattle.scr_rounds.specs.declared.ranks.Due.{Due}
+use Rattle.scr_sum_tree.specs.Blocks.{blocks_at}
+use Rattle.scr_sum_tree.specs.declared.blocks.Level.{Level}
+use Rattle.scr_sum_tree.specs.declared.blocks.Level.TheVariants as levels
+use Rattle.scr_reachability.specs.declared.ranks.Due.{Due}
 use Rattle.scr_factors.specs.Values.{FactorValues}
 use Rattle.scr_sheet.specs.declared.sheet.BalanceSheet.{BalanceSheet}
 use Rattle.scr_book.specs.RolledSheets.{RolledSheet}
 use Rattle.scr_nodes.specs.declared.node.Node.{Node}
 use Rattle.scr_nodes.specs.LiveNodes.{live_nodes}
-use Rattle.scr_numbers.specs.Ranges.{Numbered, first}
-use Rattle.scr_numbers.specs.declared.table.Table.TheVariants as ranged
-use Rattle.scr_figures.specs.Families.{family_of, name_of, table_of}
-use Rattle.scr_figures.specs.Numbers.{names_in}
-use Rattle.scr_figures.specs.Records.{place_in}
-use Rattle.scr_lists.specs.declared.lists.Lists.{Lists}
-use Rattle.scr_parts.specs.Parts.{slot_of}
-use Rattle.scr_reach.specs.Dues.{IsDue, numbers_of}
-use Rattle.scr_subtotals.specs.Written.{is_open_at}
-use Rattle.scr_subtotals.specs.declared.figure.Figure.{Figure}
-use Rattle.scr_sums.specs.Books.{rolled_of}
-use Rattle.scr_sums.specs.BlockNumbers.{part_of, place_of}
-use Rattle.scr_sums.specs.Graph.{Rolled, block_point, roll_in}
-use Rattle.scr_sums.specs.Sums.{first_sum, roll_of, second_sum}
-use Rattle.scr_sums.specs.declared.point.Block.{Block}
-use Rattle.scr_sums.specs.declared.point.Point.{Point}
-use Rattle.scr_sums.specs.declared.point.Point.TheVariants as points
-use Rattle.scr_sums.specs.declared.sum.Sum.{Sum}
+use Rattle.scr_ids.specs.Ranges.{Numbered, first}
+use Rattle.scr_ids.specs.declared.table.Table.TheVariants as ranged
+use Rattle.scr_figure_ids.specs.Families.{family_of, name_of, table_of}
+use Rattle.scr_figure_ids.specs.Numbers.{names_in}
+use Rattle.scr_figure_ids.specs.Records.{place_in}
+use Rattle.scr_member_index.specs.declared.lists.Lists.{Lists}
+use Rattle.scr_sum_slots.specs.Parts.{slot_of}
+use Rattle.scr_reachability.specs.LinkedDues.{IsDue, numbers_of}
+use Rattle.scr_partial_sums.specs.Written.{is_open_at}
+use Rattle.scr_partial_sums.specs.declared.figure.Figure.{Figure}
+use Rattle.scr_block_graph.specs.Books.{rolled_of}
+use Rattle.scr_block_graph.specs.BlockNumbers.{part_of, place_of}
+use Rattle.scr_block_graph.specs.Graph.{Rolled, block_point, roll_in}
+use Rattle.scr_block_graph.specs.Sums.{first_sum, roll_of, second_sum}
+use Rattle.scr_block_graph.specs.declared.point.Block.{Block}
+use Rattle.scr_block_graph.specs.declared.point.Point.{Point}
+use Rattle.scr_block_graph.specs.declared.point.Point.TheVariants as points
+use Rattle.scr_block_graph.specs.declared.sum.Sum.{Sum}
 use Rattle.scr_tree.specs.Figures.{HasFigure}
 use Rattle.scr_tree.specs.Points.{book_graph, list_numbers, point_worth}
 use Rattle.scr_tree.specs.Ready.{IsBasis, StandsOn, reckoning_on}

@@ -1,19 +1,19 @@
 -- The figures of rows, written row by row at their numbers (this project's own).
 use Rattle.std.specs.Prelude.{◌≡◌, ◌⊎◌, ℕ, ◌+◌, ◌<◌, ◌≤◌, ◌++◌, Bool, true, false, List, [], ◌∷◌, Some, length, slice_get}
 use Rattle.scr_num.specs.declared.span.Span.{Span}
-use Rattle.scr_pieces.specs.Rows.{Row, rows_of, times_row}
-use Rattle.scr_pieces.specs.declared.rows.Part.{Part}
+use Rattle.scr_parallel.specs.Rows.{Row, rows_of, times_row}
+use Rattle.scr_parallel.specs.declared.rows.Part.{Part}
 use Rattle.scr_sheet.specs.declared.sheet.BalanceSheet.{BalanceSheet}
-use Rattle.scr_numbers.specs.Ranges.{IsAt}
-use Rattle.scr_numbers.specs.declared.table.Table.TheVariants as tables
+use Rattle.scr_ids.specs.Ranges.{IsAt}
+use Rattle.scr_ids.specs.declared.table.Table.TheVariants as tables
 use Rattle.scr_nodes.specs.Live.{is_live}
 use Rattle.scr_nodes.specs.declared.node.Node.{Node}
 use Rattle.scr_nodes.specs.declared.node.Node.TheVariants as nodes
 use Rattle.scr_nodes.specs.declared.node.OfSecurity.TheVariants as of_securities
-use Rattle.scr_figures.specs.Numbers.{StandsAt}
+use Rattle.scr_figure_ids.specs.Numbers.{StandsAt}
 use Rattle.scr_tree.specs.Figures.{HasFigure, reckoning_of}
 use Rattle.scr_tree.specs.RowSpans.{IsOfRow}
-use Rattle.scr_subtotals.specs.declared.figure.Figure.{Figure}
+use Rattle.scr_partial_sums.specs.declared.figure.Figure.{Figure}
 use Rattle.scr_tree.specs.declared.making.Ground.{Ground}
 
 -- the figure is reckoned with the others of its row

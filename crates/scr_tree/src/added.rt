@@ -1,9 +1,9 @@
 //! What a Block of the first level comes to, added up over the figures of its members.
 ghost use Rattle.std.specs.Prelude.{◌≡◌, true, IfSome};
-ghost use Rattle.scr_blocks.specs.declared.blocks.Level.TheVariants as levels;
-ghost use Rattle.scr_sums.specs.Books.{rolled_of};
-ghost use Rattle.scr_sums.specs.Graph.{is_live_in};
-ghost use Rattle.scr_sums.specs.declared.point.Point.TheVariants as points;
+ghost use Rattle.scr_sum_tree.specs.declared.blocks.Level.TheVariants as levels;
+ghost use Rattle.scr_block_graph.specs.Books.{rolled_of};
+ghost use Rattle.scr_block_graph.specs.Graph.{is_live_in};
+ghost use Rattle.scr_block_graph.specs.declared.point.Point.TheVariants as points;
 ghost use Rattle.scr_tree.specs.Figures.{worth_of};
 ghost use Rattle.scr_tree.specs.Order.{undone};
 ghost use Rattle.scr_tree.specs.Renewed.{AreSumsOn};
@@ -14,9 +14,9 @@ use crate::basis::Basis;
 use crate::figures::{Figure, Figures};
 use crate::graph::member_family;
 use crate::renewed::Rewritten;
-use scr_blocks::part;
-use scr_subtotals::add_figures;
-use scr_sums::Block;
+use scr_block_graph::Block;
+use scr_partial_sums::add_figures;
+use scr_sum_tree::part;
 
 /// The figure of a Block of the first level at a number, from those of its members: of those that became others alone where that is sooner.
 pub(crate) fn added_up(basis: Basis<'_>, table: Rewritten<'_>, number: u32, block: &Block) -> Figure

@@ -2,9 +2,9 @@
 
 use crate::figures::Inputs;
 use crate::graph::{Graph, Numbers};
+use scr_ids::Places;
 use scr_links::Links;
-use scr_lists::Lists;
-use scr_numbers::Places;
+use scr_member_index::Lists;
 use std::alloc::Global;
 
 /// What figures are reckoned from beside those of their sources: the book and its rates, the numbers of all its figures and Blocks, and

@@ -3,7 +3,7 @@ ghost use Rattle.std.specs.Prelude.{◌≡◌, ◌+◌, ◌<◌, ◌||◌, true,
 ghost use Rattle.scr_num.specs.Rounding.{ends, exact_ends};
 ghost use Rattle.scr_nodes.specs.Live.{is_live};
 ghost use Rattle.scr_nodes.specs.Sources.{sources_of};
-ghost use Rattle.scr_reach.specs.Linked.{sources_in as linked_in};
+ghost use Rattle.scr_reachability.specs.Linked.{sources_in as linked_in};
 ghost use Rattle.scr_rules.specs.Close.{is_open as open_mask};
 ghost use Rattle.scr_tree.specs.Figures.{AreReadAt, AreSpansOf, opens, reckoning_of, worth_at, worth_of};
 ghost use Rattle.scr_tree.specs.Inputs.{AreOfBook};
@@ -14,8 +14,8 @@ use scr_io::{Gate, Steps};
 use scr_links::Links;
 use scr_nodes::{Node, OfCurrency, Whole};
 use scr_num::{Span, exact};
+pub(crate) use scr_partial_sums::{Figure, Figures};
 use scr_rules::{Rates, evaluate_by};
-pub(crate) use scr_subtotals::{Figure, Figures};
 use std::alloc::{AllocError as NoMemory, Global};
 use std::sync::ledger::Ledger;
 

@@ -1,8 +1,8 @@
 //! The links between the numbers of figures, but for those that rows and lists give.
 ghost use Rattle.std.specs.Prelude.{◌≡◌, ◌+◌, ◌<◌, ◌≤◌, [], true, Some, length, slice_get, IfOk, OnOk};
 ghost use Rattle.std.specs.List.{list_any};
-ghost use Rattle.scr_figures.specs.Families.{name_of, table_of};
-ghost use Rattle.scr_figures.specs.Numbers.{names_in};
+ghost use Rattle.scr_figure_ids.specs.Families.{name_of, table_of};
+ghost use Rattle.scr_figure_ids.specs.Numbers.{names_in};
 ghost use Rattle.scr_nodes.specs.Live.{is_live};
 ghost use Rattle.scr_nodes.specs.Rows.{holds};
 ghost use Rattle.scr_sheet.specs.declared.rows.Position.{Position};
@@ -12,10 +12,10 @@ ghost use Rattle.scr_tree.specs.Turns.{next, turn, turn_of};
 
 use crate::graph::is_linked;
 use crate::making::{LinkGround, gather_linked, make_room, number_at};
-use scr_figures::{currency_at, whole_at};
+use scr_figure_ids::{currency_at, whole_at};
 use scr_links::Links;
 use scr_nodes::{Node, OfFund, OfSecurity, is_live};
-use scr_reach::link;
+use scr_reachability::link;
 use scr_sheet::BalanceSheet;
 use std::alloc::{AllocError as NoMemory, Global};
 

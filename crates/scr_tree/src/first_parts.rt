@@ -1,16 +1,16 @@
 //! The figures of rows, written at their numbers.
 ghost use Rattle.std.specs.Prelude.{◌≡◌, ◌+◌, ◌<◌, ◌≤◌, ◌++◌, [], ◌∷◌, List, length};
 ghost use Rattle.scr_num.specs.declared.span.Span.{Span};
-ghost use Rattle.scr_pieces.specs.Rows.{AreAllRows, AreOfRows, ArePiecesWithin, IsPart, IsWithin, Row, row, rows_in, rows_of};
+ghost use Rattle.scr_parallel.specs.Rows.{AreAllRows, AreOfRows, ArePiecesWithin, IsPart, IsWithin, Row, row, rows_in, rows_of};
 ghost use Rattle.scr_tree.specs.First.{IsGround};
 ghost use Rattle.scr_tree.specs.RowSpans.{IsRowOf, row_count, sort_table};
 ghost use Rattle.scr_tree.specs.Written.{IsWrittenAt, IsWrittenOf, rows_among};
 
 use crate::figures::{Figure, Figures};
 use crate::making::Ground;
+use scr_ids::Table;
 use scr_num::Span;
-use scr_numbers::Table;
-use scr_pieces::{Part, Piece, Sort};
+use scr_parallel::{Part, Piece, Sort};
 
 /// Writes the figures of all rows, as workers have reckoned them by parts.
 pub(crate) fn write_parts(ground: Ground<'_>, figures: &mut Figures, parts: &[Part])

@@ -11,9 +11,9 @@ ghost use Rattle.scr_tree.specs.Turns.{turn};
 use crate::figures::{Figure, Figures};
 use crate::making::Ground;
 use crate::row_spans::stands_alone;
+use scr_ids::Table;
 use scr_io::Gate;
 use scr_num::{Span, exact};
-use scr_numbers::Table;
 
 /// The totals. The gate is passed before each but those of securities that have other figures: these pass it in their rows.
 pub(crate) fn enter_totals<G: Gate>(

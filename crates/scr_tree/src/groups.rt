@@ -1,10 +1,10 @@
 //! The Blocks under the totals of groups, list by list: most groups have too few securities for any.
 ghost use Rattle.std.specs.Prelude.{◌≡◌, ◌+◌, IfSome, IsNone, true};
 ghost use Rattle.scr_sheet.specs.Validity.{Valid};
-ghost use Rattle.scr_sums.specs.Books.{rolled_of};
-ghost use Rattle.scr_sums.specs.Graph.{is_live_in, reads};
-ghost use Rattle.scr_sums.specs.declared.point.Block.{Block as TheBlock};
-ghost use Rattle.scr_sums.specs.declared.point.Point.TheVariants as points;
+ghost use Rattle.scr_block_graph.specs.Books.{rolled_of};
+ghost use Rattle.scr_block_graph.specs.Graph.{is_live_in, reads};
+ghost use Rattle.scr_block_graph.specs.declared.point.Block.{Block as TheBlock};
+ghost use Rattle.scr_block_graph.specs.declared.point.Point.TheVariants as points;
 ghost use Rattle.scr_tree.specs.First as spec;
 ghost use Rattle.scr_tree.specs.First.{AreDone, AreGroupsDone, AreRowsDone, IsGround, IsGroupAt};
 ghost use Rattle.scr_tree.specs.Points.{AreNumbersOf};
@@ -13,10 +13,10 @@ ghost use Rattle.scr_tree.specs.Turns.{turn};
 use crate::figures::Figures;
 use crate::graph::Numbers;
 use crate::making::{Ground, put_found};
+use scr_block_graph::Sum;
 use scr_io::Gate;
 use scr_nodes::is_live;
 use scr_sheet::Roll;
-use scr_sums::Sum;
 
 /// The Blocks under the totals of groups, which were reckoned with their rows.
 pub(crate) fn put_groups<G: Gate>(ground: Ground<'_>, figures: &mut Figures, gate: &G)

@@ -4,7 +4,7 @@ ghost use Rattle.scr_num.specs.Rounding.{ends};
 ghost use Rattle.scr_tree.specs.Order.{AreWithin, IsJournalKept, undone};
 
 use crate::figures::{Figure, Figures};
-use scr_subtotals::is_nothing;
+use scr_partial_sums::is_nothing;
 use std::alloc::{AllocError as NoMemory, Global};
 use std::mem::replace;
 

@@ -8,9 +8,9 @@ ghost use Rattle.scr_rules.specs.Close.{close_under};
 ghost use Rattle.scr_rules.specs.Discounts.{own_discounts};
 ghost use Rattle.scr_rules.specs.Rules.{rule};
 ghost use Rattle.scr_rules.specs.Worked.{worked};
-ghost use Rattle.scr_sums.specs.Changed.{own_in};
-ghost use Rattle.scr_sums.specs.Graph.{AreRolls, Rolled, sources_in, worth_in};
-ghost use Rattle.scr_sums.specs.declared.point.Point.{Point};
+ghost use Rattle.scr_block_graph.specs.Changed.{own_in};
+ghost use Rattle.scr_block_graph.specs.Graph.{AreRolls, Rolled, sources_in, worth_in};
+ghost use Rattle.scr_block_graph.specs.declared.point.Point.{Point};
 ghost use Rattle.scr_tree.specs.Opening.{opens_at};
 
 use crate::Engine;

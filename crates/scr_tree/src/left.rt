@@ -1,8 +1,8 @@
 //! What is left of the first reckoning once rows and currencies are reckoned: the figures of the whole sheet, by several workers at once.
 ghost use Rattle.std.specs.Prelude.{◌≡◌, ◌+◌, ◌<◌, IfOk, OnOk, true, false};
-ghost use Rattle.scr_sums.specs.Books.{rolled_of};
-ghost use Rattle.scr_sums.specs.Graph.{is_live_in};
-ghost use Rattle.scr_sums.specs.declared.point.Point.{Point as ThePoint};
+ghost use Rattle.scr_block_graph.specs.Books.{rolled_of};
+ghost use Rattle.scr_block_graph.specs.Graph.{is_live_in};
+ghost use Rattle.scr_block_graph.specs.declared.point.Point.{Point as ThePoint};
 ghost use Rattle.scr_tree.specs.First.{AreDone, AreDoneTo, IsGround, IsLinkedGround, IsWhole};
 ghost use Rattle.scr_tree.specs.Left.{AreLeft, IsLeftAt, is_left};
 ghost use Rattle.scr_tree.specs.Points.{AreNumbersOf, StandsIn};
@@ -15,10 +15,10 @@ use crate::graph::Numbers;
 use crate::making::{Ground, LinkedGround, put_under};
 use crate::order::{Order, Sorted, ordered};
 use crate::together::reckon_together;
-use scr_figures::whole_at;
+use scr_block_graph::{Point, is_live_in};
+use scr_figure_ids::whole_at;
 use scr_io::{Gate, OpenGate};
 use scr_nodes::{Node, Whole, is_live};
-use scr_sums::{Point, is_live_in};
 use std::alloc::{AllocError as NoMemory, Global};
 use std::thread::Threads;
 

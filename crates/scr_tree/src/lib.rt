@@ -31,4 +31,4 @@ mod tops;
 
 pub use engine::Engine;
 pub use refusal::Refusal;
-pub use scr_sums::{Block, Level, Point, Sum};
+pub use scr_block_graph::{Block, Level, Point, Sum};

@@ -10,7 +10,7 @@ use crate::reckoning::Scratch;
 use scr_book::Book;
 use scr_factors::Factors;
 use scr_io::Gate;
-use scr_rounds::Marked;
+use scr_reachability::Marked;
 use std::alloc::AllocError as NoMemory;
 use std::thread::Threads;
 

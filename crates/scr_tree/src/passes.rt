@@ -1,7 +1,7 @@
 //! The gate, passed when several workers are done for all that was found on one thread.
 ghost use Rattle.std.specs.Prelude.{◌≡◌, ◌<◌, Some, length, slice_get};
-ghost use Rattle.scr_figures.specs.Families.{name_of, table_of};
-ghost use Rattle.scr_figures.specs.Numbers.{names_in};
+ghost use Rattle.scr_figure_ids.specs.Families.{name_of, table_of};
+ghost use Rattle.scr_figure_ids.specs.Numbers.{names_in};
 ghost use Rattle.scr_sheet.specs.Validity.{Valid};
 ghost use Rattle.scr_tree.specs.First.{IsGround};
 ghost use Rattle.scr_tree.specs.Points.{AreNumbersOf};
@@ -11,11 +11,11 @@ use crate::first_totals::pass_totals;
 use crate::graph::Numbers;
 use crate::making::{Ground, number_at};
 use crate::sums::pass_blocks;
-use scr_figures::currency_at;
+use scr_block_graph::{Sum, sum_at};
+use scr_figure_ids::currency_at;
+use scr_ids::Table;
 use scr_io::Gate;
 use scr_nodes::{Node, is_live};
-use scr_numbers::Table;
-use scr_sums::{Sum, sum_at};
 
 /// Passes the gate for totals and assets, for the figures of currencies, and for all Blocks.
 pub(crate) fn pass_found<G: Gate>(ground: Ground<'_>, gate: &G)

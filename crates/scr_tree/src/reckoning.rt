@@ -1,11 +1,11 @@
 //! The points that an edit reaches, reckoned in place, each once and after all that it is reckoned from.
 ghost use Rattle.std.specs.Prelude.{◌≡◌, ℕ, ◌+◌, ◌<◌, ◌≤◌, ◌^◌, [], true, false, All, IfSome, Some, drop, length, slice_get, OnOk, OnErr};
 ghost use Rattle.scr_num.specs.Rounding.{ends};
-ghost use Rattle.scr_numbers.specs.Ranges.{first};
-ghost use Rattle.scr_numbers.specs.declared.table.Table.TheVariants as ranged;
-ghost use Rattle.scr_blocks.specs.declared.blocks.Level.TheVariants as levels;
-ghost use Rattle.scr_sums.specs.Graph.{block_point};
-ghost use Rattle.scr_sums.specs.declared.sum.Sum.TheVariants as sums;
+ghost use Rattle.scr_ids.specs.Ranges.{first};
+ghost use Rattle.scr_ids.specs.declared.table.Table.TheVariants as ranged;
+ghost use Rattle.scr_sum_tree.specs.declared.blocks.Level.TheVariants as levels;
+ghost use Rattle.scr_block_graph.specs.Graph.{block_point};
+ghost use Rattle.scr_block_graph.specs.declared.sum.Sum.TheVariants as sums;
 ghost use Rattle.scr_tree.specs.Opening.{opens_in};
 ghost use Rattle.scr_tree.specs.Order.{IsJournalKept, IsJournaled};
 ghost use Rattle.scr_tree.specs.Renewed.{AreSumsOn};
@@ -25,13 +25,13 @@ use crate::order::{Order, Sorted};
 use crate::renewed::Rewritten;
 use crate::single::figure_at;
 use crate::sums::blocks_of;
-use scr_blocks::{Level, blocks_at};
+use scr_block_graph::{Block, Point, Sum};
 use scr_conc::Scale;
+use scr_ids::{Places, Table};
 use scr_io::{Gate, Steps};
 use scr_num::Span;
-use scr_numbers::{Places, Table};
 use scr_rules::{concentration_scale, concentration_square};
-use scr_sums::{Block, Point, Sum};
+use scr_sum_tree::{Level, blocks_at};
 use std::alloc::{AllocError as NoMemory, Global};
 use std::sync::ledger::Ledger;
 

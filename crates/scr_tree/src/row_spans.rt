@@ -7,19 +7,19 @@ ghost use Rattle.scr_sheet.specs.declared.{rows.Group.Group, rows.Liability.Liab
 ghost use Rattle.scr_sheet.specs.declared.rows.Class.TheVariants as classes;
 ghost use Rattle.scr_nodes.specs.Rows.{has_class, has_flows, is_paying, is_stress};
 ghost use Rattle.scr_nodes.specs.Sources.{concentration_square, group_total, liability_loss, security_spread, security_total};
-ghost use Rattle.scr_pieces.specs.Rows.{IsPushed};
-ghost use Rattle.scr_pieces.specs.declared.rows.Sort.TheVariants as sorts;
+ghost use Rattle.scr_parallel.specs.Rows.{IsPushed};
+ghost use Rattle.scr_parallel.specs.declared.rows.Sort.TheVariants as sorts;
 ghost use Rattle.scr_rules.specs.Worked.{worked};
 ghost use Rattle.scr_tree.specs.First.{IsEstimated, IsGround};
 ghost use Rattle.scr_tree.specs.RowSpans.{AreLosses, BeginAt, BeginsAt, IsEstimateAt, IsRowGround, IsRowOf};
 
 use crate::making::{Ground, number_at};
+use scr_ids::{Places, Table};
 use scr_io::{Gate, Steps};
 use scr_nodes::rows::{has_class, has_flows, is_paying};
 use scr_nodes::{Node, OfGroup, OfLiability};
 use scr_num::{Span, exact};
-use scr_numbers::{Places, Table};
-use scr_pieces::{RowPlan, Sort};
+use scr_parallel::{RowPlan, Sort};
 use scr_rules::{
     Estimate, SecurityLosses, bond_spread, evaluate_by, group_loss, liability_estimate,
     liability_loss, security_losses,

@@ -1,11 +1,11 @@
 //! One figure, reckoned from those of its sources.
 ghost use Rattle.std.specs.Prelude.{◌≡◌, ◌+◌, true, Some, None, IfOk, OnOk, is_some};
 ghost use Rattle.scr_nodes.specs.declared.node.Node.TheVariants as nodes;
-ghost use Rattle.scr_sums.specs.Books.{rolled_of};
-ghost use Rattle.scr_sums.specs.Graph.{sources_in};
-ghost use Rattle.scr_sums.specs.Sums.{first_sum};
-ghost use Rattle.scr_sums.specs.declared.point.Block.{Block as TheBlock};
-ghost use Rattle.scr_sums.specs.declared.point.Point.TheVariants as points;
+ghost use Rattle.scr_block_graph.specs.Books.{rolled_of};
+ghost use Rattle.scr_block_graph.specs.Graph.{sources_in};
+ghost use Rattle.scr_block_graph.specs.Sums.{first_sum};
+ghost use Rattle.scr_block_graph.specs.declared.point.Block.{Block as TheBlock};
+ghost use Rattle.scr_block_graph.specs.declared.point.Point.TheVariants as points;
 ghost use Rattle.scr_tree.specs.Figures.{AreSpansOf};
 ghost use Rattle.scr_tree.specs.Order.{undone};
 ghost use Rattle.scr_tree.specs.Renewed.{AreSumsOn};
@@ -18,11 +18,11 @@ use crate::reckoning::Scratch;
 use crate::renewed::Rewritten;
 use crate::sums::plain_of;
 use crate::tops::{block_up, summed_up};
-use scr_figures::{node_at, whole_at};
+use scr_block_graph::first_sum;
+use scr_figure_ids::{node_at, whole_at};
+use scr_ids::Table;
 use scr_io::{Gate, Steps};
 use scr_nodes::{Measure, Node, Whole};
-use scr_numbers::Table;
-use scr_sums::first_sum;
 use std::alloc::AllocError as NoMemory;
 use std::sync::ledger::Ledger;
 

@@ -2,26 +2,25 @@
 
 ghost use Rattle.std.specs.Prelude.{◌≡◌, ◌≤◌, true, nat_eq, IfOk, IfSome, IsNone, OnOk};
 ghost use Rattle.std.specs.List.{AllByRecursion, IsDistinct};
-ghost use Rattle.scr_blocks.specs.Blocks.{HasEachOnce};
+ghost use Rattle.scr_sum_tree.specs.Blocks.{HasEachOnce};
 ghost use Rattle.scr_sheet.specs.Validity.{Valid};
 ghost use Rattle.scr_nodes.specs.Live.{is_live};
-ghost use Rattle.scr_figures.specs.Numbers.{IsNumbered, StandsAt};
-ghost use Rattle.scr_reach.specs.Dues.{AreDuesFor, AreStarts, IsDueAt, IsLiveAt};
-ghost use Rattle.scr_reach.specs.Linked.{AreNumbers};
-ghost use Rattle.scr_sums.specs.Books.{rolled_of};
+ghost use Rattle.scr_figure_ids.specs.Numbers.{IsNumbered, StandsAt};
+ghost use Rattle.scr_reachability.specs.LinkedDues.{AreDuesFor, AreStarts, IsDueAt, IsLiveAt};
+ghost use Rattle.scr_reachability.specs.Linked.{AreNumbers};
+ghost use Rattle.scr_block_graph.specs.Books.{rolled_of};
 ghost use Rattle.scr_tree.specs.Graphs.{graph_of};
 ghost use Rattle.scr_tree.specs.Points.{AreNumbersOf, StandsIn, book_graph};
 ghost use Rattle.scr_tree.specs.Starts as starting;
 ghost use Rattle.scr_tree.specs.Starts.{AreFormer, AreMarked, IsLiveOrEmpty, IsMarkedOf, IsPointPushed, IsPushedIf, relinked};
 
 use crate::graph::{Numbers, is_linked};
+use scr_block_graph::{Point, is_live_in};
 use scr_book::{Edit, Table as RowTable};
-use scr_figures::{View, find, node_at, push_walked};
+use scr_figure_ids::{View, find, node_at, push_walked};
 use scr_links::Links;
 use scr_nodes::{Node, is_live};
-use scr_reach::linked_sources;
-use scr_rounds::{Due, Marked};
-use scr_sums::{Point, is_live_in};
+use scr_reachability::{Due, Marked, linked_sources};
 use std::alloc::{AllocError as NoMemory, Global};
 
 /// Marks the numbers of those points that the book has.

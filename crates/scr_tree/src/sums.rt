@@ -1,18 +1,18 @@
 //! What large sums come to: over their members with all Blocks written, and by the rule of the figure that is reckoned from them.
 ghost use Rattle.std.specs.Prelude.{◌≡◌, ◌+◌, ◌≤◌, IfSome, IsNone, None, Some, is_some, length, map, true};
-ghost use Rattle.scr_blocks.specs.Blocks.{blocks_at};
-ghost use Rattle.scr_blocks.specs.declared.blocks.Level.TheVariants as levels;
+ghost use Rattle.scr_sum_tree.specs.Blocks.{blocks_at};
+ghost use Rattle.scr_sum_tree.specs.declared.blocks.Level.TheVariants as levels;
 ghost use Rattle.scr_num.specs.Rounding.{ends};
 ghost use Rattle.scr_num.specs.Sums.{sum_ends};
 ghost use Rattle.scr_factors.specs.Values.{IsInForm};
 ghost use Rattle.scr_sheet.specs.Validity.{Valid};
 ghost use Rattle.scr_nodes.specs.Live.{is_live};
 ghost use Rattle.scr_rules.specs.Worked.{worked};
-ghost use Rattle.scr_sums.specs.Books.{rolled_of};
-ghost use Rattle.scr_sums.specs.Graph.{is_live_in, reads, roll_in, sources_in, worth_in};
-ghost use Rattle.scr_sums.specs.Sums.{first_sum, second_sum};
-ghost use Rattle.scr_subtotals.specs.Written.{AreNumbered};
-ghost use Rattle.scr_sums.specs.declared.point.Point.TheVariants as points;
+ghost use Rattle.scr_block_graph.specs.Books.{rolled_of};
+ghost use Rattle.scr_block_graph.specs.Graph.{is_live_in, reads, roll_in, sources_in, worth_in};
+ghost use Rattle.scr_block_graph.specs.Sums.{first_sum, second_sum};
+ghost use Rattle.scr_partial_sums.specs.Written.{AreNumbered};
+ghost use Rattle.scr_block_graph.specs.declared.point.Point.TheVariants as points;
 ghost use Rattle.scr_book.specs.Rolls.{AreRollsOf};
 ghost use Rattle.scr_tree.specs.Inputs.{AreOfBook};
 ghost use Rattle.scr_tree.specs.Points.{AreNumbersOf};
@@ -20,13 +20,13 @@ ghost use Rattle.scr_tree.specs.Summed.{AreBlocksOn, AreMembersOn, AreOwnBlocks,
 
 use crate::figures::{Figures, Inputs};
 use crate::graph::{Numbers, member_family};
-use scr_blocks::{Level, blocks_at, top_count};
+use scr_block_graph::{Point, Sum, first_sum, sum_place};
 use scr_io::{Gate, Steps};
 use scr_nodes::{Direction, Measure, Node, OfCurrency};
 use scr_num::{Span, total};
+use scr_partial_sums::{Subtotals, add_members};
 use scr_rules::{evaluate_by, foreign_by_sums};
-use scr_subtotals::{Subtotals, add_members};
-use scr_sums::{Point, Sum, first_sum, sum_place};
+use scr_sum_tree::{Level, blocks_at, top_count};
 use std::sync::ledger::Ledger;
 
 /// The Blocks of a sum by number, where its list may fall into Blocks.

@@ -1,13 +1,13 @@
 //! The points of an order, reckoned by several workers at once.
 ghost use Rattle.std.specs.Prelude.{◌≡◌, ◌<◌, ◌≤◌, All, length, IfOk, OnOk, OnErr};
-ghost use Rattle.scr_reach.specs.Dues.{numbers_of};
-ghost use Rattle.scr_reach.specs.Linked.{AreAt};
-ghost use Rattle.scr_sums.specs.Books.{rolled_of};
-ghost use Rattle.scr_sums.specs.Graph.{sources_in};
-ghost use Rattle.scr_sums.specs.declared.point.Point.{Point as ThePoint};
+ghost use Rattle.scr_reachability.specs.LinkedDues.{numbers_of};
+ghost use Rattle.scr_reachability.specs.Linked.{AreAt};
+ghost use Rattle.scr_block_graph.specs.Books.{rolled_of};
+ghost use Rattle.scr_block_graph.specs.Graph.{sources_in};
+ghost use Rattle.scr_block_graph.specs.declared.point.Point.{Point as ThePoint};
 ghost use Rattle.scr_tree.specs.Ready.{AreInTurnOn, AreKnownBut, AreSettledOn, IsBasis, IsOrderOn, IsReadyOn, IsRightOn, StandsOn};
 ghost use Rattle.scr_tree.specs.Together.{AreDuesOn, AreSpansOn, IsDueOn, IsSpanOn, any_close};
-ghost use Rattle.scr_reach.specs.Dues.{IsLiveAt};
+ghost use Rattle.scr_reachability.specs.LinkedDues.{IsLiveAt};
 ghost use Rattle.scr_tree.specs.Points.{book_graph};
 
 use crate::basis::{Basis, Crew};
@@ -17,8 +17,8 @@ use crate::reckoning::opens;
 use crate::sums::span_of;
 use scr_io::{Gate, Steps};
 use scr_num::Span;
-use scr_rounds::Due;
-use scr_workers::{Plan, spans_by};
+use scr_parallel::{Plan, spans_by};
+use scr_reachability::Due;
 use std::alloc::{AllocError as NoMemory, Global};
 use std::sync::ledger::Ledger;
 use std::thread::Threads;

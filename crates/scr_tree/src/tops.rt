@@ -1,13 +1,13 @@
 //! Figures that add up others without a list of their numbers: Blocks, and figures by the large sums that they are reckoned from.
 ghost use Rattle.std.specs.Prelude.{◌≡◌, ◌+◌, ◌≤◌, ◌^◌, true, IfSome, Some, length, map};
-ghost use Rattle.scr_blocks.specs.Blocks.{blocks_at};
-ghost use Rattle.scr_blocks.specs.declared.blocks.Level.TheVariants as levels;
+ghost use Rattle.scr_sum_tree.specs.Blocks.{blocks_at};
+ghost use Rattle.scr_sum_tree.specs.declared.blocks.Level.TheVariants as levels;
 ghost use Rattle.scr_nodes.specs.Live.{is_live};
 ghost use Rattle.scr_num.specs.Sizes.{AreTogether};
-ghost use Rattle.scr_sums.specs.Books.{rolled_of};
-ghost use Rattle.scr_sums.specs.Graph.{is_live_in, reads, roll_in, tops_of};
-ghost use Rattle.scr_sums.specs.Sums.{first_sum};
-ghost use Rattle.scr_sums.specs.declared.point.Point.TheVariants as points;
+ghost use Rattle.scr_block_graph.specs.Books.{rolled_of};
+ghost use Rattle.scr_block_graph.specs.Graph.{is_live_in, reads, roll_in, tops_of};
+ghost use Rattle.scr_block_graph.specs.Sums.{first_sum};
+ghost use Rattle.scr_block_graph.specs.declared.point.Point.TheVariants as points;
 ghost use Rattle.scr_tree.specs.Adding.{AreKnownAt, IsAddedUp, blocks_among, worked_of};
 ghost use Rattle.scr_tree.specs.Figures.{worth_of};
 ghost use Rattle.scr_tree.specs.Order.{undone};
@@ -20,11 +20,11 @@ use crate::figures::{Figure, Figures, nothing};
 use crate::graph::member_family;
 use crate::renewed::Rewritten;
 use crate::sums::{blocks_of, by_sums};
-use scr_blocks::{Level, blocks_at, places};
+use scr_block_graph::{Block, Sum, second_sum};
 use scr_io::Steps;
 use scr_nodes::Node;
-use scr_subtotals::add_figures;
-use scr_sums::{Block, Sum, second_sum};
+use scr_partial_sums::add_figures;
+use scr_sum_tree::{Level, blocks_at, places};
 use std::ops::Range;
 use std::sync::ledger::Ledger;
 

@@ -16,8 +16,8 @@ use Rattle.scr_flow.proofs.SizeLemmas.{dues-within}
 use Rattle.scr_flow.proofs.WidthLemmas.{narrow-present}
 use Rattle.scr_factors.specs.Values.{FactorValues}
 use Rattle.scr_market.specs.CurrencyEnds.{fine_ends, quarter_ends}
-use Rattle.scr_names.specs.Names.{same_name}
-use Rattle.scr_names.proofs.TableRows.{All-map}
+use Rattle.scr_tables.specs.Names.{same_name}
+use Rattle.scr_tables.proofs.TableRows.{All-map}
 use Rattle.scr_sheet.specs.BalanceSheet.{liability_name, curve_name}
 use Rattle.scr_sheet.specs.CashFlows.{total}
 use Rattle.scr_sheet.specs.Validity.{Valid}

@@ -21,8 +21,8 @@ use Rattle.scr_flow.proofs.SizeLemmas.{dues-within}
 use Rattle.scr_flow.proofs.WidthLemmas.{narrow-loss, narrow-scaled}
 use Rattle.scr_factors.specs.Values.{FactorValues}
 use Rattle.scr_funds.proofs.SumsBy.{sum_by-add}
-use Rattle.scr_names.specs.Names.{same_name}
-use Rattle.scr_names.proofs.TableRows.{All-map}
+use Rattle.scr_tables.specs.Names.{same_name}
+use Rattle.scr_tables.proofs.TableRows.{All-map}
 use Rattle.scr_sheet.specs.Absorptions.{absorbed}
 use Rattle.scr_sheet.specs.BalanceSheet.{position_name, liability_name, curve_name, position_of}
 use Rattle.scr_sheet.specs.CashFlows.{total}

@@ -18,7 +18,7 @@ use Rattle.scr_flow.proofs.SizeLemmas.{dues-within}
 use Rattle.scr_flow.proofs.WidthLemmas.{narrow-present}
 use Rattle.scr_factors.specs.Values.{FactorValues}
 use Rattle.scr_funds.proofs.SumsBy.{sum_by-add}
-use Rattle.scr_names.proofs.TableRows.{All-map}
+use Rattle.scr_tables.proofs.TableRows.{All-map}
 use Rattle.scr_sheet.specs.BalanceSheet.{liability_name}
 use Rattle.scr_sheet.specs.CashFlows.{flows_under, total}
 use Rattle.scr_sheet.specs.Validity.{Valid}

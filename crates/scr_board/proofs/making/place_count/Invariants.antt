@@ -1,5 +1,5 @@
 use Rattle.std.proofs.Common.{◌≡◌, ◌≤◌, length}
-use Rattle.scr_board.specs.Rounds.{places_at}
+use Rattle.scr_board.specs.BoardRounds.{places_at}
 use Rattle.scr_board.proofs.making.place_count.Given as goal
 
 abbrev pub invariant-loop-k : goal.invariant-loop-k

@@ -1,7 +1,7 @@
 use Rattle.std.proofs.Common.{◌+◌, ap, arith, drop, length, sym, ◌∙◌}
 use Rattle.std.specs.Prelude.{option_map}
 use Rattle.scr_board.specs.Places.{spot_of}
-use Rattle.scr_board.specs.Rounds.{nodes_in, places_at}
+use Rattle.scr_board.specs.BoardRounds.{nodes_in, places_at}
 use Rattle.scr_board.proofs.Rows.{drop-next, drop-past, get-past_end, nodes-next}
 use Rattle.scr_board.proofs.making.source_count.Goals as goal
 

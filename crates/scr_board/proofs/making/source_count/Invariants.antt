@@ -1,5 +1,5 @@
 use Rattle.std.proofs.Common.{◌≡◌, ◌≤◌, ◌+◌, length, drop}
-use Rattle.scr_board.specs.Rounds.{nodes_in, places_at}
+use Rattle.scr_board.specs.BoardRounds.{nodes_in, places_at}
 use Rattle.scr_board.proofs.making.source_count.Given as goal
 
 abbrev pub invariant-loop-k : goal.invariant-loop-k

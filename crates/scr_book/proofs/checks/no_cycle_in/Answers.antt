@@ -1,10 +1,10 @@
 use Rattle.std.proofs.Common.{◌≡◌, ℕ, ℤ, ◌≤◌, Vec, Global, Result, Err, List, [], length, map, Contains, ap, subst}
 use Rattle.std.specs.Option.{option_map}
 use Rattle.scr_funds.specs.Paths.{path_within}
-use Rattle.scr_graph.specs.Answers.{Answers as Told}
-use Rattle.scr_graph.specs.Graph.{Graph, components_under, components_after}
-use Rattle.scr_graph.specs.declared.fault.GraphFault.{GraphFault}
-use Rattle.scr_names.specs.Names.{same_name}
+use Rattle.scr_fund_graph.specs.Answers.{Answers as Told}
+use Rattle.scr_fund_graph.specs.Graph.{Graph, components_under, components_after}
+use Rattle.scr_fund_graph.specs.declared.fault.GraphFault.{GraphFault}
+use Rattle.scr_tables.specs.Names.{same_name}
 use Rattle.scr_sheet.specs.BalanceSheet.{stake_name, components_of}
 use Rattle.scr_sheet.specs.Records.{with_fund}
 use Rattle.scr_sheet.specs.declared.fault.Fault.TheVariants as faults

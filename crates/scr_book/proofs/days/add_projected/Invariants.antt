@@ -1,6 +1,6 @@
 use Rattle.std.proofs.Common.{◌≡◌, ℤ, ◌+◌, drop}
 use Rattle.scr_dates.specs.Civil.{IsDay}
-use Rattle.scr_tally.specs.Days.{count_of}
+use Rattle.scr_counters.specs.Days.{count_of}
 use Rattle.scr_book.specs.LastDays.{projections_ending}
 use Rattle.scr_book.proofs.days.add_projected.Given as goal
 

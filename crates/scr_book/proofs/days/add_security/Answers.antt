@@ -1,7 +1,7 @@
 use Rattle.std.proofs.Common.{sym, ap, subst, arith}
 use Rattle.std.specs.Prelude.{IfSome}
 use Rattle.std.specs.Option.{option_copied, option_map_or}
-use Rattle.scr_tally.specs.Days.{ends_on, IsDayOrNone}
+use Rattle.scr_counters.specs.Days.{ends_on, IsDayOrNone}
 use Rattle.scr_sheet.specs.Validity.{IsSecurity}
 use Rattle.scr_book.specs.LastDays.{security_ends}
 use Rattle.scr_book.proofs.LastDays.{on_day}

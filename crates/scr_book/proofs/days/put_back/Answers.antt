@@ -1,7 +1,7 @@
 use Rattle.std.proofs.Common.{sym, ap, subst, ◌∙◌, arith}
 use Rattle.std.specs.Prelude.{IfSome}
 use Rattle.std.specs.Option.{option_map_or}
-use Rattle.scr_names.specs.Tables.{row_of}
+use Rattle.scr_tables.specs.Tables.{row_of}
 use Rattle.scr_sheet.specs.BalanceSheet.{position_name, liability_name}
 use Rattle.scr_sheet.specs.Earlier.{with_earlier, FitsIn}
 use Rattle.scr_sheet.specs.Validity.{Valid, IsSecurity, IsLiability}

@@ -1,6 +1,6 @@
 use Rattle.std.proofs.Common.{sym, subst}
 use Rattle.scr_sheet.specs.Forms.{AreOnDays}
-use Rattle.scr_tally.specs.Days.{IsDayOrNone}
+use Rattle.scr_counters.specs.Days.{IsDayOrNone}
 use Rattle.scr_book.proofs.LastDays.{on_day}
 use Rattle.scr_book.proofs.days.take_projected.Goals as goal
 

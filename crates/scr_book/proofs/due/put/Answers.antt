@@ -1,6 +1,6 @@
 use Rattle.std.proofs.Common.{◌≡◌, ℕ, ℤ, List, ◌∷◌, sym, ap, subst, ◌∙◌, rules}
 use Rattle.scr_funds.specs.Chains.{LeadsTo}
-use Rattle.scr_graph.specs.Graph.{components_after, components_under}
+use Rattle.scr_fund_graph.specs.Graph.{components_after, components_under}
 use Rattle.scr_sheet.specs.declared.rows.Stake.{Stake}
 use Rattle.scr_book.proofs.Anew.{HavePut, put-none, put-apart, put-next}
 use Rattle.scr_book.proofs.due.put.Goals as goal

@@ -1,6 +1,6 @@
 use Rattle.std.proofs.Common.{◌≡◌, ◌&&◌, false, is_some, Option, Some, None, sym, ap, ◌∙◌, arith, rules}
 use Rattle.std.specs.Option.{option_map_or}
-use Rattle.scr_names.specs.Tables.{row_of, has_row, with_row, changed}
+use Rattle.scr_tables.specs.Tables.{row_of, has_row, with_row, changed}
 use Rattle.scr_sheet.specs.BalanceSheet.{position_name, stake_name, is_in}
 use Rattle.scr_sheet.specs.declared.keys.Table.TheVariants as tables
 use Rattle.scr_sheet.specs.declared.rows.Stake.{Stake}

@@ -1,7 +1,7 @@
 use Rattle.std.proofs.Common.{refl, ◌≡◌, ℕ, ◌+◌, ◌-◌, sym, ap, ◌∙◌}
 use Rattle.std.specs.Option.{option_or, option_map_or}
 use Rattle.scr_sheet.specs.CashFlows.{total, greatest_years}
-use Rattle.scr_names.specs.Tables.{row_of}
+use Rattle.scr_tables.specs.Tables.{row_of}
 use Rattle.scr_sheet.specs.BalanceSheet.{liability_name, liability_flows_total}
 use Rattle.scr_sheet.specs.Faults.{above}
 use Rattle.scr_sheet.specs.declared.sheet.BalanceSheet.{BalanceSheet}

@@ -2,7 +2,7 @@ use Rattle.std.proofs.Common.{refl, ◌≡◌, ℕ, ◌+◌, ◌-◌, length, tr
 use Rattle.std.proofs.lemmas.Int.{to_z-of_z}
 use Rattle.std.specs.Option.{option_or, option_map_or}
 use Rattle.scr_sheet.specs.CashFlows.{greatest_years}
-use Rattle.scr_names.specs.Tables.{row_of}
+use Rattle.scr_tables.specs.Tables.{row_of}
 use Rattle.scr_sheet.specs.BalanceSheet.{group_name, position_name, stake_name, liability_name, curve_name, components_total}
 use Rattle.scr_sheet.specs.Faults.{above}
 use Rattle.scr_sheet.specs.declared.sheet.BalanceSheet.{BalanceSheet}

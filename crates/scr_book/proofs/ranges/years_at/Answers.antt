@@ -1,5 +1,5 @@
 use Rattle.std.proofs.Common.{Some, None, ap, subst, ◌∙◌}
-use Rattle.scr_tally.specs.Days.{IsLast}
+use Rattle.scr_counters.specs.Days.{IsLast}
 use Rattle.scr_sheet.specs.CashFlows.{years_of}
 use Rattle.scr_sheet.specs.Validity.{Valid}
 use Rattle.scr_book.proofs.Applied.{days_now}

@@ -1,6 +1,6 @@
 use Rattle.std.proofs.Common.{◌≡◌, ◌-◌, List, ℕ, Some, is_some, slice_get, sym, ap, ◌∙◌}
 use Rattle.std.specs.Option.{option_map}
-use Rattle.scr_names.proofs.TableRows.{same_name-is}
+use Rattle.scr_tables.proofs.TableRows.{same_name-is}
 use Rattle.scr_book.proofs.RollPrepared.{found-place}
 use Rattle.scr_book.proofs.recent.recent_place.Goals as goal
 

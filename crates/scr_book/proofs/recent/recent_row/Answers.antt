@@ -1,7 +1,7 @@
 use Rattle.std.proofs.Common.{sym, ap, ◌∙◌}
 use Rattle.std.specs.Option.{option_copied}
-use Rattle.scr_names.proofs.PastRows.{missing}
-use Rattle.scr_names.specs.Tables.{row_of}
+use Rattle.scr_tables.proofs.PastRows.{missing}
+use Rattle.scr_tables.specs.Tables.{row_of}
 use Rattle.scr_book.proofs.RollPrepared.{found-place}
 use Rattle.scr_book.proofs.recent.recent_row.Goals as goal
 

@@ -1,7 +1,7 @@
 use Rattle.std.proofs.Common.{Some, None, map, sym, ap, ◌∙◌}
 use Rattle.std.specs.Prelude.{if◌then◌else◌}
-use Rattle.scr_rolls.specs.Seatings.{seats_of}
-use Rattle.scr_rolls.proofs.SeatLists.{named-at}
+use Rattle.scr_member_lists.specs.Seatings.{seats_of}
+use Rattle.scr_member_lists.proofs.SeatLists.{named-at}
 use Rattle.scr_book.proofs.RollLaws.{own-before}
 use Rattle.scr_book.proofs.rolls.seats_at.Goals as goal
 

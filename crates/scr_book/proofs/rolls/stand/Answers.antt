@@ -1,9 +1,9 @@
 use Rattle.std.proofs.Common.{◌≡◌, ℕ, zero, suc, ◌<◌, true, List, [], ◌∷◌, map, refl, sym, ap, subst, ◌∙◌, arith}
 use Rattle.std.specs.Prelude.{slice_index_or}
 use Rattle.std.proofs.lemmas.List.{length-map}
-use Rattle.scr_rolls.specs.Members.{has}
-use Rattle.scr_rolls.specs.Seatings.{names_of, roll_in, seat_at, seats_of}
-use Rattle.scr_rolls.specs.declared.seating.Numbered.{Numbered}
+use Rattle.scr_member_lists.specs.Members.{has}
+use Rattle.scr_member_lists.specs.Seatings.{names_of, roll_in, seat_at, seats_of}
+use Rattle.scr_member_lists.specs.declared.seating.Numbered.{Numbered}
 use Rattle.scr_book.proofs.RollLaws.{own-before, row-listed}
 use Rattle.scr_book.proofs.RollSteps.{told-by}
 use Rattle.scr_book.proofs.rolls.stand.Goals as goal

@@ -1,6 +1,6 @@
 -- What follows the first field.
 use Rattle.std.proofs.Common.{◌≡◌, ◌∷◌, ◌+◌, ◌<◌, ◌==◌, ◌∙◌, true, length, take, get_or, ap, sym, arith}
-use Rattle.scr_spelling.proofs.FormLemmas.{all_left}
+use Rattle.scr_fields.proofs.FormLemmas.{all_left}
 use Rattle.scr_csv.specs.Parts.{parts}
 use Rattle.scr_csv.proofs.Fronts.{first_all, first_before}
 use Rattle.scr_csv.proofs.source.behind_first.Goals as goal

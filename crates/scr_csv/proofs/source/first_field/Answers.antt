@@ -2,7 +2,7 @@
 use Rattle.std.proofs.Common.{◌∷◌, ◌+◌, ◌∙◌, ap, sym, take}
 use Rattle.scr_csv.specs.Parts.{parts}
 use Rattle.scr_csv.proofs.Cuts.{cut_at, cut_nowhere}
-use Rattle.scr_spelling.proofs.FormLemmas.{all_left}
+use Rattle.scr_fields.proofs.FormLemmas.{all_left}
 use Rattle.scr_csv.proofs.source.first_field.Goals as goal
 
 pub returns-in-None : goal.returns-in-None

@@ -1,7 +1,7 @@
 -- Block by block.
 use Rattle.std.proofs.Common.{◌≡◌, ◌+◌, ◌-◌, ◌≤◌, true, length, take, drop, sym, ap, ◌∙◌, arith}
 use Rattle.std.specs.List.{list_all}
-use Rattle.scr_spelling.proofs.FormLemmas.{all_left}
+use Rattle.scr_fields.proofs.FormLemmas.{all_left}
 use Rattle.scr_csv.specs.LineFields.{is_plain}
 use Rattle.scr_csv.proofs.Blocks.{block_passes, rest_tells}
 use Rattle.scr_csv.proofs.split.is_plain.Goals as goal

@@ -1,7 +1,7 @@
 -- The first line of a text, and what follows it.
 use Rattle.std.proofs.Common.{◌∷◌, ◌+◌, ◌∙◌, ap, sym, drop}
 use Rattle.std.specs.Str.Lines.{lines}
-use Rattle.scr_spelling.proofs.FormLemmas.{all_left}
+use Rattle.scr_fields.proofs.FormLemmas.{all_left}
 use Rattle.scr_csv.proofs.TextLines.{lines_at, lines_none}
 use Rattle.scr_csv.proofs.walk.first_line.Goals as goal
 

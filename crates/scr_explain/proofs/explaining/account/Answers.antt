@@ -1,5 +1,5 @@
 use Rattle.std.proofs.Common.{◌∙◌, ◌++◌, ℕ, zero, Bool, false, List, [], ap, ap₂, sym, slice_get}
-use Rattle.scr_account.specs.Account.{account}
+use Rattle.scr_explanation.specs.Account.{account}
 use Rattle.scr_cells.specs.Table.{NamedFigure, table}
 use Rattle.scr_explain.specs.Answer.{account_answer, heading}
 use Rattle.scr_explain.proofs.Cells.{of_part}

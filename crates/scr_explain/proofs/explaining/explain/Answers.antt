@@ -1,6 +1,6 @@
 use Rattle.std.proofs.Common.{refl, ap}
-use Rattle.scr_plans.proofs.AllPlans.{wants_memory}
-use Rattle.scr_plans.proofs.Walks.{goes_on, stops}
+use Rattle.scr_obligations.proofs.AllPlans.{wants_memory}
+use Rattle.scr_obligations.proofs.Walks.{goes_on, stops}
 use Rattle.scr_tree.specs.Standing.{Standing}
 use Rattle.scr_explain.specs.Answer.{question_plan}
 use Rattle.scr_explain.proofs.Owed.{owed_over}

@@ -1,5 +1,5 @@
 use Rattle.std.proofs.Common.{◌∙◌, ℕ, Bool, List, ap, refl}
-use Rattle.scr_plans.proofs.AllPlans.{wants_memory}
+use Rattle.scr_obligations.proofs.AllPlans.{wants_memory}
 use Rattle.scr_run.proofs.Told.{cut_text, whole_text}
 use Rattle.scr_explain.proofs.Owed.{owed_as}
 use Rattle.scr_explain.proofs.explaining.tell.Goals as goal

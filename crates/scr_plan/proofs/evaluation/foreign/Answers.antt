@@ -1,5 +1,5 @@
 use Rattle.std.proofs.Common.{◌^◌, length, sym, subst, ap, ap₂, ◌∙◌}
-use Rattle.scr_blocks.specs.Blocks.{top_count}
+use Rattle.scr_sum_tree.specs.Blocks.{top_count}
 use Rattle.scr_num.specs.Amounts.{IsAmount}
 use Rattle.scr_num.specs.Sizes.{AreTogether}
 use Rattle.scr_num.specs.Sums.{sum_ends}

@@ -1,5 +1,5 @@
 use Rattle.std.proofs.Common.{◌∙◌, sym, arith}
-use Rattle.scr_names.proofs.TableRows.{same_name-flip}
+use Rattle.scr_tables.proofs.TableRows.{same_name-flip}
 use Rattle.scr_rules.proofs.CodeLemmas.{item-weight, summed-small, found-here, passed-over}
 use Rattle.scr_rules.proofs.held.weights.Goals as goal
 

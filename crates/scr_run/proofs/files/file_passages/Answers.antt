@@ -1,6 +1,6 @@
-use Rattle.scr_passages.specs.declared.passages.Passages.{Passages}
+use Rattle.scr_line_chunks.specs.declared.passages.Passages.{Passages}
 use Rattle.scr_io.specs.declared.reading.TheConstants.{MAX_BYTES}
-use Rattle.scr_plans.proofs.Walks.{reads, same_shelved}
+use Rattle.scr_obligations.proofs.Walks.{reads, same_shelved}
 use Rattle.scr_run.proofs.FileSteps.{same_unless_failed, unread_stops}
 use Rattle.scr_run.proofs.files.file_passages.Goals as goal
 

@@ -3,12 +3,12 @@ use Rattle.std.proofs.Common.{◌∙◌, ap}
 use Rattle.scr_cells.specs.Block.{requirement_line}
 use Rattle.scr_csv.specs.Lines.{records}
 use Rattle.scr_made.specs.Made.{made_book, made_script, script_text}
-use Rattle.scr_plans.specs.Outcome.{outcome}
-use Rattle.scr_plans.specs.Plan.{unless_refused}
-use Rattle.scr_plans.specs.Plan.Plan.{Tell}
+use Rattle.scr_obligations.specs.Outcome.{outcome}
+use Rattle.scr_obligations.specs.Plan.{unless_refused}
+use Rattle.scr_obligations.specs.Plan.Plan.{Tell}
 use Rattle.scr_sheet.specs.BalanceSheet.{opening}
-use Rattle.scr_sound.proofs.Sizes.{length-script}
-use Rattle.scr_sound.specs.Accepted.{sheet_after}
+use Rattle.scr_made.proofs.Sizes.{length-script}
+use Rattle.scr_made.specs.Accepted.{sheet_after}
 use Rattle.scr_run.proofs.Leads.{made_goes_on, made_stops}
 use Rattle.scr_run.proofs.MadeBooks.{all_accepted, as_many, at_content, made_book_in, none_refused, script_in}
 use Rattle.scr_run.proofs.laws.made_outcomes.Goals as goal

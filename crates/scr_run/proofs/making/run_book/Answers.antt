@@ -1,6 +1,6 @@
 use Rattle.std.proofs.Common.{◌∙◌, ap, sym}
 use Rattle.scr_tree.specs.Standing.{Standing}
-use Rattle.scr_plans.proofs.AllPlans.{wants_memory}
+use Rattle.scr_obligations.proofs.AllPlans.{wants_memory}
 use Rattle.scr_run.specs.Readings.{book_in}
 use Rattle.scr_run.proofs.MadeRuns.{book_off, owed_on, silent_on}
 use Rattle.scr_run.proofs.making.run_book.Goals as goal

@@ -1,5 +1,5 @@
 use Rattle.std.proofs.Common.{refl}
-use Rattle.scr_plans.proofs.Walks.{goes_on, silent_later, stops}
+use Rattle.scr_obligations.proofs.Walks.{goes_on, silent_later, stops}
 use Rattle.scr_run.specs.Plans.{book_plan, made_plan}
 use Rattle.scr_run.proofs.making.run_made.Goals as goal
 

@@ -1,7 +1,7 @@
 use Rattle.std.proofs.Common.{◌≡◌}
 use Rattle.scr_run.specs.BookFile.{sheet_from}
 use Rattle.scr_csv.specs.LineOrder.{lines_left}
-use Rattle.scr_passages.specs.Passages.{records_behind}
+use Rattle.scr_line_chunks.specs.Passages.{records_behind}
 use Rattle.scr_run.proofs.records.fill.Given as goal
 
 -- the records that are left give, from the book so far, what all give from the book at first

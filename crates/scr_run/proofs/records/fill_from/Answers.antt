@@ -1,7 +1,7 @@
 -- The next passage was applied, or one of its records was refused.
 use Rattle.std.proofs.Common.{◌≡◌, ℕ, ◌+◌, ◌≤◌, List, ◌∷◌, ◌++◌, length, Ok, sym, ap, subst, ◌∙◌, arith}
 use Rattle.std.specs.Vec.Iter.{into_iter_items}
-use Rattle.scr_passages.specs.Passages.{AreWhole, ended_lines, joined, records_behind}
+use Rattle.scr_line_chunks.specs.Passages.{AreWhole, ended_lines, joined, records_behind}
 use Rattle.scr_run.specs.BookFile.{sheet_from}
 use Rattle.scr_run.proofs.Filling.{fault_stays, joined_from, passage_applied, passage_refused, still_short}
 use Rattle.scr_run.proofs.records.fill_from.Goals as goal

@@ -2,8 +2,8 @@
 use Rattle.std.proofs.Common.{◌≡◌, ◌+◌, ◌≤◌, ◌++◌, length}
 use Rattle.std.specs.Vec.Iter.{into_iter_items, into_iter_len}
 use Rattle.scr_csv.specs.Lines.{records}
-use Rattle.scr_passages.specs.Files.{bytes_of}
-use Rattle.scr_passages.specs.Passages.{AreWhole, joined, records_behind}
+use Rattle.scr_line_chunks.specs.Files.{bytes_of}
+use Rattle.scr_line_chunks.specs.Passages.{AreWhole, joined, records_behind}
 use Rattle.scr_run.specs.BookFile.{sheet_from}
 use Rattle.scr_run.proofs.records.fill_from.Given as goal
 

@@ -3,7 +3,7 @@ use Rattle.scr_cells.specs.Block.{block_text}
 use Rattle.scr_csv.specs.Lines.{records}
 use Rattle.scr_csv.specs.LineOrder.{lines_left}
 use Rattle.scr_io.specs.Cause.{Rose}
-use Rattle.scr_plans.specs.Moment.{sunk}
+use Rattle.scr_obligations.specs.Moment.{sunk}
 use Rattle.scr_run.specs.Report.{answers, any_refused}
 use Rattle.scr_run.proofs.Pieces.{front_left, leaves_none}
 use Rattle.scr_run.proofs.ReplySteps.{opening_begun, refusal_told, replies_due, replies_none, reply_begun, reply_written, same_block, told_at_end}

@@ -2,7 +2,7 @@ use Rattle.std.proofs.Common.{◌≡◌, ◌||◌}
 use Rattle.scr_cells.specs.Block.{block_text}
 use Rattle.scr_csv.specs.Lines.{records}
 use Rattle.scr_csv.specs.LineOrder.{lines_left}
-use Rattle.scr_plans.specs.Moment.{sunk}
+use Rattle.scr_obligations.specs.Moment.{sunk}
 use Rattle.scr_run.specs.Report.{answers, any_refused, replies_text, report_text}
 use Rattle.scr_run.specs.Writing.{Leaves}
 use Rattle.scr_run.proofs.report.write_report.Given as goal

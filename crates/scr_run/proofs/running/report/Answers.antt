@@ -1,7 +1,7 @@
 use Rattle.std.proofs.Common.{refl, ap}
-use Rattle.scr_plans.proofs.AllPlans.{wants_memory}
-use Rattle.scr_plans.proofs.Walks.{goes_on, silent_later, stops}
-use Rattle.scr_plans.specs.Plan.{ask}
+use Rattle.scr_obligations.proofs.AllPlans.{wants_memory}
+use Rattle.scr_obligations.proofs.Walks.{goes_on, silent_later, stops}
+use Rattle.scr_obligations.specs.Plan.{ask}
 use Rattle.scr_tree.specs.Standing.{Standing}
 use Rattle.scr_run.specs.Plans.{plan_on, report_plan}
 use Rattle.scr_run.specs.Readings.{book_in}

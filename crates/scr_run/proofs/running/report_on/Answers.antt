@@ -1,5 +1,5 @@
 use Rattle.std.proofs.Common.{refl}
-use Rattle.scr_plans.proofs.Walks.{goes_on, silent_later, stops}
+use Rattle.scr_obligations.proofs.Walks.{goes_on, silent_later, stops}
 use Rattle.scr_run.specs.Plans.{plan_on, told}
 use Rattle.scr_run.proofs.Told.{cut_told, short_told, whole_told}
 use Rattle.scr_run.proofs.running.report_on.Goals as goal

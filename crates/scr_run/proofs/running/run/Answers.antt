@@ -1,9 +1,9 @@
 use Rattle.std.proofs.Common.{rules, Some, ap, ◌∙◌}
-use Rattle.scr_plans.proofs.AllPlans.{wants_memory}
+use Rattle.scr_obligations.proofs.AllPlans.{wants_memory}
 use Rattle.scr_run.proofs.Told.{unusable}
-use Rattle.scr_words.specs.Texts.{said_of}
-use Rattle.scr_words.specs.declared.words.Words.TheVariants as words
-use Rattle.scr_words.proofs.Workers.{within}
+use Rattle.scr_args.specs.Texts.{said_of}
+use Rattle.scr_args.specs.declared.words.Words.TheVariants as words
+use Rattle.scr_args.proofs.Workers.{within}
 use Rattle.scr_run.proofs.running.run.Goals as goal
 
 pub returns-in-Err-Usage-clause-owed : goal.returns-in-Err-Usage-clause-owed

@@ -22,8 +22,8 @@ use denote.Triple.Entry.{on_entry}
 use denote.Triple.Walked.{Stays, walk_of, says, stay_dropped, Goes-dropped, ends_at}
 use Rattle.scr_dates.specs.contracts.day.Day as day
 use Rattle.scr_dates.proofs.day.Day.TheLaws as day_laws
-use Rattle.scr_names.specs.contracts.name.Name as name
-use Rattle.scr_names.proofs.name.Name.TheLaws as name_laws
+use Rattle.scr_tables.specs.contracts.name.Name as name
+use Rattle.scr_tables.proofs.name.Name.TheLaws as name_laws
 use Rattle.scr_sheet.specs.declared.numbers.Numbers.{Numbers}
 use Rattle.scr_sheet.specs.BalanceSheet.{opening_numbers, no_volumes}
 use Rattle.scr_sheet.specs.contracts.numbers.Numbers as numbers

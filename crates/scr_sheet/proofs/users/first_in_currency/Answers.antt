@@ -1,6 +1,6 @@
 use Rattle.std.proofs.Common.{ℕ, List, None, sym, ap, ◌∙◌, map, filter, fold, rules}
 use Rattle.std.proofs.lemmas.List.Sums.{fold-append}
-use Rattle.scr_names.specs.Names.{same_name, earlier}
+use Rattle.scr_tables.specs.Names.{same_name, earlier}
 use Rattle.scr_sheet.specs.BalanceSheet.{position_name, liability_name}
 use Rattle.scr_sheet.proofs.users.first_in_currency.Goals as goal
 

@@ -1,5 +1,5 @@
 use Rattle.std.proofs.Common.{◌≡◌, rules}
-use Rattle.scr_names.specs.Names.{first_in_order}
+use Rattle.scr_tables.specs.Names.{first_in_order}
 use Rattle.scr_sheet.specs.Users.{has_component, names_of_holders}
 use Rattle.scr_sheet.proofs.users.holder_of.Goals as goal
 

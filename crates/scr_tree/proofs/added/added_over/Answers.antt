@@ -1,5 +1,5 @@
 use Rattle.std.proofs.Common.{refl}
-use Rattle.scr_sums.specs.Sums.{roll_of}
+use Rattle.scr_block_graph.specs.Sums.{roll_of}
 use Rattle.scr_tree.proofs.AddedUp.{added-right, added-together, added-within}
 use Rattle.scr_tree.proofs.PointSources.{part-firsts}
 use Rattle.scr_tree.proofs.added.added_over.Goals as goal

@@ -1,5 +1,5 @@
 use Rattle.std.proofs.Common.{ap, ◌∙◌}
-use Rattle.scr_lists.specs.Lists.{members_of}
+use Rattle.scr_member_index.specs.Lists.{members_of}
 use Rattle.scr_tree.proofs.added.added_up.Goals as goal
 
 pub renewed_from-requires-clause-members : goal.renewed_from-requires-clause-members

@@ -1,8 +1,8 @@
 use Rattle.std.proofs.Common.{map, refl, ◌+◌}
-use Rattle.scr_sums.specs.Sums.{roll_of}
+use Rattle.scr_block_graph.specs.Sums.{roll_of}
 use Rattle.scr_tree.specs.Ready.{reckoning_on}
 use Rattle.scr_tree.specs.Renewed.{IsSumOf}
-use Rattle.scr_sums.specs.declared.point.Point.TheVariants as points
+use Rattle.scr_block_graph.specs.declared.point.Point.TheVariants as points
 use Rattle.scr_tree.proofs.AddedUp.{at-members, numbers-once, numbers-within, renewed-if, renewed-right}
 use Rattle.scr_tree.proofs.PointSources.{part-firsts}
 use Rattle.scr_tree.proofs.added.renewed_from.Goals as goal

@@ -4,10 +4,10 @@ use Rattle.std.specs.Option.{option_map_or}
 use Rattle.scr_links.specs.Edges.{Linked}
 use Rattle.scr_sheet.specs.Validity.{Valid}
 use Rattle.scr_discounts.specs.KeptRates.{all_rates, known_of}
-use Rattle.scr_figures.specs.Numbers.{IsNumbered, StandsAt}
-use Rattle.scr_reach.specs.Dues.{AreRelinked, sources_count}
-use Rattle.scr_reach.specs.Linked.{AreNumbers}
-use Rattle.scr_reach.specs.Relinking.{AreLinkable}
+use Rattle.scr_figure_ids.specs.Numbers.{IsNumbered, StandsAt}
+use Rattle.scr_reachability.specs.LinkedDues.{AreRelinked, sources_count}
+use Rattle.scr_reachability.specs.Linked.{AreNumbers}
+use Rattle.scr_reachability.specs.Relinking.{AreLinkable}
 use Rattle.scr_tree.specs.Changed.{IsStateOf}
 use Rattle.scr_tree.specs.Graphs.{graph_of}
 use Rattle.scr_tree.specs.Points.{IsGraphOf}

@@ -1,8 +1,8 @@
 use Rattle.std.proofs.Common.{◌≡◌, ◌<◌, ◌≤◌, ℕ, List, Some, ap, arith, get_or, length, refl, slice_get, sym, ◌∙◌}
 use Rattle.std.proofs.lemmas.Option.{slice_get-get_or}
-use Rattle.scr_reach.proofs.Placed.{get-contains}
-use Rattle.scr_sums.specs.Books.{rolled_of}
-use Rattle.scr_sums.proofs.Lives.{sources-live-in}
+use Rattle.scr_reachability.proofs.Placed.{get-contains}
+use Rattle.scr_block_graph.specs.Books.{rolled_of}
+use Rattle.scr_block_graph.proofs.Lives.{sources-live-in}
 use Rattle.scr_tree.proofs.Climbed.{climbed-all, climbed-next, climbed-none}
 use Rattle.scr_tree.proofs.Upright.{rolls-are}
 use Rattle.scr_tree.proofs.edits.climb.Goals as goal

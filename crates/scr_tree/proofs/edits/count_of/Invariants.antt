@@ -1,5 +1,5 @@
 use Rattle.std.proofs.Common.{◌≡◌, ◌+◌, drop}
-use Rattle.scr_reach.specs.Dues.{sources_count}
+use Rattle.scr_reachability.specs.LinkedDues.{sources_count}
 use Rattle.scr_tree.proofs.edits.count_of.Given as goal
 
 -- the sources of the dues so far, and of the rest

@@ -1,9 +1,9 @@
 use Rattle.std.proofs.Common.{◌≤◌, refl, sym, ◌∙◌, arith}
-use Rattle.scr_lists.specs.Following.{AreStill}
-use Rattle.scr_lists.specs.Parting.{HasMoreParts}
-use Rattle.scr_lists.specs.declared.lists.Lists.{Lists}
-use Rattle.scr_lists.proofs.Made.{no-more}
-use Rattle.scr_numbers.specs.Ranges.{Numbered}
+use Rattle.scr_member_index.specs.Following.{AreStill}
+use Rattle.scr_member_index.specs.Parting.{HasMoreParts}
+use Rattle.scr_member_index.specs.declared.lists.Lists.{Lists}
+use Rattle.scr_member_index.proofs.Made.{no-more}
+use Rattle.scr_ids.specs.Ranges.{Numbered}
 use Rattle.scr_tree.specs.Changed.{IsUndone}
 use Rattle.scr_tree.specs.declared.edits.State.{State}
 use Rattle.scr_tree.proofs.TakenUp.{err-so}

@@ -1,7 +1,7 @@
 use Rattle.std.proofs.Common.{◌∷◌, List, [], length, slice_get, refl, ap, ◌∙◌, arith}
 use Rattle.std.proofs.lemmas.List.{length-append}
-use Rattle.scr_subtotals.specs.Tables.{nothing}
-use Rattle.scr_subtotals.specs.declared.figure.Figure.{Figure}
+use Rattle.scr_partial_sums.specs.Tables.{nothing}
+use Rattle.scr_partial_sums.specs.declared.figure.Figure.{Figure}
 use Rattle.scr_tree.proofs.Slices.{got-front}
 use Rattle.scr_tree.proofs.edits.make_room.Goals as goal
 

@@ -1,6 +1,6 @@
 use Rattle.std.proofs.Common.{ap, subst, ◌∙◌}
-use Rattle.scr_parts.specs.Parts.{AreOwn}
-use Rattle.scr_rounds.specs.Marks.{MarkedNumbers}
+use Rattle.scr_sum_slots.specs.Parts.{AreOwn}
+use Rattle.scr_reachability.specs.Marks.{MarkedNumbers}
 use Rattle.scr_tree.proofs.Followed.{can-follow-lists, can-put-back, is-moved, undone-lists}
 use Rattle.scr_tree.proofs.TakenUp.{err-so}
 use Rattle.scr_tree.proofs.edits.move_and_change.Goals as goal

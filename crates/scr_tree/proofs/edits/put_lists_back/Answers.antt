@@ -1,7 +1,7 @@
 use Rattle.std.proofs.Common.{Option, refl, sym, subst}
-use Rattle.scr_lists.specs.Following.{AreStill}
-use Rattle.scr_lists.specs.declared.lists.Lists.{Lists}
-use Rattle.scr_lists.specs.declared.standing.Move.{Move}
+use Rattle.scr_member_index.specs.Following.{AreStill}
+use Rattle.scr_member_index.specs.declared.lists.Lists.{Lists}
+use Rattle.scr_member_index.specs.declared.standing.Move.{Move}
 use Rattle.scr_tree.specs.Changed.{CanPutBack}
 use Rattle.scr_tree.proofs.edits.put_lists_back.Goals as goal
 

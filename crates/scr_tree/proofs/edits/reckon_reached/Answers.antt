@@ -1,6 +1,6 @@
 use Rattle.std.proofs.Common.{nat_eq, ◌≤◌, Contains, List, ℕ, sym, subst, ◌∙◌, length, arith}
 use Rattle.std.specs.List.{IsDistinct}
-use Rattle.scr_sums.specs.Books.{rolled_of}
+use Rattle.scr_block_graph.specs.Books.{rolled_of}
 use Rattle.scr_tree.specs.Marking.{AreReached, assets}
 use Rattle.scr_tree.specs.Points.{StandsIn, book_graph, book_reckoning}
 use Rattle.scr_tree.specs.Starts.{AreMarked}

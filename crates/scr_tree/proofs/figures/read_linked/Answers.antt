@@ -1,7 +1,7 @@
 use Rattle.std.proofs.Common.{◌≡◌, ◌++◌, ◌<◌, ℕ, All, List, [], ◌∷◌, append-nil, append_assoc, length, map, sym, ap, subst, ◌∙◌}
 use Rattle.std.proofs.lemmas.Simd.{map-map}
 use Rattle.scr_links.specs.Edges.{Edge}
-use Rattle.scr_reach.specs.Linked.{edges_to, sources_in}
+use Rattle.scr_reachability.specs.Linked.{edges_to, sources_in}
 use Rattle.scr_tree.specs.Figures.{AreReadAt}
 use Rattle.scr_tree.proofs.Known.{from-all, read-next}
 use Rattle.scr_tree.proofs.figures.read_linked.Goals as goal

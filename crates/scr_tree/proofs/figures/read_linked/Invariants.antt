@@ -1,5 +1,5 @@
 use Rattle.std.proofs.Common.{◌≡◌, ◌++◌, ℕ, List, map}
-use Rattle.scr_reach.specs.Linked.{sources_in}
+use Rattle.scr_reachability.specs.Linked.{sources_in}
 use Rattle.scr_tree.specs.Figures.{AreReadAt}
 use Rattle.scr_tree.proofs.figures.read_linked.Given as goal
 

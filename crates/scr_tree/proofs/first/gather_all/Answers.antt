@@ -1,5 +1,5 @@
 use Rattle.std.proofs.Common.{ap, subst, ◌∙◌}
-use Rattle.scr_figures.specs.Gathered.{AreMembersOf}
+use Rattle.scr_figure_ids.specs.Gathered.{AreMembersOf}
 use Rattle.scr_tree.specs.First.{totals_of}
 use Rattle.scr_tree.proofs.first.gather_all.Goals as goal
 

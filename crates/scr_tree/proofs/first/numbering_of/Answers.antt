@@ -1,6 +1,6 @@
 use Rattle.std.proofs.Common.{subst}
-use Rattle.scr_figures.specs.Numbers.{IsNumbered}
-use Rattle.scr_figures.proofs.Standing.{parts-numbered}
+use Rattle.scr_figure_ids.specs.Numbers.{IsNumbered}
+use Rattle.scr_figure_ids.proofs.Standing.{parts-numbered}
 use Rattle.scr_tree.proofs.PointNumbers.{have-ranges}
 use Rattle.scr_tree.proofs.first.numbering_of.Goals as goal
 

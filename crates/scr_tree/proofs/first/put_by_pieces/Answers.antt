@@ -1,6 +1,6 @@
 use Rattle.std.proofs.Common.{◌≡◌, List, Result, Ok, Err, IfOk, sym, subst}
-use Rattle.scr_pieces.specs.Rows.{AreAllRows}
-use Rattle.scr_pieces.specs.declared.rows.Part.{Part}
+use Rattle.scr_parallel.specs.Rows.{AreAllRows}
+use Rattle.scr_parallel.specs.declared.rows.Part.{Part}
 use Rattle.scr_tree.specs.First.{AreLinkedTo, AreRowsDone, IsLinkGround}
 use Rattle.scr_tree.specs.RowSpans.{IsRowOf, row_count}
 use Rattle.scr_tree.specs.Turns.{turn}

@@ -1,6 +1,6 @@
 use Rattle.std.proofs.Common.{◌≡◌, ◌++◌, sym, ap, subst, ◌∙◌}
-use Rattle.scr_pieces.specs.Rows.{all_rows, rows_from}
-use Rattle.scr_pieces.specs.declared.rows.Sort.TheVariants as sorts
+use Rattle.scr_parallel.specs.Rows.{all_rows, rows_from}
+use Rattle.scr_parallel.specs.declared.rows.Sort.TheVariants as sorts
 use Rattle.scr_tree.specs.First.{AreRowsDone}
 use Rattle.scr_tree.specs.RowSpans.{row_count}
 use Rattle.scr_tree.specs.Written.{IsWrittenOf}

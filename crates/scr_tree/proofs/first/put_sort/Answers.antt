@@ -1,6 +1,6 @@
 use Rattle.std.proofs.Common.{◌≡◌, ◌+◌, ◌++◌, [], ◌∷◌, sym, ap, subst, ◌∙◌, arith}
 use Rattle.std.proofs.lemmas.List.{append-nil}
-use Rattle.scr_pieces.specs.Rows.{row, rows_from}
+use Rattle.scr_parallel.specs.Rows.{row, rows_from}
 use Rattle.scr_tree.specs.RowSpans.{row_count}
 use Rattle.scr_tree.specs.Written.{IsWrittenOf}
 use Rattle.scr_tree.proofs.Writing.{rows-next, written-and, written-as, written-none}

@@ -1,4 +1,4 @@
-use Rattle.scr_pieces.specs.Rows.{rows_from}
+use Rattle.scr_parallel.specs.Rows.{rows_from}
 use Rattle.scr_tree.specs.Written.{IsWrittenOf}
 use Rattle.scr_tree.proofs.first.put_sort.Given as goal
 

@@ -1,6 +1,6 @@
 use Rattle.std.proofs.Common.{◌≡◌, ◌+◌, ◌≤◌, ◌<◌, sym, ap, subst, arith}
 use Rattle.scr_nodes.specs.declared.node.Node.TheVariants as nodes
-use Rattle.scr_figures.specs.Families.{whole_family}
+use Rattle.scr_figure_ids.specs.Families.{whole_family}
 use Rattle.scr_tree.specs.Turns.{next, turn, turn_of}
 use Rattle.scr_tree.proofs.BlockTurns.{whole-read}
 use Rattle.scr_tree.proofs.Grounds.{turned, whole-turn}

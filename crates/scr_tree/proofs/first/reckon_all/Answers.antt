@@ -1,5 +1,5 @@
 use Rattle.std.proofs.Common.{subst, arith}
-use Rattle.scr_parts.specs.Parts.{AreOwn}
+use Rattle.scr_sum_slots.specs.Parts.{AreOwn}
 use Rattle.scr_tree.proofs.Numbering.{are-numbers}
 use Rattle.scr_tree.proofs.PointNumbers.{points-numbered}
 use Rattle.scr_tree.proofs.first.reckon_all.Goals as goal

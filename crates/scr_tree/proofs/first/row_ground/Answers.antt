@@ -4,8 +4,8 @@ use Rattle.scr_num.specs.Rounding.{ends}
 use Rattle.scr_sheet.specs.declared.sheet.BalanceSheet.{BalanceSheet}
 use Rattle.scr_nodes.specs.declared.node.Node.TheVariants as nodes
 use Rattle.scr_nodes.specs.declared.node.Whole.TheVariants as wholes
-use Rattle.scr_subtotals.specs.Tables.{nothing}
-use Rattle.scr_totals.proofs.SeenThrough.{rest-totals}
+use Rattle.scr_partial_sums.specs.Tables.{nothing}
+use Rattle.scr_look_through.proofs.SeenThrough.{rest-totals}
 use Rattle.scr_tree.specs.Figures.{Worth, worth_at}
 use Rattle.scr_tree.proofs.AllMade.{assets-known}
 use Rattle.scr_tree.proofs.FigureRead.{known-there, known-within}

@@ -1,7 +1,7 @@
 use Rattle.std.proofs.Common.{◌==◌, not, length, map, ap, ◌∙◌}
 use Rattle.scr_sheet.specs.BalanceSheet.{position_name}
 use Rattle.scr_nodes.specs.Rows.{holds}
-use Rattle.scr_figures.proofs.SourceRows.{key-found, key-within}
+use Rattle.scr_figure_ids.proofs.SourceRows.{key-found, key-within}
 use Rattle.scr_tree.proofs.FirstRows.{got-map, got-row}
 use Rattle.scr_tree.proofs.Unheld.{some-where}
 use Rattle.scr_tree.proofs.first_links.is_held.Goals as goal

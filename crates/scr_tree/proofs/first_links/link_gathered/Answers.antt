@@ -1,6 +1,6 @@
 use Rattle.std.proofs.Common.{◌+◌, refl, subst}
-use Rattle.scr_figures.specs.Families.{family_of, table_of}
-use Rattle.scr_numbers.specs.Ranges.{first}
+use Rattle.scr_figure_ids.specs.Families.{family_of, table_of}
+use Rattle.scr_ids.specs.Ranges.{first}
 use Rattle.scr_tree.specs.First.{AreLinkedTo, IsLinkedNext}
 use Rattle.scr_tree.specs.Turns.{next, turn_of}
 use Rattle.scr_tree.proofs.FirstRows.{on-ok}

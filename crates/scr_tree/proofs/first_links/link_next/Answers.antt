@@ -1,5 +1,5 @@
 use Rattle.std.proofs.Common.{◌≤◌, ◌++◌, sym, ap, subst, ◌∙◌}
-use Rattle.scr_reach.specs.Linked.{edges_to, sources_in}
+use Rattle.scr_reachability.specs.Linked.{edges_to, sources_in}
 use Rattle.scr_tree.proofs.first_links.link_next.Goals as goal
 
 pub returns : goal.returns

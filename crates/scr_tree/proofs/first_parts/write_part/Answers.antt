@@ -1,9 +1,9 @@
 use Rattle.std.proofs.Common.{◌≡◌, ◌+◌, ◌++◌, Some, drop, take, length, get_or, slice_get, sym, ap, subst, ◌∙◌, arith}
 use Rattle.std.proofs.lemmas.List.{take_all}
 use Rattle.std.proofs.lemmas.Option.{slice_get-get_or}
-use Rattle.scr_pieces.specs.Rows.{AreOfRows, IsWithin, rows_in, rows_of}
-use Rattle.scr_pieces.specs.declared.rows.Piece.{Piece}
-use Rattle.scr_pieces.specs.declared.rows.Sort.TheVariants as sorts
+use Rattle.scr_parallel.specs.Rows.{AreOfRows, IsWithin, rows_in, rows_of}
+use Rattle.scr_parallel.specs.declared.rows.Piece.{Piece}
+use Rattle.scr_parallel.specs.declared.rows.Sort.TheVariants as sorts
 use Rattle.scr_tree.specs.RowSpans.{IsRowOf, row_count}
 use Rattle.scr_tree.specs.Written.{IsWrittenOf}
 use Rattle.scr_tree.proofs.FirstRows.{each-get}

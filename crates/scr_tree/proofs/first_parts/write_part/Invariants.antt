@@ -1,5 +1,5 @@
 use Rattle.std.proofs.Common.{drop, take}
-use Rattle.scr_pieces.specs.Rows.{AreOfRows, rows_of}
+use Rattle.scr_parallel.specs.Rows.{AreOfRows, rows_of}
 use Rattle.scr_tree.specs.RowSpans.{IsRowOf}
 use Rattle.scr_tree.specs.Written.{IsWrittenOf}
 use Rattle.scr_tree.proofs.first_parts.write_part.Given as goal

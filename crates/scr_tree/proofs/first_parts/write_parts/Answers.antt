@@ -1,7 +1,7 @@
 use Rattle.std.proofs.Common.{◌+◌, ◌++◌, Some, take, sym, ap, subst, ◌∙◌, arith}
 use Rattle.std.proofs.lemmas.List.{take_all}
 use Rattle.std.proofs.lemmas.Option.{slice_get-get_or}
-use Rattle.scr_pieces.specs.Rows.{ArePiecesWithin, IsPart, rows_of}
+use Rattle.scr_parallel.specs.Rows.{ArePiecesWithin, IsPart, rows_of}
 use Rattle.scr_tree.specs.RowSpans.{IsRowOf, row_count}
 use Rattle.scr_tree.specs.Written.{IsWrittenOf, rows_among}
 use Rattle.scr_tree.proofs.FirstRows.{each-get}

@@ -1,5 +1,5 @@
 use Rattle.std.proofs.Common.{◌≡◌, ◌+◌, ◌-◌, ◌++◌, [], ◌∷◌, sym, subst, arith}
-use Rattle.scr_pieces.specs.Rows.{AreOfRows, row, rows_from}
+use Rattle.scr_parallel.specs.Rows.{AreOfRows, row, rows_from}
 use Rattle.scr_tree.specs.RowSpans.{IsRowOf}
 use Rattle.scr_tree.specs.Written.{IsWrittenOf}
 use Rattle.scr_tree.proofs.Writing.{piece-next, piece-on, written-and, written-as, written-none}

@@ -1,5 +1,5 @@
 use Rattle.std.proofs.Common.{◌-◌, ◌++◌, List}
-use Rattle.scr_pieces.specs.Rows.{AreOfRows, Row, rows_from, rows_in}
+use Rattle.scr_parallel.specs.Rows.{AreOfRows, Row, rows_from, rows_in}
 use Rattle.scr_tree.specs.RowSpans.{IsRowOf}
 use Rattle.scr_tree.specs.Written.{IsWrittenOf}
 use Rattle.scr_tree.proofs.first_parts.write_piece.Given as goal

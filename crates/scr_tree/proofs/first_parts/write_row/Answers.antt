@@ -1,6 +1,6 @@
 use Rattle.std.proofs.Common.{◌≡◌, ◌+◌, ◌<◌, length, take, drop, sym, ap, subst, ◌∙◌, arith}
 use Rattle.std.proofs.lemmas.List.{length-append}
-use Rattle.scr_numbers.specs.Ranges.{count, first, stride}
+use Rattle.scr_ids.specs.Ranges.{count, first, stride}
 use Rattle.scr_tree.specs.RowSpans.{IsRowOf, sort_table}
 use Rattle.scr_tree.proofs.Writing.{first-own, past-own, row-few, row-room, row-written}
 use Rattle.scr_tree.proofs.first_parts.write_row.Goals as goal

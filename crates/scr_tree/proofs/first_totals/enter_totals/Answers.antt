@@ -1,6 +1,6 @@
 use Rattle.std.proofs.Common.{length, ap, ◌∙◌}
 use Rattle.scr_sheet.specs.declared.sheet.BalanceSheet.{BalanceSheet}
-use Rattle.scr_totals.proofs.SeenThrough.{front-totals, rest-totals}
+use Rattle.scr_look_through.proofs.SeenThrough.{front-totals, rest-totals}
 use Rattle.scr_tree.proofs.first_totals.enter_totals.Goals as goal
 
 pub put_funds-requires-clause-totals : goal.put_funds-requires-clause-totals

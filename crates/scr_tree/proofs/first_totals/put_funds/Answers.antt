@@ -4,7 +4,7 @@ use Rattle.scr_sheet.specs.declared.sheet.BalanceSheet.{BalanceSheet}
 use Rattle.scr_tree.specs.Turns.{turn}
 use Rattle.scr_tree.proofs.Grounds.{as-long, fund-within, fund-written, reckoned-over}
 use Rattle.std.proofs.lemmas.List.{length-map}
-use Rattle.scr_numbers.specs.declared.table.Table.TheVariants as tables
+use Rattle.scr_ids.specs.declared.table.Table.TheVariants as tables
 use Rattle.scr_tree.proofs.first_totals.put_funds.Goals as goal
 
 pub first-number-requires : goal.first-number-requires

@@ -3,7 +3,7 @@ use Rattle.scr_sheet.specs.BalanceSheet.{position_name}
 use Rattle.scr_sheet.specs.declared.sheet.BalanceSheet.{BalanceSheet}
 use Rattle.scr_tree.specs.Turns.{turn}
 use Rattle.scr_tree.proofs.Grounds.{as-long, security-within, security-written, reckoned-over}
-use Rattle.scr_pieces.specs.declared.rows.Sort.TheVariants as sorts
+use Rattle.scr_parallel.specs.declared.rows.Sort.TheVariants as sorts
 use Rattle.scr_tree.proofs.Writing.{row-few}
 use Rattle.scr_tree.proofs.first_totals.put_securities.Goals as goal
 

@@ -1,6 +1,6 @@
 -- No seat so far is in the list.
 use Rattle.std.proofs.Common.{◌≢◌, ◌<◌, ℕ}
-use Rattle.scr_rolls.specs.Seatings.{roll_in}
+use Rattle.scr_member_lists.specs.Seatings.{roll_in}
 use Rattle.scr_tree.proofs.graph.seat_in.Given as goal
 
 abbrev pub invariant-loop-seat : goal.invariant-loop-seat

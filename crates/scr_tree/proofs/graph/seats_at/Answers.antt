@@ -1,6 +1,6 @@
 use Rattle.std.proofs.Common.{◌≡◌, ◌<◌, ℕ, true, length, ap, subst, sym, ◌∙◌, arith}
 use Rattle.scr_sheet.specs.declared.keys.Table.{Table}
-use Rattle.scr_rolls.specs.Seatings.{Seated, seat_at}
+use Rattle.scr_member_lists.specs.Seatings.{Seated, seat_at}
 use Rattle.scr_book.specs.Places.{names_in}
 use Rattle.scr_book.specs.RolledSheets.{RolledSheet}
 use Rattle.scr_book.specs.Rolls.{AreRollsOf, same_table, seated_in}

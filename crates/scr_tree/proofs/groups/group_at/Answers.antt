@@ -1,13 +1,13 @@
 use Rattle.std.proofs.Common.{◌≡◌, true, false, length, refl, sym, ap, ap₂, subst, ◌∙◌}
 use Rattle.std.proofs.lemmas.Bool.{and_parts}
-use Rattle.scr_blocks.specs.Blocks.{is_block}
+use Rattle.scr_sum_tree.specs.Blocks.{is_block}
 use Rattle.scr_nodes.specs.Live.{is_live}
-use Rattle.scr_parts.specs.Parts.{AreOwn}
-use Rattle.scr_parts.proofs.Views.{no-some, one-some}
+use Rattle.scr_sum_slots.specs.Parts.{AreOwn}
+use Rattle.scr_sum_slots.proofs.Views.{no-some, one-some}
 use Rattle.scr_sheet.specs.declared.roll.Roll.TheVariants as rolls
-use Rattle.scr_sums.specs.Books.{rolled_of}
-use Rattle.scr_sums.specs.Graph.{reads, roll_in}
-use Rattle.scr_sums.specs.Sums.{reader_of}
+use Rattle.scr_block_graph.specs.Books.{rolled_of}
+use Rattle.scr_block_graph.specs.Graph.{reads, roll_in}
+use Rattle.scr_block_graph.specs.Sums.{reader_of}
 use Rattle.scr_tree.specs.First.{group_sum}
 use Rattle.scr_tree.specs.Reading.{IsRollOf}
 use Rattle.scr_tree.proofs.GroupsMade.{its-roll, no-members, one-begun}

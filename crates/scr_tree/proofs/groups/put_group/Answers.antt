@@ -1,10 +1,10 @@
 use Rattle.std.proofs.Common.{◌≡◌, true, IfSome, subst}
 use Rattle.std.specs.Prelude.{IsNone}
-use Rattle.scr_parts.specs.Parts.{AreOwn}
-use Rattle.scr_sums.specs.Books.{rolled_of}
-use Rattle.scr_sums.specs.Graph.{is_live_in, reads}
-use Rattle.scr_sums.specs.declared.point.Block.{Block}
-use Rattle.scr_sums.specs.declared.point.Point.TheVariants as points
+use Rattle.scr_sum_slots.specs.Parts.{AreOwn}
+use Rattle.scr_block_graph.specs.Books.{rolled_of}
+use Rattle.scr_block_graph.specs.Graph.{is_live_in, reads}
+use Rattle.scr_block_graph.specs.declared.point.Block.{Block}
+use Rattle.scr_block_graph.specs.declared.point.Point.TheVariants as points
 use Rattle.scr_tree.specs.First.{IsGroupAt}
 use Rattle.scr_tree.specs.declared.graph.Numbers.{Numbers}
 use Rattle.scr_tree.proofs.GroupsMade.{group-made, group-members}

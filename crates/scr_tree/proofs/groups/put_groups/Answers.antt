@@ -1,5 +1,5 @@
 use Rattle.std.proofs.Common.{◌≡◌, ◌∙◌, ap, arith, subst}
-use Rattle.scr_parts.specs.Parts.{AreOwn, size_of}
+use Rattle.scr_sum_slots.specs.Parts.{AreOwn, size_of}
 use Rattle.scr_tree.proofs.GroupsMade.{groups-begun, groups-ended}
 use Rattle.scr_tree.proofs.groups.put_groups.Goals as goal
 

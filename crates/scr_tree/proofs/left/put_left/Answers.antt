@@ -1,8 +1,8 @@
 use Rattle.std.proofs.Common.{ℕ, List, Contains, nat_eq, sym, subst, arith}
 use Rattle.std.specs.List.{IsDistinct}
-use Rattle.scr_reach.specs.Dues.{IsLiveAt}
+use Rattle.scr_reachability.specs.LinkedDues.{IsLiveAt}
 use Rattle.scr_sheet.specs.Validity.{Valid}
-use Rattle.scr_sums.specs.Books.{rolled_of}
+use Rattle.scr_block_graph.specs.Books.{rolled_of}
 use Rattle.scr_tree.specs.Figures.{AreSettled}
 use Rattle.scr_tree.specs.First.{IsWhole, numbers_of}
 use Rattle.scr_tree.specs.Left.{AreLeft}

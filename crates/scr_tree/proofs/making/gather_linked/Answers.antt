@@ -1,7 +1,7 @@
-use Rattle.scr_figures.specs.Numbers.{StandsAt}
+use Rattle.scr_figure_ids.specs.Numbers.{StandsAt}
 use Rattle.scr_nodes.specs.Sources.{sources_of}
-use Rattle.scr_reach.specs.Linked.{AreAt}
-use Rattle.scr_figures.specs.SourceNumbers.{ArePushed}
+use Rattle.scr_reachability.specs.Linked.{AreAt}
+use Rattle.scr_figure_ids.specs.SourceNumbers.{ArePushed}
 use Rattle.scr_tree.proofs.FirstRows.{on-ok}
 use Rattle.scr_tree.proofs.Grounds.{pushed-at}
 use Rattle.scr_tree.proofs.making.gather_linked.Goals as goal

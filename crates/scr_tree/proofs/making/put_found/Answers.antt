@@ -3,7 +3,7 @@ use Rattle.scr_tree.specs.First.{numbers_of}
 use Rattle.scr_tree.specs.Summed.{AreBlocksOn, AreMembersOn, KeepsOffBlocksOn}
 use Rattle.scr_tree.specs.Points.{AreNumbersOf}
 use Rattle.scr_tree.specs.declared.graph.Numbers.{Numbers}
-use Rattle.scr_sums.specs.Graph.{reads}
+use Rattle.scr_block_graph.specs.Graph.{reads}
 use Rattle.scr_sheet.specs.Validity.{Valid}
 use Rattle.scr_tree.proofs.SumsMade.{members-on, members-weaker, none-there, off-found, off-none, some-there}
 use Rattle.scr_tree.proofs.making.put_found.Goals as goal

@@ -1,9 +1,9 @@
 use Rattle.std.proofs.Common.{◌<◌, ◌+◌, length, refl, sym, subst}
 use Rattle.std.proofs.lemmas.List.Elements.{All-from_recursion}
-use Rattle.scr_figures.specs.Families.{family_of, table_of}
+use Rattle.scr_figure_ids.specs.Families.{family_of, table_of}
 use Rattle.scr_nodes.specs.Sources.{sources_of}
-use Rattle.scr_numbers.specs.Ranges.{first}
-use Rattle.scr_reach.specs.Linked.{sources_in}
+use Rattle.scr_ids.specs.Ranges.{first}
+use Rattle.scr_reachability.specs.Linked.{sources_in}
 use Rattle.scr_tree.specs.Figures.{reckoning_of}
 use Rattle.scr_tree.specs.First.{link_ground}
 use Rattle.scr_tree.proofs.Grounds.{family-few, for-links, have-within, linked-done, number-within, row-few, sources-known}

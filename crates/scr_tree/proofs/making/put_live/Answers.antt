@@ -1,6 +1,6 @@
 use Rattle.std.proofs.Common.{◌≡◌, ◌⊎◌, inl, inr, true, false, sym, ap, ◌∙◌}
 use Rattle.std.specs.Prelude.{is_some}
-use Rattle.scr_sums.specs.Sums.{first_sum}
+use Rattle.scr_block_graph.specs.Sums.{first_sum}
 use Rattle.scr_tree.specs.Points.{is_linked}
 use Rattle.scr_sheet.specs.declared.sheet.BalanceSheet.{BalanceSheet}
 use Rattle.scr_nodes.specs.Live.{is_live}

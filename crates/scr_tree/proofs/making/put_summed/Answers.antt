@@ -1,9 +1,9 @@
 use Rattle.std.proofs.Common.{◌≡◌, Bool, ◌<◌, ◌+◌, ◌∙◌, false, inl, inr, refl, sym, ap, ap₂, subst, Some}
 use Rattle.scr_num.specs.Rounding.{Ends}
-use Rattle.scr_figures.specs.Families.{family_of, table_of}
-use Rattle.scr_numbers.specs.Ranges.{first}
-use Rattle.scr_subtotals.specs.declared.figure.Figure.{Figure}
-use Rattle.scr_sums.specs.Sums.{reader_of}
+use Rattle.scr_figure_ids.specs.Families.{family_of, table_of}
+use Rattle.scr_ids.specs.Ranges.{first}
+use Rattle.scr_partial_sums.specs.declared.figure.Figure.{Figure}
+use Rattle.scr_block_graph.specs.Sums.{reader_of}
 use Rattle.scr_tree.specs.Figures.{worth_of, worth_at}
 use Rattle.scr_tree.specs.First.{IsSumOf, link_ground}
 use Rattle.scr_tree.specs.Summed.{summed_in}

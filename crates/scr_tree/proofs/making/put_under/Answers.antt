@@ -1,6 +1,6 @@
 use Rattle.std.proofs.Common.{◌≡◌, ◌∙◌, inl, inr, Option, Some, sym, subst}
-use Rattle.scr_sums.specs.Sums.{reader_of, second_sum}
-use Rattle.scr_sums.specs.declared.sum.Sum.{Sum}
+use Rattle.scr_block_graph.specs.Sums.{reader_of, second_sum}
+use Rattle.scr_block_graph.specs.declared.sum.Sum.{Sum}
 use Rattle.scr_tree.specs.First.{AreBlocksThere, IsSumOf, KeepsOffBlocks}
 use Rattle.scr_tree.proofs.SumsMade.{are-read, blocks-weaker, both-off, both-there, members-kept, members-weaker, no-reader, off-none}
 use Rattle.scr_tree.proofs.making.put_under.Goals as goal

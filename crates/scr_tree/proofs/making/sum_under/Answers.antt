@@ -2,7 +2,7 @@ use Rattle.std.proofs.Common.{◌≡◌, ◌≤◌, ◌∙◌, true, sym, ap, su
 use Rattle.scr_tree.specs.Summed.{AreBlocksOn, AreMembersOn, sum_on, summed_in}
 use Rattle.scr_tree.specs.Points.{AreNumbersOf}
 use Rattle.scr_tree.specs.declared.graph.Numbers.{Numbers}
-use Rattle.scr_sums.specs.Graph.{reads}
+use Rattle.scr_block_graph.specs.Graph.{reads}
 use Rattle.scr_sheet.specs.Validity.{Valid}
 use Rattle.scr_tree.proofs.SumsMade.{blocks-weaker, members-on, members-weaker, sum-worth, there-on}
 use Rattle.scr_tree.proofs.making.sum_under.Goals as goal

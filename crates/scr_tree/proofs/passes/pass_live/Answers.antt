@@ -1,7 +1,7 @@
 use Rattle.std.proofs.Common.{◌+◌, ◌∙◌, refl, sym, ap}
-use Rattle.scr_figures.specs.Families.{family_of, table_of}
+use Rattle.scr_figure_ids.specs.Families.{family_of, table_of}
 use Rattle.scr_nodes.specs.Live.{is_live}
-use Rattle.scr_numbers.specs.Ranges.{first}
+use Rattle.scr_ids.specs.Ranges.{first}
 use Rattle.scr_sheet.specs.declared.sheet.BalanceSheet.{BalanceSheet}
 use Rattle.scr_tree.specs.First.{link_ground}
 use Rattle.scr_tree.proofs.Grounds.{family-few, for-links, row-few}

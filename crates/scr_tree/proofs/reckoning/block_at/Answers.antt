@@ -1,8 +1,8 @@
 use Rattle.std.proofs.Common.{Bool, ap₂, ◌∙◌}
-use Rattle.scr_blocks.specs.declared.blocks.Level.TheVariants as levels
+use Rattle.scr_sum_tree.specs.declared.blocks.Level.TheVariants as levels
 use Rattle.scr_num.specs.Rounding.{Ends}
-use Rattle.scr_sums.specs.Graph.{block_point}
-use Rattle.scr_sums.specs.declared.sum.Sum.TheVariants as sums
+use Rattle.scr_block_graph.specs.Graph.{block_point}
+use Rattle.scr_block_graph.specs.declared.sum.Sum.TheVariants as sums
 use Rattle.scr_tree.proofs.SquareBlocks.{figure-right, point-lives}
 use Rattle.scr_tree.proofs.StillBlocks.{block-still}
 use Rattle.scr_tree.proofs.reckoning.block_at.Goals as goal

@@ -2,7 +2,7 @@ use Rattle.std.proofs.Common.{◌≡◌, inl, inr, ◌+◌, ◌<◌, ◌≤◌, 
 use Rattle.std.specs.Prelude.{slice_index}
 use Rattle.std.proofs.lemmas.Bool.{cases_lt}
 use Rattle.std.proofs.lemmas.Option.{slice_get-get_or, slice_get_within}
-use Rattle.scr_subtotals.specs.Tables.{IsAmountBeforeNothing}
+use Rattle.scr_partial_sums.specs.Tables.{IsAmountBeforeNothing}
 use Rattle.scr_tree.proofs.reckoning.count_still.Goals as goal
 
 pub loop-row-init : goal.loop-row-init

@@ -1,7 +1,7 @@
 -- The squares so far come first, and are still.
 use Rattle.std.proofs.Common.{◌≡◌, ℕ, ◌+◌, ◌<◌, Some, slice_get}
 use Rattle.std.specs.Prelude.{slice_index}
-use Rattle.scr_subtotals.specs.Tables.{IsAmountBeforeNothing}
+use Rattle.scr_partial_sums.specs.Tables.{IsAmountBeforeNothing}
 use Rattle.scr_tree.proofs.reckoning.count_still.Given as goal
 
 abbrev pub invariant-loop-row : goal.invariant-loop-row

@@ -1,8 +1,8 @@
 use Rattle.std.proofs.Common.{◌+◌, ◌<◌, IfSome, IsNone, refl, sym, subst, arith}
-use Rattle.scr_numbers.specs.Ranges.{IsAt, count, first}
-use Rattle.scr_numbers.specs.declared.table.Table.{Table}
-use Rattle.scr_numbers.specs.declared.table.Table.TheVariants as ranged
-use Rattle.scr_subtotals.specs.Tables.{IsAmountBeforeNothing}
+use Rattle.scr_ids.specs.Ranges.{IsAt, count, first}
+use Rattle.scr_ids.specs.declared.table.Table.{Table}
+use Rattle.scr_ids.specs.declared.table.Table.TheVariants as ranged
+use Rattle.scr_partial_sums.specs.Tables.{IsAmountBeforeNothing}
 use Rattle.scr_tree.proofs.reckoning.is_within.Goals as goal
 
 pub first-first-requires : goal.first-first-requires

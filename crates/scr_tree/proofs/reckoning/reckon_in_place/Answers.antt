@@ -3,7 +3,7 @@ use Rattle.scr_tree.specs.Ready.{AreInTurnOn, StandsOn}
 use Rattle.scr_tree.proofs.Journaled.{journaled-long}
 use Rattle.scr_tree.proofs.Turning.{in-turn}
 use Rattle.scr_tree.proofs.reckoning.reckon_in_place.Goals as goal
-use Rattle.scr_sums.specs.Books.{rolled_of}
+use Rattle.scr_block_graph.specs.Books.{rolled_of}
 use Rattle.scr_tree.specs.Points.{book_graph}
 
 pub write_in_turn-requires-clause-turn : goal.write_in_turn-requires-clause-turn

@@ -2,7 +2,7 @@ use Rattle.std.proofs.Common.{◌≡◌, ◌<◌, ◌||◌, Bool, Some, length, 
 use Rattle.scr_num.specs.Rounding.{ends}
 use Rattle.scr_nodes.specs.Sources.{concentration_square}
 use Rattle.scr_sheet.specs.declared.sheet.BalanceSheet.{BalanceSheet}
-use Rattle.scr_sums.specs.declared.point.Point.TheVariants as points
+use Rattle.scr_block_graph.specs.declared.point.Point.TheVariants as points
 use Rattle.scr_tree.specs.Ready.{reckoning_on}
 use Rattle.scr_tree.proofs.SquareRow.{square-fits, square-right, square-row, square-stands, square-within}
 use Rattle.scr_tree.proofs.reckoning.square_at.Goals as goal

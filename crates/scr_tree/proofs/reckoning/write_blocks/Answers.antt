@@ -1,8 +1,8 @@
 use Rattle.std.proofs.Common.{◌≡◌, inl, inr, ◌+◌, Some, drop, length, set, slice_get, refl, sym, ap, subst, ◌∙◌, arith}
 use Rattle.std.proofs.lemmas.Bool.{cases_lt}
 use Rattle.std.proofs.lemmas.List.{length-set}
-use Rattle.scr_lists.specs.Lists.{members_of}
-use Rattle.scr_sums.specs.declared.sum.Sum.TheVariants as sums
+use Rattle.scr_member_index.specs.Lists.{members_of}
+use Rattle.scr_block_graph.specs.declared.sum.Sum.TheVariants as sums
 use Rattle.scr_tree.specs.Ready.{AreKnownBut}
 use Rattle.scr_tree.specs.SquareRun.{IsBlockAtOn}
 use Rattle.scr_tree.specs.Summed.{firsts_on}

@@ -1,5 +1,5 @@
 use Rattle.std.proofs.Common.{slice_index_or, refl, ap, arith}
-use Rattle.scr_numbers.specs.declared.table.Table.TheVariants as tables
+use Rattle.scr_ids.specs.declared.table.Table.TheVariants as tables
 use Rattle.scr_tree.proofs.row_spans.cents_of.Goals as goal
 
 pub bounds-cents-place : goal.bounds-cents-place

@@ -7,7 +7,7 @@ use Rattle.scr_tree.proofs.FirstRows.{liability-own}
 use Rattle.scr_tree.proofs.GroupSums.{one-row}
 use Rattle.scr_tree.proofs.RowParts.{estimates-right}
 use Rattle.scr_tree.proofs.RowsMade.{discounts-are, rows-are}
-use Rattle.scr_pieces.specs.declared.rows.Sort.TheVariants as sorts
+use Rattle.scr_parallel.specs.declared.rows.Sort.TheVariants as sorts
 use Rattle.scr_tree.proofs.Writing.{row-few}
 use Rattle.scr_tree.proofs.row_spans.estimate_of.Goals as goal
 

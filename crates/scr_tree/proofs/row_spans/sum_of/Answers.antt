@@ -5,7 +5,7 @@ use Rattle.std.specs.Prelude.{◌≤ℤ◌, sum_by}
 use Rattle.std.proofs.lemmas.Int.{ints}
 use Rattle.std.proofs.lemmas.List.{take_all}
 use Rattle.std.proofs.lemmas.List.Elements.{length_all_zip}
-use Rattle.scr_figures.proofs.SourceRows.{within-at}
+use Rattle.scr_figure_ids.proofs.SourceRows.{within-at}
 use Rattle.scr_tree.specs.RowSpans.{BeginsAt}
 use Rattle.scr_tree.proofs.GroupSums.{sum-next, zip-at}
 use Rattle.scr_tree.proofs.row_spans.sum_of.Goals as goal

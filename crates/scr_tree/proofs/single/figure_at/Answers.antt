@@ -1,9 +1,9 @@
 use Rattle.std.proofs.Common.{refl, sym, subst, arith, ◌∙◌}
-use Rattle.scr_names.proofs.PastRows.{missing}
-use Rattle.scr_figures.specs.Numbers.{IsNumbered, StandsAt}
+use Rattle.scr_tables.proofs.PastRows.{missing}
+use Rattle.scr_figure_ids.specs.Numbers.{IsNumbered, StandsAt}
 use Rattle.scr_sheet.specs.declared.sheet.BalanceSheet.{BalanceSheet}
 use Rattle.scr_nodes.specs.declared.node.Node.TheVariants as nodes
-use Rattle.scr_sums.specs.Sums.{first_sum}
+use Rattle.scr_block_graph.specs.Sums.{first_sum}
 use Rattle.scr_tree.proofs.Here.{block-there}
 use Rattle.scr_tree.proofs.WholeNumbers.{whole-there}
 use Rattle.scr_tree.proofs.single.figure_at.Goals as goal

@@ -1,9 +1,9 @@
 use Rattle.std.proofs.Common.{◌≡◌, ◌||◌, true, map, ap, subst, sym, ◌∙◌}
 use Rattle.scr_nodes.specs.Live.{is_live}
 use Rattle.scr_num.specs.Rounding.{ends}
-use Rattle.scr_sums.specs.Books.{rolled_of}
-use Rattle.scr_sums.specs.Graph.{is_live_in}
-use Rattle.scr_sums.specs.declared.point.Point.TheVariants as points
+use Rattle.scr_block_graph.specs.Books.{rolled_of}
+use Rattle.scr_block_graph.specs.Graph.{is_live_in}
+use Rattle.scr_block_graph.specs.declared.point.Point.TheVariants as points
 use Rattle.scr_tree.specs.Ready.{reckoning_on}
 use Rattle.scr_tree.proofs.Spanned.{point-right}
 use Rattle.scr_tree.proofs.single.figure_of_node.Goals as goal

@@ -1,7 +1,7 @@
 use Rattle.std.proofs.Common.{◌||◌, map, ap, ◌∙◌}
 use Rattle.scr_nodes.specs.declared.node.Node.TheVariants as nodes
 use Rattle.scr_num.specs.Rounding.{ends}
-use Rattle.scr_sums.specs.declared.point.Point.TheVariants as points
+use Rattle.scr_block_graph.specs.declared.point.Point.TheVariants as points
 use Rattle.scr_tree.specs.Ready.{reckoning_on}
 use Rattle.scr_tree.proofs.Spanned.{point-right}
 use Rattle.scr_tree.proofs.WholeRead.{whole-live, whole-read, whole-within}

@@ -1,9 +1,9 @@
 use Rattle.std.proofs.Common.{◌≡◌, ℕ, ◌++◌, All, List, true, is_some, length, ap, subst, sym, ◌<◌, ◌∙◌}
 use Rattle.scr_nodes.specs.Live.{is_live}
-use Rattle.scr_reach.specs.Linked.{sources_in as linked_in}
-use Rattle.scr_sums.specs.Books.{rolled_of}
-use Rattle.scr_sums.specs.Graph.{is_live_in, sources_in}
-use Rattle.scr_sums.specs.declared.point.Point.TheVariants as points
+use Rattle.scr_reachability.specs.Linked.{sources_in as linked_in}
+use Rattle.scr_block_graph.specs.Books.{rolled_of}
+use Rattle.scr_block_graph.specs.Graph.{is_live_in, sources_in}
+use Rattle.scr_block_graph.specs.declared.point.Point.TheVariants as points
 use Rattle.scr_tree.specs.Figures.{AreReadAt}
 use Rattle.scr_tree.specs.Ready.{reckoning_on}
 use Rattle.scr_tree.specs.declared.graph.Graph.{Graph}

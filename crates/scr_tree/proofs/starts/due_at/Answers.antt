@@ -1,6 +1,6 @@
 use Rattle.std.proofs.Common.{inl, inr, refl}
-use Rattle.scr_rounds.specs.declared.ranks.Due.{Due}
-use Rattle.scr_figures.specs.Numbers.{StandsAt}
+use Rattle.scr_reachability.specs.declared.ranks.Due.{Due}
+use Rattle.scr_figure_ids.specs.Numbers.{StandsAt}
 use Rattle.scr_tree.specs.Graphs.{graph_of}
 use Rattle.scr_tree.proofs.StartRows.{due-dead, due-live}
 use Rattle.scr_tree.proofs.starts.due_at.Goals as goal

@@ -2,8 +2,8 @@ use Rattle.std.proofs.Common.{◌+◌, ◌++◌, ◌∷◌, [], take, sym, ap, s
 use Rattle.std.proofs.lemmas.List.{take_more}
 use Rattle.std.specs.List.{AllByRecursion}
 use Rattle.scr_funds.proofs.Members.{each_push}
-use Rattle.scr_figures.specs.Numbers.{StandsAt}
-use Rattle.scr_reach.specs.Dues.{AreDuesFor}
+use Rattle.scr_figure_ids.specs.Numbers.{StandsAt}
+use Rattle.scr_reachability.specs.LinkedDues.{AreDuesFor}
 use Rattle.scr_tree.specs.Graphs.{graph_of}
 use Rattle.scr_tree.specs.Starts.{IsLiveOrEmpty}
 use Rattle.scr_tree.proofs.StartRows.{dues-next}

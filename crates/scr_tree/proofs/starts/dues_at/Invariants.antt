@@ -1,8 +1,8 @@
 -- What is due at the numbers so far.
 use Rattle.std.proofs.Common.{take}
 use Rattle.std.specs.List.{AllByRecursion}
-use Rattle.scr_figures.specs.Numbers.{StandsAt}
-use Rattle.scr_reach.specs.Dues.{AreDuesFor}
+use Rattle.scr_figure_ids.specs.Numbers.{StandsAt}
+use Rattle.scr_reachability.specs.LinkedDues.{AreDuesFor}
 use Rattle.scr_tree.specs.Graphs.{graph_of}
 use Rattle.scr_tree.specs.Starts.{IsLiveOrEmpty}
 use Rattle.scr_tree.proofs.starts.dues_at.Given as goal

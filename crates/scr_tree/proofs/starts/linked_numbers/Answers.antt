@@ -1,8 +1,8 @@
 use Rattle.std.proofs.Common.{[], nat_eq, subst, sym}
 use Rattle.std.specs.List.{IsDistinct}
-use Rattle.scr_figures.specs.Numbers.{StandsAt}
-use Rattle.scr_reach.specs.Dues.{AreStarts}
-use Rattle.scr_reach.proofs.Starting.{starts-none}
+use Rattle.scr_figure_ids.specs.Numbers.{StandsAt}
+use Rattle.scr_reachability.specs.LinkedDues.{AreStarts}
+use Rattle.scr_reachability.proofs.Starting.{starts-none}
 use Rattle.scr_tree.specs.Graphs.{graph_of}
 use Rattle.scr_tree.proofs.StartRows.{point-next}
 use Rattle.scr_tree.proofs.starts.linked_numbers.Goals as goal

@@ -1,8 +1,8 @@
 -- Those of the points so far.
 use Rattle.std.proofs.Common.{nat_eq, take}
 use Rattle.std.specs.List.{IsDistinct}
-use Rattle.scr_figures.specs.Numbers.{StandsAt}
-use Rattle.scr_reach.specs.Dues.{AreStarts}
+use Rattle.scr_figure_ids.specs.Numbers.{StandsAt}
+use Rattle.scr_reachability.specs.LinkedDues.{AreStarts}
 use Rattle.scr_tree.specs.Starts.{relinked}
 use Rattle.scr_tree.proofs.starts.linked_numbers.Given as goal
 

@@ -1,6 +1,6 @@
 use Rattle.std.proofs.Common.{◌≡◌, true, false, refl, sym, arith, ◌∙◌}
-use Rattle.scr_sums.specs.Books.{rolled_of}
-use Rattle.scr_sums.specs.Graph.{is_live_in}
+use Rattle.scr_block_graph.specs.Books.{rolled_of}
+use Rattle.scr_block_graph.specs.Graph.{is_live_in}
 use Rattle.scr_tree.specs.Points.{StandsIn, book_graph}
 use Rattle.scr_tree.proofs.StartRows.{marked-none, marked-one}
 use Rattle.scr_tree.proofs.starts.mark_start.Goals as goal

@@ -1,6 +1,6 @@
 use Rattle.std.proofs.Common.{◌≤◌, arith, length, refl, subst, ◌∙◌}
 use Rattle.std.proofs.lemmas.List.{take_all}
-use Rattle.scr_sums.specs.Books.{rolled_of}
+use Rattle.scr_block_graph.specs.Books.{rolled_of}
 use Rattle.scr_tree.specs.Points.{StandsIn, book_graph}
 use Rattle.scr_tree.specs.Starts.{AreMarked}
 use Rattle.scr_tree.proofs.StartRows.{marked-first, marked-next}

@@ -1,6 +1,6 @@
 -- Those of the points so far.
 use Rattle.std.proofs.Common.{◌≡◌, take}
-use Rattle.scr_sums.specs.Books.{rolled_of}
+use Rattle.scr_block_graph.specs.Books.{rolled_of}
 use Rattle.scr_tree.specs.Points.{StandsIn, book_graph}
 use Rattle.scr_tree.specs.Starts.{AreMarked}
 use Rattle.scr_tree.proofs.starts.mark_starts.Given as goal

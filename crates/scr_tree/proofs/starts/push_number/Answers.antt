@@ -1,5 +1,5 @@
 use Rattle.std.proofs.Common.{◌≡◌, true, false, inr, refl, sym, ◌∙◌}
-use Rattle.scr_figures.specs.Numbers.{StandsAt}
+use Rattle.scr_figure_ids.specs.Numbers.{StandsAt}
 use Rattle.scr_tree.specs.Points.{is_linked}
 use Rattle.scr_tree.specs.Starts.{keeps_links}
 use Rattle.scr_tree.proofs.StartRows.{links-change, push-some}

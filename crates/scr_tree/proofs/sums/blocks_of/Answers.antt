@@ -1,8 +1,8 @@
 use Rattle.std.proofs.Common.{◌≡◌, ◌<◌, ◌≤◌, ◌^◌, Some, refl, sym, subst, arith}
-use Rattle.scr_blocks.specs.declared.blocks.Level.TheVariants as levels
-use Rattle.scr_parts.specs.Parts.{AreOwn, Parted, slot_of}
-use Rattle.scr_sums.specs.BlockNumbers.{list_number, part_of, place_of}
-use Rattle.scr_sums.specs.Sums.{roll_of}
+use Rattle.scr_sum_tree.specs.declared.blocks.Level.TheVariants as levels
+use Rattle.scr_sum_slots.specs.Parts.{AreOwn, Parted, slot_of}
+use Rattle.scr_block_graph.specs.BlockNumbers.{list_number, part_of, place_of}
+use Rattle.scr_block_graph.specs.Sums.{roll_of}
 use Rattle.scr_tree.proofs.SumNumbers.{are-own, none-there}
 use Rattle.scr_tree.proofs.sums.blocks_of.Goals as goal
 

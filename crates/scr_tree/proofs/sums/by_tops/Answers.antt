@@ -4,7 +4,7 @@ use Rattle.std.proofs.lemmas.List.{length-drop, length-map, length-take}
 use Rattle.scr_num.specs.Rounding.{ends}
 use Rattle.scr_num.specs.Sizes.{AreTogether}
 use Rattle.scr_num.specs.Sums.{sum_ends}
-use Rattle.scr_blocks.specs.Blocks.{top_count}
+use Rattle.scr_sum_tree.specs.Blocks.{top_count}
 use Rattle.scr_book.specs.Rolls.{roll_of}
 use Rattle.scr_rules.proofs.MarketCode.{first-spans, other-spans}
 use Rattle.scr_tree.proofs.SumWorth.{left-small, left-sum, taken-small, taken-sum, within}

@@ -1,6 +1,6 @@
 use Rattle.std.proofs.Common.{◌∙◌, ap, length, sym, subst}
-use Rattle.scr_lists.specs.Lists.{members_of}
-use Rattle.scr_subtotals.specs.Written.{AreNumbered}
+use Rattle.scr_member_index.specs.Lists.{members_of}
+use Rattle.scr_partial_sums.specs.Written.{AreNumbered}
 use Rattle.scr_tree.proofs.SumNumbers.{as-many}
 use Rattle.scr_tree.proofs.sums.pass_blocks.Goals as goal
 

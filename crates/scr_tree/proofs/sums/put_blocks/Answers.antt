@@ -1,7 +1,7 @@
 use Rattle.std.proofs.Common.{◌≡◌, [], length, ◌∙◌, ap, refl, sym}
-use Rattle.scr_blocks.specs.Blocks.{blocks_at}
-use Rattle.scr_blocks.specs.declared.blocks.Level.TheVariants as levels
-use Rattle.scr_lists.specs.Lists.{members_of}
+use Rattle.scr_sum_tree.specs.Blocks.{blocks_at}
+use Rattle.scr_sum_tree.specs.declared.blocks.Level.TheVariants as levels
+use Rattle.scr_member_index.specs.Lists.{members_of}
 use Rattle.scr_tree.specs.Summed.{count_on, family_in, firsts_on}
 use Rattle.scr_tree.proofs.SumNumbers.{as-counted, as-many, members-few, members-off, members-within, none-off, none-on, room-is, written-off, written-on}
 use Rattle.scr_tree.proofs.sums.put_blocks.Goals as goal

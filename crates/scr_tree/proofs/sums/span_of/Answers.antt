@@ -3,9 +3,9 @@ use Rattle.scr_num.specs.Rounding.{Ends}
 use Rattle.scr_num.specs.Sizes.{AreTogether}
 use Rattle.scr_num.specs.Sums.{sum_ends}
 use Rattle.scr_rules.specs.Worked.{worked}
-use Rattle.scr_sums.specs.Books.{rolled_of}
-use Rattle.scr_sums.specs.Graph.{is_live_in, sources_in, worth_in}
-use Rattle.scr_sums.specs.declared.point.Point.{Point}
+use Rattle.scr_block_graph.specs.Books.{rolled_of}
+use Rattle.scr_block_graph.specs.Graph.{is_live_in, sources_in, worth_in}
+use Rattle.scr_block_graph.specs.declared.point.Point.{Point}
 use Rattle.scr_tree.proofs.SumWorth.{block-small, block-sum}
 use Rattle.scr_tree.proofs.Upright.{rolls-are}
 use Rattle.scr_tree.proofs.sums.span_of.Goals as goal

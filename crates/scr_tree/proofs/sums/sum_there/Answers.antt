@@ -1,6 +1,6 @@
 use Rattle.std.proofs.Common.{◌≡◌, [], ◌∙◌, ap}
 use Rattle.scr_num.specs.Sums.{sum_ends}
-use Rattle.scr_lists.specs.Lists.{members_of}
+use Rattle.scr_member_index.specs.Lists.{members_of}
 use Rattle.scr_tree.specs.Summed.{firsts_on}
 use Rattle.scr_tree.proofs.SumNumbers.{as-counted, ends-same, members-few, members-within, room-is, summed-on}
 use Rattle.scr_tree.proofs.sums.sum_there.Goals as goal

@@ -1,7 +1,7 @@
 use Rattle.std.proofs.Common.{◌+◌, ◌≤◌, length, take, get_or, subst, arith}
 use Rattle.std.proofs.lemmas.List.{take_all, take_more}
 use Rattle.std.proofs.lemmas.List.Elements.{Contains-get_or}
-use Rattle.scr_rounds.specs.declared.ranks.Due.{Due}
+use Rattle.scr_reachability.specs.declared.ranks.Due.{Due}
 use Rattle.scr_tree.specs.Together.{AreDuesOn}
 use Rattle.scr_tree.proofs.Spanned.{due-on, dues-next, dues-none}
 use Rattle.scr_tree.proofs.together.dues_on.Goals as goal

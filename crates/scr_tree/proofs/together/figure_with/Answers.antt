@@ -1,12 +1,12 @@
 use Rattle.std.proofs.Common.{◌≡◌, ◌||◌, ◌<◌, Bool, true, All, List, length, refl, sym, ap, subst, ◌∙◌}
 use Rattle.scr_num.specs.Rounding.{ends}
 use Rattle.scr_num.specs.declared.span.Span.{Span}
-use Rattle.scr_reach.specs.Linked.{AreAt}
-use Rattle.scr_rounds.specs.declared.ranks.Due.{Due}
-use Rattle.scr_subtotals.specs.declared.figure.Figure.{Figure}
-use Rattle.scr_sums.specs.Books.{rolled_of}
-use Rattle.scr_sums.specs.Graph.{is_live_in, sources_in}
-use Rattle.scr_sums.specs.declared.point.Point.{Point}
+use Rattle.scr_reachability.specs.Linked.{AreAt}
+use Rattle.scr_reachability.specs.declared.ranks.Due.{Due}
+use Rattle.scr_partial_sums.specs.declared.figure.Figure.{Figure}
+use Rattle.scr_block_graph.specs.Books.{rolled_of}
+use Rattle.scr_block_graph.specs.Graph.{is_live_in, sources_in}
+use Rattle.scr_block_graph.specs.declared.point.Point.{Point}
 use Rattle.scr_tree.specs.Figures.{worth_of}
 use Rattle.scr_tree.specs.Opening.{opens_in}
 use Rattle.scr_tree.specs.Ready.{IsBasis, IsReadyOn, StandsOn, reckoning_on}

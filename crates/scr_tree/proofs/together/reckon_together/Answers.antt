@@ -1,10 +1,10 @@
 use Rattle.std.proofs.Common.{◌≡◌, ℕ, List, refl, sym, ap, subst, ◌∙◌}
 use Rattle.scr_num.specs.Rounding.{ends}
 use Rattle.scr_num.specs.declared.span.Span.{Span}
-use Rattle.scr_reach.specs.Dues.{numbers_of}
-use Rattle.scr_rounds.specs.declared.ranks.Due.{Due}
-use Rattle.scr_subtotals.specs.declared.figure.Figure.{Figure}
-use Rattle.scr_sums.specs.Books.{rolled_of}
+use Rattle.scr_reachability.specs.LinkedDues.{numbers_of}
+use Rattle.scr_reachability.specs.declared.ranks.Due.{Due}
+use Rattle.scr_partial_sums.specs.declared.figure.Figure.{Figure}
+use Rattle.scr_block_graph.specs.Books.{rolled_of}
 use Rattle.scr_tree.specs.Points.{book_graph}
 use Rattle.scr_tree.specs.Ready.{AreInTurnOn, AreKnownBut, IsOrderOn, StandsOn}
 use Rattle.scr_tree.specs.Together.{AreDuesOn, AreSpansOn}

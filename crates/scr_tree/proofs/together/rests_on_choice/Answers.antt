@@ -1,7 +1,7 @@
 use Rattle.std.proofs.Common.{◌≡◌, ◌<◌, ◌≤◌, ◌+◌, Some, drop, get_or, length, slice_get, sym, ap, ◌∙◌, arith}
 use Rattle.std.proofs.lemmas.List.{drop_all, drop_more}
 use Rattle.std.proofs.lemmas.Option.{slice_get-get_or}
-use Rattle.scr_subtotals.specs.Tables.{nothing}
+use Rattle.scr_partial_sums.specs.Tables.{nothing}
 use Rattle.scr_tree.specs.Together.{any_close}
 use Rattle.scr_tree.proofs.Spanned.{close-no, close-yes}
 use Rattle.scr_tree.proofs.together.rests_on_choice.Goals as goal

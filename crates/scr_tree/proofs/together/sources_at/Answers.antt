@@ -1,7 +1,7 @@
 use Rattle.std.proofs.Common.{refl, subst}
-use Rattle.scr_reach.specs.Linked.{AreAt}
-use Rattle.scr_sums.specs.Books.{rolled_of}
-use Rattle.scr_sums.specs.Graph.{sources_in}
+use Rattle.scr_reachability.specs.Linked.{AreAt}
+use Rattle.scr_block_graph.specs.Books.{rolled_of}
+use Rattle.scr_block_graph.specs.Graph.{sources_in}
 use Rattle.scr_tree.specs.Ready.{StandsOn}
 use Rattle.scr_tree.proofs.Here.{at-graph, found-here, graph-here, live-graph, lives-here, numbers-here, pushed-here, stands-here, valid-here}
 use Rattle.scr_tree.proofs.together.sources_at.Goals as goal

@@ -1,7 +1,7 @@
 use Rattle.std.proofs.Common.{◌≡◌, map, ◌∙◌}
 use Rattle.scr_num.specs.Rounding.{ends}
-use Rattle.scr_reach.specs.Dues.{numbers_of}
-use Rattle.scr_rounds.specs.declared.ranks.Due.{Due}
+use Rattle.scr_reachability.specs.LinkedDues.{numbers_of}
+use Rattle.scr_reachability.specs.declared.ranks.Due.{Due}
 use Rattle.scr_tree.specs.Together.{ends_on}
 use Rattle.scr_tree.proofs.Spanned.{ends-due, ok-weaker, workable}
 use Rattle.scr_tree.proofs.together.spans_of.Goals as goal

@@ -4,10 +4,10 @@ use Rattle.std.proofs.lemmas.Option.{slice_get-get_or, slice_get-map}
 use Rattle.std.specs.Option.{option_map}
 use Rattle.scr_funds.proofs.Members.{at_member}
 use Rattle.scr_num.specs.declared.span.Span.{Span}
-use Rattle.scr_reach.specs.Dues.{numbers_of}
-use Rattle.scr_reach.proofs.Placed.{get-contains, get-member}
-use Rattle.scr_rounds.specs.declared.ranks.Due.{Due}
-use Rattle.scr_subtotals.specs.declared.figure.Figure.{Figure}
+use Rattle.scr_reachability.specs.LinkedDues.{numbers_of}
+use Rattle.scr_reachability.proofs.Placed.{get-contains, get-member}
+use Rattle.scr_reachability.specs.declared.ranks.Due.{Due}
+use Rattle.scr_partial_sums.specs.declared.figure.Figure.{Figure}
 use Rattle.scr_tree.specs.Ready.{AreInTurnOn, AreKnownBut, IsBasis, IsRightOn, StandsOn, reckoning_on}
 use Rattle.scr_tree.specs.Together.{AreSpansOn, IsDueOn}
 use Rattle.scr_tree.specs.declared.basis.Basis.{Basis}

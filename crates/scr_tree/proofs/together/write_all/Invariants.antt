@@ -1,6 +1,6 @@
 -- The figures so far are known.
 use Rattle.std.proofs.Common.{◌≡◌, drop, length}
-use Rattle.scr_reach.specs.Dues.{numbers_of}
+use Rattle.scr_reachability.specs.LinkedDues.{numbers_of}
 use Rattle.scr_tree.specs.Ready.{AreKnownBut}
 use Rattle.scr_tree.proofs.together.write_all.Given as goal
 

@@ -1,11 +1,11 @@
 use Rattle.std.proofs.Common.{◌≡◌, ℕ, ◌+◌, ◌-◌, ◌<◌, ◌≤◌, ◌^◌, length, sym, ap, subst, refl, ◌∙◌, arith}
-use Rattle.scr_blocks.specs.Blocks.{blocks_at}
-use Rattle.scr_blocks.specs.declared.blocks.Level.TheVariants as levels
+use Rattle.scr_sum_tree.specs.Blocks.{blocks_at}
+use Rattle.scr_sum_tree.specs.declared.blocks.Level.TheVariants as levels
 use Rattle.scr_num.specs.Sizes.{AreTogether}
 use Rattle.scr_num.specs.Sums.{sum_ends}
-use Rattle.scr_subtotals.specs.Written.{AreNumbered, number_of}
-use Rattle.scr_sums.specs.Books.{rolled_of}
-use Rattle.scr_sums.specs.Graph.{block_point, roll_in}
+use Rattle.scr_partial_sums.specs.Written.{AreNumbered, number_of}
+use Rattle.scr_block_graph.specs.Books.{rolled_of}
+use Rattle.scr_block_graph.specs.Graph.{block_point, roll_in}
 use Rattle.scr_tree.specs.Ready.{StandsOn, numbers_on}
 use Rattle.scr_tree.specs.Summed.{AreOwnBlocks}
 use Rattle.scr_tree.specs.declared.graph.Numbers.{Numbers}

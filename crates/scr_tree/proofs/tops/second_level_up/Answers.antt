@@ -2,7 +2,7 @@ use Rattle.std.proofs.Common.{◌^◌, map, refl, sym, ap, subst, ◌∙◌, ari
 use Rattle.std.specs.List.{list_any}
 use Rattle.scr_num.specs.Sizes.{AreTogether}
 use Rattle.scr_num.specs.Sums.{sum_ends}
-use Rattle.scr_sums.specs.declared.point.Point.TheVariants as points
+use Rattle.scr_block_graph.specs.declared.point.Point.TheVariants as points
 use Rattle.scr_tree.specs.Adding.{AreKnownAt, worked_of}
 use Rattle.scr_tree.specs.Ready.{reckoning_on}
 use Rattle.scr_tree.proofs.PointSources.{counted-are, second-beside}

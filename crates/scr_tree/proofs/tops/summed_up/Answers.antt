@@ -1,8 +1,8 @@
 use Rattle.std.proofs.Common.{◌≡◌, ◌||◌, IfSome, Option, is_some, true, sym, ap, subst, refl}
-use Rattle.scr_sums.specs.Books.{rolled_of}
-use Rattle.scr_sums.specs.Graph.{reads, tops_of}
-use Rattle.scr_sums.specs.Sums.{first_sum, second_sum}
-use Rattle.scr_sums.specs.declared.sum.Sum.{Sum}
+use Rattle.scr_block_graph.specs.Books.{rolled_of}
+use Rattle.scr_block_graph.specs.Graph.{reads, tops_of}
+use Rattle.scr_block_graph.specs.Sums.{first_sum, second_sum}
+use Rattle.scr_block_graph.specs.declared.sum.Sum.{Sum}
 use Rattle.scr_tree.specs.Adding.{AreKnownAt, IsAddedUp}
 use Rattle.scr_tree.proofs.PointSources.{first-read, second-read}
 use Rattle.scr_tree.proofs.Topped.{first-known, second-known, summed-right, top-sum}

@@ -1,11 +1,11 @@
 use Rattle.std.proofs.Common.{◌≡◌, ◌-◌, ◌<◌, ◌^◌, Some, length, map, sym, ap, subst, ◌∙◌, arith}
 use Rattle.std.specs.List.{range_with_len}
-use Rattle.scr_blocks.specs.Blocks.{blocks_at}
-use Rattle.scr_blocks.specs.declared.blocks.Level.TheVariants as levels
+use Rattle.scr_sum_tree.specs.Blocks.{blocks_at}
+use Rattle.scr_sum_tree.specs.declared.blocks.Level.TheVariants as levels
 use Rattle.scr_num.specs.Sizes.{AreTogether}
 use Rattle.scr_num.specs.Sums.{sum_ends}
-use Rattle.scr_sums.specs.Books.{rolled_of}
-use Rattle.scr_sums.specs.Graph.{block_point, member_point, roll_in, tops_of}
+use Rattle.scr_block_graph.specs.Books.{rolled_of}
+use Rattle.scr_block_graph.specs.Graph.{block_point, member_point, roll_in, tops_of}
 use Rattle.scr_tree.specs.Adding.{AreKnownAt, IsAddedUp, blocks_among, worked_of}
 use Rattle.scr_tree.proofs.PointSources.{blocks-are, counted-are, firsts-are, tops-firsts, tops-seconds}
 use Rattle.scr_tree.proofs.Topped.{members-open, members-within, members-worth, top-small}

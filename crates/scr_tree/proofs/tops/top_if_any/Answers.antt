@@ -1,7 +1,7 @@
 use Rattle.std.proofs.Common.{◌≡◌, IfSome, Option, true, sym, subst}
-use Rattle.scr_sums.specs.Books.{rolled_of}
-use Rattle.scr_sums.specs.Graph.{reads, tops_of}
-use Rattle.scr_sums.specs.declared.sum.Sum.{Sum}
+use Rattle.scr_block_graph.specs.Books.{rolled_of}
+use Rattle.scr_block_graph.specs.Graph.{reads, tops_of}
+use Rattle.scr_block_graph.specs.declared.sum.Sum.{Sum}
 use Rattle.scr_tree.specs.Adding.{AreKnownAt, IsAddedUp}
 use Rattle.scr_tree.proofs.Topped.{none-added}
 use Rattle.scr_tree.proofs.tops.top_if_any.Goals as goal

@@ -1,7 +1,7 @@
 use Rattle.std.proofs.Common.{◌≡◌, length, map, take}
 use Rattle.scr_num.specs.Rounding.{ends}
 use Rattle.scr_board.specs.Closing.{AreDone}
-use Rattle.scr_board.specs.Rounds.{BoardRound}
+use Rattle.scr_board.specs.BoardRounds.{BoardRound}
 use Rattle.scr_board.proofs.board.Board.close.Given as goal
 
 -- the figures so far

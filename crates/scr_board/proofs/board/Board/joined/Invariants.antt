@@ -1,7 +1,7 @@
 use Rattle.std.proofs.Common.{length}
 use Rattle.std.specs.List.{AllByRecursion}
 use Rattle.scr_board.specs.Closing.{AreDone, HasJoined}
-use Rattle.scr_board.specs.Rounds.{BoardRound}
+use Rattle.scr_board.specs.BoardRounds.{BoardRound}
 use Rattle.scr_board.specs.Working.{IsDone}
 use Rattle.scr_board.proofs.board.Board.joined.Given as goal
 

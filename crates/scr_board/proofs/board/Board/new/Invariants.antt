@@ -1,4 +1,4 @@
-use Rattle.scr_board.specs.Rounds.{lists_of}
+use Rattle.scr_board.specs.BoardRounds.{lists_of}
 use Rattle.scr_board.proofs.board.Board.new.Given as goal
 
 abbrev pub ghosts-opened : goal.ghosts-opened

@@ -1,7 +1,7 @@
 use Rattle.std.proofs.Common.{◌<◌, ap, subst, sym, ◌∙◌}
 use Rattle.scr_num.specs.Rounding.{ends}
-use Rattle.scr_round.specs.Rounds.{word_of}
-use Rattle.scr_round.specs.States.{holds, stored_of}
+use Rattle.scr_board.specs.Rounds.{word_of}
+use Rattle.scr_board.specs.States.{holds, stored_of}
 use Rattle.scr_board.specs.declared.views.View.{View}
 use Rattle.scr_board.specs.Passes.{view}
 use Rattle.scr_board.specs.Views.{view_stored}

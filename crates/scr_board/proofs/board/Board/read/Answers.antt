@@ -2,7 +2,7 @@ use Rattle.std.proofs.Common.{◌≡◌, Some, ap, arith, sym, ◌∙◌}
 use Rattle.std.proofs.lemmas.Int.{ints}
 use mir.Syntax.{w128}
 use mir.Val.{of_z, to_z}
-use Rattle.scr_round.specs.Rounds.{word_of}
+use Rattle.scr_board.specs.Rounds.{word_of}
 use Rattle.scr_board.specs.declared.views.View.{View}
 use Rattle.scr_board.specs.Passes.{view}
 use Rattle.scr_board.proofs.Figures.{figure-of, figure-word}

@@ -1,6 +1,6 @@
 use Rattle.std.proofs.Common.{◌+◌, ◌++◌, ◌∷◌, [], List, ℕ, if◌then◌else◌, ap, arith, length, refl, subst, sym, ◌∙◌}
-use Rattle.scr_round.specs.declared.lists.Round.{Round}
-use Rattle.scr_round.specs.Rounds.{dependants_of}
+use Rattle.scr_board.specs.declared.lists.Round.{Round}
+use Rattle.scr_board.specs.Rounds.{dependants_of}
 use Rattle.scr_board.specs.declared.board.Pass.{Pass}
 use Rattle.scr_board.specs.Passes.{progress}
 use Rattle.scr_board.specs.Working.{IsDelivering}

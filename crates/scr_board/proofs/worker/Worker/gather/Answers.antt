@@ -4,7 +4,7 @@ use Rattle.std.proofs.lemmas.List.{length_push, map-append}
 use Rattle.scr_num.specs.Rounding.{ends}
 use Rattle.scr_board.specs.declared.board.Pass.{Pass}
 use Rattle.scr_board.specs.Places.{spot_of}
-use Rattle.scr_board.specs.Rounds.{Spot, given, places_at}
+use Rattle.scr_board.specs.BoardRounds.{Spot, given, places_at}
 use Rattle.scr_board.proofs.Delivered.{pass_seat, taken_again, taken_node}
 use Rattle.scr_board.proofs.Rows.{each_row, get-past_end, get-within, grown, take-past, take-zero}
 use Rattle.scr_board.proofs.worker.Worker.gather.Goals as goal

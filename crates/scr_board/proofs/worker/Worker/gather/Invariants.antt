@@ -1,7 +1,7 @@
 use Rattle.std.proofs.Common.{◌≡◌, Some, length, map, take}
 use Rattle.scr_num.specs.Rounding.{ends}
 use Rattle.scr_board.specs.Passes.{view}
-use Rattle.scr_board.specs.Rounds.{given, places_at}
+use Rattle.scr_board.specs.BoardRounds.{given, places_at}
 use Rattle.scr_board.specs.Working.{HasTaken}
 use Rattle.scr_board.proofs.worker.Worker.gather.Given as goal
 

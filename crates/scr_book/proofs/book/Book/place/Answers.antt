@@ -1,6 +1,6 @@
 use Rattle.std.proofs.Common.{is_some, position, ap, ◌∙◌}
-use Rattle.scr_names.specs.Names.{same_name}
-use Rattle.scr_rolls.proofs.Settled.{has-position}
+use Rattle.scr_tables.specs.Names.{same_name}
+use Rattle.scr_member_lists.proofs.Settled.{has-position}
 use Rattle.scr_sheet.specs.Members.{is_member}
 use Rattle.scr_book.specs.RolledSheets.{RolledSheet}
 use Rattle.scr_book.specs.Rolls.{roll_of}

@@ -1,7 +1,7 @@
 use Rattle.std.proofs.Common.{◌≡◌, ℕ, List, ap, subst, ◌∙◌}
 use Rattle.std.specs.List.{IsDistinct}
-use Rattle.scr_names.specs.Names.{same_name}
-use Rattle.scr_rolls.specs.Members.{has}
+use Rattle.scr_tables.specs.Names.{same_name}
+use Rattle.scr_member_lists.specs.Members.{has}
 use Rattle.scr_sheet.specs.Members.{is_member}
 use Rattle.scr_book.specs.RolledSheets.{RolledSheet}
 use Rattle.scr_book.specs.Rolls.{roll_of}

@@ -1,5 +1,5 @@
 use Rattle.std.proofs.Common.{◌≡◌, Option, sym, subst}
-use Rattle.scr_graph.specs.declared.kept.KeptComponents.{KeptComponents}
+use Rattle.scr_fund_graph.specs.declared.kept.KeptComponents.{KeptComponents}
 use Rattle.scr_sheet.specs.Earlier.{with_earlier, FitsIn, LeadsBack}
 use Rattle.scr_sheet.specs.Records.{applied}
 use Rattle.scr_sheet.specs.Validity.{Valid}

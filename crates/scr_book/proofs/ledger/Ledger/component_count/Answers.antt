@@ -1,6 +1,6 @@
 use Rattle.std.proofs.Common.{length, ap, ◌∙◌, arith}
 use Rattle.std.specs.Option.{option_map_or}
-use Rattle.scr_names.specs.Tables.{row_of}
+use Rattle.scr_tables.specs.Tables.{row_of}
 use Rattle.scr_sheet.specs.BalanceSheet.{stake_name}
 use Rattle.scr_sheet.specs.declared.sheet.BalanceSheet.{BalanceSheet}
 use Rattle.scr_sheet.proofs.Sums.{stake_components, components-part}

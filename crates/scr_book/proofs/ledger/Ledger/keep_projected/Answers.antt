@@ -2,7 +2,7 @@ use Rattle.std.proofs.Common.{◌≡◌, ℕ, ℤ, ◌+◌, ◌-◌, List, get_o
 use Rattle.scr_dates.specs.declared.day.Day.{Day}
 use Rattle.scr_sheet.specs.BalanceSheet.{liability_name}
 use Rattle.scr_sheet.specs.CashFlows.{total, with_flows}
-use Rattle.scr_names.specs.Tables.{changed}
+use Rattle.scr_tables.specs.Tables.{changed}
 use Rattle.scr_sheet.specs.Records.{applied}
 use Rattle.scr_sheet.specs.declared.edit.Edit.{Edit}
 use Rattle.scr_sheet.specs.declared.rows.Liability.{Liability}
@@ -12,7 +12,7 @@ use Rattle.scr_book.specs.declared.ledger.Ledger.TheInside.{Inside}
 use Rattle.scr_sheet.specs.declared.edit.Edit.TheVariants as edits
 use Rattle.scr_book.proofs.Moved.{liability_there, liability_part, liability_part-le, liability_flows-moved, liability_flows-most, liability_flows-carried, sums-liability_flows}
 use Rattle.scr_sheet.specs.Validity.{Valid}
-use Rattle.scr_tally.specs.Days.{IsDayOrNone}
+use Rattle.scr_counters.specs.Days.{IsDayOrNone}
 use Rattle.scr_book.proofs.LastDays.{has_room, on_day, flows-on_days, days-projected}
 use Rattle.scr_book.proofs.Applied.{changed-from, sums_now, days_now, kept-days}
 use Rattle.scr_book.proofs.ledger.Ledger.keep_projected.Goals as goal

@@ -1,7 +1,7 @@
 use Rattle.std.proofs.Common.{◌≡◌, refl, sym, ap, subst, rules, arith}
-use Rattle.scr_tally.specs.Days.{IsDayOrNone}
+use Rattle.scr_counters.specs.Days.{IsDayOrNone}
 use Rattle.scr_sheet.specs.BalanceSheet.{position_name}
-use Rattle.scr_names.specs.Tables.{changed}
+use Rattle.scr_tables.specs.Tables.{changed}
 use Rattle.scr_sheet.specs.Records.{applied}
 use Rattle.scr_book.specs.Kept.{IsKept}
 use Rattle.scr_book.specs.declared.ledger.Ledger.TheInside.{Inside}

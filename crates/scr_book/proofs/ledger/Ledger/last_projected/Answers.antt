@@ -1,8 +1,8 @@
 use Rattle.std.proofs.Common.{◌≡◌, ◌≤◌, [], Option, sym, ap, subst, ◌∙◌}
 use Rattle.std.specs.Option.{option_map_or}
 use Rattle.scr_dates.specs.declared.day.Day.{Day}
-use Rattle.scr_names.specs.Tables.{row_of}
-use Rattle.scr_tally.specs.Days.{ends_on, IsDayOrNone}
+use Rattle.scr_tables.specs.Tables.{row_of}
+use Rattle.scr_counters.specs.Days.{ends_on, IsDayOrNone}
 use Rattle.scr_sheet.specs.BalanceSheet.{liability_name}
 use Rattle.scr_sheet.specs.CashFlows.{last_day, flows_under}
 use Rattle.scr_sheet.specs.declared.rows.Liability.{Liability}

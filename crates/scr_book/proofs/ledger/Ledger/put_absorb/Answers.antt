@@ -2,7 +2,7 @@ use Rattle.std.proofs.Common.{◌≡◌, ℕ, List, refl, sym, ap, ◌∙◌, ru
 use Rattle.std.proofs.lemmas.Int.{to_z-of_z}
 use Rattle.scr_sheet.specs.BalanceSheet.{curve_name}
 use Rattle.scr_sheet.specs.declared.sheet.BalanceSheet.{BalanceSheet}
-use Rattle.scr_names.specs.Tables.{changed}
+use Rattle.scr_tables.specs.Tables.{changed}
 use Rattle.scr_sheet.specs.Records.{applied, natural, placed, absorb_place, with_absorb}
 use Rattle.scr_sheet.specs.declared.keys.AbsorbKey.{AbsorbKey}
 use Rattle.scr_sheet.specs.declared.numbers.Numbers.{Numbers}

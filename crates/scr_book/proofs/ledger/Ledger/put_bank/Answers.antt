@@ -1,7 +1,7 @@
 use Rattle.std.proofs.Common.{◌≡◌, ℕ, ◌+◌, ◌-◌, ap, ◌∙◌, arith, w64, refl, List, sym, subst}
 use Rattle.std.proofs.lemmas.Int.{to_z-of_z}
 use Rattle.scr_sheet.specs.BalanceSheet.{bank_name}
-use Rattle.scr_names.specs.Tables.{with_row}
+use Rattle.scr_tables.specs.Tables.{with_row}
 use Rattle.scr_sheet.specs.Records.{applied, natural}
 use Rattle.scr_sheet.specs.declared.rows.Bank.{Bank}
 use Rattle.scr_sheet.proofs.Sums.{defaults-part_bank}

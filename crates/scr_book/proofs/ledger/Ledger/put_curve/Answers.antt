@@ -2,7 +2,7 @@ use Rattle.std.proofs.Common.{◌≡◌, ℕ, ℤ, List, refl, sym, ap, ◌∙�
 use Rattle.std.specs.Option.{option_map_or}
 use Rattle.scr_sheet.specs.BalanceSheet.{curve_name}
 use Rattle.scr_sheet.specs.declared.sheet.BalanceSheet.{BalanceSheet}
-use Rattle.scr_names.specs.Tables.{row_of, with_row}
+use Rattle.scr_tables.specs.Tables.{row_of, with_row}
 use Rattle.scr_sheet.specs.Records.{applied}
 use Rattle.scr_sheet.specs.declared.rows.Curve.{Curve}
 use Rattle.scr_book.specs.Kept.{IsKept}

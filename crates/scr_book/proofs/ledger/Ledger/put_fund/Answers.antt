@@ -1,11 +1,11 @@
 use Rattle.std.proofs.Common.{refl, ◌≡◌, ℕ, ℤ, ◌+◌, ◌-◌, Bool, true, false, cond, List, [], length, map, sym, ap, subst, ◌∙◌, arith}
 use Rattle.std.specs.Option.{option_map_or}
 use Rattle.scr_funds.specs.Chains.{LeadsTo}
-use Rattle.scr_graph.specs.Graph.{Graph, components_under, components_after}
-use Rattle.scr_names.specs.Names.{same_name}
+use Rattle.scr_fund_graph.specs.Graph.{Graph, components_under, components_after}
+use Rattle.scr_tables.specs.Names.{same_name}
 use Rattle.scr_sheet.specs.BalanceSheet.{stake_name}
 use Rattle.scr_sheet.specs.declared.sheet.BalanceSheet.{BalanceSheet}
-use Rattle.scr_names.specs.Tables.{row_of, has_row, with_row}
+use Rattle.scr_tables.specs.Tables.{row_of, has_row, with_row}
 use Rattle.scr_sheet.specs.Records.{applied}
 use Rattle.scr_sheet.specs.declared.rows.Stake.{Stake}
 use Rattle.scr_sheet.proofs.Sums.{components-part}

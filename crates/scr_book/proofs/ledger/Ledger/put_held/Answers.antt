@@ -2,7 +2,7 @@ use Rattle.std.proofs.Common.{◌≡◌, ℕ, ◌+◌, ◌-◌, List, subst, ap,
 use Rattle.std.proofs.lemmas.Int.{to_z-of_z}
 use Rattle.scr_sheet.specs.BalanceSheet.{position_name, stake_name, held_of}
 use Rattle.scr_sheet.specs.declared.sheet.BalanceSheet.{BalanceSheet}
-use Rattle.scr_names.specs.Tables.{changed}
+use Rattle.scr_tables.specs.Tables.{changed}
 use Rattle.scr_sheet.specs.Records.{applied, natural}
 use Rattle.scr_sheet.specs.Validity.{Valid}
 use Rattle.scr_sheet.proofs.Sums.{held-part}

@@ -3,7 +3,7 @@ use Rattle.std.specs.Option.{option_map_or}
 use Rattle.scr_sheet.specs.BalanceSheet.{liability_name}
 use Rattle.scr_sheet.specs.CashFlows.{no_flows}
 use Rattle.scr_sheet.specs.Records.{applied}
-use Rattle.scr_names.specs.Tables.{row_of, with_row, changed}
+use Rattle.scr_tables.specs.Tables.{row_of, with_row, changed}
 use Rattle.scr_sheet.specs.declared.rows.Liability.{Liability}
 use Rattle.scr_sheet.specs.declared.rows.LiabilityFlows.{LiabilityFlows}
 use Rattle.scr_book.specs.Kept.{IsKept}

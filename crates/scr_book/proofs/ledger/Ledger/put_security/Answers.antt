@@ -4,7 +4,7 @@ use Rattle.std.specs.Option.{option_map_or}
 use Rattle.scr_dates.specs.declared.day.Day.{Day}
 use Rattle.scr_sheet.specs.BalanceSheet.{position_name}
 use Rattle.scr_sheet.specs.Records.{applied, natural, kept_flows, kept_hold}
-use Rattle.scr_names.specs.Tables.{with_row, changed}
+use Rattle.scr_tables.specs.Tables.{with_row, changed}
 use Rattle.scr_sheet.specs.declared.rows.Position.{Position}
 use Rattle.scr_sheet.specs.declared.rows.Security.{Security}
 use Rattle.scr_sheet.specs.declared.edit.Edit.{Edit}

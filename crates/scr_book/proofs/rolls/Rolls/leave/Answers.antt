@@ -1,5 +1,5 @@
 use Rattle.std.proofs.Common.{◌≡◌, not, Option, None, sym, ap, subst, ◌∙◌}
-use Rattle.scr_names.proofs.PastRows.{missing}
+use Rattle.scr_tables.proofs.PastRows.{missing}
 use Rattle.scr_book.specs.Rolls.{CanGoBack, IsReturning}
 use Rattle.scr_book.specs.declared.rolls.Standing.{Standing}
 use Rattle.scr_book.proofs.RollsLeft.{returning-made, returning-none}

@@ -1,6 +1,6 @@
 use Rattle.std.proofs.Common.{◌≡◌, ◌≢◌, ℕ, zero, suc, ◌<◌, [], ◌∷◌, length, eqb, refl, sym, ap, subst, ◌∙◌, arith}
 use Rattle.std.specs.Prelude.{if◌then◌else◌}
-use Rattle.scr_rolls.specs.Seatings.{NOWHERE, target}
+use Rattle.scr_member_lists.specs.Seatings.{NOWHERE, target}
 use Rattle.scr_sheet.specs.Members.{is_closed}
 use Rattle.scr_sheet.specs.declared.roll.Roll.TheVariants as rolls
 use Rattle.scr_book.proofs.RollAims.{aimed-fund, stake}

@@ -1,7 +1,7 @@
 use Rattle.std.proofs.Common.{◌≢◌, ℕ, zero, suc, ◌<◌, [], ◌∷◌, length, refl, arith}
 use Rattle.scr_book.proofs.RollAims.{aimed-group}
 use Rattle.scr_book.proofs.RollGrowth.{roomy-groups}
-use Rattle.scr_rolls.specs.Seatings.{NOWHERE, target}
+use Rattle.scr_member_lists.specs.Seatings.{NOWHERE, target}
 use Rattle.scr_sheet.specs.declared.roll.Roll.TheVariants as rolls
 use Rattle.scr_book.proofs.rolls.Rolls.of_group.Goals as goal
 

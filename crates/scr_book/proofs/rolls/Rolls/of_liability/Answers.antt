@@ -1,5 +1,5 @@
 use Rattle.std.proofs.Common.{◌≢◌, ℕ, ◌<◌, List, length, sym, ap, subst, ◌∙◌, arith}
-use Rattle.scr_rolls.specs.Seatings.{NOWHERE, room_of, target}
+use Rattle.scr_member_lists.specs.Seatings.{NOWHERE, room_of, target}
 use Rattle.scr_book.proofs.RollGrowth.{kept-then, numbered-lines, roomy-liabilities}
 use Rattle.scr_book.proofs.RollPrepared.{liability-within, prepared-liability}
 use Rattle.scr_book.proofs.rolls.Rolls.of_liability.Goals as goal

@@ -1,6 +1,6 @@
 use Rattle.std.proofs.Common.{◌≡◌, ◌+◌, length, eqb, refl, sym, ap, ◌∙◌, arith}
 use Rattle.std.specs.Prelude.{if◌then◌else◌}
-use Rattle.scr_rolls.specs.Seatings.{NOWHERE, roll_in, seat_at}
+use Rattle.scr_member_lists.specs.Seatings.{NOWHERE, roll_in, seat_at}
 use Rattle.scr_book.proofs.RollGrowth.{kept-same, roomy-securities}
 use Rattle.scr_book.proofs.RollPrepared.{empty-of, payer-few, payer-inside, payer-within, prepared-nobody, prepared-payments}
 use Rattle.scr_book.proofs.rolls.Rolls.of_payments.Goals as goal

@@ -1,6 +1,6 @@
 use Rattle.std.proofs.Common.{◌+◌, length, eqb, refl, sym, ap, subst, ◌∙◌, arith}
 use Rattle.std.specs.Prelude.{if◌then◌else◌}
-use Rattle.scr_rolls.specs.Seatings.{NOWHERE}
+use Rattle.scr_member_lists.specs.Seatings.{NOWHERE}
 use Rattle.scr_sheet.specs.BalanceSheet.{liability_name}
 use Rattle.scr_sheet.specs.declared.edit.Edit.TheVariants as edits
 use Rattle.scr_sheet.specs.declared.keys.Table.TheVariants as tables

@@ -1,8 +1,8 @@
 use Rattle.std.proofs.Common.{◌≡◌, ◌+◌, ◌<◌, [], ◌∷◌, Some, refl, ap, ◌∙◌, arith}
 use Rattle.std.specs.Prelude.{pos}
 use Rattle.std.specs.Option.{option_map}
-use Rattle.scr_rolls.specs.Owned.{number_of}
-use Rattle.scr_rolls.specs.Seatings.{NOWHERE}
+use Rattle.scr_member_lists.specs.Owned.{number_of}
+use Rattle.scr_member_lists.specs.Seatings.{NOWHERE}
 use Rattle.scr_sheet.specs.declared.roll.Roll.TheVariants as rolls
 use Rattle.scr_book.specs.Rolls.{class_number}
 use Rattle.scr_book.proofs.RollAims.{few}

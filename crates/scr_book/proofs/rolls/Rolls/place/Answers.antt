@@ -1,6 +1,6 @@
 use Rattle.std.proofs.Common.{◌≡◌, ℕ, Some, ap₂, sym, ◌∙◌}
-use Rattle.scr_rolls.specs.Seatings.{seats_of, stood}
-use Rattle.scr_rolls.specs.declared.seats.Seats.{Seats}
+use Rattle.scr_member_lists.specs.Seatings.{seats_of, stood}
+use Rattle.scr_member_lists.specs.declared.seats.Seats.{Seats}
 use Rattle.scr_sheet.specs.BalanceSheet.{is_in}
 use Rattle.scr_sheet.specs.Members.{table_of}
 use Rattle.scr_book.specs.Places.{names_in}

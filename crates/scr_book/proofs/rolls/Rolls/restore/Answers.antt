@@ -1,5 +1,5 @@
 use Rattle.std.proofs.Common.{Option, Some, sym, subst, ◌∙◌}
-use Rattle.scr_rolls.specs.declared.seats.Seats.{Seats}
+use Rattle.scr_member_lists.specs.declared.seats.Seats.{Seats}
 use Rattle.scr_book.specs.Rolls.{HaveReturned, IsReturning}
 use Rattle.scr_book.specs.declared.rolls.Standing.{Standing}
 use Rattle.scr_book.proofs.RollGrowth.{same-numbers}

@@ -1,6 +1,6 @@
 use Rattle.std.proofs.Common.{ℕ, ◌+◌, ◌<◌, [], Option, IfSome, length, refl, sym, ap, subst, ◌∙◌, arith}
 use Rattle.std.specs.Option.{option_map_or}
-use Rattle.scr_rolls.specs.Seatings.{names_of}
+use Rattle.scr_member_lists.specs.Seatings.{names_of}
 use Rattle.scr_sheet.specs.declared.keys.Table.TheVariants as tables
 use Rattle.scr_sheet.specs.declared.roll.Roll.{Roll}
 use Rattle.scr_sheet.specs.declared.roll.Roll.TheVariants as rolls

@@ -1,9 +1,9 @@
 use Rattle.std.proofs.Common.{◌≡◌, ◌<◌, false, [], ◌∷◌, length, map, eqb, refl, sym, subst, arith}
 use Rattle.std.specs.Prelude.{if◌then◌else◌}
 use Rattle.std.proofs.lemmas.List.{length-map}
-use Rattle.scr_names.specs.Tables.{row_of}
-use Rattle.scr_rolls.specs.Members.{name_at}
-use Rattle.scr_rolls.specs.Seatings.{roll_in, seat_at, target}
+use Rattle.scr_tables.specs.Tables.{row_of}
+use Rattle.scr_member_lists.specs.Members.{name_at}
+use Rattle.scr_member_lists.specs.Seatings.{roll_in, seat_at, target}
 use Rattle.scr_sheet.specs.BalanceSheet.{liability_name, position_name, position_of}
 use Rattle.scr_sheet.specs.declared.keys.Table.{Table}
 use Rattle.scr_sheet.specs.declared.keys.Table.TheVariants as tables

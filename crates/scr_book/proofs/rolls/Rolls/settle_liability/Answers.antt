@@ -1,7 +1,7 @@
 use Rattle.std.proofs.Common.{◌≡◌, false, length, map, refl, sym, ap, ◌∙◌, arith}
 use Rattle.std.proofs.lemmas.List.{length-map}
-use Rattle.scr_names.specs.Tables.{row_of}
-use Rattle.scr_rolls.specs.Seatings.{seat_at, target}
+use Rattle.scr_tables.specs.Tables.{row_of}
+use Rattle.scr_member_lists.specs.Seatings.{seat_at, target}
 use Rattle.scr_sheet.specs.BalanceSheet.{liability_name}
 use Rattle.scr_sheet.specs.declared.keys.Table.{Table}
 use Rattle.scr_sheet.specs.declared.keys.Table.TheVariants as tables

@@ -2,7 +2,7 @@ use Rattle.std.proofs.Common.{◌≡◌, Some, false, length, map, set, refl, sy
 use Rattle.std.specs.Prelude.{if◌then◌else◌}
 use Rattle.std.specs.Option.{option_map_or}
 use Rattle.std.proofs.lemmas.List.{length-map}
-use Rattle.scr_rolls.specs.Seatings.{NOWHERE, seat_at, target}
+use Rattle.scr_member_lists.specs.Seatings.{NOWHERE, seat_at, target}
 use Rattle.scr_sheet.specs.BalanceSheet.{position_name, position_of}
 use Rattle.scr_sheet.specs.Members.{is_paying}
 use Rattle.scr_sheet.specs.declared.keys.Table.{Table}

@@ -1,6 +1,6 @@
 use Rattle.std.proofs.Common.{ap, arith}
-use Rattle.scr_tally.specs.Users.{nothing, uses_one, uses_each}
-use Rattle.scr_tally.proofs.Uses.{moves-both, moves-same}
+use Rattle.scr_counters.specs.Users.{nothing, uses_one, uses_each}
+use Rattle.scr_counters.proofs.Uses.{moves-both, moves-same}
 use Rattle.scr_book.specs.Users.{of_name}
 use Rattle.scr_book.proofs.users.Users.add.Goals as goal
 

@@ -1,5 +1,5 @@
 use Rattle.std.proofs.Common.{◌≡◌, List, [], ◌∷◌, subst, rules}
-use Rattle.scr_tally.specs.Users.{Moves, nothing}
+use Rattle.scr_counters.specs.Users.{Moves, nothing}
 use Rattle.scr_book.specs.Users.{Used, of_name, of_currency, HaveCounted}
 use Rattle.scr_book.proofs.Tallies.{moves-still, moves-next}
 use Rattle.scr_book.proofs.users.Users.add_all.Goals as goal

@@ -2,9 +2,9 @@
 use Rattle.std.proofs.Common.{w64, ◌≡◌, ◌≢◌, ◌+◌, ◌++◌, ◌∷◌, [], List, ℕ, ℤ, true, take, sym, ap, ◌∙◌, rules, arith}
 use Rattle.std.specs.Prelude.{is_ok, FitsSigned}
 use Rattle.std.proofs.lemmas.Grind.{common_steps}
-use Rattle.scr_spelling.specs.FieldForms.{name_of}
+use Rattle.scr_fields.specs.FieldForms.{name_of}
 use Rattle.scr_profile.specs.declared.limits.TheConstants.{MAX_FUND_COMPONENTS}
-use Rattle.scr_spelling.specs.Numbers.{number_value}
+use Rattle.scr_fields.specs.Numbers.{number_value}
 use Rattle.scr_csv.specs.Reading.{made, pairs_from}
 use Rattle.scr_csv.specs.Kept.{kept_members}
 use Rattle.scr_csv.proofs.ListSteps.{behind, kept_next, kept_end, take_short, take_every, due_answers, all_push, next-shorter, pairs-next, pairs-value_fault, pairs-number_fault}

@@ -2,7 +2,7 @@
 use Rattle.std.proofs.Common.{◌≡◌, ◌≤◌, ◌+◌, length}
 use Rattle.scr_profile.specs.declared.limits.TheConstants.{MAX_FUND_COMPONENTS}
 use Rattle.scr_sheet.specs.Forms.{AreComponents}
-use Rattle.scr_spelling.specs.FieldForms.{name_of}
+use Rattle.scr_fields.specs.FieldForms.{name_of}
 use Rattle.scr_csv.specs.Reading.{made, pairs_from}
 use Rattle.scr_csv.specs.Kept.{kept_members}
 use Rattle.scr_csv.proofs.ListSteps.{behind}

@@ -5,7 +5,7 @@ use Rattle.std.proofs.lemmas.Grind.{common_steps}
 use Rattle.scr_dates.specs.declared.day.Day.{Day}
 use Rattle.scr_dates.specs.Text.{day_of_text}
 use Rattle.scr_profile.specs.declared.limits.TheConstants.{MAX_FLOWS}
-use Rattle.scr_spelling.specs.Numbers.{number_value}
+use Rattle.scr_fields.specs.Numbers.{number_value}
 use Rattle.scr_csv.specs.Reading.{made, pairs_from}
 use Rattle.scr_csv.specs.Kept.{kept_members}
 use Rattle.scr_csv.specs.Sources.{fields_in}

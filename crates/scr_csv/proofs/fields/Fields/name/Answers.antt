@@ -1,6 +1,6 @@
 -- The name is that of the next field.
 use Rattle.std.proofs.Common.{rules}
-use Rattle.scr_spelling.specs.FieldForms.{name_of}
+use Rattle.scr_fields.specs.FieldForms.{name_of}
 use Rattle.scr_csv.specs.Sources.{fields_in}
 use Rattle.scr_csv.proofs.Fronts.{next_first}
 use Rattle.scr_csv.proofs.fields.Fields.name.Goals as goal

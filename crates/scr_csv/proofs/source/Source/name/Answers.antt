@@ -1,8 +1,8 @@
 -- No byte of a name ends a field, and the bytes are the name.
 use Rattle.std.proofs.Common.{◌≡◌, List, ℕ, take, Some, sym, ap, ◌∙◌, rules}
-use Rattle.scr_names.specs.Names.{is_name, leading_name}
-use Rattle.scr_names.proofs.Leading.{leading_read}
-use Rattle.scr_spelling.specs.FieldForms.{name_of, group_of}
+use Rattle.scr_tables.specs.Names.{is_name, leading_name}
+use Rattle.scr_tables.proofs.Leading.{leading_read}
+use Rattle.scr_fields.specs.FieldForms.{name_of, group_of}
 use Rattle.scr_csv.specs.Parts.{behind, first_as}
 use Rattle.scr_csv.specs.Sources.{fields_in}
 use Rattle.scr_csv.proofs.Fronts.{name_apart, first_read, name_read, group_read}

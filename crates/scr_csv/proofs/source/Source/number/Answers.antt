@@ -1,8 +1,8 @@
 -- No digit ends a field, and the digits are the number.
 use Rattle.std.proofs.Common.{w64, ◌≡◌, take, Some, sym, rules}
 use Rattle.std.specs.Prelude.{FitsSigned}
-use Rattle.scr_spelling.specs.Numbers.{number_value, leading_number}
-use Rattle.scr_spelling.proofs.LeadingDigits.{leading_read}
+use Rattle.scr_fields.specs.Numbers.{number_value, leading_number}
+use Rattle.scr_fields.proofs.LeadingDigits.{leading_read}
 use Rattle.scr_csv.specs.Parts.{behind, first_as}
 use Rattle.scr_csv.specs.Sources.{fields_in}
 use Rattle.scr_csv.proofs.Fronts.{digits_apart, first_read}

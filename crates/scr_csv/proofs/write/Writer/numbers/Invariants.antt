@@ -2,7 +2,7 @@
 use Rattle.std.proofs.Common.{◌≡◌, ◌++◌, drop, map}
 use Rattle.std.specs.Prelude.{flat_map}
 use Rattle.scr_csv.specs.RecordTexts.{next_field}
-use Rattle.scr_spelling.specs.Texts.{number_text}
+use Rattle.scr_fields.specs.Texts.{number_text}
 use Rattle.scr_csv.proofs.write.Writer.numbers.Given as goal
 
 abbrev pub invariant-loop-number : goal.invariant-loop-number

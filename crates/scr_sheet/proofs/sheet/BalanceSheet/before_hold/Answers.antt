@@ -1,6 +1,6 @@
 use Rattle.std.proofs.Common.{sym, ◌∙◌}
-use Rattle.scr_names.specs.Tables.{row_of}
-use Rattle.scr_names.proofs.PastRows.{missing}
+use Rattle.scr_tables.specs.Tables.{row_of}
+use Rattle.scr_tables.proofs.PastRows.{missing}
 use Rattle.scr_sheet.specs.BalanceSheet.{stake_name}
 use Rattle.scr_sheet.proofs.EarlierSheets.{back-hold_fund, back-hold_security, no_security}
 use Rattle.scr_sheet.proofs.sheet.BalanceSheet.before_hold.Goals as goal

@@ -1,17 +1,17 @@
 use Rattle.std.proofs.Common.{◌≡◌, ◌↔◌, Contains, Option, None, refl, sym, ap, subst, ◌∙◌}
 use Rattle.std.specs.Prelude.{Result, Ok, Err}
-use Rattle.scr_blocks.specs.Blocks.{HasEachOnce}
+use Rattle.scr_sum_tree.specs.Blocks.{HasEachOnce}
 use Rattle.scr_book.specs.declared.undo.Undo.{Undo}
 use Rattle.scr_sheet.specs.Faults.{Answers, fault_of}
 use Rattle.scr_sheet.specs.Validity.{Valid}
 use Rattle.scr_sheet.specs.declared.fault.Fault.{Fault}
 use Rattle.scr_sheet.specs.declared.fault.Fault.TheVariants as faults
 use Rattle.scr_sheet.proofs.Preserved.{Valid-applied}
-use Rattle.scr_figures.specs.Numbers.{IsNumbered, StandsAt}
-use Rattle.scr_figures.specs.Records.{step_of}
-use Rattle.scr_reach.specs.Linked.{AreNumbers}
-use Rattle.scr_sums.specs.Books.{rolled_of}
-use Rattle.scr_sums.specs.Touched.{IsTouchedIn}
+use Rattle.scr_figure_ids.specs.Numbers.{IsNumbered, StandsAt}
+use Rattle.scr_figure_ids.specs.Records.{step_of}
+use Rattle.scr_reachability.specs.Linked.{AreNumbers}
+use Rattle.scr_block_graph.specs.Books.{rolled_of}
+use Rattle.scr_block_graph.specs.Touched.{IsTouchedIn}
 use Rattle.scr_tree.specs.Changed.{AreGone}
 use Rattle.scr_tree.specs.Graphs.{graph_of}
 use Rattle.scr_tree.specs.Standing.{IsAfter, IsAsBefore, Refuses, Standing, TakesSteps, book_of, refusal_of, standing_on}

@@ -1,8 +1,8 @@
 use Rattle.std.proofs.Common.{◌≡◌, true, subst, sym, ap, refl, arith}
-use Rattle.scr_figures.specs.Numbers.{IsNumbered, StandsAt}
-use Rattle.scr_figures.proofs.Live.{live-stands}
+use Rattle.scr_figure_ids.specs.Numbers.{IsNumbered, StandsAt}
+use Rattle.scr_figure_ids.proofs.Live.{live-stands}
 use Rattle.scr_nodes.specs.Live.{is_live}
-use Rattle.scr_sums.specs.declared.point.Point.TheVariants as points
+use Rattle.scr_block_graph.specs.declared.point.Point.TheVariants as points
 use Rattle.scr_tree.specs.Figures.{Worth, worth_at}
 use Rattle.scr_tree.specs.Standing.{Standing}
 use Rattle.scr_tree.proofs.FigureRead.{known-read, known-within}

@@ -1,8 +1,8 @@
 use Rattle.std.proofs.Common.{◌∙◌, Some, get_or, sym, ap, arith}
 use Rattle.std.proofs.lemmas.Option.{slice_get-get_or}
 use Rattle.scr_nodes.specs.declared.node.Node.TheVariants as nodes
-use Rattle.scr_subtotals.specs.Marks.{figure_of}
-use Rattle.scr_subtotals.specs.Tables.{nothing}
+use Rattle.scr_partial_sums.specs.Marks.{figure_of}
+use Rattle.scr_partial_sums.specs.Tables.{nothing}
 use Rattle.scr_tree.specs.Figures.{worth_at}
 use Rattle.scr_tree.proofs.FigureRead.{known-read, known-there, known-within, one-figure}
 use Rattle.scr_tree.proofs.WholeNumbers.{whole-known}

@@ -1,8 +1,8 @@
 use Rattle.std.proofs.Common.{◌≡◌, true, get_or, subst, sym, ap, refl, ◌∙◌, arith}
 use Rattle.std.proofs.lemmas.Option.{slice_get-get_or}
 use Rattle.scr_num.specs.Rounding.{ends}
-use Rattle.scr_subtotals.specs.Tables.{nothing}
-use Rattle.scr_sums.specs.Graph.{is_live_in}
+use Rattle.scr_partial_sums.specs.Tables.{nothing}
+use Rattle.scr_block_graph.specs.Graph.{is_live_in}
 use Rattle.scr_tree.specs.Figures.{Worth}
 use Rattle.scr_tree.specs.Points.{point_worth}
 use Rattle.scr_tree.specs.Standing.{Standing, book_of}

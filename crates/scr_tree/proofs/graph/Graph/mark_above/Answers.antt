@@ -1,17 +1,17 @@
 use Rattle.std.proofs.Common.{◌≡◌, true, length, sym, ap, subst, ◌∙◌}
 use Rattle.std.proofs.lemmas.Bool.{and_parts}
 use Rattle.std.proofs.lemmas.List.{length-map}
-use Rattle.scr_blocks.specs.Blocks.{is_block}
-use Rattle.scr_blocks.specs.Readers.{IsReader, reader_of_block}
-use Rattle.scr_blocks.proofs.Read.{block-reader}
+use Rattle.scr_sum_tree.specs.Blocks.{is_block}
+use Rattle.scr_sum_tree.specs.Readers.{IsReader, reader_of_block}
+use Rattle.scr_sum_tree.proofs.Read.{block-reader}
 use Rattle.scr_book.specs.Rolls.{roll_of}
-use Rattle.scr_lists.specs.Lists.{first_of, members_of}
-use Rattle.scr_lists.proofs.Members.{members-own}
+use Rattle.scr_member_index.specs.Lists.{first_of, members_of}
+use Rattle.scr_member_index.proofs.Members.{members-own}
 use Rattle.scr_sheet.specs.Members.{table_of}
-use Rattle.scr_sums.specs.Books.{rolled_of}
-use Rattle.scr_sums.specs.Graph.{is_live_in, reads, roll_in}
-use Rattle.scr_sums.specs.Sums.{roll_of as sum_roll}
-use Rattle.scr_sums.specs.declared.point.Point.TheVariants as points
+use Rattle.scr_block_graph.specs.Books.{rolled_of}
+use Rattle.scr_block_graph.specs.Graph.{is_live_in, reads, roll_in}
+use Rattle.scr_block_graph.specs.Sums.{roll_of as sum_roll}
+use Rattle.scr_block_graph.specs.declared.point.Point.TheVariants as points
 use Rattle.scr_tree.specs.Marking.{AreMarkedMore, IsReaderAt}
 use Rattle.scr_tree.specs.Points.{StandsIn}
 use Rattle.scr_tree.proofs.MarkedMore.{ok-then}

@@ -1,5 +1,5 @@
 use Rattle.std.proofs.Common.{arith}
-use Rattle.scr_sums.specs.Graph.{block_point}
+use Rattle.scr_block_graph.specs.Graph.{block_point}
 use Rattle.scr_tree.proofs.MarkedMore.{ok-then}
 use Rattle.scr_tree.proofs.SumReaders.{found-within, index-small, point-marked}
 use Rattle.scr_tree.proofs.graph.Graph.mark_block.Goals as goal

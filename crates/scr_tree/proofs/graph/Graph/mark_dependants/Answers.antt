@@ -1,7 +1,7 @@
 use Rattle.std.proofs.Common.{inl, inr, refl, sym, subst}
 use Rattle.std.specs.Prelude.{IsNone}
-use Rattle.scr_numbers.specs.Ranges.{IsAt}
-use Rattle.scr_numbers.specs.declared.table.Table.TheVariants as ranged
+use Rattle.scr_ids.specs.Ranges.{IsAt}
+use Rattle.scr_ids.specs.declared.table.Table.TheVariants as ranged
 use Rattle.scr_tree.specs.Marking.{assets}
 use Rattle.scr_tree.specs.Points.{StandsIn}
 use Rattle.scr_tree.proofs.AtNumbers.{block-at, group-at, no-assets, no-place, none-plain}

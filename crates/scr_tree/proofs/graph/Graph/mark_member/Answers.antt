@@ -1,11 +1,11 @@
 use Rattle.std.proofs.Common.{◌≡◌, length, sym, ap, ◌∙◌}
-use Rattle.scr_lists.specs.Lists.{firsts_at}
-use Rattle.scr_parts.specs.Firsts.{firsts_in}
-use Rattle.scr_rolls.specs.Seatings.{place_in, roll_in as roll_at}
+use Rattle.scr_member_index.specs.Lists.{firsts_at}
+use Rattle.scr_sum_slots.specs.Firsts.{firsts_in}
+use Rattle.scr_member_lists.specs.Seatings.{place_in, roll_in as roll_at}
 use Rattle.scr_sheet.specs.Members.{table_of}
-use Rattle.scr_sums.specs.Books.{rolled_of}
-use Rattle.scr_sums.specs.Graph.{roll_in}
-use Rattle.scr_sums.specs.Sums.{roll_of}
+use Rattle.scr_block_graph.specs.Books.{rolled_of}
+use Rattle.scr_block_graph.specs.Graph.{roll_in}
+use Rattle.scr_block_graph.specs.Sums.{roll_of}
 use Rattle.scr_tree.specs.Reading.{seats_at}
 use Rattle.scr_tree.proofs.MarkedMore.{ok-then}
 use Rattle.scr_tree.proofs.RowMarks.{counted, is-reader, row-marked, somewhere}

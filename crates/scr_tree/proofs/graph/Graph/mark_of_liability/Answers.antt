@@ -1,6 +1,6 @@
 use Rattle.std.proofs.Common.{◌≡◌, Some, slice_get, subst}
-use Rattle.scr_numbers.specs.Ranges.{IsAt}
-use Rattle.scr_numbers.specs.declared.table.Table.TheVariants as ranged
+use Rattle.scr_ids.specs.Ranges.{IsAt}
+use Rattle.scr_ids.specs.declared.table.Table.TheVariants as ranged
 use Rattle.scr_nodes.specs.declared.node.Direction.TheVariants as directions
 use Rattle.scr_sheet.specs.declared.sheet.BalanceSheet.{BalanceSheet}
 use Rattle.scr_tree.proofs.MarkedMore.{ok-then}

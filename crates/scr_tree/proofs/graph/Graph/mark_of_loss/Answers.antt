@@ -1,8 +1,8 @@
 use Rattle.std.proofs.Common.{◌≡◌, ◌+◌, ◌<◌, true, Some, slice_get, sym, ap, subst, ◌∙◌, arith}
 use Rattle.scr_book.specs.Sums.{place_of}
-use Rattle.scr_figures.specs.Families.{liability_family}
-use Rattle.scr_numbers.specs.Ranges.{IsAt}
-use Rattle.scr_numbers.specs.declared.table.Table.TheVariants as ranged
+use Rattle.scr_figure_ids.specs.Families.{liability_family}
+use Rattle.scr_ids.specs.Ranges.{IsAt}
+use Rattle.scr_ids.specs.declared.table.Table.TheVariants as ranged
 use Rattle.scr_nodes.specs.Live.{is_live}
 use Rattle.scr_nodes.specs.declared.node.Biometric.TheVariants as biometrics
 use Rattle.scr_nodes.specs.declared.node.Node.TheVariants as nodes

@@ -1,7 +1,7 @@
 use Rattle.std.proofs.Common.{length, sym, subst}
-use Rattle.scr_blocks.specs.Readers.{IsReader}
-use Rattle.scr_sums.specs.Books.{rolled_of}
-use Rattle.scr_sums.specs.Graph.{roll_in}
+use Rattle.scr_sum_tree.specs.Readers.{IsReader}
+use Rattle.scr_block_graph.specs.Books.{rolled_of}
+use Rattle.scr_block_graph.specs.Graph.{roll_in}
 use Rattle.scr_tree.specs.Marking.{AreMarkedMore, IsReaderAt}
 use Rattle.scr_tree.proofs.MarkedMore.{ok-then}
 use Rattle.scr_tree.proofs.SumReaders.{block-marked}

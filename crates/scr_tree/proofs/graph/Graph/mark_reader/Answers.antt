@@ -1,7 +1,7 @@
 use Rattle.std.proofs.Common.{◌≡◌, false, sym, ap, ◌∙◌}
 use Rattle.scr_nodes.specs.Live.{is_live}
 use Rattle.scr_sheet.specs.declared.sheet.BalanceSheet.{BalanceSheet}
-use Rattle.scr_sums.specs.Graph.{reads}
+use Rattle.scr_block_graph.specs.Graph.{reads}
 use Rattle.scr_tree.proofs.SumReaders.{unread}
 use Rattle.scr_tree.proofs.graph.Graph.mark_reader.Goals as goal
 

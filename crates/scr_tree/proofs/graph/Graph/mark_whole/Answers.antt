@@ -1,5 +1,5 @@
 use Rattle.std.proofs.Common.{◌≤◌, sym, subst}
-use Rattle.scr_sums.specs.Sums.{reader_of}
+use Rattle.scr_block_graph.specs.Sums.{reader_of}
 use Rattle.scr_tree.specs.Reading.{fall_of}
 use Rattle.scr_tree.proofs.MarkedMore.{ok-then}
 use Rattle.scr_tree.proofs.SumReaders.{figure-marked, figure-within, whole-both, whole-one}

@@ -1,10 +1,10 @@
 use Rattle.std.proofs.Common.{subst, ◌∙◌, arith}
-use Rattle.scr_blocks.specs.Blocks.{part}
-use Rattle.scr_blocks.specs.declared.blocks.Level.TheVariants as levels
+use Rattle.scr_sum_tree.specs.Blocks.{part}
+use Rattle.scr_sum_tree.specs.declared.blocks.Level.TheVariants as levels
 use Rattle.scr_nodes.proofs.Walks.{on_ok}
-use Rattle.scr_sums.specs.Books.{rolled_of}
-use Rattle.scr_sums.specs.Graph.{roll_in, sources_in}
-use Rattle.scr_sums.specs.declared.point.Point.TheVariants as points
+use Rattle.scr_block_graph.specs.Books.{rolled_of}
+use Rattle.scr_block_graph.specs.Graph.{roll_in, sources_in}
+use Rattle.scr_block_graph.specs.declared.point.Point.TheVariants as points
 use Rattle.scr_tree.proofs.PointSources.{Pushed, below-live, blocks-are, counted-are, first-sources, members-few, members-pushed, part-firsts, second-beside}
 use Rattle.scr_tree.proofs.graph.Graph.push_below.Goals as goal
 

@@ -1,5 +1,5 @@
 use Rattle.std.proofs.Common.{◌≡◌, ◌-◌, ◌++◌, ◌∷◌, [], ℕ, List, true, append_assoc, ap, ◌∙◌, rules}
-use Rattle.scr_figures.specs.Families.{family_of, table_of}
+use Rattle.scr_figure_ids.specs.Families.{family_of, table_of}
 use Rattle.scr_tree.proofs.PointSources.{is_rate, is_spread, is_square, rate-sources, spread-sources, square-sources}
 use Rattle.scr_tree.proofs.graph.Graph.push_beside.Goals as goal
 

@@ -1,7 +1,7 @@
 use Rattle.std.proofs.Common.{ap, subst, sym, arith}
-use Rattle.scr_blocks.specs.Blocks.{blocks_at}
-use Rattle.scr_subtotals.specs.Written.{AreNumbered}
-use Rattle.scr_sums.specs.Graph.{block_point}
+use Rattle.scr_sum_tree.specs.Blocks.{blocks_at}
+use Rattle.scr_partial_sums.specs.Written.{AreNumbered}
+use Rattle.scr_block_graph.specs.Graph.{block_point}
 use Rattle.scr_tree.specs.Points.{StandsIn}
 use Rattle.scr_tree.proofs.PointSources.{all-blocks, next-block, no-blocks}
 use Rattle.scr_tree.proofs.graph.Graph.push_blocks.Goals as goal

@@ -1,7 +1,7 @@
 use Rattle.std.proofs.Common.{◌++◌, ℕ, List, map, ap, ◌∙◌}
 use Rattle.std.proofs.lemmas.Simd.{map-map}
 use Rattle.scr_links.specs.Edges.{Edge}
-use Rattle.scr_reach.specs.Linked.{edges_to}
+use Rattle.scr_reachability.specs.Linked.{edges_to}
 use Rattle.scr_tree.proofs.graph.Graph.push_linked.Goals as goal
 
 pub loop-source-init : goal.loop-source-init

@@ -1,5 +1,5 @@
 use Rattle.std.proofs.Common.{◌≡◌, ◌++◌, ℕ, map}
-use Rattle.scr_reach.specs.Linked.{sources_in}
+use Rattle.scr_reachability.specs.Linked.{sources_in}
 use Rattle.scr_tree.proofs.graph.Graph.push_linked.Given as goal
 
 -- the sources so far, and those of the edges that are left

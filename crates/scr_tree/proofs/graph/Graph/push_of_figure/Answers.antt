@@ -1,11 +1,11 @@
 use Rattle.std.proofs.Common.{◌≡◌, IfSome, Option, is_some, true, false, ap, subst, sym, ◌∙◌}
 use Rattle.scr_nodes.proofs.Walks.{on_ok}
-use Rattle.scr_reach.specs.Linked.{sources_in as linked_in}
-use Rattle.scr_sums.specs.Books.{rolled_of}
-use Rattle.scr_sums.specs.Graph.{reads, sources_in}
-use Rattle.scr_sums.specs.Sums.{first_sum}
-use Rattle.scr_sums.specs.declared.point.Point.TheVariants as points
-use Rattle.scr_sums.specs.declared.sum.Sum.{Sum}
+use Rattle.scr_reachability.specs.Linked.{sources_in as linked_in}
+use Rattle.scr_block_graph.specs.Books.{rolled_of}
+use Rattle.scr_block_graph.specs.Graph.{reads, sources_in}
+use Rattle.scr_block_graph.specs.Sums.{first_sum}
+use Rattle.scr_block_graph.specs.declared.point.Point.TheVariants as points
+use Rattle.scr_block_graph.specs.declared.sum.Sum.{Sum}
 use Rattle.scr_tree.specs.Points.{is_beside}
 use Rattle.scr_tree.proofs.PointSources.{Pushed, both-pushed, first-read, linked-at, second-read}
 use Rattle.scr_tree.proofs.graph.Graph.push_of_figure.Goals as goal

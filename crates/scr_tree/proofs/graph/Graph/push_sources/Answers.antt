@@ -1,6 +1,6 @@
 use Rattle.std.proofs.Common.{◌≡◌, true, OnOk, subst, sym}
-use Rattle.scr_sums.specs.Books.{rolled_of}
-use Rattle.scr_sums.specs.Graph.{is_live_in, sources_in}
+use Rattle.scr_block_graph.specs.Books.{rolled_of}
+use Rattle.scr_block_graph.specs.Graph.{is_live_in, sources_in}
 use Rattle.scr_tree.specs.Points.{StandsIn}
 use Rattle.scr_tree.proofs.PointSources.{Pushed}
 use Rattle.scr_tree.proofs.graph.Graph.push_sources.Goals as goal

@@ -1,12 +1,12 @@
 use Rattle.std.proofs.Common.{◌≡◌, ◌-◌, ◌<◌, true, [], length, map, IfSome, Some, append-nil, subst, sym, ap, ◌∙◌, arith}
 use Rattle.std.specs.List.{range_with_len}
-use Rattle.scr_blocks.specs.Blocks.{blocks_at}
-use Rattle.scr_blocks.specs.declared.blocks.Level.TheVariants as levels
+use Rattle.scr_sum_tree.specs.Blocks.{blocks_at}
+use Rattle.scr_sum_tree.specs.declared.blocks.Level.TheVariants as levels
 use Rattle.scr_nodes.proofs.Walks.{on_ok}
-use Rattle.scr_reach.specs.Linked.{AreAt}
-use Rattle.scr_sums.specs.Books.{rolled_of}
-use Rattle.scr_sums.specs.Graph.{block_point, member_point, reads, roll_in, tops_of}
-use Rattle.scr_sums.specs.declared.sum.Sum.{Sum}
+use Rattle.scr_reachability.specs.Linked.{AreAt}
+use Rattle.scr_block_graph.specs.Books.{rolled_of}
+use Rattle.scr_block_graph.specs.Graph.{block_point, member_point, reads, roll_in, tops_of}
+use Rattle.scr_block_graph.specs.declared.sum.Sum.{Sum}
 use Rattle.scr_tree.specs.Points.{StandsIn}
 use Rattle.scr_tree.proofs.PointSources.{Pushed, blocks-are, counted-are, firsts-are, members-few, members-pushed, tops-firsts, tops-live, tops-members, tops-seconds}
 use Rattle.scr_tree.proofs.graph.Graph.push_tops.Goals as goal

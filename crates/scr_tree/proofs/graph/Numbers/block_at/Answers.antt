@@ -1,6 +1,6 @@
 use Rattle.std.proofs.Common.{refl, subst, sym}
-use Rattle.scr_parts.specs.PartNumbers.{PartAt}
-use Rattle.scr_parts.specs.Parts.{AreOwn, Parted}
+use Rattle.scr_sum_slots.specs.PartNumbers.{PartAt}
+use Rattle.scr_sum_slots.specs.Parts.{AreOwn, Parted}
 use Rattle.scr_tree.proofs.BlocksAt.{block-stands, not-part, not-roll, not-sum}
 use Rattle.scr_tree.proofs.graph.Numbers.block_at.Goals as goal
 

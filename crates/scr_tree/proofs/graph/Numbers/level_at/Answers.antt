@@ -1,6 +1,6 @@
 use Rattle.std.proofs.Common.{ap, refl, sym, ◌∙◌}
-use Rattle.scr_sums.specs.Levels.{level_in}
-use Rattle.scr_sums.specs.declared.point.Point.TheVariants as points
+use Rattle.scr_block_graph.specs.Levels.{level_in}
+use Rattle.scr_block_graph.specs.declared.point.Point.TheVariants as points
 use Rattle.scr_tree.specs.Marking.{is_of_squares}
 use Rattle.scr_tree.proofs.BlocksAt.{level-told, not-block, squares-told}
 use Rattle.scr_tree.proofs.graph.Numbers.level_at.Goals as goal

@@ -1,9 +1,9 @@
 use Rattle.std.proofs.Common.{◌≡◌, ℕ, Some, sym, ap, ap₂, subst, ◌∙◌}
-use Rattle.scr_blocks.specs.declared.blocks.Level.{Level}
-use Rattle.scr_blocks.specs.declared.blocks.Level.TheVariants as levels
-use Rattle.scr_parts.specs.Parts.{AreOwn, Parted, part_at, slot_of}
-use Rattle.scr_parts.specs.declared.parts.Part.{Part}
-use Rattle.scr_parts.proofs.Views.{no-some, one-some}
+use Rattle.scr_sum_tree.specs.declared.blocks.Level.{Level}
+use Rattle.scr_sum_tree.specs.declared.blocks.Level.TheVariants as levels
+use Rattle.scr_sum_slots.specs.Parts.{AreOwn, Parted, part_at, slot_of}
+use Rattle.scr_sum_slots.specs.declared.parts.Part.{Part}
+use Rattle.scr_sum_slots.proofs.Views.{no-some, one-some}
 use Rattle.scr_tree.specs.First.{BeginsAt}
 use Rattle.scr_tree.proofs.graph.Numbers.list_begun.Goals as goal
 

@@ -1,6 +1,6 @@
 use Rattle.std.proofs.Common.{subst, sym}
-use Rattle.scr_sums.specs.BlockNumbers.{BlockAt}
-use Rattle.scr_sums.specs.declared.point.Point.{Point}
+use Rattle.scr_block_graph.specs.BlockNumbers.{BlockAt}
+use Rattle.scr_block_graph.specs.declared.point.Point.{Point}
 use Rattle.scr_tree.specs.Points.{StandsIn, list_numbers}
 use Rattle.scr_tree.proofs.graph.Numbers.number_of.Goals as goal
 

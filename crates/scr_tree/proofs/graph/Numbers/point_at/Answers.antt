@@ -1,6 +1,6 @@
 use Rattle.std.proofs.Common.{refl, subst, sym}
 use Rattle.scr_sheet.specs.declared.sheet.BalanceSheet.{BalanceSheet}
-use Rattle.scr_figures.specs.Numbers.{StandsAt}
+use Rattle.scr_figure_ids.specs.Numbers.{StandsAt}
 use Rattle.scr_tree.proofs.BlocksAt.{not-block, not-figure, unplaced}
 use Rattle.scr_tree.proofs.graph.Numbers.point_at.Goals as goal
 

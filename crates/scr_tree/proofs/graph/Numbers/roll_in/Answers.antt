@@ -1,5 +1,5 @@
 use Rattle.std.proofs.Common.{rules, ◌≢◌, Some, slice_get, ap, sym, subst, ◌∙◌}
-use Rattle.scr_parts.proofs.Views.{no-some, one-some}
+use Rattle.scr_sum_slots.proofs.Views.{no-some, one-some}
 use Rattle.scr_sheet.specs.declared.{keys.Table.Table, sheet.BalanceSheet.BalanceSheet}
 use Rattle.scr_sheet.specs.declared.roll.Roll.TheVariants as rolls
 use Rattle.scr_tree.specs.Reading.{IsRollAt}

@@ -1,8 +1,8 @@
 use Rattle.std.proofs.Common.{◌≡◌, true, false, Option, slice_get, ap, refl, subst, sym, ◌∙◌}
 use Rattle.std.specs.Prelude.{IfSome, is_some}
-use Rattle.scr_lists.specs.Lists.{list_in}
-use Rattle.scr_parts.specs.Firsts.{firsts_in}
-use Rattle.scr_rolls.specs.Seatings.{roll_in}
+use Rattle.scr_member_index.specs.Lists.{list_in}
+use Rattle.scr_sum_slots.specs.Firsts.{firsts_in}
+use Rattle.scr_member_lists.specs.Seatings.{roll_in}
 use Rattle.scr_sheet.specs.declared.roll.Roll.{Roll}
 use Rattle.scr_tree.specs.Reading.{IsRollOf}
 use Rattle.scr_tree.proofs.FirstMembers.{empty-roll, list-same, no-row, no-seat, roll-told, row-within}

@@ -1,5 +1,5 @@
 use Rattle.std.proofs.Common.{◌≡◌, List, Some, set, slice_get, sym, ap, subst, ◌∙◌}
-use Rattle.scr_subtotals.specs.declared.figure.Figure.{Figure}
+use Rattle.scr_partial_sums.specs.declared.figure.Figure.{Figure}
 use Rattle.scr_tree.specs.Order.{IsJournaled}
 use Rattle.scr_tree.specs.declared.journal.Former.{Former}
 use Rattle.scr_tree.proofs.Journaled.{kept-written, one-figure, same-written}

@@ -1,7 +1,7 @@
 use Rattle.std.proofs.Common.{false, pos, ap, sym, ◌∙◌, arith}
 use Rattle.std.specs.Option.{option_map_or}
 use Rattle.scr_num.specs.Rounding.{ends, exact_ends}
-use Rattle.scr_subtotals.specs.declared.figure.Figure.{Figure}
+use Rattle.scr_partial_sums.specs.declared.figure.Figure.{Figure}
 use Rattle.scr_tree.proofs.Journaled.{undone-long}
 use Rattle.scr_tree.proofs.renewed.Rewritten.renewed.Goals as goal
 

@@ -4,7 +4,7 @@ use Rattle.scr_nodes.specs.Sources.{group_loss}
 use Rattle.scr_tree.proofs.ByRow.{by-rule-worked}
 use Rattle.scr_tree.proofs.FirstRows.{got-row, group-live}
 use Rattle.scr_tree.proofs.RowParts.{group-row, push-on}
-use Rattle.scr_pieces.specs.declared.rows.Sort.TheVariants as sorts
+use Rattle.scr_parallel.specs.declared.rows.Sort.TheVariants as sorts
 use Rattle.scr_tree.proofs.Writing.{row-few}
 use Rattle.scr_tree.proofs.row_spans.RowGround.push_group.Goals as goal
 

@@ -7,7 +7,7 @@ use Rattle.scr_sheet.specs.declared.sheet.BalanceSheet.{BalanceSheet}
 use Rattle.scr_tree.proofs.FirstRows.{security-own}
 use Rattle.scr_tree.proofs.GroupSums.{total-at, total-right}
 use Rattle.scr_tree.proofs.RowParts.{push-on, security-row}
-use Rattle.scr_pieces.specs.declared.rows.Sort.TheVariants as sorts
+use Rattle.scr_parallel.specs.declared.rows.Sort.TheVariants as sorts
 use Rattle.scr_tree.proofs.Writing.{row-few}
 use Rattle.scr_tree.proofs.row_spans.RowGround.push_security.Goals as goal
 

@@ -1,7 +1,7 @@
 use Rattle.std.proofs.Common.{get_or, ap, ◌∙◌}
 use Rattle.std.proofs.lemmas.Option.{slice_get-get_or}
 use Rattle.scr_num.specs.Rounding.{ends}
-use Rattle.scr_subtotals.specs.Tables.{nothing}
+use Rattle.scr_partial_sums.specs.Tables.{nothing}
 use Rattle.scr_tree.proofs.Spanned.{known-ends, known-within}
 use Rattle.scr_tree.proofs.together.KnownPlan.known.Goals as goal
 

@@ -1,6 +1,6 @@
 use Rattle.std.proofs.Common.{map, refl, sym, ap, ◌∙◌}
-use Rattle.scr_sums.specs.Books.{rolled_of}
-use Rattle.scr_sums.specs.Graph.{sources_in}
+use Rattle.scr_block_graph.specs.Books.{rolled_of}
+use Rattle.scr_block_graph.specs.Graph.{sources_in}
 use Rattle.scr_tree.specs.Ready.{reckoning_on}
 use Rattle.scr_tree.proofs.Here.{found-here, lives-here, numbers-here, stands-here}
 use Rattle.scr_tree.proofs.Spanned.{due-basis, due-is, ends-each, ends-here}

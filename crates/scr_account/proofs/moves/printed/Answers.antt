@@ -1,7 +1,0 @@
-use Rattle.std.proofs.Common.{arith}
-use Rattle.std.proofs.lemmas.Int.{ints}
-use Rattle.scr_account.proofs.Together.{same_bounds}
-use Rattle.scr_account.proofs.moves.printed.Goals as goal
-
-pub returns : goal.returns
-returns c = same_bounds _ _ _ _ (omega (arith, ints)) (omega (arith, ints))

@@ -1,6 +1,0 @@
--- The numbers of the dues so far are in their places.
-use Rattle.scr_rounds.proofs.Ranking.{IsPlacing}
-use Rattle.scr_dues.proofs.round.places_of.Given as goal
-
-abbrev pub invariant-loop-due : goal.invariant-loop-due
-invariant-loop-due l = IsPlacing l.dues l.places.list l.due-index

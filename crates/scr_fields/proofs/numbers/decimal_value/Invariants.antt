@@ -1,0 +1,10 @@
+-- What the digits so far stand for.
+use Rattle.std.proofs.Common.{◌≡◌, ◌<◌, ◌^◌, take}
+use Rattle.scr_fields.specs.Numbers.{decimal_value}
+use Rattle.scr_fields.proofs.numbers.decimal_value.Given as goal
+
+abbrev pub invariant-loop-digit : goal.invariant-loop-digit
+invariant-loop-digit l = record {
+  so_far : l.value ≡ decimal_value (take l.digit-index l.digits);
+  small : l.value < 10 ^ l.digit-index;
+}

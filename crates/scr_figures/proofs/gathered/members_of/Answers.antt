@@ -1,7 +1,0 @@
-use Rattle.scr_figures.proofs.gathered.members_of.Goals as goal
-
-pub returns : goal.returns
-returns c = record {
-  funds = c.in_ok-fund_lists.ensures;
-  groups = c.in_ok-group_lists.ensures;
-}

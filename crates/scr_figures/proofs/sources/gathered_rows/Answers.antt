@@ -1,7 +1,0 @@
-use Rattle.std.proofs.Common.{◌≡◌, IfSome, subst, sym}
-use Rattle.scr_figures.specs.SourceNumbers.{selected_rows}
-use Rattle.scr_figures.proofs.sources.gathered_rows.Goals as goal
-
-pub returns-in-Groups : goal.returns-in-Groups
-returns-in-Groups c =
-    subst (λ s. IfSome c.group_rows.result (λ rows. rows.now ≡ selected_rows c.args.from.sheet.now s)) (sym c.in-Groups.is) c.group_rows.ensures

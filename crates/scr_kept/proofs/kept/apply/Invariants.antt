@@ -1,5 +1,0 @@
-use Rattle.scr_kept.proofs.kept.apply.Given as goal
-
--- the counter that the call makes
-abbrev pub ghosts-counted : goal.ghosts-counted
-ghosts-counted a b = record { name = b.blank.name; parts = b.blank.parts }

@@ -1,6 +1,0 @@
--- The lists of the seats from there on have their parts again.
-use Rattle.scr_lists.proofs.Lost.{BackTo}
-use Rattle.scr_lists.proofs.parting.regain_all.Given as goal
-
-abbrev pub invariant-loop-seat : goal.invariant-loop-seat
-invariant-loop-seat l = BackTo l.table l.firsts l.at l.fn.parts l.seat l.parts

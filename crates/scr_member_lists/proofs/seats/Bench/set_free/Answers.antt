@@ -1,0 +1,13 @@
+use Rattle.std.proofs.Common.{eqb, ap, ◌∙◌, arith}
+use Rattle.std.specs.Prelude.{if◌then◌else◌}
+use Rattle.scr_member_lists.specs.Seatings.{NOWHERE, roll_in}
+use Rattle.scr_member_lists.specs.declared.seats.Seats.{Seats}
+use Rattle.scr_member_lists.proofs.Benches.{widened-set}
+use Rattle.scr_member_lists.proofs.seats.Bench.set_free.Goals as goal
+
+pub returns-clause-rolls : goal.returns-clause-rolls
+returns-clause-rolls g c =
+    let width = c.requires.width in
+    let count = c.self.invariant.0 in
+    λ s. widened-set NOWHERE c.self.inside.rolls c.args.seat NOWHERE (omega (arith, width, count)) c.requires.seat s
+    ∙ ap (λ (o : Seats). if eqb c.args.seat s then NOWHERE else roll_in s o) c.self.view_is

@@ -1,7 +1,0 @@
-use Rattle.std.proofs.Common.{◌∙◌}
-use Rattle.scr_names.proofs.Entries.{lookup-kept}
-use Rattle.scr_names.proofs.table.Rows.get.Goals as goal
-
-pub returns : goal.returns
-returns g c = c.get.ensures.value ∙ lookup-kept g.R.Row.name_of c.self.inside.map.entries c.args.self.now c.self.view_is
-    c.self.invariant c.args.name.now

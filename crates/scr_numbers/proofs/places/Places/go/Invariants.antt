@@ -1,6 +1,0 @@
--- The row that goes stands so far down.
-use Rattle.scr_numbers.specs.Steps.{Sinking}
-use Rattle.scr_numbers.proofs.places.Places.go.Given as goal
-
-abbrev pub invariant-loop-m : goal.invariant-loop-m
-invariant-loop-m l = Sinking l.table l.k l.m l.fn.self l.self

@@ -1,7 +1,0 @@
--- The row that comes back stands so far up.
-use Rattle.std.proofs.Common.{◌≤◌}
-use Rattle.scr_numbers.specs.Steps.{Rising}
-use Rattle.scr_numbers.proofs.places.Places.put_back.Given as goal
-
-abbrev pub invariant-loop-m : goal.invariant-loop-m
-invariant-loop-m l = record { from : l.k ≤ l.m; rising : Rising l.table l.m l.end l.initial.self l.self }

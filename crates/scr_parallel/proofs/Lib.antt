@@ -1,0 +1,4 @@
+pub mod Slotted
+pub mod Pushed
+pub mod Counted
+pub mod Drawn

@@ -1,8 +1,0 @@
--- The bytes that passages stand for (this project's own).
-use Rattle.std.specs.Prelude.{ℕ, ◌++◌, List}
-use Rattle.scr_passages.specs.Passages.{joined}
-use Rattle.scr_passages.specs.declared.passages.Passages.{Passages}
-
--- the passages of whole lines, and what follows them
-abbrev pub bytes_of : Passages → List ℕ
-bytes_of file = joined file.whole.items ++ file.last.items

@@ -1,3 +1,0 @@
-pub mod Pushed
-pub mod Counted
-pub mod Drawn

@@ -1,5 +1,0 @@
-pub mod Rows
-pub mod Pieces
-pub mod Apart
-pub mod Forming
-pub mod Hands

@@ -1,7 +1,0 @@
-use Rattle.std.proofs.Common.{take}
-use Rattle.scr_reach.specs.Relinking.{IsJoined}
-use Rattle.scr_reach.proofs.linking.link.Given as goal
-
--- the sources so far
-abbrev pub invariant-loop-source : goal.invariant-loop-source
-invariant-loop-source l = IsJoined l.number (take l.source-index l.sources) l.fn.links l.links

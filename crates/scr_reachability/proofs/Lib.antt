@@ -1,0 +1,17 @@
+pub mod Members
+pub mod Ranking
+pub mod Placing
+pub mod Rounds
+pub mod Climbing
+pub mod Reaching
+pub mod Marking
+pub mod DistinctDues
+pub mod Placed
+pub mod LinkedReaching
+pub mod Counting
+pub mod Edits
+pub mod Starting
+pub mod Cutting
+pub mod Joining
+pub mod Relinked
+pub mod Linkable

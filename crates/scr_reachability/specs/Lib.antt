@@ -1,0 +1,11 @@
+pub mod Buckets
+pub mod Dues
+pub mod Levels
+pub mod Marks
+pub mod Ranks
+pub mod Reached
+pub mod Graph
+pub mod Linked
+pub mod Leading
+pub mod LinkedDues
+pub mod Relinking

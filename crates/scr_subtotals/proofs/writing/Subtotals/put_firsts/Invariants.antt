@@ -1,7 +1,0 @@
-use Rattle.scr_blocks.specs.declared.blocks.Level.TheVariants as levels
-use Rattle.scr_subtotals.specs.Written.{IsPut, part_ends}
-use Rattle.scr_subtotals.proofs.writing.Subtotals.put_firsts.Given as goal
-
--- those so far are written
-abbrev pub invariant-loop-index : goal.invariant-loop-index
-invariant-loop-index l = IsPut l.self levels.First l.index (part_ends l.fn.figures l.family l.firsts) l.fn.figures l.figures

@@ -1,5 +1,0 @@
-use Rattle.scr_sums.proofs.Worth.{ends-tops, any-tops}
-use Rattle.scr_sums.proofs.laws.tops.Goals as goal
-
-pub returns : goal.returns
-returns c = record { ends = ends-tops; any = any-tops }

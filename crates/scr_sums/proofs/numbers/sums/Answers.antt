@@ -1,8 +1,0 @@
-use Rattle.scr_sums.proofs.SumsAt.{at-own, only-own}
-use Rattle.scr_sums.proofs.numbers.sums.Goals as goal
-
-pub returns-clause-there : goal.returns-clause-there
-returns-clause-there c = at-own
-
-pub returns-clause-only : goal.returns-clause-only
-returns-clause-only c = only-own

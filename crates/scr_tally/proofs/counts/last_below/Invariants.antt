@@ -1,6 +1,0 @@
-use Rattle.std.proofs.Common.{◌≡◌, ℕ, ◌≤◌}
-use Rattle.scr_tally.specs.Counts.{count_at}
-use Rattle.scr_tally.proofs.counts.last_below.Given as goal
-
-abbrev pub invariant-loop-place : goal.invariant-loop-place
-invariant-loop-place l = (place : ℕ) → l.place ≤ place → count_at l.counts place ≡ 0

@@ -1,7 +1,0 @@
-use Rattle.std.proofs.Common.{◌/◌, ◌%◌}
-use Rattle.scr_tally.specs.Days.{days_to, count_of}
-use Rattle.scr_tally.proofs.days.DayTally.new.Goals as goal
-
-pub returns : goal.returns
-unfolding count_of
-returns c day = c.in_ok-blocks.ensures (days_to day / 438) (days_to day % 438)

@@ -1,5 +1,0 @@
-use Rattle.scr_ways.proofs.Under.{under-reached}
-use Rattle.scr_ways.proofs.laws.blocks.Goals as goal
-
-pub returns : goal.returns
-returns c = λ factors edit book kept block. under-reached factors edit book kept block

@@ -1,5 +1,0 @@
-use Rattle.scr_words.proofs.Spelling.{gives, spells}
-use Rattle.scr_words.proofs.laws.spelled.Goals as goal
-
-pub returns : goal.returns
-returns c = λ words options. (gives words options, spells words options)

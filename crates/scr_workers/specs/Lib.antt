@@ -1,2 +1,0 @@
-pub mod Workable
-pub mod Forming

@@ -1,6 +1,0 @@
-use Rattle.std.proofs.Common.{◌-◌, ◌≤◌, ◌<ℤ◌}
-use Rattle.scr_dates.specs.Years.{anniversary}
-use Rattle.scr_years.proofs.years.Years.until.Given as goal
-
-abbrev pub invariant-loop-n : goal.invariant-loop-n
-invariant-loop-n l = (1 ≤ l.n) × (anniversary l.self (l.n - 1) <ℤ l.pay.number)
